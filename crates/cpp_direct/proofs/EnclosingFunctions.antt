@@ -4,7 +4,7 @@ use Rattle.std.specs.Prelude.{decimal}
 use Rattle.std.proofs.lemmas.Fmt.{decimal_digit}
 use Rattle.cpp_grammar.specs.declared.kind.Kind.{Kind}
 use Rattle.cpp_grammar.specs.Grammar.{may_be_empty}
-use Rattle.cpp_grammar.specs.Term.{Term, any_value, function, alone, lambda, source, builtin, nil, absent}
+use Rattle.cpp_grammar.specs.Term.{Term, any_value, function, alone, lambda, source, builtin, nil, list, absent}
 use Rattle.cpp_grammar.specs.Parts.{source_text}
 use Rattle.cpp_grammar.specs.Scope.{has_return_type, arguments_of}
 use Rattle.cpp_grammar.specs.References.{is_function_type}
@@ -18,25 +18,26 @@ use Rattle.cpp_direct.specs.declared.open.Step.TheVariants as steps
 use Rattle.cpp_direct.specs.declared.direct.Direct.{Direct}
 use Rattle.cpp_direct.specs.Holes.{Opened, StandsAt, Comes, Expects, IsNameAt, with_candidate}
 use Rattle.cpp_direct.specs.HolesOfLists.{nest_marks}
-use Rattle.cpp_direct.specs.HolesOfLocals.{IsDiscriminatorAt, IsLambdaDigit, IsPieceAt, lambda_digits, lambda_number, local_in}
+use Rattle.cpp_direct.specs.HolesOfLocals.{IsDiscriminatorAt, IsLambdaDigit, IsPieceAt, lambda_digits, lambda_ending, lambda_number, lambda_with, local_in}
+use Rattle.cpp_direct.specs.Bytes.{short_numbers}
 use Rattle.cpp_direct.specs.Prints.{Prints, PrintsPiece, Shows, Encloses, list_of}
-use Rattle.cpp_direct.specs.Stands.{AreCandidates, Below, IsFunction, IsNesting, IsWriting, ItemsGoOn, Serves, Stands, TypeWithin, in_front_of_next, qualifiers}
-use Rattle.cpp_direct.specs.Ways.{AwaitsNamedType, AwaitsNest, IsElementRead, IsEnclosingNamed, IsEnclosingParameterRead, IsEnclosingRead, const_text}
+use Rattle.cpp_direct.specs.Stands.{AreCandidates, Below, IsFunction, IsNesting, IsWriting, ItemsGoOn, LambdaWithin, Serves, Stands, TypeWithin, in_front_of_next, qualifiers}
+use Rattle.cpp_direct.specs.Ways.{AwaitsNamedType, AwaitsNest, AwaitsTypeName, IsElementRead, IsEnclosingNamed, IsEnclosingParameterRead, IsEnclosingRead, IsLambdaParameterRead, const_text}
 use Rattle.cpp_direct.specs.Written.{Writes, Reads, added}
 use Rattle.cpp_direct.proofs.Ending.{behind-two, behind-three, behind-five, list-ends, next-written, parameter-goes_on, plain-text, qualifiers-text, void-read}
 use Rattle.cpp_direct.proofs.FoundTokens.{reads-of, reads-then}
-use Rattle.cpp_direct.proofs.Kept.{candidates-read, candidates-with, candidates-written, reverse-last}
+use Rattle.cpp_direct.proofs.Kept.{candidates-read, candidates-stay, candidates-with, candidates-written, reverse-last}
 use Rattle.cpp_direct.proofs.Listed.{some-elements}
 use Rattle.cpp_direct.proofs.Moves.{expects-empty, stands-join}
 use Rattle.cpp_direct.proofs.MovesOfEncodings.{encoding-opens, name-nested, name-source}
 use Rattle.cpp_direct.proofs.MovesOfLists.{element-awaits}
-use Rattle.cpp_direct.proofs.MovesOfLocals.{lambda-piece, lambda_bytes, local-type-opens, number-is}
+use Rattle.cpp_direct.proofs.MovesOfLocals.{lambda-opens, lambda-piece, lambda_bytes, local-type-opens, number-is}
 use Rattle.cpp_direct.proofs.Nesting.{nest-comes}
 use Rattle.cpp_direct.proofs.PrintedLists.{next-prints, none-print}
 use Rattle.cpp_direct.proofs.PrintedLocals.{function-encloses, object-enclosing}
 use Rattle.cpp_direct.proofs.PrintedNames.{source-prints}
 use Rattle.cpp_direct.proofs.PrintedSymbols.{encoding-plain, function-shows, made-void, made-with, object-encoded, parameters-kept, void-shows}
-use Rattle.cpp_direct.proofs.PrintedWithin.{lambda-prints, local-prints}
+use Rattle.cpp_direct.proofs.PrintedWithin.{lambda-prints, lambda-list-prints, local-prints}
 
 -- ## Names
 
@@ -64,10 +65,16 @@ name-opens s w a letter =
         onward = λ l there then_ last. (
           a.os,
           a.around.encoding,
-          λ ends p middle digit end is told.
+          λ ends.
               let e = encoding_of v (no_items l) in
-              a.begins.passes (local_in e p digit) false end then_ refl
-              (here.onward e there then_ (items.onward l there then_ last) ends p middle digit end is told),
+              let entity = here.onward e there then_ (items.onward l there then_ last) ends in
+              record {
+                around = entity.around;
+                inner = entity.inner;
+                awaits = entity.awaits;
+                onward = λ p middle now comes_ digit end told.
+                    a.begins.passes (local_in e p digit) false end now refl (entity.onward p middle now comes_ digit end told);
+              },
           a.stands,
         );
       };
@@ -403,33 +410,224 @@ lambda-told s old new digit is stands ends reads = (
   reads,
 )
 
+-- its first bytes stand there, with parameters
+abbrev lambda_front : List ℕ
+lambda_front = codes "::{lambda("
+
+-- the first parameter of one comes next
+pub lambda-begun : (s : List ℕ) (old new : Direct) (from : ℕ) → AwaitsTypeName s old from → short_numbers 0 s ≡ true → StandsAt s old.at (85 ∷ 108 ∷ [])
+    → new.text.list.items ≡ old.text.list.items ++ lambda_front → new.candidates ≡ old.candidates → new.at ≡ old.at + 2
+    → new.waiting.list.items ≡ old.waiting.list.items ++ opens.Lambda from ∷ [] → IsWriting s new steps.Type
+lambda-begun s old new from a short stands text candidates at waiting =
+    let r = a.read in
+    let w = r.within in
+    let entity = w.2 a.letter in
+    let first = lambda-opens s entity.inner entity.around r.e (a.before + 1) r.state short entity.awaits
+    (subst (λ k. StandsAt s k (85 ∷ 108 ∷ [])) a.at_is stands) in
+    let rest = reverse old.waiting.list.items in
+    let front_written : old.text.list.items ≡ r.front ++ r.bytes = sym (append-nil old.text.list.items) ∙ r.written in
+    let written : new.text.list.items ≡ r.front ++ (r.bytes ++ lambda_front) ++ [] =
+    text ∙ ap (λ l. l ++ lambda_front) front_written ∙ append_assoc r.front r.bytes lambda_front ∙ sym (append-nil (r.front ++ (r.bytes ++ lambda_front))) in
+    let known : AreCandidates new.text.list.items new.candidates.list.items r.state.candidates =
+    subst (λ l. AreCandidates l new.candidates.list.items r.state.candidates) (sym text)
+    (subst (λ v. AreCandidates (old.text.list.items ++ lambda_front) v.list.items r.state.candidates) (sym candidates)
+    (candidates-stay old.text.list.items lambda_front old.candidates.list.items r.state.candidates r.candidates)) in
+    let stands_ : Stands s (opens.Lambda from ∷ rest) first.inner new.text.list.items = (
+      r.front,
+      r.e,
+      r.bytes,
+      [],
+      [],
+      r.encloses,
+      none-print 0,
+      r.from_is,
+      written,
+      λ t here now comes.
+          let g = first.onward t here now comes in
+          record {
+            around = g.around;
+            inner = g.inner;
+            outside = g.outside;
+            awaits = g.awaits;
+            onward = λ l there then_ last. (
+              w.0,
+              w.1,
+              λ number middle digit end is ending ends_ told.
+                  entity.onward (lambda_with (list t (no_items l)) number) middle then_ (g.onward l there then_ last number middle is ending ends_) digit end
+                  told,
+              w.3,
+            );
+          },
+    ) in
+    record {
+      state = r.state;
+      candidates = known;
+      is_before = (
+        first.inner,
+        first.around,
+        first.outside,
+        inr (inl (subst (λ k. Expects s Kind.Item first.around first.inner k r.state) (omega (arith, at, a.at_is)) first.awaits)),
+        subst (λ ws. Stands s ws first.inner new.text.list.items) (sym (ap reverse waiting ∙ reverse-last old.waiting.list.items (opens.Lambda from))) stands_,
+      );
+    }
+
+-- a parameter of one is read
+pub lambda-parameter-read : (s : List ℕ) (w : Direct) (from : ℕ) → IsElementRead s w (opens.Lambda from) → IsLambdaParameterRead s w from
+lambda-parameter-read s w from p =
+    let waits = p.stands in
+    let ts = waits.3 in
+    let texts = waits.4 in
+    record {
+      state = p.state;
+      candidates = p.candidates;
+      rest = p.rest;
+      open_is = p.open_is;
+      front = waits.0;
+      e = waits.1;
+      bytes = waits.2;
+      encloses = waits.5;
+      ts = ts ++ p.own ∷ [];
+      some = some-elements ts p.own;
+      texts = in_front_of_next ts texts ++ p.bytes;
+      elements = next-prints 0 ts texts p.own p.bytes waits.6 (p.element 0);
+      from_is = waits.7;
+      written = p.written ∙ ap (λ l. l ++ p.bytes) waits.8 ∙ append_assoc (waits.0 ++ (waits.2 ++ lambda_front)) (in_front_of_next ts texts) p.bytes;
+      goes = waits.9 p.own w.at p.state p.comes;
+    }
+
+-- another one comes next
+pub lambda-next : (s : List ℕ) (w last : Direct) (from : ℕ) → IsLambdaParameterRead s w from → Writes w last (codes ", ") → IsWriting s last steps.Type
+lambda-next s w last from p one =
+    let led = p.front ++ (p.bytes ++ lambda_front) in
+    let below = Stands s p.rest in
+    let goes = subst (λ n. ItemsGoOn s (LambdaWithin s below p.front p.e) (λ l. l) p.ts n p.state) (sym one.at) p.goes in
+    let element = element-awaits s Kind.Items goes.inner goes.around last.at p.state tt goes.awaits in
+    let stands_ : Stands s (opens.Lambda from ∷ p.rest) element.inner last.text.list.items = (
+      p.front,
+      p.e,
+      p.bytes,
+      p.ts,
+      p.texts,
+      p.encloses,
+      p.elements,
+      p.from_is,
+      one.text ∙ ap (λ l. l ++ codes ", ") p.written ∙ append_assoc led p.texts (codes ", ") ∙ ap (λ l. led ++ l) (sym (next-written p.ts p.texts p.some)),
+      λ t here now comes. parameter-goes_on s (LambdaWithin s below p.front p.e) (λ l. l) p.ts last.at p.state goes t here now (element.onward t here now comes),
+    ) in
+    record {
+      state = p.state;
+      candidates = candidates-written w last (codes ", ") p.state.candidates one p.candidates;
+      is_before = (
+        element.inner,
+        goes.around,
+        goes.outside,
+        inr (inl element.awaits),
+        subst (λ ws. Stands s ws element.inner last.text.list.items) (sym (ap (λ l. reverse l.list.items) one.waiting ∙ p.open_is)) stands_,
+      );
+    }
+
+whole-text : (f b l n : List ℕ) → ((f ++ (b ++ lambda_front)) ++ l) ++ codes ")#" ++ (n ++ codes "}")
+    ≡ f ++ (b ++ codes "::" ++ (codes "{lambda(" ++ l ++ codes ")#" ++ n ++ codes "}"))
+whole-text f b l n =
+    let x = codes "{lambda(" ++ l ++ codes ")#" ++ n ++ codes "}" in
+    sym (append_assoc (f ++ (b ++ lambda_front) ++ l ++ codes ")#") n (codes "}"))
+    ∙ behind-five f (b ++ lambda_front) l (codes ")#") n (codes "}")
+    ∙ ap (λ k. f ++ k) (behind-five b lambda_front l (codes ")#") n (codes "}") ∙ sym (append_assoc b (codes "::") x))
+
+-- its bracket stands by itself
+pub lambda-bracket : (f b l : List ℕ) → (f ++ (b ++ codes "::{lambda(")) ++ l ≡ (f ++ (b ++ codes "::{lambda")) ++ codes "(" ++ l
+lambda-bracket f b l =
+    ap (λ k. k ++ l) (ap (λ k. f ++ k) (sym (append_assoc b (codes "::{lambda") (codes "(")))
+    ∙ sym (append_assoc f (b ++ codes "::{lambda") (codes "(")))
+
+-- its end is read
+pub lambda-done : (s : List ℕ) (w begun pushed numbered popped_ last new : Direct) (from : ℕ) (p : IsLambdaParameterRead s w from) → p.texts ≢ codes "void"
+    → StandsAt s w.at (69 ∷ []) → begun.text ≡ w.text → begun.candidates ≡ w.candidates → begun.waiting ≡ w.waiting → begun.at ≡ w.at + 1
+    → Writes begun pushed (codes ")#") → (number : Option ℕ) → IsLambdaDigit number → StandsAt s pushed.at (lambda_digits number ++ 95 ∷ [])
+    → numbered.at ≡ pushed.at + length (lambda_digits number ++ 95 ∷ []) → Reads pushed numbered (lambda_number number ++ codes "}")
+    → popped_.text ≡ numbered.text → popped_.candidates ≡ numbered.candidates → popped_.at ≡ numbered.at → reverse popped_.waiting.list.items ≡ p.rest
+    → (digit : Option ℕ) → IsDiscriminatorAt s popped_.at digit last.at → Reads popped_ last []
+    → new.candidates.list.items ≡ added last from false → new.text ≡ last.text → new.waiting ≡ last.waiting → new.at ≡ last.at
+    → IsWriting s new (steps.Value false)
+unfolding no_items may_be_empty
+lambda-done s w begun pushed numbered popped_ last new from p apart ends same_text same_candidates same_waiting at one number is digits_ numbered_at two
+    popped_text popped_candidates popped_at waits digit told three candidates text waiting here =
+    let below = Stands s p.rest in
+    let items = list_of p.ts in
+    let num = lambda_number number in
+    let n = local_number (lambda_digits number) in
+    let ends_with : LambdaWithin s below p.front p.e items w.at p.state = subst (λ u. LambdaWithin s below p.front p.e u w.at p.state) (list-ends p.ts)
+    (p.goes.onward nothing_there w.at p.state (expects-empty s Kind.Items p.goes.around p.goes.inner w.at p.state p.goes.awaits refl)) in
+    let same : lambda items n ≡ lambda_with items number = ap (λ k. lambda k n) (sym (parameters-kept p.ts p.texts p.elements apart)) in
+    let own = local_in p.e (lambda_with items number) digit in
+    let bytes = p.bytes ++ codes "::" ++ (codes "{lambda(" ++ p.texts ++ codes ")#" ++ num ++ codes "}") in
+    let shown : Prints own bytes false = subst (λ u. Prints (local_in p.e u digit) bytes false) same
+    (local-prints p.e p.bytes p.encloses (lambda items n) (codes "{lambda(" ++ p.texts ++ codes ")#" ++ num ++ codes "}")
+    (lambda-list-prints p.ts p.texts p.elements n num (number-text number is)) digit) in
+    let place : pushed.at ≡ w.at + 1 = one.at ∙ at in
+    let ending : StandsAt s w.at (lambda_ending number) =
+    stands-join s w.at (69 ∷ []) (lambda_digits number ++ 95 ∷ []) ends (subst (λ k. StandsAt s k (lambda_digits number ++ 95 ∷ [])) place digits_) in
+    let middle : popped_.at ≡ w.at + length (lambda_ending number) = omega (arith, popped_at, numbered_at, place) in
+    let written : last.text.list.items ≡ p.front ++ bytes =
+    three.text ∙ append-nil popped_.text.list.items ∙ ap (λ v. v.list.items) popped_text ∙ two.text
+    ∙ ap (λ l. l ++ (num ++ codes "}")) (one.text ∙ ap (λ v. v.list.items ++ codes ")#") same_text ∙ ap (λ l. l ++ codes ")#") p.written)
+    ∙ whole-text p.front p.bytes p.texts num in
+    let st = with_candidate ends_with.1 own p.state in
+    let known : AreCandidates begun.text.list.items begun.candidates.list.items p.state.candidates =
+    subst (λ v. AreCandidates v.list.items begun.candidates.list.items p.state.candidates) (sym same_text)
+    (subst (λ v. AreCandidates w.text.list.items v.list.items p.state.candidates) (sym same_candidates) p.candidates) in
+    let numbered_known = candidates-read pushed numbered (num ++ codes "}") p.state.candidates two
+    (candidates-written begun pushed (codes ")#") p.state.candidates one known) in
+    let popped_known : AreCandidates popped_.text.list.items popped_.candidates.list.items p.state.candidates =
+    subst (λ v. AreCandidates v.list.items popped_.candidates.list.items p.state.candidates) (sym popped_text)
+    (subst (λ v. AreCandidates numbered.text.list.items v.list.items p.state.candidates) (sym popped_candidates) numbered_known) in
+    let more = candidates-with last p.state p.front bytes from own ends_with.1 false
+    (candidates-read popped_ last [] p.state.candidates three popped_known) written p.from_is shown in
+    record {
+      state = st;
+      candidates = subst (λ v. AreCandidates v.list.items new.candidates.list.items st.candidates) (sym text)
+          (subst (λ ks. AreCandidates last.text.list.items ks st.candidates) (sym candidates) more);
+      is_before = (
+        ends_with.0,
+        own,
+        p.front,
+        bytes,
+        ap (λ v. v.list.items) text ∙ written,
+        shown,
+        subst (λ k. Comes s ends_with.0 (tree own true) k st) (sym here) (ends_with.2 number popped_.at digit last.at is ending middle told),
+        subst (λ ws. Stands s ws ends_with.0 p.front) (sym (ap (λ v. reverse v.list.items) (waiting ∙ three.waiting) ∙ waits)) ends_with.3,
+      );
+    }
+
 -- ## The type
 
+-- its name is expected behind an E
+pub name-awaited : (s : List ℕ) (old : Direct) (n from : ℕ) → IsEnclosingRead s old false from → StandsAt s old.at (69 ∷ []) → n ≡ old.at + 1
+    → AwaitsTypeName s (record old { at = n }) from
+name-awaited s old n from a letter at_is = record { before = old.at; read = a; letter = letter; at_is = at_is }
+
 -- its name and its discriminator are read
-pub type-within : (s : List ℕ) (old begun pushed read last new : Direct) (from : ℕ) → IsEnclosingRead s old false from → StandsAt s old.at (69 ∷ [])
-    → begun.text ≡ old.text → begun.candidates ≡ old.candidates → begun.waiting ≡ old.waiting → begun.nest ≡ old.nest → begun.rounds ≡ old.rounds
-    → begun.at ≡ old.at + 1 → Writes begun pushed (codes "::")
+pub type-within : (s : List ℕ) (old pushed read last new : Direct) (from : ℕ) → AwaitsTypeName s old from → Writes old pushed (codes "::")
     → (p : Term) (n : List ℕ) → IsPieceAt s pushed.at p read.at → PrintsPiece p n → Reads pushed read n
     → (digit : Option ℕ) → IsDiscriminatorAt s read.at digit last.at → Reads read last []
     → new.candidates.list.items ≡ added last from false → new.text ≡ last.text → new.waiting ≡ last.waiting → new.at ≡ last.at
     → IsWriting s new (steps.Value false)
-type-within s old begun pushed read last new from a letter same_text same_candidates same_waiting same_nest same_rounds at one p n is prints two digit told
-    three candidates text waiting here =
-    let whole = reads-then begun read last (codes "::" ++ n) [] (reads-then begun pushed read (codes "::") n (reads-of begun pushed (codes "::") one) two) three in
+type-within s old pushed read last new from awaits one p n is prints two digit told three candidates text waiting here =
+    let a = awaits.read in
+    let whole = reads-then old read last (codes "::" ++ n) [] (reads-then old pushed read (codes "::") n (reads-of old pushed (codes "::") one) two) three in
     let t = local_in a.e p digit in
     let bytes = a.bytes ++ codes "::" ++ n in
     let w = a.within in
-    let begun_written : begun.text.list.items ≡ a.front ++ a.bytes = ap (λ v. v.list.items) same_text ∙ sym (append-nil old.text.list.items) ∙ a.written in
+    let entity = w.2 awaits.letter in
+    let old_written : old.text.list.items ≡ a.front ++ a.bytes = sym (append-nil old.text.list.items) ∙ a.written in
     let written : last.text.list.items ≡ a.front ++ bytes =
-    whole.text ∙ ap (λ l. begun.text.list.items ++ l) (append-nil (codes "::" ++ n)) ∙ sym (append_assoc begun.text.list.items (codes "::") n)
-    ∙ ap (λ l. l ++ codes "::" ++ n) begun_written ∙ behind-three a.front a.bytes (codes "::") n in
+    whole.text ∙ ap (λ l. old.text.list.items ++ l) (append-nil (codes "::" ++ n)) ∙ sym (append_assoc old.text.list.items (codes "::") n)
+    ∙ ap (λ l. l ++ codes "::" ++ n) old_written ∙ behind-three a.front a.bytes (codes "::") n in
     let st = with_candidate w.1 t a.state in
     let shown = local-prints a.e a.bytes a.encloses p n prints digit in
-    let known : AreCandidates begun.text.list.items begun.candidates.list.items a.state.candidates =
-    subst (λ v. AreCandidates v.list.items begun.candidates.list.items a.state.candidates) (sym same_text)
-    (subst (λ v. AreCandidates old.text.list.items v.list.items a.state.candidates) (sym same_candidates) a.candidates) in
     let more = candidates-with last a.state a.front bytes from t w.1 false
-    (candidates-read begun last (codes "::" ++ n ++ []) a.state.candidates whole known) written a.from_is shown in
+    (candidates-read old last (codes "::" ++ n ++ []) a.state.candidates whole a.candidates) written a.from_is shown in
+    let named_ = subst (λ k. IsPieceAt s k p read.at) (one.at ∙ awaits.at_is) is in
     record {
       state = st;
       candidates = subst (λ v. AreCandidates v.list.items new.candidates.list.items st.candidates) (sym text)
@@ -442,7 +640,7 @@ type-within s old begun pushed read last new from a letter same_text same_candid
         ap (λ v. v.list.items) text ∙ written,
         shown,
         subst (λ k. Comes s w.0 (tree t true) k st) (sym here)
-            (w.2 letter p read.at digit last.at (subst (λ k. IsPieceAt s k p read.at) (one.at ∙ at) is) told),
-        subst (λ v. Stands s (reverse v.list.items) w.0 a.front) (sym (waiting ∙ whole.waiting ∙ same_waiting)) w.3,
+            (entity.onward p read.at a.state (named_ entity.inner entity.around a.e a.state entity.awaits) digit last.at told),
+        subst (λ v. Stands s (reverse v.list.items) w.0 a.front) (sym (waiting ∙ whole.waiting)) w.3,
       );
     }

@@ -172,23 +172,25 @@ pub takes-elements : (o : Open) → ((x : ℕ) → o ≡ opens.Pointer x → ⊥
     → ((x : ℕ) → o ≡ opens.Rvalue x → ⊥) → ((x : ℕ) → o ≡ opens.Const x → ⊥) → ((x : Bool) (y : ℕ) → o ≡ opens.Parameters x y → ⊥)
     → ((x : Bool) (y : ℕ) → o ≡ opens.Front x y → ⊥)
     → ((x : Bool) → o ≡ opens.Returned x → ⊥) → ((x : Bool) → o ≡ opens.Signature x → ⊥)
-    → (o ≡ opens.Special → ⊥) → (o ≡ opens.Enumerator → ⊥) → ((x : Bool) (y : ℕ) → o ≡ opens.Enclosing x y → ⊥) → TakesElements o
-takes-elements (opens.Pointer x) p l r c f k u g z n m = absurd (p x refl)
-takes-elements (opens.Lvalue x) p l r c f k u g z n m = absurd (l x refl)
-takes-elements (opens.Rvalue x) p l r c f k u g z n m = absurd (r x refl)
-takes-elements (opens.Const x) p l r c f k u g z n m = absurd (c x refl)
-takes-elements (opens.Parameters x y) p l r c f k u g z n m = absurd (f x y refl)
-takes-elements (opens.Front x y) p l r c f k u g z n m = absurd (k x y refl)
-takes-elements (opens.Returned x) p l r c f k u g z n m = absurd (u x refl)
-takes-elements (opens.Signature x) p l r c f k u g z n m = absurd (g x refl)
-takes-elements (opens.Enclosing x y) p l r c f k u g z n m = absurd (m x y refl)
-takes-elements opens.Special p l r c f k u g z n m = absurd (z refl)
-takes-elements opens.Enumerator p l r c f k u g z n m = absurd (n refl)
-takes-elements opens.Pack p l r c f k u g z n m = tt
-takes-elements (opens.TypeArguments x) p l r c f k u g z n m = tt
-takes-elements (opens.NestArguments x) p l r c f k u g z n m = tt
-takes-elements (opens.FirstArguments x) p l r c f k u g z n m = tt
-takes-elements (opens.NameArguments x) p l r c f k u g z n m = tt
+    → (o ≡ opens.Special → ⊥) → (o ≡ opens.Enumerator → ⊥) → ((x : Bool) (y : ℕ) → o ≡ opens.Enclosing x y → ⊥)
+    → ((x : ℕ) → o ≡ opens.Lambda x → ⊥) → TakesElements o
+takes-elements (opens.Pointer x) p l r c f k u g z n m q = absurd (p x refl)
+takes-elements (opens.Lvalue x) p l r c f k u g z n m q = absurd (l x refl)
+takes-elements (opens.Rvalue x) p l r c f k u g z n m q = absurd (r x refl)
+takes-elements (opens.Const x) p l r c f k u g z n m q = absurd (c x refl)
+takes-elements (opens.Parameters x y) p l r c f k u g z n m q = absurd (f x y refl)
+takes-elements (opens.Front x y) p l r c f k u g z n m q = absurd (k x y refl)
+takes-elements (opens.Returned x) p l r c f k u g z n m q = absurd (u x refl)
+takes-elements (opens.Signature x) p l r c f k u g z n m q = absurd (g x refl)
+takes-elements (opens.Enclosing x y) p l r c f k u g z n m q = absurd (m x y refl)
+takes-elements (opens.Lambda x) p l r c f k u g z n m q = absurd (q x refl)
+takes-elements opens.Special p l r c f k u g z n m q = absurd (z refl)
+takes-elements opens.Enumerator p l r c f k u g z n m q = absurd (n refl)
+takes-elements opens.Pack p l r c f k u g z n m q = tt
+takes-elements (opens.TypeArguments x) p l r c f k u g z n m q = tt
+takes-elements (opens.NestArguments x) p l r c f k u g z n m q = tt
+takes-elements (opens.FirstArguments x) p l r c f k u g z n m q = tt
+takes-elements (opens.NameArguments x) p l r c f k u g z n m q = tt
 
 -- an element was read
 pub argument-read : (s : List ℕ) (w : Direct) (o : Open) → IsElementRead s w o → TakesElements o → IsWriting s w (steps.List false)

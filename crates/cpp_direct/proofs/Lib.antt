@@ -34,5 +34,6 @@ pub mod PrintedSymbols
 pub mod PrintedTypes
 pub mod PrintedValues
 mod PrintedWithin
-pub mod Signatures
+pub mod ShortNumbers
+mod Signatures
 pub mod TypesRead

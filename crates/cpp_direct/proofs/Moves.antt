@@ -7,7 +7,7 @@ use Rattle.sym_core.specs.Token.{Token, bytes_of, IsNumberToken}
 use Rattle.sym_shape.specs.declared.rule.Sym.{Sym}
 use Rattle.sym_shape.specs.declared.rule.Sym.TheVariants.{Kind as OfKind, Name, Number, Byte}
 use Rattle.sym_shape.specs.Table.{symbols_of}
-use Rattle.sym_shape.specs.Tree.{Forest, TakesRule}
+use Rattle.sym_shape.specs.Tree.{Forest, AreTrees, TakesRule, spell_all}
 use Rattle.sym_link.specs.Reading.{Next}
 use Rattle.sym_link.specs.Unfold.{found, standing}
 use Rattle.cpp_grammar.specs.declared.kind.Kind.{Kind}
@@ -80,6 +80,18 @@ opens s kind p byte taken around os at st chosen small takes begins expects stan
     subst (λ l. Needs s os (standing (rule_of p) taken at around st) [] l (at + length taken) st) (its_symbols p)
     (moves.opens cpp_language s (number_of_kind kind) (rule_of p) taken around os at st st (takes-it kind p byte taken chosen small takes)
     (begins-so p taken around at st begins) expects stands)
+
+-- the same where the production begins well with whatever parts stand in the symbol
+pub opens-where : (s : List ℕ) (kind : Kind) (p : Production) (byte : ℕ) (taken : List ℕ) (around : Around) (os : List Opened) (at : ℕ) (st : State)
+    → choose kind byte ≡ Some p → byte < 256 → taken ≡ (if not (is_chain p) then byte ∷ [] else [])
+    → ((f : Forest) → AreTrees abi (parts_of p) f → StandsAt s (at + length taken) (spell_all f) → opening p f at st ≡ Ok st)
+    → Expects s kind around os at st → StandsAt s at taken
+    → Needs s os (standing (rule_of p) taken at around st) [] (parts_of p) (at + length taken) st
+unfolding cpp
+opens-where s kind p byte taken around os at st chosen small takes begins expects stands =
+    subst (λ l. Needs s os (standing (rule_of p) taken at around st) [] l (at + length taken) st) (its_symbols p)
+    (moves.opens-where cpp_language s (number_of_kind kind) (rule_of p) taken around os at st st (takes-it kind p byte taken chosen small takes)
+    (λ f shaped there. ap (λ q. opening q f at st) (at_number p) ∙ begins f (subst (λ l. AreTrees abi l f) (its_symbols p) shaped) there) expects stands)
 
 -- a kind takes a production at its byte, whose parts are read
 unfoldable pub reads-rule : (s : List ℕ) (kind : Kind) (p : Production) (byte : ℕ) (taken : List ℕ) (around : Around) (at : ℕ) (st inner after : State)

@@ -1,7 +1,6 @@
 -- The moves in the names of local entities and in guard variables.
-use Rattle.std.proofs.Common.{◌≡◌, ℕ, ◌+◌, ◌-◌, ◌^◌, ◌<◌, ◌≤◌, Result, Ok, Err, List, [], ◌∷◌, ◌++◌, length, Bool, true, false, cond, nat_lt, Option, None, Some, refl, ap, sym, subst, arith, append-nil}
+use Rattle.std.proofs.Common.{◌≡◌, ℕ, ◌+◌, ◌-◌, ◌^◌, ◌<◌, ◌≤◌, Ok, Err, List, [], ◌∷◌, ◌++◌, length, Bool, true, false, cond, nat_lt, Option, None, Some, refl, ap, sym, subst, arith, append-nil}
 use Rattle.std.proofs.lemmas.Bool.{le-leb, lt-ltb}
-use Rattle.std.proofs.lemmas.Bool.Decides.{nat_tests}
 use Rattle.sym_core.specs.declared.NumberKind.TheVariants.{Decimal}
 use Rattle.sym_core.specs.declared.refusal.Refusal.TheVariants.{BadValue}
 use Rattle.sym_core.specs.Number.{AreDigitsOf}
@@ -13,8 +12,8 @@ use Rattle.cpp_grammar.specs.declared.kind.Kind.{Kind}
 use Rattle.cpp_grammar.specs.declared.production.Production.{Production}
 use Rattle.cpp_grammar.specs.Grammar.{in_ranges, among, is_in, pick, number_of_kind, alternatives, choose, parts_of, is_chain, may_be_empty}
 use Rattle.cpp_grammar.specs.Table.{rule_of, padded}
-use Rattle.cpp_grammar.specs.Term.{Term, source, within, lambda, builtin, nil}
-use Rattle.cpp_grammar.specs.Values.{State, Around, nothing_there, text, tree, piece, tree_of, text_of, piece_of, is_listed, qualifiers_of, ref_of, is_there, local_number, part}
+use Rattle.cpp_grammar.specs.Term.{Term, source, within, lambda, builtin, nil, list}
+use Rattle.cpp_grammar.specs.Values.{State, Around, outermost, nothing_there, text, tree, piece, tree_of, text_of, piece_of, is_listed, qualifiers_of, ref_of, is_there, local_number, part}
 use Rattle.cpp_grammar.specs.References.{with_type}
 use Rattle.cpp_grammar.specs.Between.{between, no_items, after, in_signature, in_name, extended, applied, piece_so_far, named_so_far}
 use Rattle.cpp_grammar.specs.Meaning.{meaning, parameters, is_void, is_nil, listed_value}
@@ -24,9 +23,12 @@ use Rattle.cpp_grammar.proofs.Choosing.{empty_at_kind}
 use Rattle.cpp_direct.specs.Holes.{cpp_language, Opened, opened, StandsAt, Comes, Expects, IsNameAt}
 use Rattle.sym_direct.specs.Holes as direct
 use Rattle.sym_direct.proofs.Moves as moves
-use Rattle.cpp_direct.specs.HolesOfLocals.{discriminator_value, IsDiscriminatorAt, IsLambdaDigit, IsPieceAt, LocalOpened, LocalTypeOpened, GuardOpened, lambda_digits}
+use Rattle.cpp_direct.specs.HolesOfLocals.{discriminator_value, IsDiscriminatorAt, IsLambdaDigit, IsPieceAt, LocalOpened, LocalTypeOpened, GuardOpened, lambda_digits, lambda_ending, lambda_with}
+use Rattle.cpp_direct.specs.Bytes.{short_numbers}
+use Rattle.cpp_direct.specs.Stands.{ItemsGoOn}
+use Rattle.cpp_direct.proofs.ShortNumbers.{lambda-begins}
 use Rattle.cpp_direct.specs.HolesOfTypes.{IsNamedKind}
-use Rattle.cpp_direct.proofs.Moves.{stands-split, comes-moved, kind-at, reads-rule, joins, none-left, opens, opens-chain, needs-next, ends, expects-empty, expects-byte, expects-name}
+use Rattle.cpp_direct.proofs.Moves.{stands-split, comes-moved, kind-at, reads-rule, joins, none-left, opens, opens-where, opens-chain, needs-next, ends, expects-empty, expects-byte, expects-name, expects-number}
 
 -- ## Discriminators
 
@@ -256,19 +258,94 @@ local-type-opens s kind os around at st named_ expects stands =
       inner = opened rule [] (Byte 69 ∷ entity ∷ last ∷ []) ∷ os;
       awaits = needs-next s p (90 ∷ []) at around st [] encoding (Byte 69 ∷ entity ∷ last ∷ []) os (at + 1) st around [] st refl
           (opens s kind p 90 (90 ∷ []) around os at st (local-taken kind named_) (omega arith) refl (λ f. refl) expects stands);
-      onward = λ e here now comes letter n middle digit end is told.
+      onward = λ e here now comes letter.
           let inside : Around = after e true around in
           let one = tree e true ∷ [] in
           let two = tree e true ∷ nothing_there ∷ [] in
-          let three = tree e true ∷ nothing_there ∷ tree (within e n) false ∷ [] in
           let marked = expects-byte s 69 inside (opened rule one (entity ∷ last ∷ []) ∷ os) here now
           (needs-next s p (90 ∷ []) at around st one (Byte 69) (entity ∷ last ∷ []) os here now inside one now refl comes) letter in
-          let named_ = is (opened rule two (last ∷ []) ∷ os) around e now
-          (needs-next s p (90 ∷ []) at around st two entity (last ∷ []) os (here + 1) now inside two now refl marked) in
-          let discriminated = discriminator-comes s (opened rule three [] ∷ os) inside middle digit end now
-          (needs-next s p (90 ∷ []) at around st three last [] os middle now inside three now refl named_) told in
-          ends s p (90 ∷ []) at around st (tree e true ∷ nothing_there ∷ tree (within e n) false ∷ discriminator_value digit ∷ []) os end now _ now
-          discriminated refl;
+          record {
+            around = around;
+            inner = opened rule two (last ∷ []) ∷ os;
+            awaits = needs-next s p (90 ∷ []) at around st two entity (last ∷ []) os (here + 1) now inside two now refl marked;
+            onward = λ n middle then_ named_ digit end told.
+                let three = tree e true ∷ nothing_there ∷ tree (within e n) false ∷ [] in
+                let discriminated = discriminator-comes s (opened rule three [] ∷ os) inside middle digit end then_
+                (needs-next s p (90 ∷ []) at around st three last [] os middle then_ inside three then_ refl named_) told in
+                ends s p (90 ∷ []) at around st (tree e true ∷ nothing_there ∷ tree (within e n) false ∷ discriminator_value digit ∷ []) os end then_ _ then_
+                discriminated refl;
+          };
+    }
+
+-- ## Lambdas
+
+-- what becomes of the parameters of a lambda, in front of the E behind them
+abbrev pub LambdaEnds : (s : List ℕ) → (os : List Opened) → (e : Term) → (items : Term) → (at : ℕ) → State → Type 0
+LambdaEnds s os e items at st =
+    (number : Option ℕ) (end : ℕ) → IsLambdaDigit number → StandsAt s at (lambda_ending number) → end ≡ at + length (lambda_ending number)
+    → Comes s os (tree (within e (lambda_with items number)) false) end st
+
+-- The first parameter of a lambda is expected.
+pub record LambdaOpened (s : List ℕ) (os : List Opened) (e : Term) (at : ℕ) (st : State) : Type 0 where
+  pub around : Around
+  pub outside : around.prefix ≡ outermost
+  pub inner : List Opened
+  pub awaits : Expects s Kind.Item around inner at st
+  pub onward : (t : Term) (at : ℕ) (st : State) → Comes s inner (tree t true) at st → ItemsGoOn s (LambdaEnds s os e) (λ l. l) (t ∷ []) at st
+
+-- a lambda begins in a symbol without long numbers
+pub lambda-opens : (s : List ℕ) (os : List Opened) (around : Around) (e : Term) (at : ℕ) (st : State) → short_numbers 0 s ≡ true
+    → Expects s Kind.TypeEntity (after e true around) os at st → StandsAt s at (85 ∷ 108 ∷ []) → LambdaOpened s os e (at + 2) st
+unfolding choose alternatives pick is_in in_ranges among is_chain parts_of between piece_so_far named_so_far extended applied after in_signature opening
+    close unfolding_.behind meaning part tree_of text_of is_there piece_of may_be_empty
+lambda-opens s os around e at st short expects stands =
+    let p = Production.LocalTypeName in
+    let q = Production.Lambda in
+    let here : Around = after e true around in
+    let c = in_signature here in
+    let rule = standing (rule_of p) (85 ∷ []) at here st in
+    let lambda_rule = standing (rule_of q) (108 ∷ []) (at + 1) here st in
+    let arguments = OfKind (number_of_kind Kind.MaybeArguments) in
+    let items = OfKind (number_of_kind Kind.Items) in
+    let places = stands-split s at (85 ∷ []) (108 ∷ []) stands in
+    let above = opened rule [] (arguments ∷ []) ∷ os in
+    let rest = Byte 69 ∷ Number Decimal ∷ [] in
+    let needs = opens-where s Kind.Anonymous q 108 (108 ∷ []) here above (at + 1) st refl (omega arith) refl
+    (λ f shaped there. lambda-begins s (at + 1 + 1) (at + 1) st short f shaped there)
+    (needs-next s p (85 ∷ []) at here st [] (OfKind (number_of_kind Kind.Anonymous)) (arguments ∷ []) os (at + 1) st here [] st refl
+    (opens s Kind.TypeEntity p 85 (85 ∷ []) here os at st refl (omega arith) refl (λ f. refl) expects places.0)) places.1 in
+    record {
+      around = c;
+      outside = refl;
+      inner = opened lambda_rule [] (items ∷ rest) ∷ above;
+      awaits = subst (λ k. Expects s Kind.Item c (opened lambda_rule [] (items ∷ rest) ∷ above) k st) (omega arith)
+          (needs-next s q (108 ∷ []) (at + 1) here st [] (OfKind (number_of_kind Kind.Item)) (items ∷ rest) above (at + 1 + 1) st c [] st refl needs);
+      onward = λ t there now comes. record {
+        around = c;
+        inner = opened lambda_rule (tree t true ∷ []) rest ∷ above;
+        outside = refl;
+        awaits = needs-next s q (108 ∷ []) (at + 1) here st (tree t true ∷ []) items rest above there now c (tree t true ∷ []) now refl comes;
+        onward = λ l to then_ last number end is ending ends_.
+            let two = tree t true ∷ l ∷ [] in
+            let three = tree t true ∷ l ∷ nothing_there ∷ [] in
+            let digits = lambda_digits number in
+            let n = lambda_with (list t (no_items l)) number in
+            let token_ : Token = record { before = []; own = digits; behind = 95 ∷ [] } in
+            let u = within e n in
+            let split = stands-split s to (69 ∷ []) (digits ++ 95 ∷ []) ending in
+            let marked = expects-byte s 69 c (opened lambda_rule two (Number Decimal ∷ []) ∷ above) to then_
+            (needs-next s q (108 ∷ []) (at + 1) here st two (Byte 69) (Number Decimal ∷ []) above to then_ c two then_ refl last) split.0 in
+            let numbered = expects-number s Decimal c (opened lambda_rule three [] ∷ above) (to + 1) then_ token_
+            (needs-next s q (108 ∷ []) (at + 1) here st three (Number Decimal) [] above (to + 1) then_ c three then_ refl marked)
+            (record { bare = refl; digits = digits-of number is; ends = refl }) split.1 in
+            let lambda_ = comes-moved s above (piece n) (to + 1 + length (digits ++ 95 ∷ [])) end then_ (omega (arith, ends_))
+            (ends s q (108 ∷ []) (at + 1) here st (tree t true ∷ l ∷ nothing_there ∷ text digits ∷ []) above (to + 1 + length (digits ++ 95 ∷ [])) then_ _ then_
+            numbered refl) in
+            ends s p (85 ∷ []) at here st (tree u false ∷ nothing_there ∷ []) os end then_ _ then_
+            (expects-empty s Kind.MaybeArguments (after u false around) (opened rule (tree u false ∷ []) [] ∷ os) end then_
+            (needs-next s p (85 ∷ []) at here st (piece n ∷ []) arguments [] os end then_ (after u false around) (tree u false ∷ []) then_ refl lambda_) refl)
+            refl;
+      };
     }
 
 -- ## Guard variables

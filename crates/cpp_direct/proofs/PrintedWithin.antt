@@ -1,17 +1,19 @@
 -- Types that stand in functions, and their names.
-use Rattle.std.proofs.Common.{◌≡◌, refl, ap, ◌∙◌, ℕ, ◌+◌, ◌*◌, ◌≤◌, List, [], ◌∷◌, ◌++◌, length, false, Option, arith, codes, length-append, append-nil}
+use Rattle.std.proofs.Common.{◌≡◌, refl, ap, sym, ◌∙◌, append_assoc, ℕ, ◌+◌, List, [], ◌∷◌, ◌++◌, length, false, Option, arith, codes, length-append, append-nil}
 use Rattle.std.specs.Prelude.{decimal}
 use Rattle.sym_print.specs.Unfold.{text}
 use Rattle.sym_print.specs.Unshared.{text_of, cost_of}
 use Rattle.cpp_grammar.specs.Term.{Term, within, lambda, nil}
 use Rattle.cpp_grammar.specs.Scope.{is_open, pack_length, first_of}
 use Rattle.cpp_grammar.specs.References.{is_function_type}
-use Rattle.cpp_grammar.specs.Items.{bare, left, right, piece, Context, closed, head_with, head, is_reference, is_funarr, is_empty}
+use Rattle.cpp_grammar.specs.Items.{bare, left, right, piece, first, Context, closed, head_with, head, is_reference, is_funarr, is_empty}
 use Rattle.cpp_grammar.specs.Meaning.{is_void}
 use Rattle.cpp_grammar.specs.Parts.{as_item, says, list_part, prefix_item, last_piece, opening_text, piece_parts, within_parts, left_parts, right_parts, parts_in, not_empty, is_plain_integer}
 use Rattle.cpp_direct.specs.HolesOfLocals.{local_in}
-use Rattle.cpp_direct.specs.Prints.{in_form, Prints, PrintsPiece, Encloses}
-use Rattle.cpp_direct.proofs.PrintedParts.{printed_by, text_by, cost_by, text_first, cost_first, text_alone}
+use Rattle.cpp_direct.specs.Prints.{in_form, Prints, PrintsPiece, PrintAll, Encloses, list_of}
+use Rattle.cpp_direct.proofs.PrintedParts.{printed_by, text_by, cost_by, text_first, cost_first, text_append, cost_append}
+use Rattle.cpp_direct.proofs.PrintedFunctions.{closed-list, packless-list}
+use Rattle.cpp_direct.proofs.PrintedLists.{list-text, list-cost}
 use Rattle.cpp_direct.proofs.PrintedNests.{IsPiece, joins}
 
 -- a piece of a nested name is one
@@ -51,6 +53,45 @@ lambda-prints number digits is =
       as_component = λ c t. refl;
       is_closed = refl;
       packless = λ scope. refl;
+      opening = refl;
+    }
+
+list-bracketed : (x d l t : List ℕ) → x ≡ l → d ≡ t
+    → (codes "{lambda(" ++ x) ++ (codes ")#" ++ (d ++ codes "}")) ≡ codes "{lambda(" ++ l ++ codes ")#" ++ t ++ codes "}"
+list-bracketed x d l t e f =
+    rw (e, f) (sym (append_assoc (codes "{lambda(" ++ l) (codes ")#") (t ++ codes "}")) ∙ sym (append_assoc (codes "{lambda(" ++ l ++ codes ")#") t (codes "}")))
+
+-- one with parameters prints these too
+pub lambda-list-prints : (ts : List Term) (l : List ℕ) → PrintAll 0 ts l → (number : ℕ) (digits : List ℕ) → decimal number ≡ digits
+    → PrintsPiece (lambda (list_of ts) number) (codes "{lambda(" ++ l ++ codes ")#" ++ digits ++ codes "}")
+unfolding parts_in piece_parts within_parts not_empty is_open pack_length opening_text
+lambda-list-prints ts l all number digits is =
+    let t = lambda (list_of ts) number in
+    let last = says "}" ∷ [] in
+    let behind = says ")#" ∷ text (decimal number) ∷ last in
+    record {
+      piece_text = λ c.
+          let front = says "{lambda(" ∷ list_part first c (list_of ts) in
+          text_by piece c t (front ++ behind) refl ∙ text_append front behind
+          ∙ ap (λ k. text_of (printed_by front) ++ (codes ")#" ++ k)) (text_first (decimal number) last)
+          ∙ list-bracketed (text_of (printed_by (list_part first c (list_of ts)))) (decimal number) l digits (list-text c 0 ts l all) is;
+      piece_cost = λ c.
+          let front = says "{lambda(" ∷ list_part first c (list_of ts) in
+          omega (
+            arith,
+            cost_by piece c t (front ++ behind) refl,
+            cost_append front behind,
+            list-cost c 0 ts l (omega arith) all,
+            cost_first (decimal number) last,
+            ap length is,
+            length-append (codes "{lambda(" ++ l ++ codes ")#" ++ digits) (codes "}"),
+            length-append (codes "{lambda(" ++ l ++ codes ")#") digits,
+            length-append (codes "{lambda(" ++ l) (codes ")#"),
+            length-append (codes "{lambda(") l,
+          );
+      as_component = λ c u. refl;
+      is_closed = closed-list ts l all;
+      packless = λ scope. packless-list scope ts l all;
       opening = refl;
     }
 

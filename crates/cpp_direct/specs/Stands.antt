@@ -29,7 +29,7 @@ use Rattle.cpp_direct.specs.Holes.{Opened, Comes, Expects, StandsAt, TypePasses,
 use Rattle.cpp_direct.specs.HolesOfFunctions.{SignatureGoesOn, plain_function}
 use Rattle.cpp_direct.specs.HolesOfTypes.{NoReference}
 use Rattle.cpp_direct.specs.HolesOfLists.{IsSuffix, IsDigitsAt, minus_sign}
-use Rattle.cpp_direct.specs.HolesOfLocals.{IsDiscriminatorAt, IsEntityAt, IsPieceAt, local_in}
+use Rattle.cpp_direct.specs.HolesOfLocals.{EntityOpened, IsDiscriminatorAt, IsEntityAt, IsLambdaDigit, lambda_ending, lambda_with, local_in}
 use Rattle.cpp_direct.specs.Prints.{Prints, Shows, Encloses, NamesClass, PrintAll}
 
 -- ## Candidates
@@ -173,8 +173,16 @@ Marks s below os text from made = (outer : List Opened) × (e : ℕ) × (from �
 abbrev pub TypeWithin : (s : List ℕ) → Below → (front : List ℕ) → (e : Term) → (at : ℕ) → State → Type 0
 TypeWithin s below front e at st =
     (outer : List Opened) × (encoding : ℕ)
-    × (StandsAt s at (69 ∷ []) → (p : Term) (middle : ℕ) (digit : Option ℕ) (end : ℕ) → IsPieceAt s (at + 1) p middle → IsDiscriminatorAt s middle digit end
-    → Comes s outer (tree (local_in e p digit) true) end (with_candidate encoding (local_in e p digit) st))
+    × (StandsAt s at (69 ∷ []) → EntityOpened s (λ t end now. Comes s outer (tree t true) end (with_candidate encoding t now)) e (at + 1) st)
+    × below outer front
+
+-- The same of the parameters of a lambda, which is such a type, in front of the E behind them.
+abbrev pub LambdaWithin : (s : List ℕ) → Below → (front : List ℕ) → (e : Term) → (items : Term) → (at : ℕ) → State → Type 0
+LambdaWithin s below front e items at st =
+    (outer : List Opened) × (encoding : ℕ)
+    × ((number : Option ℕ) (middle : ℕ) (digit : Option ℕ) (end : ℕ) → IsLambdaDigit number → StandsAt s at (lambda_ending number)
+    → middle ≡ at + length (lambda_ending number) → IsDiscriminatorAt s middle digit end
+    → Comes s outer (tree (local_in e (lambda_with items number) digit) true) end (with_candidate encoding (local_in e (lambda_with items number) digit) st))
     × below outer front
 
 -- A nested name that comes is what it is read as.
@@ -331,6 +339,12 @@ Stands s (opens.Enclosing is_const from ∷ rest) os text =
     × IsFunction is_const make ts name texts × (from ≡ length front) × (text ≡ front ++ name ++ codes "(" ++ in_front_of_next ts texts)
     × ((t : Term) (at : ℕ) (st : State) → Comes s os (tree t true) at st
     → ItemsGoOn s (TypeWithin s (Stands s rest) front) make (ts ++ t ∷ []) at st)
+Stands s (opens.Lambda from ∷ rest) os text =
+    (front : List ℕ) × (e : Term) × (bytes : List ℕ) × (ts : List Term) × (texts : List ℕ)
+    × Encloses e bytes × PrintAll 0 ts texts × (from ≡ length front)
+    × (text ≡ front ++ (bytes ++ codes "::{lambda(") ++ in_front_of_next ts texts)
+    × ((t : Term) (at : ℕ) (st : State) → Comes s os (tree t true) at st
+    → ItemsGoOn s (LambdaWithin s (Stands s rest) front e) (λ l. l) (ts ++ t ∷ []) at st)
 Stands s (opens.Returned is_pointer ∷ rest) os text =
     (outer : List Opened) × (e : ℕ)
     × ((r : Term) (at : ℕ) (st : State) → Comes s os (tree r true) at st → SignatureGoesOn s outer e is_pointer (λ l. plain_function r l) at st)

@@ -16,7 +16,7 @@ use Rattle.cpp_direct.specs.Holes.{Opened, StandsAt, Comes, Expects, IsReferable
 use Rattle.cpp_direct.specs.HolesOfFunctions.{SignatureGoesOn, plain_function, pointed, with_pointed}
 use Rattle.cpp_direct.specs.HolesOfTypes.{IsNamedKind, NoReference, TreeOpens}
 use Rattle.cpp_direct.specs.Prints.{Prints, IsElement, PrintAll, Shows, Encloses, sign_text}
-use Rattle.cpp_direct.specs.Stands.{AreCandidates, AwaitsItems, Encoded, EncodedBehind, IsFunction, IsInstance, IsListing, IsNest, IsTail, IsTemplate, GoesOn, EnumeratorGoesOn, ItemsGoOn, Owns, ParametersGoOn, Serves, Stands, TypeWithin, TakesFunction, opening_text, qualifiers, extra_of, led_by, list_with, in_front_of_next}
+use Rattle.cpp_direct.specs.Stands.{AreCandidates, AwaitsItems, Encoded, EncodedBehind, IsFunction, IsInstance, IsListing, IsNest, IsTail, IsTemplate, GoesOn, EnumeratorGoesOn, ItemsGoOn, LambdaWithin, Owns, ParametersGoOn, Serves, Stands, TypeWithin, TakesFunction, opening_text, qualifiers, extra_of, led_by, list_with, in_front_of_next}
 
 -- what stands behind the parameters of a member function
 abbrev pub const_text : (is_const : Bool) → List ℕ
@@ -347,6 +347,31 @@ pub record IsEnclosingRead (s : List ℕ) (w : Direct) (is_const : Bool) (from :
   pub from_is : from ≡ length front
   pub encloses : Encloses e bytes
   pub within : TypeWithin s (Stands s (reverse w.waiting.list.items)) front e w.at state
+
+-- The name of a type is expected behind the E of the function that it stands in, which was written from a place on.
+pub record AwaitsTypeName (s : List ℕ) (w : Direct) (from : ℕ) : Type 0 where
+  pub before : ℕ
+  pub read : IsEnclosingRead s (record w { at = before }) false from
+  pub letter : StandsAt s before (69 ∷ [])
+  pub at_is : w.at ≡ before + 1
+
+-- A parameter of a lambda was read, which is a type that stands in a function.
+pub record IsLambdaParameterRead (s : List ℕ) (w : Direct) (from : ℕ) : Type 0 where
+  pub state : State
+  pub candidates : AreCandidates w.text.list.items w.candidates.list.items state.candidates
+  pub rest : List Open
+  pub open_is : reverse w.waiting.list.items ≡ opens.Lambda from ∷ rest
+  pub front : List ℕ
+  pub e : Term
+  pub bytes : List ℕ
+  pub encloses : Encloses e bytes
+  pub ts : List Term
+  pub some : ts ≢ []
+  pub texts : List ℕ
+  pub elements : PrintAll 0 ts texts
+  pub from_is : from ≡ length front
+  pub written : w.text.list.items ≡ front ++ (bytes ++ codes "::{lambda(") ++ texts
+  pub goes : ItemsGoOn s (LambdaWithin s (Stands s rest) front e) (λ l. l) ts w.at state
 
 -- ## Function types
 

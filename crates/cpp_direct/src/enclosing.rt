@@ -1,19 +1,22 @@
 // Types that stand in the body of a function.
 
-ghost use Rattle.std.specs.Prelude.{◌∷◌, [], ℕ, List, false};
+ghost use Rattle.std.specs.Prelude.{◌≡◌, ◌+◌, ◌∷◌, ◌++◌, [], ℕ, List, length, Option, false, codes};
 ghost use Rattle.std.specs.Option.{OnSome, IfSome};
 ghost use Rattle.sym_core.specs.Number.{FitsSymbol};
 ghost use Rattle.cpp_grammar.specs.Term.{Term};
 ghost use Rattle.cpp_direct.specs.Holes.{StandsAt};
-ghost use Rattle.cpp_direct.specs.HolesOfLocals.{IsPieceAt};
+ghost use Rattle.cpp_direct.specs.HolesOfLocals.{IsLambdaDigit, IsPieceAt, lambda_digits, lambda_number};
 ghost use Rattle.cpp_direct.specs.Prints.{PrintsPiece};
 ghost use Rattle.cpp_direct.specs.Stands.{IsWriting};
-ghost use Rattle.cpp_direct.specs.Ways.{AwaitsNamedType, IsEnclosingNamed, IsEnclosingParameterRead, IsEnclosingRead};
+ghost use Rattle.cpp_direct.specs.Ways.{AwaitsNamedType, AwaitsTypeName, IsEnclosingNamed, IsEnclosingParameterRead, IsEnclosingRead, IsLambdaParameterRead};
 ghost use Rattle.cpp_direct.specs.Written.{Reads};
 
 use crate::direct::Direct;
 use crate::open::{Open, Purpose, Step};
-use crate::tokens::byte_at;
+use crate::tokens::{are_numbers_short, byte_at};
+
+/// The longest symbol in which lambdas with parameters are read, in bytes.
+const LONGEST_WITH_LAMBDAS: usize = 1_024;
 
 impl Direct {
     /// Reads the first bytes of a type that stands in a function, up to the first type in that one's name.
@@ -98,7 +101,7 @@ impl Direct {
         self.enclosed(s, from)
     }
 
-    /// Reads the name of a type behind the function that it stands in.
+    /// Reads the E behind the function that a type stands in.
     // <local-name> ::= Z <function encoding> E <entity name> [<discriminator>]
     fn enclosed(&mut self, s: &[u8], from: usize) -> Option<Step>
         requires fits { FitsSymbol s.now }
@@ -109,6 +112,23 @@ impl Direct {
             return None;
         }
         self.at = self.at.checked_add(1)?;
+        if byte_at(s, self.at) != b'U' {
+            return self.enclosed_named(s, from);
+        }
+        let behind = byte_at(s, self.at.checked_add(2)?);
+        if behind == b'v' {
+            return self.enclosed_named(s, from);
+        }
+        self.begin_lambda(s, from)
+    }
+
+    /// Reads the name of a type that stands in a function.
+    // <local-name> ::= Z <function encoding> E <entity name> [<discriminator>]
+    fn enclosed_named(&mut self, s: &[u8], from: usize) -> Option<Step>
+        requires fits { FitsSymbol s.now }
+        requires awaits { AwaitsTypeName s.now self.old from }
+        ensures { IfSome result (IsWriting s.now self.new) }
+    {
         self.push_pair(b':', b':')?;
         self.enclosed_piece(s)?;
         self.discriminator(s)?;
@@ -143,10 +163,21 @@ impl Direct {
             return None;
         }
         self.at = self.at.checked_add(4)?;
+        self.push(b"{lambda()#")?;
+        self.lambda_number(s)
+    }
+
+    /// Reads the number of a lambda, one of the first nine, and writes it and what stands behind it.
+    // <closure-type-name> ::= Ul <lambda-sig> E [<nonnegative number>] _
+    fn lambda_number(&mut self, s: &[u8]) -> Option<()>
+        ensures { OnSome result ((number : Option ℕ) × IsLambdaDigit number × StandsAt s.now self.old.at (lambda_digits number ++ 95 ∷ [])
+            × (self.new.at ≡ self.old.at + length (lambda_digits number ++ 95 ∷ []))
+            × Reads self.old self.new (lambda_number number ++ codes "}")) }
+    {
         let digit = byte_at(s, self.at);
         self.at = self.at.checked_add(1)?;
         if digit == b'_' {
-            return self.push(b"{lambda()#1}");
+            return self.push(b"1}");
         }
         if digit < b'0' || b'7' < digit {
             return None;
@@ -155,7 +186,53 @@ impl Direct {
             return None;
         }
         self.at = self.at.checked_add(1)?;
-        self.push(b"{lambda()#")?;
         self.push_pair(digit + 2, b'}')
+    }
+
+    /// Begins a lambda that has parameters, in a symbol that isn't a long one: each lambda goes over it once more.
+    // <closure-type-name> ::= Ul <lambda-sig> E [<nonnegative number>] _
+    fn begin_lambda(&mut self, s: &[u8], from: usize) -> Option<Step>
+        requires awaits { AwaitsTypeName s.now self.old from }
+        requires letter { StandsAt s.now self.old.at (85 ∷ []) }
+        ensures { IfSome result (IsWriting s.now self.new) }
+    {
+        self.at = self.at.checked_add(1)?;
+        if byte_at(s, self.at) != b'l' {
+            return None;
+        }
+        // its number is tested before its parameters, and isn't known yet
+        if s.len() > LONGEST_WITH_LAMBDAS || !are_numbers_short(s) {
+            return None;
+        }
+        self.at = self.at.checked_add(1)?;
+        self.push(b"::{lambda(")?;
+        self.waiting.push(Open::Lambda { from })?;
+        Some(Step::Type)
+    }
+
+    /// A parameter of a lambda is read: another one follows, or the lambda's end.
+    // <lambda-sig> ::= <parameter type>+
+    pub(crate) fn lambda_parameter(&mut self, s: &[u8], from: usize) -> Option<Step>
+        requires fits { FitsSymbol s.now }
+        requires read { IsLambdaParameterRead s.now self.old from }
+        ensures { IfSome result (IsWriting s.now self.new) }
+    {
+        if byte_at(s, self.at) != b'E' {
+            self.push_pair(b',', b' ')?;
+            return Some(Step::Type);
+        }
+        // a lone void is no parameter
+        if self.text.as_slice().ends_with(b"(void") {
+            return None;
+        }
+        self.at = self.at.checked_add(1)?;
+        self.push_pair(b')', b'#')?;
+        self.lambda_number(s)?;
+        let _open = self.waiting.pop();
+        self.discriminator(s)?;
+        self.add_candidate(from, false)?;
+        Some(Step::Value {
+            is_reference: false,
+        })
     }
 }

@@ -28,6 +28,7 @@ impl Direct {
             | Open::Rvalue { .. }
             | Open::Const { .. }
             | Open::Enumerator
+            | Open::Lambda { .. }
             | Open::Front { .. }
             | Open::Returned { .. }
             | Open::Signature { .. } => return None,

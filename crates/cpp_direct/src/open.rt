@@ -55,6 +55,8 @@ pub enum Open {
     Parameters { is_const: bool, start: usize },
     /// the parameters of a function in which a type stands; the type's text begins at this place, with the function's
     Enclosing { is_const: bool, from: usize },
+    /// the parameters of a lambda that stands in a function, whose text begins at this place
+    Lambda { from: usize },
     /// the name of a special symbol
     Special,
     /// the return type of a function type that is an element or a parameter, by itself or behind a pointer

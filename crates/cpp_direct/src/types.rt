@@ -189,6 +189,7 @@ impl Direct {
             Open::Returned { is_pointer } => self.returned(s, is_pointer),
             Open::Signature { is_pointer } => self.parameter_at(s, is_pointer, false),
             Open::Enclosing { is_const, from } => self.enclosing_parameter(s, is_const, from),
+            Open::Lambda { from } => self.lambda_parameter(s, from),
             Open::Special => self.finish(s),
             Open::Enumerator => self.enumerator(s),
             _ => Some(Step::List { is_first: false }),

@@ -6,7 +6,7 @@ use Rattle.sym_shape.specs.declared.rule.Rule.{Rule}
 use Rattle.sym_shape.specs.declared.rule.Sym.{Sym}
 use Rattle.sym_shape.specs.declared.rule.Sym.TheVariants.{Kind, Byte}
 use Rattle.sym_shape.specs.Table.{Token, symbols_of, bytes_of}
-use Rattle.sym_shape.specs.Tree.{Forest, branch, empty, token, fixed, nothing, grown, IsTree, TakesRule}
+use Rattle.sym_shape.specs.Tree.{Forest, branch, empty, token, fixed, nothing, grown, IsTree, AreTrees, TakesRule, spell_all}
 use Rattle.sym_link.specs.Reading.{Open, Next}
 use Rattle.sym_link.specs.Unfold.{found, standing}
 use Rattle.sym_direct.specs.Holes.{Language, Opened, opened, Reads, ReadsRest, StandsAt, Comes, Needs, Expects}
@@ -52,6 +52,22 @@ reads-rule l s kind rule taken context at st begun inner after bytes vs w takes 
   unfolds = rw (begins, rest.unfolds, closes) refl;
 }
 
+-- a kind takes a rule, which may begin with whatever parts stand in the symbol: it stands open
+pub opens-where : {V S C : Type 0} (l : Language V S C) (s : List ℕ) (kind : ℕ) (rule : Rule) (taken : List ℕ) (context : C)
+    (os : List (Opened V S C)) (at : ℕ) (st begun : S)
+    → TakesRule l.table kind rule taken
+    → ((f : Forest) → AreTrees l.table (symbols_of rule) f → StandsAt s (at + length taken) (spell_all f)
+    → (l.reading s).begin (standing rule taken at context st) f ≡ Ok begun)
+    → Expects l s (Kind kind) context os at st → StandsAt s at taken
+    → Needs l s os (standing rule taken at context st) [] (symbols_of rule) (at + length taken) begun
+opens-where l s kind rule taken context os at st begun takes begins expects stands bytes vs inner w after rest there closes =
+    comes-moved l s os (w ∷ []) (at + length (taken ++ bytes)) (at + length taken + length bytes) after
+    (omega (arith, length-append taken bytes))
+    (expects (taken ++ bytes) (w ∷ []) after
+    (reads-rule l s kind rule taken context at st begun inner after bytes vs w takes rest
+    (begins rest.forest rest.shaped (subst (λ b. StandsAt s (at + length taken) b) (sym rest.spelled) there)) closes)
+    (stands-join s at taken bytes stands there))
+
 -- a kind takes a rule: it stands open
 pub opens : {V S C : Type 0} (l : Language V S C) (s : List ℕ) (kind : ℕ) (rule : Rule) (taken : List ℕ) (context : C)
     (os : List (Opened V S C)) (at : ℕ) (st begun : S)
@@ -59,12 +75,8 @@ pub opens : {V S C : Type 0} (l : Language V S C) (s : List ℕ) (kind : ℕ) (r
     → ((f : Forest) → (l.reading s).begin (standing rule taken at context st) f ≡ Ok begun)
     → Expects l s (Kind kind) context os at st → StandsAt s at taken
     → Needs l s os (standing rule taken at context st) [] (symbols_of rule) (at + length taken) begun
-opens l s kind rule taken context os at st begun takes begins expects stands bytes vs inner w after rest there closes =
-    comes-moved l s os (w ∷ []) (at + length (taken ++ bytes)) (at + length taken + length bytes) after
-    (omega (arith, length-append taken bytes))
-    (expects (taken ++ bytes) (w ∷ []) after
-    (reads-rule l s kind rule taken context at st begun inner after bytes vs w takes rest (begins rest.forest) closes)
-    (stands-join s at taken bytes stands there))
+opens l s kind rule taken context os at st begun takes begins expects stands =
+    opens-where l s kind rule taken context os at st begun takes (λ f shaped there. begins f) expects stands
 
 -- a part is read, and those behind it
 unfoldable pub joins : {V S C : Type 0} (l : Language V S C) (s : List ℕ) (rule : Open S C) (known : List V) (x : Sym) (todo : List Sym) (at : ℕ) (st : S)
