@@ -14,18 +14,20 @@ TOKENS = {NAME: DIG, DECIMAL: DIG + "_", SEQ36: DIG + "ABCDEFGHIJKLMNOPQRSTUVWXY
 P = {}
 # kinds: name -> (may be empty, [(class, production)], chain production or list of chains)
 K = {}
-# The wide grammar is the same list of kinds and productions, with more alternatives: those that `wide` marks here.
-MARKED = set()      # (kind, class, production)
-WIDENED = [False]   # whether they are among those of K
+# The wide grammar is the same list of kinds and productions, with other alternatives: it has those that `wide` marks here, and
+# not those that `narrow` marks, which the ABI's grammar has in their place.
+MARKED = {}         # (kind, class, production): which of the two
+WIDENED = [False]   # whether K has the wide grammar's
 def prod(name, *symbols, chain=False):
     v = (not chain, list(symbols))
     assert name not in P or P[name] == v, (name, P.get(name), v)
     P[name] = v
     return name
 def kind(name, *rules, empty=False):
-    MARKED.update((name, *rule[:2]) for rule in rules if len(rule) == 3)
-    K[name] = (empty, [rule[:2] for rule in rules if len(rule) == 2 or WIDENED[0]])
+    MARKED.update({(name, *rule[:2]): rule[2] for rule in rules if len(rule) == 3})
+    K[name] = (empty, [rule[:2] for rule in rules if len(rule) == 2 or (rule[2] == "wide") == WIDENED[0]])
 def wide(rule): return (*rule, "wide")
+def narrow(rule): return (*rule, "narrow")
 def eats(cls, name, *symbols): return (cls, prod(name, *symbols))
 def chain(name, *symbols): return (None, prod(name, *symbols, chain=True))
 
@@ -35,6 +37,8 @@ OPS = [(first, "".join(code[1] for code, text in words.OPERATORS if code[0] == f
 def builtins(d, *sorts): return "".join(code[-1] for code, text, literal in words.BUILTINS if (len(code) == 2) == d and (not sorts or literal in sorts))
 ABBREVIATED = "".join(letter for letter, text in words.ABBREVIATIONS)
 SPECIAL = "".join(letter for letter, text in words.SPECIALS)
+# of those of a name the ones behind T
+NAMED_SPECIAL = "".join(code[1] for code, text in words.NAMED_SPECIALS if code[0] == "T")
 MARK = lambda cls: eats(cls, "Mark")
 L_NAME = eats("L", "InternalName", NAME, "MaybeArguments")
 U_NAME = eats("U", "LocalTypeName", "Anonymous", "MaybeArguments")
@@ -57,7 +61,8 @@ def build(extended=True, widened=False):
     kind("SuffixMore", eats(WORD, "SuffixByte", "SuffixMore"), empty=True)
     kind("Encoding", eats("T", "Special", "Special"), eats("G", "Guard", "'V'", "CompleteName"), chain("Encoding", "CompleteName", "Items"))
     kind("Special", eats(SPECIAL, "SpecialType", "Type"), eats("h", "NonVirtualThunk", "Integer", "'_'", "Encoding"),
-         eats("v", "VirtualThunk", "Integer", "'_'", "Integer", "'_'", "Encoding"), eats("c", "CovariantThunk", "CallOffset", "CallOffset", "Encoding"))
+         eats("v", "VirtualThunk", "Integer", "'_'", "Integer", "'_'", "Encoding"), eats("c", "CovariantThunk", "CallOffset", "CallOffset", "Encoding"),
+         wide(eats(NAMED_SPECIAL, "SpecialName", "CompleteName")), wide(eats("C", "ConstructionVtable", "Type", DIGITS, "'_'", "Type")))
     kind("CallOffset", eats("h", "NonVirtualOffset", "Integer", "'_'"), eats("v", "VirtualOffset", "Integer", "'_'", "Integer", "'_'"))
     kind("Integer", eats("n", "Negative", DIGITS), chain("Positive", DIGITS))
     kind("CompleteName", NESTED, eats("S", "NameWithS", "NameAfterS"), eats("Z", "LocalName", "Encoding", "'E'", "Entity", "MaybeDiscriminator"),
@@ -70,7 +75,8 @@ def build(extended=True, widened=False):
     kind("Unqualified", *BARE, chain("OperatorPiece", "Operator"))
     kind("Nest", eats("S", "NestWithS", "NestAfterS"), eats("T", "NestParameter", DECIMAL, "NestRest"), eats("L", "NestInternal", NAME, "NestRest"),
          eats("U", "NestLocalType", "Anonymous", "NestRest"), chain("NestSource", NAME, "NestRest"))
-    kind("NestAfterS", eats("t", "NestStd", "Unqualified", "MaybeArguments", "NestTail"), chain("NestAbbreviated", "Abbreviation", "NestRest"))
+    kind("NestAfterS", eats("t", "NestStd", "Unqualified", "MaybeArguments", "NestTail"),
+         narrow(chain("NestAbbreviated", "Abbreviation", "NestRest")), wide(chain("NestTemplate", "Abbreviation", "NestRestOrEnd")))
     kind("NestRest", eats("I", "NestArguments", "ArgumentList", "'E'", "Component", "NestTail"), chain("NestNext", "Component", "NestTail"))
     kind("NestTail", eats("E", "NestEnd"), chain("NestNext", "Component", "NestTail"))
     kind("Component", eats("C", "Constructor", "ConstructorDigit", "MaybeArguments"), eats("D", "Destructor", "DestructorDigit", "MaybeArguments"),
@@ -94,7 +100,7 @@ def build(extended=True, widened=False):
     after_d = [eats(builtins(True), "BuiltinWithD")]
     if extended:
         after_d += [eats("v", "Vector", DIGITS, "'_'", "Type"), eats("o", "NoexceptFunction", "'F'", "MaybeCLinkage", "Type", "FunctionRest")]
-    kind("AfterD", *after_d)
+    kind("AfterD", *after_d, wide(eats("".join(code[1] for code, text in words.WIDE_BUILTINS), "BuiltinWithD")))
     if extended:
         P["ItemIsType"] = (False, ["AfterD"])
     NAMED = [eats("P", "Pointer", "Type"), eats("M", "MemberPointer", "Type", "Type"), eats("T", "Parameter", DECIMAL, "MaybeArguments"),
@@ -127,6 +133,10 @@ def build(extended=True, widened=False):
         rules = [MARK(second)]
         if a == "l": rules.append(eats("i", "LiteralOperator", NAME))
         kind("OperatorAfter" + a.upper(), *rules)
+    # the wide grammar's own kinds and productions stand last, so that the numbers of the others are those of the ABI's grammar
+    kind("NestRestOrEnd", eats("I", "NestInstance", "ArgumentList", "'E'", "NestTail"), chain("NestNext", "Component", "NestTail"))
+    shared = {p for k, (e, rules) in K.items() for cls, p in rules if (k, cls, p) not in MARKED}
+    for p in [p for (k, cls, p), mark in MARKED.items() if mark == "wide" and p not in shared]: P[p] = P.pop(p)
 
 def is_kind(s): return s in KS
 def begins_symbol(s):
@@ -218,6 +228,8 @@ def laws():
     used |= {p for _, _, p in MARKED}
     for p in P:
         if p not in used: bad.append(f"production {p} is unused")
+    for (k, cls, p), mark in MARKED.items():
+        if mark == "narrow" and cls is not None: bad.append(f"{k}/{p}: takes a byte, so it can't stand at another")
     return bad, after, depth, height
 
 def klass(cls, p):
@@ -473,7 +485,8 @@ def antt_grammar():
     return "\n".join(out) + "\n"
 
 def antt_kind_numbers():
-    out = [f"-- {WRITTEN} The numbers of the kinds, by their names.", "use Rattle.std.specs.Prelude.{ℕ}"]
+    out = [f"-- {WRITTEN} The numbers of the kinds, by their names.", "use Rattle.std.specs.Prelude.{ℕ}", "", "-- how many kinds there are, and how many productions",
+           "abbrev pub KIND_COUNT : ℕ", f"KIND_COUNT = {len(K)}", "", "abbrev pub PRODUCTION_COUNT : ℕ", f"PRODUCTION_COUNT = {len(P)}"]
     for i, k in enumerate(K): out += ["", f"abbrev pub {snake(k).upper()} : ℕ", f"{snake(k).upper()} = {i}"]
     return "\n".join(out) + "\n"
 
@@ -514,6 +527,33 @@ def antt_wide():
             "wide_choose kind byte = pick (wide_alternatives kind) byte"]
     return "\n".join(out) + "\n"
 
+# no symbol has this byte
+NO_BYTE = "!"
+
+EITHER_HEAD = f'''-- Generated by tools/grammar.py. Both grammars in one table: the wide one's alternatives, and at the byte {NO_BYTE}, which no symbol has, those that
+-- the ABI's grammar has in their place. These take no byte of their own, so none is in their trees: the trees of both grammars are
+-- trees of this table, which finds what a tree stands for, and reads no symbol.
+use Rattle.std.specs.Prelude.{{ℕ, List, [], ◌∷◌, Option, codes}}
+use Prim.Native.String.{{String}}
+use Rattle.cpp_grammar.specs.declared.kind.Kind.{{Kind}}
+use Rattle.cpp_grammar.specs.declared.production.Production.{{Production}}
+use Rattle.cpp_grammar.specs.Grammar.{{Alternative, pick}}
+use Rattle.cpp_grammar.specs.Wide.{{wide_alternatives}}
+
+{ALTERNATIVES}
+-- what a kind may begin with, and the production that is then taken
+unfoldable pub either_alternatives : Kind → List Alternative
+'''
+
+def antt_either():
+    out = [EITHER_HEAD.rstrip("\n")]
+    narrow_of = {k: [p for (name, cls, p), mark in MARKED.items() if mark == "narrow" and name == k] for k in K}
+    out += [f"either_alternatives Kind.{k} = " + " ∷ ".join([on(klass(c, p), p) for c, p in rules] + [f'on "{NO_BYTE}" Production.{p}' for p in narrow_of[k]]) + " ∷ []"
+            for k, (e, rules) in K.items() if narrow_of[k]]
+    out += ["either_alternatives kind = wide_alternatives kind", "", "-- the production that a kind takes at a byte", "unfoldable pub either_choose : Kind → ℕ → Option Production",
+            "either_choose kind byte = pick (either_alternatives kind) byte"]
+    return "\n".join(out) + "\n"
+
 BEFORE_HEAD = '''-- Generated by tools/grammar.py. The grammar before vector types, noexcept function types and complex types were added.
 use Rattle.std.specs.Prelude.{List, [], ◌∷◌, codes}
 use Prim.Native.String.{String}
@@ -539,11 +579,15 @@ def antt_before():
 def files():
     """what is written: each file's path in the folder of the crates, and its text"""
     yield "cpp_grammar/specs/Before.antt", antt_before()
-    # what may come after each kind, and how its trees are bounded, is said once, of the wide grammar; the other is within it
-    build(True, widened=True); bad, after, depth, height = laws()
+    # what may come after each kind, and how many chains begin it, is said once, of the wide grammar, within which the other is; how low
+    # its lowest tree is, of the other, whose trees the wide grammar has
+    build(True); bad, _, _, height = laws()
+    assert not bad, bad
+    build(True, widened=True); bad, after, depth, _ = laws()
     assert not bad, bad
     yield "cpp_grammar/src/wide_table.rt", rust_wide_table()
     yield "cpp_grammar/specs/Wide.antt", antt_wide()
+    yield "cpp_grammar/specs/Either.antt", antt_either()
     yield "cpp_grammar/specs/Follow.antt", antt_follow(after, depth, height)
     build(True); bad = laws()[0]
     assert not bad, bad
@@ -561,13 +605,15 @@ def write(crates):
 
 def markdown():
     build(True, widened=True); laws()
-    print("| Kind | Empty | Rules (those in parentheses of the wide grammar alone) |\n|---|---|---|")
+    print("| Kind | Empty | Rules (those in parentheses of the wide grammar alone, those in brackets of the other alone) |\n|---|---|---|")
     for k, (e, rules) in K.items():
         cells = []
         for cls, p in rules:
             symbols = " ".join(P[p][1])
             cell = (f"`{cls}` " if cls is not None else "chain ") + f"**{p}**" + (f" {symbols}" if symbols else "")
             cells.append(f"({cell})" if (k, cls, p) in MARKED else cell)
+        for (name, cls, p), mark in MARKED.items():
+            if name == k and mark == "narrow": cells.append(f"[chain **{p}** {' '.join(P[p][1])}]")
         print(f"| {k} | {'yes' if e else ''} | {'; '.join(cells)} |")
 
 def main():

@@ -212,11 +212,12 @@ def inside():
         parts = []
         for name, sort in arguments(tree, *SUBTREES):
             itself = f"ItselfOr {name} (Inside {name} x) x"
-            if tree[0] == "special": parts.append(f"Shut ({itself}) x")
+            if tree[0] in ("special", "construction"): parts.append(itself)
             elif sort in (OWN, OUTSIDE): parts.append(f"Shut (Inside {name} x) x")
             elif tree[0] == "within" and name == "prefix": parts.append("PrefixOr prefix (Inside prefix x) x")
             elif tree[0] == "qualified": parts.append(f"UnqualifiedOr {name} (Inside {name} x) x")
             else: parts.append(itself if is_itself(tree, name, sort) else f"Inside {name} x")
+        if tree[0] in ("special", "construction"): return f"Shut ({' ⊎ '.join(parts)}) x"
         return " ⊎ ".join(parts) if parts else None
     return cases("Inside", [], ["x"], right, "⊥", named(PRESSED))
 
@@ -464,7 +465,7 @@ def declarations():
     yield "cpp_press_laws/proofs/Components/Growing.antt", "size", fold("size", [], lambda parts: f"suc ({' + '.join(parts)})", "1", trees=named(PRESSED))
     yield "cpp_press_laws/specs/Apart.antt", "IsNeverReferred", never_referred()
     yield "cpp_press/specs/Weight.antt", "weight", fold("weight", [], summed("12"), "12", trees=named(PRESSED))
-    nowhere = {"symbol": None, "absent": None, ("order", "function"): ["name", "returned", "parameters", "q", "ref"]}
+    nowhere = {"symbol": None, "construction": None, "absent": None, ("order", "function"): ["name", "returned", "parameters", "q", "ref"]}
     yield "cpp_press_laws/proofs/Components/FewComponents.antt", "counts", by_each("counts", "few", [], nowhere, {"local": "local-name", "address_of": "address"})
     yield "cpp_press_laws/proofs/EveryWay/Law.antt", "reads", by_each("reads", "reads", ["c"], {**nowhere, ("before", "function"): ["c"]}, {"address_of": "address"})
     yield "cpp_press_laws/proofs/Fits/Packs.antt", "closed-packs", closed_packs()

@@ -34,6 +34,13 @@ BUILTINS = [
     ("Dc", "decltype(auto)", NO_LITERAL),
     ("Dn", "std::nullptr_t", NULL),
 ]
+# and those that the wide grammar alone reads: code, text
+WIDE_BUILTINS = [
+    ("Dd", "decimal64"),
+    ("De", "decimal128"),
+    ("Df", "decimal32"),
+    ("Dh", "half"),
+]
 
 # <operator-name>: code, and the text behind the word operator
 OPERATORS = [
@@ -110,6 +117,8 @@ SPECIALS = [
 # <special-name> of a name: code, text. The last letters differ
 NAMED_SPECIALS = [
     ("GV", "guard variable for "),
+    ("TH", "thread-local initialization routine for "),
+    ("TW", "thread-local wrapper routine for "),
 ]
 
 # what stands behind the digits of an integer literal, by its type
@@ -160,13 +169,16 @@ PLAIN_TEXTS = [
     ("STRING", "string literal"),
     ("ANONYMOUS", "(anonymous namespace)"),
     ("MINUS", "-"),
+    ("CONSTRUCTION", "construction vtable for "),
+    ("IN", "-in-"),
 ]
 
 # before how many of its parts nothing is done in a production: before all where it isn't named here
 QUIET = {
-    "Encoding": 0, "Special": 0, "Guard": 0, "NestArguments": 0, "NestNext": 0, "Arguments": 0, "Lambda": 0, "Expansion": 0,
+    "Encoding": 0, "Special": 0, "Guard": 0, "NestArguments": 0, "NestInstance": 0, "NestNext": 0,
+    "Arguments": 0, "Lambda": 0, "Expansion": 0,
     "LocalName": 1, "LocalType": 1, "InternalName": 1, "SourceName": 1, "LocalTypeName": 1, "OperatorName": 1, "Constructor": 1,
-    "Destructor": 1, "StdName": 1, "AbbreviatedName": 1, "NestStd": 1, "NestAbbreviated": 1, "NestParameter": 1,
+    "Destructor": 1, "StdName": 1, "AbbreviatedName": 1, "NestStd": 1, "NestAbbreviated": 1, "NestTemplate": 1, "NestParameter": 1,
     "NestInternal": 1, "NestSource": 1, "NestLocalType": 1, "PackArgument": 1, "Parameter": 1, "TypeWithS": 1, "LvalueItem": 1,
     "RvalueItem": 1, "IntegerLiteral": 1,
 }
@@ -174,7 +186,7 @@ QUIET = {
 # the productions in which parts without a row may stand between those with one
 SKIPS = """Symbol Guard EncodingLiteral AddressArgument AddressElement Address NonVirtualThunk VirtualThunk VirtualOffset
     LocalName LocalType Vector LiteralArgument LiteralElement NestedName RestrictType VolatileType NestStd NestArguments
-    NoexceptFunction Function PackArgument""".split()
+    NestInstance NoexceptFunction Function PackArgument ConstructionVtable""".split()
 
 # how many nodes a production makes before each of its parts, as far as it makes some, and at its end
 MADE_BEFORE = {
@@ -189,6 +201,7 @@ MADE_BEFORE = {
     "NestSource": [0, 1],
     "NestStd": [0, 1, 1],
     "NestArguments": [0, 0, 1],
+    "NestInstance": [0, 0, 1],
     "Constructor": [0, 1],
     "Destructor": [0, 1],
     "Parameter": [0, 1],
@@ -201,11 +214,12 @@ MADE_AT_END = {p: 1 for p in """InternalName LocalTypeName SourceName OperatorNa
     VolatileType ConstType ReferenceType Expansion BuiltinWithD Vector NoexceptFunction Pointer MemberPointer Parameter
     TypeWithS LocalType Builtin Vendor Array Function Complex StdType RestItem LvalueItem RvalueItem Items PackArgument
     LiteralArgument AddressArgument TypeArgument LiteralElement AddressElement TypeElement Address EncodingLiteral
-    BoolLiteral IntegerLiteral NullLiteral""".split()}
+    BoolLiteral IntegerLiteral NullLiteral SpecialName ConstructionVtable""".split()}
 MADE_AT_END["CharLiteral"] = 2
 
 # the productions that may leave a tree that is no candidate yet
-LEAVES = """NestWithS NestParameter NestInternal NestLocalType NestSource NestStd NestAbbreviated NestArguments NestNext NestEnd
+LEAVES = """NestWithS NestParameter NestInternal NestLocalType NestSource NestStd NestAbbreviated NestTemplate NestArguments NestInstance
+    NestNext NestEnd
     Abbreviation Substitution NestedType Expansion ItemIsType BuiltinWithD Vector NoexceptFunction Pointer MemberPointer
     Parameter TypeWithS LocalType Builtin Vendor Array Function Complex StdType AbbreviatedType""".split()
 
@@ -223,6 +237,7 @@ TREES = [
     ("special", ("letter", NUMBER), ("t", OWN)),
     ("thunk", ("kind", THUNK), ("e", OWN)),
     ("of_name", ("letter", NUMBER), ("name", OWN), ("q", QUALIFIERS), ("ref", MARK)),
+    ("construction", ("derived", OWN), ("digits", BYTES), ("parent", OWN)),
     ("alone", ("p", PIECE)),
     ("in_std", ("p", PIECE)),
     ("within", ("prefix", TREE), ("p", PIECE)),

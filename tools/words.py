@@ -8,6 +8,8 @@ QUALIFIERS = [[w for i, w in enumerate(("restrict", "volatile", "const")) if n >
 QUALIFIERS = [list(reversed([w for w in ("restrict", "volatile", "const") if w in q])) for q in QUALIFIERS]
 SUFFIXES = ["".join(" " + w for w in [*q, *mark, *end]) for end in ([], ["noexcept"]) for mark in ([], ["&"], ["&&"]) for q in QUALIFIERS]
 BLANKED = ["".join(w + " " for w in q) for q in QUALIFIERS[1:]]
+# those of both grammars
+BUILTINS = [(code, text) for code, text, literal in words.BUILTINS] + words.WIDE_BUILTINS
 
 def rust_string(text): return 'b"' + text.replace("\\", "\\\\").replace('"', '\\"') + '"'
 def codes(text): return 'codes "' + text.replace("\\", "\\\\").replace('"', '\\"') + '"'
@@ -53,7 +55,7 @@ def special_front():
 
 def grammar_texts():
     return "\n".join([GRAMMAR_TEXTS_HEAD,
-        namings("builtin_texts", [(c, t) for c, t, _ in words.BUILTINS]),
+        namings("builtin_texts", BUILTINS),
         namings("operator_texts", words.OPERATORS, "behind the word operator"),
         namings("abbreviation_texts", words.ABBREVIATIONS), namings("special_texts", words.SPECIALS),
         namings("named_special_texts", [(c[-1], t) for c, t in words.NAMED_SPECIALS], "special names of names, by the last letters of their codes"),
@@ -79,7 +81,7 @@ def of_texts(*names): return unfolding("crate::specs::Texts::fixed_text", *[f"cp
 def groups():
     """where each group of texts begins, by the name of its constant"""
     at, out = 0, {}
-    for name, count in (("PLAIN", len(words.PLAIN_TEXTS)), ("SUFFIX", len(SUFFIXES)), ("BUILTIN", len(words.BUILTINS)), ("OPERATOR", len(words.OPERATORS)),
+    for name, count in (("PLAIN", len(words.PLAIN_TEXTS)), ("SUFFIX", len(SUFFIXES)), ("BUILTIN", len(BUILTINS)), ("OPERATOR", len(words.OPERATORS)),
                         ("ABBREVIATION", len(words.ABBREVIATIONS)), ("LAST_OF_ABBREVIATION", len(words.ABBREVIATIONS)), ("SPECIAL", len(words.SPECIALS)), ("NAMED_SPECIAL", len(words.NAMED_SPECIALS)),
                         ("ENDING", len(words.ENDINGS)), ("BLANKED", len(BLANKED)), ("OPERATOR_ALONE", 1), ("COUNT", 0)):
         out[name] = at
@@ -125,7 +127,7 @@ def layout_texts():
     out += function("operator_text", "The name of an operator.", at["OPERATOR"], ALL_TABLES[:2],
                     [(at["OPERATOR"] + i, "operator" + t) for i, (c, t) in enumerate(words.OPERATORS)], "remaining_text(number)")
     out += function("builtin_text", "A builtin type.", at["BUILTIN"], ALL_TABLES[:1],
-                    [(at["BUILTIN"] + i, t) for i, (c, t, _) in enumerate(words.BUILTINS)], "operator_text(number)")
+                    [(at["BUILTIN"] + i, t) for i, (c, t) in enumerate(BUILTINS)], "operator_text(number)")
     out += function("suffix_text", "What stands behind a function's parameters.", at["SUFFIX"], [],
                     [("NONE", "")] + [(at["SUFFIX"] + i, t) for i, t in enumerate(SUFFIXES) if i], "builtin_text(number)")
     out += ["", "/// The text of a number.", of_texts(), "#[inline(always)]", "pub fn fixed_text(number: u16) -> &'static [u8]",
@@ -137,7 +139,7 @@ def layout_texts():
 
 # functions from a letter to the number of a text: name, comment, what is looked up, constant, rows (letter, place in the group, text), lemma, list of letters
 def coded():
-    builtins = [(c, i, t) for i, (c, t, _) in enumerate(words.BUILTINS)]
+    builtins = [(c, i, t) for i, (c, t) in enumerate(BUILTINS)]
     rows = lambda entries: [(c, i, t) for i, (c, t) in enumerate(entries)]
     return [
         ("builtin", "The text of a builtin type with a code of one letter.", "look_up (letter ∷ []) builtin_texts", "BUILTIN",
@@ -245,14 +247,20 @@ def direct_letters():
     for name, comment, letters in direct_lists(): out += ["", f"-- {comment}", f"abbrev pub {name} : List ℕ", f"{name} = {codes(''.join(letters))}"]
     return "\n".join(out) + "\n"
 
+# what the letters of such a list are asked for: a test's name, what it says, and where it is defined
+DIRECT_TESTS = [
+    ("is_integer_letter", "integer_letters", "the letter of a type that an integer in an argument may have", "ItemBytes", []),
+    ("is_builtin_with_d", "builtin_letters_with_d", "the letter behind a D of a builtin type", "Bytes", ["cpp_grammar::specs::Grammar::among"]),
+]
+
 def direct_tests():
-    integers = next(letters for name, _, letters in direct_lists() if name == "integer_letters")
-    out = [f"// {WRITTEN} Letters that are codes, by what they are codes of.", "#![tactic(auto)]", "",
-           "ghost use Rattle.std.specs.Prelude.{◌≡◌};", "ghost use Rattle.cpp_direct.specs.ItemBytes.{is_integer_letter};", "",
-           "/// Whether it is the letter of a type that an integer in an argument may have.",
-           "#[tactic(auto, unfolding(crate::specs::ItemBytes::is_integer_letter))]", "#[inline(always)]",
-           "pub fn is_integer_letter(letter: u8) -> bool", "    ensures { result ≡ is_integer_letter letter }", "{", "    match letter {"]
-    out += [f"        b'{letter}' => true," for letter in integers] + ["        _ => false,", "    }", "}"]
+    lists = {name: letters for name, _, letters in direct_lists()}
+    out = [f"// {WRITTEN} Letters that are codes, by what they are codes of.", "#![tactic(auto)]", "", "ghost use Rattle.std.specs.Prelude.{◌≡◌};",
+           *[f"ghost use Rattle.cpp_direct.specs.{module}.{{{name}}};" for name, _, _, module, _ in DIRECT_TESTS]]
+    for name, letters, comment, module, through in DIRECT_TESTS:
+        out += ["", f"/// Whether it is {comment}.", unfolding(f"crate::specs::{module}::{name}", *through), "#[inline(always)]",
+                f"pub fn {name}(letter: u8) -> bool", f"    ensures {{ result ≡ {name} letter }}", "{", "    match letter {"]
+        out += [f"        b'{letter}' => true," for letter in lists[letters]] + ["        _ => false,", "    }", "}"]
     return "\n".join(out) + "\n"
 
 def files(productions):

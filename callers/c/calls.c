@@ -74,33 +74,50 @@ static void texts(void)
     is_refused("_Z1fQ", 99, SYMDEMANGLE_FULL, SYMDEMANGLE_MALFORMED, 4);
     is_refused("_Z1fS_", 99, SYMDEMANGLE_FULL, SYMDEMANGLE_BAD_REFERENCE, 4);
     is_refused("_ZN1AUt18446744073709551614_E", 99, SYMDEMANGLE_FULL, SYMDEMANGLE_BAD_VALUE, 5);
-    is_refused("_RNvC3foo3bar", 99, 4, SYMDEMANGLE_DETAIL, 0);
+    is_refused("_RNvC3foo3bar", 99, 8, SYMDEMANGLE_DETAIL, 0);
+}
+
+static void wide_texts(void)
+{
+    has_text("_ZN1AC4Ev", 11, SYMDEMANGLE_WIDE, "A::A()");
+    has_text("_ZN1AC5IiEET_", 28, SYMDEMANGLE_WIDE + SYMDEMANGLE_FULL, "A::A<int>(int)");
+    has_text("_ZN1AC5IiEET_", 99, SYMDEMANGLE_WIDE + SYMDEMANGLE_BRIEF, "A::A(int)");
+    has_text("_ZN1AC5IiEET_", 99, SYMDEMANGLE_WIDE + SYMDEMANGLE_NO_PARAMETERS, "A::A<int>");
+    has_text("_ZN1AC5IiEET_", 99, SYMDEMANGLE_WIDE + SYMDEMANGLE_BRIEF_NO_PARAMETERS, "A::A");
+    has_text("_Z1fIJicEEvDpT_", 56, SYMDEMANGLE_WIDE, "void f<int, char>(int, char)");
+    has_text("_RNvMC3fooINtB2_1AhE3baz", 99, SYMDEMANGLE_WIDE + SYMDEMANGLE_BRIEF, "<foo::A>::baz");
+    is_refused("_ZN1AC4Ev", 10, SYMDEMANGLE_WIDE, SYMDEMANGLE_TOO_LONG, 0);
+    is_refused("_ZN1AC4Ev", 99, SYMDEMANGLE_FULL, SYMDEMANGLE_MALFORMED, 6);
+    is_refused("_ZN1AC6Ev", 99, SYMDEMANGLE_WIDE, SYMDEMANGLE_MALFORMED, 6);
 }
 
 /* The same call for a word: what it answers, and where the place is counted from. */
-static void is_word(const char *word, uint32_t wanted, uint32_t place, const char *text)
+static void is_word(const char *word, uint32_t detail, uint32_t wanted, uint32_t place, const char *text)
 {
     symdemangle_answer answer;
     size_t length = strlen(text);
     memset(room, '#', sizeof room);
-    uint32_t status = symdemangle_word(bytes(word), strlen(word), 99, SYMDEMANGLE_FULL, room, sizeof room, &answer);
+    uint32_t status = symdemangle_word(bytes(word), strlen(word), 99, detail, room, sizeof room, &answer);
     check(status == wanted && answer.length == length && answer.place == place, "status of a word", word);
     check(memcmp(room, text, length) == 0 && is_kept(length), "text of a word", word);
 }
 
 static void words(void)
 {
-    is_word("_Z1fv", SYMDEMANGLE_OK, 0, "f()");
-    is_word("__Z1fv", SYMDEMANGLE_OK, 0, "f()");
-    is_word("_RNvC3foo3bar", SYMDEMANGLE_OK, 0, "foo::bar");
-    is_word("__RNvC3foo3bar", SYMDEMANGLE_OK, 0, "foo::bar");
-    is_word("_Z1fQ", SYMDEMANGLE_MALFORMED, 4, "");
-    is_word("__Z1fQ", SYMDEMANGLE_MALFORMED, 5, "");
-    is_word("__RNvB_3foo", SYMDEMANGLE_BAD_REFERENCE, 5, "");
-    is_word("___Z1fv", SYMDEMANGLE_NO_SYMBOL, 0, "");
-    is_word("main", SYMDEMANGLE_NO_SYMBOL, 0, "");
-    is_word("_", SYMDEMANGLE_NO_SYMBOL, 0, "");
-    is_word("", SYMDEMANGLE_NO_SYMBOL, 0, "");
+    is_word("_Z1fv", SYMDEMANGLE_FULL, SYMDEMANGLE_OK, 0, "f()");
+    is_word("__Z1fv", SYMDEMANGLE_FULL, SYMDEMANGLE_OK, 0, "f()");
+    is_word("_RNvC3foo3bar", SYMDEMANGLE_FULL, SYMDEMANGLE_OK, 0, "foo::bar");
+    is_word("__RNvC3foo3bar", SYMDEMANGLE_FULL, SYMDEMANGLE_OK, 0, "foo::bar");
+    is_word("_Z1fQ", SYMDEMANGLE_FULL, SYMDEMANGLE_MALFORMED, 4, "");
+    is_word("__Z1fQ", SYMDEMANGLE_FULL, SYMDEMANGLE_MALFORMED, 5, "");
+    is_word("__RNvB_3foo", SYMDEMANGLE_FULL, SYMDEMANGLE_BAD_REFERENCE, 5, "");
+    is_word("_ZN1AC4Ev", SYMDEMANGLE_FULL, SYMDEMANGLE_MALFORMED, 6, "");
+    is_word("__ZN1AC4Ev", SYMDEMANGLE_WIDE, SYMDEMANGLE_OK, 0, "A::A()");
+    is_word("__ZN1AC6Ev", SYMDEMANGLE_WIDE, SYMDEMANGLE_MALFORMED, 7, "");
+    is_word("___Z1fv", SYMDEMANGLE_FULL, SYMDEMANGLE_NO_SYMBOL, 0, "");
+    is_word("main", SYMDEMANGLE_FULL, SYMDEMANGLE_NO_SYMBOL, 0, "");
+    is_word("_", SYMDEMANGLE_FULL, SYMDEMANGLE_NO_SYMBOL, 0, "");
+    is_word("", SYMDEMANGLE_FULL, SYMDEMANGLE_NO_SYMBOL, 0, "");
 }
 
 static void is_told(const symdemangle_told *told, uint32_t status, size_t length, uint32_t place, const char *symbol)
@@ -132,11 +149,23 @@ static void many(void)
     check(symdemangle_texts(bytes(symbols), length, falling, 2, 99, 0, room, sizeof room, told, 2) == SYMDEMANGLE_ENDS, "ends that fall", "");
     check(symdemangle_texts(bytes(symbols), length, beyond, 2, 99, 0, room, sizeof room, told, 2) == SYMDEMANGLE_ENDS, "an end past the bytes", "");
     check(symdemangle_texts(bytes(symbols), length, ends, 2, 99, 0, room, sizeof room, told, 1) == SYMDEMANGLE_ENDS, "an answer too few", "");
-    check(symdemangle_texts(bytes(symbols), length, ends, 2, 99, 4, room, sizeof room, told, 2) == SYMDEMANGLE_DETAIL, "a detail of many", "");
+    check(symdemangle_texts(bytes(symbols), length, ends, 2, 99, 8, room, sizeof room, told, 2) == SYMDEMANGLE_DETAIL, "a detail of many", "");
     check(symdemangle_texts(bytes(symbols), length, NULL, 2, 99, 0, room, sizeof room, told, 2) == SYMDEMANGLE_NULL, "null ends", "");
     check(symdemangle_texts(bytes(symbols), length, ends, 2, 99, 0, room, sizeof room, NULL, 2) == SYMDEMANGLE_NULL, "null answers", "");
     check(told[0].status == 9 && told[1].place == 9 && is_kept(0), "answers that are kept", "");
     check(symdemangle_texts(NULL, 0, NULL, 0, 99, 0, NULL, 0, NULL, 0) == SYMDEMANGLE_OK, "none of many", "");
+}
+
+static void many_wide(void)
+{
+    static const char symbols[] = "_ZN1AC4Ev_Z1fv";
+    static const size_t ends[] = {9, 14};
+    symdemangle_told told[2];
+    memset(room, '#', sizeof room);
+    check(symdemangle_texts(bytes(symbols), 14, ends, 2, 99, SYMDEMANGLE_WIDE, room, sizeof room, told, 2) == SYMDEMANGLE_OK, "many, wide", "");
+    is_told(&told[0], SYMDEMANGLE_OK, 6, 0, "_ZN1AC4Ev");
+    is_told(&told[1], SYMDEMANGLE_OK, 3, 0, "_Z1fv");
+    check(memcmp(room, "A::A()f()", 9) == 0 && is_kept(9), "texts of many, wide", "");
 }
 
 static void bad_arguments(void)
@@ -164,9 +193,15 @@ static void other_calls(void)
     symdemangle_counts counts;
     const char *log = "at _RNvC3foo3bar. (_RNvC3fo) _Z1fv.";
     const char *filtered = "at foo::bar. (_RNvC3fo) f().";
+    const char *wide_log = "_ZN1AC4Ev _Z1fv", *wide_filtered = "A::A() f()";
     memset(room, '#', sizeof room);
     check(symdemangle_filter(bytes(log), strlen(log), 99, 0, room, sizeof room, &answer) == SYMDEMANGLE_OK, "filter", log);
     check(answer.length == strlen(filtered) && memcmp(room, filtered, answer.length) == 0 && is_kept(answer.length), "lines", log);
+    memset(room, '#', sizeof room);
+    check(symdemangle_filter(bytes(wide_log), strlen(wide_log), 99, SYMDEMANGLE_WIDE, room, sizeof room, &answer) == SYMDEMANGLE_OK,
+          "wide filter", wide_log);
+    check(answer.length == strlen(wide_filtered) && memcmp(room, wide_filtered, answer.length) == 0 && is_kept(answer.length),
+          "wide lines", wide_log);
     check(symdemangle_count(bytes("_RNvMC3fooINtB2_1AhE3baz"), 24, &counts, &answer) == SYMDEMANGLE_OK, "counts", "");
     check(counts.rows == 18 && counts.nodes == 11 && counts.steps == 56, "numbers of the counts", "_RNvMC3fooINtB2_1AhE3baz");
 }
@@ -179,12 +214,24 @@ static void presses_to(const char *repeated, const char *pressed)
     check(answer.length == strlen(pressed) && memcmp(room, pressed, answer.length) == 0 && is_kept(answer.length), "pressed", repeated);
 }
 
+/* Counted and pressed is what the usual grammar reads. */
+static void are_unread(const char *symbol, uint32_t place)
+{
+    symdemangle_answer answer;
+    symdemangle_counts counts = {9, 9, 9};
+    memset(room, '#', sizeof room);
+    check(symdemangle_count(bytes(symbol), strlen(symbol), &counts, &answer) == SYMDEMANGLE_MALFORMED && answer.place == place, "count", symbol);
+    check(symdemangle_press(bytes(symbol), strlen(symbol), room, sizeof room, &answer) == SYMDEMANGLE_MALFORMED && answer.place == place && is_kept(0),
+          "press", symbol);
+}
+
 static void pressed_spellings(void)
 {
     symdemangle_answer answer;
     presses_to("_RINvC3foo3barNtC3foo1AE", "_RINvC3foo3barNtB2_1AE");
     presses_to("_ZN3foo3barEN3foo3bazE", "_ZN3foo3barENS_3bazE");
     presses_to("_ZN3foo3barENS_3bazE", "_ZN3foo3barENS_3bazE");
+    are_unread("_ZN1AC4Ev", 6);
     memset(room, '#', sizeof room);
     check(symdemangle_press(bytes("_Z1fS_"), 6, room, sizeof room, &answer) == SYMDEMANGLE_BAD_REFERENCE && answer.place == 4 && is_kept(0),
           "press what is refused", "_Z1fS_");
@@ -193,8 +240,10 @@ static void pressed_spellings(void)
 int main(void)
 {
     texts();
+    wide_texts();
     words();
     many();
+    many_wide();
     bad_arguments();
     other_calls();
     pressed_spellings();

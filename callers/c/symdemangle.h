@@ -54,11 +54,14 @@ enum symdemangle_status {
     SYMDEMANGLE_NO_SYMBOL = 11     /* of symdemangle_word: the word begins with none of _Z, _R, __Z and __R */
 };
 
+/* How much of a symbol its text shows, and by which grammar C++ is read. The wide one has more of what compilers write, and a
+   later version may add to it; what has a text without it has the same text with it, at the same cost. */
 enum symdemangle_detail {
     SYMDEMANGLE_FULL = 0,
     SYMDEMANGLE_BRIEF = 1,                /* template and generic arguments are left out */
     SYMDEMANGLE_NO_PARAMETERS = 2,        /* each C++ function is its name alone, without return type and parameters */
-    SYMDEMANGLE_BRIEF_NO_PARAMETERS = 3   /* both */
+    SYMDEMANGLE_BRIEF_NO_PARAMETERS = 3,  /* both */
+    SYMDEMANGLE_WIDE = 4                  /* added to one of these: C++ is read by the wide grammar, as with `symfilt --wide` */
 };
 
 /* What comes with a status: of SYMDEMANGLE_OK the bytes that were written, of SYMDEMANGLE_ROOM those that are needed, else 0;
@@ -113,12 +116,14 @@ uint32_t symdemangle_texts(const uint8_t *text, size_t text_length, const size_t
 uint32_t symdemangle_filter(const uint8_t *text, size_t text_length, uint32_t limit, uint32_t detail, uint8_t *room,
                             size_t room_length, symdemangle_answer *answer);
 
-/* The work that reading a symbol takes, which no limit bounds. SYMDEMANGLE_OK, _MALFORMED, _BAD_REFERENCE, _BAD_VALUE,
-   _MEMORY, _SIZE, _NULL (also where `counts` is null); with any answer but SYMDEMANGLE_OK the counts stay as they are. */
+/* The work that reading a symbol takes, which no limit bounds. It is read without what SYMDEMANGLE_WIDE adds. SYMDEMANGLE_OK,
+   _MALFORMED, _BAD_REFERENCE, _BAD_VALUE, _MEMORY, _SIZE, _NULL (also where `counts` is null); with any answer but
+   SYMDEMANGLE_OK the counts stay as they are. */
 uint32_t symdemangle_count(const uint8_t *symbol, size_t symbol_length, symdemangle_counts *counts, symdemangle_answer *answer);
 
 /* Writes the pressed spelling of a symbol: the one in which each part that repeats is a reference, so that two symbols of the
-   same thing have the same bytes. SYMDEMANGLE_OK, _MALFORMED, _BAD_REFERENCE, _BAD_VALUE, _MEMORY, _ROOM, _SIZE, _NULL. */
+   same thing have the same bytes. It is read without what SYMDEMANGLE_WIDE adds. SYMDEMANGLE_OK, _MALFORMED, _BAD_REFERENCE,
+   _BAD_VALUE, _MEMORY, _ROOM, _SIZE, _NULL. */
 uint32_t symdemangle_press(const uint8_t *symbol, size_t symbol_length, uint8_t *room, size_t room_length,
                            symdemangle_answer *answer);
 

@@ -19,8 +19,8 @@
    What differs from the real ones:
    - The texts are this library's, and programs that take them apart may expect another's: `std::nullptr_t` for libstdc++'s
      `decltype(nullptr)`, a suffix as ` (.cold)` for ` [clone .cold]`.
-   - What the library refuses is answered as a name that isn't mangled, so it is shown as it stands; so is a text that costs more
-     than a million.
+   - What the library refuses, with C++ by its wide grammar, is answered as a name that isn't mangled, so it is shown as it stands;
+     so is a text that costs more than a million.
    - __cxa_demangle takes a type's name too (as `i`, `N2ns1AE` of std::type_info), one that the library reads as a typeinfo name.
    - cplus_demangle's options are ignored: parameters are always shown (c++filt -p, DMGL_PARAMS), types alone are never read
      (c++filt -t, DMGL_TYPES), nor names of Ada, D, Java, or of Rust's older mangling but as the names of C++ that they are.
@@ -31,7 +31,7 @@
 #include <stdlib.h>
 #include <string.h>
 
-enum { LIMIT = 1000000 };
+enum { LIMIT = 1000000, CPP = SYMDEMANGLE_WIDE + SYMDEMANGLE_FULL };
 
 #if defined CXA || defined CPLUS
 char *__cxa_demangle(const char *mangled, char *buffer, size_t *size, int *status);
@@ -61,11 +61,11 @@ static char *text_of(const char *mangled, char *buffer, size_t *size, uint32_t *
     uint8_t few[2048], *text = few;
     const uint8_t *word = (const uint8_t *)mangled;
     size_t length = strlen(mangled);
-    *status = symdemangle_word(word, length, LIMIT, SYMDEMANGLE_FULL, few, sizeof few, &answer);
+    *status = symdemangle_word(word, length, LIMIT, CPP, few, sizeof few, &answer);
     if (*status == SYMDEMANGLE_ROOM) {
         size_t room = answer.length;
         text = malloc(room);
-        *status = text ? symdemangle_word(word, length, LIMIT, SYMDEMANGLE_FULL, text, room, &answer) : SYMDEMANGLE_MEMORY;
+        *status = text ? symdemangle_word(word, length, LIMIT, CPP, text, room, &answer) : SYMDEMANGLE_MEMORY;
     }
     buffer = *status == SYMDEMANGLE_OK ? put(text, answer.length, buffer, size) : 0;
     if (*status == SYMDEMANGLE_OK && !buffer)

@@ -48,6 +48,7 @@ int main(int words, char **)
     has_text("_Z1fv", "f()");
     has_text("_ZN3foo3barEPKc", "foo::bar(char const*)");
     has_text(("_Z1f900" + name + "S_S_").c_str(), "f(" + name + ", " + name + ", " + name + ")");
+    has_text("_ZN1AC4Ev", "A::A()");
     has_text("i", "int");
     has_text("PKc", "char const*");
     has_text(typeid(ns::Fault<int, 3>).name(), "ns::Fault<int, 3>");

@@ -89,6 +89,34 @@ pub enum Detail {
     BriefNoParameters,
 }
 
+impl Detail {
+    /// The same, with C++ symbols read by the wide grammar.
+    pub fn wide(self) -> Options {
+        Options {
+            detail: self,
+            wide: true,
+        }
+    }
+}
+
+/// How symbols are read and shown. A [`Detail`] by itself stands for the one with `wide: false`.
+#[derive(Clone, Copy, Debug, Default, PartialEq, Eq, Hash)]
+pub struct Options {
+    pub detail: Detail,
+    /// Whether C++ symbols are read by the wide grammar, which has more of what compilers write, and to which a later version
+    /// may add. What has a text without it has the same text with it, at the same cost.
+    pub wide: bool,
+}
+
+impl From<Detail> for Options {
+    fn from(detail: Detail) -> Options {
+        Options {
+            detail,
+            wide: false,
+        }
+    }
+}
+
 /// The work that a symbol of n bytes made.
 #[derive(Clone, Copy, Debug, PartialEq, Eq, Hash)]
 pub struct Counts {
@@ -128,11 +156,12 @@ fn write_into(
 pub fn demangle_into(
     symbol: &[u8],
     limit: u32,
-    detail: Detail,
+    options: impl Into<Options>,
     room: &mut Vec<u8>,
 ) -> Result<(), Error> {
+    let options = options.into();
     write_into(room, |room, answer| {
-        library::text(symbol, limit, detail, room, answer)
+        library::text(symbol, limit, options, room, answer)
     })
 }
 
@@ -153,13 +182,20 @@ pub fn demangle(symbol: &str) -> Result<String, Error> {
 /// # Errors
 ///
 /// [`Error::Memory`].
-pub fn filter_into(text: &[u8], limit: u32, detail: Detail, room: &mut Vec<u8>) -> Result<(), Error> {
+pub fn filter_into(
+    text: &[u8],
+    limit: u32,
+    options: impl Into<Options>,
+    room: &mut Vec<u8>,
+) -> Result<(), Error> {
+    let options = options.into();
     write_into(room, |room, answer| {
-        library::filter(text, limit, detail, room, answer)
+        library::filter(text, limit, options, room, answer)
     })
 }
 
-/// Puts the pressed spelling of a symbol into `room`: two symbols of the same thing have the same one.
+/// Puts the pressed spelling of a symbol into `room`: two symbols of the same thing have the same one. It takes no symbols that the
+/// wide grammar alone reads.
 ///
 /// # Errors
 ///
@@ -168,7 +204,7 @@ pub fn press_into(symbol: &[u8], room: &mut Vec<u8>) -> Result<(), Error> {
     write_into(room, |room, answer| library::press(symbol, room, answer))
 }
 
-/// The work that reading a symbol takes, which no limit bounds.
+/// The work that reading a symbol takes, which no limit bounds. It counts no symbols that the wide grammar alone reads.
 ///
 /// # Errors
 ///
@@ -214,17 +250,17 @@ impl<'a> Block<'a> {
     fn answer(
         &mut self,
         limit: u32,
-        detail: Detail,
+        options: Options,
         each: &mut impl FnMut(&'a [u8], Result<&[u8], Error>),
     ) {
         self.answers.resize(self.symbols.len(), Told::default());
         self.room.resize(4 * Self::BYTES, 0);
-        let status = library::texts(&self.text, &self.ends, limit, detail, &mut self.room, &mut self.answers);
+        let status = library::texts(&self.text, &self.ends, limit, options, &mut self.room, &mut self.answers);
         debug_assert!(status.is_ok());
         let mut from = 0;
         for (symbol, told) in self.symbols.drain(..).zip(&self.answers) {
             if told.status.needs_room() {
-                let answer = demangle_into(symbol, limit, detail, &mut self.alone);
+                let answer = demangle_into(symbol, limit, options, &mut self.alone);
                 each(symbol, answer.map(|()| self.alone.as_slice()));
             } else if let Err(error) = told.status.outcome_at(told.place) {
                 each(symbol, Err(error));
@@ -244,17 +280,18 @@ impl<'a> Block<'a> {
 pub fn for_each_text<'a>(
     symbols: impl IntoIterator<Item = &'a [u8]>,
     limit: u32,
-    detail: Detail,
+    options: impl Into<Options>,
     mut each: impl FnMut(&'a [u8], Result<&[u8], Error>),
 ) {
+    let options = options.into();
     let mut block = Block::default();
     for symbol in symbols {
         block.push(symbol);
         if block.is_full() {
-            block.answer(limit, detail, &mut each);
+            block.answer(limit, options, &mut each);
         }
     }
-    block.answer(limit, detail, &mut each);
+    block.answer(limit, options, &mut each);
 }
 
 /// The texts of many symbols as an iterator, in full and within [`DEFAULT_LIMIT`].
@@ -271,14 +308,14 @@ pub fn demangle_all<'a>(
 /// Every [`Error`]; [`Error::NoSymbol`] for a word that begins otherwise.
 pub fn try_demangle(word: &str) -> Result<Symbol<'_>, Error> {
     let mut room = Vec::new();
-    word_into(word.as_bytes(), Detail::Full, &mut room)?;
+    word_into(word.as_bytes(), Options::default(), &mut room)?;
     Ok(Symbol::new(word))
 }
 
 /// The same, put into a room.
-fn word_into(word: &[u8], detail: Detail, room: &mut Vec<u8>) -> Result<(), Error> {
+fn word_into(word: &[u8], options: Options, room: &mut Vec<u8>) -> Result<(), Error> {
     write_into(room, |room, answer| {
-        library::word(word, DEFAULT_LIMIT, detail, room, answer)
+        library::word(word, DEFAULT_LIMIT, options, room, answer)
     })
 }
 
@@ -300,7 +337,7 @@ fn hash_of(symbol: &str) -> Option<&str> {
 #[derive(Clone, Copy, Debug, PartialEq, Eq, Hash)]
 pub struct Symbol<'a> {
     symbol: &'a str,
-    detail: Detail,
+    options: Options,
 }
 
 impl<'a> Symbol<'a> {
@@ -308,14 +345,25 @@ impl<'a> Symbol<'a> {
     pub fn new(symbol: &'a str) -> Symbol<'a> {
         Symbol {
             symbol,
-            detail: Detail::Full,
+            options: Options::default(),
         }
     }
 
     /// The same symbol, shown brief.
     pub fn brief(self) -> Symbol<'a> {
         Symbol {
-            detail: Detail::Brief,
+            options: Options {
+                detail: Detail::Brief,
+                ..self.options
+            },
+            ..self
+        }
+    }
+
+    /// The same symbol, read by the wide grammar if it is C++.
+    pub fn wide(self) -> Symbol<'a> {
+        Symbol {
+            options: self.options.detail.wide(),
             ..self
         }
     }
@@ -329,7 +377,7 @@ impl<'a> Symbol<'a> {
 impl fmt::Display for Symbol<'_> {
     fn fmt(&self, f: &mut fmt::Formatter<'_>) -> fmt::Result {
         let mut room = Vec::new();
-        if word_into(self.symbol.as_bytes(), self.detail, &mut room).is_err() {
+        if word_into(self.symbol.as_bytes(), self.options, &mut room).is_err() {
             return f.write_str(self.symbol);
         }
         let text = String::from_utf8_lossy(&room);

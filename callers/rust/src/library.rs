@@ -1,6 +1,6 @@
 //! The library's calls, with slices in the place of pointers. `callers/c/symdemangle.h` has their contracts in words.
 
-use crate::{Detail, Error};
+use crate::{Detail, Error, Options};
 
 #[repr(C)]
 #[derive(Default)]
@@ -116,13 +116,15 @@ unsafe extern "C" {
     ) -> u32;
 }
 
-fn number(detail: Detail) -> u32 {
-    match detail {
+fn number(options: Options) -> u32 {
+    let detail = match options.detail {
         Detail::Full => 0,
         Detail::Brief => 1,
         Detail::NoParameters => 2,
         Detail::BriefNoParameters => 3,
-    }
+    };
+    let wide = if options.wide { 4 } else { 0 };
+    wide + detail
 }
 
 // SAFETY, of each call below: a slice's pointer isn't null and is valid for its length; what is lent to be written is borrowed
@@ -131,7 +133,7 @@ fn number(detail: Detail) -> u32 {
 pub fn text(
     symbol: &[u8],
     limit: u32,
-    detail: Detail,
+    options: Options,
     room: &mut [u8],
     answer: &mut Answer,
 ) -> Status {
@@ -140,7 +142,7 @@ pub fn text(
             symbol.as_ptr(),
             symbol.len(),
             limit,
-            number(detail),
+            number(options),
             room.as_mut_ptr(),
             room.len(),
             answer,
@@ -151,7 +153,7 @@ pub fn text(
 pub fn word(
     word: &[u8],
     limit: u32,
-    detail: Detail,
+    options: Options,
     room: &mut [u8],
     answer: &mut Answer,
 ) -> Status {
@@ -160,7 +162,7 @@ pub fn word(
             word.as_ptr(),
             word.len(),
             limit,
-            number(detail),
+            number(options),
             room.as_mut_ptr(),
             room.len(),
             answer,
@@ -173,7 +175,7 @@ pub fn texts(
     text: &[u8],
     ends: &[usize],
     limit: u32,
-    detail: Detail,
+    options: Options,
     room: &mut [u8],
     answers: &mut [Told],
 ) -> Status {
@@ -184,7 +186,7 @@ pub fn texts(
             ends.as_ptr(),
             ends.len(),
             limit,
-            number(detail),
+            number(options),
             room.as_mut_ptr(),
             room.len(),
             answers.as_mut_ptr(),
@@ -196,7 +198,7 @@ pub fn texts(
 pub fn filter(
     text: &[u8],
     limit: u32,
-    detail: Detail,
+    options: Options,
     room: &mut [u8],
     answer: &mut Answer,
 ) -> Status {
@@ -205,7 +207,7 @@ pub fn filter(
             text.as_ptr(),
             text.len(),
             limit,
-            number(detail),
+            number(options),
             room.as_mut_ptr(),
             room.len(),
             answer,

@@ -1,11 +1,11 @@
 use symdemangle::{
-    Counts, DEFAULT_LIMIT, Detail, Error, Symbol, counts, demangle, demangle_all, demangle_into,
+    Counts, DEFAULT_LIMIT, Detail, Error, Options, Symbol, counts, demangle, demangle_all, demangle_into,
     filter_into, for_each_text, press_into, try_demangle,
 };
 
-fn answer(symbol: &str, limit: u32, detail: Detail) -> Result<String, Error> {
+fn answer(symbol: &str, limit: u32, options: impl Into<Options>) -> Result<String, Error> {
     let mut room = Vec::new();
-    demangle_into(symbol.as_bytes(), limit, detail, &mut room)?;
+    demangle_into(symbol.as_bytes(), limit, options, &mut room)?;
     Ok(String::from_utf8(room).unwrap())
 }
 
@@ -25,6 +25,30 @@ fn texts_and_refusals() {
     );
     assert_eq!(answer("_ZNK1A1fIiEEvT_", 99, Detail::NoParameters), Ok("A::f<int>".into()));
     assert_eq!(answer("_ZNK1A1fIiEEvT_", 99, Detail::BriefNoParameters), Ok("A::f".into()));
+}
+
+#[test]
+fn by_the_wide_grammar() {
+    assert_eq!(answer("_ZN1AC4Ev", 11, Detail::Full), Err(Error::Malformed { at: 6 }));
+    assert_eq!(answer("_ZN1AC4Ev", 11, Detail::Full.wide()), Ok("A::A()".into()));
+    assert_eq!(answer("_ZN1AC4Ev", 10, Detail::Full.wide()), Err(Error::TooLong));
+    assert_eq!(answer("_ZN1AC5IiEET_", 99, Detail::Brief.wide()), Ok("A::A(int)".into()));
+    assert_eq!(answer("_ZN1AC5IiEET_", 99, Detail::NoParameters.wide()), Ok("A::A<int>".into()));
+    assert_eq!(answer("_ZN1AC5IiEET_", 99, Detail::BriefNoParameters.wide()), Ok("A::A".into()));
+    assert_eq!(answer("_RNvC3foo3bar", 11, Detail::Full.wide()), Ok("foo::bar".into()));
+    let symbol = Symbol::new("_ZN1AC5IiEET_");
+    assert_eq!(symbol.to_string(), "_ZN1AC5IiEET_");
+    assert_eq!(symbol.wide().to_string(), "A::A<int>(int)");
+    assert_eq!(symbol.wide().brief().to_string(), "A::A(int)");
+    assert_eq!(symbol.brief().wide().to_string(), "A::A(int)");
+    let mut room = Vec::new();
+    filter_into(b"at _ZN1AC4Ev.", 99, Detail::Full.wide(), &mut room).unwrap();
+    assert_eq!(room, b"at A::A().");
+    let mut all = Vec::new();
+    for_each_text([b"_ZN1AC4Ev".as_slice(), b"_Z1fv"], 99, Detail::Full.wide(), |_, text| all.extend_from_slice(text.unwrap()));
+    assert_eq!(all, b"A::A()f()");
+    assert_eq!(press_into(b"_ZN1AC4Ev", &mut room), Err(Error::Malformed { at: 6 }));
+    assert_eq!(counts(b"_ZN1AC4Ev"), Err(Error::Malformed { at: 6 }));
 }
 
 #[test]

@@ -40,8 +40,8 @@ fn filtered<D: Demangler>(
     }
 }
 
-/// Whether the filter, with C++ by the wide grammar or the other, makes this of a text; and the static library, which has the
-/// latter, and words of any letters.
+/// Whether the filter, with C++ by the wide grammar or the other, makes this of a text; and the static library, which has words
+/// of any letters.
 fn filters_say(
     alloc: Global,
     text: &[u8],
@@ -51,24 +51,25 @@ fn filters_say(
     wide: bool,
     wanted: &[u8],
 ) -> Result<bool, Refusal> {
-    if wide {
+    let answer = if wide {
         let languages = Languages {
             limit,
             detail,
             cpp: Wide,
         };
-        let answer = filtered(alloc, text, &languages, letters);
-        return says(alloc, &answer, wanted);
-    }
-    let languages = Languages {
-        limit,
-        detail,
-        cpp: Abi,
+        filtered(alloc, text, &languages, letters)
+    } else {
+        let languages = Languages {
+            limit,
+            detail,
+            cpp: Abi,
+        };
+        filtered(alloc, text, &languages, letters)
     };
-    let answer = filtered(alloc, text, &languages, letters);
     Ok(
         says(alloc, &answer, wanted)?
-            && (letters == Letters::Ascii || library_filters(alloc, text, limit, detail, wanted)?),
+            && (letters == Letters::Ascii
+                || library_filters(alloc, text, limit, detail, wide, wanted)?),
     )
 }
 

@@ -23,7 +23,7 @@ const UNWRITTEN: u8 = 0xa5;
 const UNTOLD: u32 = 0xa5a5_a5a5;
 
 /// A number that is no detail.
-const NO_DETAIL: u32 = 4;
+const NO_DETAIL: u32 = 8;
 
 /// A call that writes to a room.
 #[derive(Clone, Copy)]
@@ -63,13 +63,17 @@ struct Ending {
     room: Vec<u8>,
 }
 
-/// The number of a detail.
-fn number_of(detail: Detail) -> u32 {
-    match detail {
-        Detail::Full => 0,
-        Detail::Brief => 1,
-        Detail::NoParameters => 2,
-        Detail::BriefNoParameters => 3,
+/// The number of a detail, with C++ by the wide grammar or the other.
+fn number_of(detail: Detail, wide: bool) -> u32 {
+    match (detail, wide) {
+        (Detail::Full, false) => 0,
+        (Detail::Brief, false) => 1,
+        (Detail::NoParameters, false) => 2,
+        (Detail::BriefNoParameters, false) => 3,
+        (Detail::Full, true) => 4,
+        (Detail::Brief, true) => 5,
+        (Detail::NoParameters, true) => 6,
+        (Detail::BriefNoParameters, true) => 7,
     }
 }
 
@@ -263,7 +267,16 @@ fn are_put(counts: SymbolCounts, wanted: Counts) -> bool {
 }
 
 /// Whether the call that counts puts the counts of a symbol that is read, and tells why another isn't.
-fn counts_say(alloc: Global, lists: &mut Lists<Abi>, kind: Kind, s: &[u8]) -> Result<bool, Refusal>
+///
+/// # Errors
+///
+/// `Memory` where a call tells that.
+pub fn library_counts(
+    alloc: Global,
+    lists: &mut Lists<Abi>,
+    kind: Kind,
+    s: &[u8],
+) -> Result<bool, Refusal>
     requires { FitsSymbol s.now }
 {
     let languages = Languages {
@@ -403,30 +416,25 @@ fn is_detail_refused(alloc: Global, s: &[u8], limit: u32, detail: u32) -> Result
     Ok(tells(alloc, text, DETAIL)? && tells(alloc, word, DETAIL)? && tells(alloc, filter, DETAIL)?)
 }
 
-/// Whether each call of the static library that gives a symbol's text answers this, and the one that counts what a demangler
-/// counts.
+/// Whether each call of the static library that gives a symbol's text answers this, with C++ by the wide grammar or the other.
 ///
 /// # Errors
 ///
 /// `Memory` where a call tells that.
 pub fn library_says(
     alloc: Global,
-    lists: &mut Lists<Abi>,
-    kind: Kind,
     s: &[u8],
     limit: u32,
     detail: Detail,
+    wide: bool,
     wanted: &[u8],
-) -> Result<bool, Refusal>
-    requires { FitsSymbol s.now }
-{
-    let detail = number_of(detail);
+) -> Result<bool, Refusal> {
+    let detail = number_of(detail, wide);
     let asked = Asked::new(Call::Text, s, limit, detail);
     Ok(
         call_says(alloc, asked, wanted)?
             && word_says(alloc, s, limit, detail, wanted)?
             && many_say(alloc, s, limit, detail)?
-            && counts_say(alloc, lists, kind, s)?
             && is_detail_refused(alloc, s, limit, NO_DETAIL)?
             && are_ends_refused(alloc, s, detail)?,
     )
@@ -441,7 +449,7 @@ pub fn library_presses(alloc: Global, s: &[u8], wanted: &[u8]) -> Result<bool, R
     call_says(alloc, Asked::new(Call::Press, s, 0, 0), wanted)
 }
 
-/// Whether the static library's call that filters a text answers this.
+/// Whether the static library's call that filters a text answers this, with C++ by the wide grammar or the other.
 ///
 /// # Errors
 ///
@@ -451,9 +459,10 @@ pub fn library_filters(
     text: &[u8],
     limit: u32,
     detail: Detail,
+    wide: bool,
     wanted: &[u8],
 ) -> Result<bool, Refusal> {
-    let asked = Asked::new(Call::Filter, text, limit, number_of(detail));
+    let asked = Asked::new(Call::Filter, text, limit, number_of(detail, wide));
     call_says(alloc, asked, wanted)
 }
 

@@ -2,7 +2,7 @@
 
 use crate::answer::spelled;
 use crate::calls::{by_demangler, calls_say, demangler_says, pieces_say};
-use crate::library::{library_presses, library_says};
+use crate::library::{library_counts, library_presses, library_says};
 use std::alloc::Global;
 use sym_core::{Refusal, fits};
 use sym_demangle::Workspace;
@@ -34,7 +34,7 @@ pub trait Profile: Cpp {
         wanted: &[u8],
     ) -> Result<bool, Refusal>;
 
-    /// Whether the static library's calls answer this for a symbol of either language, if they read by this grammar.
+    /// Whether the static library's calls that read by this grammar answer this for a symbol of either language.
     fn library_says(
         alloc: Global,
         lists: &mut Lists<Self>,
@@ -87,7 +87,11 @@ impl Profile for Abi {
         detail: Detail,
         wanted: &[u8],
     ) -> Result<bool, Refusal> {
-        Ok(fits(s) && library_says(alloc, lists, kind, s, limit, detail, wanted)?)
+        Ok(
+            fits(s)
+                && library_says(alloc, s, limit, detail, false, wanted)?
+                && library_counts(alloc, lists, kind, s)?,
+        )
     }
 
     fn is_unpressed(
@@ -135,15 +139,15 @@ impl Profile for Wide {
     }
 
     fn library_says(
-        _alloc: Global,
+        alloc: Global,
         _lists: &mut Lists<Wide>,
         _kind: Kind,
-        _s: &[u8],
-        _limit: u32,
-        _detail: Detail,
-        _wanted: &[u8],
+        s: &[u8],
+        limit: u32,
+        detail: Detail,
+        wanted: &[u8],
     ) -> Result<bool, Refusal> {
-        Ok(true)
+        library_says(alloc, s, limit, detail, true, wanted)
     }
 
     fn is_unpressed(

@@ -20,7 +20,7 @@ use Rattle.cpp_direct.specs.Bytes.{is_builtin, is_local}
 use Rattle.cpp_direct.specs.Holes.{StandsAt, ListGoesOn}
 use Rattle.cpp_direct.specs.HolesOfLists.{IsSuffix}
 use Rattle.cpp_direct.specs.Prints.{Prints, Shows, Encloses, list_of}
-use Rattle.cpp_direct.specs.Stands.{AreCandidates, AwaitsItems, Encoded, EndsBehind, EncodedBehind, IsWhole, IsWriting, IsFunction, ParametersGoOn, Stands, qualifiers, list_with, in_front_of_next}
+use Rattle.cpp_direct.specs.Stands.{AreCandidates, AwaitsItems, Encoded, EndsBehind, EncodedBehind, IsWhole, IsWriting, IsFunction, ItemsGoOn, ParametersGoOn, Stands, qualifiers, list_with, in_front_of_next}
 use Rattle.cpp_direct.specs.Ways.{IsNameEnded, AwaitsParameters, IsParameterEnded, IsEncodingEnded, IsSymbolEnded, const_text}
 use Rattle.cpp_direct.specs.Written.{Writes, Cuts}
 use Rattle.cpp_direct.proofs.Kept.{candidates-written, reverse-last}
@@ -132,13 +132,13 @@ qualifiers-text v true e f = rw (e, f) (const-text true)
 qualifiers-text v false e f = rw (e, f) (const-text false)
 
 -- what stands behind a text is written in two or more pieces
-behind-two : (lead a q : List ℕ) → lead ++ a ++ q ≡ lead ++ (a ++ q)
+pub behind-two : (lead a q : List ℕ) → lead ++ a ++ q ≡ lead ++ (a ++ q)
 behind-two lead a q = append_assoc lead a q
 
 pub behind-three : (lead a b q : List ℕ) → lead ++ a ++ b ++ q ≡ lead ++ (a ++ b ++ q)
 behind-three lead a b q = ap (λ l. l ++ q) (behind-two lead a b) ∙ append_assoc lead (a ++ b) q
 
-behind-five : (lead a b c d q : List ℕ) → lead ++ a ++ b ++ c ++ d ++ q ≡ lead ++ (a ++ b ++ c ++ d ++ q)
+pub behind-five : (lead a b c d q : List ℕ) → lead ++ a ++ b ++ c ++ d ++ q ≡ lead ++ (a ++ b ++ c ++ d ++ q)
 behind-five lead a b c d q =
     ap (λ l. l ++ d ++ q) (behind-three lead a b c) ∙ ap (λ l. l ++ q) (append_assoc lead (a ++ b ++ c) d) ∙ append_assoc lead (a ++ b ++ c ++ d) q
 
@@ -172,7 +172,7 @@ list-more : (ts : List Term) (t rest : Term) → list_with (ts ++ t ∷ []) rest
 list-more [] t rest = refl
 list-more (u ∷ ts) t rest = ap (list u) (list-more ts t rest)
 
-list-ends : (ts : List Term) → list_with ts nil ≡ list_of ts
+pub list-ends : (ts : List Term) → list_with ts nil ≡ list_of ts
 list-ends [] = refl
 list-ends (t ∷ ts) = ap (list t) (list-ends ts)
 
@@ -186,16 +186,16 @@ pub none-go_on : (s : List ℕ) (lead : List ℕ) (v : Value) (at : ℕ) (st : S
 none-go_on s lead v at st p = record { around = p.around; inner = p.inner; outside = p.outside; awaits = p.awaits; onward = p.onward }
 
 -- a parameter is expected
-pub parameter-goes_on : (s : List ℕ) (lead : List ℕ) (make : Term → Term) (ts : List Term) (at : ℕ) (st : State) (p : ParametersGoOn s lead make ts at st)
-    (t : Term) (here : ℕ) (now : State)
-    → ListGoesOn s Kind.Items p.inner p.around t here now → ParametersGoOn s lead make (ts ++ t ∷ []) here now
+pub parameter-goes_on : (s : List ℕ) (becomes : Term → (at : ℕ) → State → Type 0) (make : Term → Term) (ts : List Term) (at : ℕ) (st : State)
+    (p : ItemsGoOn s becomes make ts at st) (t : Term) (here : ℕ) (now : State)
+    → ListGoesOn s Kind.Items p.inner p.around t here now → ItemsGoOn s becomes make (ts ++ t ∷ []) here now
 unfolding no_items tree_of
-parameter-goes_on s lead make ts at st p t here now goes = record {
+parameter-goes_on s becomes make ts at st p t here now goes = record {
   around = p.around;
   inner = goes.inner;
   outside = p.outside;
   awaits = goes.awaits;
-  onward = λ l there then_ comes. subst (λ u. EncodedBehind s lead (make u) there) (sym (list-more ts t (no_items l)))
+  onward = λ l there then_ comes. subst (λ u. becomes (make u) there then_) (sym (list-more ts t (no_items l)))
       (p.onward (tree (list t (no_items l)) true) there then_ (goes.passes l there then_ comes));
 }
 
@@ -218,7 +218,7 @@ parameter-expected s w st is_const start rest aside lead make ts name texts cand
       is_function,
       start_is,
       written,
-      λ t here now comes. parameter-goes_on s lead make ts w.at st p t here now (element.onward t here now comes),
+      λ t here now comes. parameter-goes_on s (λ e there then_. EncodedBehind s lead e there) make ts w.at st p t here now (element.onward t here now comes),
     ) in
     record {
       state = st;
@@ -298,17 +298,17 @@ cut-text old new start aside text cuts start_is written =
     cuts.text ∙ ap (λ n. drop n old.text.list.items) start_is ∙ ap (λ l. drop (length aside) l) written ∙ drop-append_seam aside text
 
 -- what stands behind an encoding that is const or not
-plain-text : (is_const : Bool) → encoding_text (qualifiers is_const) any_value ≡ const_text is_const
+pub plain-text : (is_const : Bool) → encoding_text (qualifiers is_const) any_value ≡ const_text is_const
 plain-text true = const-text true
 plain-text false = const-text false
 
 -- ## The end of an encoding
 
 -- a lone void is read
-void-read : (s : List ℕ) (lead : List ℕ) (make : Term → Term) (at : ℕ) (st : State) → ParametersGoOn s lead make [] at st → StandsAt s at (118 ∷ [])
-    → EncodedBehind s lead (make (list_of (builtin (118 ∷ []) ∷ []))) (at + 1)
+pub void-read : (s : List ℕ) (becomes : Term → (at : ℕ) → State → Type 0) (make : Term → Term) (at : ℕ) (st : State) → ItemsGoOn s becomes make [] at st
+    → StandsAt s at (118 ∷ []) → becomes (make (list_of (builtin (118 ∷ []) ∷ []))) (at + 1) st
 unfolding no_items may_be_empty tree_of is_builtin among
-void-read s lead make at st p stands =
+void-read s becomes make at st p stands =
     let t = builtin (118 ∷ []) in
     let element = element-awaits s Kind.Items p.inner p.around at st tt p.awaits in
     let goes = element.onward t (at + 1) st (builtin-comes s Kind.Item p.around element.inner at st 118 tt refl element.awaits stands) in
@@ -327,7 +327,7 @@ void-ended s w first here last new is_const start p stands one text candidates a
     let e = p.make (list_of (builtin (118 ∷ []) ∷ [])) in
     let made = function f.own (qualifiers is_const) any_value absent nil in
     let is : e ≡ made = made-void is_const f.own p.make f.makes in
-    let behind : EncodedBehind s p.lead e (w.at + 1) = void-read s p.lead p.make w.at p.state p.goes stands in
+    let behind : EncodedBehind s p.lead e (w.at + 1) = void-read s (λ u there then_. EncodedBehind s p.lead u there) p.make w.at p.state p.goes stands in
     let written : last.text.list.items ≡ p.aside ++ p.lead ++ b ++ codes "()" =
     two.text ∙ ap (λ l. l.list.items ++ codes ")") text ∙ ap (λ l. l ++ codes ")") one.text ∙ append_assoc w.text.list.items (codes "(") (codes ")")
     ∙ ap (λ l. l ++ codes "()") p.written in

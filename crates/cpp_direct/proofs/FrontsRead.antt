@@ -49,7 +49,8 @@ front-begins s w new is_const from start p none apart start_is text candidates a
       instance_,
       apart,
       start_is,
-      λ t here now comes. parameter-goes_on s [] (λ l. encoding_of p.v l) [] w.at p.state goes t here now (element.onward t here now comes),
+      λ t here now comes. parameter-goes_on s (λ e there then_. EncodedBehind s [] e there) (λ l. encoding_of p.v l) [] w.at p.state goes t here now
+          (element.onward t here now comes),
     ) in
     record {
       state = p.state;

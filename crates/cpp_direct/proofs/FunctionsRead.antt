@@ -18,24 +18,26 @@ use Rattle.cpp_direct.proofs.MovesOfFunctions.{function-opens, pointed-function-
 
 -- what is none of those that take no function type
 pub takes-function : (o : Open) (rest : List Open) → ((x : ℕ) → o ≡ opens.Pointer x → ⊥) → ((x : ℕ) → o ≡ opens.Lvalue x → ⊥)
-    → ((x : ℕ) → o ≡ opens.Rvalue x → ⊥) → ((x : ℕ) → o ≡ opens.Const x → ⊥) → (o ≡ opens.Special → ⊥) → (o ≡ opens.Enumerator → ⊥)
+    → ((x : ℕ) → o ≡ opens.Rvalue x → ⊥) → ((x : ℕ) → o ≡ opens.Const x → ⊥) → (o ≡ opens.Enumerator → ⊥)
     → ((x : Bool) → o ≡ opens.Returned x → ⊥) → ((x : Bool) → o ≡ opens.Signature x → ⊥)
-    → ((x : Bool) (y : ℕ) → o ≡ opens.Front x y → ⊥) → TakesFunction (o ∷ rest)
-takes-function (opens.Pointer x) rest p l r c z n f g k = absurd (p x refl)
-takes-function (opens.Lvalue x) rest p l r c z n f g k = absurd (l x refl)
-takes-function (opens.Rvalue x) rest p l r c z n f g k = absurd (r x refl)
-takes-function (opens.Const x) rest p l r c z n f g k = absurd (c x refl)
-takes-function opens.Special rest p l r c z n f g k = absurd (z refl)
-takes-function opens.Enumerator rest p l r c z n f g k = absurd (n refl)
-takes-function (opens.Returned x) rest p l r c z n f g k = absurd (f x refl)
-takes-function (opens.Signature x) rest p l r c z n f g k = absurd (g x refl)
-takes-function (opens.TypeArguments x) rest p l r c z n f g k = tt
-takes-function (opens.NestArguments x) rest p l r c z n f g k = tt
-takes-function (opens.FirstArguments x) rest p l r c z n f g k = tt
-takes-function (opens.NameArguments x) rest p l r c z n f g k = tt
-takes-function (opens.Parameters x y) rest p l r c z n f g k = tt
-takes-function (opens.Front x y) rest p l r c z n f g k = absurd (k x y refl)
-takes-function opens.Pack rest p l r c z n f g k = tt
+    → ((x : Bool) (y : ℕ) → o ≡ opens.Front x y → ⊥) → ((x : ℕ) → o ≡ opens.Lambda x → ⊥) → TakesFunction (o ∷ rest)
+takes-function (opens.Pointer x) rest p l r c n f g k m = absurd (p x refl)
+takes-function (opens.Lvalue x) rest p l r c n f g k m = absurd (l x refl)
+takes-function (opens.Rvalue x) rest p l r c n f g k m = absurd (r x refl)
+takes-function (opens.Const x) rest p l r c n f g k m = absurd (c x refl)
+takes-function opens.Special rest p l r c n f g k m = tt
+takes-function (opens.Lambda x) rest p l r c n f g k m = absurd (m x refl)
+takes-function (opens.Enclosing x y) rest p l r c n f g k m = tt
+takes-function opens.Enumerator rest p l r c n f g k m = absurd (n refl)
+takes-function (opens.Returned x) rest p l r c n f g k m = absurd (f x refl)
+takes-function (opens.Signature x) rest p l r c n f g k m = absurd (g x refl)
+takes-function (opens.TypeArguments x) rest p l r c n f g k m = tt
+takes-function (opens.NestArguments x) rest p l r c n f g k m = tt
+takes-function (opens.FirstArguments x) rest p l r c n f g k m = tt
+takes-function (opens.NameArguments x) rest p l r c n f g k m = tt
+takes-function (opens.Parameters x y) rest p l r c n f g k m = tt
+takes-function (opens.Front x y) rest p l r c n f g k m = absurd (k x y refl)
+takes-function opens.Pack rest p l r c n f g k m = tt
 
 -- ## The return type
 

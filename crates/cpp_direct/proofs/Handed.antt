@@ -104,31 +104,20 @@ parameter-read s w is_const start p =
       goes = waits.9 p.own w.at p.state p.comes;
     }
 
--- it is what a special symbol is of
-pub value-special : (s : List ℕ) (w : Direct) (is_reference : Bool) → IsWriting s w (steps.Value is_reference)
-    → slice_get w.waiting.list.items (length w.waiting.list.items - 1) ≡ Some opens.Special → IsSymbolEnded s w
-value-special s w is_reference p found =
-    let os = p.is_before.0 in
-    let t = p.is_before.1 in
-    let front = p.is_before.2 in
-    let bytes = p.is_before.3 in
-    let written = p.is_before.4 in
-    let prints = p.is_before.5 in
-    let comes = p.is_before.6 in
-    let stands = p.is_before.7 in
-    let last = last-found w.waiting.list.items opens.Special found in
-    let waits : Stands s (opens.Special ∷ last.0) os front = subst (λ ws. Stands s ws os front) last.1 stands in
+-- what a special object is of was read
+pub special-read : (s : List ℕ) (w : Direct) → IsElementRead s w opens.Special → IsSymbolEnded s w
+special-read s w p =
+    let waits = p.stands in
     let letter = waits.0 in
     let front_is = waits.1 in
     let filled = waits.2 in
-    let onward = waits.3 in
     record {
       state = p.state;
       candidates = p.candidates;
-      e = special letter t;
-      encoded = onward t w.at p.state comes;
-      shows = subst (λ l. Shows (special letter t) l) (sym (written ∙ ap (λ l. l ++ bytes) front_is))
-          (special-shows letter (λ e. filled (front_is ∙ e)) t bytes is_reference prints);
+      e = special letter p.own;
+      encoded = waits.3 p.own w.at p.state p.comes;
+      shows = subst (λ l. Shows (special letter p.own) l) (sym (p.written ∙ ap (λ l. l ++ p.bytes) front_is))
+          (special-shows letter (λ e. filled (front_is ∙ e)) p.own p.bytes (p.element 0));
     }
 
 -- it is the type of an enumerator
@@ -183,22 +172,25 @@ pub takes-elements : (o : Open) → ((x : ℕ) → o ≡ opens.Pointer x → ⊥
     → ((x : ℕ) → o ≡ opens.Rvalue x → ⊥) → ((x : ℕ) → o ≡ opens.Const x → ⊥) → ((x : Bool) (y : ℕ) → o ≡ opens.Parameters x y → ⊥)
     → ((x : Bool) (y : ℕ) → o ≡ opens.Front x y → ⊥)
     → ((x : Bool) → o ≡ opens.Returned x → ⊥) → ((x : Bool) → o ≡ opens.Signature x → ⊥)
-    → (o ≡ opens.Special → ⊥) → (o ≡ opens.Enumerator → ⊥) → TakesElements o
-takes-elements (opens.Pointer x) p l r c f k u g z n = absurd (p x refl)
-takes-elements (opens.Lvalue x) p l r c f k u g z n = absurd (l x refl)
-takes-elements (opens.Rvalue x) p l r c f k u g z n = absurd (r x refl)
-takes-elements (opens.Const x) p l r c f k u g z n = absurd (c x refl)
-takes-elements (opens.Parameters x y) p l r c f k u g z n = absurd (f x y refl)
-takes-elements (opens.Front x y) p l r c f k u g z n = absurd (k x y refl)
-takes-elements (opens.Returned x) p l r c f k u g z n = absurd (u x refl)
-takes-elements (opens.Signature x) p l r c f k u g z n = absurd (g x refl)
-takes-elements opens.Special p l r c f k u g z n = absurd (z refl)
-takes-elements opens.Enumerator p l r c f k u g z n = absurd (n refl)
-takes-elements opens.Pack p l r c f k u g z n = tt
-takes-elements (opens.TypeArguments x) p l r c f k u g z n = tt
-takes-elements (opens.NestArguments x) p l r c f k u g z n = tt
-takes-elements (opens.FirstArguments x) p l r c f k u g z n = tt
-takes-elements (opens.NameArguments x) p l r c f k u g z n = tt
+    → (o ≡ opens.Special → ⊥) → (o ≡ opens.Enumerator → ⊥) → ((x : Bool) (y : ℕ) → o ≡ opens.Enclosing x y → ⊥)
+    → ((x : ℕ) → o ≡ opens.Lambda x → ⊥) → TakesElements o
+takes-elements (opens.Pointer x) p l r c f k u g z n m q = absurd (p x refl)
+takes-elements (opens.Lvalue x) p l r c f k u g z n m q = absurd (l x refl)
+takes-elements (opens.Rvalue x) p l r c f k u g z n m q = absurd (r x refl)
+takes-elements (opens.Const x) p l r c f k u g z n m q = absurd (c x refl)
+takes-elements (opens.Parameters x y) p l r c f k u g z n m q = absurd (f x y refl)
+takes-elements (opens.Front x y) p l r c f k u g z n m q = absurd (k x y refl)
+takes-elements (opens.Returned x) p l r c f k u g z n m q = absurd (u x refl)
+takes-elements (opens.Signature x) p l r c f k u g z n m q = absurd (g x refl)
+takes-elements (opens.Enclosing x y) p l r c f k u g z n m q = absurd (m x y refl)
+takes-elements (opens.Lambda x) p l r c f k u g z n m q = absurd (q x refl)
+takes-elements opens.Special p l r c f k u g z n m q = absurd (z refl)
+takes-elements opens.Enumerator p l r c f k u g z n m q = absurd (n refl)
+takes-elements opens.Pack p l r c f k u g z n m q = tt
+takes-elements (opens.TypeArguments x) p l r c f k u g z n m q = tt
+takes-elements (opens.NestArguments x) p l r c f k u g z n m q = tt
+takes-elements (opens.FirstArguments x) p l r c f k u g z n m q = tt
+takes-elements (opens.NameArguments x) p l r c f k u g z n m q = tt
 
 -- an element was read
 pub argument-read : (s : List ℕ) (w : Direct) (o : Open) → IsElementRead s w o → TakesElements o → IsWriting s w (steps.List false)

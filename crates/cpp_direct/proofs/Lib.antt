@@ -1,5 +1,6 @@
 pub mod Begins
 pub mod Elements
+mod EnclosingFunctions
 pub mod Ending
 pub mod Entities
 pub mod FoundTokens
@@ -32,5 +33,7 @@ pub mod PrintedParts
 pub mod PrintedSymbols
 pub mod PrintedTypes
 pub mod PrintedValues
-pub mod Signatures
+mod PrintedWithin
+pub mod ShortNumbers
+mod Signatures
 pub mod TypesRead

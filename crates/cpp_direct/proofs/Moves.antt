@@ -5,8 +5,9 @@ use Rattle.sym_core.specs.declared.NumberKind.{NumberKind}
 use Rattle.sym_core.specs.declared.NumberKind.TheVariants.{Seq36}
 use Rattle.sym_core.specs.Token.{Token, bytes_of, IsNumberToken}
 use Rattle.sym_shape.specs.declared.rule.Sym.{Sym}
-use Rattle.sym_shape.specs.declared.rule.Sym.TheVariants.{Name, Number, Byte}
-use Rattle.sym_shape.specs.Tree.{Forest, TakesRule}
+use Rattle.sym_shape.specs.declared.rule.Sym.TheVariants.{Kind as OfKind, Name, Number, Byte}
+use Rattle.sym_shape.specs.Table.{symbols_of}
+use Rattle.sym_shape.specs.Tree.{Forest, AreTrees, TakesRule, spell_all}
 use Rattle.sym_link.specs.Reading.{Next}
 use Rattle.sym_link.specs.Unfold.{found, standing}
 use Rattle.cpp_grammar.specs.declared.kind.Kind.{Kind}
@@ -18,8 +19,9 @@ use Rattle.cpp_grammar.specs.Between.{Going, between}
 use Rattle.cpp_grammar.specs.Unfolding.{cpp, opening, close, byte_of}
 use Rattle.cpp_grammar.proofs.Choosing.{rule_at_kind, empty_at_kind}
 use Rattle.cpp_grammar.proofs.ClosedTrees.{at_number, its_symbols}
+use Rattle.sym_direct.specs.Holes as direct
 use Rattle.sym_direct.proofs.Moves as moves
-use Rattle.cpp_direct.specs.Holes.{cpp_language, Opened, opened, StandsAt, Comes, Needs, ExpectsSym, Expects, IsNameAt, IsSeqAt}
+use Rattle.cpp_direct.specs.Holes.{cpp_language, Opened, opened, ReadsRest, StandsAt, Comes, Needs, ExpectsSym, Expects, IsNameAt, IsSeqAt}
 
 -- ## Kinds
 
@@ -79,11 +81,55 @@ opens s kind p byte taken around os at st chosen small takes begins expects stan
     (moves.opens cpp_language s (number_of_kind kind) (rule_of p) taken around os at st st (takes-it kind p byte taken chosen small takes)
     (begins-so p taken around at st begins) expects stands)
 
-goes-so : (p : Production) (taken : List ℕ) (at0 : ℕ) (around : Around) (before : State) (known : List Value) (st : State) (next : Next Value State Around)
+-- the same where the production begins well with whatever parts stand in the symbol
+pub opens-where : (s : List ℕ) (kind : Kind) (p : Production) (byte : ℕ) (taken : List ℕ) (around : Around) (os : List Opened) (at : ℕ) (st : State)
+    → choose kind byte ≡ Some p → byte < 256 → taken ≡ (if not (is_chain p) then byte ∷ [] else [])
+    → ((f : Forest) → AreTrees abi (parts_of p) f → StandsAt s (at + length taken) (spell_all f) → opening p f at st ≡ Ok st)
+    → Expects s kind around os at st → StandsAt s at taken
+    → Needs s os (standing (rule_of p) taken at around st) [] (parts_of p) (at + length taken) st
+unfolding cpp
+opens-where s kind p byte taken around os at st chosen small takes begins expects stands =
+    subst (λ l. Needs s os (standing (rule_of p) taken at around st) [] l (at + length taken) st) (its_symbols p)
+    (moves.opens-where cpp_language s (number_of_kind kind) (rule_of p) taken around os at st st (takes-it kind p byte taken chosen small takes)
+    (λ f shaped there. ap (λ q. opening q f at st) (at_number p) ∙ begins f (subst (λ l. AreTrees abi l f) (its_symbols p) shaped) there) expects stands)
+
+-- a kind takes a production at its byte, whose parts are read
+unfoldable pub reads-rule : (s : List ℕ) (kind : Kind) (p : Production) (byte : ℕ) (taken : List ℕ) (around : Around) (at : ℕ) (st inner after : State)
+    (bytes : List ℕ) (vs : List Value) (w : Value)
+    → choose kind byte ≡ Some p → byte < 256 → taken ≡ (if not (is_chain p) then byte ∷ [] else [])
+    → (rest : ReadsRest s (standing (rule_of p) taken at around st) [] (symbols_of (rule_of p)) (at + length taken) bytes st vs inner)
+    → opening p rest.forest at st ≡ Ok st → close p (byte_of taken) around at st vs inner ≡ Ok (found w after)
+    → direct.Reads cpp_language s (OfKind (number_of_kind kind)) around at (taken ++ bytes) st (w ∷ []) after
+unfolding cpp
+reads-rule s kind p byte taken around at st inner after bytes vs w chosen small takes rest begins closes =
+    moves.reads-rule cpp_language s (number_of_kind kind) (rule_of p) taken around at st st inner after bytes vs w
+    (takes-it kind p byte taken chosen small takes) rest
+    (ap (λ q. opening q rest.forest at st) (at_number p) ∙ begins)
+    (ap (λ q. close q (byte_of taken) around at st vs inner) (at_number p) ∙ closes)
+
+pub goes-so : (p : Production) (taken : List ℕ) (at0 : ℕ) (around : Around) (before : State) (known : List Value) (st : State) (next : Next Value State Around)
     → ◌≡◌ {A = Going} (between p around at0 known st) (Ok next)
     → cpp.between (standing (rule_of p) taken at0 around before) known st ≡ Ok next
 unfolding cpp
 goes-so p taken at0 around before known st next goes = ap (λ q. between q around at0 known st) (at_number p) ∙ goes
+
+-- a part of a production is read, and those behind it
+unfoldable pub joins : (s : List ℕ) (p : Production) (taken : List ℕ) (at0 : ℕ) (around : Around) (before : State) (known : List Value) (x : Sym)
+    (todo : List Sym) (at : ℕ) (st : State) (context : Around) (values : List Value) (state after inner : State) (v : List Value)
+    (first more : List ℕ) (vs : List Value)
+    → ◌≡◌ {A = Going} (between p around at0 known st) (Ok (record { context = context; values = values; state = state }))
+    → direct.Reads cpp_language s x context at first state v after
+    → ReadsRest s (standing (rule_of p) taken at0 around before) (values ++ v) todo (at + length first) more after vs inner
+    → ReadsRest s (standing (rule_of p) taken at0 around before) known (x ∷ todo) at (first ++ more) st vs inner
+joins s p taken at0 around before known x todo at st context values state after inner v first more vs goes one rest =
+    moves.joins cpp_language s (standing (rule_of p) taken at0 around before) known x todo at st
+    (record { context = context; values = values; state = state }) after inner v first more vs
+    (goes-so p taken at0 around before known st (record { context = context; values = values; state = state }) goes) one rest
+
+-- no part is left
+unfoldable pub none-left : (s : List ℕ) (p : Production) (taken : List ℕ) (at0 : ℕ) (around : Around) (before : State) (known : List Value) (at : ℕ) (st : State)
+    → ReadsRest s (standing (rule_of p) taken at0 around before) known [] at [] st known st
+none-left s p taken at0 around before known at st = moves.none-left cpp_language s (standing (rule_of p) taken at0 around before) known at st
 
 -- the next part of a rule is expected
 pub needs-next : (s : List ℕ) (p : Production) (taken : List ℕ) (at0 : ℕ) (around : Around) (before : State) (known : List Value) (x : Sym)

@@ -196,7 +196,7 @@ first-opens s old mid new st t candidates n here keeps opening_ =
 -- ## The end of a nested name
 
 -- a name that ends comes outside
-nest-comes : (s : List ℕ) (old : Direct) (st : State) (t : Term) (n : IsNesting s Kind.NestTail old t st) → StandsAt s old.at (69 ∷ [])
+pub nest-comes : (s : List ℕ) (old : Direct) (st : State) (t : Term) (n : IsNesting s Kind.NestTail old t st) → StandsAt s old.at (69 ∷ [])
     → Comes s n.outer (tree t old.nest.is_listed) (old.at + 1) st
 nest-comes s old st t n here = n.goes.passes (tree t old.nest.is_listed) (old.at + 1) st
     (nest-end s n.goes.inner n.around t old.nest.is_listed old.at st n.goes.awaits here)

@@ -81,10 +81,10 @@ pointer_text x y b l e f =
 text-length : (b o l : List ℕ) → length (b ++ o ++ l ++ codes ")") ≡ length b + length o + length l + 1
 text-length b o l = omega (arith, length-append (b ++ o ++ l) (codes ")"), length-append (b ++ o) l, length-append b o)
 
-closed-list : (ts : List Term) (l : List ℕ) → PrintAll 0 ts l → is_open (list_of ts) ≡ false
+pub closed-list : (ts : List Term) (l : List ℕ) → PrintAll 0 ts l → is_open (list_of ts) ≡ false
 closed-list ts l all = subst (λ k. is_open k ≡ false) (list-with-none ts) (list-closed 0 ts nil l (inl refl) all)
 
-packless-list : (scope : Term) (ts : List Term) (l : List ℕ) → PrintAll 0 ts l → pack_length scope (list_of ts) ≡ None
+pub packless-list : (scope : Term) (ts : List Term) (l : List ℕ) → PrintAll 0 ts l → pack_length scope (list_of ts) ≡ None
 packless-list scope ts l all = subst (λ k. pack_length scope k ≡ None) (list-with-none ts) (list-packless scope 0 ts nil l (inl refl) all)
 
 plain-element : (extra : ℕ) (is_pointer : Bool) (r : Term) (b : List ℕ) (is_reference : Bool) (ts : List Term) (l : List ℕ)

@@ -1,9 +1,10 @@
 -- Entities in encodings, and their guard variables.
-use Rattle.std.proofs.Common.{◌≡◌, refl, ap, sym, ◌∙◌, ℕ, ◌+◌, ◌*◌, ◌≤◌, List, [], ◌∷◌, ◌++◌, length, Bool, Option, arith, codes, length-append, append-nil, subst}
+use Rattle.std.proofs.Common.{◌≡◌, refl, ap, sym, ◌∙◌, ℕ, ◌+◌, ◌*◌, ◌≤◌, List, [], ◌∷◌, ◌++◌, length, Bool, false, Option, None, arith, codes, length-append, append-nil, subst}
 use Rattle.sym_print.specs.declared.detail.Detail.TheVariants.{Full}
 use Rattle.sym_print.specs.Unfold.{text}
 use Rattle.sym_print.specs.Unshared.{text_of, cost_of}
 use Rattle.cpp_grammar.specs.Term.{Qualifiers, RefQualifier, any_value, Term, function, object, of_name, local, within, source, nil, absent}
+use Rattle.cpp_grammar.specs.Scope.{is_open, pack_length}
 use Rattle.cpp_grammar.specs.Texts.{look_up, same_bytes, named_special_texts}
 use Rattle.cpp_grammar.specs.Items.{full, bare, left, piece, Context, closed}
 use Rattle.cpp_grammar.specs.Values.{Value, unqualified, tree_of, qualifiers_of, ref_of}
@@ -22,22 +23,24 @@ unfolding parts_in
 bare-same t e = prints_parts bare closed t ∙ ap printed_by e ∙ sym (prints_parts full closed t)
 
 encloses-as : (t : Term) (b : List ℕ) → bare_parts Full t ≡ full_parts Full t → ((context : Context) → prefix_item context t ≡ as_item bare closed t)
-    → Shows t b → Encloses t b
-encloses-as t b same front p = record {
+    → is_open t ≡ false → ((scope : Term) → pack_length scope t ≡ None) → Shows t b → Encloses t b
+encloses-as t b same front shut packless p = record {
   as_prefix = front;
   bare_text = ap text_of (bare-same t same) ∙ p.shown_text;
   bare_cost = omega (arith, p.shown_cost, ap cost_of (bare-same t same));
+  is_closed = shut;
+  packless = packless;
 }
 
 -- So do functions that have no return type.
 pub function-encloses : (name : Term) (q : Qualifiers) (ref : RefQualifier) (items : Term) (b : List ℕ)
     → Shows (function name q ref absent items) b → Encloses (function name q ref absent items) b
-unfolding bare_parts full_parts function_full prefix_item
-function-encloses name q ref items b p = encloses-as (function name q ref absent items) b refl (λ c. refl) p
+unfolding bare_parts full_parts function_full prefix_item is_open pack_length
+function-encloses name q ref items b p = encloses-as (function name q ref absent items) b refl (λ c. refl) refl (λ k. refl) p
 
 object-encloses : (name : Term) (q : Qualifiers) (ref : RefQualifier) (b : List ℕ) → Shows (object name q ref) b → Encloses (object name q ref) b
-unfolding bare_parts full_parts prefix_item
-object-encloses name q ref b p = encloses-as (object name q ref) b refl (λ c. refl) p
+unfolding bare_parts full_parts prefix_item is_open pack_length
+object-encloses name q ref b p = encloses-as (object name q ref) b refl (λ c. refl) refl (λ k. refl) p
 
 -- Data print the same in front of an entity.
 pub object-enclosing : (v : Value) (b : List ℕ) → Shows (encoding_of v nil) b → Encloses (encoding_of v nil) b

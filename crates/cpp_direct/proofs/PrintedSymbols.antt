@@ -11,7 +11,7 @@ use Rattle.cpp_grammar.specs.Values.{Value, tree_of, qualifiers_of, ref_of}
 use Rattle.cpp_grammar.specs.Meaning.{is_void, is_nil, parameters, encoding_of}
 use Rattle.cpp_grammar.specs.Parts.{as_item, says, text_part, list_part, types_of, qualifier_text, ref_text, encoding_text, function_bare, function_full, thunk_text, full_parts, left_parts, root_parts, parts_in, not_empty}
 use Rattle.cpp_grammar.specs.Answer.{shown, root_item}
-use Rattle.cpp_direct.specs.Prints.{in_form, Prints, Shows, list_of, joined, PrintEach, PrintAll}
+use Rattle.cpp_direct.specs.Prints.{in_form, Prints, IsElement, Shows, list_of, joined, PrintEach, PrintAll}
 use Rattle.cpp_direct.specs.Stands.{qualifiers, plain_encoding}
 use Rattle.cpp_direct.proofs.PrintedParts.{printed_by, text_by, cost_by, text_first, cost_first, text_append, cost_append, part-text, part-cost, length-filled}
 use Rattle.cpp_direct.proofs.PrintedLists.{list-text, list-cost, none-print}
@@ -117,19 +117,19 @@ object-shows name b p q ref =
       );
     }
 
-front_text : (x r k b : List ℕ) → x ≡ b → r ≡ [] → k ++ (x ++ (r ++ [])) ≡ k ++ b
-front_text x r k b e f = rw (e, f, append-nil b) refl
+element_text : (x r k b : List ℕ) → x ++ r ≡ b → k ++ (x ++ (r ++ [])) ≡ k ++ b
+element_text x r k b e = ap (λ l. k ++ (x ++ l)) (append-nil r) ∙ ap (λ l. k ++ l) e
 
 -- What the compiler makes for a type prints what it is, and the type.
-pub special-shows : (letter : ℕ) → look_up (letter ∷ []) special_texts ≢ [] → (t : Term) (b : List ℕ) (r : Bool) → Prints t b r
+pub special-shows : (letter : ℕ) → look_up (letter ∷ []) special_texts ≢ [] → (t : Term) (b : List ℕ) → IsElement 0 t b
     → Shows (special letter t) (look_up (letter ∷ []) special_texts ++ b)
 unfolding parts_in full_parts not_empty
-special-shows letter filled t b r p =
+special-shows letter filled t b p =
     let k = look_up (letter ∷ []) special_texts in
     let behind = as_item left closed t ∷ as_item right closed t ∷ [] in
     record {
       shown_text = text_by full closed (special letter t) (text k ∷ behind) refl ∙ text_first k behind
-          ∙ front_text (text_of (in_form left closed t)) (text_of (in_form right closed t)) k b (p.left_text closed) (p.right_text closed);
+          ∙ element_text (text_of (in_form left closed t)) (text_of (in_form right closed t)) k b (p.both_texts closed);
       shown_cost = omega (
         arith,
         p.cost closed,

@@ -365,15 +365,19 @@ function-handed s old new is_pointer o p text candidates waits at found =
       stands = subst (λ ws. Stands s ws p.outer p.front) (sym waits ∙ last.1) p.stands;
     }
 
--- what takes a function type, and isn't the parameters of an encoding, takes elements
-pub takes-as-element : (o : Open) (rest ws : List Open) → ws ≡ o ∷ rest → TakesFunction ws → ((x : Bool) (y : ℕ) → o ≡ opens.Parameters x y → ⊥) → TakesElements o
-takes-as-element o rest ws is takes apart = go o (subst TakesFunction is takes) apart
+-- what takes a function type, and isn't parameters or a special object, takes elements
+pub takes-as-element : (o : Open) (rest ws : List Open) → ws ≡ o ∷ rest → TakesFunction ws → ((x : Bool) (y : ℕ) → o ≡ opens.Parameters x y → ⊥)
+    → (o ≡ opens.Special → ⊥) → ((x : Bool) (y : ℕ) → o ≡ opens.Enclosing x y → ⊥) → TakesElements o
+takes-as-element o rest ws is takes apart no_special within = go o (subst TakesFunction is takes) apart no_special within
   where
-    go : (o : Open) → TakesFunction (o ∷ rest) → ((x : Bool) (y : ℕ) → o ≡ opens.Parameters x y → ⊥) → TakesElements o
-    go (opens.TypeArguments from) takes apart = tt
-    go (opens.NestArguments nest) takes apart = tt
-    go (opens.FirstArguments nest) takes apart = tt
-    go (opens.NameArguments from) takes apart = tt
-    go opens.Pack takes apart = tt
-    go (opens.Parameters x y) takes apart = absurd (apart x y refl)
-    go _ takes apart = absurd takes
+    go : (o : Open) → TakesFunction (o ∷ rest) → ((x : Bool) (y : ℕ) → o ≡ opens.Parameters x y → ⊥) → (o ≡ opens.Special → ⊥)
+        → ((x : Bool) (y : ℕ) → o ≡ opens.Enclosing x y → ⊥) → TakesElements o
+    go (opens.TypeArguments from) takes apart z m = tt
+    go (opens.NestArguments nest) takes apart z m = tt
+    go (opens.FirstArguments nest) takes apart z m = tt
+    go (opens.NameArguments from) takes apart z m = tt
+    go opens.Pack takes apart z m = tt
+    go (opens.Parameters x y) takes apart z m = absurd (apart x y refl)
+    go opens.Special takes apart z m = absurd (z refl)
+    go (opens.Enclosing x y) takes apart z m = absurd (m x y refl)
+    go _ takes apart z m = absurd takes

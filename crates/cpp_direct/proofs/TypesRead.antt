@@ -15,7 +15,7 @@ use Rattle.cpp_grammar.specs.Parts.{source_text}
 use Rattle.cpp_grammar.specs.Values.{State, tree}
 use Rattle.cpp_grammar.specs.Between.{after, inside, no_items}
 use Rattle.cpp_direct.specs.Bytes.{is_builtin, is_builtin_with_d, is_abbreviated}
-use Rattle.cpp_direct.specs.Letters.{builtin_letters, abbreviation_letters}
+use Rattle.cpp_direct.specs.Letters.{builtin_letters, builtin_letters_with_d, abbreviation_letters}
 use Rattle.cpp_direct.specs.declared.open.Candidate.{Candidate}
 use Rattle.cpp_direct.specs.declared.open.Open.{Open}
 use Rattle.cpp_direct.specs.declared.open.Open.TheVariants as opens
@@ -33,7 +33,7 @@ use Rattle.cpp_direct.proofs.Kept.{arguments-begun, piece-found, candidates-stay
 use Rattle.cpp_direct.proofs.Moves.{expects-empty, stands-join}
 use Rattle.cpp_direct.proofs.MovesOfLists.{arguments-open}
 use Rattle.cpp_direct.proofs.MovesOfTypes.{solid-opens, builtin-comes, builtin-with-d-comes, pointer-opens, lvalue-opens, rvalue-opens, const-opens, source-opens, std-opens, abbreviation-opens, substitution-opens, nested-type-opens}
-use Rattle.cpp_direct.proofs.PrintedLetters.{is_pair, are_pairs, pair-listed}
+use Rattle.cpp_direct.proofs.LettersTested.{each_passes, tested}
 use Rattle.cpp_direct.proofs.PrintedNames.{source-prints, std-prints, abbreviation-prints, builtin-prints, builtin-with-d-prints}
 
 -- ## What calls give
@@ -215,10 +215,15 @@ pub builtin-listed : (letter : ℕ) → look_up (letter ∷ []) builtin_texts �
 unfolding is_builtin builtin_texts code_in codes_in among
 builtin-listed letter has = letter-listed builtin_texts builtin_letters letter refl has
 
--- a letter with such a text behind a D is one of these
-builtin-with-d-listed : (letter : ℕ) → look_up (68 ∷ letter ∷ []) builtin_texts ≢ [] → is_builtin_with_d letter ≡ true
-unfolding is_builtin_with_d builtin_texts are_pairs is_pair among
-builtin-with-d-listed letter has = pair-listed builtin_texts (λ first second. is_builtin_with_d second) 68 letter refl has
+unfoldable is_text : List ℕ → Bool
+is_text [] = false
+is_text (b ∷ bs) = true
+
+-- a letter of these has a text behind a D
+builtin-with-d-text : (letter : ℕ) → is_builtin_with_d letter ≡ true → look_up (68 ∷ letter ∷ []) builtin_texts ≢ []
+unfolding is_builtin_with_d builtin_texts look_up same_bytes each_passes is_text
+builtin-with-d-text letter is none =
+    false≢true (sym (ap is_text none) ∙ tested builtin_letters_with_d (λ b. is_text (look_up (68 ∷ b ∷ []) builtin_texts)) refl letter is)
 
 -- and so is one of an abbreviation
 pub abbreviation-listed : (letter : ℕ) → look_up (letter ∷ []) abbreviation_texts ≢ [] → is_abbreviated letter ≡ true
@@ -322,10 +327,10 @@ no-builtin-with-d letter is none = absurd (false≢true (subst (λ l. is_builtin
 -- and so is one with a code of two letters
 pub builtin-with-d-done : (s : List ℕ) (old new : Direct) (letter : ℕ) → AwaitsType s old → StandsAt s old.at (68 ∷ [])
     → (letter ≢ 0 → StandsAt s (old.at + 1) (letter ∷ []))
-    → look_up (68 ∷ letter ∷ []) builtin_texts ≢ [] → new.text.list.items ≡ old.text.list.items ++ look_up (68 ∷ letter ∷ []) builtin_texts
+    → is_builtin_with_d letter ≡ true → new.text.list.items ≡ old.text.list.items ++ look_up (68 ∷ letter ∷ []) builtin_texts
     → new.candidates ≡ old.candidates → new.waiting ≡ old.waiting → new.at ≡ old.at + 1 + 1 → IsWriting s new (steps.Value false)
-builtin-with-d-done s old new letter a first stands has text candidates waits at =
-    let is = builtin-with-d-listed letter has in
+builtin-with-d-done s old new letter a first stands is text candidates waits at =
+    let has = builtin-with-d-text letter is in
     let bytes : List ℕ = look_up (68 ∷ letter ∷ []) builtin_texts in
     record {
       state = a.state;

@@ -1,5 +1,6 @@
 -- The bytes at which a reader goes one way or another.
-use Rattle.std.specs.Prelude.{ℕ, List, ◌∷◌, Bool, false, ◌||◌, nat_eq}
+use Rattle.std.specs.Prelude.{ℕ, List, ◌∷◌, ◌+◌, [], Bool, true, false, ◌||◌, ◌&&◌, nat_eq, nat_lt}
+use Rattle.sym_core.specs.Number.{is_decimal_digit}
 use Rattle.cpp_grammar.specs.Grammar.{among}
 use Rattle.cpp_direct.specs.Letters.{builtin_letters, builtin_letters_with_d, abbreviation_letters}
 
@@ -14,6 +15,11 @@ is_builtin_with_d byte = among builtin_letters_with_d byte
 -- the letters behind an S that stand for a class of std, or for std itself
 unfoldable pub is_abbreviated : ℕ → Bool
 is_abbreviated byte = among abbreviation_letters byte
+
+-- no twenty digits stand side by side, so many of them in front
+unfoldable pub short_numbers : (run : ℕ) → List ℕ → Bool
+short_numbers run [] = true
+short_numbers run (b ∷ bs) = elim (is_decimal_digit b) [ true ↦ nat_lt run 19 && short_numbers (run + 1) bs | false ↦ short_numbers 0 bs ]
 
 -- a symbol that names a local entity, or something special of one, has a Z or a G behind its _Z
 unfoldable pub is_local : List ℕ → Bool

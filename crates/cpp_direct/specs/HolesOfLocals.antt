@@ -1,10 +1,10 @@
 -- What is expected in the name of a local entity, and what comes of it.
-use Rattle.std.specs.Prelude.{◌≡◌, ◌≢◌, ℕ, ◌+◌, ◌≤◌, List, [], ◌∷◌, length, Bool, true, cond, Option, Some, None}
+use Rattle.std.specs.Prelude.{◌≡◌, ◌≢◌, ℕ, ◌+◌, ◌≤◌, List, [], ◌∷◌, ◌++◌, length, Bool, true, false, cond, Option, Some, None}
 use Rattle.cpp_grammar.specs.declared.kind.Kind.{Kind}
-use Rattle.cpp_grammar.specs.Term.{Term, any_value, of_name, local, within, source}
-use Rattle.cpp_grammar.specs.Values.{State, Around, Value, nothing_there, text, tree, named, unqualified, tree_of, qualifiers_of, ref_of}
-use Rattle.cpp_grammar.specs.Between.{in_name}
-use Rattle.cpp_grammar.specs.Meaning.{discriminator_of}
+use Rattle.cpp_grammar.specs.Term.{Term, any_value, of_name, local, within, source, lambda}
+use Rattle.cpp_grammar.specs.Values.{State, Around, Value, local_number, nothing_there, text, tree, named, unqualified, tree_of, qualifiers_of, ref_of}
+use Rattle.cpp_grammar.specs.Between.{after, in_name}
+use Rattle.cpp_grammar.specs.Meaning.{discriminator_of, parameters}
 use Rattle.cpp_direct.specs.Holes.{Opened, StandsAt, Comes, Expects, IsNameAt}
 
 -- the bytes of a discriminator of one digit, or of none
@@ -36,9 +36,13 @@ pub record IsEntityAt (s : List ℕ) (at : ℕ) (internal : Bool) (name : List �
   pub filled : name ≢ []
   pub discriminator : IsDiscriminatorAt s middle digit end
 
--- the entity with this name in an encoding
+-- the entity with this piece as its name in an encoding
+abbrev pub local_in : (e : Term) → (piece : Term) → (digit : Option ℕ) → Term
+local_in e p digit = local e (within e p) (discriminator_of (discriminator_value digit))
+
+-- the one with this source name
 abbrev pub entity_in : (e : Term) → (internal : Bool) → (name : List ℕ) → (digit : Option ℕ) → Term
-entity_in e internal name digit = local e (within e (source internal name)) (discriminator_of (discriminator_value digit))
+entity_in e internal name digit = local_in e (source internal name) digit
 
 -- The encoding is expected in which an entity stands.
 pub record LocalOpened (s : List ℕ) (outer : List Opened) (around : Around) (at : ℕ) (st : State) : Type 0 where
@@ -46,6 +50,50 @@ pub record LocalOpened (s : List ℕ) (outer : List Opened) (around : Around) (a
   pub awaits : Expects s Kind.Encoding around inner at st
   pub onward : (e : Term) (at : ℕ) (st : State) → Comes s inner (tree e true) at st → (internal : Bool) (name : List ℕ) (digit : Option ℕ) (end : ℕ)
       → IsEntityAt s at internal name digit end → Comes s outer (named (entity_in e internal name digit) unqualified any_value) end st
+
+-- a piece stands at the place as the name of a type in an encoding, and this is the place behind it
+abbrev pub IsPieceAt : (s : List ℕ) → (at : ℕ) → (piece : Term) → (end : ℕ) → Type 0
+IsPieceAt s at p end =
+    (os : List Opened) (around : Around) (e : Term) (st : State) → Expects s Kind.TypeEntity (after e true around) os at st
+    → Comes s os (tree (within e p) false) end st
+
+-- The name of a type in this encoding is expected, and something becomes of the type.
+pub record EntityOpened (s : List ℕ) (becomes : Term → (at : ℕ) → State → Type 0) (e : Term) (at : ℕ) (st : State) : Type 0 where
+  pub around : Around
+  pub inner : List Opened
+  pub awaits : Expects s Kind.TypeEntity (after e true around) inner at st
+  pub onward : (p : Term) (at : ℕ) (st : State) → Comes s inner (tree (within e p) false) at st → (digit : Option ℕ) (end : ℕ)
+      → IsDiscriminatorAt s at digit end → becomes (local_in e p digit) end st
+
+-- The encoding is expected in which a type stands.
+pub record LocalTypeOpened (s : List ℕ) (outer : List Opened) (around : Around) (at : ℕ) (st : State) : Type 0 where
+  pub inner : List Opened
+  pub awaits : Expects s Kind.Encoding around inner at st
+  pub onward : (e : Term) (at : ℕ) (st : State) → Comes s inner (tree e true) at st → StandsAt s at (69 ∷ [])
+      → EntityOpened s (λ t end now. Comes s outer (tree t false) end now) e (at + 1) st
+
+-- the digit behind a lambda's E, if it isn't the first one
+abbrev pub lambda_digits : Option ℕ → List ℕ
+lambda_digits None = []
+lambda_digits (Some digit) = digit ∷ []
+
+-- its number as it is written
+abbrev pub lambda_number : Option ℕ → List ℕ
+lambda_number None = 49 ∷ []
+lambda_number (Some digit) = (digit + 2) ∷ []
+
+-- what is one digit as well
+abbrev pub IsLambdaDigit : Option ℕ → Type 0
+IsLambdaDigit None = Unit {0}
+IsLambdaDigit (Some digit) = (48 ≤ digit) × (digit ≤ 55)
+
+-- a lambda with these parameters, and this digit of its number
+abbrev pub lambda_with : (items : Term) → (number : Option ℕ) → Term
+lambda_with items number = lambda (parameters items) (local_number (lambda_digits number))
+
+-- the bytes behind a lambda's parameters
+abbrev pub lambda_ending : Option ℕ → List ℕ
+lambda_ending number = 69 ∷ (lambda_digits number ++ 95 ∷ [])
 
 -- The name is expected of which a variable is the guard, in an encoding that begins at a place.
 pub record GuardOpened (s : List ℕ) (outer : List Opened) (encoding : ℕ) (at : ℕ) (st : State) : Type 0 where

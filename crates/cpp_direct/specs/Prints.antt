@@ -5,9 +5,9 @@ use Rattle.sym_print.specs.Unshared.{Unshared, text_of, cost_of}
 use Rattle.cpp_grammar.specs.Term.{Signed, Term, nil, list}
 use Rattle.cpp_grammar.specs.Scope.{is_open, pack_length}
 use Rattle.cpp_grammar.specs.References.{is_function_type}
-use Rattle.cpp_grammar.specs.Items.{Form, full, bare, left, right, base, Context, closed, head, is_reference, is_funarr, is_empty}
+use Rattle.cpp_grammar.specs.Items.{Form, full, bare, left, right, base, piece, Context, closed, head, is_reference, is_funarr, is_empty}
 use Rattle.cpp_grammar.specs.Meaning.{is_void}
-use Rattle.cpp_grammar.specs.Parts.{as_item, prefix_item, last_piece, opening_text, is_plain_integer}
+use Rattle.cpp_grammar.specs.Parts.{as_item, says, prefix_item, within_parts, last_piece, opening_text, is_plain_integer}
 use Rattle.cpp_grammar.specs.Answer.{shown}
 
 -- what a tree prints in a form, wherever it stands
@@ -40,6 +40,16 @@ pub record NamesClass (t : Term) (class : List ℕ) : Type 0 where
   pub base_cost : (context : Context) → cost_of (in_form left context t) + cost_of (in_form right context t) + cost_of (in_form base context t)
       ≤ 4 * (length (text_of (in_form left context t)) + length class)
 
+-- A piece of a name with this text, where it is a component of another name.
+pub record PrintsPiece (p : Term) (bytes : List ℕ) : Type 0 where
+  pub piece_text : (context : Context) → text_of (in_form piece context p) ≡ bytes
+  pub piece_cost : (context : Context) → cost_of (in_form piece context p) ≤ 4 * length bytes
+  pub as_component : (context : Context) (prefix : Term)
+      → within_parts context prefix p ≡ prefix_item context prefix ∷ says "::" ∷ as_item piece context p ∷ []
+  pub is_closed : is_open p ≡ false
+  pub packless : (scope : Term) → pack_length scope p ≡ None
+  pub opening : opening_text p ≡ codes "<"
+
 -- An encoding with this text.
 pub record Shows (t : Term) (bytes : List ℕ) : Type 0 where
   pub shown_text : text_of (in_form full closed t) ≡ bytes
@@ -50,6 +60,8 @@ pub record Encloses (t : Term) (bytes : List ℕ) : Type 0 where
   pub as_prefix : (context : Context) → prefix_item context t ≡ as_item bare closed t
   pub bare_text : text_of (in_form bare closed t) ≡ bytes
   pub bare_cost : 1 + cost_of (in_form bare closed t) ≤ 4 * length bytes
+  pub is_closed : is_open t ≡ false
+  pub packless : (scope : Term) → pack_length scope t ≡ None
 
 -- the sign of a number
 abbrev pub sign_text : Signed → List ℕ

@@ -29,7 +29,7 @@ use Rattle.cpp_direct.specs.Holes.{Opened, Comes, Expects, StandsAt, TypePasses,
 use Rattle.cpp_direct.specs.HolesOfFunctions.{SignatureGoesOn, plain_function}
 use Rattle.cpp_direct.specs.HolesOfTypes.{NoReference}
 use Rattle.cpp_direct.specs.HolesOfLists.{IsSuffix, IsDigitsAt, minus_sign}
-use Rattle.cpp_direct.specs.HolesOfLocals.{IsEntityAt}
+use Rattle.cpp_direct.specs.HolesOfLocals.{EntityOpened, IsDiscriminatorAt, IsEntityAt, IsLambdaDigit, lambda_ending, lambda_with, local_in}
 use Rattle.cpp_direct.specs.Prints.{Prints, Shows, Encloses, NamesClass, PrintAll}
 
 -- ## Candidates
@@ -127,13 +127,17 @@ abbrev pub in_front_of_next : List Term → List ℕ → List ℕ
 in_front_of_next [] l = l
 in_front_of_next (t ∷ ts) l = l ++ codes ", "
 
--- Parameters go on behind these, of an encoding behind a text. All of them make this encoding.
-pub record ParametersGoOn (s : List ℕ) (lead : List ℕ) (make : Term → Term) (ts : List Term) (at : ℕ) (st : State) : Type 0 where
+-- Parameters go on behind these. All of them make an encoding, of which something becomes.
+pub record ItemsGoOn (s : List ℕ) (becomes : Term → (at : ℕ) → State → Type 0) (make : Term → Term) (ts : List Term) (at : ℕ) (st : State) : Type 0 where
   pub around : Around
   pub inner : List Opened
   pub outside : around.prefix ≡ outermost
   pub awaits : Expects s Kind.Items around inner at st
-  pub onward : (l : Value) (at : ℕ) (st : State) → Comes s inner l at st → EncodedBehind s lead (make (list_with ts (no_items l))) at
+  pub onward : (l : Value) (at : ℕ) (st : State) → Comes s inner l at st → becomes (make (list_with ts (no_items l))) at st
+
+-- They are those of an encoding behind a text.
+abbrev pub ParametersGoOn : (s : List ℕ) → (lead : List ℕ) → (make : Term → Term) → (ts : List Term) → (at : ℕ) → State → Type 0
+ParametersGoOn s lead make ts at st = ItemsGoOn s (λ e here now. EncodedBehind s lead e here) make ts at st
 
 -- a function of this name and these items, without a return type
 abbrev pub plain_encoding : (is_const : Bool) → (own : Term) → (items : Term) → Term
@@ -165,6 +169,22 @@ Below = List Opened → (text : List ℕ) → Type 0
 abbrev pub Marks : (s : List ℕ) → Below → List Opened → (text : List ℕ) → (from : ℕ) → (made : Term → Term) → Type 0
 Marks s below os text from made = (outer : List Opened) × (e : ℕ) × (from ≡ length text) × TypePasses s os outer e made × below outer text
 
+-- An encoding with this tree ends at the place, and a type that stands in it comes for what is open below, behind this text.
+abbrev pub TypeWithin : (s : List ℕ) → Below → (front : List ℕ) → (e : Term) → (at : ℕ) → State → Type 0
+TypeWithin s below front e at st =
+    (outer : List Opened) × (encoding : ℕ)
+    × (StandsAt s at (69 ∷ []) → EntityOpened s (λ t end now. Comes s outer (tree t true) end (with_candidate encoding t now)) e (at + 1) st)
+    × below outer front
+
+-- The same of the parameters of a lambda, which is such a type, in front of the E behind them.
+abbrev pub LambdaWithin : (s : List ℕ) → Below → (front : List ℕ) → (e : Term) → (items : Term) → (at : ℕ) → State → Type 0
+LambdaWithin s below front e items at st =
+    (outer : List Opened) × (encoding : ℕ)
+    × ((number : Option ℕ) (middle : ℕ) (digit : Option ℕ) (end : ℕ) → IsLambdaDigit number → StandsAt s at (lambda_ending number)
+    → middle ≡ at + length (lambda_ending number) → IsDiscriminatorAt s middle digit end
+    → Comes s outer (tree (local_in e (lambda_with items number) digit) true) end (with_candidate encoding (local_in e (lambda_with items number) digit) st))
+    × below outer front
+
 -- A nested name that comes is what it is read as.
 abbrev pub Serves : (s : List ℕ) → Purpose → Below → List Opened → (front : List ℕ) → Type 0
 Serves s purposes.Type below os front =
@@ -174,6 +194,9 @@ Serves s purposes.Type below os front =
     × below outer front
 Serves s (purposes.Name is_const) below os front =
     (t : Term) (listed : Bool) (at : ℕ) (st : State) → Comes s os (tree t listed) at st → AwaitsItems s front (named t (qualifiers is_const) any_value) at st
+Serves s (purposes.Enclosing is_const) below os front =
+    (t : Term) (listed : Bool) (at : ℕ) (st : State) → Comes s os (tree t listed) at st
+    → ItemsGoOn s (TypeWithin s below front) (λ l. encoding_of (named t (qualifiers is_const) any_value) l) [] at st
 
 -- An instance is read, behind this text: what becomes of it.
 abbrev pub Owns : (s : List ℕ) → Open → Below → (front : List ℕ) → Term → (at : ℕ) → State → Type 0
@@ -284,7 +307,7 @@ abbrev pub opening_text : (is_pointer : Bool) → List ℕ
 opening_text true = codes " (*)("
 opening_text false = codes " ("
 
--- what takes an element or a parameter may take a function type
+-- what takes an element or a parameter may take a function type, and so may a special object
 abbrev pub TakesFunction : List Open → Type 0
 TakesFunction (opens.TypeArguments from ∷ rest) = Unit {0}
 TakesFunction (opens.NestArguments nest ∷ rest) = Unit {0}
@@ -292,6 +315,8 @@ TakesFunction (opens.FirstArguments nest ∷ rest) = Unit {0}
 TakesFunction (opens.NameArguments from ∷ rest) = Unit {0}
 TakesFunction (opens.Pack ∷ rest) = Unit {0}
 TakesFunction (opens.Parameters is_const start ∷ rest) = Unit {0}
+TakesFunction (opens.Special ∷ rest) = Unit {0}
+TakesFunction (opens.Enclosing is_const from ∷ rest) = Unit {0}
 TakesFunction _ = ⊥
 
 -- A type comes for the last of the open ones, behind what is written.
@@ -309,6 +334,17 @@ Stands s (opens.Parameters is_const start ∷ rest) os text =
     × IsFunction is_const make ts name texts × (start ≡ length aside)
     × (text ≡ aside ++ lead ++ name ++ codes "(" ++ in_front_of_next ts texts)
     × ((t : Term) (at : ℕ) (st : State) → Comes s os (tree t true) at st → ParametersGoOn s lead make (ts ++ t ∷ []) at st)
+Stands s (opens.Enclosing is_const from ∷ rest) os text =
+    (front : List ℕ) × (make : Term → Term) × (ts : List Term) × (name : List ℕ) × (texts : List ℕ)
+    × IsFunction is_const make ts name texts × (from ≡ length front) × (text ≡ front ++ name ++ codes "(" ++ in_front_of_next ts texts)
+    × ((t : Term) (at : ℕ) (st : State) → Comes s os (tree t true) at st
+    → ItemsGoOn s (TypeWithin s (Stands s rest) front) make (ts ++ t ∷ []) at st)
+Stands s (opens.Lambda from ∷ rest) os text =
+    (front : List ℕ) × (e : Term) × (bytes : List ℕ) × (ts : List Term) × (texts : List ℕ)
+    × Encloses e bytes × PrintAll 0 ts texts × (from ≡ length front)
+    × (text ≡ front ++ (bytes ++ codes "::{lambda(") ++ in_front_of_next ts texts)
+    × ((t : Term) (at : ℕ) (st : State) → Comes s os (tree t true) at st
+    → ItemsGoOn s (LambdaWithin s (Stands s rest) front e) (λ l. l) (ts ++ t ∷ []) at st)
 Stands s (opens.Returned is_pointer ∷ rest) os text =
     (outer : List Opened) × (e : ℕ)
     × ((r : Term) (at : ℕ) (st : State) → Comes s os (tree r true) at st → SignatureGoesOn s outer e is_pointer (λ l. plain_function r l) at st)

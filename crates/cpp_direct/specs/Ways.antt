@@ -16,7 +16,7 @@ use Rattle.cpp_direct.specs.Holes.{Opened, StandsAt, Comes, Expects, IsReferable
 use Rattle.cpp_direct.specs.HolesOfFunctions.{SignatureGoesOn, plain_function, pointed, with_pointed}
 use Rattle.cpp_direct.specs.HolesOfTypes.{IsNamedKind, NoReference, TreeOpens}
 use Rattle.cpp_direct.specs.Prints.{Prints, IsElement, PrintAll, Shows, Encloses, sign_text}
-use Rattle.cpp_direct.specs.Stands.{AreCandidates, AwaitsItems, Encoded, EncodedBehind, IsFunction, IsInstance, IsListing, IsNest, IsTail, IsTemplate, GoesOn, EnumeratorGoesOn, Owns, ParametersGoOn, Serves, Stands, TakesFunction, opening_text, qualifiers, extra_of, led_by, list_with, in_front_of_next}
+use Rattle.cpp_direct.specs.Stands.{AreCandidates, AwaitsItems, Encoded, EncodedBehind, IsFunction, IsInstance, IsListing, IsNest, IsTail, IsTemplate, GoesOn, EnumeratorGoesOn, ItemsGoOn, LambdaWithin, Owns, ParametersGoOn, Serves, Stands, TypeWithin, TakesFunction, opening_text, qualifiers, extra_of, led_by, list_with, in_front_of_next}
 
 -- what stands behind the parameters of a member function
 abbrev pub const_text : (is_const : Bool) → List ℕ
@@ -299,6 +299,79 @@ pub record AwaitsEntity (s : List ℕ) (w : Direct) (is_internal : Bool) : Type 
   pub first : StandsAt s before (69 ∷ [])
   pub letter : is_internal ≡ true → StandsAt s (before + 1) (76 ∷ [])
   pub at_is : w.at ≡ before + 1 + cond is_internal 1 0
+
+-- ## Types in functions
+
+-- The name of a function in which a type stands was read and written from a place on, but for its qualifier.
+pub record IsEnclosingNamed (s : List ℕ) (w : Direct) (is_const : Bool) (from : ℕ) : Type 0 where
+  pub state : State
+  pub candidates : AreCandidates w.text.list.items w.candidates.list.items state.candidates
+  pub own : Term
+  pub v : Value
+  pub tree_is : tree_of v ≡ own
+  pub qualifiers_are : qualifiers_of v ≡ qualifiers is_const
+  pub mark_is : ref_of v ≡ any_value
+  pub front : List ℕ
+  pub name : List ℕ
+  pub written : w.text.list.items ≡ front ++ name
+  pub from_is : from ≡ length front
+  pub prints : Prints own name false
+  pub no_return : has_return_type own ≡ false
+  pub goes : ItemsGoOn s (TypeWithin s (Stands s (reverse w.waiting.list.items)) front) (λ l. encoding_of v l) [] w.at state
+
+-- A parameter of such a function was read.
+pub record IsEnclosingParameterRead (s : List ℕ) (w : Direct) (is_const : Bool) (from : ℕ) : Type 0 where
+  pub state : State
+  pub candidates : AreCandidates w.text.list.items w.candidates.list.items state.candidates
+  pub rest : List Open
+  pub open_is : reverse w.waiting.list.items ≡ opens.Enclosing is_const from ∷ rest
+  pub make : Term → Term
+  pub ts : List Term
+  pub some : ts ≢ []
+  pub front : List ℕ
+  pub name : List ℕ
+  pub texts : List ℕ
+  pub is_function : IsFunction is_const make ts name texts
+  pub from_is : from ≡ length front
+  pub written : w.text.list.items ≡ front ++ name ++ codes "(" ++ texts
+  pub goes : ItemsGoOn s (TypeWithin s (Stands s rest) front) make ts w.at state
+
+-- Such a function was read and written from a place on, but for its qualifier.
+pub record IsEnclosingRead (s : List ℕ) (w : Direct) (is_const : Bool) (from : ℕ) : Type 0 where
+  pub state : State
+  pub candidates : AreCandidates w.text.list.items w.candidates.list.items state.candidates
+  pub e : Term
+  pub front : List ℕ
+  pub bytes : List ℕ
+  pub written : w.text.list.items ++ const_text is_const ≡ front ++ bytes
+  pub from_is : from ≡ length front
+  pub encloses : Encloses e bytes
+  pub within : TypeWithin s (Stands s (reverse w.waiting.list.items)) front e w.at state
+
+-- The name of a type is expected behind the E of the function that it stands in, which was written from a place on.
+pub record AwaitsTypeName (s : List ℕ) (w : Direct) (from : ℕ) : Type 0 where
+  pub before : ℕ
+  pub read : IsEnclosingRead s (record w { at = before }) false from
+  pub letter : StandsAt s before (69 ∷ [])
+  pub at_is : w.at ≡ before + 1
+
+-- A parameter of a lambda was read, which is a type that stands in a function.
+pub record IsLambdaParameterRead (s : List ℕ) (w : Direct) (from : ℕ) : Type 0 where
+  pub state : State
+  pub candidates : AreCandidates w.text.list.items w.candidates.list.items state.candidates
+  pub rest : List Open
+  pub open_is : reverse w.waiting.list.items ≡ opens.Lambda from ∷ rest
+  pub front : List ℕ
+  pub e : Term
+  pub bytes : List ℕ
+  pub encloses : Encloses e bytes
+  pub ts : List Term
+  pub some : ts ≢ []
+  pub texts : List ℕ
+  pub elements : PrintAll 0 ts texts
+  pub from_is : from ≡ length front
+  pub written : w.text.list.items ≡ front ++ (bytes ++ codes "::{lambda(") ++ texts
+  pub goes : ItemsGoOn s (LambdaWithin s (Stands s rest) front e) (λ l. l) ts w.at state
 
 -- ## Function types
 

@@ -1,4 +1,4 @@
-// Function types, and pointers to them, as elements of lists and as parameters.
+// Function types, and pointers to them, as elements of lists, as parameters and in special names.
 
 ghost use Rattle.std.specs.Prelude.{◌∷◌, [], true, if◌then◌else◌};
 ghost use Rattle.std.specs.Option.{IfSome};
@@ -13,7 +13,7 @@ use crate::open::{Open, Step};
 use crate::tokens::byte_at;
 
 impl Direct {
-    /// Begins a function type, or one that is pointed to, where it is an element or a parameter.
+    /// Begins a function type, or one that is pointed to, where it is an element, a parameter, or what a special object is of.
     // <function-type> ::= F <bare-function-type> E
     #[inline(never)]
     pub(crate) fn begin_function(&mut self, s: &[u8], is_pointer: bool) -> Option<Step>
@@ -27,8 +27,8 @@ impl Direct {
             | Open::Lvalue { .. }
             | Open::Rvalue { .. }
             | Open::Const { .. }
-            | Open::Special
             | Open::Enumerator
+            | Open::Lambda { .. }
             | Open::Front { .. }
             | Open::Returned { .. }
             | Open::Signature { .. } => return None,
@@ -125,6 +125,8 @@ impl Direct {
         let _open = self.waiting.pop();
         match *self.waiting.as_slice().last()? {
             Open::Parameters { is_const, start } => self.parameter_ended(s, is_const, start),
+            Open::Enclosing { is_const, from } => self.enclosing_parameter(s, is_const, from),
+            Open::Special => self.finish(s),
             _ => Some(Step::List { is_first: false }),
         }
     }

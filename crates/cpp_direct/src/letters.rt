@@ -3,6 +3,7 @@
 
 ghost use Rattle.std.specs.Prelude.{◌≡◌};
 ghost use Rattle.cpp_direct.specs.ItemBytes.{is_integer_letter};
+ghost use Rattle.cpp_direct.specs.Bytes.{is_builtin_with_d};
 
 /// Whether it is the letter of a type that an integer in an argument may have.
 #[tactic(auto, unfolding(crate::specs::ItemBytes::is_integer_letter))]
@@ -25,6 +26,23 @@ pub fn is_integer_letter(letter: u8) -> bool
         b'y' => true,
         b'n' => true,
         b'o' => true,
+        _ => false,
+    }
+}
+
+/// Whether it is the letter behind a D of a builtin type.
+#[tactic(auto, unfolding(crate::specs::Bytes::is_builtin_with_d, cpp_grammar::specs::Grammar::among))]
+#[inline(always)]
+pub fn is_builtin_with_d(letter: u8) -> bool
+    ensures { result ≡ is_builtin_with_d letter }
+{
+    match letter {
+        b'i' => true,
+        b's' => true,
+        b'u' => true,
+        b'a' => true,
+        b'c' => true,
+        b'n' => true,
         _ => false,
     }
 }

@@ -1,13 +1,14 @@
 //! The text of a C++ symbol, written while its bytes are read.
 //!
 //! Functions, variables, their local entities, thunks and special objects are read so, with names, nested names, operators of
-//! classes, constructors, template arguments, packs, literals, pointers, references and const; function types where they are
-//! arguments or parameters, by themselves or behind one pointer; instances of function templates whose types name no parameter
-//! of the template. A symbol with anything else in it is given up, and is to be read by its grammar: no answer depends on this
+//! classes, constructors, template arguments, packs, literals, pointers, references and const; types that stand in functions, and
+//! lambdas there; function types where they are arguments, parameters or what a special object is of, by themselves
+//! or behind one pointer; instances of function templates whose types name no parameter of the template. A symbol with anything else in it is given up, and is to be read by its grammar: no answer depends on this
 //! crate, which one call in `sym_filter` (`languages`) makes and may leave out.
 #![tactic(auto)]
 
 mod direct;
+mod enclosing;
 mod functions;
 mod letters;
 mod lists;

@@ -80,7 +80,7 @@ impl Direct {
 
     /// Reads a discriminator of one digit, if there is one. Nothing of it is written.
     // <discriminator> ::= _ <non-negative number>
-    fn discriminator(&mut self, s: &[u8]) -> Option<()>
+    pub(crate) fn discriminator(&mut self, s: &[u8]) -> Option<()>
         ensures { OnSome result ((digit : Option ℕ) × IsDiscriminatorAt s.now self.old.at digit self.new.at × Reads self.old self.new []) }
     {
         if byte_at(s, self.at) != b'_' {

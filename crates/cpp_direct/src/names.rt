@@ -75,7 +75,7 @@ pub struct NamePlace {
 
 /// Whether a byte is a decimal digit.
 #[inline(always)]
-fn is_digit(byte: u8) -> bool
+pub fn is_digit(byte: u8) -> bool
     ensures { result ≡ is_decimal_digit byte }
 {
     b'0' <= byte && byte <= b'9'

@@ -164,7 +164,13 @@ impl Direct {
             }
             Purpose::Name { is_const } => {
                 self.name_ended(s, is_const, self.nest.is_instance, self.nest.from)
-            },
+            }
+            Purpose::Enclosing { is_const } => {
+                if self.nest.is_instance {
+                    return None;
+                }
+                self.enclosing_named(s, is_const, self.nest.from)
+            }
         }
     }
 

@@ -15,6 +15,8 @@ pub enum Purpose {
     Type,
     /// the name of the encoding, of a member function that is const or not
     Name { is_const: bool },
+    /// the name of a function in which a type stands, const or not
+    Enclosing { is_const: bool },
 }
 
 /// A nested name so far: where its text begins, and where that of the class is that a constructor would be named after.
@@ -51,6 +53,10 @@ pub enum Open {
     Front { is_const: bool, start: usize },
     /// the parameters of a function, whose text begins at this place
     Parameters { is_const: bool, start: usize },
+    /// the parameters of a function in which a type stands; the type's text begins at this place, with the function's
+    Enclosing { is_const: bool, from: usize },
+    /// the parameters of a lambda that stands in a function, whose text begins at this place
+    Lambda { from: usize },
     /// the name of a special symbol
     Special,
     /// the return type of a function type that is an element or a parameter, by itself or behind a pointer

@@ -7,14 +7,14 @@ ghost use Rattle.sym_core.specs.Number.{FitsSymbol};
 ghost use Rattle.sym_core.specs.Value.{counted_value};
 ghost use Rattle.sym_core.specs.declared.NumberKind.{NumberKind};
 ghost use Rattle.cpp_grammar.specs.Parts.{source_text};
-ghost use Rattle.cpp_direct.specs.Bytes.{is_local};
+ghost use Rattle.cpp_direct.specs.Bytes.{is_local, short_numbers};
 ghost use Rattle.cpp_direct.specs.Holes.{StandsAt, IsNameAt, IsSeqAt};
 ghost use Rattle.cpp_direct.specs.HolesOfLists.{IsSuffix};
 ghost use Rattle.cpp_direct.specs.ItemBytes.{is_suffix_byte};
 ghost use Rattle.cpp_direct.specs.Written.{Reads};
 
 use crate::direct::Direct;
-use crate::names::name_at;
+use crate::names::{is_digit, name_at};
 use crate::open::Candidate;
 use sym_core::{NumberKind, find_number, value36};
 
@@ -36,6 +36,27 @@ pub fn is_local(s: &[u8]) -> bool
         [_, _, byte, ..] => *byte == b'Z' || *byte == b'G',
         _ => false,
     }
+}
+
+/// Whether no twenty digits stand side by side in a symbol.
+#[inline(never)]
+pub fn are_numbers_short(s: &[u8]) -> bool
+    ensures { result ≡ true → short_numbers 0 s.now ≡ true }
+{
+    let mut run: usize = 0;
+    let mut at = 0;
+    'bytes: while at < s.len() {
+        if is_digit(s[at]) {
+            if run >= 19 {
+                return false;
+            }
+            run += 1;
+        } else {
+            run = 0;
+        }
+        at += 1;
+    }
+    true
 }
 
 /// Whether an encoding may end in front of a byte, which is 0 where the symbol ends.

@@ -9,6 +9,7 @@ ghost use Rattle.cpp_direct.specs.Stands.{IsWriting};
 ghost use Rattle.cpp_direct.specs.Ways.{AwaitsType, AwaitsNamedType, IsTypeNamed, AwaitsMark};
 
 use crate::direct::Direct;
+use crate::letters::is_builtin_with_d;
 use crate::open::{Open, Purpose, Step};
 use crate::tokens::byte_at;
 
@@ -42,7 +43,7 @@ impl Direct {
                 }
                 self.open_type(Open::Const { from }, Step::Plain)
             }
-            b'N' | b'S' | b'1'..=b'9' => self.named_type(s),
+            b'N' | b'S' | b'Z' | b'1'..=b'9' => self.named_type(s),
             b'D' => self.builtin_with_d(s),
             letter => self.builtin(s, letter),
         }
@@ -62,6 +63,7 @@ impl Direct {
                 self.nest_at(s, Purpose::Type)
             }
             b'S' => self.type_with_s(s),
+            b'Z' => self.begin_enclosing(s),
             _ => {
                 self.name(s)?;
                 self.type_named(s, from, false, false)
@@ -95,12 +97,12 @@ impl Direct {
         ensures { IfSome result (IsWriting s.now self.new) }
     {
         self.at = self.at.checked_add(1)?;
-        let text = cpp_layout::builtin_with_d_text(byte_at(s, self.at));
-        if text.is_empty() {
+        let letter = byte_at(s, self.at);
+        if !is_builtin_with_d(letter) {
             return None;
         }
         self.at = self.at.checked_add(1)?;
-        self.push(text)?;
+        self.push(cpp_layout::builtin_with_d_text(letter))?;
         Some(Step::Value {
             is_reference: false,
         })
@@ -186,6 +188,8 @@ impl Direct {
             Open::Front { is_const, start } => self.front_ended(s, is_const, start),
             Open::Returned { is_pointer } => self.returned(s, is_pointer),
             Open::Signature { is_pointer } => self.parameter_at(s, is_pointer, false),
+            Open::Enclosing { is_const, from } => self.enclosing_parameter(s, is_const, from),
+            Open::Lambda { from } => self.lambda_parameter(s, from),
             Open::Special => self.finish(s),
             Open::Enumerator => self.enumerator(s),
             _ => Some(Step::List { is_first: false }),

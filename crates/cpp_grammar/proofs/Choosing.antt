@@ -1,17 +1,18 @@
 -- The rule that the table has is that of the production that a kind takes.
-use Rattle.std.proofs.Common.{◌≡◌, ◌≢◌, ℕ, ◌<◌, ◌≤◌, List, [], ◌∷◌, ◌++◌, length, map, get_or, slice_get, cond, ◌&&◌, ◌||◌, leb, nat_eq, nat_le, Some, None, inl, inr, refl, ap, sym, ◌∙◌, arith}
+use Rattle.std.proofs.Common.{◌≡◌, ◌≢◌, ℕ, zero, suc, ◌+◌, ◌<◌, ◌≤◌, List, [], ◌∷◌, ◌++◌, length, map, get_or, slice_get, Bool, true, cond, ◌&&◌, ◌||◌, leb, nat_eq, nat_le, Some, None, inl, inr, refl, ap, sym, ◌∙◌, arith}
 use Rattle.std.specs.Option.{option_map}
 use Rattle.std.proofs.lemmas.List.{take_all}
 use Rattle.std.proofs.lemmas.List.Folds.{list_any-append}
 use Rattle.std.proofs.lemmas.Option.{slice_get-map, get_or_from_slice_get, slice_get_cases}
-use Rattle.std.proofs.lemmas.Bool.{le-leb, lt-leb, cases_Bool, cases_order}
+use Rattle.std.proofs.lemmas.Bool.{le-leb, lt-leb, eqb-true, and_parts, cases_Bool, cases_order}
 use Rattle.std.proofs.lemmas.Bool.Decides.{leb_tells, eqb_tells}
 use Rattle.sym_shape.specs.Sheet.{range, in_range, classes_of, choice_at}
 use Rattle.sym_shape.specs.Sheet as sheets
 use Rattle.cpp_grammar.specs.declared.kind.Kind.{Kind}
-use Rattle.cpp_grammar.specs.Grammar.{Alternative, in_ranges, among, is_in, pick, alternatives, choose, kinds, may_be_empty}
+use Rattle.cpp_grammar.specs.Grammar.{Alternative, in_ranges, among, is_in, pick, alternatives, choose, kinds, number_of_kind, may_be_empty}
 use Rattle.cpp_grammar.specs.Wide.{wide_alternatives, wide_choose}
-use Rattle.cpp_grammar.specs.Table.{rule_of, rule_taken, ranges_of, class_of, choice_of, sheet_with, blank, sheet, abi, wide_sheet, wide}
+use Rattle.cpp_grammar.specs.Either.{either_alternatives, either_choose}
+use Rattle.cpp_grammar.specs.Table.{rule_of, rule_taken, ranges_of, class_of, choice_of, sheet_with, blank, sheet, abi, wide_sheet, wide, either_sheet, either}
 
 is_above : (c byte : ℕ) → c ≤ byte → byte ≢ c → c < byte
 is_above c byte le other = elim (cases_order byte c) [ inl same ↦ absurd (other same) | inr apart ↦ elim apart [ inl below ↦ absurd (omega (arith, le, below)) | inr above ↦ above ] ]
@@ -79,6 +80,26 @@ is_kind k lt none = elim (slice_get_cases kinds k).1 [
   | inr past ↦ absurd (omega (arith, past.0, lt, kind_count))
 ]
 
+-- the kinds stand in the order of their numbers
+unfoldable pub numbered_from : ℕ → List Kind → Bool
+numbered_from n [] = true
+numbered_from n (kind ∷ rest) = nat_eq (number_of_kind kind) n && numbered_from (suc n) rest
+
+pub kinds_numbered : numbered_from 0 kinds ≡ true
+unfolding numbered_from kinds number_of_kind
+kinds_numbered = refl
+
+pub number_at : (n : ℕ) (all : List Kind) (k : ℕ) (kind : Kind) → numbered_from n all ≡ true → slice_get all k ≡ Some kind → number_of_kind kind ≡ n + k
+unfolding numbered_from
+number_at n [] k kind all at = absurd cc
+number_at n (first ∷ rest) zero kind all at =
+    let same : first ≡ kind = cc in
+    let both = and_parts (nat_eq (number_of_kind first) n) (numbered_from (suc n) rest) all in
+    omega (arith, ap number_of_kind same, eqb-true (number_of_kind first) n both.0)
+number_at n (first ∷ rest) (suc k) kind all at =
+    let both = and_parts (nat_eq (number_of_kind first) n) (numbered_from (suc n) rest) all in
+    omega (arith, number_at (suc n) rest k kind both.1 at)
+
 pub wide_rule_at : (k : ℕ) (kind : Kind) (byte : ℕ) → slice_get kinds k ≡ Some kind → wide.rule k byte ≡ rule_taken (wide_choose kind byte)
 unfolding wide wide_sheet sheet_with wide_choose
 wide_rule_at k kind byte at = ap (λ s. choice_at s.choices byte) (sheet_at wide_alternatives k kind at) ∙ picked (wide_alternatives kind) byte
@@ -95,4 +116,22 @@ pub is_wide_kind : (k : ℕ) → k < wide.kinds → slice_get kinds k ≡ None �
 is_wide_kind k lt none = elim (slice_get_cases kinds k).1 [
   | inl there ↦ (let clash : None ≡ Some there.0 = sym none ∙ there.2 in absurd cc)
   | inr past ↦ absurd (omega (arith, past.0, lt, wide_count))
+]
+
+pub either_rule_at : (k : ℕ) (kind : Kind) (byte : ℕ) → slice_get kinds k ≡ Some kind → either.rule k byte ≡ rule_taken (either_choose kind byte)
+unfolding either either_sheet sheet_with either_choose
+either_rule_at k kind byte at = ap (λ s. choice_at s.choices byte) (sheet_at either_alternatives k kind at) ∙ picked (either_alternatives kind) byte
+
+pub either_empty_at : (k : ℕ) (kind : Kind) → slice_get kinds k ≡ Some kind → either.may_be_empty k ≡ may_be_empty kind
+unfolding either either_sheet sheet_with
+either_empty_at k kind at = ap (λ s. s.may_be_empty) (sheet_at either_alternatives k kind at)
+
+either_count : either.kinds ≡ length kinds
+unfolding either either_sheet kinds
+either_count = refl
+
+pub is_either_kind : (k : ℕ) → k < either.kinds → slice_get kinds k ≡ None → ⊥
+is_either_kind k lt none = elim (slice_get_cases kinds k).1 [
+  | inl there ↦ (let clash : None ≡ Some there.0 = sym none ∙ there.2 in absurd cc)
+  | inr past ↦ absurd (omega (arith, past.0, lt, either_count))
 ]

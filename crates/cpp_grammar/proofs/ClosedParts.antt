@@ -106,6 +106,7 @@ between_goes Production.NestStd around place (v ∷ []) state n at stays pre all
 between_goes Production.NestStd around place (v ∷ w ∷ []) state n at stays pre all e =
     named_goes around at state (applied (tree_of v) w) false (w ∷ []) state n (good_applied _ (tree_of v) w (good_tree _ v all.0) (good_tree _ w all.1.0)) all.1 (grows_same around at state state refl) e
 between_goes Production.NestAbbreviated around place (v ∷ []) state n at stays pre all e = named_goes around at state (tree_of v) true [] state n (good_tree _ v all.0) tt (grows_same around at state state refl) e
+between_goes Production.NestTemplate around place (v ∷ []) state n at stays pre all e = named_goes around at state (tree_of v) true [] state n (good_tree _ v all.0) tt (grows_same around at state state refl) e
 between_goes Production.NestParameter around place (v ∷ []) state n at stays pre all e = parameter_goes around place at state (index_of v) n e
 between_goes Production.NestInternal around place (v ∷ []) state n at stays pre all e = piece_goes around at state (source true (text_of v)) n pre (good_leaf _ true (text_of v)) e
 between_goes Production.NestSource around place (v ∷ []) state n at stays pre all e = piece_goes around at state (source false (text_of v)) n pre (good_leaf _ false (text_of v)) e
@@ -117,6 +118,10 @@ between_goes Production.NestArguments around place (v ∷ w ∷ []) state n at s
     named_goes around at state t true (w ∷ []) (appended around t state) n good all.1 (grows_one around at t state good) e
 between_goes Production.NestArguments around place (v ∷ w ∷ x ∷ []) state n at stays pre all e =
     goes around at state (v ∷ w ∷ x ∷ []) (after (tree_of x) false around) state n all (grows_same around at state state refl) (fits_after around (tree_of x) false (good_tree _ x all.1.1.0)) e
+between_goes Production.NestInstance around place [] state n at stays pre all e = goes around at state [] (inside around) (with_prefix around state) n tt (with_prefix_grows around at state pre) (fits_inside around) e
+between_goes Production.NestInstance around place (v ∷ w ∷ []) state n at stays pre all e =
+    named_goes around at state (instance (prefix_tree around.prefix) (no_items v)) false (w ∷ []) state n
+    (good_instance (Bare around) _ _ (good_prefix (Bare around) around.prefix pre) (good_no_items (Bare around) v (good_tree _ v all.0))) all.1 (grows_same around at state state refl) e
 between_goes Production.NestNext around place [] state n at stays pre all e =
     goes around at state [] (after (prefix_tree around.prefix) true around) (with_prefix around state) n tt (with_prefix_grows around at state pre)
     (fits_after around (prefix_tree around.prefix) true (good_prefix (Bare around) around.prefix pre)) e

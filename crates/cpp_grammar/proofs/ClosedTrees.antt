@@ -1,6 +1,6 @@
 -- In the tree of a symbol the arguments that are a scope have no free parameters.
-use Rattle.std.proofs.Common.{◌≡◌, refl, ap, sym, ◌∙◌, subst, ℕ, zero, suc, ◌+◌, ◌-◌, ◌<◌, ◌≤◌, List, [], ◌∷◌, ◌++◌, length, Bool, true, false, not, ◌&&◌, ◌||◌, cond, ◌^◌, nat_eq, nat_lt, slice_get, Option, Some, None, Result, Ok, Err, inl, inr, lit≤, arith}
-use Rattle.std.proofs.lemmas.Bool.{true≢false, false≢true, eqb-true, cases_Bool, and_parts}
+use Rattle.std.proofs.Common.{◌≡◌, refl, ap, sym, ◌∙◌, subst, ℕ, suc, ◌+◌, ◌-◌, ◌<◌, ◌≤◌, List, [], ◌∷◌, ◌++◌, length, Bool, true, false, not, ◌&&◌, ◌||◌, cond, ◌^◌, nat_eq, nat_lt, slice_get, Option, Some, None, Result, Ok, Err, inl, inr, lit≤, arith}
+use Rattle.std.proofs.lemmas.Bool.{true≢false, false≢true, cases_Bool}
 use Rattle.std.proofs.lemmas.List.{length-append}
 use Rattle.sym_core.specs.declared.refusal.Refusal.{Refusal}
 use Rattle.sym_core.specs.declared.refusal.Refusal.TheVariants.{BadValue}
@@ -10,16 +10,17 @@ use Rattle.sym_shape.specs.declared.rule.Sym.TheVariants.{Kind as OfKind, Byte}
 use Rattle.sym_shape.specs.Table.{symbols_of}
 use Rattle.sym_shape.specs.Law.{IsSymbol, AreSymbols}
 use Rattle.sym_shape.specs.Tree.{Tree, Forest, branch, empty, token, fixed, nothing, grown, spell, spell_all, TakesRule, IsTree, AreTrees}
-use Rattle.sym_shape.proofs.Firsts.{branch_filled, taken_eats}
+use Rattle.sym_shape.proofs.Firsts.{taken_eats}
 use Rattle.sym_link.specs.Reading.{Found, Open, Next, ◌>>=◌}
 use Rattle.sym_link.specs.Unfold.{found, alone, standing, unfold_tree, unfold_forest}
 use Rattle.cpp_grammar.specs.declared.kind.Kind.{Kind}
 use Rattle.cpp_grammar.specs.declared.production.Production.{Production}
-use Rattle.cpp_grammar.specs.KindNumbers.{SYMBOL, SPECIAL, COMPLETE_NAME, ITEMS}
+use Rattle.cpp_grammar.specs.KindNumbers.{KIND_COUNT, SYMBOL, SPECIAL, COMPLETE_NAME, ITEMS}
 use Rattle.cpp_grammar.specs.Grammar.{Alternative, is_in, pick, kinds, productions, number_of, number_of_kind, parts_of, is_chain}
-use Rattle.cpp_grammar.specs.Wide.{wide_alternatives, wide_choose}
-use Rattle.cpp_grammar.specs.Table.{wide, wide_sheet, rule_of, rule_taken, padded}
-use Rattle.cpp_grammar.specs.TableLaws.{wide_lawful}
+use Rattle.cpp_grammar.specs.Wide.{wide_alternatives}
+use Rattle.cpp_grammar.specs.Either.{either_alternatives, either_choose}
+use Rattle.cpp_grammar.specs.Table.{either, either_sheet, rule_of, rule_taken, padded}
+use Rattle.cpp_grammar.proofs.Widening.{either_sound}
 use Rattle.cpp_grammar.specs.Term.{Term}
 use Rattle.cpp_grammar.specs.Scope.{is_open}
 use Rattle.cpp_grammar.specs.Closed.{ScopesAreClosed}
@@ -28,7 +29,7 @@ use Rattle.cpp_grammar.specs.Between.{in_name, in_types, no_items, between}
 use Rattle.cpp_grammar.specs.Meaning.{meaning}
 use Rattle.cpp_grammar.specs.Unfolding as unfolding_
 use Rattle.cpp_grammar.specs.Unfolding.{last_token, number_tested, opening, close, production_at, byte_of, cpp, first_around, first_state, first_tree, unfold_cpp}
-use Rattle.cpp_grammar.proofs.Choosing.{wide_rule_at, is_wide_kind}
+use Rattle.cpp_grammar.proofs.Choosing.{kinds_numbered, number_at, either_rule_at, is_either_kind}
 use Rattle.cpp_grammar.proofs.ClosedValues.{Good, AllGood, GoodPrefix, HasClosedName, held, good_tree, good_encoding, good_no_items}
 use Rattle.cpp_grammar.proofs.ClosedStates.{Bare, AllOld, AllNew, Grows, old_later, grows_same, grows_then, old_grows, ok_same, behind_bind, close_good}
 use Rattle.cpp_grammar.proofs.ClosedParts.{Fits, StaysInside, between_goes}
@@ -81,8 +82,8 @@ unfoldable may_open : List Alternative → Bool
 may_open [] = false
 may_open (a ∷ rest) = opens a.production || may_open rest
 
-only_encodings : (kind : Kind) → nat_eq (number_of_kind kind) 4 || not (may_open (wide_alternatives kind)) ≡ true
-unfolding number_of_kind wide_alternatives may_open opens
+only_encodings : (kind : Kind) → nat_eq (number_of_kind kind) 4 || not (may_open (either_alternatives kind)) ≡ true
+unfolding number_of_kind wide_alternatives either_alternatives may_open opens
 only_encodings Kind.Symbol = refl
 only_encodings _ = refl
 
@@ -99,29 +100,9 @@ picked_opens (a ∷ rest) byte p e h = go (is_in a byte) e (λ i. picked_opens r
     go true i later = let same : a.production ≡ p = cc in ap (λ q. opens q || may_open rest) same ∙ ap (λ b. b || may_open rest) h
     go false i later = or_true (opens a.production) (may_open rest) (later i)
 
--- the kinds stand in the order of their numbers
-unfoldable pub numbered_from : ℕ → List Kind → Bool
-numbered_from n [] = true
-numbered_from n (kind ∷ rest) = nat_eq (number_of_kind kind) n && numbered_from (suc n) rest
-
-pub kinds_numbered : numbered_from 0 kinds ≡ true
-unfolding numbered_from kinds number_of_kind
-kinds_numbered = refl
-
-pub number_at : (n : ℕ) (all : List Kind) (k : ℕ) (kind : Kind) → numbered_from n all ≡ true → slice_get all k ≡ Some kind → number_of_kind kind ≡ n + k
-unfolding numbered_from
-number_at n [] k kind all at = absurd cc
-number_at n (first ∷ rest) zero kind all at =
-    let same : first ≡ kind = cc in
-    let both = and_parts (nat_eq (number_of_kind first) n) (numbered_from (suc n) rest) all in
-    omega (arith, ap number_of_kind same, eqb-true (number_of_kind first) n both.0)
-number_at n (first ∷ rest) (suc k) kind all at =
-    let both = and_parts (nat_eq (number_of_kind first) n) (numbered_from (suc n) rest) all in
-    omega (arith, number_at (suc n) rest k kind both.1 at)
-
-opens_in : (kind : Kind) (byte : ℕ) (p : Production) → wide_choose kind byte ≡ Some p → opens p ≡ true → nat_eq (number_of_kind kind) 4 ≡ true
-unfolding wide_choose
-opens_in kind byte p e h = go (nat_eq (number_of_kind kind) 4) (may_open (wide_alternatives kind)) (picked_opens (wide_alternatives kind) byte p e h) (only_encodings kind)
+opens_in : (kind : Kind) (byte : ℕ) (p : Production) → either_choose kind byte ≡ Some p → opens p ≡ true → nat_eq (number_of_kind kind) 4 ≡ true
+unfolding either_choose
+opens_in kind byte p e h = go (nat_eq (number_of_kind kind) 4) (may_open (either_alternatives kind)) (picked_opens (either_alternatives kind) byte p e h) (only_encodings kind)
   where
     go : (a b : Bool) → b ≡ true → a || not b ≡ true → a ≡ true
     go true b h k = refl
@@ -137,11 +118,11 @@ pub record Taken (k : ℕ) (rule : Rule) : Type 0 where
 pub same_rule : (p : Production) (rule : Rule) → ◌≡◌ {A = Option Rule} (Some (rule_of p)) (Some rule) → rule_of p ≡ rule
 same_rule p rule h = cc
 
-pub taken_rule : (k : ℕ) (rule : Rule) (taken : List ℕ) → k < wide.kinds → TakesRule wide k rule taken → Taken k rule
+pub taken_rule : (k : ℕ) (rule : Rule) (taken : List ℕ) → k < either.kinds → TakesRule either k rule taken → Taken k rule
 unfolding rule_taken
 taken_rule k rule taken lt takes = go (slice_get kinds k) refl
   where
-    chosen : (kind : Kind) → slice_get kinds k ≡ Some kind → (o : Option Production) → wide_choose kind takes.byte ≡ o → rule_taken o ≡ Some rule → Taken k rule
+    chosen : (kind : Kind) → slice_get kinds k ≡ Some kind → (o : Option Production) → either_choose kind takes.byte ≡ o → rule_taken o ≡ Some rule → Taken k rule
     chosen kind at None is h = let clash : ◌≡◌ {A = Option Rule} None (Some rule) = h in absurd cc
     chosen kind at (Some p) is h = record {
       production = p;
@@ -152,8 +133,8 @@ taken_rule k rule taken lt takes = go (slice_get kinds k) refl
     }
 
     go : (o : Option Kind) → slice_get kinds k ≡ o → Taken k rule
-    go None none = absurd (is_wide_kind k lt none)
-    go (Some kind) at = chosen kind at (wide_choose kind takes.byte) refl (sym (wide_rule_at k kind takes.byte at) ∙ takes.found)
+    go None none = absurd (is_either_kind k lt none)
+    go (Some kind) at = chosen kind at (either_choose kind takes.byte) refl (sym (either_rule_at k kind takes.byte at) ∙ takes.found)
 
 -- ## What a part comes to
 
@@ -247,7 +228,7 @@ one_good s v vs is good = subst (λ ws. AllGood s ws) (sym is) (good, tt)
 -- ## Trees
 
 abbrev pub TreeGood : Tree → Type 0
-TreeGood t = (x : Sym) (around : Around) (at : ℕ) (state : State) (r : Found (List Value) State) → IsSymbol wide x → IsTree wide x t → around.encoding ≤ at →
+TreeGood t = (x : Sym) (around : Around) (at : ℕ) (state : State) (r : Found (List Value) State) → IsSymbol either x → IsTree either x t → around.encoding ≤ at →
     (is_encoding x ≡ true → around.encoding < at) → GoodPrefix (Bare around) around.prefix → AllOld around at state.candidates → unfold_tree cpp around at t state ≡ Ok r →
     TreeComes around (at + length (spell t)) state r
 
@@ -264,7 +245,7 @@ pub grows_on : (around : Around) (a b : ℕ) (old new : State) → a ≤ b → G
 grows_on around a b old new le g = grows_then around a b old new new le g (grows_same around b new new refl)
 
 pub forest_good : (f : Forest) → AllTreesGood f → (rule : Open State Around) (xs : List Sym) (vs : List Value) (at : ℕ) (state : State) (r : Found (List Value) State) →
-    StaysInside (production_at rule.rule.number) → AreSymbols wide xs → AreTrees wide xs f → rule.context.encoding ≤ at → (has_encoding xs ≡ true → rule.context.encoding < at) →
+    StaysInside (production_at rule.rule.number) → AreSymbols either xs → AreTrees either xs f → rule.context.encoding ≤ at → (has_encoding xs ≡ true → rule.context.encoding < at) →
     GoodPrefix (Bare rule.context) rule.context.prefix → AllGood (Bare rule.context) vs → AllOld rule.context at state.candidates → unfold_forest cpp rule vs at f state ≡ Ok r →
     ForestComes rule.context (at + length (spell_all f)) state r
 unfolding cpp has_encoding
@@ -307,15 +288,15 @@ pub record InnerComes (production : Production) (around : Around) (end : ℕ) (o
   pub means : (byte : ℕ) → Good (Bare around) (held (meaning production byte around r.value))
   pub grows : Grows around end old r.state
 
-kind_count : wide.kinds ≡ 66
-unfolding wide wide_sheet kinds
+kind_count : either.kinds ≡ KIND_COUNT
+unfolding either either_sheet kinds
 kind_count = refl
 
-pub known : (k : ℕ) → suc k ≤ 66 → k < wide.kinds
+pub known : (k : ℕ) → suc k ≤ KIND_COUNT → k < either.kinds
 known k lt = omega (arith, lt, kind_count)
 
 -- one part of an encoding, in which nothing is named
-pub name_comes : (t : Tree) → TreeGood t → (x : Sym) (at from : ℕ) (state : State) (part : Found (List Value) State) → IsSymbol wide x → IsTree wide x t → is_encoding x ≡ false → at ≤ from → AllOld (in_name at) from state.candidates →
+pub name_comes : (t : Tree) → TreeGood t → (x : Sym) (at from : ℕ) (state : State) (part : Found (List Value) State) → IsSymbol either x → IsTree either x t → is_encoding x ≡ false → at ≤ from → AllOld (in_name at) from state.candidates →
     unfold_tree cpp (in_name at) from t state ≡ Ok part → TreeComes (in_name at) (from + length (spell t)) state part
 unfolding in_name
 name_comes t good x at from state part known is other le old e =
@@ -350,7 +331,7 @@ unfolding in_name
 always s at t good = record { closed = λ h. good.closed refl; scopes = good.scopes }
 
 special_comes : (f : Forest) → AllTreesGood f → (rule : Open State Around) (from : ℕ) (state : State) (r : Found (List Value) State) → production_at rule.rule.number ≡ Production.Special →
-    AreTrees wide (parts_of Production.Special) f → rule.context.encoding < rule.place → rule.place ≤ from → rule.place < from + length (spell_all f) → AllOld rule.context rule.place state.candidates →
+    AreTrees either (parts_of Production.Special) f → rule.context.encoding < rule.place → rule.place ≤ from → rule.place < from + length (spell_all f) → AllOld rule.context rule.place state.candidates →
     unfold_forest cpp rule [] from f state ≡ Ok r → InnerComes Production.Special rule.context (from + length (spell_all f)) state r
 unfolding cpp parts_of number_of_kind between meaning held is_encoding nameless part in_name
 special_comes (grown t nothing) all rule from state r is trees lt le more old e =
@@ -370,7 +351,7 @@ special_comes nothing all rule from state r is trees lt le more old e = absurd t
 special_comes (grown t (grown u f)) all rule from state r is trees lt le more old e = absurd trees.1
 
 guard_comes : (f : Forest) → AllTreesGood f → (rule : Open State Around) (from : ℕ) (state : State) (r : Found (List Value) State) → production_at rule.rule.number ≡ Production.Guard →
-    AreTrees wide (parts_of Production.Guard) f → rule.context.encoding < rule.place → rule.place ≤ from → rule.place < from + length (spell_all f) → AllOld rule.context rule.place state.candidates →
+    AreTrees either (parts_of Production.Guard) f → rule.context.encoding < rule.place → rule.place ≤ from → rule.place < from + length (spell_all f) → AllOld rule.context rule.place state.candidates →
     unfold_forest cpp rule [] from f state ≡ Ok r → InnerComes Production.Guard rule.context (from + length (spell_all f)) state r
 unfolding cpp parts_of number_of_kind between meaning held is_encoding nameless part in_name is_open
 guard_comes (grown t (grown u nothing)) all rule from state r is trees lt le more old e =
@@ -400,7 +381,7 @@ guard_comes (grown t nothing) all rule from state r is trees lt le more old e = 
 guard_comes (grown t (grown u (grown v f))) all rule from state r is trees lt le more old e = absurd trees.1.1
 
 encoding_comes : (f : Forest) → AllTreesGood f → (rule : Open State Around) (from : ℕ) (state : State) (r : Found (List Value) State) → production_at rule.rule.number ≡ Production.Encoding →
-    AreTrees wide (parts_of Production.Encoding) f → rule.context.encoding < rule.place → rule.place ≤ from → rule.place < from + length (spell_all f) → AllOld rule.context rule.place state.candidates →
+    AreTrees either (parts_of Production.Encoding) f → rule.context.encoding < rule.place → rule.place ≤ from → rule.place < from + length (spell_all f) → AllOld rule.context rule.place state.candidates →
     unfold_forest cpp rule [] from f state ≡ Ok r → InnerComes Production.Encoding rule.context (from + length (spell_all f)) state r
 unfolding cpp parts_of number_of_kind between meaning held is_encoding nameless part in_name in_types
 encoding_comes (grown t (grown u nothing)) all rule from state r is trees lt le more old e =
@@ -451,7 +432,7 @@ inner_closes Production.Mark o byte around place began vs state one e = absurd (
 inner_closes _ o byte around place began vs state one e = absurd (false≢true o)
 
 pub inner_comes : (p : Production) → opens p ≡ true → (f : Forest) → AllTreesGood f → (rule : Open State Around) (from : ℕ) (state : State) (r : Found (List Value) State) → production_at rule.rule.number ≡ p →
-    AreTrees wide (parts_of p) f → rule.context.encoding < rule.place → rule.place ≤ from → rule.place < from + length (spell_all f) → AllOld rule.context rule.place state.candidates →
+    AreTrees either (parts_of p) f → rule.context.encoding < rule.place → rule.place ≤ from → rule.place < from + length (spell_all f) → AllOld rule.context rule.place state.candidates →
     unfold_forest cpp rule [] from f state ≡ Ok r → InnerComes p rule.context (from + length (spell_all f)) state r
 unfolding opens
 inner_comes Production.Encoding o = encoding_comes
@@ -461,7 +442,7 @@ inner_comes Production.Mark o = absurd (false≢true o)
 inner_comes _ o = absurd (false≢true o)
 
 -- where an encoding is among the symbols of a rule, the rule takes a byte
-pub takes_byte : (p : Production) (rule : Rule) (k : ℕ) (taken : List ℕ) → rule ≡ rule_of p → TakesRule wide k rule taken → has_encoding (symbols_of rule) ≡ true → 0 < length taken
+pub takes_byte : (p : Production) (rule : Rule) (k : ℕ) (taken : List ℕ) → rule ≡ rule_of p → TakesRule either k rule taken → has_encoding (symbols_of rule) ≡ true → 0 < length taken
 unfolding rule_of
 takes_byte p rule k taken is takes has = go (is_chain p) refl (behind_a_byte p)
   where
@@ -470,14 +451,14 @@ takes_byte p rule k taken is takes has = go (is_chain p) refl (behind_a_byte p)
 
     go : (chains : Bool) → is_chain p ≡ chains → chains && has_encoding (parts_of p) ≡ false → 0 < length taken
     go true e none = absurd (true≢false (sym there ∙ none))
-    go false e none = omega (arith, ap length (taken_eats wide k rule taken takes (ap (λ x. x.eats) is ∙ ap not e)))
+    go false e none = omega (arith, ap length (taken_eats either k rule taken takes (ap (λ x. x.eats) is ∙ ap not e)))
 
 -- a rule that stands
 abbrev pub Whole : Rule → List ℕ → ℕ → Around → State → Open State Around
 Whole rule taken at around state = standing rule taken at around state
 
 pub plain_comes : (k : ℕ) (rule : Rule) (taken : List ℕ) (parts : Forest) → AllTreesGood parts → (p : Production) → rule ≡ rule_of p → opens p ≡ false → (around : Around) (at : ℕ) (state : State)
-    (inner : Found (List Value) State) (one : Found Value State) → k < wide.kinds → IsTree wide (OfKind k) (branch rule taken parts) → around.encoding ≤ at → GoodPrefix (Bare around) around.prefix →
+    (inner : Found (List Value) State) (one : Found Value State) → k < either.kinds → IsTree either (OfKind k) (branch rule taken parts) → around.encoding ≤ at → GoodPrefix (Bare around) around.prefix →
     AllOld around at state.candidates → unfold_forest cpp (Whole rule taken at around state) [] (at + length taken) parts state ≡ Ok inner →
     close (production_at rule.number) (byte_of taken) around at state inner.value inner.state ≡ Ok one → TreeComes around (at + length (taken ++ spell_all parts)) state (found (one.value ∷ []) one.state)
 plain_comes k rule taken parts all p is plain around at state inner one lt tree le pre old e f =
@@ -485,7 +466,7 @@ plain_comes k rule taken parts all p is plain around at state inner one lt tree 
     let inside_ : StaysInside (production_at rule.number) = subst (λ q. StaysInside q) (sym number) (stays p plain) in
     let from = at + length taken in
     let end = at + length (taken ++ spell_all parts) in
-    let symbols = (wide_lawful.rule k tree.0.byte rule lt tree.0.is_byte tree.0.found).symbols in
+    let symbols = either_sound.symbols k tree.0.byte rule lt tree.0.is_byte tree.0.found in
     let forest = forest_good parts all (Whole rule taken at around state) (symbols_of rule) [] from state inner inside_ symbols tree.1 (omega (arith, le))
     (λ has. omega (arith, le, takes_byte p rule k taken is tree.0 has)) pre tt (old_later around at from state.candidates (omega arith) old) e in
     let grown1 = grows_on around (from + length (spell_all parts)) end state inner.state (omega (arith, length-append taken (spell_all parts))) forest.grows in
@@ -494,15 +475,15 @@ plain_comes k rule taken parts all p is plain around at state inner one lt tree 
     record { value = one.value; is = refl; good = comes.good; grows = grows_then around end end state inner.state one.state (omega arith) grown1 comes.grows }
 
 pub encoded_comes : (k : ℕ) (rule : Rule) (taken : List ℕ) (parts : Forest) → AllTreesGood parts → (p : Production) → rule ≡ rule_of p → opens p ≡ true → (around : Around) (at : ℕ) (state : State)
-    (inner : Found (List Value) State) (one : Found Value State) → k < wide.kinds → IsTree wide (OfKind k) (branch rule taken parts) → around.encoding < at →
+    (inner : Found (List Value) State) (one : Found Value State) → k < either.kinds → IsTree either (OfKind k) (branch rule taken parts) → around.encoding < at →
     AllOld around at state.candidates → unfold_forest cpp (Whole rule taken at around state) [] (at + length taken) parts state ≡ Ok inner →
     close (production_at rule.number) (byte_of taken) around at state inner.value inner.state ≡ Ok one → TreeComes around (at + length (taken ++ spell_all parts)) state (found (one.value ∷ []) one.state)
 encoded_comes k rule taken parts all p is opening around at state inner one lt tree less old e f =
     let number : production_at rule.number ≡ p = ap (λ x. production_at x.number) is ∙ at_number p in
     let from = at + length taken in
     let end = at + length (taken ++ spell_all parts) in
-    let full = filled (taken ++ spell_all parts) (branch_filled wide wide_lawful k rule taken parts lt tree) in
-    let trees = subst (λ xs. AreTrees wide xs parts) (ap symbols_of is ∙ its_symbols p) tree.1 in
+    let full = filled (taken ++ spell_all parts) (either_sound.filled k rule taken parts lt tree) in
+    let trees = subst (λ xs. AreTrees either xs parts) (ap symbols_of is ∙ its_symbols p) tree.1 in
     let comes = inner_comes p opening parts all (Whole rule taken at around state) from state inner number trees less (omega arith)
     (omega (arith, full, length-append taken (spell_all parts))) old e in
     let closed : close p (byte_of taken) around at state inner.value inner.state ≡ Ok one =
@@ -559,7 +540,7 @@ unfolding first_tree
 first_good v vs is good = subst (λ ws. ScopesAreClosed (first_tree ws)) (sym is) good
 
 -- In the tree that a symbol stands for the arguments that are a scope have no free parameters.
-pub scopes_are_closed : (shape : Tree) (t : Term) → IsTree wide (OfKind SYMBOL) shape → unfold_cpp shape ≡ Ok t → ScopesAreClosed t
+pub scopes_are_closed : (shape : Tree) (t : Term) → IsTree either (OfKind SYMBOL) shape → unfold_cpp shape ≡ Ok t → ScopesAreClosed t
 unfolding unfold_cpp first_around first_state first_tree is_encoding
 scopes_are_closed shape t is e =
     let whole = behind_bind (unfold_tree cpp first_around 0 shape first_state) (λ whole. Ok (first_tree whole.value)) t e in

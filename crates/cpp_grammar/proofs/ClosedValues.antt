@@ -197,6 +197,9 @@ meaning_good s Production.Guard byte around vs pre all name = let g = good_part 
 meaning_good s Production.Encoding byte around vs pre all name =
     good_encoding s (part vs 0) (no_items (part vs 1)) name (good_part s vs 0 all).scopes (good_no_items s (part vs 1) (good_part s vs 1 all)).scopes
 meaning_good s Production.SpecialType byte around vs pre all name = let g = good_part s vs 0 all in record { closed = λ h. refl; scopes = g.scopes }
+meaning_good s Production.SpecialName byte around vs pre all name = let g = good_part s vs 0 all in record { closed = λ h. refl; scopes = g.scopes }
+meaning_good s Production.ConstructionVtable byte around vs pre all name =
+    let g = good_part s vs 0 all in let b = good_part s vs 3 all in record { closed = λ h. refl; scopes = (g.scopes, b.scopes) }
 meaning_good s Production.NonVirtualThunk byte around vs pre all name = let g = good_part s vs 2 all in record { closed = λ h. refl; scopes = g.scopes }
 meaning_good s Production.VirtualThunk byte around vs pre all name = let g = good_part s vs 4 all in record { closed = λ h. refl; scopes = g.scopes }
 meaning_good s Production.CovariantThunk byte around vs pre all name = let g = good_part s vs 2 all in record { closed = λ h. refl; scopes = g.scopes }
@@ -221,7 +224,9 @@ meaning_good s Production.NestLocalType byte around vs pre all name = good_held 
 meaning_good s Production.NestSource byte around vs pre all name = good_held s vs 1 all
 meaning_good s Production.NestStd byte around vs pre all name = good_held s vs 2 all
 meaning_good s Production.NestAbbreviated byte around vs pre all name = good_held s vs 1 all
+meaning_good s Production.NestTemplate byte around vs pre all name = good_held s vs 1 all
 meaning_good s Production.NestArguments byte around vs pre all name = good_held s vs 3 all
+meaning_good s Production.NestInstance byte around vs pre all name = good_held s vs 2 all
 meaning_good s Production.NestNext byte around vs pre all name = good_held s vs 1 all
 meaning_good s Production.NestEnd byte around vs pre all name = good_prefix s around.prefix pre
 meaning_good s Production.StringLiteral byte around vs pre all name = good_extended s around.prefix string_literal pre (record { closed = λ h. refl; scopes = tt })

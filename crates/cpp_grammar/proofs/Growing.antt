@@ -1,5 +1,6 @@
--- Each tree of the earlier grammar is one of the grammar, and each of the grammar one of the wide one.
-use Rattle.std.proofs.Common.{◌≡◌, ℕ, zero, suc, ◌<◌, List, [], ◌∷◌, map, get_or, slice_get, Bool, true, false, ◌&&◌, nat_eq, Option, Some, None, inl, inr, refl, ap, sym, ◌∙◌, subst, arith}
+-- Each tree of the earlier grammar is one of the grammar, and each of the grammar and of the wide one is one of the table of both.
+use Rattle.std.proofs.Common.{◌≡◌, ℕ, zero, suc, ◌<◌, List, [], ◌∷◌, map, get_or, slice_get, Bool, true, false, not, cond, ◌&&◌, ◌||◌, nat_eq, Option, Some, None, inl, inr, refl, ap, sym, ◌∙◌, subst, lit≤, arith}
+use Rattle.std.specs.Prelude.{◌⊎◌}
 use Rattle.std.proofs.lemmas.Bool.{eqb-true, and_parts, false≢true, cases_lt}
 use Rattle.std.proofs.lemmas.Option.{slice_get_cases, slice_get-map, unwrap_or-slice_get}
 use Rattle.std.specs.Option.{option_map, unwrap_or}
@@ -12,42 +13,55 @@ use Rattle.sym_shape.specs.Tree.{Tree, Forest, branch, empty, token, fixed, noth
 use Rattle.sym_core.specs.declared.NameClass.TheVariants.{Cpp}
 use Rattle.cpp_grammar.specs.declared.kind.Kind.{Kind}
 use Rattle.cpp_grammar.specs.declared.production.Production.{Production}
-use Rattle.cpp_grammar.specs.Grammar.{Alternative, in_ranges, among, is_in, pick, alternatives, kinds, productions, number_of}
+use Rattle.cpp_grammar.specs.Grammar.{Alternative, in_ranges, among, is_in, pick, alternatives, kinds, productions, number_of, is_chain}
 use Rattle.cpp_grammar.specs.Before.{alternatives_before}
 use Rattle.cpp_grammar.specs.Wide.{wide_alternatives}
-use Rattle.cpp_grammar.specs.Table.{rule_taken, sheet_with, sheet, blank, abi, sheet_before, abi_before, wide_sheet, wide}
+use Rattle.cpp_grammar.specs.Either.{either_alternatives}
+use Rattle.cpp_grammar.specs.Table.{rule_of, rule_taken, sheet_with, sheet, blank, abi, sheet_before, abi_before, wide_sheet, wide, either_sheet, either}
 use Rattle.cpp_grammar.proofs.Choosing.{sheet_at, picked}
 
 -- the later choice is the earlier one
-unfoldable same_choice : Option Production → Option Production → Bool
+unfoldable pub same_choice : (earlier later : Option Production) → Bool
 same_choice None later = true
 same_choice (Some p) None = false
 same_choice (Some p) (Some q) = nat_eq (number_of p) (number_of q)
 
-unfoldable each_below : ℕ → (ℕ → Bool) → Bool
+unfoldable pub each_below : ℕ → (ℕ → Bool) → Bool
 each_below zero p = true
 each_below (suc n) p = p n && each_below n p
 
--- what is chosen among some alternatives is chosen among the later ones too
+-- what takes no byte is the same at each
+unfoldable takes_no_byte : Option Production → Bool
+takes_no_byte None = false
+takes_no_byte (Some p) = is_chain p
+
+-- what is chosen among some alternatives is chosen among the later ones too, at the same byte, or where it takes none at the one that no
+-- symbol has
 unfoldable keeps_choices : (earlier later : List Alternative) → Bool
-keeps_choices earlier later = each_below 256 (λ b. same_choice (pick earlier b) (pick later b))
+keeps_choices earlier later =
+    each_below 256 (λ b. same_choice (pick earlier b) (pick later b) || (takes_no_byte (pick earlier b) && same_choice (pick earlier b) (pick later 33)))
 
 before_kept : (kind : Kind) → keeps_choices (alternatives_before kind) (alternatives kind) ≡ true
-unfolding in_ranges among is_in pick alternatives number_of alternatives_before same_choice each_below keeps_choices
+unfolding in_ranges among is_in pick alternatives number_of alternatives_before same_choice each_below takes_no_byte is_chain keeps_choices
 before_kept Kind.Symbol = refl
 before_kept _ = refl
 
-abi_kept : (kind : Kind) → keeps_choices (alternatives kind) (wide_alternatives kind) ≡ true
-unfolding in_ranges among is_in pick alternatives number_of wide_alternatives same_choice each_below keeps_choices
+abi_kept : (kind : Kind) → keeps_choices (alternatives kind) (either_alternatives kind) ≡ true
+unfolding in_ranges among is_in pick alternatives number_of wide_alternatives either_alternatives same_choice each_below takes_no_byte is_chain keeps_choices
 abi_kept Kind.Symbol = refl
 abi_kept _ = refl
+
+wide_kept : (kind : Kind) → keeps_choices (wide_alternatives kind) (either_alternatives kind) ≡ true
+unfolding in_ranges among is_in pick number_of wide_alternatives either_alternatives same_choice each_below takes_no_byte is_chain keeps_choices
+wide_kept Kind.Symbol = refl
+wide_kept _ = refl
 
 numbered : (p : Production) → slice_get productions (number_of p) ≡ Some p
 unfolding productions number_of
 numbered Production.Mark = refl
 numbered _ = refl
 
-below : (n : ℕ) (p : ℕ → Bool) (b : ℕ) → each_below n p ≡ true → b < n → p b ≡ true
+pub below : (n : ℕ) (p : ℕ → Bool) (b : ℕ) → each_below n p ≡ true → b < n → p b ≡ true
 unfolding each_below
 below zero p b each lt = absurd (omega (arith, lt))
 below (suc n) p b each lt =
@@ -57,20 +71,36 @@ below (suc n) p b each lt =
       | inr at ↦ subst (λ k. p k ≡ true) (omega (arith, at, lt)) both.0
     ]
 
-kept : (earlier later : Option Production) (p : Production) → same_choice earlier later ≡ true → earlier ≡ Some p → later ≡ Some p
+-- productions with one number are one
+pub same_production : (p q : Production) → nat_eq (number_of p) (number_of q) ≡ true → p ≡ q
+same_production p q same = same_some p q (sym (numbered p) ∙ ap (slice_get productions) (eqb-true (number_of p) (number_of q) same) ∙ numbered q)
+  where
+    same_some : (p q : Production) → ◌≡◌ {A = Option Production} (Some p) (Some q) → p ≡ q
+    same_some p q h = cc
+
+pub kept : (earlier later : Option Production) (p : Production) → same_choice earlier later ≡ true → earlier ≡ Some p → later ≡ Some p
 unfolding same_choice
 kept None later p same is = absurd cc
 kept (Some q) None p same is = absurd (false≢true same)
-kept (Some q) (Some r) p same is = sym (numbered r) ∙ ap (slice_get productions) (sym (eqb-true (number_of q) (number_of r) same)) ∙ numbered q ∙ is
+kept (Some q) (Some r) p same is = ap Some (sym (same_production q r same)) ∙ is
 
-kept_rule : (was now : List Alternative) (byte : ℕ) (rule : Rule) → keeps_choices was now ≡ true → byte < 256 → rule_taken (pick was byte) ≡ Some rule → rule_taken (pick now byte) ≡ Some rule
-unfolding keeps_choices rule_taken
-kept_rule was now byte rule each lt is = go (pick was byte) refl is
-  where
-    go : (earlier : Option Production) → pick was byte ≡ earlier → rule_taken earlier ≡ Some rule → rule_taken (pick now byte) ≡ Some rule
-    go None at is = let clash : None ≡ Some rule = is in absurd cc
-    go (Some p) at is =
-        ap rule_taken (kept (pick was byte) (pick now byte) p (below 256 (λ b. same_choice (pick was b) (pick now b)) byte each lt) at) ∙ is
+or_parts : (a b : Bool) → a || b ≡ true → (a ≡ true) ⊎ (b ≡ true)
+or_parts true b h = inl refl
+or_parts false b h = inr h
+
+abbrev Kept : (later : List Alternative) (byte : ℕ) (p : Production) → Type 0
+Kept later byte p = (pick later byte ≡ Some p) ⊎ ((is_chain p ≡ true) × (pick later 33 ≡ Some p))
+
+kept_choice : (earlier later : List Alternative) (byte : ℕ) (p : Production) → keeps_choices earlier later ≡ true → byte < 256 → pick earlier byte ≡ Some p → Kept later byte p
+unfolding keeps_choices takes_no_byte
+kept_choice earlier later byte p each lt at =
+    let here = below 256 (λ b. same_choice (pick earlier b) (pick later b) || (takes_no_byte (pick earlier b) && same_choice (pick earlier b) (pick later 33))) byte each lt in
+    elim (or_parts (same_choice (pick earlier byte) (pick later byte)) (takes_no_byte (pick earlier byte) && same_choice (pick earlier byte) (pick later 33)) here) [
+      | inl same ↦ inl (kept (pick earlier byte) (pick later byte) p same at)
+      | inr apart ↦ (
+          let both = and_parts (takes_no_byte (pick earlier byte)) (same_choice (pick earlier byte) (pick later 33)) apart in
+          inr (sym (ap takes_no_byte at) ∙ both.0, kept (pick earlier byte) (pick later 33) p both.1 at))
+    ]
 
 -- the table of some alternatives
 abbrev table_with : (Kind → List Alternative) → Table
@@ -98,22 +128,42 @@ full_past begins k past = ap (λ s. s.may_be_empty) (past_kinds begins k past)
 abbrev Keeps : (was now : Kind → List Alternative) → Type 0
 Keeps was now = (kind : Kind) → keeps_choices (was kind) (now kind) ≡ true
 
-table_keeps : (was now : Kind → List Alternative) (k byte : ℕ) (rule : Rule) → Keeps was now → byte < 256 → (table_with was).rule k byte ≡ Some rule → (table_with now).rule k byte ≡ Some rule
-table_keeps was now k byte rule each lt found = elim (slice_get_cases kinds k).1 [
-  | inl there ↦
-      rule_with now k there.0 byte there.2 ∙ kept_rule (was there.0) (now there.0) byte rule (each there.0) lt (sym (rule_with was k there.0 byte there.2) ∙ found)
-  | inr past ↦ (let clash : None ≡ Some rule = sym (none_past was k byte past.1) ∙ found in absurd cc)
-]
-
-empty_keeps : (was now : Kind → List Alternative) (k : ℕ) → (table_with was).may_be_empty k ≡ true → (table_with now).may_be_empty k ≡ true
+pub empty_keeps : (was now : Kind → List Alternative) (k : ℕ) → (table_with was).may_be_empty k ≡ true → (table_with now).may_be_empty k ≡ true
 unfolding sheet_with
 empty_keeps was now k is = elim (slice_get_cases kinds k).1 [
   | inl there ↦ ap (λ s. s.may_be_empty) (sheet_at now k there.0 there.2) ∙ sym (ap (λ s. s.may_be_empty) (sheet_at was k there.0 there.2)) ∙ is
   | inr past ↦ absurd (false≢true (sym (full_past was k past.1) ∙ is))
 ]
 
+rule_kept : (was now : Kind → List Alternative) (k byte : ℕ) (rule : Rule) → Keeps was now → byte < 256 → (table_with was).rule k byte ≡ Some rule
+    → ((table_with now).rule k byte ≡ Some rule) ⊎ ((rule.eats ≡ false) × ((table_with now).rule k 33 ≡ Some rule))
+unfolding rule_taken rule_of
+rule_kept was now k byte rule each lt found = elim (slice_get_cases kinds k).1 [
+  | inl there ↦ by there.0 there.2 (pick (was there.0) byte) refl (sym (rule_with was k there.0 byte there.2) ∙ found)
+  | inr past ↦ (let clash : None ≡ Some rule = sym (none_past was k byte past.1) ∙ found in absurd cc)
+]
+  where
+    by : (kind : Kind) → slice_get kinds k ≡ Some kind → (chosen : Option Production) → pick (was kind) byte ≡ chosen → rule_taken chosen ≡ Some rule
+        → ((table_with now).rule k byte ≡ Some rule) ⊎ ((rule.eats ≡ false) × ((table_with now).rule k 33 ≡ Some rule))
+    by kind at None is h = let clash : None ≡ Some rule = h in absurd cc
+    by kind at (Some p) is h = elim (kept_choice (was kind) (now kind) byte p (each kind) lt is) [
+      | inl here ↦ inl (rule_with now k kind byte at ∙ ap rule_taken here ∙ h)
+      | inr apart ↦ inr (
+        sym (ap (λ r. r.eats) (let same : ◌≡◌ {A = Option Rule} (Some (rule_of p)) (Some rule) = h in let own : rule_of p ≡ rule = cc in own)) ∙ ap not apart.0,
+        rule_with now k kind 33 at ∙ ap rule_taken apart.1 ∙ h,
+      )
+    ]
+
 takes : (was now : Kind → List Alternative) (k : ℕ) (rule : Rule) (taken : List ℕ) → Keeps was now → TakesRule (table_with was) k rule taken → TakesRule (table_with now) k rule taken
-takes was now k rule taken each t = record { byte = t.byte; is_byte = t.is_byte; found = table_keeps was now k t.byte rule each t.is_byte t.found; takes = t.takes }
+takes was now k rule taken each t = elim (rule_kept was now k t.byte rule each t.is_byte t.found) [
+  | inl here ↦ record { byte = t.byte; is_byte = t.is_byte; found = here; takes = t.takes }
+  | inr apart ↦ record {
+    byte = 33;
+    is_byte = lit≤ tt;
+    found = apart.1;
+    takes = t.takes ∙ ap (λ b. cond b (t.byte ∷ []) []) apart.0 ∙ sym (ap (λ b. cond b (33 ∷ []) []) apart.0);
+  }
+]
 
 mutual
   tree_keeps : (was now : Kind → List Alternative) → Keeps was now → (x : Sym) (t : Tree) → IsTree (table_with was) x t → IsTree (table_with now) x t
@@ -133,7 +183,16 @@ pub earlier_tree : (x : Sym) (t : Tree) → IsTree abi_before x t → IsTree abi
 unfolding abi_before abi sheet_before sheet
 earlier_tree x t is = tree_keeps alternatives_before alternatives before_kept x t is
 
--- a tree of the grammar is one of the wide grammar
-pub wide_tree : (x : Sym) (t : Tree) → IsTree abi x t → IsTree wide x t
-unfolding abi wide sheet wide_sheet
-wide_tree x t is = tree_keeps alternatives wide_alternatives abi_kept x t is
+-- a rule of the wide grammar is one of the table of both, at the same byte or at the one that no symbol has
+pub wide_rule_kept : (k byte : ℕ) (rule : Rule) → byte < 256 → wide.rule k byte ≡ Some rule → (either.rule k byte ≡ Some rule) ⊎ ((rule.eats ≡ false) × (either.rule k 33 ≡ Some rule))
+unfolding wide either wide_sheet either_sheet
+wide_rule_kept k byte rule lt found = rule_kept wide_alternatives either_alternatives k byte rule wide_kept lt found
+
+-- the trees of both grammars are trees of one table
+pub abi_either : (x : Sym) (t : Tree) → IsTree abi x t → IsTree either x t
+unfolding abi either sheet either_sheet
+abi_either x t is = tree_keeps alternatives either_alternatives abi_kept x t is
+
+pub wide_either : (x : Sym) (t : Tree) → IsTree wide x t → IsTree either x t
+unfolding wide either wide_sheet either_sheet
+wide_either x t is = tree_keeps wide_alternatives either_alternatives wide_kept x t is

@@ -10,6 +10,7 @@ use Rattle.cpp_grammar.specs.declared.table.Head.{Head}
 use Rattle.cpp_grammar.specs.declared.table.TheConstants.{LETTERS}
 use Rattle.cpp_grammar.specs.declared.kind.Kind.{Kind}
 use Rattle.cpp_grammar.specs.declared.production.Production.{Production}
+use Rattle.cpp_grammar.specs.KindNumbers.{KIND_COUNT, PRODUCTION_COUNT}
 use Rattle.cpp_grammar.specs.Grammar.{in_ranges, among, is_in, pick, number_of_kind, alternatives, choose, parts_of, is_chain, kinds, productions, number_of}
 use Rattle.cpp_grammar.specs.Table.{abi, abi_listed, listed_rule, sheet, padded, rule_of, rule_taken}
 use Rattle.cpp_grammar.proofs.Choosing.{rule_at_kind, is_kind}
@@ -31,34 +32,34 @@ chosen (Some kind) byte = choose kind byte
 -- one of the letters of productions, or none
 unfoldable is_letter : Option ℕ → Bool
 is_letter None = true
-is_letter (Some letter) = leb 33 letter && ltb letter 145
+is_letter (Some letter) = leb 33 letter && ltb letter (33 + PRODUCTION_COUNT)
 
 -- the rows have the productions of the grammar, by letters
-taken : (row : List ℕ) → map (λ k. map (λ byte. lettered (letter row k byte)) (range_with_len 0 256)) (range_with_len 0 66) ≡ map (λ k. map (chosen (slice_get kinds k)) (range_with_len 0 256)) (range_with_len 0 66)
+taken : (row : List ℕ) → map (λ k. map (λ byte. lettered (letter row k byte)) (range_with_len 0 256)) (range_with_len 0 KIND_COUNT) ≡ map (λ k. map (chosen (slice_get kinds k)) (range_with_len 0 256)) (range_with_len 0 KIND_COUNT)
 unfolding letter letter_below unless_blank lettered chosen choose alternatives pick is_in among in_ranges kinds productions
 taken row = refl
 
-letters : (row : List ℕ) → map (λ k. map (λ byte. is_letter (letter row k byte)) (range_with_len 0 256)) (range_with_len 0 66) ≡ map (λ k. map (λ byte. true) (range_with_len 0 256)) (range_with_len 0 66)
+letters : (row : List ℕ) → map (λ k. map (λ byte. is_letter (letter row k byte)) (range_with_len 0 256)) (range_with_len 0 KIND_COUNT) ≡ map (λ k. map (λ byte. true) (range_with_len 0 256)) (range_with_len 0 KIND_COUNT)
 unfolding letter letter_below unless_blank is_letter
 letters row = refl
 
 -- the rules are those of the productions
-rules : (head : Head) → map (λ n. Some (listed_rule head n)) (range_with_len 0 112) ≡ map (λ n. rule_taken (slice_get productions n)) (range_with_len 0 112)
+rules : (head : Head) → map (λ n. Some (listed_rule head n)) (range_with_len 0 PRODUCTION_COUNT) ≡ map (λ n. rule_taken (slice_get productions n)) (range_with_len 0 PRODUCTION_COUNT)
 unfolding listed_rule rule_of rule_taken padded parts_of number_of_kind is_chain productions number_of
 rules head = refl
 
-kind_count : abi.kinds ≡ 66
+kind_count : abi.kinds ≡ KIND_COUNT
 unfolding abi sheet kinds
 kind_count = refl
 
-pub below_66 : (k : ℕ) → k < abi.kinds → k < 66
-below_66 k lt = omega (arith, lt, kind_count)
+pub below : (k : ℕ) → k < abi.kinds → k < KIND_COUNT
+below k lt = omega (arith, lt, kind_count)
 
-pub letter_range : (row : List ℕ) (k byte l : ℕ) → k < 66 → byte < 256 → letter row k byte ≡ Some l → (33 ≤ l) × (l < 145)
+pub letter_range : (row : List ℕ) (k byte l : ℕ) → k < KIND_COUNT → byte < 256 → letter row k byte ≡ Some l → (33 ≤ l) × (l < 33 + PRODUCTION_COUNT)
 unfolding is_letter
 letter_range row k byte l k_lt byte_lt at =
-    let is : is_letter (letter row k byte) ≡ true = alike_in (λ k byte. is_letter (letter row k byte)) (λ k byte. true) 66 256 k byte (letters row) k_lt byte_lt in
-    let both = and_parts (leb 33 l) (ltb l 145) (sym (ap is_letter at) ∙ is) in
+    let is : is_letter (letter row k byte) ≡ true = alike_in (λ k byte. is_letter (letter row k byte)) (λ k byte. true) KIND_COUNT 256 k byte (letters row) k_lt byte_lt in
+    let both = and_parts (leb 33 l) (ltb l (33 + PRODUCTION_COUNT)) (sym (ap is_letter at) ∙ is) in
     (leb-true _ _ both.0, ltb-true _ _ both.1)
 
 -- the rule of a kind is that of its production
@@ -72,15 +73,15 @@ rule_chosen k byte lt = elim (slice_get_cases kinds k).1 [
 pub rule_at : (row : List ℕ) (k byte : ℕ) → k < abi.kinds → byte < 256 → abi.rule k byte ≡ rule_taken (lettered (letter row k byte))
 rule_at row k byte k_lt byte_lt =
     rule_chosen k byte k_lt
-    ∙ ap rule_taken (sym (alike_in (λ k byte. lettered (letter row k byte)) (λ k. chosen (slice_get kinds k)) 66 256 k byte (taken row) (below_66 k k_lt) byte_lt))
+    ∙ ap rule_taken (sym (alike_in (λ k byte. lettered (letter row k byte)) (λ k. chosen (slice_get kinds k)) KIND_COUNT 256 k byte (taken row) (below k k_lt) byte_lt))
 
-pub rule_listed : (head : Head) (n : ℕ) → n < 112 → Some (listed_rule head n) ≡ rule_taken (slice_get productions n)
-rule_listed head n = alike_at (λ n. Some (listed_rule head n)) (λ n. rule_taken (slice_get productions n)) 112 n (rules head)
+pub rule_listed : (head : Head) (n : ℕ) → n < PRODUCTION_COUNT → Some (listed_rule head n) ≡ rule_taken (slice_get productions n)
+rule_listed head n = alike_at (λ n. Some (listed_rule head n)) (λ n. rule_taken (slice_get productions n)) PRODUCTION_COUNT n (rules head)
 
 -- in the list of symbols each rule has six places, behind those of the start
-places : (head : Head) → map (λ n. abi_listed (n * 6 + 6)) (range_with_len 0 112) ≡ map (λ n. symbols_of (listed_rule head n)) (range_with_len 0 112)
+places : (head : Head) → map (λ n. abi_listed (n * 6 + 6)) (range_with_len 0 PRODUCTION_COUNT) ≡ map (λ n. symbols_of (listed_rule head n)) (range_with_len 0 PRODUCTION_COUNT)
 unfolding listed_rule
 places head = refl
 
-pub place_at : (head : Head) (n : ℕ) → n < 112 → abi_listed (n * 6 + 6) ≡ symbols_of (listed_rule head n)
-place_at head n = alike_at (λ n. abi_listed (n * 6 + 6)) (λ n. symbols_of (listed_rule head n)) 112 n (places head)
+pub place_at : (head : Head) (n : ℕ) → n < PRODUCTION_COUNT → abi_listed (n * 6 + 6) ≡ symbols_of (listed_rule head n)
+place_at head n = alike_at (λ n. abi_listed (n * 6 + 6)) (λ n. symbols_of (listed_rule head n)) PRODUCTION_COUNT n (places head)

@@ -2,6 +2,9 @@ pub mod Choosing
 pub mod Letters
 pub mod WideLetters
 pub mod Growing
+pub mod Widening
+pub mod WidenedMeaning
+pub mod WidenedPlaces
 pub mod Reader
 pub mod Row
 pub mod ListedRows

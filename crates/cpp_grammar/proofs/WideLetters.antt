@@ -1,5 +1,5 @@
 -- The table of the wide grammar is held against it at each kind and byte, by computing.
-use Rattle.std.proofs.Common.{◌≡◌, ℕ, ◌<◌, ◌≤◌, get_or, slice_get, List, map, leb, ltb, ◌&&◌, Bool, true, Option, Some, None, refl, ap, sym, ◌∙◌, arith, inl, inr}
+use Rattle.std.proofs.Common.{◌≡◌, ℕ, ◌+◌, ◌<◌, ◌≤◌, get_or, slice_get, List, map, leb, ltb, ◌&&◌, Bool, true, Option, Some, None, refl, ap, sym, ◌∙◌, arith, inl, inr}
 use Rattle.std.proofs.lemmas.Bool.{and_parts, leb-true, ltb-true}
 use Rattle.std.proofs.lemmas.Option.{slice_get_cases}
 use Rattle.std.specs.List.{range_with_len}
@@ -8,6 +8,7 @@ use Rattle.sym_shape.proofs.Listed.{alike_in}
 use Rattle.cpp_grammar.specs.declared.wide_table.TheConstants.{WIDE_LETTERS}
 use Rattle.cpp_grammar.specs.declared.kind.Kind.{Kind}
 use Rattle.cpp_grammar.specs.declared.production.Production.{Production}
+use Rattle.cpp_grammar.specs.KindNumbers.{KIND_COUNT, PRODUCTION_COUNT}
 use Rattle.cpp_grammar.specs.Grammar.{in_ranges, among, is_in, pick, kinds, productions}
 use Rattle.cpp_grammar.specs.Wide.{wide_alternatives, wide_choose}
 use Rattle.cpp_grammar.specs.Table.{wide, wide_sheet, rule_taken}
@@ -26,29 +27,29 @@ chosen (Some kind) byte = wide_choose kind byte
 -- one of the letters of productions, or none
 unfoldable is_letter : Option ℕ → Bool
 is_letter None = true
-is_letter (Some letter) = leb 33 letter && ltb letter 145
+is_letter (Some letter) = leb 33 letter && ltb letter (33 + PRODUCTION_COUNT)
 
 -- the rows have the productions of the grammar, by letters
-taken : (row : List ℕ) → map (λ k. map (λ byte. lettered (wide_letter row k byte)) (range_with_len 0 256)) (range_with_len 0 66) ≡ map (λ k. map (chosen (slice_get kinds k)) (range_with_len 0 256)) (range_with_len 0 66)
+taken : (row : List ℕ) → map (λ k. map (λ byte. lettered (wide_letter row k byte)) (range_with_len 0 256)) (range_with_len 0 KIND_COUNT) ≡ map (λ k. map (chosen (slice_get kinds k)) (range_with_len 0 256)) (range_with_len 0 KIND_COUNT)
 unfolding wide_letter letter_below unless_blank lettered chosen wide_choose wide_alternatives pick is_in among in_ranges kinds productions
 taken row = refl
 
-letters : (row : List ℕ) → map (λ k. map (λ byte. is_letter (wide_letter row k byte)) (range_with_len 0 256)) (range_with_len 0 66) ≡ map (λ k. map (λ byte. true) (range_with_len 0 256)) (range_with_len 0 66)
+letters : (row : List ℕ) → map (λ k. map (λ byte. is_letter (wide_letter row k byte)) (range_with_len 0 256)) (range_with_len 0 KIND_COUNT) ≡ map (λ k. map (λ byte. true) (range_with_len 0 256)) (range_with_len 0 KIND_COUNT)
 unfolding wide_letter letter_below unless_blank is_letter
 letters row = refl
 
-kind_count : wide.kinds ≡ 66
+kind_count : wide.kinds ≡ KIND_COUNT
 unfolding wide wide_sheet kinds
 kind_count = refl
 
-pub below_66 : (k : ℕ) → k < wide.kinds → k < 66
-below_66 k lt = omega (arith, lt, kind_count)
+pub below : (k : ℕ) → k < wide.kinds → k < KIND_COUNT
+below k lt = omega (arith, lt, kind_count)
 
-pub letter_range : (row : List ℕ) (k byte l : ℕ) → k < 66 → byte < 256 → wide_letter row k byte ≡ Some l → (33 ≤ l) × (l < 145)
+pub letter_range : (row : List ℕ) (k byte l : ℕ) → k < KIND_COUNT → byte < 256 → wide_letter row k byte ≡ Some l → (33 ≤ l) × (l < 33 + PRODUCTION_COUNT)
 unfolding is_letter
 letter_range row k byte l k_lt byte_lt at =
-    let is : is_letter (wide_letter row k byte) ≡ true = alike_in (λ k byte. is_letter (wide_letter row k byte)) (λ k byte. true) 66 256 k byte (letters row) k_lt byte_lt in
-    let both = and_parts (leb 33 l) (ltb l 145) (sym (ap is_letter at) ∙ is) in
+    let is : is_letter (wide_letter row k byte) ≡ true = alike_in (λ k byte. is_letter (wide_letter row k byte)) (λ k byte. true) KIND_COUNT 256 k byte (letters row) k_lt byte_lt in
+    let both = and_parts (leb 33 l) (ltb l (33 + PRODUCTION_COUNT)) (sym (ap is_letter at) ∙ is) in
     (leb-true _ _ both.0, ltb-true _ _ both.1)
 
 -- the rule of a kind is that of its production
@@ -62,4 +63,4 @@ rule_chosen k byte lt = elim (slice_get_cases kinds k).1 [
 pub rule_at : (row : List ℕ) (k byte : ℕ) → k < wide.kinds → byte < 256 → wide.rule k byte ≡ rule_taken (lettered (wide_letter row k byte))
 rule_at row k byte k_lt byte_lt =
     rule_chosen k byte k_lt
-    ∙ ap rule_taken (sym (alike_in (λ k byte. lettered (wide_letter row k byte)) (λ k. chosen (slice_get kinds k)) 66 256 k byte (taken row) (below_66 k k_lt) byte_lt))
+    ∙ ap rule_taken (sym (alike_in (λ k byte. lettered (wide_letter row k byte)) (λ k. chosen (slice_get kinds k)) KIND_COUNT 256 k byte (taken row) (below k k_lt) byte_lt))

@@ -70,6 +70,7 @@ after_ranges Kind.OperatorAfterL = codes ".-.0-9A-AC-FI-IK-PR-VZ-Za-jl-pr-z"
 after_ranges Kind.OperatorAfterS = codes ".-.0-9A-AC-FI-IK-PR-VZ-Za-jl-pr-z"
 after_ranges Kind.OperatorAfterI = codes ".-.0-9A-AC-FI-IK-PR-VZ-Za-jl-pr-z"
 after_ranges Kind.OperatorAfterG = codes ".-.0-9A-AC-FI-IK-PR-VZ-Za-jl-pr-z"
+after_ranges Kind.NestRestOrEnd = codes ".-.0-9A-AC-FJ-PR-VX-XZ-Z_-_a-jl-or-z"
 
 -- how many chains may stand on one another at the beginning of a kind
 unfoldable pub rank : Kind → ℕ
@@ -102,6 +103,7 @@ rank Kind.ArgumentList = 3
 rank Kind.PackList = 3
 rank Kind.Literal = 2
 rank Kind.LiteralType = 1
+rank Kind.NestRestOrEnd = 2
 rank _ = 0
 
 -- how high the lowest tree of a kind is
@@ -159,4 +161,5 @@ height Kind.OperatorAfterL = 1
 height Kind.OperatorAfterS = 1
 height Kind.OperatorAfterI = 1
 height Kind.OperatorAfterG = 1
+height Kind.NestRestOrEnd = 2
 height _ = 0

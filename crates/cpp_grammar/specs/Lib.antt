@@ -2,8 +2,10 @@ pub mod Grammar
 pub mod KindNumbers
 pub mod Before
 pub mod Wide
+pub mod Either
 pub mod Follow
 pub mod Table
+pub mod Widened
 pub mod TableLaws
 pub mod Term
 pub mod Scope

@@ -1,7 +1,7 @@
 -- What a production stands for, given the values of its parts.
 use Rattle.std.specs.Prelude.{ℕ, List, [], ◌∷◌, Bool, true, false, cond, not, ◌&&◌, nat_eq, Option, Some, None}
 use Rattle.cpp_grammar.specs.declared.production.Production.{Production}
-use Rattle.cpp_grammar.specs.Term.{RefQualifier, any_value, lvalue_only, rvalue_only, non_virtual, by_table, adjusting, covariant, Term, symbol, function, object, special, thunk, of_name, in_std, local, abbreviation, source, operator, literal_operator, lambda, unnamed, string_literal, builtin, vendor, pointer, lvalue, rvalue, array, member_pointer, function_type, qualified, vector, complex, expansion, integer, boolean, null_pointer, encoding_literal, address_of, nil, list, absent}
+use Rattle.cpp_grammar.specs.Term.{RefQualifier, any_value, lvalue_only, rvalue_only, non_virtual, by_table, adjusting, covariant, Term, symbol, function, object, special, thunk, of_name, construction, in_std, local, abbreviation, source, operator, literal_operator, lambda, unnamed, string_literal, builtin, vendor, pointer, lvalue, rvalue, array, member_pointer, function_type, qualified, vector, complex, expansion, integer, boolean, null_pointer, encoding_literal, address_of, nil, list, absent}
 use Rattle.cpp_grammar.specs.Scope.{has_return_type}
 use Rattle.cpp_grammar.specs.Values.{Around, prefix_tree, prefix_listed, Value, nothing_there, letter, text, signed, adjusted, tree, piece, named, signature, tree_of, piece_of, is_listed, qualifiers_of, ref_of, letter_of, is_there, mark_of, text_of, signed_of, adjustment_of, normal, signed_digits, local_number, part}
 use Rattle.cpp_grammar.specs.Between.{extended, applied, no_items}
@@ -71,6 +71,8 @@ meaning Production.Special byte around vs = part vs 0
 meaning Production.Guard byte around vs = tree (of_name 86 (tree_of (part vs 1)) (qualifiers_of (part vs 1)) (ref_of (part vs 1))) true
 meaning Production.Encoding byte around vs = tree (encoding_of (part vs 0) (no_items (part vs 1))) true
 meaning Production.SpecialType byte around vs = tree (special byte (tree_of (part vs 0))) true
+meaning Production.SpecialName byte around vs = tree (of_name byte (tree_of (part vs 0)) (qualifiers_of (part vs 0)) (ref_of (part vs 0))) true
+meaning Production.ConstructionVtable byte around vs = tree (construction (tree_of (part vs 0)) (normal (text_of (part vs 1))) (tree_of (part vs 3))) true
 meaning Production.NonVirtualThunk byte around vs = tree (thunk (adjusting (non_virtual (signed_of (part vs 0)))) (tree_of (part vs 2))) true
 meaning Production.VirtualThunk byte around vs = tree (thunk (adjusting (by_table (signed_of (part vs 0)) (signed_of (part vs 2)))) (tree_of (part vs 4))) true
 meaning Production.CovariantThunk byte around vs = tree (thunk (covariant (adjustment_of (part vs 0)) (adjustment_of (part vs 1))) (tree_of (part vs 2))) true
@@ -101,7 +103,9 @@ meaning Production.NestLocalType byte around vs = part vs 1
 meaning Production.NestSource byte around vs = part vs 1
 meaning Production.NestStd byte around vs = part vs 2
 meaning Production.NestAbbreviated byte around vs = part vs 1
+meaning Production.NestTemplate byte around vs = part vs 1
 meaning Production.NestArguments byte around vs = part vs 3
+meaning Production.NestInstance byte around vs = part vs 2
 meaning Production.NestNext byte around vs = part vs 1
 meaning Production.NestEnd byte around vs = tree (prefix_tree around.prefix) (prefix_listed around.prefix)
 meaning Production.Abbreviation byte around vs = tree (abbreviation byte) true

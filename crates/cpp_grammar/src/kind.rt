@@ -72,6 +72,7 @@ pub enum Kind {
     OperatorAfterS,
     OperatorAfterI,
     OperatorAfterG,
+    NestRestOrEnd,
 }
 
 /// The kind with a number.
@@ -146,6 +147,7 @@ pub fn kind_of(number: u16) -> Option<Kind>
         63 => Some(Kind::OperatorAfterS),
         64 => Some(Kind::OperatorAfterI),
         65 => Some(Kind::OperatorAfterG),
+        66 => Some(Kind::NestRestOrEnd),
         _ => None,
     }
 }

@@ -5,7 +5,7 @@ ghost use Rattle.sym_print.specs.declared.detail.Detail.{Detail};
 ghost use Rattle.sym_print.specs.Unfold.{RanksBelow};
 ghost use Rattle.sym_shape.specs.Decided.{AreBytes};
 ghost use Rattle.sym_shape.specs.Grown.{GrowsInto};
-ghost use Rattle.sym_shape.specs.Tree.{Tree, IsTree, AreRowsOf, IsFirstBad, IsWellShaped};
+ghost use Rattle.sym_shape.specs.Tree.{Tree, IsTree, AreRowsOf, IsFirstBad, IsWellShaped, rows_of, spell};
 ghost use Rattle.sym_shape.specs.declared.rule.Sym.TheVariants.{Kind};
 ghost use Rattle.sym_shape.specs.declared.rule.Row.{Row};
 ghost use Rattle.sym_demangle.specs.Mangled.{RefusesBadTokens, StandsFor, IsAnswer, answer};
@@ -14,13 +14,14 @@ ghost use Rattle.cpp_grammar.specs.Closed.{ScopesAreClosed};
 ghost use Rattle.cpp_grammar.specs.Items.{Item};
 ghost use Rattle.cpp_grammar.specs.Parts.{parts};
 ghost use Rattle.cpp_grammar.specs.Ranks.{rank};
-ghost use Rattle.cpp_grammar.specs.Table.{abi, abi_before, wide};
+ghost use Rattle.cpp_grammar.specs.Table.{abi, abi_before, either, wide};
 ghost use Rattle.cpp_grammar.specs.Term.{Term};
 ghost use Rattle.cpp_grammar.specs.Unfolding.{unfold_cpp};
+ghost use Rattle.cpp_grammar.specs.Widened.{widened};
 
 use crate::abi::Abi;
 use crate::wide::Wide;
-use sym_shape::grown_keeps;
+use sym_shape::{grown_keeps, one_tree};
 
 /// Each tree of the grammar before vector types, noexcept function types and complex types were added is one of
 /// [`Abi`](crate::Abi). So a symbol that was well shaped has the rows that it had, and of one that wasn't the first bad byte
@@ -33,15 +34,25 @@ pub fn earlier_trees_stay()
     grown_keeps::<Abi>();
 }
 
-/// Each tree of the grammar of [`Abi`](crate::Abi) is one of that of [`Wide`](crate::Wide). So a symbol that is well shaped has
-/// the same rows there, and of one that isn't the first bad byte isn't earlier there.
+/// Each tree of the grammar of [`Abi`](crate::Abi) is, widened, one of that of [`Wide`](crate::Wide), which spells the same symbol
+/// and stands for the same. So a symbol that is well shaped is so there, with the rows of the widened tree, and of one that isn't the
+/// first bad byte isn't earlier there.
 pub fn abi_trees_stay()
-    ensures trees { GrowsInto abi wide }
-    ensures rows { (s : List ℕ) (before now : List Row) → AreRowsOf abi s before → AreRowsOf wide s now → now ≡ before }
+    ensures trees { (shape : Tree) → IsTree abi (Kind 0) shape → IsTree wide (Kind 0) (widened shape) }
+    ensures spelling { (shape : Tree) → IsTree abi (Kind 0) shape → spell (widened shape) ≡ spell shape }
+    ensures meaning { (shape : Tree) → IsTree abi (Kind 0) shape → unfold_cpp (widened shape) ≡ unfold_cpp shape }
+    ensures rows { (shape : Tree) (now : List Row) → IsTree abi (Kind 0) shape → AreRowsOf wide (spell shape) now → now ≡ rows_of (widened shape) 0 0 }
     ensures places { (s : List ℕ) (before now : ℕ) → IsFirstBad abi s before → IsFirstBad wide s now → before ≤ now }
 {
-    grown_keeps::<Wide>();
+    one_tree::<Wide>();
 }
+
+/// The trees of both grammars are trees of one table, `either`, whose trees are, widened, those of [`Wide`](crate::Wide).
+pub fn both_are_linked()
+    ensures abi { GrowsInto abi either }
+    ensures wide { GrowsInto wide either }
+    ensures widened { (shape : Tree) → IsTree either (Kind 0) shape → IsTree wide (Kind 0) (widened shape) × (spell (widened shape) ≡ spell shape) × (unfold_cpp (widened shape) ≡ unfold_cpp shape) }
+{}
 
 /// What a symbol that is well shaped in [`Abi`](crate::Abi) reads as, a refusal too, it reads as in [`Wide`](crate::Wide), and its
 /// answer is the same there.

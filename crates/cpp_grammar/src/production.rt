@@ -115,4 +115,8 @@ pub enum Production {
     OperatorI,
     OperatorG,
     LiteralOperator,
+    NestInstance,
+    SpecialName,
+    ConstructionVtable,
+    NestTemplate,
 }

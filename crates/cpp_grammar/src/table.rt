@@ -141,6 +141,8 @@ const OPERATOR_AFTER_I: Sym = Sym::Kind(64);
 
 const OPERATOR_AFTER_G: Sym = Sym::Kind(65);
 
+const NEST_REST_OR_END: Sym = Sym::Kind(66);
+
 const NAME: Sym = Sym::Name;
 
 const DECIMAL: Sym = Sym::Number(NumberKind::Decimal);
@@ -153,7 +155,7 @@ const DIGITS: Sym = Sym::Number(NumberKind::Digits);
 pub const FIRST_LETTER: u8 = b'!';
 
 // For each kind a row: for each byte from `$` to `z` the letter of the production that the kind takes there.
-static LETTERS: [[u8; 87]; 66] = [
+static LETTERS: [[u8; 87]; 67] = [
     // $%&'()*+,-./0123456789:;<=>?@ABCDEFGHIJKLMNOPQRSTUVWXYZ[\]^_`abcdefghijklmnopqrstuvwxyz
     *b"                                                           *                           ", // Symbol
     *b"          +                                                                            ", // MaybeSuffix
@@ -221,6 +223,7 @@ static LETTERS: [[u8; 87]; 66] = [
     *b"                                                                               !       ", // OperatorAfterS
     *b"                                                                                    !  ", // OperatorAfterI
     *b"                                                                 !              !      ", // OperatorAfterG
+    *b"            EEEEEEEEEE         EE    \x91  E        E           E EEE E E  EEEEE EE       ", // NestRestOrEnd
 ];
 
 /// A rule without its number and its symbols.
@@ -250,7 +253,7 @@ macro_rules! chains {
 }
 
 // The rules of the productions, in the order of their numbers.
-pub static HEADS: [Head; 112] = [
+pub static HEADS: [Head; 116] = [
     takes!(0), // ! Mark
     takes!(2), // \" InternalName
     takes!(2), // # LocalTypeName
@@ -363,10 +366,14 @@ pub static HEADS: [Head; 112] = [
     takes!(1), // \x8e OperatorI
     takes!(1), // \x8f OperatorG
     takes!(1), // \x90 LiteralOperator
+    takes!(3), // \x91 NestInstance
+    takes!(1), // \x92 SpecialName
+    takes!(4), // \x93 ConstructionVtable
+    chains!(2), // \x94 NestTemplate
 ];
 
 // The symbols of the rules, in the same order.
-pub static SYMBOLS: [Sym; 678] = symbols_listed! {
+pub static SYMBOLS: [Sym; 702] = symbols_listed! {
     [NONE, NONE, NONE, NONE, NONE], // ! Mark
     [NAME, MAYBE_ARGUMENTS, NONE, NONE, NONE], // \" InternalName
     [ANONYMOUS, MAYBE_ARGUMENTS, NONE, NONE, NONE], // # LocalTypeName
@@ -479,13 +486,17 @@ pub static SYMBOLS: [Sym; 678] = symbols_listed! {
     [OPERATOR_AFTER_I, NONE, NONE, NONE, NONE], // \x8e OperatorI
     [OPERATOR_AFTER_G, NONE, NONE, NONE, NONE], // \x8f OperatorG
     [NAME, NONE, NONE, NONE, NONE], // \x90 LiteralOperator
+    [ARGUMENT_LIST, Sym::Byte(b'E'), NEST_TAIL, NONE, NONE], // \x91 NestInstance
+    [COMPLETE_NAME, NONE, NONE, NONE, NONE], // \x92 SpecialName
+    [TYPE, DIGITS, Sym::Byte(b'_'), TYPE, NONE], // \x93 ConstructionVtable
+    [ABBREVIATION, NEST_REST_OR_END, NONE, NONE, NONE], // \x94 NestTemplate
 };
 
 /// The number of the rule that a kind takes at a byte, if it takes one.
 #[inline]
 fn number(kind: u16, byte: u8) -> Option<usize>
     requires { kind < abi.kinds }
-    ensures few { IfSome result (λ number. number < 112) }
+    ensures few { IfSome result (λ number. number < 116) }
     ensures rule { (head : Head) → MatchOption result (abi.rule kind byte ≡ None) (λ number. abi.rule kind byte ≡ Some (listed_rule head number)) }
 {
     match letter_in(&LETTERS[kind as usize], byte) {

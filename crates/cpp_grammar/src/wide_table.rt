@@ -8,14 +8,14 @@ use crate::table::{FIRST_LETTER, HEADS, SYMBOLS};
 use sym_shape::{Rule, letter_in, place_of, symbols_from};
 
 // For each kind a row: for each byte from `$` to `z` the letter of the production that the kind takes there.
-static WIDE_LETTERS: [[u8; 87]; 66] = [
+static WIDE_LETTERS: [[u8; 87]; 67] = [
     // $%&'()*+,-./0123456789:;<=>?@ABCDEFGHIJKLMNOPQRSTUVWXYZ[\]^_`abcdefghijklmnopqrstuvwxyz
     *b"                                                           *                           ", // Symbol
     *b"          +                                                                            ", // MaybeSuffix
     *b",         , ,,,,,,,,,,       ,,,,,,,,,,,,,,,,,,,,,,,,,,    , ,,,,,,,,,,,,,,,,,,,,,,,,,,", // SuffixFirst
     *b",         , ,,,,,,,,,,       ,,,,,,,,,,,,,,,,,,,,,,,,,,    , ,,,,,,,,,,,,,,,,,,,,,,,,,,", // SuffixMore
     *b"            //////////             .    / /    /-/    /      / /// / /  ///// //       ", // Encoding
-    *b"                                     0         00 0            3    1             2    ", // Special
+    *b"                               \x93    \x920         00 0\x92           3    1             2    ", // Special
     *b"                                                                    4             5    ", // CallOffset
     *b"            7777777777                                                    6            ", // Integer
     *b"            $$$$$$$$$$                  \" )    8 #    9      % %%% % %  %%%%% %%       ", // CompleteName
@@ -26,7 +26,7 @@ static WIDE_LETTERS: [[u8; 87]; 66] = [
     *b"            ;;;;;;;;;;       ;;;;;;;;;;;;;;;;;;;;;;;;;;    ; ;; ;    ;     ;   ;:      ", // NameAfterS
     *b"            ((((((((((                  &        '           < <<< < <  <<<<< <<       ", // Unqualified
     *b"            AAAAAAAAAA                  ?      =>@                                     ", // Nest
-    *b"            CCCCCCCCCC       CCCCCCCCCCCCCCCCCCCCCCCCCC    C CC C    C     C   CB      ", // NestAfterS
+    *b"            \x94\x94\x94\x94\x94\x94\x94\x94\x94\x94       \x94\x94\x94\x94\x94\x94\x94\x94\x94\x94\x94\x94\x94\x94\x94\x94\x94\x94\x94\x94\x94\x94\x94\x94\x94\x94    \x94 \x94\x94 \x94    \x94     \x94   \x94B      ", // NestAfterS
     *b"            EEEEEEEEEE         EE    D  E        E           E EEE E E  EEEEE EE       ", // NestRest
     *b"            EEEEEEEEEE         EEF      E        E           E EEE E E  EEEEE EE       ", // NestTail
     *b"            $$$$$$$$$$         GH       \"        #           % %%% % %  %%%%% %%       ", // Component
@@ -42,8 +42,8 @@ static WIDE_LETTERS: [[u8; 87]; 66] = [
     *b"            YYYYYYYYYY       Y YX Y      YYUY UYYY    Y      YYYYYYYYYY YYYY   YYYYYYYY", // Plain
     *b"            VVVVVVVVVV       V VZ V    T VVUV UVVVS   V      VVVVVVVVVV VVVV  RVVVVVVVV", // Item
     *b"            VVVVVVVVVV       V VZ V    T VV V  VVVS   V      VVVVVVVVVV VVVV  RVVVVVVVV", // ItemButRef
-    *b"                                                             \\ \\     \\    \\\\[  \\ \\\\    ", // ItemAfterD
-    *b"                                                             ] ]     ]    ]_   ] ]^    ", // AfterD
+    *b"                                                             \\ \\\\\\\\ \\\\    \\\\[  \\ \\\\    ", // ItemAfterD
+    *b"                                                             ] ]]]] ]]    ]_   ] ]^    ", // AfterD
     *b"            $$$$$$$$$$       g i  h      aL `  cb#    d      eeeeeeeeee eeee   eefeeeee", // Solid
     *b"                                                     !                                 ", // MaybeCLinkage
     *b"            kkkkkkkkkk       kkkkkkkkkkkkkkkkkkkkkkkkkk    k kk k    k     k   kj      ", // TypeAfterS
@@ -76,13 +76,14 @@ static WIDE_LETTERS: [[u8; 87]; 66] = [
     *b"                                                                               !       ", // OperatorAfterS
     *b"                                                                                    !  ", // OperatorAfterI
     *b"                                                                 !              !      ", // OperatorAfterG
+    *b"            EEEEEEEEEE         EE    \x91  E        E           E EEE E E  EEEEE EE       ", // NestRestOrEnd
 ];
 
 /// The number of the rule that a kind takes at a byte, if it takes one.
 #[inline]
 fn number(kind: u16, byte: u8) -> Option<usize>
     requires { kind < wide.kinds }
-    ensures few { IfSome result (λ number. number < 112) }
+    ensures few { IfSome result (λ number. number < 116) }
     ensures rule { (head : Head) → MatchOption result (wide.rule kind byte ≡ None) (λ number. wide.rule kind byte ≡ Some (listed_rule head number)) }
 {
     match letter_in(&WIDE_LETTERS[kind as usize], byte) {

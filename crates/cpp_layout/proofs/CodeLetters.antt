@@ -5,7 +5,7 @@ abbrev pub builtin_letters : List ℕ
 builtin_letters = codes "vwbcahstijlmxynofdegz"
 
 abbrev pub d_letters : List ℕ
-d_letters = codes "isuacn"
+d_letters = codes "isuacndefh"
 
 abbrev pub abbreviation_letters : List ℕ
 abbreviation_letters = codes "absiod"
@@ -14,7 +14,7 @@ abbrev pub special_letters : List ℕ
 special_letters = codes "VTIS"
 
 abbrev pub named_special_letters : List ℕ
-named_special_letters = codes "V"
+named_special_letters = codes "VHW"
 
 abbrev pub ending_letters : List ℕ
 ending_letters = codes "jlmxy"

@@ -129,6 +129,7 @@ prefix-encoding s us ts c n t is e = subst (λ u. as_item heads.bare items.close
     by (Node.Special k a) e = refl
     by (Node.Thunk k a) e = refl
     by (Node.OfName k a q m) e = refl
+    by (Node.Construction a g b) e = refl
     by _ e = cc e
 
 pub prefix-other : (s : List ℕ) (us : List Thunk) (ts : List Term) (c : items.Context) (n : Node) (t : Term) → t ≡ tree_of s us ts n → is_encoding n ≡ false → as_item heads.left c t ≡ prefix_item c t
@@ -141,6 +142,7 @@ prefix-other s us ts c n t is e = subst (λ u. as_item heads.left c u ≡ prefix
     by (Node.Special k a) e = cc e
     by (Node.Thunk k a) e = cc e
     by (Node.OfName k a q m) e = cc e
+    by (Node.Construction a g b) e = cc e
     by _ e = refl
 
 pub within-other : (s : List ℕ) (ts : List Term) (c : items.Context) (prefix t : Term) (p : Piece) → t ≡ piece_of s ts p → ((d : ℕ) → p ≡ Piece.Constructor d → ⊥) → ((d : ℕ) → p ≡ Piece.Destructor d → ⊥)

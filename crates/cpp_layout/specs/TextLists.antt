@@ -40,7 +40,9 @@ plain_texts =
     codes "{unnamed type#" ∷
     codes "string literal" ∷
     codes "(anonymous namespace)" ∷
-    codes "-" ∷ []
+    codes "-" ∷
+    codes "construction vtable for " ∷
+    codes "-in-" ∷ []
 
 -- what stands behind a function's parameters
 abbrev pub suffix_texts : List (List ℕ)

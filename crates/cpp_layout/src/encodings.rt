@@ -11,7 +11,7 @@ ghost use Rattle.cpp_term.specs.Term as term;
 ghost use Rattle.cpp_grammar.specs.Items as heads;
 ghost use Rattle.cpp_grammar.specs.Parts.{encoding_text, thunk_text};
 ghost use Rattle.cpp_grammar.specs.Texts.{look_up, special_texts, named_special_texts};
-ghost use Rattle.cpp_term.specs.Parts.{as_item, function_bare, function_full, full_parts, bare_parts, root_parts, text_part};
+ghost use Rattle.cpp_term.specs.Parts.{as_item, construction_parts, function_bare, function_full, full_parts, bare_parts, root_parts, text_part};
 ghost use Rattle.cpp_tree.specs.Nodes.{tree_at, trees, IsTable, IsWithin, bytes_at, thunk_of, qualifiers_of, mark_of};
 ghost use Rattle.cpp_layout.specs.Texts.{fixed_text, suffix_of};
 ghost use Rattle.cpp_layout.specs.declared.texts.TheConstants.{SUFFIX};
@@ -156,7 +156,7 @@ impl Symbol {
     }
 
     /// The parts of a special name of a name.
-    // <special-name> ::= GV <object name>
+    // <special-name> ::= GV <object name> | TH <object name> | TW <object name>
     fn fill_special_name<S: PartList<Context>>(
         &self,
         parts: &mut S,
@@ -197,6 +197,33 @@ impl Symbol {
         self.push_item(parts, ty, form::RIGHT, 0, ctx);
         self.push_item(parts, ty, form::LEFT, 0, ctx);
         self.push_some(parts, special(letter));
+    }
+
+    /// The parts of a construction virtual table's name.
+    // <special-name> ::= TC <derived type> <offset number> _ <base type>
+    fn fill_construction<S: PartList<Context>>(
+        &self,
+        parts: &mut S,
+        derived: u32,
+        parent: u32,
+        detail: Detail,
+    )
+        requires derived { derived < length self.now.table.nodes }
+        requires parent { parent < length self.now.table.nodes }
+        requires room { 8 ≤ S.room parts.old }
+        ensures shows { Shows self.now detail (S.held parts.old) (S.held parts.new) (construction_parts (tree_at (trees (table_of self.now)) derived) (tree_at (trees (table_of self.now)) parent)) }
+        ensures few { S.room parts.old ≤ S.room parts.new + 8 }
+    {
+        let closed = Context {
+            index: None,
+            detail,
+        };
+        self.push_item(parts, derived, form::RIGHT, 0, closed);
+        self.push_item(parts, derived, form::LEFT, 0, closed);
+        self.push_text(parts, texts::IN);
+        self.push_item(parts, parent, form::RIGHT, 0, closed);
+        self.push_item(parts, parent, form::LEFT, 0, closed);
+        self.push_text(parts, texts::CONSTRUCTION);
     }
 
     /// The parts of a thunk's name.
@@ -334,6 +361,11 @@ impl Symbol {
                 qualifiers,
                 mark,
             } => self.fill_special_name(parts, letter, name, qualifiers, mark, detail),
+            Node::Construction {
+                derived,
+                parent,
+                ..
+            } => { self.fill_construction(parts, derived, parent, detail) }
             _ => {}
         }
     }

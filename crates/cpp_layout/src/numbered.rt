@@ -53,6 +53,10 @@ pub(crate) fn builtin_with_d(letter: u8) -> u16
         b'a' => texts::BUILTIN + 24, // auto
         b'c' => texts::BUILTIN + 25, // decltype(auto)
         b'n' => texts::BUILTIN + 26, // std::nullptr_t
+        b'd' => texts::BUILTIN + 27, // decimal64
+        b'e' => texts::BUILTIN + 28, // decimal128
+        b'f' => texts::BUILTIN + 29, // decimal32
+        b'h' => texts::BUILTIN + 30, // half
         _ => texts::NONE,
     }
 }
@@ -114,6 +118,8 @@ pub(crate) fn named_special(letter: u8) -> u16
 {
     match letter {
         b'V' => texts::NAMED_SPECIAL, // guard variable for
+        b'H' => texts::NAMED_SPECIAL + 1, // thread-local initialization routine for
+        b'W' => texts::NAMED_SPECIAL + 2, // thread-local wrapper routine for
         _ => texts::NONE,
     }
 }

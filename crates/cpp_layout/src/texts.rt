@@ -78,81 +78,87 @@ pub const ANONYMOUS: u16 = 35;
 
 pub const MINUS: u16 = 36;
 
+pub const CONSTRUCTION: u16 = 37;
+
+pub const IN: u16 = 38;
+
 /// Where the texts behind a function's parameters begin.
-pub const SUFFIX: u16 = 37;
+pub const SUFFIX: u16 = 39;
 
 /// No text.
-pub const NONE: u16 = 37;
+pub const NONE: u16 = 39;
 
 /// Where the builtin types begin.
-pub const BUILTIN: u16 = 85;
+pub const BUILTIN: u16 = 87;
 
 /// Where the names of operators begin.
-pub const OPERATOR: u16 = 112;
+pub const OPERATOR: u16 = 118;
 
 /// How many operators there are.
 pub const OPERATORS: u16 = 48;
 
 /// Where the abbreviations begin, and their names without `std::`.
-pub const ABBREVIATION: u16 = 160;
+pub const ABBREVIATION: u16 = 166;
 
-pub const LAST_OF_ABBREVIATION: u16 = 166;
+pub const LAST_OF_ABBREVIATION: u16 = 172;
 
 /// Where the special names begin.
-pub const SPECIAL: u16 = 172;
+pub const SPECIAL: u16 = 178;
 
 /// Where the special names of names begin.
-pub const NAMED_SPECIAL: u16 = 176;
+pub const NAMED_SPECIAL: u16 = 182;
 
 /// Where the endings of integer literals begin.
-pub const ENDING: u16 = 177;
+pub const ENDING: u16 = 185;
 
 /// Where the qualifiers begin whose blank stands behind them, but for those of no qualifier.
-pub const BLANKED: u16 = 181;
+pub const BLANKED: u16 = 189;
 
 /// The name of an operator that has no code.
-pub const OPERATOR_ALONE: u16 = 189;
+pub const OPERATOR_ALONE: u16 = 197;
 
 /// How many texts there are.
-pub const COUNT: u16 = 190;
+pub const COUNT: u16 = 198;
 
 /// A text behind the operators: an abbreviation, a special name, an ending, a qualifier.
 #[tactic(auto, unfolding(crate::specs::Texts::fixed_text, cpp_grammar::specs::Texts::builtin_texts, cpp_grammar::specs::Texts::operator_texts, cpp_grammar::specs::Texts::abbreviation_texts, cpp_grammar::specs::Texts::special_texts, cpp_grammar::specs::Texts::named_special_texts, cpp_grammar::specs::Texts::literal_endings))]
 #[inline(always)]
 fn remaining_text(number: u16) -> &'static [u8]
-    requires { 160 ≤ number }
+    requires { 166 ≤ number }
     ensures { result.now ≡ fixed_text number }
 {
     match number {
-        160 => b"std::allocator",
-        161 => b"std::basic_string",
-        162 => b"std::string",
-        163 => b"std::istream",
-        164 => b"std::ostream",
-        165 => b"std::iostream",
-        166 => b"allocator",
-        167 => b"basic_string",
-        168 => b"string",
-        169 => b"istream",
-        170 => b"ostream",
-        171 => b"iostream",
-        172 => b"vtable for ",
-        173 => b"VTT for ",
-        174 => b"typeinfo for ",
-        175 => b"typeinfo name for ",
-        176 => b"guard variable for ",
-        177 => b"u",
-        178 => b"l",
-        179 => b"ul",
-        180 => b"ll",
-        181 => b"ull",
-        182 => b"restrict ",
-        183 => b"volatile ",
-        184 => b"volatile restrict ",
-        185 => b"const ",
-        186 => b"const restrict ",
-        187 => b"const volatile ",
-        188 => b"const volatile restrict ",
+        166 => b"std::allocator",
+        167 => b"std::basic_string",
+        168 => b"std::string",
+        169 => b"std::istream",
+        170 => b"std::ostream",
+        171 => b"std::iostream",
+        172 => b"allocator",
+        173 => b"basic_string",
+        174 => b"string",
+        175 => b"istream",
+        176 => b"ostream",
+        177 => b"iostream",
+        178 => b"vtable for ",
+        179 => b"VTT for ",
+        180 => b"typeinfo for ",
+        181 => b"typeinfo name for ",
+        182 => b"guard variable for ",
+        183 => b"thread-local initialization routine for ",
+        184 => b"thread-local wrapper routine for ",
+        185 => b"u",
+        186 => b"l",
+        187 => b"ul",
+        188 => b"ll",
+        189 => b"ull",
+        190 => b"restrict ",
+        191 => b"volatile ",
+        192 => b"volatile restrict ",
+        193 => b"const ",
+        194 => b"const restrict ",
+        195 => b"const volatile ",
+        196 => b"const volatile restrict ",
         OPERATOR_ALONE => b"operator",
         _ => b"",
     }
@@ -162,58 +168,58 @@ fn remaining_text(number: u16) -> &'static [u8]
 #[tactic(auto, unfolding(crate::specs::Texts::fixed_text, cpp_grammar::specs::Texts::builtin_texts, cpp_grammar::specs::Texts::operator_texts))]
 #[inline(always)]
 fn operator_text(number: u16) -> &'static [u8]
-    requires { 112 ≤ number }
+    requires { 118 ≤ number }
     ensures { result.now ≡ fixed_text number }
 {
     match number {
-        112 => b"operator new",
-        113 => b"operator new[]",
-        114 => b"operator delete",
-        115 => b"operator delete[]",
-        116 => b"operator co_await",
-        117 => b"operator+",
-        118 => b"operator-",
-        119 => b"operator&",
-        120 => b"operator*",
-        121 => b"operator~",
-        122 => b"operator+",
-        123 => b"operator-",
-        124 => b"operator*",
-        125 => b"operator/",
-        126 => b"operator%",
-        127 => b"operator&",
-        128 => b"operator^",
-        129 => b"operator=",
-        130 => b"operator+=",
-        131 => b"operator-=",
-        132 => b"operator*=",
-        133 => b"operator/=",
-        134 => b"operator%=",
-        135 => b"operator&=",
-        136 => b"operator|=",
-        137 => b"operator^=",
-        138 => b"operator<<",
-        139 => b"operator>>",
-        140 => b"operator<<=",
-        141 => b"operator>>=",
-        142 => b"operator==",
-        143 => b"operator!=",
-        144 => b"operator<",
-        145 => b"operator>",
-        146 => b"operator<=",
-        147 => b"operator>=",
-        148 => b"operator<=>",
-        149 => b"operator!",
-        150 => b"operator&&",
-        151 => b"operator||",
-        152 => b"operator++",
-        153 => b"operator--",
-        154 => b"operator,",
-        155 => b"operator->*",
-        156 => b"operator->",
-        157 => b"operator()",
-        158 => b"operator[]",
-        159 => b"operator|",
+        118 => b"operator new",
+        119 => b"operator new[]",
+        120 => b"operator delete",
+        121 => b"operator delete[]",
+        122 => b"operator co_await",
+        123 => b"operator+",
+        124 => b"operator-",
+        125 => b"operator&",
+        126 => b"operator*",
+        127 => b"operator~",
+        128 => b"operator+",
+        129 => b"operator-",
+        130 => b"operator*",
+        131 => b"operator/",
+        132 => b"operator%",
+        133 => b"operator&",
+        134 => b"operator^",
+        135 => b"operator=",
+        136 => b"operator+=",
+        137 => b"operator-=",
+        138 => b"operator*=",
+        139 => b"operator/=",
+        140 => b"operator%=",
+        141 => b"operator&=",
+        142 => b"operator|=",
+        143 => b"operator^=",
+        144 => b"operator<<",
+        145 => b"operator>>",
+        146 => b"operator<<=",
+        147 => b"operator>>=",
+        148 => b"operator==",
+        149 => b"operator!=",
+        150 => b"operator<",
+        151 => b"operator>",
+        152 => b"operator<=",
+        153 => b"operator>=",
+        154 => b"operator<=>",
+        155 => b"operator!",
+        156 => b"operator&&",
+        157 => b"operator||",
+        158 => b"operator++",
+        159 => b"operator--",
+        160 => b"operator,",
+        161 => b"operator->*",
+        162 => b"operator->",
+        163 => b"operator()",
+        164 => b"operator[]",
+        165 => b"operator|",
         _ => remaining_text(number),
     }
 }
@@ -222,37 +228,41 @@ fn operator_text(number: u16) -> &'static [u8]
 #[tactic(auto, unfolding(crate::specs::Texts::fixed_text, cpp_grammar::specs::Texts::builtin_texts))]
 #[inline(always)]
 fn builtin_text(number: u16) -> &'static [u8]
-    requires { 85 ≤ number }
+    requires { 87 ≤ number }
     ensures { result.now ≡ fixed_text number }
 {
     match number {
-        85 => b"void",
-        86 => b"wchar_t",
-        87 => b"bool",
-        88 => b"char",
-        89 => b"signed char",
-        90 => b"unsigned char",
-        91 => b"short",
-        92 => b"unsigned short",
-        93 => b"int",
-        94 => b"unsigned int",
-        95 => b"long",
-        96 => b"unsigned long",
-        97 => b"long long",
-        98 => b"unsigned long long",
-        99 => b"__int128",
-        100 => b"unsigned __int128",
-        101 => b"float",
-        102 => b"double",
-        103 => b"long double",
-        104 => b"__float128",
-        105 => b"...",
-        106 => b"char32_t",
-        107 => b"char16_t",
-        108 => b"char8_t",
-        109 => b"auto",
-        110 => b"decltype(auto)",
-        111 => b"std::nullptr_t",
+        87 => b"void",
+        88 => b"wchar_t",
+        89 => b"bool",
+        90 => b"char",
+        91 => b"signed char",
+        92 => b"unsigned char",
+        93 => b"short",
+        94 => b"unsigned short",
+        95 => b"int",
+        96 => b"unsigned int",
+        97 => b"long",
+        98 => b"unsigned long",
+        99 => b"long long",
+        100 => b"unsigned long long",
+        101 => b"__int128",
+        102 => b"unsigned __int128",
+        103 => b"float",
+        104 => b"double",
+        105 => b"long double",
+        106 => b"__float128",
+        107 => b"...",
+        108 => b"char32_t",
+        109 => b"char16_t",
+        110 => b"char8_t",
+        111 => b"auto",
+        112 => b"decltype(auto)",
+        113 => b"std::nullptr_t",
+        114 => b"decimal64",
+        115 => b"decimal128",
+        116 => b"decimal32",
+        117 => b"half",
         _ => operator_text(number),
     }
 }
@@ -261,58 +271,58 @@ fn builtin_text(number: u16) -> &'static [u8]
 #[tactic(auto, unfolding(crate::specs::Texts::fixed_text))]
 #[inline(always)]
 fn suffix_text(number: u16) -> &'static [u8]
-    requires { 37 ≤ number }
+    requires { 39 ≤ number }
     ensures { result.now ≡ fixed_text number }
 {
     match number {
         NONE => b"",
-        38 => b" restrict",
-        39 => b" volatile",
-        40 => b" volatile restrict",
-        41 => b" const",
-        42 => b" const restrict",
-        43 => b" const volatile",
-        44 => b" const volatile restrict",
-        45 => b" &",
-        46 => b" restrict &",
-        47 => b" volatile &",
-        48 => b" volatile restrict &",
-        49 => b" const &",
-        50 => b" const restrict &",
-        51 => b" const volatile &",
-        52 => b" const volatile restrict &",
-        53 => b" &&",
-        54 => b" restrict &&",
-        55 => b" volatile &&",
-        56 => b" volatile restrict &&",
-        57 => b" const &&",
-        58 => b" const restrict &&",
-        59 => b" const volatile &&",
-        60 => b" const volatile restrict &&",
-        61 => b" noexcept",
-        62 => b" restrict noexcept",
-        63 => b" volatile noexcept",
-        64 => b" volatile restrict noexcept",
-        65 => b" const noexcept",
-        66 => b" const restrict noexcept",
-        67 => b" const volatile noexcept",
-        68 => b" const volatile restrict noexcept",
-        69 => b" & noexcept",
-        70 => b" restrict & noexcept",
-        71 => b" volatile & noexcept",
-        72 => b" volatile restrict & noexcept",
-        73 => b" const & noexcept",
-        74 => b" const restrict & noexcept",
-        75 => b" const volatile & noexcept",
-        76 => b" const volatile restrict & noexcept",
-        77 => b" && noexcept",
-        78 => b" restrict && noexcept",
-        79 => b" volatile && noexcept",
-        80 => b" volatile restrict && noexcept",
-        81 => b" const && noexcept",
-        82 => b" const restrict && noexcept",
-        83 => b" const volatile && noexcept",
-        84 => b" const volatile restrict && noexcept",
+        40 => b" restrict",
+        41 => b" volatile",
+        42 => b" volatile restrict",
+        43 => b" const",
+        44 => b" const restrict",
+        45 => b" const volatile",
+        46 => b" const volatile restrict",
+        47 => b" &",
+        48 => b" restrict &",
+        49 => b" volatile &",
+        50 => b" volatile restrict &",
+        51 => b" const &",
+        52 => b" const restrict &",
+        53 => b" const volatile &",
+        54 => b" const volatile restrict &",
+        55 => b" &&",
+        56 => b" restrict &&",
+        57 => b" volatile &&",
+        58 => b" volatile restrict &&",
+        59 => b" const &&",
+        60 => b" const restrict &&",
+        61 => b" const volatile &&",
+        62 => b" const volatile restrict &&",
+        63 => b" noexcept",
+        64 => b" restrict noexcept",
+        65 => b" volatile noexcept",
+        66 => b" volatile restrict noexcept",
+        67 => b" const noexcept",
+        68 => b" const restrict noexcept",
+        69 => b" const volatile noexcept",
+        70 => b" const volatile restrict noexcept",
+        71 => b" & noexcept",
+        72 => b" restrict & noexcept",
+        73 => b" volatile & noexcept",
+        74 => b" volatile restrict & noexcept",
+        75 => b" const & noexcept",
+        76 => b" const restrict & noexcept",
+        77 => b" const volatile & noexcept",
+        78 => b" const volatile restrict & noexcept",
+        79 => b" && noexcept",
+        80 => b" restrict && noexcept",
+        81 => b" volatile && noexcept",
+        82 => b" volatile restrict && noexcept",
+        83 => b" const && noexcept",
+        84 => b" const restrict && noexcept",
+        85 => b" const volatile && noexcept",
+        86 => b" const volatile restrict && noexcept",
         _ => builtin_text(number),
     }
 }
@@ -361,6 +371,8 @@ pub fn fixed_text(number: u16) -> &'static [u8]
         STRING => b"string literal",
         ANONYMOUS => b"(anonymous namespace)",
         MINUS => b"-",
+        CONSTRUCTION => b"construction vtable for ",
+        IN => b"-in-",
         _ => suffix_text(number),
     }
 }

@@ -36,11 +36,11 @@ is_component k = nat_eq k 19
 unfoldable pub becomes_candidate : ℕ → Bool
 becomes_candidate k =
     nat_eq k 15 || nat_eq k 16 || nat_eq k 17 || nat_eq k 18 || nat_eq k 22
-    || nat_eq k 32 || nat_eq k 33 || nat_eq k 34 || nat_eq k 36 || nat_eq k 51
+    || nat_eq k 32 || nat_eq k 33 || nat_eq k 34 || nat_eq k 36 || nat_eq k 51 || nat_eq k 66
 
 -- what goes on with the name so far, and arguments behind it
 unfoldable pub goes_on : ℕ → Bool
-goes_on k = nat_eq k 17 || nat_eq k 18
+goes_on k = nat_eq k 17 || nat_eq k 18 || nat_eq k 66
 
 unfoldable pub is_arguments : ℕ → Bool
 is_arguments k = nat_eq k 42 || nat_eq k 43
@@ -75,7 +75,9 @@ may_leave Production.NestLocalType = true
 may_leave Production.NestSource = true
 may_leave Production.NestStd = true
 may_leave Production.NestAbbreviated = true
+may_leave Production.NestTemplate = true
 may_leave Production.NestArguments = true
+may_leave Production.NestInstance = true
 may_leave Production.NestNext = true
 may_leave Production.NestEnd = true
 may_leave Production.Abbreviation = true
@@ -103,6 +105,7 @@ may_leave _ = false
 -- what goes on with the name so far
 unfoldable pub takes_name : Production → Bool
 takes_name Production.NestArguments = true
+takes_name Production.NestInstance = true
 takes_name Production.NestNext = true
 takes_name Production.NestEnd = true
 takes_name _ = false

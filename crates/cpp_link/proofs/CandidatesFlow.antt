@@ -9,7 +9,7 @@ use Rattle.sym_shape.specs.declared.rule.Sym.TheVariants.{Kind as OfKind, Name, 
 use Rattle.sym_link.specs.Reading.{Found, Next}
 use Rattle.sym_link.specs.Unfold.{found}
 use Rattle.cpp_grammar.specs.declared.production.Production.{Production}
-use Rattle.cpp_grammar.specs.KindNumbers.{INTEGER, UNQUALIFIED, NEST, NEST_AFTER_S, NEST_REST, NEST_TAIL, COMPONENT, CONSTRUCTOR_DIGIT, DESTRUCTOR_DIGIT, ABBREVIATION, ANONYMOUS, ITEM_AFTER_D, AFTER_D, SOLID, TYPE_AFTER_S, MAYBE_ARGUMENTS, ARGUMENTS, ARGUMENT_LIST, LITERAL_TYPE, OPERATOR}
+use Rattle.cpp_grammar.specs.KindNumbers.{INTEGER, UNQUALIFIED, NEST, NEST_AFTER_S, NEST_REST, NEST_REST_OR_END, NEST_TAIL, COMPONENT, CONSTRUCTOR_DIGIT, DESTRUCTOR_DIGIT, ABBREVIATION, ANONYMOUS, ITEM_AFTER_D, AFTER_D, SOLID, TYPE_AFTER_S, MAYBE_ARGUMENTS, ARGUMENTS, ARGUMENT_LIST, LITERAL_TYPE, OPERATOR}
 use Rattle.cpp_grammar.specs.Grammar.{parts_of, number_of_kind}
 use Rattle.cpp_grammar.proofs.ClosedStates.{ok_same}
 use Rattle.cpp_term.specs.Term.{Term, source, constructor, destructor, in_std, instance, pack, lvalue, rvalue}
@@ -227,6 +227,16 @@ nest-abbreviated around place = λ state next e. came (going [] around state) ne
     (omega arith)
     (λ w. same-closes Production.NestAbbreviated around place (tree (tree_of v) true ∷ w ∷ []) w (λ u. refl) (λ byte began last. refl)))))
 
+nest-template : (around : Around) (place : ℕ) → Flow Production.NestTemplate around place (OfKind ABBREVIATION ∷ OfKind NEST_REST_OR_END ∷ []) [] 0
+unfolding pending pending_around goes_on is_arguments is_component becomes_candidate between listed_so_far makes_before made_before part leaves makes_name may_leave meaning close behind
+nest-template around place = λ state next e. came (going [] around state) next e
+    (quiet (going [] around state) (omega arith) (λ v. refl) (λ v.
+    λ later after_ f. came (going (tree (tree_of v) true ∷ []) (after (tree_of v) true around) later) after_ f
+    (rest-step Production.NestTemplate around place 66 0 0 later (tree (tree_of v) true ∷ []) (tree_of v) true later (λ a w. refl)
+    (λ w. refl)
+    (omega arith)
+    (λ w. same-closes Production.NestTemplate around place (tree (tree_of v) true ∷ w ∷ []) w (λ u. refl) (λ byte began last. refl)))))
+
 nest-parameter : (around : Around) (place : ℕ) → Flow Production.NestParameter around place (Number Decimal ∷ OfKind NEST_REST ∷ []) [] 0
 unfolding pending pending_around goes_on is_arguments is_component becomes_candidate between makes_before made_before part leaves makes_name may_leave meaning close behind
 nest-parameter around place = λ state next e. came (going [] around state) next e
@@ -305,6 +315,27 @@ nest-arguments around place = λ state next e. came (going [] (inside around) (w
         }))
 
     ended-by : (v : Value) → Flow Production.NestArguments around place (Byte 69 ∷ OfKind COMPONENT ∷ OfKind NEST_TAIL ∷ []) (v ∷ []) 0
+    ended-by v = λ state next e. came (going (v ∷ []) around state) next e
+        (quiet (going (v ∷ []) around state) (omega arith) (λ b. refl) (λ b. made v b))
+
+nest-instance : (around : Around) (place : ℕ)
+    → Flow Production.NestInstance around place (OfKind ARGUMENT_LIST ∷ Byte 69 ∷ OfKind NEST_TAIL ∷ []) [] (unlisted_around around)
+unfolding pending pending_around goes_on is_arguments is_component becomes_candidate between named_so_far makes_before made_before part leaves makes_name may_leave meaning close behind
+nest-instance around place = λ state next e. came (going [] (inside around) (with_prefix around state)) next e (record {
+  over = 0;
+  few = omega (arith, prefix-one around state);
+  later = λ v. record { now = 0; few = omega arith; goes = ended-by v };
+})
+  where
+    made : (v b : Value) → Flow Production.NestInstance around place (OfKind NEST_TAIL ∷ []) (v ∷ b ∷ []) 0
+    made v b = λ state next e. (
+        let t : Term = instance (prefix_tree around.prefix) (no_items v) in
+        came (going (tree t false ∷ b ∷ []) (after t false around) state) next e
+        (rest-step Production.NestInstance around place 18 1 0 state (tree t false ∷ b ∷ []) t false state (λ a w. refl) (λ w. refl)
+        (omega arith)
+        (λ w. same-closes Production.NestInstance around place (tree t false ∷ b ∷ w ∷ []) w (λ x. refl) (λ byte began last. refl))))
+
+    ended-by : (v : Value) → Flow Production.NestInstance around place (Byte 69 ∷ OfKind NEST_TAIL ∷ []) (v ∷ []) 0
     ended-by v = λ state next e. came (going (v ∷ []) around state) next e
         (quiet (going (v ∷ []) around state) (omega arith) (λ b. refl) (λ b. made v b))
 
@@ -453,10 +484,12 @@ flows Production.NestInternal around place = nest-internal around place
 flows Production.NestSource around place = nest-source around place
 flows Production.NestLocalType around place = nest-local-type around place
 flows Production.NestAbbreviated around place = nest-abbreviated around place
+flows Production.NestTemplate around place = nest-template around place
 flows Production.NestParameter around place = nest-parameter around place
 flows Production.NestStd around place = nest-std around place
 flows Production.NestNext around place = nest-next around place
 flows Production.NestArguments around place = nest-arguments around place
+flows Production.NestInstance around place = nest-instance around place
 flows Production.NestEnd around place = nest-end around place
 flows Production.Arguments around place = arguments around place
 flows Production.Encoding around place = plain-flow Production.Encoding around place (encoding-keeps around place)

@@ -64,6 +64,7 @@ quiet_makes Production.RvalueItem (v ∷ vs) less = absurd (not_first vs less)
 quiet_makes Production.PackArgument [] less = refl
 quiet_makes Production.PackArgument (v ∷ vs) less = absurd (not_first vs less)
 quiet_makes Production.NestArguments vs less = absurd (never vs less)
+quiet_makes Production.NestInstance vs less = absurd (never vs less)
 quiet_makes _ vs less = refl
 
 pub quiet_made : (s : List ℕ) (old : Linked) (frame : Frame Kept) (parts : List Part) (held : ℕ) → held ≡ length parts - frame.base → held < quiet_parts (production_at frame.rule)

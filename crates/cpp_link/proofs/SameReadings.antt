@@ -8,9 +8,10 @@ use Rattle.sym_shape.specs.declared.rule.Rule.{Rule}
 use Rattle.sym_shape.specs.declared.rule.Sym.{Sym}
 use Rattle.sym_shape.specs.declared.rule.Sym.TheVariants.{Kind, Name, Number, Byte}
 use Rattle.sym_shape.specs.Table.{Table, symbols_of}
-use Rattle.sym_shape.specs.Law.{IsLawful, IsSymbol, AreSymbols}
+use Rattle.sym_shape.specs.Law.{IsSymbol, AreSymbols}
 use Rattle.sym_shape.specs.Tree.{Tree, Forest, branch, empty, token, fixed, nothing, grown, spell, spell_all, IsTree, AreTrees}
 use Rattle.sym_link.specs.Reading.{Found, Open, Reading, ◌>>=◌}
+use Rattle.sym_link.specs.Sound.{IsSound}
 use Rattle.sym_link.specs.Unfold.{alone, standing, unfold_tree, unfold_forest}
 
 -- what follows is the same where something comes of the first
@@ -43,7 +44,7 @@ ClosesSame {V = V} {S = S} {C = C} g s reading close =
 behind_front : (s front rest : List ℕ) (place : ℕ) → drop place s ≡ front ++ rest → drop (place + length front) s ≡ rest
 behind_front s front rest place at = sym (drop-drop (length front) place s) ∙ ap (λ x. drop (length front) x) at ∙ drop-append_seam front rest
 
-module _ {V S C : Type 0} (g : Table) (lawful : IsLawful g) (s : List ℕ) (reading : Reading V S C) (begin : Open S C → Forest → Result S Refusal)
+module _ {V S C : Type 0} (g : Table) (sound : IsSound g) (s : List ℕ) (reading : Reading V S C) (begin : Open S C → Forest → Result S Refusal)
     (close : Open S C → List V → S → Result (Found V S) Refusal) (begins : BeginsSame g s reading begin) (closes : ClosesSame g s reading close) where
   mutual
     pub tree_same : (symbol : Sym) (context : C) (place : ℕ) (tree : Tree) (state : S) (behind : List ℕ) → IsSymbol g symbol → IsTree g symbol tree
@@ -52,7 +53,7 @@ module _ {V S C : Type 0} (g : Table) (lawful : IsLawful g) (s : List ℕ) (read
     tree_same (Kind kind) context place (branch rule taken parts) state behind known is at =
         let o = standing rule taken place context state in
         let here : drop place s ≡ taken ++ (spell_all parts ++ behind) = at ∙ append_assoc taken (spell_all parts) behind in
-        let symbols : AreSymbols g (symbols_of rule) = (lawful.rule kind is.0.byte rule known is.0.is_byte is.0.found).symbols in
+        let symbols : AreSymbols g (symbols_of rule) = sound.symbols kind is.0.byte rule known is.0.is_byte is.0.found in
         ap (λ m. m >>= λ begun. unfold_forest (changed reading begin close) o [] (place + length taken) parts begun >>= λ inner. close o inner.value inner.state >>= alone)
         (begins kind rule taken parts place context state behind known is here)
         ∙ bind_known (reading.begin o parts) _ _ (λ begun is_begun.

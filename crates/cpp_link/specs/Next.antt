@@ -53,7 +53,12 @@ behind_bytes Production.LocalType held = over 1 held
 behind_bytes Production.Vector held = over 1 held
 behind_bytes Production.LiteralArgument held = over 1 held
 behind_bytes Production.LiteralElement held = over 1 held
+behind_bytes Production.ConstructionVtable held = over 2 held
 behind_bytes _ held = held
+
+-- in a rule that begins with a list of arguments
+unfoldable pub behind_list : (held rule : ℕ) → ℕ
+behind_list held rule = elim (is_argument rule) [ true ↦ 0 | false ↦ at_least 2 held ]
 
 -- where the next row is that of this rule, and begins with this byte
 unfoldable pub next_part : Production → (held rule byte : ℕ) → ℕ
@@ -61,7 +66,8 @@ next_part Production.NestedName held rule byte = elim (is_mark rule) [ true ↦ 
 next_part Production.RestrictType held rule byte = elim (is_mark rule) [ true ↦ type_mark byte | false ↦ 2 ]
 next_part Production.VolatileType held rule byte = elim (is_mark rule) [ true ↦ 0 | false ↦ 1 ]
 next_part Production.NestStd held rule byte = elim (nat_eq held 0) [ true ↦ 0 | false ↦ elim (is_list rule) [ true ↦ 1 | false ↦ 2 ] ]
-next_part Production.NestArguments held rule byte = elim (is_argument rule) [ true ↦ 0 | false ↦ at_least 2 held ]
+next_part Production.NestArguments held rule byte = behind_list held rule
+next_part Production.NestInstance held rule byte = behind_list held rule
 next_part Production.NoexceptFunction held rule byte = elim (is_mark rule) [ true ↦ 1 | false ↦ at_least 2 held ]
 next_part Production.Function held rule byte = elim (is_mark rule) [ true ↦ 0 | false ↦ at_least 1 held ]
 next_part Production.PackArgument held rule byte = elim (is_element rule) [ true ↦ 0 | false ↦ 2 ]

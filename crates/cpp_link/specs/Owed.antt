@@ -16,6 +16,7 @@ made_before Production.NestLocalType = 0 ∷ 1 ∷ []
 made_before Production.NestSource = 0 ∷ 1 ∷ []
 made_before Production.NestStd = 0 ∷ 1 ∷ 1 ∷ []
 made_before Production.NestArguments = 0 ∷ 0 ∷ 1 ∷ []
+made_before Production.NestInstance = 0 ∷ 0 ∷ 1 ∷ []
 made_before Production.Constructor = 0 ∷ 1 ∷ []
 made_before Production.Destructor = 0 ∷ 1 ∷ []
 made_before Production.Parameter = 0 ∷ 1 ∷ []
@@ -80,6 +81,8 @@ made_at_end Production.EncodingLiteral = 1
 made_at_end Production.BoolLiteral = 1
 made_at_end Production.IntegerLiteral = 1
 made_at_end Production.NullLiteral = 1
+made_at_end Production.SpecialName = 1
+made_at_end Production.ConstructionVtable = 1
 made_at_end Production.CharLiteral = 2
 made_at_end _ = 0
 
@@ -96,4 +99,4 @@ owes number held = owes_of (production_at number) held
 
 -- A tree of the kind makes at most two nodes a byte, and this, less the base.
 unfoldable pub slack : List ℕ
-slack = 6 ∷ 10 ∷ 8 ∷ 10 ∷ 9 ∷ 8 ∷ 4 ∷ 8 ∷ 8 ∷ 10 ∷ 10 ∷ 10 ∷ 10 ∷ 6 ∷ 6 ∷ 3 ∷ 5 ∷ 6 ∷ 8 ∷ 8 ∷ 8 ∷ 8 ∷ 9 ∷ 9 ∷ 8 ∷ 10 ∷ 8 ∷ 6 ∷ 9 ∷ 9 ∷ 9 ∷ 9 ∷ 9 ∷ 9 ∷ 9 ∷ 10 ∷ 9 ∷ 6 ∷ 8 ∷ 9 ∷ 9 ∷ 10 ∷ 10 ∷ 6 ∷ 10 ∷ 10 ∷ 0 ∷ 8 ∷ 8 ∷ 9 ∷ 10 ∷ 9 ∷ 6 ∷ 8 ∷ 8 ∷ 8 ∷ 8 ∷ 8 ∷ 8 ∷ 8 ∷ 8 ∷ 8 ∷ 8 ∷ 8 ∷ 8 ∷ 8 ∷ []
+slack = 6 ∷ 10 ∷ 8 ∷ 10 ∷ 9 ∷ 8 ∷ 4 ∷ 8 ∷ 8 ∷ 10 ∷ 10 ∷ 10 ∷ 10 ∷ 6 ∷ 6 ∷ 3 ∷ 5 ∷ 6 ∷ 8 ∷ 8 ∷ 8 ∷ 8 ∷ 9 ∷ 9 ∷ 8 ∷ 10 ∷ 8 ∷ 6 ∷ 9 ∷ 9 ∷ 9 ∷ 9 ∷ 9 ∷ 9 ∷ 9 ∷ 10 ∷ 9 ∷ 6 ∷ 8 ∷ 9 ∷ 9 ∷ 10 ∷ 10 ∷ 6 ∷ 10 ∷ 10 ∷ 0 ∷ 8 ∷ 8 ∷ 9 ∷ 10 ∷ 9 ∷ 6 ∷ 8 ∷ 8 ∷ 8 ∷ 8 ∷ 8 ∷ 8 ∷ 8 ∷ 8 ∷ 8 ∷ 8 ∷ 8 ∷ 8 ∷ 8 ∷ 6 ∷ []

@@ -4,7 +4,7 @@ ghost use Rattle.std.specs.Prelude.{◌≡◌, ◌<◌, length};
 ghost use Rattle.sym_link.specs.Threads.{IsAhead, IsAheadToken, IsCount};
 ghost use Rattle.cpp_grammar.specs.Grammar.{parts_of};
 ghost use Rattle.cpp_grammar.specs.Unfolding.{production_at};
-ghost use Rattle.cpp_link.specs.Next.{at_least, over, is_mark, is_list, is_argument, is_element, nested_mark, type_mark, behind_bytes, next_part, token_part};
+ghost use Rattle.cpp_link.specs.Next.{at_least, over, is_mark, is_list, is_argument, is_element, nested_mark, type_mark, behind_bytes, behind_list, next_part, token_part};
 ghost use Rattle.cpp_link.specs.Tables.{skips_parts};
 ghost use Rattle.cpp_link.specs.View.{cpp_view};
 
@@ -105,7 +105,20 @@ fn behind_bytes(production: Production, held: usize) -> usize
         Production::Vector => over(1, held),
         Production::LiteralArgument => over(1, held),
         Production::LiteralElement => over(1, held),
+        Production::ConstructionVtable => over(2, held),
         _ => held,
+    }
+}
+
+/// The number of the next part of a rule that begins with a list of arguments, where the next row is of this rule.
+#[tactic(auto, unfolding(crate::specs::Next::behind_list))]
+fn behind_list(held: usize, rule: u16) -> usize
+    ensures { result ≡ behind_list held rule }
+{
+    if is_argument(rule) {
+        0
+    } else {
+        at_least(2, held)
     }
 }
 
@@ -125,11 +138,8 @@ fn next_part(production: Production, held: usize, rule: u16, byte: u8) -> usize
         } else {
             2
         },
-        Production::NestArguments => if is_argument(rule) {
-            0
-        } else {
-            at_least(2, held)
-        },
+        Production::NestArguments => behind_list(held, rule),
+        Production::NestInstance => behind_list(held, rule),
         Production::NoexceptFunction => if is_mark(rule) { 1 } else { at_least(2, held) },
         Production::Function => if is_mark(rule) { 0 } else { at_least(1, held) },
         Production::PackArgument => if is_element(rule) { 0 } else { 2 },

@@ -117,6 +117,10 @@ impl Linked {
             Production::NestStd => Meant::Given(self.given(symbol, parts, 2)),
             // <prefix> ::= <template-prefix> <template-args>
             Production::NestArguments => Meant::Given(self.given(symbol, parts, 3)),
+            // <prefix> ::= <substitution>, and what is within it, or <template-prefix> ::= <substitution>, and its arguments
+            Production::NestTemplate => Meant::Given(self.given(symbol, parts, 1)),
+            // <nested-name> ::= N [<CV-qualifiers>] [<ref-qualifier>] <template-prefix> <template-args> E, or <prefix> likewise
+            Production::NestInstance => Meant::Given(self.given(symbol, parts, 2)),
             // <discriminator> ::= _ <digit> | __ <number> _
             Production::Discriminator => Meant::Given(self.given(symbol, parts, 0)),
             // <template-arg> ::= <type>
@@ -154,6 +158,25 @@ impl Linked {
                 Node::Special {
                     letter: byte,
                     ty: self.tree(symbol, parts, 0),
+                },
+                true,
+            ),
+            // <special-name> ::= TH <object name> | TW <object name>
+            Production::SpecialName => made(
+                Node::OfName {
+                    letter: byte,
+                    name: self.tree(symbol, parts, 0),
+                    qualifiers: self.qualifiers(symbol, parts, 0),
+                    mark: self.reference(symbol, parts, 0),
+                },
+                true,
+            ),
+            // <special-name> ::= TC <derived type> <offset number> _ <base type>
+            Production::ConstructionVtable => made(
+                Node::Construction {
+                    derived: self.tree(symbol, parts, 0),
+                    digits: normal(symbol, self.text(symbol, parts, 1)),
+                    parent: self.tree(symbol, parts, 3),
                 },
                 true,
             ),
@@ -208,7 +231,7 @@ impl Linked {
             Production::ItemWithD => tree(self.tree(symbol, parts, 0), true),
             // <type> ::= Dp <type>
             Production::Expansion => made(Node::Expansion(self.tree(symbol, parts, 0)), false),
-            // <builtin-type> ::= Di | Ds | Du | Da | Dc | Dn
+            // <builtin-type> ::= Di | Ds | Du | Da | Dc | Dn | Dd | De | Df | Dh
             Production::BuiltinWithD => made(Node::BuiltinWithD(byte), true),
             // <builtin-type> ::= u <source-name>
             Production::Vendor => made(Node::Vendor(self.text(symbol, parts, 0)), false),

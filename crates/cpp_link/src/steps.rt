@@ -223,6 +223,11 @@ impl Linked {
                 then: self.inside(kept),
                 packs: self.packs,
             },
+            Production::NestInstance => Step::Go {
+                candidate: self.prefix_candidate(symbol, kept),
+                then: self.inside(kept),
+                packs: self.packs,
+            },
             Production::Arguments => Step::Go {
                 candidate: self.prefix_candidate(symbol, kept),
                 then: self.inside(kept),
@@ -411,6 +416,11 @@ impl Linked {
                 listed: true,
                 is_name: true,
             },
+            Production::NestTemplate => Step::Named {
+                node: self.node(symbol, first),
+                listed: true,
+                is_name: true,
+            },
             Production::NestNext => self.go(self.behind_name(
                 kept,
                 self.node(symbol, first),
@@ -516,6 +526,10 @@ impl Linked {
                     packs: self.packs,
                 }
             }
+            Production::NestInstance => self.named(Node::Instance {
+                template: self.prefix_node(symbol, kept),
+                arguments: self.list_in(symbol, first),
+            }),
             _ => self.go(kept),
         }
     }

@@ -3,7 +3,7 @@
 use cpp_grammar::production::Production;
 
 /// The productions.
-pub(crate) const PRODUCTIONS: [Production; 112] = [
+pub(crate) const PRODUCTIONS: [Production; 116] = [
     Production::Mark,
     Production::InternalName,
     Production::LocalTypeName,
@@ -116,10 +116,14 @@ pub(crate) const PRODUCTIONS: [Production; 112] = [
     Production::OperatorI,
     Production::OperatorG,
     Production::LiteralOperator,
+    Production::NestInstance,
+    Production::SpecialName,
+    Production::ConstructionVtable,
+    Production::NestTemplate,
 ];
 
 /// How many parts each has.
-pub(crate) const PART_COUNTS: [u8; 112] = [
+pub(crate) const PART_COUNTS: [u8; 116] = [
     0, // Mark
     2, // InternalName
     2, // LocalTypeName
@@ -232,10 +236,14 @@ pub(crate) const PART_COUNTS: [u8; 112] = [
     1, // OperatorI
     1, // OperatorG
     1, // LiteralOperator
+    3, // NestInstance
+    1, // SpecialName
+    4, // ConstructionVtable
+    2, // NestTemplate
 ];
 
 /// Whether parts without a row may stand between those of each.
-pub(crate) const SKIPS_PARTS: [bool; 112] = [
+pub(crate) const SKIPS_PARTS: [bool; 116] = [
     false, // Mark
     false, // InternalName
     false, // LocalTypeName
@@ -348,10 +356,14 @@ pub(crate) const SKIPS_PARTS: [bool; 112] = [
     false, // OperatorI
     false, // OperatorG
     false, // LiteralOperator
+    true, // NestInstance
+    false, // SpecialName
+    true, // ConstructionVtable
+    false, // NestTemplate
 ];
 
 /// Before how many of its parts nothing is done in each: before none, the first, or all, which are five at most.
-pub(crate) const QUIET_PARTS: [u8; 112] = [
+pub(crate) const QUIET_PARTS: [u8; 116] = [
     5, // Mark
     1, // InternalName
     1, // LocalTypeName
@@ -464,4 +476,8 @@ pub(crate) const QUIET_PARTS: [u8; 112] = [
     5, // OperatorI
     5, // OperatorG
     5, // LiteralOperator
+    0, // NestInstance
+    5, // SpecialName
+    5, // ConstructionVtable
+    1, // NestTemplate
 ];

@@ -420,6 +420,16 @@ fn then_encoding(
             then_tree(symbol, name, Way::Name(qualifiers, mark), here, tasks)?;
             then_text(symbol, Text::Pair(special_front(letter), letter), tasks)?;
         }
+        Node::Construction {
+            derived,
+            digits,
+            parent,
+        } => {
+            then_tree(symbol, parent, Way::Type, here, tasks)?;
+            then_text(symbol, Text::Digits(b"", digits), tasks)?;
+            then_tree(symbol, derived, Way::Type, here, tasks)?;
+            then_fixed(symbol, b"TC", tasks)?;
+        }
         Node::Whole { encoding, suffix } => {
             then_text(symbol, Text::Suffix(suffix), tasks)?;
             then_tree(symbol, encoding, Way::Encoding, here, tasks)?;

@@ -125,6 +125,7 @@ between_noted Production.NestStd around place (v ∷ w ∷ []) x y stays packs =
     named_goes around x x y y (applied (tree_of v) w) _ false (w ∷ []) (noted_value (noted_scope around.scope) w ∷ [])
     (ap (λ t. between_.applied t (noted_value (noted_scope around.scope) w)) (tree_noted (noted_scope around.scope) v) ∙ applied_noted (noted_scope around.scope) (tree_of v) w) refl (moves_none around x x y y refl refl packs)
 between_noted Production.NestAbbreviated around place (v ∷ []) x y stays packs = named_goes around x x y y (tree_of v) _ true [] [] (tree_noted (noted_scope around.scope) v) refl (moves_none around x x y y refl refl packs)
+between_noted Production.NestTemplate around place (v ∷ []) x y stays packs = named_goes around x x y y (tree_of v) _ true [] [] (tree_noted (noted_scope around.scope) v) refl (moves_none around x x y y refl refl packs)
 between_noted Production.NestParameter around place (v ∷ []) x y stays packs = named_parameter around x y place v packs
 between_noted Production.NestInternal around place (v ∷ []) x y stays packs = piece_goes around x y (source true (text_of v)) _ packs (ap (term_.source true) (text_noted (noted_scope around.scope) v))
 between_noted Production.NestSource around place (v ∷ []) x y stays packs = piece_goes around x y (source false (text_of v)) _ packs (ap (term_.source false) (text_noted (noted_scope around.scope) v))
@@ -135,6 +136,10 @@ between_noted Production.NestArguments around place (v ∷ w ∷ []) x y stays p
     named_goes around x (appended around (instance (prefix_tree around.prefix) (no_items v)) x) y _ (instance (prefix_tree around.prefix) (no_items v)) _ true (w ∷ []) (noted_value (noted_scope around.scope) w ∷ []) e refl
     (one_moves around (instance (prefix_tree around.prefix) (no_items v)) _ x y packs e)
 between_noted Production.NestArguments around place (v ∷ w ∷ u ∷ []) x y stays packs = after_goes around x x y y v (tree_of u) _ false (v ∷ w ∷ u ∷ []) (tree_noted (noted_scope around.scope) u) (moves_none around x x y y refl refl packs)
+between_noted Production.NestInstance around place [] x y stays packs = inside_goes around x y packs
+between_noted Production.NestInstance around place (v ∷ w ∷ []) x y stays packs =
+    let e = both term_.instance (prefix_tree_noted (noted_scope around.scope) around.prefix) (items_noted (noted_scope around.scope) v) in
+    named_goes around x x y y (instance (prefix_tree around.prefix) (no_items v)) _ false (w ∷ []) (noted_value (noted_scope around.scope) w ∷ []) e refl (moves_none around x x y y refl refl packs)
 between_noted Production.NestNext around place [] x y stays packs =
     after_goes around x (with_prefix around x) y _ leaf_.nothing_there (prefix_tree around.prefix) _ true [] (prefix_tree_noted (noted_scope around.scope) around.prefix) (prefix_moves around x y packs)
 between_noted Production.NestNext around place (v ∷ []) x y stays packs = after_goes around x x y y v (tree_of v) _ false (v ∷ []) (tree_noted (noted_scope around.scope) v) (moves_none around x x y y refl refl packs)

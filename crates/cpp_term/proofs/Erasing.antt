@@ -7,8 +7,8 @@ use Rattle.sym_shape.specs.Tree.{Tree, IsTree}
 use Rattle.sym_link.specs.Driving.{Fails}
 use Rattle.sym_link.specs.Reading.{Found, ◌>>=◌}
 use Rattle.sym_link.specs.Unfold.{unfold_tree}
-use Rattle.cpp_grammar.specs.Table.{wide}
-use Rattle.cpp_grammar.specs.Term.{Term, symbol, function, object, special, thunk, of_name, alone, in_std, within, instance, local, lambda, pointer, lvalue, rvalue, array, member_pointer, function_type, qualified, vector, complex, expansion, integer, encoding_literal, address_of, pack, list}
+use Rattle.cpp_grammar.specs.Table.{either}
+use Rattle.cpp_grammar.specs.Term.{Term, symbol, function, object, special, thunk, of_name, construction, alone, in_std, within, instance, local, lambda, pointer, lvalue, rvalue, array, member_pointer, function_type, qualified, vector, complex, expansion, integer, encoding_literal, address_of, pack, list}
 use Rattle.cpp_grammar.specs.Unfolding.{unfold_cpp}
 use Rattle.cpp_term.specs.Term as term_
 use Rattle.cpp_term.specs.Scope as scope_
@@ -31,6 +31,7 @@ erased s (object name q ref) = ap (λ a. object a q ref) (erased None name)
 erased s (special letter t) = ap (λ a. special letter a) (erased None t)
 erased s (thunk kind e) = ap (λ a. thunk kind a) (erased None e)
 erased s (of_name letter name q ref) = ap (λ a. of_name letter a q ref) (erased None name)
+erased s (construction derived digits parent) = both (λ a b. construction a digits b) (erased None derived) (erased None parent)
 erased s (alone p) = ap (λ a. alone a) (erased s p)
 erased s (in_std p) = ap (λ a. in_std a) (erased s p)
 erased s (within prefix p) = both (λ a b. within a b) (erased s prefix) (erased s p)
@@ -62,7 +63,7 @@ pub record IsSymbolTree (shape : Tree) (t : term_.Term) : Type 0 where
   pub plain : unfold_cpp shape ≡ Ok (erase t)
   pub carries : CarriesArguments t
 
-pub symbol_tree : (shape : Tree) (t : term_.Term) → IsTree wide (Kind 0) shape → unfolded_.unfold_cpp shape ≡ Ok t → IsSymbolTree shape t
+pub symbol_tree : (shape : Tree) (t : term_.Term) → IsTree either (Kind 0) shape → unfolded_.unfold_cpp shape ≡ Ok t → IsSymbolTree shape t
 unfolding noted_tree
 symbol_tree shape t is e = go (unfold_cpp shape) refl (sym (unfold_noted shape is) ∙ e)
   where
@@ -72,7 +73,7 @@ symbol_tree shape t is e = go (unfold_cpp shape) refl (sym (unfold_noted shape i
         let same : annotate None u ≡ t = cc in
         record { plain = is ∙ ap Ok (sym (erased None u) ∙ ap erase same); carries = ap (λ x. annotate None (erase x)) (sym same) ∙ carries_arguments u ∙ same }
 
-pub refused_alike : (shape : Tree) (refusal : Refusal) → IsTree wide (Kind 0) shape → unfolded_.unfold_cpp shape ≡ Err refusal → unfold_cpp shape ≡ Err refusal
+pub refused_alike : (shape : Tree) (refusal : Refusal) → IsTree either (Kind 0) shape → unfolded_.unfold_cpp shape ≡ Err refusal → unfold_cpp shape ≡ Err refusal
 unfolding noted_tree
 refused_alike shape refusal is e = go (unfold_cpp shape) refl (sym (unfold_noted shape is) ∙ e)
   where
@@ -86,17 +87,17 @@ reading : Tree → Result (Found (List Value) State) Refusal
 reading shape = unfold_tree unfolded_.cpp unfolded_.first_around 0 shape unfolded_.first_state
 
 -- a shape that is read is that of a symbol, whose tree is that of its one value
-pub reading_stands : (shape : Tree) (r : Found (List Value) State) → IsTree wide (Kind 0) shape → unfold_tree unfolded_.cpp unfolded_.first_around 0 shape unfolded_.first_state ≡ Ok r →
+pub reading_stands : (shape : Tree) (r : Found (List Value) State) → IsTree either (Kind 0) shape → unfold_tree unfolded_.cpp unfolded_.first_around 0 shape unfolded_.first_state ≡ Ok r →
     IsSymbolTree shape (unfolded_.first_tree r.value)
 unfolding unfolded_.unfold_cpp
 reading_stands shape r is e = symbol_tree shape (unfolded_.first_tree r.value) is (ap (λ m. m >>= λ whole. Ok (unfolded_.first_tree whole.value)) e)
 
-refused_too : (shape : Tree) (refusal : Refusal) → IsTree wide (Kind 0) shape → reading shape ≡ Err refusal → unfold_cpp shape ≡ Err refusal
+refused_too : (shape : Tree) (refusal : Refusal) → IsTree either (Kind 0) shape → reading shape ≡ Err refusal → unfold_cpp shape ≡ Err refusal
 unfolding reading unfolded_.unfold_cpp
 refused_too shape refusal is e = refused_alike shape refusal is (ap (λ m. m >>= λ whole. Ok (unfolded_.first_tree whole.value)) e)
 
 -- a shape whose reading fails is that of a symbol that is refused
-pub reading_fails : (shape : Tree) (refusal : Refusal) → IsTree wide (Kind 0) shape → Fails refusal (unfold_tree unfolded_.cpp unfolded_.first_around 0 shape unfolded_.first_state) → Fails refusal (unfold_cpp shape)
+pub reading_fails : (shape : Tree) (refusal : Refusal) → IsTree either (Kind 0) shape → Fails refusal (unfold_tree unfolded_.cpp unfolded_.first_around 0 shape unfolded_.first_state) → Fails refusal (unfold_cpp shape)
 unfolding reading
 reading_fails shape refusals.Memory is fails = tt
 reading_fails shape refusal is fails = refused_too shape refusal is fails

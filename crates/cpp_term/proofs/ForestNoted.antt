@@ -8,7 +8,7 @@ use Rattle.sym_shape.specs.Law.{IsSymbol, AreSymbols}
 use Rattle.sym_shape.specs.Tree.{Tree, Forest, nothing, grown, spell, IsTree, AreTrees}
 use Rattle.sym_link.specs.Reading.{Found, Open, ◌>>=◌}
 use Rattle.sym_link.specs.Unfold.{unfold_tree, unfold_forest}
-use Rattle.cpp_grammar.specs.Table.{wide}
+use Rattle.cpp_grammar.specs.Table.{either}
 use Rattle.cpp_grammar.specs.Scope.{is_open}
 use Rattle.cpp_grammar.specs.Values as leaf_
 use Rattle.cpp_grammar.specs.Values.{Candidate, State, Around, Value, tree_of}
@@ -120,7 +120,7 @@ pub record Many (around : Around) (x : State) (y : value_.State) (a : Found (Lis
   pub moves : Moves around x y a.state b.state
 
 abbrev pub TreeNoted : Tree → Type 0
-TreeNoted t = (x : Sym) (around : Around) (at : ℕ) (state : State) (other : value_.State) → IsSymbol wide x → IsTree wide x t → around.encoding ≤ at → (is_encoding x ≡ true → around.encoding < at) →
+TreeNoted t = (x : Sym) (around : Around) (at : ℕ) (state : State) (other : value_.State) → IsSymbol either x → IsTree either x t → around.encoding ≤ at → (is_encoding x ≡ true → around.encoding < at) →
     (is_special x ≡ true → Bare around) → GoodPrefix (Bare around) around.prefix → AllOld around at state.candidates → Same around state other →
     Alike (Many around state other) (unfold_tree cpp around at t state) (unfold_tree unfolded_.cpp (noted_around around) at t other)
 
@@ -148,7 +148,7 @@ outer_values around inner r end old (inr bare) c =
     ∙ sym (ap (noted_values (noted_scope around.scope)) c.is)
 
 pub forest_noted : (f : Forest) → AllTreesNoted f → (rule : Open State Around) (first : value_.State) (xs : List Sym) (vs : List Value) (at : ℕ) (x : State) (y : value_.State) →
-    StaysInside (production_at rule.rule.number) → AreSymbols wide xs → AreTrees wide xs f → rule.context.encoding ≤ at → (has_encoding xs ≡ true → rule.context.encoding < at) → has_special xs ≡ false →
+    StaysInside (production_at rule.rule.number) → AreSymbols either xs → AreTrees either xs f → rule.context.encoding ≤ at → (has_encoding xs ≡ true → rule.context.encoding < at) → has_special xs ≡ false →
     GoodPrefix (Bare rule.context) rule.context.prefix → AllGood (Bare rule.context) vs → AllOld rule.context at x.candidates → Same rule.context x y →
     Alike (Many rule.context x y) (unfold_forest cpp rule vs at f x) (unfold_forest unfolded_.cpp (noted_open rule first) (noted_values (noted_scope rule.context.scope) vs) at f y)
 unfolding cpp unfolded_.cpp has_encoding has_special

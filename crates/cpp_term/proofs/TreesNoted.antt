@@ -14,8 +14,8 @@ use Rattle.sym_link.specs.Unfold.{found, alone, unfold_tree, unfold_forest}
 use Rattle.cpp_grammar.specs.declared.production.Production.{Production}
 use Rattle.cpp_grammar.specs.KindNumbers.{SYMBOL, SPECIAL, COMPLETE_NAME, ITEMS}
 use Rattle.cpp_grammar.specs.Grammar.{parts_of, number_of_kind}
-use Rattle.cpp_grammar.specs.Table.{wide, rule_of}
-use Rattle.cpp_grammar.specs.TableLaws.{wide_lawful}
+use Rattle.cpp_grammar.specs.Table.{either, rule_of}
+use Rattle.cpp_grammar.proofs.Widening.{either_sound}
 use Rattle.cpp_grammar.specs.Term.{Term}
 use Rattle.cpp_grammar.specs.Scope.{is_open, arguments_of}
 use Rattle.cpp_grammar.specs.Values.{Candidate, State, Around, Value, tree_of, local_number, part}
@@ -77,7 +77,7 @@ no_special p h = go (opens p) (has_special (parts_of p)) h (plain_special p)
     go true b h k = absurd (true≢false h)
 
 plain_noted : (k : ℕ) (rule : Rule) (taken : List ℕ) (parts : Forest) → AllTreesNoted parts → (p : Production) → rule ≡ rule_of p → opens p ≡ false → (around : Around) (at : ℕ) (state : State) (other : value_.State) →
-    k < wide.kinds → IsTree wide (OfKind k) (branch rule taken parts) → around.encoding ≤ at → (nat_eq k 5 ≡ true → Bare around) → GoodPrefix (Bare around) around.prefix → AllOld around at state.candidates → Same around state other →
+    k < either.kinds → IsTree either (OfKind k) (branch rule taken parts) → around.encoding ≤ at → (nat_eq k 5 ≡ true → Bare around) → GoodPrefix (Bare around) around.prefix → AllOld around at state.candidates → Same around state other →
     Alike (Many around state other) (unfold_tree cpp around at (branch rule taken parts) state) (unfold_tree unfolded_.cpp (noted_around around) at (branch rule taken parts) other)
 unfolding cpp unfolded_.cpp noted_values
 plain_noted k rule taken parts all p is plain around at state other lt tree le special pre old same =
@@ -87,7 +87,7 @@ plain_noted k rule taken parts all p is plain around at state other lt tree le s
     let s = noted_scope around.scope in
     let number : production_at rule.number ≡ p = ap (λ x. production_at x.number) is ∙ at_number p in
     let inside_ : StaysInside (production_at rule.number) = subst (λ q. StaysInside q) (sym number) (stays p plain) in
-    let symbols = (wide_lawful.rule k tree.0.byte rule lt tree.0.is_byte tree.0.found).symbols in
+    let symbols = either_sound.symbols k tree.0.byte rule lt tree.0.is_byte tree.0.found in
     let none : has_special (symbols_of rule) ≡ false = ap has_special (ap symbols_of is ∙ its_symbols p) ∙ no_special p plain in
     opened (Many around state other) (production_at rule.number) parts at state other
     (λ begun. unfold_forest cpp whole [] from parts begun >>= λ inner. close (production_at rule.number) (byte_of taken) around at state inner.value inner.state >>= alone)
@@ -172,7 +172,7 @@ record Inner (p : Production) (around : Around) (x : State) (y : value_.State) (
   moves : Moves around x y a.state b.state
 
 -- one part of an encoding, in which nothing is named
-named_part : (t : Tree) → TreeNoted t → (x : Sym) (at from : ℕ) (state : State) (other : value_.State) → IsSymbol wide x → IsTree wide x t → is_encoding x ≡ false → at ≤ from → AllOld (in_name at) from state.candidates → Same (in_name at) state other →
+named_part : (t : Tree) → TreeNoted t → (x : Sym) (at from : ℕ) (state : State) (other : value_.State) → IsSymbol either x → IsTree either x t → is_encoding x ≡ false → at ≤ from → AllOld (in_name at) from state.candidates → Same (in_name at) state other →
     Alike (Many (in_name at) state other) (unfold_tree cpp (in_name at) from t state) (unfold_tree unfolded_.cpp (between_.in_name at) from t other)
 unfolding in_name between_.in_name noted_around noted_scope noted_prefix
 named_part t noted x at from state other known is plain le old same =
@@ -184,7 +184,7 @@ nameless_ at vs state = record { context = in_name at; values = vs; state = stat
 noted_nameless : (at : ℕ) → List value_.Value → value_.State → Next value_.Value value_.State value_.Around
 noted_nameless at vs state = record { context = between_.in_name at; values = vs; state = state }
 
-special_noted : (f : Forest) → AllTreesNoted f → (rule : Open State Around) (first : value_.State) (from : ℕ) (x : State) (y : value_.State) → production_at rule.rule.number ≡ Production.Special → AreTrees wide (parts_of Production.Special) f →
+special_noted : (f : Forest) → AllTreesNoted f → (rule : Open State Around) (first : value_.State) (from : ℕ) (x : State) (y : value_.State) → production_at rule.rule.number ≡ Production.Special → AreTrees either (parts_of Production.Special) f →
     rule.context.encoding < rule.place → rule.place ≤ from → AllOld rule.context rule.place x.candidates → Same rule.context x y →
     Alike (Inner Production.Special rule.context x y) (unfold_forest cpp rule [] from f x) (unfold_forest unfolded_.cpp (noted_open rule first) [] from f y)
 unfolding parts_of number_of_kind between between_.between meaning noted_.meaning is_encoding nameless_ noted_nameless in_name noted_scope noted_values part
@@ -264,7 +264,7 @@ noted_types_next rule v vs us y is e g =
     ∙ ap (λ c. Ok (record { context = c; values = noted_value None v ∷ []; state = y })) (types_noted rule.place v)
     ∙ sym (ap (λ ws. Ok (record { context = noted_around (in_types rule.place (tree_of v)); values = ws; state = y })) one)
 
-guard_noted : (f : Forest) → AllTreesNoted f → (rule : Open State Around) (first : value_.State) (from : ℕ) (x : State) (y : value_.State) → production_at rule.rule.number ≡ Production.Guard → AreTrees wide (parts_of Production.Guard) f →
+guard_noted : (f : Forest) → AllTreesNoted f → (rule : Open State Around) (first : value_.State) (from : ℕ) (x : State) (y : value_.State) → production_at rule.rule.number ≡ Production.Guard → AreTrees either (parts_of Production.Guard) f →
     rule.context.encoding < rule.place → rule.place ≤ from → AllOld rule.context rule.place x.candidates → Same rule.context x y →
     Alike (Inner Production.Guard rule.context x y) (unfold_forest cpp rule [] from f x) (unfold_forest unfolded_.cpp (noted_open rule first) [] from f y)
 unfolding parts_of number_of_kind between between_.between is_encoding nameless_ noted_nameless in_name noted_scope noted_values
@@ -298,7 +298,7 @@ guard_noted (grown t (grown u nothing)) all rule first from x y is trees lt le o
           (moves_out around (in_name at) at (next + length (spell u)) a.state d.state b.state e.state refl lt g.grows more.moves);
     }))))
 
-encoding_noted_ : (f : Forest) → AllTreesNoted f → (rule : Open State Around) (first : value_.State) (from : ℕ) (x : State) (y : value_.State) → production_at rule.rule.number ≡ Production.Encoding → AreTrees wide (parts_of Production.Encoding) f →
+encoding_noted_ : (f : Forest) → AllTreesNoted f → (rule : Open State Around) (first : value_.State) (from : ℕ) (x : State) (y : value_.State) → production_at rule.rule.number ≡ Production.Encoding → AreTrees either (parts_of Production.Encoding) f →
     rule.context.encoding < rule.place → rule.place ≤ from → AllOld rule.context rule.place x.candidates → Same rule.context x y →
     Alike (Inner Production.Encoding rule.context x y) (unfold_forest cpp rule [] from f x) (unfold_forest unfolded_.cpp (noted_open rule first) [] from f y)
 unfolding parts_of number_of_kind between between_.between is_encoding is_special nameless_ noted_nameless in_name in_types noted_scope noted_values
@@ -339,7 +339,7 @@ encoding_noted_ (grown t (grown u nothing)) all rule first from x y is trees lt 
 
 -- ## Trees
 
-inner_noted : (p : Production) → opens p ≡ true → (f : Forest) → AllTreesNoted f → (rule : Open State Around) (first : value_.State) (from : ℕ) (x : State) (y : value_.State) → production_at rule.rule.number ≡ p → AreTrees wide (parts_of p) f →
+inner_noted : (p : Production) → opens p ≡ true → (f : Forest) → AllTreesNoted f → (rule : Open State Around) (first : value_.State) (from : ℕ) (x : State) (y : value_.State) → production_at rule.rule.number ≡ p → AreTrees either (parts_of p) f →
     rule.context.encoding < rule.place → rule.place ≤ from → AllOld rule.context rule.place x.candidates → Same rule.context x y →
     Alike (Inner p rule.context x y) (unfold_forest cpp rule [] from f x) (unfold_forest unfolded_.cpp (noted_open rule first) [] from f y)
 unfolding opens
@@ -367,7 +367,7 @@ noted_closes Production.Mark o byte around place began vs x = absurd (false≢tr
 noted_closes _ o byte around place began vs x = absurd (false≢true o)
 
 encoded_noted : (k : ℕ) (rule : Rule) (taken : List ℕ) (parts : Forest) → AllTreesNoted parts → (p : Production) → rule ≡ rule_of p → opens p ≡ true → (around : Around) (at : ℕ) (state : State) (other : value_.State) →
-    IsTree wide (OfKind k) (branch rule taken parts) → around.encoding < at → AllOld around at state.candidates → Same around state other →
+    IsTree either (OfKind k) (branch rule taken parts) → around.encoding < at → AllOld around at state.candidates → Same around state other →
     Alike (Many around state other) (unfold_tree cpp around at (branch rule taken parts) state) (unfold_tree unfolded_.cpp (noted_around around) at (branch rule taken parts) other)
 unfolding cpp unfolded_.cpp noted_values
 encoded_noted k rule taken parts all p is opening_ around at state other tree less old same =
@@ -376,7 +376,7 @@ encoded_noted k rule taken parts all p is opening_ around at state other tree le
     let from = at + length taken in
     let byte = byte_of taken in
     let number : production_at rule.number ≡ p = ap (λ x. production_at x.number) is ∙ at_number p in
-    let trees = subst (λ xs. AreTrees wide xs parts) (ap symbols_of is ∙ its_symbols p) tree.1 in
+    let trees = subst (λ xs. AreTrees either xs parts) (ap symbols_of is ∙ its_symbols p) tree.1 in
     opened (Many around state other) (production_at rule.number) parts at state other
     (λ begun. unfold_forest cpp whole [] from parts begun >>= λ inner. close (production_at rule.number) byte around at state inner.value inner.state >>= alone)
     (λ begun. unfold_forest unfolded_.cpp noted [] from parts begun >>= λ inner. unfolded_.close (production_at rule.number) byte (noted_around around) at other inner.value inner.state >>= alone)
@@ -428,7 +428,7 @@ result_noted x y z (Ok a) (Err d) many = absurd many
 result_noted x y z (Err e) (Ok b) many = absurd many
 
 -- Unfolding with arguments is unfolding without: the same refusal, or the same tree with its arguments.
-pub unfold_noted : (shape : Tree) → IsTree wide (OfKind SYMBOL) shape → unfolded_.unfold_cpp shape ≡ noted_tree (unfolding_.unfold_cpp shape)
+pub unfold_noted : (shape : Tree) → IsTree either (OfKind SYMBOL) shape → unfolded_.unfold_cpp shape ≡ noted_tree (unfolding_.unfold_cpp shape)
 unfolding unfolded_.unfold_cpp unfolding_.unfold_cpp unfolding_.first_around unfolding_.first_state unfolded_.first_around unfolded_.first_state is_encoding is_special noted_around noted_scope noted_prefix
 unfold_noted shape is =
     result_noted unfolding_.first_state unfolding_.first_state unfolded_.first_state (unfold_tree cpp unfolding_.first_around 0 shape unfolding_.first_state) (unfold_tree unfolded_.cpp unfolded_.first_around 0 shape unfolded_.first_state)
@@ -436,7 +436,7 @@ unfold_noted shape is =
     (record { packs = refl; all = tt }))
 
 -- So the answer may be read from either.
-pub same_answer : (d : Detail) (limit : ℕ) (shape : Tree) → IsTree wide (OfKind SYMBOL) shape → noted_answer d limit (unfolded_.unfold_cpp shape) ≡ answer_within d limit (unfolding_.unfold_cpp shape)
+pub same_answer : (d : Detail) (limit : ℕ) (shape : Tree) → IsTree either (OfKind SYMBOL) shape → noted_answer d limit (unfolded_.unfold_cpp shape) ≡ answer_within d limit (unfolding_.unfold_cpp shape)
 same_answer d limit shape is = ap (noted_answer d limit) (unfold_noted shape is) ∙ answer_noted d limit (unfolding_.unfold_cpp shape)
 
 -- ## Candidates
@@ -453,7 +453,7 @@ pub record ReadWithArguments (shape : Tree) (read : Found (List Value) State) : 
   pub is : unfold_tree unfolded_.cpp unfolded_.first_around 0 shape unfolded_.first_state ≡ Ok other
   pub candidates : length other.state.candidates ≡ length read.state.candidates
 
-pub read_with_arguments : (shape : Tree) (read : Found (List Value) State) → IsTree wide (OfKind SYMBOL) shape
+pub read_with_arguments : (shape : Tree) (read : Found (List Value) State) → IsTree either (OfKind SYMBOL) shape
     → unfold_tree cpp unfolding_.first_around 0 shape unfolding_.first_state ≡ Ok read → ReadWithArguments shape read
 unfolding unfolding_.first_around unfolding_.first_state unfolded_.first_around unfolded_.first_state is_encoding is_special noted_around noted_scope noted_prefix
 read_with_arguments shape read is e =

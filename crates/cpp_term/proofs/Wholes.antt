@@ -9,8 +9,9 @@ use Rattle.cpp_grammar.specs.declared.kind.Kind.{Kind}
 use Rattle.cpp_grammar.specs.declared.production.Production.{Production}
 use Rattle.cpp_grammar.specs.KindNumbers.{SYMBOL}
 use Rattle.cpp_grammar.specs.Grammar.{number_of_kind, pick, kinds, may_be_empty}
-use Rattle.cpp_grammar.specs.Wide.{wide_alternatives, wide_choose}
-use Rattle.cpp_grammar.specs.Table.{wide, wide_sheet, sheet_with}
+use Rattle.cpp_grammar.specs.Wide.{wide_alternatives}
+use Rattle.cpp_grammar.specs.Either.{either_alternatives, either_choose}
+use Rattle.cpp_grammar.specs.Table.{either, either_sheet, sheet_with}
 use Rattle.cpp_grammar.specs.Unfolding.{production_at, byte_of}
 use Rattle.cpp_grammar.proofs.ClosedStates.{ok_same, behind_bind}
 use Rattle.cpp_grammar.proofs.ClosedTrees.{at_number, known}
@@ -31,12 +32,12 @@ picked_symbol : (b : Bool) (p : Production) → cond b (Some Production.Symbol) 
 picked_symbol true p e = cc
 picked_symbol false p e = absurd cc
 
-symbol_alone : (byte : ℕ) (p : Production) → wide_choose Kind.Symbol byte ≡ Some p → p ≡ Production.Symbol
-unfolding wide_choose wide_alternatives pick
+symbol_alone : (byte : ℕ) (p : Production) → either_choose Kind.Symbol byte ≡ Some p → p ≡ Production.Symbol
+unfolding either_choose wide_alternatives either_alternatives pick
 symbol_alone byte p e = picked_symbol _ p e
 
-symbol_there : wide.may_be_empty 0 ≡ false
-unfolding wide wide_sheet sheet_with kinds may_be_empty
+symbol_there : either.may_be_empty 0 ≡ false
+unfolding either either_sheet sheet_with kinds may_be_empty
 symbol_there = refl
 
 -- the values are one tree, that of an encoding with what stands behind it
@@ -45,13 +46,13 @@ pub record IsWhole (values : List Value) : Type 0 where
   pub suffix : List ℕ
   pub one : values ≡ tree (symbol encoding suffix) true ∷ []
 
-pub whole_reading : (shape : Tree) (r : Found (List Value) State) → IsTree wide (OfKind SYMBOL) shape → unfold_tree cpp first_around 0 shape first_state ≡ Ok r → IsWhole r.value
+pub whole_reading : (shape : Tree) (r : Found (List Value) State) → IsTree either (OfKind SYMBOL) shape → unfold_tree cpp first_around 0 shape first_state ≡ Ok r → IsWhole r.value
 unfolding cpp close meaning
 whole_reading (branch rule taken parts) r is e =
     let whole : Open State Around = standing rule taken 0 first_around first_state in
     let byte = byte_of taken in
     let c = chosen_rule SYMBOL rule taken (known 0 (lit≤ tt)) is.0 in
-    let only : c.production ≡ Production.Symbol = symbol_alone c.byte c.production (sym (ap (λ k. wide_choose k c.byte) (first_kind c.kind c.number)) ∙ c.chosen) in
+    let only : c.production ≡ Production.Symbol = symbol_alone c.byte c.production (sym (ap (λ k. either_choose k c.byte) (first_kind c.kind c.number)) ∙ c.chosen) in
     let number : production_at rule.number ≡ Production.Symbol = ap (λ x. production_at x.number) c.is ∙ at_number c.production ∙ only in
     let begun = behind_bind (opening (production_at rule.number) parts 0 first_state)
     (λ begun. unfold_forest cpp whole [] (0 + length taken) parts begun >>= λ inner. close (production_at rule.number) byte first_around 0 first_state inner.value inner.state >>= alone) r e in
@@ -72,7 +73,7 @@ whole_reading empty r is e = absurd (true≢false (sym is ∙ symbol_there))
 whole_reading (token u) r is e = absurd is
 whole_reading (fixed byte) r is e = absurd is
 
-pub read_as : (shape : Tree) (r : Found (List Value) State) → IsTree wide (OfKind SYMBOL) shape → unfold_tree cpp first_around 0 shape first_state ≡ Ok r → IsReadAs shape r.value
+pub read_as : (shape : Tree) (r : Found (List Value) State) → IsTree either (OfKind SYMBOL) shape → unfold_tree cpp first_around 0 shape first_state ≡ Ok r → IsReadAs shape r.value
 unfolding first_tree tree_of
 read_as shape r is e =
     let w = whole_reading shape r is e in
@@ -84,7 +85,7 @@ pub record IsWholeTree (t : Term) : Type 0 where
   pub suffix : List ℕ
   pub is : t ≡ symbol encoding suffix
 
-pub whole_symbol : (shape : Tree) (t : Term) → IsTree wide (OfKind SYMBOL) shape → unfold_cpp shape ≡ Ok t → IsWholeTree t
+pub whole_symbol : (shape : Tree) (t : Term) → IsTree either (OfKind SYMBOL) shape → unfold_cpp shape ≡ Ok t → IsWholeTree t
 unfolding unfold_cpp first_tree tree_of
 whole_symbol shape t is e =
     let read = behind_bind (unfold_tree cpp first_around 0 shape first_state) (λ r. Ok (first_tree r.value)) t e in

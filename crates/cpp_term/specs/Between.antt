@@ -100,6 +100,7 @@ between Production.AbbreviatedName around place (v ∷ []) state = listed_so_far
 between Production.NestStd around place (v ∷ []) state = named_so_far around (in_std (piece_of v)) [] state
 between Production.NestStd around place (v ∷ arguments ∷ []) state = named_so_far around (applied (tree_of v) arguments) (arguments ∷ []) state
 between Production.NestAbbreviated around place (v ∷ []) state = listed_so_far around (tree_of v) [] state
+between Production.NestTemplate around place (v ∷ []) state = listed_so_far around (tree_of v) [] state
 between Production.NestParameter around place (v ∷ []) state = parameter_so_far around place (index_of v) [] state
 between Production.NestInternal around place (v ∷ []) state = piece_so_far around (source true (text_of v)) [] state
 between Production.NestSource around place (v ∷ []) state = piece_so_far around (source false (text_of v)) [] state
@@ -108,6 +109,9 @@ between Production.NestArguments around place [] state = next [] (inside around)
 between Production.NestArguments around place (arguments ∷ e ∷ []) state =
     let t = instance (prefix_tree around.prefix) (no_items arguments) in listed_so_far around t (e ∷ []) (appended around t state)
 between Production.NestArguments around place (v ∷ e ∷ component ∷ []) state = next (v ∷ e ∷ component ∷ []) (after (tree_of component) false around) state
+-- the name may end behind these arguments, so it isn't a candidate yet
+between Production.NestInstance around place [] state = next [] (inside around) (with_prefix around state)
+between Production.NestInstance around place (arguments ∷ e ∷ []) state = named_so_far around (instance (prefix_tree around.prefix) (no_items arguments)) (e ∷ []) state
 between Production.NestNext around place [] state = next [] (after (prefix_tree around.prefix) true around) (with_prefix around state)
 between Production.NestNext around place (component ∷ []) state = next (component ∷ []) (after (tree_of component) false around) state
 -- arguments; the template name before them is a candidate

@@ -123,6 +123,11 @@ pub enum Node {
         qualifiers: Qualifiers,
         mark: Mark,
     },
+    Construction {
+        derived: u32,
+        digits: Span,
+        parent: u32,
+    },
     Alone(Piece),
     InStd(Piece),
     Within {
@@ -205,6 +210,7 @@ impl Node {
             Node::Special { .. } => true,
             Node::Thunk { .. } => true,
             Node::OfName { .. } => true,
+            Node::Construction { .. } => true,
             _ => false,
         }
     }

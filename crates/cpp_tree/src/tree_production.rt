@@ -202,5 +202,9 @@ pub const NESTED_NO_PIECE: u16 = 62;
 pub const NO_NODE: u16 = 63;
 
 /// A special name of a name that isn't a guard variable's. Numbers: the last letter of its code, and the sum of the qualifiers of
-/// the name and eight times its mark. Parts: the name. No symbol of the ABI's that is read by default has it.
+/// the name and eight times its mark. Parts: the name. Symbols of the wide grammar alone have it.
 pub const OF_NAME: u16 = 64;
+
+/// The virtual table of a base class while an object of a class derived from it is constructed. Texts: the digits of the base
+/// class' offset. Parts: the derived class and the base class. Symbols of the wide grammar alone have it.
+pub const CONSTRUCTION: u16 = 65;

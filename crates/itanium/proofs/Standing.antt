@@ -3,11 +3,12 @@ use Rattle.std.proofs.Common.{◌≡◌, refl, sym, ◌∙◌, ap, subst, arith,
 use Rattle.sym_core.specs.Number.{FitsSymbol}
 use Rattle.sym_shape.specs.declared.rule.Row.{Row}
 use Rattle.sym_shape.specs.declared.rule.Sym.TheVariants.{Kind}
+use Rattle.sym_shape.specs.Table.{Table}
 use Rattle.sym_shape.specs.Tree.{Tree, IsTree, spell}
 use Rattle.sym_demangle.specs.Standing.{IsLinked}
 use Rattle.sym_link.proofs.Tally.{done_nodes}
 use Rattle.sym_link.specs.Following.{IsDone, meaning_of}
-use Rattle.cpp_grammar.specs.Table.{abi, wide}
+use Rattle.cpp_grammar.specs.Table.{either}
 use Rattle.cpp_grammar.specs.Unfolding.{unfold_cpp}
 use Rattle.cpp_term.specs.Term.{Term, symbol}
 use Rattle.cpp_term.specs.Values.{Value, tree, tree_of}
@@ -120,7 +121,7 @@ reads s shape linked parts w node rows steps listed is fits few each all =
     }
 
 -- its nodes are those that were counted
-pub nodes_counted : (s : List ℕ) (rows : List Row) (shape : Tree) (linked : Linked) (parts : List Part) → IsTree wide (Kind 0) shape → spell shape ≡ s
+pub nodes_counted : (s : List ℕ) (rows : List Row) (shape : Tree) (linked : Linked) (parts : List Part) → IsTree either (Kind 0) shape → spell shape ≡ s
     → IsDone (cpp_counted s) s rows (meaning_of (cpp_counted s) shape) linked parts
     → length linked.nodes.nodes ≡ nodes_of_shape shape
 nodes_counted s rows shape linked parts is spelled done =
@@ -128,9 +129,9 @@ nodes_counted s rows shape linked parts is spelled done =
     ∙ ap counted_nodes (counted_same s shape is spelled cpp_makes) in
     omega (arith, count, done.paid.begun)
 
--- what is linked of the smaller grammar's symbol is so of the wide one's
-pub widened : (s : List ℕ) (linked : Linked) (parts : List Part) (rows steps : ℕ) (shape : Tree) → IsLinked abi (cpp_counted s) s linked parts rows steps shape → IsLinked wide (cpp_counted s) s linked parts rows steps shape
-widened s linked parts rows steps shape is = record {
+-- what is linked of one grammar's symbol is linked of the table of both
+pub of_both : (g : Table) (s : List ℕ) (linked : Linked) (parts : List Part) (rows steps : ℕ) (shape : Tree) → IsLinked g (cpp_counted s) s linked parts rows steps shape → IsLinked either (cpp_counted s) s linked parts rows steps shape
+of_both g s linked parts rows steps shape is = record {
   rows = is.rows;
   is_tree = is.is_shape.is_tree;
   is_shape = is.is_shape;

@@ -1,4 +1,4 @@
--- A symbol whose shape's meaning is a refusal stands for that refusal.
+-- A symbol whose shape's meaning is a refusal stands for that refusal, by both grammars.
 use Rattle.std.proofs.Common.{refl, subst}
 use Rattle.sym_core.specs.declared.refusal.Refusal.{Refusal}
 use Rattle.sym_shape.specs.Grown.{GrowsInto}
@@ -7,22 +7,28 @@ use Rattle.sym_shape.specs.Tree.{Tree, IsTree, spell}
 use Rattle.sym_link.specs.Driving.{Fails}
 use Rattle.sym_link.specs.Following.{meaning_of}
 use Rattle.sym_link.proofs.Tally.{fails_untallied}
-use Rattle.cpp_grammar.specs.Table.{abi, wide}
-use Rattle.cpp_grammar.proofs.Growing.{wide_tree}
+use Rattle.cpp_grammar.specs.Table.{abi, wide, either}
+use Rattle.cpp_grammar.proofs.Growing.{abi_either, wide_either}
 use Rattle.cpp_grammar.specs.Unfolding.{unfold_cpp}
 use Rattle.cpp_term.proofs.Erasing.{reading_fails}
 use Rattle.cpp_link.specs.View.{cpp_view}
 use Rattle.cpp_link.specs.NodeCount.{cpp_makes, cpp_counted}
 use Rattle.cpp_link.proofs.LinkReading.{meaning_same}
 
-pub cpp_fails : (shape : Tree) (refusal : Refusal) → IsTree wide (Kind 0) shape → Fails refusal (meaning_of (cpp_counted (spell shape)) shape) → Fails refusal (unfold_cpp shape)
+pub cpp_fails : (shape : Tree) (refusal : Refusal) → IsTree either (Kind 0) shape → Fails refusal (meaning_of (cpp_counted (spell shape)) shape) → Fails refusal (unfold_cpp shape)
 cpp_fails shape refusal is fails =
     reading_fails shape refusal is
     (subst (Fails refusal) (meaning_same (spell shape) shape is refl) (fails_untallied (cpp_view (spell shape)) cpp_makes shape refusal fails))
 
--- and so it is over the smaller grammar
-pub abi_grows : GrowsInto abi wide
-abi_grows tree is = wide_tree (Kind 0) tree is
+-- and so it is over each grammar
+pub abi_grows : GrowsInto abi either
+abi_grows tree is = abi_either (Kind 0) tree is
 
 pub abi_fails : (shape : Tree) (refusal : Refusal) → IsTree abi (Kind 0) shape → Fails refusal (meaning_of (cpp_counted (spell shape)) shape) → Fails refusal (unfold_cpp shape)
 abi_fails shape refusal is fails = cpp_fails shape refusal (abi_grows shape is) fails
+
+pub wide_grows : GrowsInto wide either
+wide_grows tree is = wide_either (Kind 0) tree is
+
+pub wide_fails : (shape : Tree) (refusal : Refusal) → IsTree wide (Kind 0) shape → Fails refusal (meaning_of (cpp_counted (spell shape)) shape) → Fails refusal (unfold_cpp shape)
+wide_fails shape refusal is fails = cpp_fails shape refusal (wide_grows shape is) fails

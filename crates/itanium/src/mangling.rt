@@ -6,7 +6,7 @@ ghost use Rattle.sym_core.specs.declared.refusal.Refusal.TheVariants as refusals
 ghost use Rattle.sym_print.specs.declared.layout.Part.TheVariants as parts;
 ghost use Rattle.sym_shape.specs.Tree.{Tree};
 ghost use Rattle.sym_demangle.specs.Standing.{Begins, IsLinked};
-ghost use Rattle.cpp_grammar.specs.Table.{abi, wide};
+ghost use Rattle.cpp_grammar.specs.Table.{abi, either};
 ghost use Rattle.cpp_grammar.specs.Answer.{shown, root_item};
 ghost use Rattle.cpp_grammar.specs.Unfolding.{unfold_cpp};
 ghost use Rattle.cpp_layout.specs.Layout.{MayBeAsked, unshared_of, whole_of};
@@ -45,12 +45,12 @@ pub(crate) fn finished(
     rows: u32,
     steps: u32,
 ) -> Symbol
-    requires { (shape : Tree) × IsLinked wide (cpp_counted bytes.items) bytes.items linked.old parts.now rows steps shape }
+    requires { (shape : Tree) × IsLinked either (cpp_counted bytes.items) bytes.items linked.old parts.now rows steps shape }
     ensures bytes { result.bytes ≡ bytes.items }
-    ensures whole { (shape : Tree) → IsLinked wide (cpp_counted bytes.items) bytes.items linked.old parts.now rows steps shape → Ok (whole_of result) ≡ unfold_cpp shape }
+    ensures whole { (shape : Tree) → IsLinked either (cpp_counted bytes.items) bytes.items linked.old parts.now rows steps shape → Ok (whole_of result) ≡ unfold_cpp shape }
     ensures rows { result.rows ≡ rows }
     ensures steps { result.steps ≡ steps }
-    ensures nodes { (shape : Tree) → IsLinked wide (cpp_counted bytes.items) bytes.items linked.old parts.now rows steps shape → length result.table.nodes ≡ nodes_of_shape shape }
+    ensures nodes { (shape : Tree) → IsLinked either (cpp_counted bytes.items) bytes.items linked.old parts.now rows steps shape → length result.table.nodes ≡ nodes_of_shape shape }
 {
     symbols_are_read_as_trees();
     let root = whole_node(parts);

@@ -30,7 +30,7 @@ impl Mangling for Wide {
     ghost use Rattle.cpp_link.specs.NodeCount.{are_nodes};
     ghost use Rattle.itanium.specs.Counting as counting;
     ghost use Rattle.itanium.specs.Counting.{cpp_counts, node_count};
-    ghost use Rattle.itanium.specs.Failing.{cpp_fails};
+    ghost use Rattle.itanium.specs.Failing.{wide_grows, wide_fails};
 
     type Linked = Linked;
 
@@ -105,7 +105,7 @@ impl Mangling for Wide {
 
     ghost counts_nodes = { cpp_counts };
 
-    ghost view_table = { λ s tree is. is };
+    ghost view_table = { λ s tree is. wide_grows tree is };
 
-    ghost fails = { cpp_fails };
+    ghost fails = { wide_fails };
 }

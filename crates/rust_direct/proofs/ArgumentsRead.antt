@@ -33,17 +33,17 @@ use Rattle.rust_direct.proofs.PathsRead.{form-held, path-says, stands-written, w
 -- ## What is opened
 
 -- the path is expected that arguments belong to
-pub generic-begun : (s : List ℕ) (old new : Direct) (is_value plain : Bool) → AwaitsPath s old → StandsAt s old.at (73 ∷ [])
+pub generic-begun : (s : List ℕ) (old new : Direct) (is_value : Bool) → AwaitsPath s old → StandsAt s old.at (73 ∷ [])
     → new.waiting.list.items ≡ old.waiting.list.items ++ opens.Generic is_value old.at ∷ []
     → new.at ≡ old.at + 1 → new.text ≡ old.text → new.aside ≡ old.aside → new.is_aside ≡ old.is_aside → new.notes ≡ old.notes
-    → new.numbers ≡ old.numbers → IsWriting s new (steps.Path plain)
-generic-begun s old new is_value plain awaits letter waiting at text aside is_aside notes numbers =
+    → new.numbers ≡ old.numbers → Awaits s new false
+generic-begun s old new is_value awaits letter waiting at text aside is_aside notes numbers =
     let a = awaits.1 in
     let r = a.awaited in
     record {
       state = within Production.Generic a.state;
       notes = rw (text, aside, is_aside, notes, numbers) a.notes;
-      is_before = record {
+      awaited = record {
         wanted = path;
         is_for = refl;
         os = generic_awaits old.at a.state r.os;

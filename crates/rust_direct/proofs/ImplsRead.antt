@@ -13,7 +13,7 @@ use Rattle.rust_direct.specs.Holes.{Comes, within, path, type, Ends, IsDisambigu
 use Rattle.rust_direct.specs.Says.{Holds, is_type, is_path}
 use Rattle.rust_direct.specs.Written.{Writes, Pushes}
 use Rattle.rust_direct.specs.Stands.{Stands, IsWriting, parked_of}
-use Rattle.rust_direct.specs.Awaits.{AwaitsPath, Arrives, IsEnded}
+use Rattle.rust_direct.specs.Awaits.{AwaitsPath, AwaitsImplType, Arrives, IsEnded}
 use Rattle.rust_direct.proofs.Kept.{notes-written, notes-turned}
 use Rattle.rust_direct.proofs.MovesOfTypes.{impl-opens}
 use Rattle.rust_direct.proofs.PrintedPaths.{impl-prints}
@@ -53,47 +53,56 @@ impl-begun s old new count end plain awaits letter counted shown waiting text as
       };
     }
 
--- the path of an impl is read, and its type is expected
-pub impl-read : (s : List ℕ) (old shown middle new : Direct) (place here from : ℕ) (f : Forms) → Arrives s old (opens.Impl place) here f → is_path f ≡ true
+-- the path of an impl is read
+pub impl-path-read : (s : List ℕ) (old shown : Direct) (place here : ℕ) (f : Forms) → Arrives s old (opens.Impl place) here f → is_path f ≡ true
     → old.is_aside ≡ true → shown.text ≡ old.aside → shown.aside ≡ old.text → shown.is_aside ≡ not old.is_aside → shown.notes ≡ old.notes
-    → shown.numbers ≡ old.numbers → shown.waiting ≡ old.waiting → shown.at ≡ old.at → from ≡ length shown.text.list.items → Writes shown middle (codes "<")
-    → Pushes middle new (opens.Wrap place from closings.Angle) → IsWriting s new steps.Type
-impl-read s old shown middle new place here from f arrives is hidden text aside is_aside notes numbers waiting at from_is writes pushes =
+    → shown.numbers ≡ old.numbers → shown.waiting ≡ old.waiting → shown.at ≡ old.at → AwaitsImplType s shown place
+impl-path-read s old shown place here f arrives is hidden text aside is_aside notes numbers waiting at =
     let r = arrives.read in
     let held = path-held f r.v r.bytes is r.holds in
     let q = held.0 in
     let waits = r.stands in
-    let made = waits.1 in
-    let goes = waits.3 q old.at arrives.state (subst (λ v. Comes s r.os v old.at arrives.state) held.1 r.comes) in
     let none = path-needs f q r.bytes held.2 in
-    let entry = opens.Wrap place from closings.Angle in
+    let goes = waits.3 q old.at arrives.state (subst (λ v. Comes s r.os v old.at arrives.state) held.1 r.comes) in
     let parked : parked_of old ≡ shown.text.list.items =
     ap (λ b. cond b old.aside.list.items []) hidden ∙ ap (λ t. t.list.items) (sym text) in
     let without : parked_of shown ≡ [] = ap (λ b. cond b shown.aside.list.items []) (is_aside ∙ ap not hidden) in
-    let below : Stands s (reverse shown.waiting.list.items) waits.0 shown.text.list.items (parked_of shown) =
-    rw (waiting, without) (subst (λ l. Stands s (reverse old.waiting.list.items) waits.0 l []) parked waits.4) in
     record {
-      state = within goes.production arrives.state;
-      notes = notes-pushed middle new entry arrives.state pushes (notes-written shown middle (codes "<") arrives.state writes
-          (rw (text, aside, is_aside, notes, numbers)
-          (notes-turned old.is_aside old.text.list.items old.aside.list.items old.notes.list.items old.numbers.items arrives.state.ended arrives.notes)));
+      state = arrives.state;
+      notes = rw (text, aside, is_aside, notes, numbers)
+          (notes-turned old.is_aside old.text.list.items old.aside.list.items old.notes.list.items old.numbers.items arrives.state.ended arrives.notes);
+      outer = waits.0;
+      made = waits.1 q;
+      prints = λ value t bytes prints. waits.2 value q t bytes none prints;
+      goes = rw at goes;
+      stands = rw (waiting, without) (subst (λ l. Stands s (reverse old.waiting.list.items) waits.0 l []) parked waits.4);
+    }
+
+-- the type of an impl is expected
+pub impl-typed : (s : List ℕ) (old middle new : Direct) (place from : ℕ) → AwaitsImplType s old place → from ≡ length old.text.list.items
+    → Writes old middle (codes "<") → Pushes middle new (opens.Wrap place from closings.Angle) → IsWriting s new steps.Type
+impl-typed s old middle new place from a from_is writes pushes =
+    let entry = opens.Wrap place from closings.Angle in
+    record {
+      state = within a.goes.production a.state;
+      notes = notes-pushed middle new entry a.state pushes (notes-written old middle (codes "<") a.state writes a.notes);
       is_before = record {
         wanted = type;
         is_for = refl;
-        os = goes.inner;
-        awaits = rw (pushes.at, writes.at, at) goes.awaits;
-        stands = subst (λ ws. Stands s ws goes.inner new.text.list.items (parked_of new)) (sym (turned middle new entry pushes)) (
-          waits.0,
-          shown.text.list.items,
+        os = a.goes.inner;
+        awaits = rw (pushes.at, writes.at) a.goes.awaits;
+        stands = subst (λ ws. Stands s ws a.goes.inner new.text.list.items (parked_of new)) (sym (turned middle new entry pushes)) (
+          a.outer,
+          old.text.list.items,
           codes "<",
-          (λ t. a_path (made q t)),
+          (λ t. a_path (a.made t)),
           from_is,
           ap (λ t. t.list.items) pushes.text ∙ writes.text,
-          (λ t bytes prints. (path-says forms.Alike (made q t) (codes "<" ++ bytes ++ codes ">") refl
-              (waits.2 true q t bytes none prints, waits.2 false q t bytes none prints)).1),
-          goes.passes,
+          (λ t bytes prints. (path-says forms.Alike (a.made t) (codes "<" ++ bytes ++ codes ">") refl
+              (a.prints true t bytes prints, a.prints false t bytes prints)).1),
+          a.goes.passes,
           rw (parked-pushed middle new entry pushes)
-              (stands-written s shown middle (codes "<") waits.0 shown.text.list.items writes below),
+              (stands-written s old middle (codes "<") a.outer old.text.list.items writes a.stands),
         );
       };
     }

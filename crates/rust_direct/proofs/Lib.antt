@@ -20,6 +20,7 @@ pub mod SymbolsRead
 pub mod Again
 pub mod ArgumentsRead
 pub mod ImplsRead
+pub mod InnerImpls
 pub mod TypesRead
 pub mod Opened
 pub mod TraitsRead

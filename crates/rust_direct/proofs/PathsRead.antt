@@ -1,5 +1,5 @@
 -- Paths that were read and written.
-use Rattle.std.proofs.Common.{◌≡◌, ℕ, ◌+◌, ◌≤◌, List, [], ◌∷◌, ◌++◌, length, reverse, Bool, true, false, Option, Some, refl, ap, sym, subst, ◌∙◌, append_assoc, codes, cond}
+use Rattle.std.proofs.Common.{◌≡◌, ℕ, ◌+◌, ◌≤◌, List, [], ◌∷◌, ◌++◌, length, reverse, take, drop, ◌-◌, arith, inl, Bool, true, false, Option, Some, refl, ap, sym, subst, ◌∙◌, append_assoc, codes, cond}
 use Rattle.std.specs.Option.{option_to_list}
 use Rattle.std.proofs.lemmas.Bool.{le-leb, false≢true}
 use Rattle.sym_direct.specs.Holes.{StandsAt}
@@ -15,13 +15,13 @@ use Rattle.rust_direct.specs.declared.direct.Direct.{Direct}
 use Rattle.rust_v0.specs.declared.kind.TheConstants.{PATH}
 use Rattle.rust_direct.specs.Holes.{Opened, Comes, within, behind, with_ended, path, IsNameAt, IsDisambiguatorAt, identifier, is_namespace}
 use Rattle.rust_direct.specs.Prints.{PathPrints}
-use Rattle.rust_direct.specs.Says.{PathHas, Says, Holds, has_form, is_path}
+use Rattle.rust_direct.specs.Says.{PathHas, HaveRoom, Says, Holds, has_form, is_path}
 use Rattle.rust_direct.specs.Written.{Writes, Notes}
 use Rattle.rust_direct.specs.Stands.{Stands, IsWriting, parked_of}
-use Rattle.rust_direct.specs.Awaits.{Awaits, AwaitsPath, Arrives, IsEnded}
+use Rattle.rust_direct.specs.Awaits.{Awaits, AwaitsPath, Arrives, IsEnded, IsEndedWithRoom}
 use Rattle.rust_direct.proofs.Kept.{notes-written, notes-noted, reverse-last}
 use Rattle.rust_direct.proofs.Moves.{expects-moved, identifier-comes, crate-comes, nest_awaits, nest-opens, nest-goes-on}
-use Rattle.rust_direct.proofs.PrintedPaths.{crate-prints, nested-prints}
+use Rattle.rust_direct.proofs.PrintedPaths.{crate-prints, nested-prints, nested-room, unnamed-prints}
 
 -- ## What is known of what was read
 
@@ -65,30 +65,9 @@ stands-written s old new bytes os text writes h =
     (subst (λ b. Stands s (reverse old.waiting.list.items) os text (cond b new.aside.list.items [])) (sym writes.is_aside)
     (subst (λ a. Stands s (reverse old.waiting.list.items) os text (cond old.is_aside a.list.items [])) (sym writes.aside) h))
 
--- what waits last is taken out
-pub taken-out : (s : List ℕ) (old new : Direct) (entry : Open) (from : ℕ) (f : Forms) (o : Option Open) → IsWriting s old (steps.Value from f)
-    → old.waiting.list.items ≡ new.waiting.list.items ++ option_to_list o → o ≡ Some entry
-    → new.text ≡ old.text → new.aside ≡ old.aside → new.is_aside ≡ old.is_aside → new.notes ≡ old.notes → new.numbers ≡ old.numbers → new.at ≡ old.at
-    → Arrives s new entry from f
-taken-out s old new entry from f o p items is text aside is_aside notes numbers at =
-    let r = p.is_before in
-    let turned : reverse old.waiting.list.items ≡ entry ∷ reverse new.waiting.list.items =
-    ap reverse (items ∙ ap (λ x. new.waiting.list.items ++ option_to_list x) is) ∙ reverse-last new.waiting.list.items entry in
-    record {
-      state = p.state;
-      notes = rw (text, aside, is_aside, notes, numbers) p.notes;
-      read = record {
-        os = r.os;
-        v = r.v;
-        front = r.front;
-        bytes = r.bytes;
-        written = ap (λ t. t.list.items) text ∙ r.written;
-        from_is = r.from_is;
-        holds = r.holds;
-        comes = subst (λ k. Comes s r.os r.v k p.state) (sym at) r.comes;
-        stands = rw (aside, is_aside) (subst (λ ws. Stands s ws r.os r.front (parked_of old)) turned r.stands);
-      };
-    }
+-- what waited is this
+pub waited-for : (s : List ℕ) (w : Direct) (entry known : Open) (from : ℕ) (f : Forms) → entry ≡ known → Arrives s w entry from f → Arrives s w known from f
+waited-for s w entry known from f is = subst (λ e. Arrives s w e from f) is
 
 -- something waits from here on
 pub waits-too : (s : List ℕ) (old new : List Open) (entry : Open) (os : List Opened) (text parked : List ℕ) → new ≡ old ++ entry ∷ []
@@ -142,17 +121,17 @@ crate-ended s old middle from count behind_ name end awaits letter counted named
 
 -- ## Paths in a namespace
 
-pub nest-begun : (s : List ℕ) (old new : Direct) (b : ℕ) (is_value : Bool) → AwaitsPath s old → StandsAt s old.at (78 ∷ [])
+pub nest-begun : (s : List ℕ) (old new : Direct) (b : ℕ) → AwaitsPath s old → StandsAt s old.at (78 ∷ [])
     → StandsAt s (old.at + 1) (b ∷ []) → is_namespace b ≡ true → new.waiting.list.items ≡ old.waiting.list.items ++ opens.Nest b old.at ∷ []
     → new.at ≡ old.at + 1 + 1 → new.text ≡ old.text → new.aside ≡ old.aside → new.is_aside ≡ old.is_aside → new.notes ≡ old.notes
-    → new.numbers ≡ old.numbers → IsWriting s new (steps.Path is_value)
-nest-begun s old new b is_value awaits letter there is waiting at text aside is_aside notes numbers =
+    → new.numbers ≡ old.numbers → Awaits s new false
+nest-begun s old new b awaits letter there is waiting at text aside is_aside notes numbers =
     let a = awaits.1 in
     let r = a.awaited in
     record {
       state = within Production.Nested a.state;
       notes = rw (text, aside, is_aside, notes, numbers) a.notes;
-      is_before = record {
+      awaited = record {
         wanted = path;
         is_for = refl;
         os = nest_awaits b old.at a.state r.os;
@@ -175,11 +154,22 @@ nested-has forms.Plain letter p bytes count name is lower filled h = nested-prin
 nested-has forms.Typed letter p bytes count name is lower filled h = absurd (false≢true is)
 nested-has forms.Unnamed letter p bytes count name is lower filled h = absurd (false≢true is)
 
+nested-rooms : (f : Forms) (letter : ℕ) (p : tree.Path) (bytes : List ℕ) (count : ℕ) (name : List ℕ) → is_path f ≡ true → 97 ≤ letter → 1 ≤ length name
+    → PathHas f p bytes → HaveRoom f (tree.nested letter p (identifier count name)) (bytes ++ codes "::" ++ name)
+nested-rooms forms.Alike letter p bytes count name is lower filled h = (
+  nested-room true letter p bytes count name (le-leb 97 letter lower) filled h.0,
+  nested-room false letter p bytes count name (le-leb 97 letter lower) filled h.1,
+)
+nested-rooms forms.Valued letter p bytes count name is lower filled h = nested-room true letter p bytes count name (le-leb 97 letter lower) filled h
+nested-rooms forms.Plain letter p bytes count name is lower filled h = nested-room false letter p bytes count name (le-leb 97 letter lower) filled h
+nested-rooms forms.Typed letter p bytes count name is lower filled h = absurd (false≢true is)
+nested-rooms forms.Unnamed letter p bytes count name is lower filled h = absurd (false≢true is)
+
 -- its name is read
 pub nest-named : (s : List ℕ) (old middle last : Direct) (letter place from : ℕ) (f : Forms) (count behind_ : ℕ) (name : List ℕ) (end : ℕ)
     → Arrives s old (opens.Nest letter place) from f → is_path f ≡ true → 97 ≤ letter → IsDisambiguatorAt s old.at count behind_
     → IsNameAt s behind_ name end → 1 ≤ length name → Writes old middle (codes "::") → Writes middle last name
-    → IsEnded s (record last { at = end }) place from f f
+    → IsEndedWithRoom s (record last { at = end }) place from f
 nest-named s old middle last letter place from f count behind_ name end arrives is lower counted named filled first second =
     let r = arrives.read in
     let held = path-held f r.v r.bytes is r.holds in
@@ -188,8 +178,9 @@ nest-named s old middle last letter place from f count behind_ name end arrives 
     let waits = r.stands in
     let goes = waits.1 p old.at arrives.state (subst (λ v. Comes s r.os v old.at arrives.state) held.1 r.comes) in
     let one = identifier-comes s goes.inner old.at (within Production.Nested arrives.state) count behind_ name end counted named goes.awaits in
-    let told = path-says f made (r.bytes ++ codes "::" ++ name) is (nested-has f letter p r.bytes count name is lower filled held.2) in
-    record {
+    let has = nested-has f letter p r.bytes count name is lower filled held.2 in
+    let told = path-says f made (r.bytes ++ codes "::" ++ name) is has in
+    let ended : IsEnded s (record last { at = end }) place from f f = record {
       before = arrives.state;
       notes = notes-written middle last name arrives.state second (notes-written old middle (codes "::") arrives.state first arrives.notes);
       os = waits.0;
@@ -203,12 +194,71 @@ nest-named s old middle last letter place from f count behind_ name end arrives 
       holds = told.1;
       comes = goes.onward one.0 (identifier count name) end (behind (within Production.Nested arrives.state)) one.1 one.2;
       stands = stands-written s middle last name waits.0 r.front second (stands-written s old middle (codes "::") waits.0 r.front first waits.2);
+    } in
+    record { ended = ended; p = made; is = refl; has = has; room = nested-rooms f letter p r.bytes count name is lower filled held.2 }
+
+unnamed-has : (f : Forms) (letter : ℕ) (p : tree.Path) (bytes : List ℕ) (count : ℕ) → 97 ≤ letter → PathHas f p bytes → HaveRoom f p bytes
+    → PathHas f (tree.nested letter p (identifier count [])) bytes
+unnamed-has forms.Alike letter p bytes count lower h room = (
+  unnamed-prints true letter p bytes count (le-leb 97 letter lower) h.0 room.0,
+  unnamed-prints false letter p bytes count (le-leb 97 letter lower) h.1 room.1,
+)
+unnamed-has forms.Valued letter p bytes count lower h room = unnamed-prints true letter p bytes count (le-leb 97 letter lower) h room
+unnamed-has forms.Plain letter p bytes count lower h room = unnamed-prints false letter p bytes count (le-leb 97 letter lower) h room
+unnamed-has forms.Typed letter p bytes count lower h room = absurd h
+unnamed-has forms.Unnamed letter p bytes count lower h room = absurd h
+
+-- what has a form of a path is one
+is-of-path : (f : Forms) (p : tree.Path) (bytes : List ℕ) → PathHas f p bytes → is_path f ≡ true
+is-of-path forms.Alike p bytes h = refl
+is-of-path forms.Valued p bytes h = refl
+is-of-path forms.Plain p bytes h = refl
+is-of-path forms.Typed p bytes h = absurd h
+is-of-path forms.Unnamed p bytes h = absurd h
+
+-- what has no bytes between its places
+pub piece-empty : (s : List ℕ) (from to : ℕ) → to ≤ from → take (to - from) (drop from s) ≡ []
+piece-empty s from to none =
+    let nothing : to - from ≡ 0 = omega (arith, none) in
+    ap (λ n. take n (drop from s)) nothing
+
+-- Its name is read and noted, and an empty one follows, of what it is the parent of.
+pub unnamed-read : (s : List ℕ) (old noted taken : Direct) (place from : ℕ) (f : Forms) (o : Option Open) (letter outer end : ℕ)
+    → IsEndedWithRoom s old place from f → Notes old noted place from f
+    → noted.waiting.list.items ≡ taken.waiting.list.items ++ option_to_list o → o ≡ Some (opens.Nest letter outer)
+    → taken.text ≡ noted.text → taken.aside ≡ noted.aside → taken.is_aside ≡ noted.is_aside → taken.notes ≡ noted.notes
+    → taken.numbers ≡ noted.numbers → taken.at ≡ noted.at → 97 ≤ letter → IsNameAt s taken.at [] end
+    → IsEnded s (record taken { at = end }) outer from f f
+unnamed-read s old noted taken place from f o letter outer end h n items is text aside is_aside notes numbers at lower named =
+    let e = h.ended in
+    let st = with_ended place e.v e.before in
+    let turned : reverse old.waiting.list.items ≡ opens.Nest letter outer ∷ reverse taken.waiting.list.items =
+    ap (λ w. reverse w.list.items) (sym n.waiting) ∙ ap reverse (items ∙ ap (λ x. taken.waiting.list.items ++ option_to_list x) is)
+    ∙ reverse-last taken.waiting.list.items (opens.Nest letter outer) in
+    let waits : Stands s (opens.Nest letter outer ∷ reverse taken.waiting.list.items) e.os e.front (parked_of old) =
+    subst (λ ws. Stands s ws e.os e.front (parked_of old)) turned e.stands in
+    let made = tree.nested letter h.p (identifier 0 []) in
+    let goes = waits.1 h.p old.at st (subst (λ v. Comes s e.os v old.at st) h.is e.comes) in
+    let one = identifier-comes s goes.inner old.at (within Production.Nested st) 0 old.at [] end (inl (refl, refl))
+    (subst (λ k. IsNameAt s k [] end) (at ∙ n.at) named) goes.awaits in
+    let told = path-says f made e.bytes (is-of-path f h.p e.bytes h.has) (unnamed-has f letter h.p e.bytes 0 lower h.has h.room) in
+    record {
+      before = st;
+      notes = rw (text, aside, is_aside, notes, numbers)
+          (notes-noted old noted place from f e.before e.v e.front e.bytes n e.notes e.written e.from_is e.says);
+      os = waits.0;
+      v = a_path made;
+      front = e.front;
+      bytes = e.bytes;
+      written = ap (λ t. t.list.items) (text ∙ n.text) ∙ e.written;
+      from_is = e.from_is;
+      says = told.0;
+      holds = told.1;
+      comes = goes.onward one.0 (identifier 0 []) end (behind (within Production.Nested st)) one.1 one.2;
+      stands = rw (aside ∙ n.aside, is_aside ∙ n.is_aside) waits.2;
     }
 
 -- ## What is expected
-
-pub path-awaited : (s : List ℕ) (w : Direct) (is_value : Bool) → IsWriting s w (steps.Path is_value) → AwaitsPath s w
-path-awaited s w is_value p = (false, record { state = p.state; notes = p.notes; awaited = p.is_before })
 
 pub plain-awaited : (s : List ℕ) (w : Direct) (is_value : Bool) → IsWriting s w (steps.Path is_value) → Awaits s w false
 plain-awaited s w is_value p = record { state = p.state; notes = p.notes; awaited = p.is_before }

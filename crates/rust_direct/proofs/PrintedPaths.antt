@@ -6,7 +6,7 @@ use Rattle.sym_print.specs.Building.{◌then◌, ◌also◌, ◌perhaps◌}
 use Rattle.rust_tree.specs.Symbol.{Identifier, Path, Ty, Arguments, crate_root, nested, generic, inherent_impl, trait_impl, trait_definition, no_arguments, type_argument, lifetime_argument}
 use Rattle.rust_tree.specs.Need.{need}
 use Rattle.rust_tree.specs.Shown.{path_parts, type_parts, arguments_from, lifetime_parts, lifetime_text, nested_name}
-use Rattle.rust_direct.specs.Prints.{PathPrints, TypePrints, text_of_some, cost_of_some, opening, ArgumentsPrint, ArgumentsBegin}
+use Rattle.rust_direct.specs.Prints.{PathPrints, TypePrints, HasRoom, text_of_some, cost_of_some, opening, ArgumentsPrint, ArgumentsBegin}
 
 -- ## Parts
 
@@ -65,6 +65,35 @@ nested-prints value letter p bytes count (b ∷ bs) lower filled prints =
           length-append (bytes ++ codes "::") (b ∷ bs),
           length-append bytes (codes "::"),
         );
+      };
+      needs_none = prints.needs_none;
+    }
+
+-- Its name leaves room for one part more that has no text.
+pub nested-room : (value : Bool) (letter : ℕ) (p : Path) (bytes : List ℕ) (count : ℕ) (name : List ℕ) → nat_le 97 letter ≡ true → 1 ≤ length name
+    → PathPrints value p bytes → HasRoom value (nested letter p (named count name)) (bytes ++ codes "::" ++ name)
+unfolding path_parts need
+nested-room value letter p bytes count [] lower filled prints = absurd (omega (arith, filled))
+nested-room value letter p bytes count (b ∷ bs) lower filled prints =
+    let parent = path_parts Full 0 value p in
+    omega (
+      arith,
+      prints.shows.cost,
+      ap (λ l. cost_of (parent also nested_name l letter (named count (b ∷ bs)) done)) lower,
+      length-append (bytes ++ codes "::") (b ∷ bs),
+      length-append bytes (codes "::"),
+    )
+
+-- A path in a namespace whose name is empty prints its parent.
+pub unnamed-prints : (value : Bool) (letter : ℕ) (p : Path) (bytes : List ℕ) (count : ℕ) → nat_le 97 letter ≡ true → PathPrints value p bytes
+    → HasRoom value p bytes → PathPrints value (nested letter p (named count [])) bytes
+unfolding path_parts need
+unnamed-prints value letter p bytes count lower prints room =
+    let parent = path_parts Full 0 value p in
+    record {
+      shows = record {
+        text_is = ap (λ l. text_of (parent also nested_name l letter (named count []) done)) lower ∙ append-nil (text_of parent) ∙ prints.shows.text_is;
+        cost = omega (arith, room, ap (λ l. cost_of (parent also nested_name l letter (named count []) done)) lower);
       };
       needs_none = prints.needs_none;
     }

@@ -133,11 +133,10 @@ rest-stands s suffix at inside is =
     (([], sym same ∙ sym (append-nil suffix)), omega (arith, inside, ap length same, length-drop at s))
 
 -- the symbol is written where it has no suffix
-pub ends-plain : (s suffix : List ℕ) (w : Direct) → IsSymbolEnded s w → w.at ≤ length s → suffix ≡ take (length s - w.at) (drop w.at s)
-    → length suffix ≡ 0 → IsWriting s w steps.Ended
+pub ends-plain : (s : List ℕ) (w : Direct) → IsSymbolEnded s w → w.at ≡ length s → IsWriting s w steps.Ended
 unfolding symbol_parts
-ends-plain s suffix w p inside is none =
-    let whole = p.ends.ends (omega (arith, none, (rest-stands s suffix w.at inside is).1)) in
+ends-plain s w p at_end =
+    let whole = p.ends.ends at_end in
     record {
       state = p.state;
       notes = p.notes;

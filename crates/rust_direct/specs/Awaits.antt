@@ -1,14 +1,14 @@
 -- What each step of a writer begins with.
-use Rattle.std.specs.Prelude.{◌≡◌, ℕ, List, [], ◌∷◌, ◌++◌, length, reverse, Bool, true, false}
-use Rattle.rust_v0.specs.Value.{Value, State}
+use Rattle.std.specs.Prelude.{◌≡◌, ℕ, List, [], ◌∷◌, ◌++◌, length, reverse, Bool, true, false, codes}
+use Rattle.rust_v0.specs.Value.{Value, State, a_path}
 use Rattle.rust_tree.specs.Symbol as tree
 use Rattle.rust_direct.specs.declared.open.Forms.{Forms}
 use Rattle.rust_direct.specs.declared.open.Open.{Open}
 use Rattle.rust_direct.specs.declared.direct.Direct.{Direct}
-use Rattle.rust_direct.specs.Holes.{Opened, Comes, with_ended, EndsSymbol}
-use Rattle.rust_direct.specs.Prints.{PathPrints}
-use Rattle.rust_direct.specs.Says.{Says, Holds}
-use Rattle.rust_direct.specs.Stands.{Stands, IsAwaited, IsRead, IsListing, separator_of, AreNotesOf, parked_of}
+use Rattle.rust_direct.specs.Holes.{Opened, Comes, with_ended, EndsSymbol, TypeGoesOn, ImplementingGoesOn}
+use Rattle.rust_direct.specs.Prints.{PathPrints, TypePrints}
+use Rattle.rust_direct.specs.Says.{Says, Holds, PathHas, HaveRoom}
+use Rattle.rust_direct.specs.Stands.{Stands, TraitPrints, IsAwaited, IsRead, IsListing, separator_of, AreNotesOf, parked_of}
 
 -- nothing is written yet
 pub record IsFresh (w : Direct) : Type 0 where
@@ -48,6 +48,34 @@ pub record IsEnded (s : List ℕ) (w : Direct) (place from : ℕ) (noted forms :
   pub holds : Holds forms v bytes
   pub comes : Comes s os v w.at (with_ended place v before)
   pub stands : Stands s (reverse w.waiting.list.items) os front (parked_of w)
+
+-- A path that began at a place is read and not noted yet, and one more that prints as it does is within the bound.
+pub record IsEndedWithRoom (s : List ℕ) (w : Direct) (place from : ℕ) (forms : Forms) : Type 0 where
+  pub ended : IsEnded s w place from forms forms
+  pub p : tree.Path
+  pub is : ended.v ≡ a_path p
+  pub has : PathHas forms p ended.bytes
+  pub room : HaveRoom forms p ended.bytes
+
+-- The path of an impl is read, which isn't shown: its type is expected, in angles.
+pub record AwaitsImplType (s : List ℕ) (w : Direct) (place : ℕ) : Type 0 where
+  pub state : State
+  pub notes : AreNotesOf w state
+  pub outer : List Opened
+  pub made : tree.Ty → tree.Path
+  pub prints : (value : Bool) (t : tree.Ty) (bytes : List ℕ) → TypePrints t bytes → PathPrints value (made t) (codes "<" ++ bytes ++ codes ">")
+  pub goes : TypeGoesOn s outer place (λ t. a_path (made t)) w.at state
+  pub stands : Stands s (reverse w.waiting.list.items) outer w.text.list.items (parked_of w)
+
+-- The same of an impl of a trait: behind its type the trait is expected.
+pub record AwaitsTraitType (s : List ℕ) (w : Direct) (place : ℕ) : Type 0 where
+  pub state : State
+  pub notes : AreNotesOf w state
+  pub outer : List Opened
+  pub made : tree.Ty → tree.Path → tree.Path
+  pub prints : TraitPrints made
+  pub goes : ImplementingGoesOn s outer place (λ t r. a_path (made t r)) w.at state
+  pub stands : Stands s (reverse w.waiting.list.items) outer w.text.list.items (parked_of w)
 
 -- the path of the symbol is read, and written
 pub record IsSymbolEnded (s : List ℕ) (w : Direct) : Type 0 where

@@ -16,6 +16,10 @@ pub record PathPrints (value : Bool) (p : Path) (bytes : List ℕ) : Type 0 wher
   pub shows : Shows (path_parts Full 0 value p) bytes
   pub needs_none : need p ≡ 0
 
+-- What prints the path costs at least one less than it may: one part more that has no text is within the bound.
+abbrev pub HasRoom : (value : Bool) → Path → (bytes : List ℕ) → Type 0
+HasRoom value p bytes = 2 + cost_of (path_parts Full 0 value p) ≤ 4 * length bytes
+
 -- a type with this text
 pub record TypePrints (t : Ty) (bytes : List ℕ) : Type 0 where
   pub shows : Shows (type_parts Full 0 t) bytes

@@ -5,7 +5,7 @@ use Rattle.rust_v0.specs.Value.{Value, a_path}
 use Rattle.rust_v0.specs.Unfold.{as_path, as_type}
 use Rattle.rust_direct.specs.declared.open.Forms.{Forms}
 use Rattle.rust_direct.specs.declared.open.Forms.TheVariants as forms
-use Rattle.rust_direct.specs.Prints.{PathPrints, TypePrints}
+use Rattle.rust_direct.specs.Prints.{PathPrints, TypePrints, HasRoom}
 
 -- A path with this text in the forms that are named.
 abbrev pub PathHas : Forms → Path → (bytes : List ℕ) → Type 0
@@ -13,6 +13,13 @@ PathHas forms.Alike p bytes = PathPrints true p bytes × PathPrints false p byte
 PathHas forms.Valued p bytes = PathPrints true p bytes
 PathHas forms.Plain p bytes = PathPrints false p bytes
 PathHas _ p bytes = ⊥
+
+-- In the forms that are named it leaves room for one part more that has no text.
+abbrev pub HaveRoom : Forms → Path → (bytes : List ℕ) → Type 0
+HaveRoom forms.Alike p bytes = HasRoom true p bytes × HasRoom false p bytes
+HaveRoom forms.Valued p bytes = HasRoom true p bytes
+HaveRoom forms.Plain p bytes = HasRoom false p bytes
+HaveRoom _ p bytes = ⊥
 
 -- what a reference may name of a value that was written so
 abbrev pub Says : Forms → Value → (bytes : List ℕ) → Type 0

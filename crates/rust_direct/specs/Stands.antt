@@ -70,7 +70,7 @@ pub record TypesCount (is_first : Bool) (made : tree.Tys → tree.Tys) : Type 0 
 -- ## What is open
 
 -- A path or a type comes for the last of the open ones, behind what is written. Where it is read and not shown, the text that is
--- shown is the parked one.
+-- shown is the parked one. Behind the path of an impl that isn't shown itself, whatever is written, the impl's own text begins.
 abbrev pub Stands : (s : List ℕ) → List Open → List Opened → (text parked : List ℕ) → Type 0
 Stands s [] os text parked = ⊥
 Stands s (opens.Symbol ∷ rest) os text parked =
@@ -100,6 +100,14 @@ Stands s (opens.TraitImpl place ∷ rest) os text parked =
     (outer : List Opened) × (made : tree.Path → tree.Ty → tree.Path → tree.Path) × ((q : tree.Path) → need q ≡ 0 → TraitPrints (made q))
     × ((q : tree.Path) (at : ℕ) (st : State) → Comes s os (a_path q) at st → ImplementingGoesOn s outer place (λ t r. a_path (made q t r)) at st)
     × Stands s rest outer parked []
+Stands s (opens.InnerImpl place ∷ rest) os text parked =
+    (outer : List Opened) × (made : tree.Path → tree.Ty → tree.Path) × ImplPrints made
+    × ((q : tree.Path) (at : ℕ) (st : State) → Comes s os (a_path q) at st → TypeGoesOn s outer place (λ t. a_path (made q t)) at st)
+    × ((any : List ℕ) → Stands s rest outer any parked)
+Stands s (opens.InnerTraitImpl place ∷ rest) os text parked =
+    (outer : List Opened) × (made : tree.Path → tree.Ty → tree.Path → tree.Path) × ((q : tree.Path) → need q ≡ 0 → TraitPrints (made q))
+    × ((q : tree.Path) (at : ℕ) (st : State) → Comes s os (a_path q) at st → ImplementingGoesOn s outer place (λ t r. a_path (made q t r)) at st)
+    × ((any : List ℕ) → Stands s rest outer any parked)
 Stands s (opens.Wrap place from closing ∷ rest) os text parked =
     (outer : List Opened) × (front : List ℕ) × (mark : List ℕ) × (made : tree.Ty → Value) × (from ≡ length front) × (text ≡ front ++ mark)
     × WrapHolds mark closing made × TypePasses s os outer place made × Stands s rest outer front parked
@@ -130,6 +138,18 @@ Stands s (opens.Array place from ∷ rest) os text parked =
     (outer : List Opened) × (front : List ℕ) × (from ≡ length front) × (text ≡ front ++ codes "[")
     × ((v : Value) (t : tree.Ty) (at : ℕ) (st : State) → IsType v t → Comes s os v at st → SizeGoesOn s outer place t at st)
     × Stands s rest outer front parked
+
+-- Nothing is written yet of what isn't shown: for what is read only paths wait whose texts begin with its own.
+abbrev pub IsUnbegun : List Open → Type 0
+IsUnbegun [] = ⊥
+IsUnbegun (opens.Nest letter place ∷ rest) = IsUnbegun rest
+IsUnbegun (opens.Generic is_value place ∷ rest) = IsUnbegun rest
+IsUnbegun (opens.Other ∷ rest) = Unit {0}
+IsUnbegun (opens.Impl place ∷ rest) = Unit {0}
+IsUnbegun (opens.TraitImpl place ∷ rest) = Unit {0}
+IsUnbegun (opens.InnerImpl place ∷ rest) = Unit {0}
+IsUnbegun (opens.InnerTraitImpl place ∷ rest) = Unit {0}
+IsUnbegun (_ ∷ rest) = ⊥
 
 -- the text that is shown, while what isn't shown is written
 abbrev pub parked_of : Direct → List ℕ

@@ -7,7 +7,7 @@ ghost use Rattle.sym_direct.specs.Holes.{StandsAt};
 ghost use Rattle.rust_direct.specs.declared.open.Closing.TheVariants as closings;
 ghost use Rattle.rust_direct.specs.declared.open.Open.TheVariants as opens;
 ghost use Rattle.rust_direct.specs.Stands.{IsWriting};
-ghost use Rattle.rust_direct.specs.Awaits.{AwaitsPath, Arrives};
+ghost use Rattle.rust_direct.specs.Awaits.{AwaitsPath, AwaitsImplType, Arrives};
 
 use crate::direct::Direct;
 use crate::hashes::disambiguator_end;
@@ -24,7 +24,7 @@ impl Direct {
         let place = self.at;
         let behind = disambiguator_end(s, place.checked_add(1)?)?;
         if self.is_aside {
-            return None;
+            return self.begin_inner_impl(s, behind);
         }
         self.at = behind;
         self.waiting.push(Open::Impl { place })?;
@@ -51,6 +51,34 @@ impl Direct {
             return None;
         }
         self.turn();
+        self.begin_impl_type(_s, place)
+    }
+
+    /// The path of an impl that isn't shown itself is read, and its type follows.
+    // <path> = "M" <impl-path> <type>
+    pub(crate) fn inner_impl_ended(
+        &mut self,
+        _s: &[u8],
+        _here: usize,
+        forms: Forms,
+        place: usize,
+    ) -> Option<Step>
+        requires { Arrives _s.now self.old (opens.InnerImpl place) _here forms }
+        ensures { IfSome result (IsWriting _s.now self.new) }
+    {
+        if !is_path(forms) {
+            return None;
+        }
+        self.begin_impl_type(_s, place)
+    }
+
+    /// The type of an impl stands in angles.
+    // <path> = "M" <impl-path> <type>
+    #[inline(always)]
+    fn begin_impl_type(&mut self, _s: &[u8], place: usize) -> Option<Step>
+        requires { AwaitsImplType _s.now self.old place }
+        ensures { IfSome result (IsWriting _s.now self.new) }
+    {
         let from = self.text.len();
         self.push_byte(b'<')?;
         self.waiting.push(Open::Wrap {

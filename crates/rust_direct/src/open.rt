@@ -120,6 +120,14 @@ pub enum Open {
     TraitImpl {
         place: usize,
     },
+    /// an inherent impl that isn't shown itself waits for its path
+    InnerImpl {
+        place: usize,
+    },
+    /// an impl of a trait that isn't shown itself waits for its path
+    InnerTraitImpl {
+        place: usize,
+    },
     /// something waits for the type at its end
     Wrap {
         place: usize,

@@ -1,13 +1,13 @@
 // Paths.
 
-ghost use Rattle.std.specs.Prelude.{◌∷◌, [], false};
-ghost use Rattle.std.specs.Option.{IfSome};
+ghost use Rattle.std.specs.Prelude.{◌≤◌, ◌<◌, ◌∷◌, [], length, false};
+ghost use Rattle.std.specs.Option.{IfSome, OnSome};
 ghost use Rattle.sym_core.specs.Number.{FitsSymbol};
 ghost use Rattle.sym_direct.specs.Holes.{StandsAt};
 ghost use Rattle.rust_direct.specs.declared.open.Step.TheVariants as steps;
 ghost use Rattle.rust_direct.specs.declared.open.Open.TheVariants as opens;
 ghost use Rattle.rust_direct.specs.Stands.{IsWriting};
-ghost use Rattle.rust_direct.specs.Awaits.{Awaits, AwaitsPath, Arrives};
+ghost use Rattle.rust_direct.specs.Awaits.{Awaits, AwaitsPath, Arrives, IsEndedWithRoom};
 
 use crate::direct::Direct;
 use crate::hashes::disambiguator_end;
@@ -25,15 +25,30 @@ impl Direct {
         requires writing { IsWriting s.now self.old (steps.Path is_value) }
         ensures { IfSome result (IsWriting s.now self.new) }
     {
+        self.begin_outer(s, is_value)?;
         match byte_at(s, self.at) {
             b'C' => self.crate_root(s),
-            b'N' => self.begin_nest(s, is_value),
             b'B' => self.path_again(s),
-            b'I' => self.begin_generic(s, is_value),
             b'M' => self.begin_impl(s),
             b'X' => self.begin_trait_impl(s),
             b'Y' => self.begin_trait(s),
             _ => None,
+        }
+    }
+
+    /// Reads the first bytes of the paths that stand around the innermost one.
+    // <path> = "N" <namespace> <path> <identifier> | "I" <path> {<generic-arg>} "E"
+    #[inline(always)]
+    fn begin_outer(&mut self, s: &[u8], is_value: bool) -> Option<()>
+        requires { Awaits s.now self.old false }
+        ensures { OnSome result (Awaits s.now self.new false) }
+    {
+        'paths: loop {
+            match byte_at(s, self.at) {
+                b'N' => self.begin_nest(s)?,
+                b'I' => self.begin_generic(s, is_value)?,
+                _ => return Some(()),
+            }
         }
     }
 
@@ -58,11 +73,12 @@ impl Direct {
     }
 
     // <path> = "N" <namespace> <path> <identifier>
-    pub(crate) fn begin_nest(&mut self, s: &[u8], is_value: bool) -> Option<Step>
-        requires fits { FitsSymbol s.now }
+    #[inline(always)]
+    pub(crate) fn begin_nest(&mut self, s: &[u8]) -> Option<()>
         requires letter { StandsAt s.now self.old.at (78 ∷ []) }
         requires awaits { AwaitsPath s.now self.old }
-        ensures { IfSome result (IsWriting s.now self.new) }
+        ensures awaits { OnSome result (Awaits s.now self.new false) }
+        ensures onward { OnSome result (self.old.at < self.new.at) }
     {
         let place = self.at;
         let behind = place.checked_add(1)?;
@@ -72,11 +88,12 @@ impl Direct {
         }
         self.at = behind.checked_add(1)?;
         self.waiting.push(Open::Nest { letter, place })?;
-        Some(Step::Path { is_value })
+        Some(())
     }
 
     /// The parent of a path in a namespace is read: its name follows.
     // <path> = "N" <namespace> <path> <identifier>
+    #[inline(always)]
     pub(crate) fn nest_ended(
         &mut self,
         s: &[u8],
@@ -84,16 +101,15 @@ impl Direct {
         forms: Forms,
         letter: u8,
         place: usize,
-    ) -> Option<Step>
+    ) -> Option<()>
         requires fits { FitsSymbol s.now }
+        requires lower { 97 ≤ letter }
         requires arrives { Arrives s.now self.old (opens.Nest letter place) from forms }
-        ensures { IfSome result (IsWriting s.now self.new) }
+        ensures writing { OnSome result (IsWriting s.now self.new (steps.Value from forms)) }
+        ensures waiting { OnSome result (length self.new.waiting.list.items ≤ length self.old.waiting.list.items) }
     {
         if !is_path(forms) {
             return None;
-        }
-        if letter < b'a' {
-            return self.special_ended(s, from, forms, letter, place);
         }
         let behind = disambiguator_end(s, self.at)?;
         let name = name_at(s, behind)?;
@@ -103,7 +119,54 @@ impl Direct {
         self.push_pair(b':', b':')?;
         self.push(&s[name.from..name.to])?;
         self.at = name.end;
-        self.ended(s, place, from, forms, forms)
+        self.named_ended(s, place, from, forms)
+    }
+
+    /// A name is written, and an empty one may follow.
+    // <path> = "N" <namespace> <path> <identifier>
+    #[inline(always)]
+    fn named_ended(&mut self, s: &[u8], place: usize, from: usize, forms: Forms) -> Option<()>
+        requires fits { FitsSymbol s.now }
+        requires ended { IsEndedWithRoom s.now self.old place from forms }
+        ensures writing { OnSome result (IsWriting s.now self.new (steps.Value from forms)) }
+        ensures waiting { OnSome result (length self.new.waiting.list.items ≤ length self.old.waiting.list.items) }
+    {
+        if byte_at(s, self.at) == b'0' {
+            if let Some(Open::Nest { letter, .. }) = self.waiting.as_slice().last() {
+                if *letter >= b'a' {
+                    return self.unnamed_ended(s, place, from, forms);
+                }
+            }
+        }
+        self.note(place, from, forms)?;
+        Some(())
+    }
+
+    /// The empty name of what a path is the parent of, as that of a constructor or of a type's constant: it prints nothing.
+    // <path> = "N" <namespace> <path> <identifier>
+    #[inline(never)]
+    fn unnamed_ended(&mut self, s: &[u8], parent: usize, from: usize, forms: Forms) -> Option<()>
+        requires fits { FitsSymbol s.now }
+        requires ended { IsEndedWithRoom s.now self.old parent from forms }
+        ensures writing { OnSome result (IsWriting s.now self.new (steps.Value from forms)) }
+        ensures waiting { OnSome result (length self.new.waiting.list.items ≤ length self.old.waiting.list.items) }
+    {
+        self.note(parent, from, forms)?;
+        match self.waiting.pop()? {
+            Open::Nest { letter, place } => {
+                if letter < b'a' {
+                    return None;
+                }
+                let name = name_at(s, self.at)?;
+                if name.from < name.to {
+                    return None;
+                }
+                self.at = name.end;
+                self.note(place, from, forms)?;
+                Some(())
+            }
+            _ => None,
+        }
     }
 
     // <path> = <backref>
@@ -126,15 +189,16 @@ impl Direct {
     }
 
     // <path> = "I" <path> {<generic-arg>} "E"
-    pub(crate) fn begin_generic(&mut self, s: &[u8], is_value: bool) -> Option<Step>
-        requires fits { FitsSymbol s.now }
-        requires letter { StandsAt s.now self.old.at (73 ∷ []) }
-        requires awaits { AwaitsPath s.now self.old }
-        ensures { IfSome result (IsWriting s.now self.new) }
+    #[inline(always)]
+    pub(crate) fn begin_generic(&mut self, _s: &[u8], is_value: bool) -> Option<()>
+        requires letter { StandsAt _s.now self.old.at (73 ∷ []) }
+        requires awaits { AwaitsPath _s.now self.old }
+        ensures awaits { OnSome result (Awaits _s.now self.new false) }
+        ensures onward { OnSome result (self.old.at < self.new.at) }
     {
         let place = self.at;
         self.at = place.checked_add(1)?;
         self.waiting.push(Open::Generic { is_value, place })?;
-        Some(Step::Path { is_value })
+        Some(())
     }
 }

@@ -13,7 +13,7 @@ ghost use Rattle.rust_direct.specs.Awaits.{Arrives};
 
 use crate::direct::Direct;
 use crate::names::name_at;
-use crate::open::{Forms, Step};
+use crate::open::{Forms, Step, is_path};
 use crate::tokens::disambiguator_at;
 use itoa::Buffer;
 
@@ -30,11 +30,12 @@ impl Direct {
         place: usize,
     ) -> Option<Step>
         requires fits { FitsSymbol s.now }
-        requires special { letter < 97 }
-        requires path { is_path forms ≡ true }
         requires arrives { Arrives s.now self.old (opens.Nest letter place) from forms }
         ensures { IfSome result (IsWriting s.now self.new) }
     {
+        if letter >= b'a' || !is_path(forms) {
+            return None;
+        }
         match letter {
             b'C' => self.special_named(s, from, forms, letter, place, b"closure"),
             b'S' => self.special_named(s, from, forms, letter, place, b"shim"),

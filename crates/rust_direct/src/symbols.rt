@@ -24,7 +24,8 @@ const BYTES_A_BYTE: usize = 8;
 
 const BYTES_ANYWAY: usize = 1_024;
 
-/// The most steps that are taken for each byte of a symbol: each reads a byte, or ends what was read.
+/// The most steps that are taken for each byte of a symbol: each reads a byte, or ends what was read. Where a step reads on in a loop,
+/// as over the letters or the names of paths around others, each turn of that reads a byte of its own.
 const ROUNDS_A_BYTE: usize = 8;
 
 impl Direct {
@@ -68,8 +69,7 @@ impl Direct {
         let size = s.len();
         let bytes = BYTES_A_BYTE * size + BYTES_ANYWAY;
         self.begin_lists(bytes.min(limit as usize / 4), bytes, size);
-        let mut rounds = 0;
-        let is_written = self.run(s, limit, &mut rounds);
+        let (is_written, rounds) = self.run(s, limit);
         self.rounds = rounds;
         // always: no step gives a list other room than it began with, which no clause of theirs says
         if self.keeps_to(bytes, size) {
@@ -121,44 +121,94 @@ impl Direct {
     }
 
     /// Takes steps up to the end of a symbol, and counts them.
-    fn run(&mut self, s: &[u8], limit: u32, rounds: &mut usize) -> bool
+    fn run(&mut self, s: &[u8], limit: u32) -> (bool, usize)
         requires fits { FitsSymbol s.now }
         requires fresh { IsFresh self.old }
-        requires none { rounds.old ≡ 0 }
-        ensures answer { result ≡ true → IsAnswer details.Full s.now limit (Ok self.new.text.list.items) }
-        ensures rounds { rounds.new ≤ 8 * length s.now }
+        ensures answer { result.0 ≡ true → IsAnswer details.Full s.now limit (Ok self.new.text.list.items) }
+        ensures rounds { result.1 ≤ 8 * length s.now }
     {
         let Some(first) = self.begin(s) else {
-            return false;
+            return (false, 0);
         };
         let mut step = first;
         let most = ROUNDS_A_BYTE * s.len();
-        'steps: while *rounds < most {
-            *rounds += 1;
+        let mut rounds = 0;
+        'steps: while rounds < most {
+            rounds += 1;
             if let Step::Ended = step {
-                return self.text.len() <= limit as usize / 4;
+                let is_within = self.text.len() <= limit as usize / 4;
+                return (is_within, rounds);
             }
             match self.take(s, step) {
                 Some(next) => step = next,
-                None => return false,
+                None => return (false, rounds),
             }
         }
-        false
+        (false, rounds)
     }
 
-    /// Takes a step.
+    /// Takes a step: an argument, its type, the path that this is, and the end of what waited for it, as far as they come.
     #[inline(always)]
     fn take(&mut self, s: &[u8], step: Step) -> Option<Step>
         requires fits { FitsSymbol s.now }
         requires writing { IsWriting s.now self.old step }
         ensures { IfSome result (IsWriting s.now self.new) }
     {
+        let behind_argument = self.take_argument(s, step)?;
+        let behind_type = self.take_type(s, behind_argument)?;
+        let behind_path = self.take_path(s, behind_type)?;
+        self.take_value(s, behind_path)
+    }
+
+    /// Begins an argument, if one is next.
+    #[inline(always)]
+    fn take_argument(&mut self, s: &[u8], step: Step) -> Option<Step>
+        requires fits { FitsSymbol s.now }
+        requires writing { IsWriting s.now self.old step }
+        ensures { IfSome result (IsWriting s.now self.new) }
+    {
+        match step {
+            Step::Arguments { is_first } => self.argument_at(s, is_first),
+            other => Some(other),
+        }
+    }
+
+    /// Begins a type, if one is next.
+    #[inline(always)]
+    fn take_type(&mut self, s: &[u8], step: Step) -> Option<Step>
+        requires fits { FitsSymbol s.now }
+        requires writing { IsWriting s.now self.old step }
+        ensures { IfSome result (IsWriting s.now self.new) }
+    {
+        match step {
+            Step::Type => self.type_at(s),
+            other => Some(other),
+        }
+    }
+
+    /// Begins a path, if one is next.
+    #[inline(always)]
+    fn take_path(&mut self, s: &[u8], step: Step) -> Option<Step>
+        requires fits { FitsSymbol s.now }
+        requires writing { IsWriting s.now self.old step }
+        ensures { IfSome result (IsWriting s.now self.new) }
+    {
         match step {
             Step::Path { is_value } => self.path_at(s, is_value),
-            Step::Type => self.type_at(s),
+            other => Some(other),
+        }
+    }
+
+    /// Hands on what is read, if that is next.
+    #[inline(always)]
+    fn take_value(&mut self, s: &[u8], step: Step) -> Option<Step>
+        requires fits { FitsSymbol s.now }
+        requires writing { IsWriting s.now self.old step }
+        ensures { IfSome result (IsWriting s.now self.new) }
+    {
+        match step {
             Step::Value { from, forms } => self.pass(s, from, forms),
-            Step::Arguments { is_first } => self.argument_at(s, is_first),
-            Step::Ended => None,
+            other => Some(other),
         }
     }
 
@@ -229,16 +279,27 @@ impl Direct {
         self.finish(s)
     }
 
-    /// The end of a symbol, behind the text of its path.
-    // <vendor-specific-suffix> = ("." | "$") <suffix>
+    /// The end of a symbol, behind the text of its path: most have no suffix.
+    // <symbol-name> = "_R" <path> [<instantiating-crate>] [<vendor-specific-suffix>]
+    #[inline(always)]
     fn finish(&mut self, s: &[u8]) -> Option<Step>
         requires { IsSymbolEnded s.now self.old }
         ensures { IfSome result (IsWriting s.now self.new) }
     {
-        let suffix = s.get(self.at..)?;
-        if suffix.is_empty() {
+        if self.at == s.len() {
             return Some(Step::Ended);
         }
+        self.push_suffix(s)
+    }
+
+    /// The suffix of a symbol.
+    // <vendor-specific-suffix> = ("." | "$") <suffix>
+    #[inline(never)]
+    fn push_suffix(&mut self, s: &[u8]) -> Option<Step>
+        requires { IsSymbolEnded s.now self.old }
+        ensures { IfSome result (IsWriting s.now self.new) }
+    {
+        let suffix = s.get(self.at..)?;
         if !is_suffix(suffix) {
             return None;
         }

@@ -6,7 +6,7 @@ ghost use Rattle.sym_core.specs.Number.{FitsSymbol};
 ghost use Rattle.sym_direct.specs.Holes.{StandsAt};
 ghost use Rattle.rust_direct.specs.declared.open.Open.TheVariants as opens;
 ghost use Rattle.rust_direct.specs.Stands.{IsWriting};
-ghost use Rattle.rust_direct.specs.Awaits.{AwaitsPath, Arrives};
+ghost use Rattle.rust_direct.specs.Awaits.{AwaitsPath, AwaitsTraitType, Arrives};
 
 use crate::direct::Direct;
 use crate::hashes::disambiguator_end;
@@ -23,7 +23,7 @@ impl Direct {
         let place = self.at;
         let behind = disambiguator_end(s, place.checked_add(1)?)?;
         if self.is_aside {
-            return None;
+            return self.begin_inner_trait_impl(s, behind);
         }
         self.at = behind;
         self.waiting.push(Open::TraitImpl { place })?;
@@ -50,6 +50,34 @@ impl Direct {
             return None;
         }
         self.turn();
+        self.begin_trait_type(_s, place)
+    }
+
+    /// The path of an impl of a trait that isn't shown itself is read, and its type follows.
+    // <path> = "X" <impl-path> <type> <path>
+    pub(crate) fn inner_trait_impl_ended(
+        &mut self,
+        _s: &[u8],
+        _here: usize,
+        forms: Forms,
+        place: usize,
+    ) -> Option<Step>
+        requires { Arrives _s.now self.old (opens.InnerTraitImpl place) _here forms }
+        ensures { IfSome result (IsWriting _s.now self.new) }
+    {
+        if !is_path(forms) {
+            return None;
+        }
+        self.begin_trait_type(_s, place)
+    }
+
+    /// The type that implements a trait stands behind an angle.
+    // <path> = "X" <impl-path> <type> <path>
+    #[inline(always)]
+    fn begin_trait_type(&mut self, _s: &[u8], place: usize) -> Option<Step>
+        requires { AwaitsTraitType _s.now self.old place }
+        ensures { IfSome result (IsWriting _s.now self.new) }
+    {
         let from = self.text.len();
         self.push_byte(b'<')?;
         self.waiting.push(Open::Implementing { place, from })?;

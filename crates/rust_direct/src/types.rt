@@ -56,8 +56,14 @@ impl Direct {
     {
         match byte_at(s, self.at) {
             b'C' => self.crate_root(s),
-            b'N' => self.begin_nest(s, false),
-            b'I' => self.begin_generic(s, false),
+            b'N' => {
+                self.begin_nest(s)?;
+                Some(Step::Path { is_value: false })
+            }
+            b'I' => {
+                self.begin_generic(s, false)?;
+                Some(Step::Path { is_value: false })
+            }
             b'M' => self.begin_impl(s),
             b'X' => self.begin_trait_impl(s),
             b'Y' => self.begin_trait(s),

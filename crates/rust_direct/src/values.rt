@@ -4,21 +4,42 @@ ghost use Rattle.std.specs.Option.{IfSome};
 ghost use Rattle.sym_core.specs.Number.{FitsSymbol};
 ghost use Rattle.rust_direct.specs.declared.open.Step.TheVariants as steps;
 ghost use Rattle.rust_direct.specs.Stands.{IsWriting};
+ghost use Rattle.rust_direct.specs.Awaits.{Arrives};
 
 use crate::direct::Direct;
 use crate::open::{Forms, Open, Step};
 
 impl Direct {
+    /// Takes out what waits for a path or a type that is read. What waits for the name of a path in a namespace has it first, and then
+    /// takes that path's place.
+    #[inline(always)]
+    fn take_waiting(&mut self, s: &[u8], from: usize, forms: Forms) -> Option<Open>
+        requires fits { FitsSymbol s.now }
+        requires writing { IsWriting s.now self.old (steps.Value from forms) }
+        ensures { IfSome result (λ entry. Arrives s.now self.new entry from forms) }
+    {
+        'names: loop {
+            let entry = self.waiting.pop()?;
+            let Open::Nest { letter, place } = entry else {
+                return Some(entry);
+            };
+            if letter < b'a' {
+                return Some(entry);
+            }
+            self.nest_ended(s, from, forms, letter, place)?;
+        }
+    }
+
     /// Hands a path or a type on to what waits for it.
     pub(crate) fn pass(&mut self, s: &[u8], from: usize, forms: Forms) -> Option<Step>
         requires fits { FitsSymbol s.now }
         requires writing { IsWriting s.now self.old (steps.Value from forms) }
         ensures { IfSome result (IsWriting s.now self.new) }
     {
-        match self.waiting.pop()? {
+        match self.take_waiting(s, from, forms)? {
             Open::Symbol => self.symbol_ended(s, from, forms),
             Open::Other => self.other_ended(s, from, forms),
-            Open::Nest { letter, place } => self.nest_ended(s, from, forms, letter, place),
+            Open::Nest { letter, place } => self.special_ended(s, from, forms, letter, place),
             Open::Generic { is_value, place } => self.generic_ended(
                 s, from, forms, is_value, place,
             ),
@@ -42,6 +63,8 @@ impl Direct {
                 from: begins,
             } => self.array_ended(s, from, forms, place, begins),
             Open::TraitImpl { place } => self.trait_impl_ended(s, from, forms, place),
+            Open::InnerImpl { place } => self.inner_impl_ended(s, from, forms, place),
+            Open::InnerTraitImpl { place } => self.inner_trait_impl_ended(s, from, forms, place),
             Open::Implementing {
                 place,
                 from: begins,

@@ -1,5 +1,5 @@
 -- A reference that pressing writes is read as what it stands for.
-use Rattle.std.proofs.Common.{◌≡◌, ℕ, ◌+◌, ◌-◌, ◌<◌, ◌≤◌, ◌⊎◌, inl, inr, length, List, [], ◌∷◌, ◌++◌, Option, Some, None, Bool, true, false, Ok, refl, ap, arith, sym, subst, ◌∙◌, length-append, append-nil}
+use Rattle.std.proofs.Common.{◌≡◌, ℕ, ◌+◌, ◌-◌, ◌<◌, ◌≤◌, inl, inr, length, List, [], ◌∷◌, ◌++◌, Option, Some, None, Bool, true, false, Ok, refl, ap, arith, sym, subst, ◌∙◌, length-append, append-nil}
 use Rattle.std.proofs.lemmas.Bool.{le-leb}
 use Rattle.sym_core.specs.declared.NumberKind.TheVariants.{Base62}
 use Rattle.sym_shape.specs.declared.rule.Rule.{Rule}

@@ -1,5 +1,5 @@
 -- What is made where a rule closes is what its production makes.
-use Rattle.std.proofs.Common.{◌≡◌, refl, sym, ap, ◌∙◌, arith, true, false, ℕ, ◌+◌, ◌-◌, ◌≤◌, length, Some, None, Ok, Err}
+use Rattle.std.proofs.Common.{◌≡◌, refl, ap, arith, true, false, ℕ, ◌+◌, ◌-◌, ◌≤◌, length, Some, Ok, Err}
 use Rattle.std.specs.Prelude.{Result, OnOk}
 use Rattle.sym_core.specs.declared.refusal.Refusal.{Refusal}
 use Rattle.rust_v0.specs.declared.nodes.RustNodes.{RustNodes}

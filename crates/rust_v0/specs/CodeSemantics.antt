@@ -1,6 +1,6 @@
 -- Not a definition: what `semantics.rt` computes of the parts of a rule, said again so that contracts can name it. What a
 -- production means is `Unfold.meaning`; `proofs/SemanticsLemmas` has that the two agree.
-use Rattle.std.specs.Prelude.{◌≡◌, ℕ, ◌+◌, length, slice_index, List, Bool, true, false, nat_le, nat_lt, if◌then◌else◌, Option, Some, None, Result, Ok, Err}
+use Rattle.std.specs.Prelude.{◌≡◌, ℕ, ◌+◌, length, slice_index, List, true, false, nat_le, nat_lt, if◌then◌else◌, Option, Some, None, Result, Ok, Err}
 use Rattle.sym_core.specs.declared.refusal.Refusal.{Refusal}
 use Rattle.sym_core.specs.declared.refusal.Refusal.TheVariants.{BadReference, BadValue}
 use Rattle.sym_core.specs.declared.Span.{Span}

@@ -1,6 +1,7 @@
 -- What is linked keeps to what every language does.
 use Rattle.std.proofs.Common.{refl, arith, ℕ, List, Option, Some, None, [], sym, subst, ◌∙◌}
 use Rattle.sym_link.specs.Linking.{IsLinking}
+use Rattle.sym_link.specs.Sound.{lawful_sound}
 use Rattle.sym_link.specs.OwingLaws.{cost_rows}
 use Rattle.sym_link.specs.Tally.{closing_makes}
 use Rattle.sym_link.proofs.Tally.{tallied_laws}
@@ -14,6 +15,7 @@ use Rattle.rust_v0.specs.declared.nodes.RustNodes.{RustNodes}
 use Rattle.rust_v0.specs.Value as value
 use Rattle.rust_v0.specs.Value.{Value}
 use Rattle.rust_v0.specs.TableLaws as laws
+use Rattle.rust_v0.specs.Rules.{v0_table}
 use Rattle.rust_v0.specs.PartValues.{IsPart, IsSomeInteger}
 use Rattle.rust_v0.specs.Made.{ground}
 use Rattle.rust_v0.specs.RustNodes.{v0_view, GoesOn}
@@ -63,7 +65,7 @@ module _ (s : List ℕ) (old new : RustNodes) (grows : GoesOn old new) where
 
 pub v0_laws : (s : List ℕ) → IsLinking (v0_view s)
 v0_laws s = record {
-  lawful = laws.lawful;
+  sound = lawful_sound v0_table laws.lawful;
   starts = refl;
   part_stays = λ old new part v grows is. stays s old new grows part v is;
   kept_stays = λ old new kept rule grows is. record { is = is.is; few = is.few; there = omega (arith, grows.places, is.there) };

@@ -1,5 +1,5 @@
 -- How a call ends, by what was answered.
-use Rattle.std.proofs.Common.{◌≡◌, ◌≢◌, inl, inr, ℕ, Bool, true, cond, List, [], ◌++◌, length, Option, Some, Result, Ok, Err, refl, sym, ap, ap₂, subst, ◌∙◌}
+use Rattle.std.proofs.Common.{◌≡◌, ◌≢◌, inl, inr, ℕ, Bool, true, false, cond, List, [], ◌++◌, length, Option, Some, Result, Ok, Err, refl, sym, ap, ap₂, subst, ◌∙◌}
 use Rattle.std.specs.Prelude.{nat_le}
 use Rattle.std.proofs.lemmas.Bool.{cond-true}
 use Rattle.std.proofs.KnownBytes.{Consumes-all}
@@ -12,11 +12,12 @@ use Rattle.sym_filter.specs.declared.demangler.Demangled.{Demangled}
 use Rattle.sym_filter.specs.declared.demangler.Demangled.TheVariants as demangler
 use Rattle.sym_filter.specs.declared.kinds.Kind.{Kind}
 use Rattle.sym_filter.specs.declared.words.Tally.{Tally}
-use Rattle.sym_filter.specs.Languages.{answer_of, AreCountsOf}
-use Rattle.sym_filter.specs.Runs.{filtered}
+use Rattle.sym_filter.specs.Languages.{answer_of, wide_answer_of, AreCountsOf}
+use Rattle.sym_filter.specs.Runs.{Answering, filtered}
 use Rattle.sym_filter.specs.Streams.{FiltersAll}
 use Rattle.sym_calls.specs.declared.counting.SymbolCounts.{SymbolCounts}
-use Rattle.sym_calls.specs.Calls.{Ending, EndsAs, IsFound, Counted, symbol_kind, refused, written, answered, text_told, filter_told}
+use Rattle.sym_calls.specs.declared.asked.Asked.{Asked}
+use Rattle.sym_calls.specs.Calls.{Ending, EndsAs, IsFound, Counted, answers_at, symbol_kind, refused, written, answered, symbol_told, text_told, filter_told}
 
 -- a refusal is what was answered, but for want of memory
 pub refusal-ends : (e : Refusal) (answer : Result (List ℕ) Refusal) (room : List ℕ) (found : Ending) → (e ≢ Memory → answer ≡ Err e) → found ≡ refused e room → EndsAs (answered answer room) room found
@@ -49,23 +50,42 @@ too-long-ends answer room status length place is s l p = inl (rw (s, l, p) (sym 
 pub told-behind : (test : Bool) (a b : Ending) (room : List ℕ) (found : Ending) → test ≡ true → EndsAs a room found → EndsAs (cond test a b) room found
 told-behind test a b room found is ends = subst (λ t. EndsAs t room found) (sym (cond-true test a b is)) ends
 
-pub fits-ends : (detail : Detail) (limit : ℕ) (symbol room : List ℕ) (found : Ending) → nat_le (length symbol) 16777216 ≡ true
-    → EndsAs (answered (answer_of limit detail (symbol_kind symbol) symbol) room) room found → EndsAs (text_told (Some detail) limit symbol room) room found
-unfolding text_told
-fits-ends detail limit symbol room found fits ends = told-behind (nat_le (length symbol) 16777216) _ _ room found fits ends
+pub fits-ends : (answers : Answering) (symbol room : List ℕ) (found : Ending) → nat_le (length symbol) 16777216 ≡ true
+    → EndsAs (answered (answers (symbol_kind symbol) symbol) room) room found → EndsAs (symbol_told answers symbol room) room found
+unfolding symbol_told
+fits-ends answers symbol room found fits ends = told-behind (nat_le (length symbol) 16777216) _ _ room found fits ends
 
-pub in-detail : (named : Option Detail) (detail : Detail) (limit : ℕ) (symbol room : List ℕ) (found : Ending) → named ≡ Some detail
-    → EndsAs (text_told (Some detail) limit symbol room) room found → EndsAs (text_told named limit symbol room) room found
-in-detail named detail limit symbol room found is ends = subst (λ n. EndsAs (text_told n limit symbol room) room found) (sym is) ends
+-- what holds of a call with either grammar
+pub by-wide : {A : Type 0} → (P : Answering → A → Type 0) (asked : Asked) (limit of_languages : ℕ) (detail : Detail) (found : A) → asked.wide ≡ true → of_languages ≡ limit → detail ≡ asked.detail
+    → P (wide_answer_of of_languages detail) found → P (answers_at asked limit) found
+by-wide P asked limit of_languages detail found is same_limit same_detail given =
+    subst (λ b. P (cond b (wide_answer_of limit asked.detail) (answer_of limit asked.detail)) found) (sym is)
+    (subst (λ n. P (wide_answer_of n asked.detail) found) same_limit (subst (λ d. P (wide_answer_of of_languages d) found) same_detail given))
+
+pub by-abi : {A : Type 0} → (P : Answering → A → Type 0) (asked : Asked) (limit of_languages : ℕ) (detail : Detail) (found : A) → asked.wide ≡ false → of_languages ≡ limit → detail ≡ asked.detail
+    → P (answer_of of_languages detail) found → P (answers_at asked limit) found
+by-abi P asked limit of_languages detail found is same_limit same_detail given =
+    subst (λ b. P (cond b (wide_answer_of limit asked.detail) (answer_of limit asked.detail)) found) (sym is)
+    (subst (λ n. P (answer_of n asked.detail) found) same_limit (subst (λ d. P (answer_of of_languages d) found) same_detail given))
+
+-- a call behind the test of its number
+pub text-asked : (named : Option Asked) (asked : Asked) (limit : ℕ) (symbol room : List ℕ) (found : Ending) → named ≡ Some asked
+    → EndsAs (symbol_told (answers_at asked limit) symbol room) room found → EndsAs (text_told named limit symbol room) room found
+unfolding text_told
+text-asked named asked limit symbol room found is ends = subst (λ n. EndsAs (text_told n limit symbol room) room found) (sym is) ends
+
+pub filter-asked : (named : Option Asked) (asked : Asked) (limit : ℕ) (text room : List ℕ) (found : Ending) → named ≡ Some asked
+    → EndsAs (written (filtered (answers_at asked limit) text) room) room found → EndsAs (filter_told named limit text room) room found
+unfolding filter_told
+filter-asked named asked limit text room found is ends = subst (λ n. EndsAs (filter_told n limit text room) room found) (sym is) ends
 
 -- a text that was filtered to its end
-pub filter-ends : (named : Option Detail) (detail : Detail) (limit : ℕ) (text room start out : List ℕ) (coming : Option (List ℕ)) (tally : Tally) (found : Ending) → named ≡ Some detail → start ≡ []
-    → FiltersAll (answer_of limit detail) (Some text) coming (Some start) (Some out) tally → found ≡ written out room → EndsAs (filter_told named limit text room) room found
-unfolding filter_told
-filter-ends named detail limit text room start out coming tally found is none all told =
+pub filter-ends : (answers : Answering) (text room start out : List ℕ) (coming : Option (List ℕ)) (tally : Tally) (found : Ending) → start ≡ []
+    → FiltersAll answers (Some text) coming (Some start) (Some out) tally → found ≡ written out room → EndsAs (written (filtered answers text) room) room found
+filter-ends answers text room start out coming tally found none all told =
     let read : all.text ≡ text = Consumes-all (Some text) coming all.text [] all.text all.reads all.ends refl in
-    let put : out ≡ filtered (answer_of limit detail) text = all.writes ∙ ap₂ (λ (a b : List ℕ). a ++ filtered (answer_of limit detail) b) none read in
-    inl (told ∙ ap (λ b. written b room) put ∙ sym (ap (λ n. filter_told n limit text room) is))
+    let put : out ≡ filtered answers text = all.writes ∙ ap₂ (λ (a b : List ℕ). a ++ filtered answers b) none read in
+    inl (told ∙ ap (λ b. written b room) put)
 
 -- a status and a place, without room and length
 abbrev bare : Ending → Ending
@@ -93,15 +113,15 @@ counted-ends symbol old new status place kind read in_lang counts answered_ok no
     inl (answered_ok, no_place, subst (λ k. AreCountsOf k.lang symbol (record { rows = new.rows; nodes = new.nodes; steps = new.steps })) in_lang of_new)
 
 -- a text that was appended to an empty list, and put into the room
-pub appended-ends : {A : Type 0} → (limit : ℕ) (detail : Detail) (kind : Kind) (symbol room old new : List ℕ) (result : Result A Refusal) (done : A) (found : Ending) → kind ≡ symbol_kind symbol → old ≡ []
-    → result ≡ Ok done → IsAppended (answer_of limit detail kind symbol) old new result → found ≡ written new room → EndsAs (answered (answer_of limit detail (symbol_kind symbol) symbol) room) room found
-appended-ends limit detail kind symbol room old new result done found in_lang empty ok is put =
-    let here = subst (λ r. IsAppended (answer_of limit detail kind symbol) old new r) ok is in
-    text-ends _ room new found (subst (λ k. answer_of limit detail k symbol ≡ Ok new) in_lang (here.1 ∙ ap (λ t. Ok t) (ap (λ o. o ++ here.0) (sym empty) ∙ sym here.2))) put
+pub appended-ends : {A : Type 0} → (answers : Answering) (kind : Kind) (symbol room old new : List ℕ) (result : Result A Refusal) (done : A) (found : Ending) → kind ≡ symbol_kind symbol → old ≡ []
+    → result ≡ Ok done → IsAppended (answers kind symbol) old new result → found ≡ written new room → EndsAs (answered (answers (symbol_kind symbol) symbol) room) room found
+appended-ends answers kind symbol room old new result done found in_lang empty ok is put =
+    let here = subst (λ r. IsAppended (answers kind symbol) old new r) ok is in
+    text-ends _ room new found (subst (λ k. answers k symbol ≡ Ok new) in_lang (here.1 ∙ ap (λ t. Ok t) (ap (λ o. o ++ here.0) (sym empty) ∙ sym here.2))) put
 
 -- a symbol that has no text
-pub not-appended-ends : {A : Type 0} → (limit : ℕ) (detail : Detail) (kind : Kind) (symbol room old new : List ℕ) (result : Result A Refusal) (refusal : Refusal) (found : Ending) → kind ≡ symbol_kind symbol
-    → result ≡ Err refusal → IsAppended (answer_of limit detail kind symbol) old new result → found ≡ refused refusal room → EndsAs (answered (answer_of limit detail (symbol_kind symbol) symbol) room) room found
-not-appended-ends limit detail kind symbol room old new result refusal found in_lang err is told =
-    let here = subst (λ r. IsAppended (answer_of limit detail kind symbol) old new r) err is in
-    refusal-ends refusal _ room found (λ other. subst (λ k. answer_of limit detail k symbol ≡ Err refusal) in_lang (here.0 other)) told
+pub not-appended-ends : {A : Type 0} → (answers : Answering) (kind : Kind) (symbol room old new : List ℕ) (result : Result A Refusal) (refusal : Refusal) (found : Ending) → kind ≡ symbol_kind symbol
+    → result ≡ Err refusal → IsAppended (answers kind symbol) old new result → found ≡ refused refusal room → EndsAs (answered (answers (symbol_kind symbol) symbol) room) room found
+not-appended-ends answers kind symbol room old new result refusal found in_lang err is told =
+    let here = subst (λ r. IsAppended (answers kind symbol) old new r) err is in
+    refusal-ends refusal _ room found (λ other. subst (λ k. answers k symbol ≡ Err refusal) in_lang (here.0 other)) told

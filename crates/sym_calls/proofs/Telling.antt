@@ -7,10 +7,11 @@ use borrow.Rule.Slice.PartMut.{put_mid}
 use Rattle.std.proofs.Math.Seq.{take-append-add, drop-append-add}
 use Rattle.sym_core.specs.declared.refusal.Refusal.{Refusal}
 use Rattle.sym_core.specs.declared.refusal.Refusal.TheVariants.{Malformed, BadReference, BadValue, TooLong, Memory}
-use Rattle.sym_print.specs.declared.detail.Detail.{Detail}
-use Rattle.sym_calls.specs.Calls.{Ending, EndsAs, answered, refused, text_told, written}
+use Rattle.sym_filter.specs.Runs.{Answering}
+use Rattle.sym_calls.specs.Calls.{Ending, EndsAs, answered, answers_at, refused, symbol_told, written}
 use Rattle.sym_calls.specs.Texts.{AreTold, IsTold, TextsEndAs, TextsEndBy, are_ends, placed}
 use Rattle.sym_calls.specs.declared.answer.Told.{Told}
+use Rattle.sym_calls.specs.declared.asked.Asked.{Asked}
 
 both : (a b : Bool) → a && b ≡ true → (a ≡ true) × (b ≡ true)
 both true b holds = (refl, holds)
@@ -60,15 +61,15 @@ answered-within (Err (BadValue at)) room = omega arith
 answered-within (Err TooLong) room = omega arith
 answered-within (Err Memory) room = omega arith
 
-ending-within : (detail : Detail) (limit : ℕ) (symbol room : List ℕ) (found : Ending) → EndsAs (text_told (Some detail) limit symbol room) room found → IsWithin found
-unfolding text_told
-ending-within detail limit symbol room found (inl is) =
+ending-within : (answers : Answering) (symbol room : List ℕ) (found : Ending) → EndsAs (symbol_told answers symbol room) room found → IsWithin found
+unfolding symbol_told
+ending-within answers symbol room found (inl is) =
     subst (λ e. IsWithin e) (sym is) (cond-within (nat_le (length symbol) 16777216) _ _ (λ fits. answered-within _ room) (omega arith))
-ending-within detail limit symbol room found (inr is) = subst (λ e. IsWithin e) (sym is) (omega arith)
+ending-within answers symbol room found (inr is) = subst (λ e. IsWithin e) (sym is) (omega arith)
 
 -- a text stands within the room
-pub told-within : (detail : Detail) (limit : ℕ) (symbol room after : List ℕ) (told : Told) → IsTold detail limit symbol room told after → placed told ≤ length after
-told-within detail limit symbol room after told is = ending-within detail limit symbol room (record { status = told.status; room = after; length = told.length; place = told.place }) is
+pub told-within : (answers : Answering) (symbol room after : List ℕ) (told : Told) → IsTold answers symbol room told after → placed told ≤ length after
+told-within answers symbol room after told is = ending-within answers symbol room (record { status = told.status; room = after; length = told.length; place = told.place }) is
 
 take-behind : (xs ys : List ℕ) (at n : ℕ) → length xs ≡ at → take (at + n) (xs ++ ys) ≡ xs ++ take n ys
 take-behind xs ys at n is = subst (λ m. take (m + n) (xs ++ ys) ≡ xs ++ take n ys) is (take-append-add xs ys n)
@@ -91,51 +92,51 @@ room-within at n room after whole within is_whole fits =
     omega (arith, front, all, fits)
 
 -- one more symbol is told of
-pub told-more : (detail : Detail) (limit : ℕ) (text ends first room front after whole : List ℕ) (from at i : ℕ) (told : Told) (answers : List Told)
-    → i < length ends → i < length answers → length front ≡ at → whole ≡ front ++ after
-    → IsTold detail limit (take (get_or ends i 0 - from) (drop from text)) room told after
-    → ((new : List ℕ) (rest : List Told) → AreTold detail limit text from (drop i ends) room new rest → AreTold detail limit text 0 ends first (front ++ new) (take i answers ++ rest))
-    → (new : List ℕ) (rest : List Told) → AreTold detail limit text (get_or ends i 0) (drop (i + 1) ends) (drop (at + placed told) whole) new rest
-    → AreTold detail limit text 0 ends first (take (at + placed told) whole ++ new) (take (i + 1) (set answers i told) ++ rest)
+pub told-more : (answers : Answering) (text ends first room front after whole : List ℕ) (from at i : ℕ) (told : Told) (others : List Told)
+    → i < length ends → i < length others → length front ≡ at → whole ≡ front ++ after
+    → IsTold answers (take (get_or ends i 0 - from) (drop from text)) room told after
+    → ((new : List ℕ) (rest : List Told) → AreTold answers text from (drop i ends) room new rest → AreTold answers text 0 ends first (front ++ new) (take i others ++ rest))
+    → (new : List ℕ) (rest : List Told) → AreTold answers text (get_or ends i 0) (drop (i + 1) ends) (drop (at + placed told) whole) new rest
+    → AreTold answers text 0 ends first (take (at + placed told) whole ++ new) (take (i + 1) (set others i told) ++ rest)
 unfolding AreTold
-told-more detail limit text ends first room front after whole from at i told answers in_ends in_answers is_at is_whole is sofar new rest given =
+told-more answers text ends first room front after whole from at i told others in_ends in_others is_at is_whole is sofar new rest given =
     let n : ℕ = placed told in
     let left : drop (at + n) whole ≡ drop n after = ap (λ l. drop (at + n) l) is_whole ∙ drop-behind front after at n is_at in
     let kept : take (at + n) whole ++ new ≡ front ++ (take n after ++ new) = ap (λ l. take (at + n) l ++ new) is_whole ∙ ap (λ l. l ++ new) (take-behind front after at n is_at) ∙ append_assoc front (take n after) new in
-    let told_of : take (i + 1) (set answers i told) ++ rest ≡ take i answers ++ (told ∷ rest) = ap (λ l. l ++ rest) (take_more_set answers i told in_answers) ∙ append_assoc (take i answers) (told ∷ []) rest in
-    let here : AreTold detail limit text from (get_or ends i 0 ∷ drop (i + 1) ends) room (take n after ++ new) (told ∷ rest) =
-    (after, new, is, refl, subst (λ l. AreTold detail limit text (get_or ends i 0) (drop (i + 1) ends) l new rest) left given) in
-    subst (λ l. AreTold detail limit text 0 ends first l (take (i + 1) (set answers i told) ++ rest)) (sym kept)
-    (subst (λ l. AreTold detail limit text 0 ends first (front ++ (take n after ++ new)) l) (sym told_of)
-    (sofar (take n after ++ new) (told ∷ rest) (subst (λ l. AreTold detail limit text from l room (take n after ++ new) (told ∷ rest)) (sym (drop_more ends i 0 in_ends)) here)))
+    let told_of : take (i + 1) (set others i told) ++ rest ≡ take i others ++ (told ∷ rest) = ap (λ l. l ++ rest) (take_more_set others i told in_others) ∙ append_assoc (take i others) (told ∷ []) rest in
+    let here : AreTold answers text from (get_or ends i 0 ∷ drop (i + 1) ends) room (take n after ++ new) (told ∷ rest) =
+    (after, new, is, refl, subst (λ l. AreTold answers text (get_or ends i 0) (drop (i + 1) ends) l new rest) left given) in
+    subst (λ l. AreTold answers text 0 ends first l (take (i + 1) (set others i told) ++ rest)) (sym kept)
+    (subst (λ l. AreTold answers text 0 ends first (front ++ (take n after ++ new)) l) (sym told_of)
+    (sofar (take n after ++ new) (told ∷ rest) (subst (λ l. AreTold answers text from l room (take n after ++ new) (told ∷ rest)) (sym (drop_more ends i 0 in_ends)) here)))
 
 -- all symbols are told of
-pub told-all : (detail : Detail) (limit : ℕ) (text ends first room : List ℕ) (from at i : ℕ) (answers : List Told)
-    → length ends ≤ i → length answers ≡ length ends
-    → ((new : List ℕ) (rest : List Told) → AreTold detail limit text from (drop i ends) (drop at room) new rest → AreTold detail limit text 0 ends first (take at room ++ new) (take i answers ++ rest))
-    → AreTold detail limit text 0 ends first room answers
+pub told-all : (answers : Answering) (text ends first room : List ℕ) (from at i : ℕ) (others : List Told)
+    → length ends ≤ i → length others ≡ length ends
+    → ((new : List ℕ) (rest : List Told) → AreTold answers text from (drop i ends) (drop at room) new rest → AreTold answers text 0 ends first (take at room ++ new) (take i others ++ rest))
+    → AreTold answers text 0 ends first room others
 unfolding AreTold
-told-all detail limit text ends first room from at i answers ended as_many sofar =
+told-all answers text ends first room from at i others ended as_many sofar =
     let none : drop i ends ≡ [] = drop_all i ends ended in
-    let all : take i answers ++ [] ≡ answers = append-nil (take i answers) ∙ take_all i answers (omega (arith, as_many)) in
-    subst (λ l. AreTold detail limit text 0 ends first l answers) (take-append-drop at room)
-    (subst (λ l. AreTold detail limit text 0 ends first (take at room ++ drop at room) l) all
-    (sofar (drop at room) [] (subst (λ l. AreTold detail limit text from l (drop at room) (drop at room) []) (sym none) refl)))
+    let all : take i others ++ [] ≡ others = append-nil (take i others) ∙ take_all i others (omega (arith, as_many)) in
+    subst (λ l. AreTold answers text 0 ends first l others) (take-append-drop at room)
+    (subst (λ l. AreTold answers text 0 ends first (take at room ++ drop at room) l) all
+    (sofar (drop at room) [] (subst (λ l. AreTold answers text from l (drop at room) (drop at room) []) (sym none) refl)))
 
 -- how the call over many symbols ends
-pub texts-refused : (named : Option Detail) (detail : Detail) (limit : ℕ) (text ends room : List ℕ) (answers : List Told) → named ≡ Some detail
-    → nat_eq (length answers) (length ends) && are_ends 0 (length text) ends ≡ false → TextsEndAs named limit text ends room room answers answers 10
+pub texts-refused : (named : Option Asked) (asked : Asked) (limit : ℕ) (text ends room : List ℕ) (untold : List Told) → named ≡ Some asked
+    → nat_eq (length untold) (length ends) && are_ends 0 (length text) ends ≡ false → TextsEndAs named limit text ends room room untold untold 10
 unfolding TextsEndAs TextsEndBy
-texts-refused named detail limit text ends room answers is wrong =
-    subst (λ n. TextsEndAs n limit text ends room room answers answers 10) (sym is) (subst (λ b. TextsEndBy b detail limit text ends room room answers answers 10) (sym wrong) (refl, refl, refl))
+texts-refused named asked limit text ends room untold is wrong =
+    subst (λ n. TextsEndAs n limit text ends room room untold untold 10) (sym is) (subst (λ b. TextsEndBy b (answers_at asked limit) text ends room room untold untold 10) (sym wrong) (refl, refl, refl))
 
-pub texts-told : (named : Option Detail) (detail : Detail) (limit : ℕ) (text ends room new : List ℕ) (answers told : List Told) → named ≡ Some detail
-    → nat_eq (length answers) (length ends) ≡ true → are_ends 0 (length text) ends ≡ true → AreTold detail limit text 0 ends room new told
-    → TextsEndAs named limit text ends room new answers told 0
+pub texts-told : (named : Option Asked) (asked : Asked) (limit : ℕ) (text ends room new : List ℕ) (untold told : List Told) → named ≡ Some asked
+    → nat_eq (length untold) (length ends) ≡ true → are_ends 0 (length text) ends ≡ true → AreTold (answers_at asked limit) text 0 ends room new told
+    → TextsEndAs named limit text ends room new untold told 0
 unfolding TextsEndAs TextsEndBy
-texts-told named detail limit text ends room new answers told is as_many right all =
-    subst (λ n. TextsEndAs n limit text ends room new answers told 0) (sym is)
-    (subst (λ b. TextsEndBy b detail limit text ends room new answers told 0) (sym (ap₂ (λ (a b : Bool). a && b) as_many right)) (refl, all))
+texts-told named asked limit text ends room new untold told is as_many right all =
+    subst (λ n. TextsEndAs n limit text ends room new untold told 0) (sym is)
+    (subst (λ b. TextsEndBy b (answers_at asked limit) text ends room new untold told 0) (sym (ap₂ (λ (a b : Bool). a && b) as_many right)) (refl, all))
 
 pub not-as-many : (a b : Bool) → a ≡ false → a && b ≡ false
 not-as-many a b is = ap (λ t. t && b) is

@@ -1,6 +1,6 @@
 -- What each exported call answers, and what it writes.
 use Rattle.sym_core.specs.declared.TheConstants.{MOST_BYTES}
-use Rattle.std.specs.Prelude.{◌≡◌, ◌≢◌, ◌⊎◌, ◌<◌, ℕ, zero, suc, List, [], drop, length, codes, ◌++◌, Option, Some, None, Result, Ok, Err, ◌+◌, ◌&&◌, min, nat_eq, nat_le, if◌then◌else◌}
+use Rattle.std.specs.Prelude.{◌≡◌, ◌≢◌, ◌⊎◌, ◌<◌, ℕ, zero, suc, List, [], drop, length, codes, ◌++◌, Option, Some, None, Result, Ok, Err, ◌+◌, ◌-◌, ◌&&◌, min, nat_eq, nat_le, option_map, if◌then◌else◌}
 use Rattle.std.specs.List.{starts_with}
 use Rattle.sym_core.specs.declared.refusal.Refusal.{Refusal}
 use Rattle.sym_core.specs.declared.refusal.Refusal.TheVariants.{Malformed, BadReference, BadValue, TooLong, Memory}
@@ -11,8 +11,9 @@ use Rattle.sym_filter.specs.declared.kinds.Kind.{Kind}
 use Rattle.sym_filter.specs.declared.kinds.Lang.{Lang}
 use Rattle.sym_filter.specs.declared.kinds.Lang.TheVariants.{Cpp, Rust}
 use Rattle.sym_filter.specs.Kinds.{kind_by_beginning, symbol_of}
-use Rattle.sym_filter.specs.Languages.{answer_of, AreCountsOf, pressed_of}
-use Rattle.sym_filter.specs.Runs.{filtered}
+use Rattle.sym_filter.specs.Languages.{answer_of, wide_answer_of, AreCountsOf, pressed_of}
+use Rattle.sym_filter.specs.Runs.{Answering, filtered}
+use Rattle.sym_calls.specs.declared.asked.Asked.{Asked}
 use Rattle.sym_calls.specs.declared.counting.SymbolCounts.{SymbolCounts}
 
 -- a symbol that begins "_R" is read as Rust, any other as C++
@@ -30,6 +31,14 @@ detail_of (suc zero) = Some Detail.Brief
 detail_of (suc (suc zero)) = Some Detail.NoParameters
 detail_of (suc (suc (suc zero))) = Some Detail.BriefNoParameters
 detail_of (suc (suc (suc (suc n)))) = None
+
+-- what a caller's number asks for, if it is that of a detail: from 4 on the same details, with C++ by the wide grammar
+abbrev pub asked_of : ℕ → Option Asked
+asked_of number = option_map (λ detail. record { detail = detail; wide = nat_le 4 number }) (detail_of (if nat_le 4 number then number - 4 else number))
+
+-- what is answered for symbols then
+abbrev pub answers_at : Asked → (limit : ℕ) → Answering
+answers_at asked limit = if asked.wide then wide_answer_of limit asked.detail else answer_of limit asked.detail
 
 -- how a call ends: its status, the room behind it, and what is told with the status
 pub record Ending : Type 0 where
@@ -68,12 +77,16 @@ IsFound found bytes (Text counts) = found ≡ Ok bytes
 IsFound found bytes (Demangled.TooLong counts) = found ≡ Err TooLong
 IsFound found bytes (Refused refusal) = refusal ≢ Memory → found ≡ Err refusal
 
--- the text of a symbol
-unfoldable pub text_told : Option Detail → (limit : ℕ) → (symbol room : List ℕ) → Ending
-text_told None limit symbol room = status_alone 8 room
-text_told (Some detail) limit symbol room =
-    if nat_le (length symbol) MOST_BYTES then answered (answer_of limit detail (symbol_kind symbol) symbol) room
+-- what is answered for a symbol
+unfoldable pub symbol_told : Answering → (symbol room : List ℕ) → Ending
+symbol_told answers symbol room =
+    if nat_le (length symbol) MOST_BYTES then answered (answers (symbol_kind symbol) symbol) room
     else status_alone 7 room
+
+-- the text of a symbol
+unfoldable pub text_told : Option Asked → (limit : ℕ) → (symbol room : List ℕ) → Ending
+text_told None limit symbol room = status_alone 8 room
+text_told (Some asked) limit symbol room = symbol_told (answers_at asked limit) symbol room
 
 -- A place behind so many bytes, where a refusal has one. No greater number than 2^32 - 1 is told.
 unfoldable pub moved : ℕ → Ending → Ending
@@ -82,16 +95,16 @@ moved skip ending =
     then record { status = ending.status; room = ending.room; length = ending.length; place = min (ending.place + skip) 4294967295 } else ending
 
 -- the text of a word's symbol, behind an underscore that may stand before it
-unfoldable pub word_told : Option Detail → (limit : ℕ) → (word room : List ℕ) → Ending
-word_told detail limit word room =
-    elim (kind_by_beginning word) [ None ↦ status_alone 11 room | Some kind ↦ moved kind.skip (text_told detail limit (symbol_of kind word) room) ]
+unfoldable pub word_told : Option Asked → (limit : ℕ) → (word room : List ℕ) → Ending
+word_told asked limit word room =
+    elim (kind_by_beginning word) [ None ↦ status_alone 11 room | Some kind ↦ moved kind.skip (text_told asked limit (symbol_of kind word) room) ]
 
 -- a text with each word that has a text replaced by it
-unfoldable pub filter_told : Option Detail → (limit : ℕ) → (text room : List ℕ) → Ending
+unfoldable pub filter_told : Option Asked → (limit : ℕ) → (text room : List ℕ) → Ending
 filter_told None limit text room = status_alone 8 room
-filter_told (Some detail) limit text room = written (filtered (answer_of limit detail) text) room
+filter_told (Some asked) limit text room = written (filtered (answers_at asked limit) text) room
 
--- the pressed spelling of a symbol
+-- the pressed spelling of a symbol, read without what the wide grammar adds
 unfoldable pub press_told : (symbol room : List ℕ) → Ending
 press_told symbol room =
     if nat_le (length symbol) MOST_BYTES then answered (pressed_of (symbol_kind symbol) symbol) room else status_alone 7 room
@@ -100,8 +113,8 @@ press_told symbol room =
 abbrev pub EndsAs : (wanted : Ending) → (old_room : List ℕ) → (found : Ending) → Type 0
 EndsAs wanted old_room found = (found ≡ wanted) ⊎ (found ≡ status_alone 5 old_room)
 
--- How counting ends: with the counts of the symbol, which is read; or with the refusal that the symbol has at every limit, and
--- the counts as they were.
+-- How counting ends, which reads without what the wide grammar adds: with the counts of the symbol, which is read; or with the
+-- refusal that the symbol has at every limit, and the counts as they were.
 abbrev pub Counted : (symbol : List ℕ) → (old new : SymbolCounts) → (status place : ℕ) → Type 0
 Counted symbol old new status place =
     ((status ≡ 0) × (place ≡ 0) × AreCountsOf (lang_of symbol) symbol (record { rows = new.rows; nodes = new.nodes; steps = new.steps }))

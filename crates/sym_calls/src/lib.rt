@@ -5,6 +5,7 @@
 #![tactic(auto)]
 
 pub mod answer;
+mod asked;
 mod counting;
 mod text;
 mod texts;

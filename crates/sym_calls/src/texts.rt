@@ -1,13 +1,14 @@
 // The texts of many symbols, with one set of lists for all of them.
 ghost use Rattle.std.specs.Prelude.{◌≡◌, ◌≤◌, length, true};
-ghost use Rattle.sym_calls.specs.Calls.{detail_of};
+ghost use Rattle.sym_calls.specs.Calls.{asked_of};
 ghost use Rattle.sym_calls.specs.Texts.{AreTold, IsTold, TextsEndAs, are_ends, placed};
 
 use crate::answer::{Answer, DETAIL, ENDS, OK, Told};
-use crate::text::{detail_of, text_with};
+use crate::asked::asked_of;
+use crate::text::text_with;
 use std::alloc::Global;
 use sym_filter::languages::Lists;
-use sym_filter::{Abi, Languages};
+use sym_filter::{Abi, Demangler, Wide};
 
 /// Whether ends go up, from 0 to at most the length of a text.
 fn are_ends(ends: &[usize], len: usize) -> bool
@@ -24,21 +25,21 @@ fn are_ends(ends: &[usize], len: usize) -> bool
 }
 
 /// Writes the text of one of many symbols to the front of the room that is left.
-fn told_of(
-    languages: Languages<Abi>,
-    lists: &mut Lists<Abi>,
+fn told_of<D: Demangler>(
+    demangler: &D,
+    lists: &mut D::Lists,
     text: &mut Vec<u8>,
     symbol: &[u8],
     room: &mut [u8],
 ) -> Told
-    ensures told { IsTold languages.detail languages.limit symbol.now room.old result room.new }
+    ensures told { IsTold (D.answer demangler.now) symbol.now room.old result room.new }
     ensures within { placed result ≤ length room.new }
 {
     let mut answer = Answer {
         length: 0,
         place: 0,
     };
-    let status = text_with(languages, lists, text, symbol, room, &mut answer);
+    let status = text_with(demangler, lists, text, symbol, room, &mut answer);
     Told {
         length: answer.length,
         place: answer.place,
@@ -54,25 +55,25 @@ fn placed(told: Told) -> usize
 }
 
 /// Writes the texts of symbols to the room, one behind the other, and tells of each.
-fn tell_each(
+fn tell_each<D: Demangler>(
     alloc: Global,
+    demangler: &D,
+    lists: &mut D::Lists,
     text: &[u8],
     ends: &[usize],
-    languages: Languages<Abi>,
     room: &mut [u8],
     answers: &mut [Told],
 )
     requires ends { are_ends 0 (length text.now) ends.now ≡ true }
     requires answers { length answers.old ≡ length ends.now }
-    ensures { AreTold languages.detail languages.limit text.now 0 ends.now room.old room.new answers.new }
+    ensures { AreTold (D.answer demangler.now) text.now 0 ends.now room.old room.new answers.new }
 {
-    let mut lists = Lists::new(alloc);
     let mut spelled = Vec::new(alloc);
     let mut from = 0;
     let mut at = 0;
     'symbols: for (i, end) in ends.iter().enumerate() {
         let symbol = &text[from..*end];
-        let told = told_of(languages, &mut lists, &mut spelled, symbol, &mut room[at..]);
+        let told = told_of(demangler, lists, &mut spelled, symbol, &mut room[at..]);
         answers[i] = told;
         at += placed(told);
         from = *end;
@@ -95,9 +96,9 @@ pub fn texts_of(
     room: &mut [u8],
     answers: &mut [Told],
 ) -> u32
-    ensures { TextsEndAs (detail_of detail) limit text.now ends.now room.old room.new answers.old answers.new result }
+    ensures { TextsEndAs (asked_of detail) limit text.now ends.now room.old room.new answers.old answers.new result }
 {
-    let Some(detail) = detail_of(detail) else {
+    let Some(asked) = asked_of(detail) else {
         return DETAIL;
     };
     if answers.len() != ends.len() {
@@ -106,11 +107,14 @@ pub fn texts_of(
     if !are_ends(ends, text.len()) {
         return ENDS;
     }
-    let languages = Languages {
-        limit,
-        detail,
-        cpp: Abi,
-    };
-    tell_each(alloc, text, ends, languages, room, answers);
+    if asked.wide {
+        let languages = asked.languages(limit, Wide);
+        let mut lists = Lists::new(alloc);
+        tell_each(alloc, &languages, &mut lists, text, ends, room, answers);
+        return OK;
+    }
+    let languages = asked.languages(limit, Abi);
+    let mut lists = Lists::new(alloc);
+    tell_each(alloc, &languages, &mut lists, text, ends, room, answers);
     OK
 }

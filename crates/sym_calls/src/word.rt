@@ -1,7 +1,7 @@
 // The text of a word's symbol, where an underscore may stand before it.
 ghost use Rattle.std.specs.Prelude.{◌≡◌};
 ghost use Rattle.sym_filter.specs.Kinds.{kind_by_beginning};
-ghost use Rattle.sym_calls.specs.Calls.{EndsAs, detail_of, word_told};
+ghost use Rattle.sym_calls.specs.Calls.{EndsAs, asked_of, word_told};
 
 use crate::answer::{Answer, BAD_VALUE, MALFORMED, NO_SYMBOL, tell};
 use crate::text::text_of;
@@ -27,7 +27,7 @@ pub fn word_of(
     room: &mut [u8],
     answer: &mut Answer,
 ) -> u32
-    ensures { EndsAs (word_told (detail_of detail) limit word.now room.old) room.old
+    ensures { EndsAs (word_told (asked_of detail) limit word.now room.old) room.old
         (record { status = result; room = room.new; length = answer.new.length; place = answer.new.place }) }
 {
     let Some(kind) = kind_by_beginning(word) else {

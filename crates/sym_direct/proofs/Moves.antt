@@ -6,7 +6,7 @@ use Rattle.sym_shape.specs.declared.rule.Rule.{Rule}
 use Rattle.sym_shape.specs.declared.rule.Sym.{Sym}
 use Rattle.sym_shape.specs.declared.rule.Sym.TheVariants.{Kind, Byte}
 use Rattle.sym_shape.specs.Table.{Token, symbols_of, bytes_of}
-use Rattle.sym_shape.specs.Tree.{Forest, branch, empty, token, fixed, nothing, grown, IsTree, TakesRule}
+use Rattle.sym_shape.specs.Tree.{Forest, branch, empty, token, fixed, nothing, grown, IsTree, AreTrees, TakesRule, spell_all}
 use Rattle.sym_link.specs.Reading.{Open, Next}
 use Rattle.sym_link.specs.Unfold.{found, standing}
 use Rattle.sym_direct.specs.Holes.{Language, Opened, opened, Reads, ReadsRest, StandsAt, Comes, Needs, Expects}
@@ -37,19 +37,36 @@ comes-moved l s os vs at to st same = subst (λ k. Comes l s os vs k st) same
 
 -- ## Rules
 
-reads-rule : {V S C : Type 0} (l : Language V S C) (s : List ℕ) (kind : ℕ) (rule : Rule) (taken : List ℕ) (context : C) (at : ℕ)
+-- a rule is read whose parts are
+unfoldable pub reads-rule : {V S C : Type 0} (l : Language V S C) (s : List ℕ) (kind : ℕ) (rule : Rule) (taken : List ℕ) (context : C) (at : ℕ)
     (st begun inner after : S) (bytes : List ℕ) (vs : List V) (w : V)
     → TakesRule l.table kind rule taken
-    → ((f : Forest) → (l.reading s).begin (standing rule taken at context st) f ≡ Ok begun)
-    → ReadsRest l s (standing rule taken at context st) [] (symbols_of rule) (at + length taken) bytes begun vs inner
+    → (rest : ReadsRest l s (standing rule taken at context st) [] (symbols_of rule) (at + length taken) bytes begun vs inner)
+    → (l.reading s).begin (standing rule taken at context st) rest.forest ≡ Ok begun
     → (l.reading s).close (standing rule taken at context st) vs inner ≡ Ok (found w after)
     → Reads l s (Kind kind) context at (taken ++ bytes) st (w ∷ []) after
-reads-rule l s kind rule taken context at st begun inner after bytes vs w takes begins rest closes = record {
+reads-rule l s kind rule taken context at st begun inner after bytes vs w takes rest begins closes = record {
   shape = branch rule taken rest.forest;
   shaped = (takes, rest.shaped);
   spelled = ap (λ b. taken ++ b) rest.spelled;
-  unfolds = rw (begins rest.forest, rest.unfolds, closes) refl;
+  unfolds = rw (begins, rest.unfolds, closes) refl;
 }
+
+-- a kind takes a rule, which may begin with whatever parts stand in the symbol: it stands open
+pub opens-where : {V S C : Type 0} (l : Language V S C) (s : List ℕ) (kind : ℕ) (rule : Rule) (taken : List ℕ) (context : C)
+    (os : List (Opened V S C)) (at : ℕ) (st begun : S)
+    → TakesRule l.table kind rule taken
+    → ((f : Forest) → AreTrees l.table (symbols_of rule) f → StandsAt s (at + length taken) (spell_all f)
+    → (l.reading s).begin (standing rule taken at context st) f ≡ Ok begun)
+    → Expects l s (Kind kind) context os at st → StandsAt s at taken
+    → Needs l s os (standing rule taken at context st) [] (symbols_of rule) (at + length taken) begun
+opens-where l s kind rule taken context os at st begun takes begins expects stands bytes vs inner w after rest there closes =
+    comes-moved l s os (w ∷ []) (at + length (taken ++ bytes)) (at + length taken + length bytes) after
+    (omega (arith, length-append taken bytes))
+    (expects (taken ++ bytes) (w ∷ []) after
+    (reads-rule l s kind rule taken context at st begun inner after bytes vs w takes rest
+    (begins rest.forest rest.shaped (subst (λ b. StandsAt s (at + length taken) b) (sym rest.spelled) there)) closes)
+    (stands-join s at taken bytes stands there))
 
 -- a kind takes a rule: it stands open
 pub opens : {V S C : Type 0} (l : Language V S C) (s : List ℕ) (kind : ℕ) (rule : Rule) (taken : List ℕ) (context : C)
@@ -58,14 +75,11 @@ pub opens : {V S C : Type 0} (l : Language V S C) (s : List ℕ) (kind : ℕ) (r
     → ((f : Forest) → (l.reading s).begin (standing rule taken at context st) f ≡ Ok begun)
     → Expects l s (Kind kind) context os at st → StandsAt s at taken
     → Needs l s os (standing rule taken at context st) [] (symbols_of rule) (at + length taken) begun
-opens l s kind rule taken context os at st begun takes begins expects stands bytes vs inner w after rest there closes =
-    comes-moved l s os (w ∷ []) (at + length (taken ++ bytes)) (at + length taken + length bytes) after
-    (omega (arith, length-append taken bytes))
-    (expects (taken ++ bytes) (w ∷ []) after
-    (reads-rule l s kind rule taken context at st begun inner after bytes vs w takes begins rest closes)
-    (stands-join s at taken bytes stands there))
+opens l s kind rule taken context os at st begun takes begins expects stands =
+    opens-where l s kind rule taken context os at st begun takes (λ f shaped there. begins f) expects stands
 
-joins : {V S C : Type 0} (l : Language V S C) (s : List ℕ) (rule : Open S C) (known : List V) (x : Sym) (todo : List Sym) (at : ℕ) (st : S)
+-- a part is read, and those behind it
+unfoldable pub joins : {V S C : Type 0} (l : Language V S C) (s : List ℕ) (rule : Open S C) (known : List V) (x : Sym) (todo : List Sym) (at : ℕ) (st : S)
     (next : Next V S C) (after inner : S) (v : List V) (first more : List ℕ) (vs : List V)
     → (l.reading s).between rule known st ≡ Ok next
     → Reads l s x next.context at first next.state v after
@@ -91,7 +105,8 @@ needs-next l s rule known x todo os at st next goes needs first v middle one her
     (joins l s rule known x todo at st next middle inner v first more vs goes one rest)
     (stands-join s at first more here there) closes)
 
-none-left : {V S C : Type 0} (l : Language V S C) (s : List ℕ) (rule : Open S C) (known : List V) (at : ℕ) (st : S)
+-- no part is left
+unfoldable pub none-left : {V S C : Type 0} (l : Language V S C) (s : List ℕ) (rule : Open S C) (known : List V) (at : ℕ) (st : S)
     → ReadsRest l s rule known [] at [] st known st
 none-left l s rule known at st = record { forest = nothing; shaped = tt; spelled = refl; unfolds = refl }
 

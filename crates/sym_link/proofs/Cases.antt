@@ -4,7 +4,7 @@ use Rattle.sym_shape.specs.Tree.{Forest, branch, empty, token, fixed, nothing, g
 use Rattle.sym_link.specs.Machine.{ended}
 use Rattle.sym_link.specs.Linking.{next_of}
 use Rattle.sym_link.specs.Driving.{AreAll}
-use Rattle.sym_link.specs.Reading.{Open, ◌>>=◌}
+use Rattle.sym_link.specs.Reading.{Open}
 use Rattle.sym_link.specs.Cases.{Language, meant, by_meaning}
 
 -- In a language by meaning a rule that has no rows left means what its known parts mean.

@@ -39,7 +39,7 @@ closing_room view s nodes frame parts laws can =
 pub inner_place : {N P K V S C : Type 0} (view : View N P K V S C) (s : List ℕ) (shape : List Row) (whole : Result (Found (List V) S) Refusal) (due : Due)
     (nodes : N) (next : ℕ) (lower : List (Frame K)) (code : Frame K) (parts : List P) → IsLinking view → Innermost view s shape whole due nodes next lower code parts → code.place < length s
 inner_place view s shape whole due nodes next lower code parts laws i =
-    omega (arith, i.inside.place, stands_within view.table s (length view.reading.rowless) i.top.rule (length i.known) i.top.from i.top.left laws.lawful i.inside.stands)
+    omega (arith, i.inside.place, stands_within view.table s (length view.reading.rowless) i.top.rule (length i.known) i.top.from i.top.left laws.sound i.inside.stands)
 
 pub closing_place : {N P K V S C : Type 0} (view : View N P K V S C) (s : List ℕ) (nodes : N) (frame : Frame K) (parts : List P) → IsLinking view
     → CanClose view s nodes frame parts → frame.place < length s
@@ -118,7 +118,7 @@ rule_stands : {N P K V S C : Type 0} (view : View N P K V S C) (s : List ℕ) (s
 rule_stands view s shape whole due nodes next lower code parts i rule taken inner rest laws left_is =
     let n = length view.reading.rowless in
     let place = skipped_from i.top.from i.top.left in
-    stands_inner view.table s n i.top.rule (length i.known + values_in n (passed_by i.top.left)) place rule taken inner rest i.top.rule.context i.state laws.lawful
+    stands_inner view.table s n i.top.rule (length i.known + values_in n (passed_by i.top.left)) place rule taken inner rest i.top.rule.context i.state laws.sound
     (subst (λ f. Stands view.table s n i.top.rule (length i.known + values_in n (passed_by i.top.left)) place f) left_is
     (stands_skip view.table s n i.top.rule (length i.known) i.top.from i.top.left i.inside.stands))
 
@@ -127,7 +127,7 @@ inner_number : {N P K V S C : Type 0} (view : View N P K V S C) (s : List ℕ) (
     (rule : Rule) (taken : List ℕ) (inner rest : Forest) → IsLinking view → skipped i.top.left ≡ grown (branch rule taken inner) rest → rule.number < 65535
 inner_number view s shape whole due nodes next lower code parts i rule taken inner rest laws left_is =
     let st = rule_stands view s shape whole due nodes next lower code parts i rule taken inner rest laws left_is in
-    (laws.lawful.rule st.kind st.takes.byte rule st.is_kind st.takes.is_byte st.takes.found).number
+    laws.sound.number st.kind st.takes.byte rule st.is_kind st.takes.is_byte st.takes.found
 
 next_row : {N P K V S C : Type 0} (view : View N P K V S C) (s : List ℕ) (shape : List Row) (whole : Result (Found (List V) S) Refusal) (due : Due)
     (nodes : N) (next : ℕ) (lower : List (Frame K)) (code : Frame K) (parts : List P) (row d : Row) → IsLinking view
@@ -224,7 +224,7 @@ token_asks view s shape due nodes next codes code parts row d laws can row_is is
         arith,
         t.row_is.to,
         t.row_is.from,
-        stands_end view.table s _ t.i.top.rule _ (skipped_from t.i.top.from t.i.top.left) (grown (token t.t) t.rest) laws.lawful stands,
+        stands_end view.table s _ t.i.top.rule _ (skipped_from t.i.top.from t.i.top.left) (grown (token t.t) t.rest) laws.sound stands,
         length-append (bytes_of t.t) (spell_all t.rest),
         length-append (t.t.before ++ t.t.own) t.t.behind,
         length-append t.t.before t.t.own,
@@ -281,7 +281,7 @@ rule_asks view s shape due nodes next codes code parts row d laws can row_is no_
       room = room_inside view s shape can.whole due nodes next can.last.0 code parts laws can.fits.symbol r.i;
       stands = inner_open view s shape can.whole due nodes next can.last.0 code parts r.i;
       base = r.i.base;
-      place = omega (arith, r.row_is.from, stands_within view.table s n (standing r.rule r.taken place r.i.top.rule.context r.i.state) 0 (place + length r.taken) r.inner laws.lawful stands);
+      place = omega (arith, r.row_is.from, stands_within view.table s n (standing r.rule r.taken place r.i.top.rule.context r.i.state) 0 (place + length r.taken) r.inner laws.sound stands);
       end = row_ends shape place row r.rule r.taken r.inner r.row_is;
     }
 

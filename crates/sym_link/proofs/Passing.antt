@@ -208,7 +208,7 @@ module _ {N P K V S C : Type 0} (view : View N P K V S C) (s : List ℕ) (laws :
     next_there = stands_next view.table s (length view.reading.rowless) rule (length known) from left inside taken inner rest is.stands left_is
 
     tree_there : (kind : ℕ) × (kind < view.table.kinds) × IsTree view.table (Kind kind) (branch inside taken inner)
-    tree_there = tree_next view.table s (length view.reading.rowless) rule (length known) from left inside taken inner rest laws.linking.lawful is.stands left_is
+    tree_there = tree_next view.table s (length view.reading.rowless) rule (length known) from left inside taken inner rest laws.linking.sound is.stands left_is
 
     abbrev whole : Result (Begun V S C) Refusal
     whole = next_of view.reading rule known from left state >>= begun view.reading inside taken (skipped_from from left) inner

@@ -1,5 +1,5 @@
 -- Calls one after another keep what room there is, and where the last one lacks room, so did the first.
-use Rattle.std.proofs.Common.{◌≡◌, ◌≤◌, ◌+◌, ◌<◌, ◌⊎◌, inl, inr, List, [], ◌∷◌, arith}
+use Rattle.std.proofs.Common.{inl, inr, List, [], ◌∷◌, arith}
 use Rattle.std.specs.Prelude.{Result, Err}
 use Rattle.sym_core.specs.declared.refusal.Refusal.{Refusal}
 use Rattle.sym_link.specs.Room.{Listed, KeepRoom, LackRoom, OnlyForRoom}

@@ -1,18 +1,18 @@
 -- A rule stands in a symbol, and so do its parts.
 use Rattle.std.proofs.Common.{◌≡◌, refl, sym, ◌∙◌, ap, subst, arith, ℕ, ◌+◌, ◌<◌, ◌≤◌, List, [], ◌∷◌, ◌++◌, length, take, drop, append_assoc, append-nil, length-append, length-drop, add-zero}
-use Rattle.sym_shape.proofs.Firsts.{branch_filled}
 use Rattle.std.proofs.Math.Seq.{drop-append_seam, take-append_seam}
 use Rattle.std.proofs.lemmas.List.{drop-drop}
 use Rattle.sym_shape.specs.declared.rule.Rule.{Rule}
 use Rattle.sym_shape.specs.declared.rule.Sym.{Sym}
 use Rattle.sym_shape.specs.declared.rule.Sym.TheVariants.{Kind, Name, Number, Byte}
 use Rattle.sym_shape.specs.Table.{Table, Token, symbols_of, bytes_of}
-use Rattle.sym_shape.specs.Law.{IsSymbol, AreSymbols, IsLawful}
+use Rattle.sym_shape.specs.Law.{IsSymbol, AreSymbols}
 use Rattle.sym_shape.specs.Tree.{Tree, Forest, branch, empty, token, fixed, nothing, grown, spell, spell_all, TakesRule, IsTree, AreTrees, row_count, row_count_all, rows_of, rows_of_all}
 use Rattle.sym_link.specs.Reading.{Open}
 use Rattle.sym_link.specs.Unfold.{standing}
 use Rattle.sym_link.specs.Machine.{HasRowNext}
 use Rattle.sym_link.specs.Owing.{Owes, cost_all}
+use Rattle.sym_link.specs.Sound.{IsSound}
 use Rattle.sym_link.specs.Parts.{skipped, passed_by, skipped_from, joined, values_in, Stands}
 
 -- ## Parts without a row that are skipped
@@ -153,10 +153,10 @@ stands_left g s n rule held from left st =
 
 -- a rule that begins stands where it is the next part
 pub stands_inner : {S C : Type 0} (g : Table) (s : List ℕ) (n : ℕ) (rule : Open S C) (held from : ℕ) (inner_rule : Rule) (taken : List ℕ) (inner rest : Forest) (context : C) (state : S)
-    → IsLawful g → Stands g s n rule held from (grown (branch inner_rule taken inner) rest)
+    → IsSound g → Stands g s n rule held from (grown (branch inner_rule taken inner) rest)
     → Stands g s n (standing inner_rule taken from context state) 0 (from + length taken) inner
-stands_inner g s n rule held from inner_rule taken inner rest context state lawful st =
-    let symbols = (lawful.rule st.kind st.takes.byte rule.rule st.is_kind st.takes.is_byte st.takes.found).symbols in
+stands_inner g s n rule held from inner_rule taken inner rest context state sound st =
+    let symbols = sound.symbols st.kind st.takes.byte rule.rule st.is_kind st.takes.is_byte st.takes.found in
     let at = tree_at g (symbols_of rule.rule) st.passed (branch inner_rule taken inner) rest symbols st.trees in
     let is = branch_of g at.0 inner_rule taken inner at.1 at.2 in
     record {
@@ -186,35 +186,35 @@ stands_next g s n rule held from left inner_rule taken inner rest st is =
 
 -- the next part with a row, which is a rule's, is a tree of a kind
 pub tree_next : {S C : Type 0} (g : Table) (s : List ℕ) (n : ℕ) (rule : Open S C) (held from : ℕ) (left : Forest) (inner_rule : Rule) (taken : List ℕ) (inner rest : Forest)
-    → IsLawful g → Stands g s n rule held from left → skipped left ≡ grown (branch inner_rule taken inner) rest
+    → IsSound g → Stands g s n rule held from left → skipped left ≡ grown (branch inner_rule taken inner) rest
     → (kind : ℕ) × (kind < g.kinds) × IsTree g (Kind kind) (branch inner_rule taken inner)
-tree_next g s n rule held from left inner_rule taken inner rest lawful st is =
+tree_next g s n rule held from left inner_rule taken inner rest sound st is =
     let at : Stands g s n rule (held + values_in n (passed_by left)) (skipped_from from left) (grown (branch inner_rule taken inner) rest) =
     subst (λ f. Stands g s n rule (held + values_in n (passed_by left)) (skipped_from from left) f) is (stands_skip g s n rule held from left st) in
-    let symbols = (lawful.rule at.kind at.takes.byte rule.rule at.is_kind at.takes.is_byte at.takes.found).symbols in
+    let symbols = sound.symbols at.kind at.takes.byte rule.rule at.is_kind at.takes.is_byte at.takes.found in
     let part = tree_at g (symbols_of rule.rule) at.passed (branch inner_rule taken inner) rest symbols at.trees in
     let own = branch_of g part.0 inner_rule taken inner part.1 part.2 in (own.0, own.1, (own.2, own.3))
 
 -- a rule of the symbol begins at one of its bytes
-pub stands_within : {S C : Type 0} (g : Table) (s : List ℕ) (n : ℕ) (rule : Open S C) (held from : ℕ) (left : Forest) → IsLawful g → Stands g s n rule held from left
+pub stands_within : {S C : Type 0} (g : Table) (s : List ℕ) (n : ℕ) (rule : Open S C) (held from : ℕ) (left : Forest) → IsSound g → Stands g s n rule held from left
     → rule.place < length s
-stands_within g s n rule held from left lawful st =
+stands_within g s n rule held from left sound st =
     omega (
       arith,
       ap (λ x. length x) (st.spelled ∙ sym (append_assoc rule.taken (spell_all (joined st.passed left)) st.behind)),
       length-drop rule.place s,
       length-append (rule.taken ++ spell_all (joined st.passed left)) st.behind,
       filled (rule.taken ++ spell_all (joined st.passed left))
-          (branch_filled g lawful st.kind rule.rule rule.taken (joined st.passed left) st.is_kind (st.takes, st.trees)),
+          (sound.filled st.kind rule.rule rule.taken (joined st.passed left) st.is_kind (st.takes, st.trees)),
     )
 
 -- what a rule has left ends within the symbol
-pub stands_end : {S C : Type 0} (g : Table) (s : List ℕ) (n : ℕ) (rule : Open S C) (held from : ℕ) (left : Forest) → IsLawful g → Stands g s n rule held from left
+pub stands_end : {S C : Type 0} (g : Table) (s : List ℕ) (n : ℕ) (rule : Open S C) (held from : ℕ) (left : Forest) → IsSound g → Stands g s n rule held from left
     → from + length (spell_all left) ≤ length s
-stands_end g s n rule held from left lawful st =
+stands_end g s n rule held from left sound st =
     omega (
       arith,
-      stands_within g s n rule held from left lawful st,
+      stands_within g s n rule held from left sound st,
       st.starts,
       length-drop rule.place s,
       ap (λ x. length x) st.spelled,

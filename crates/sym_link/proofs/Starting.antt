@@ -102,7 +102,7 @@ root_follows view s shape tree old new opened laws is fits r no_node number plac
           stands = subst (λ o. Stands view.table s n o 0 (0 + length r.taken) r.inner) (sym count.1.2)
               (record {
                 kind = 0;
-                is_kind = laws.lawful.start;
+                is_kind = laws.sound.start;
                 takes = r.takes;
                 passed = nothing;
                 trees = r.trees;
@@ -147,7 +147,7 @@ room_inside view s shape whole due nodes next lower code parts laws fits i = rec
   fits = fits;
   size = omega (arith, i.size, i.owes);
   paid = laws.paid_more nodes i.reached (length s)
-      (omega (arith, i.before, stands_end view.table s (length view.reading.rowless) i.top.rule (length i.known) i.top.from i.top.left laws.lawful i.inside.stands)) i.paid;
+      (omega (arith, i.before, stands_end view.table s (length view.reading.rowless) i.top.rule (length i.known) i.top.from i.top.left laws.sound i.inside.stands)) i.paid;
 }
 
 -- the language may begin

@@ -180,7 +180,7 @@ enter_follows view s shape whole left old new next lower code opened parts new_p
           base = base;
           are = tt;
           stands = subst (λ r. Stands view.table s n r 0 (place + length taken) inner) (sym count.1.2)
-              (stands_inner view.table s n i.top.rule (length i.known + values_in n (passed_by i.top.left)) place rule taken inner rest count.1.0 count.1.1 laws.lawful skip);
+              (stands_inner view.table s n i.top.rule (length i.known + values_in n (passed_by i.top.left)) place rule taken inner rest count.1.0 count.1.1 laws.sound skip);
         },
         (
           record {

@@ -39,7 +39,7 @@ stands_untallied g s n rule held from left stands = record {
 
 pub tallied_laws : {N P K V S C : Type 0} (view : View N P K V S C) (makes : Makes V S C) → IsLinking view → IsLinking (tallied_view view makes)
 tallied_laws view makes laws = record {
-  lawful = laws.lawful;
+  sound = laws.sound;
   starts = laws.starts;
   part_stays = laws.part_stays;
   kept_stays = λ old new kept rule. laws.kept_stays old new kept (untallied rule);

@@ -2,11 +2,13 @@
 use Rattle.std.proofs.Common.{◌≡◌, refl, ◌∙◌, ap, arith, ℕ, List, ◌++◌, length, length-append}
 use Rattle.std.proofs.lemmas.List.{get_or_append_left}
 use Rattle.sym_core.specs.declared.NameClass.{NameClass}
+use Rattle.sym_shape.specs.Sheet.{table_of}
 use Rattle.sym_shape.specs.SheetLaws.{lawful_sheet}
 use Rattle.sym_link.specs.declared.counting.Counts.{Counts}
 use Rattle.sym_link.specs.declared.counting.Part.{Part}
 use Rattle.sym_link.specs.declared.counting.Part.TheVariants as parts
 use Rattle.sym_link.specs.Linking.{IsLinking}
+use Rattle.sym_link.specs.Sound.{lawful_sound}
 use Rattle.sym_link.specs.OwingLaws.{cost_rows}
 use Rattle.sym_link.specs.Counting.{blank, sheet, IsNumber, counting}
 
@@ -19,7 +21,7 @@ stays old new (parts.Node node) value grows is = (
 
 pub counting_laws : (s : List ℕ) → IsLinking (counting s)
 counting_laws s = record {
-  lawful = lawful_sheet blank sheet NameClass.Rust refl;
+  sound = lawful_sound (table_of blank sheet NameClass.Rust) (lawful_sheet blank sheet NameClass.Rust refl);
   starts = refl;
   part_stays = stays;
   kept_stays = λ old new kept rule grows is. is;

@@ -10,6 +10,7 @@ pub mod OwingLaws
 pub mod Paying
 pub mod PayingLaws
 pub mod Room
+pub mod Sound
 pub mod Linking
 pub mod Stepping
 pub mod Following

@@ -7,7 +7,6 @@ use Rattle.sym_core.specs.declared.refusal.Refusal.{Refusal}
 use Rattle.sym_shape.specs.declared.rule.Row.{Row}
 use Rattle.sym_shape.specs.declared.rule.Rule.{Rule}
 use Rattle.sym_shape.specs.Table.{Table, Token}
-use Rattle.sym_shape.specs.Law.{IsLawful}
 use Rattle.sym_shape.specs.declared.rule.Sym.TheVariants.{Kind}
 use Rattle.sym_shape.specs.Tree.{Tree, Forest, branch, token, grown, IsTree, row_count, row_count_all, rows_of_all, spell, spell_all}
 use Rattle.sym_link.specs.declared.language.Frame.{Frame}
@@ -16,6 +15,7 @@ use Rattle.sym_link.specs.Reading.{Found, Open, Next, Reading, ◌>>=◌}
 use Rattle.sym_link.specs.Unfold.{found, standing}
 use Rattle.sym_link.specs.Machine.{passed, ended}
 use Rattle.sym_link.specs.Owing.{Owes, cost}
+use Rattle.sym_link.specs.Sound.{IsSound}
 use Rattle.sym_link.specs.Parts.{skipped, passed_by, skipped_from, values_in, Stands}
 use Rattle.sym_link.specs.Stepping.{no_part_has_row, closes_at_once}
 use Rattle.sym_link.specs.Driving.{AreAll, Fails}
@@ -68,7 +68,7 @@ pub record AddTwo {N P K V S C : Type 0} (view : View N P K V S C) (before behin
 
 -- what every language keeps to
 pub record IsLinking {N P K V S C : Type 0} (view : View N P K V S C) : Type 0 where
-  pub lawful : IsLawful view.table
+  pub sound : IsSound view.table
   -- a symbol has a row
   pub starts : view.table.may_be_empty 0 ≡ false
   -- what stood for something stands for it still

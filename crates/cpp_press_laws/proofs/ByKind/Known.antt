@@ -13,6 +13,7 @@ use Rattle.sym_link.specs.Reading.{Found, Next}
 use Rattle.sym_link.specs.Unfold.{found, unfold_tree}
 use Rattle.cpp_grammar.specs.declared.kind.Kind.{Kind}
 use Rattle.cpp_grammar.specs.declared.production.Production.{Production}
+use Rattle.cpp_grammar.specs.KindNumbers.{KIND_COUNT}
 use Rattle.cpp_grammar.specs.Grammar.{Alternative, alternatives, choose, number_of_kind, parts_of, is_chain}
 use Rattle.cpp_grammar.specs.Table.{abi}
 use Rattle.cpp_grammar.specs.Term.{Term, Thunk, special, thunk, parameter, literal_operator}
@@ -195,7 +196,7 @@ pub record OpenedRead (kind : Kind) (around : Around) (at : ℕ) (old : State) (
 -- ## Symbols
 
 unfoldable is_small : Sym → Bool
-is_small (OfKind k) = nat_lt k 66
+is_small (OfKind k) = nat_lt k KIND_COUNT
 is_small (Byte c) = nat_lt c 256
 is_small _ = true
 
@@ -213,7 +214,7 @@ below a b h = grind (arith, nat_tests)
 
 small-symbol : (x : Sym) → is_small x ≡ true → IsSymbol abi x
 unfolding is_small
-small-symbol (OfKind k) h = known k (below k 66 h)
+small-symbol (OfKind k) h = known k (below k KIND_COUNT h)
 small-symbol (Byte c) h = below c 256 h
 small-symbol Name h = tt
 small-symbol (Number kind) h = tt
@@ -267,6 +268,7 @@ lambdas-go Production.AbbreviatedName around place (v ∷ []) state n bare e = b
 lambdas-go Production.NestStd around place (v ∷ []) state n bare e = bare-next _ _ state n bare e
 lambdas-go Production.NestStd around place (v ∷ w ∷ []) state n bare e = bare-next _ _ state n bare e
 lambdas-go Production.NestAbbreviated around place (v ∷ []) state n bare e = bare-next _ _ state n bare e
+lambdas-go Production.NestTemplate around place (v ∷ []) state n bare e = bare-next _ _ state n bare e
 lambdas-go Production.NestParameter around place (v ∷ []) state n bare e = bare-parameter around place (index_of v) state n bare e
 lambdas-go Production.NestInternal around place (v ∷ []) state n bare e = bare-next _ _ state n bare e
 lambdas-go Production.NestSource around place (v ∷ []) state n bare e = bare-next _ _ state n bare e
@@ -274,6 +276,8 @@ lambdas-go Production.NestLocalType around place (v ∷ []) state n bare e = bar
 lambdas-go Production.NestArguments around place [] state n bare e = bare-next (inside around) [] (with_prefix around state) n bare e
 lambdas-go Production.NestArguments around place (v ∷ w ∷ []) state n bare e = bare-next _ _ _ n bare e
 lambdas-go Production.NestArguments around place (v ∷ w ∷ x ∷ []) state n bare e = bare-next _ _ state n bare e
+lambdas-go Production.NestInstance around place [] state n bare e = bare-next (inside around) [] (with_prefix around state) n bare e
+lambdas-go Production.NestInstance around place (v ∷ w ∷ []) state n bare e = bare-next _ _ state n bare e
 lambdas-go Production.NestNext around place [] state n bare e = bare-next _ _ _ n bare e
 lambdas-go Production.NestNext around place (v ∷ []) state n bare e = bare-next _ _ state n bare e
 lambdas-go Production.Arguments around place [] state n bare e = bare-next (inside around) [] (with_prefix around state) n bare e

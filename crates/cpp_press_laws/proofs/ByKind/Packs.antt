@@ -143,6 +143,7 @@ between-outside Production.AbbreviatedName around place (v ∷ []) state next no
 between-outside Production.NestStd around place (v ∷ []) state next no_ outside e = goes state _ _ state next outside refl e
 between-outside Production.NestStd around place (v ∷ w ∷ []) state next no_ outside e = goes state _ _ state next outside refl e
 between-outside Production.NestAbbreviated around place (v ∷ []) state next no_ outside e = goes state _ _ state next outside refl e
+between-outside Production.NestTemplate around place (v ∷ []) state next no_ outside e = goes state _ _ state next outside refl e
 between-outside Production.NestParameter around place (v ∷ []) state next no_ outside e =
     parameter-goes around place (index_of v) state next outside e
 between-outside Production.NestInternal around place (v ∷ []) state next no_ outside e = goes state _ _ state next outside refl e
@@ -152,6 +153,9 @@ between-outside Production.NestArguments around place [] state next no_ outside 
     goes state _ _ (with_prefix around state) next outside (prefix-kept around state) e
 between-outside Production.NestArguments around place (v ∷ w ∷ []) state next no_ outside e = goes state _ _ _ next outside refl e
 between-outside Production.NestArguments around place (v ∷ w ∷ x ∷ []) state next no_ outside e = goes state _ _ state next outside refl e
+between-outside Production.NestInstance around place [] state next no_ outside e =
+    goes state _ _ (with_prefix around state) next outside (prefix-kept around state) e
+between-outside Production.NestInstance around place (v ∷ w ∷ []) state next no_ outside e = goes state _ _ state next outside refl e
 between-outside Production.NestNext around place [] state next no_ outside e =
     goes state _ _ (with_prefix around state) next outside (prefix-kept around state) e
 between-outside Production.NestNext around place (v ∷ []) state next no_ outside e = goes state _ _ state next outside refl e

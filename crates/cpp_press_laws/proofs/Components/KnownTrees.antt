@@ -3,7 +3,7 @@
 use Rattle.std.proofs.Common.{◌≡◌, ℕ, ◌-◌, ◌<◌, ◌⊎◌, inl, inr, length, List, [], ◌∷◌, ◌++◌, Option, Bool, true, false, refl, arith}
 use Rattle.std.specs.Prelude.{◌&&◌, codes, cond}
 use Rattle.sym_spell.specs.Pressing.{◌and◌, text, nothing}
-use Rattle.cpp_grammar.specs.Term.{Term, symbol, function, object, special, thunk, of_name, alone, in_std, within, instance, local, abbreviation, parameter, source, operator, literal_operator, constructor, destructor, lambda, unnamed, string_literal, builtin, vendor, pointer, lvalue, rvalue, array, member_pointer, function_type, qualified, vector, complex, expansion, integer, boolean, null_pointer, encoding_literal, address_of, pack, nil, list, absent, adjusting, covariant, Thunk}
+use Rattle.cpp_grammar.specs.Term.{Term, symbol, function, object, special, thunk, of_name, construction, alone, in_std, within, instance, local, abbreviation, parameter, source, operator, literal_operator, constructor, destructor, lambda, unnamed, string_literal, builtin, vendor, pointer, lvalue, rvalue, array, member_pointer, function_type, qualified, vector, complex, expansion, integer, boolean, null_pointer, encoding_literal, address_of, pack, nil, list, absent, adjusting, covariant, Thunk}
 use Rattle.cpp_grammar.specs.Scope.{is_open}
 use Rattle.cpp_press_laws.specs.Texts.{ordinal, signed_text, qualifier_letters, mark_letter, name_letters, special_code, thunk_text, discriminator_text}
 use Rattle.cpp_press_laws.specs.Components.{Spelling, ended, component}
@@ -347,6 +347,13 @@ keeps (of_name l name q ref) open_ n R =
     encoding-ways-keep open_ n R (of_name l name q ref) _ (Inside name) (λ x s. s) (λ here h.
     behind-text-keeps ⊥ here (OrOpen R) (special_code l) ((ways_of here name).as_name (name_letters q ref))
     ((keeps name ⊥ here (OrOpen R)).as_name h (name_letters q ref)))
+keeps (construction derived digits parent) open_ n R =
+    encoding-ways-keep open_ n R (construction derived digits parent) _ (λ x. Whole derived x ⊎ Whole parent x) (λ x s. s) (λ here h.
+    behind-text-keeps ⊥ here (OrOpen R) (codes "TC") ((ways_of here derived).as_type and (text (digits ++ codes "_") and (ways_of here parent).as_type))
+    (and-keeps ⊥ here (OrOpen R) (ways_of here derived).as_type (text (digits ++ codes "_") and (ways_of here parent).as_type)
+    ((keeps derived ⊥ here (OrOpen R)).as_type (λ x w. h x (inl w)))
+    (behind-text-keeps ⊥ here (OrOpen R) (digits ++ codes "_") (ways_of here parent).as_type
+    ((keeps parent ⊥ here (OrOpen R)).as_type (λ x w. h x (inr w))))))
 keeps (alone p) open_ n R =
     let spelling : Spelling = (ways_of n p).as_piece in
     let one : In (Inside p) R → KeepsTo open_ n R spelling = (keeps p open_ n R).as_piece in

@@ -1,15 +1,16 @@
-use Rattle.std.proofs.Common.{sym, ap, ◌∙◌, subst, Some}
-use Rattle.sym_filter.specs.Languages.{answer_of}
-use Rattle.sym_filter.specs.Streams.{FiltersAll}
-use Rattle.sym_calls.specs.Calls.{written}
-use Rattle.sym_calls.proofs.Ending.{filter-ends}
+use Rattle.std.proofs.Common.{sym, ◌∙◌}
+use Rattle.sym_filter.specs.Runs.{filtered}
+use Rattle.sym_calls.specs.Calls.{EndsAs, written}
+use Rattle.sym_calls.proofs.Ending.{by-abi, by-wide, filter-asked}
 use Rattle.sym_calls.proofs.text.filter_of.Goals as goal
 
--- the text was filtered to its end
-pub returns-in-Ok : goal.returns-in-Ok
-returns-in-Ok c =
-    let reader = c.new-reader.ensures.reader in let writer = c.new-writer.ensures.list in
-    let all = subst (λ r. FiltersAll (answer_of c.args.limit c.in-Some.detail) (Some r.now) (Some c.filter_as.new.reader.reader.now) (Some c.new-writer.result.list.items) (Some c.filter_as.new.writer.list.items) c.in-Ok.field-0) reader c.in-Ok.ensures.ok in
-    filter-ends _ c.in-Some.detail c.args.limit c.args.text.now c.args.room.now _ c.filter_as.new.writer.list.items _ c.in-Ok.field-0 _ (sym c.detail_of.ensures ∙ c.in-Some.is)
-    (ap (λ v. v.items) writer ∙ c.new.ensures.items) all
-    (c.write.ensures ∙ ap (λ b. written b c.args.room.now) (c.deref.ensures.value ∙ ap (λ v. v.items) c.into_list.ensures))
+-- by the wide grammar
+pub returns-then-asked : goal.returns-then-asked
+returns-then-asked c =
+    filter-asked _ c.in-Some.asked c.args.limit c.args.text.now c.args.room.now _ (sym c.asked_of.ensures ∙ c.in-Some.is)
+    (by-wide (λ answers found. EndsAs (written (filtered answers c.args.text.now) c.args.room.now) c.args.room.now found) c.in-Some.asked c.args.limit _ _ _ c.if-asked.true c.languages.ensures.limit c.languages.ensures.detail c.filter_by.ensures)
+
+pub returns : goal.returns
+returns c =
+    filter-asked _ c.in-Some.asked c.args.limit c.args.text.now c.args.room.now _ (sym c.asked_of.ensures ∙ c.in-Some.is)
+    (by-abi (λ answers found. EndsAs (written (filtered answers c.args.text.now) c.args.room.now) c.args.room.now found) c.in-Some.asked c.args.limit _ _ _ c.if-asked.false c.languages-2.ensures.limit c.languages-2.ensures.detail c.filter_by-2.ensures)

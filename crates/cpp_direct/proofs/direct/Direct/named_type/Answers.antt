@@ -12,3 +12,7 @@ type_named-requires c =
     let got = c.in_ok-name-in_default.ensures in
     source-named c.args.s.now c.args.self.now c.name.new.self c.len-from.result got.0
     c.requires.awaits got.1 got.2 got.3 c.len-from.ensures
+
+pub begin_enclosing-requires-clause-letter : goal.begin_enclosing-requires-clause-letter
+begin_enclosing-requires-clause-letter c =
+    there c.args.s.now c.args.self.now.at c.byte_at.result 90 c.in-90.is (omega arith) c.byte_at.ensures

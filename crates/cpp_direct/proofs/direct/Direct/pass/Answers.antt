@@ -5,7 +5,8 @@ use Rattle.cpp_direct.specs.Prints.{Prints}
 use Rattle.cpp_direct.specs.Stands.{qualifiers}
 use Rattle.cpp_direct.proofs.PrintedTypes.{pointer-prints, lvalue-prints, rvalue-prints, const-prints}
 use Rattle.cpp_direct.proofs.Listed.{waits-last}
-use Rattle.cpp_direct.proofs.Handed.{value-element, value-marked, value-front, value-returned, value-signature, value-special, value-enumerator, argument-read, parameter-read, takes-elements}
+use Rattle.cpp_direct.proofs.Handed.{value-element, value-marked, value-front, value-returned, value-signature, value-enumerator, argument-read, parameter-read, special-read, takes-elements}
+use Rattle.cpp_direct.proofs.EnclosingFunctions.{lambda-parameter-read, parameter-read-within}
 use Rattle.cpp_direct.proofs.direct.Direct.pass.Goals as goal
 
 pub mark-requires : goal.mark-requires
@@ -54,10 +55,23 @@ parameter_at-requires-clause-awaits c =
     value-signature c.args.s.now c.args.self.now c.args.is_reference c.in-Signature.is_pointer
     c.requires.writing (waits-last _ _ _ _ c.as_slice.ensures c.in_ok-from.ensures.value c.in-Signature.is)
 
+pub enclosing_parameter-requires-clause-read : goal.enclosing_parameter-requires-clause-read
+enclosing_parameter-requires-clause-read c =
+    parameter-read-within c.args.s.now c.args.self.now c.in-Enclosing.is_const c.in-Enclosing.from
+    (value-element c.args.s.now c.args.self.now c.args.is_reference (opens.Enclosing c.in-Enclosing.is_const c.in-Enclosing.from) c.requires.writing
+    (waits-last _ _ _ _ c.as_slice.ensures c.in_ok-from.ensures.value c.in-Enclosing.is))
+
+pub lambda_parameter-requires-clause-read : goal.lambda_parameter-requires-clause-read
+lambda_parameter-requires-clause-read c =
+    lambda-parameter-read c.args.s.now c.args.self.now c.in-Lambda.from
+    (value-element c.args.s.now c.args.self.now c.args.is_reference (opens.Lambda c.in-Lambda.from) c.requires.writing
+    (waits-last _ _ _ _ c.as_slice.ensures c.in_ok-from.ensures.value c.in-Lambda.is))
+
 pub finish-requires : goal.finish-requires
 finish-requires c =
-    value-special c.args.s.now c.args.self.now c.args.is_reference
-    c.requires.writing (waits-last _ _ _ _ c.as_slice.ensures c.in_ok-from.ensures.value c.in-Special.is)
+    special-read c.args.s.now c.args.self.now
+    (value-element c.args.s.now c.args.self.now c.args.is_reference opens.Special c.requires.writing
+    (waits-last _ _ _ _ c.as_slice.ensures c.in_ok-from.ensures.value c.in-Special.is))
 
 pub enumerator-requires-clause-awaits : goal.enumerator-requires-clause-awaits
 enumerator-requires-clause-awaits c =
@@ -71,4 +85,5 @@ returns-in_default c =
     (value-element c.args.s.now c.args.self.now c.args.is_reference o c.requires.writing
     (waits-last _ _ _ _ c.as_slice.ensures c.in_ok-from.ensures.value refl))
     (takes-elements o c.in_default.not-Pointer c.in_default.not-Lvalue c.in_default.not-Rvalue c.in_default.not-Const
-    c.in_default.not-Parameters c.in_default.not-Front c.in_default.not-Returned c.in_default.not-Signature c.in_default.not-Special c.in_default.not-Enumerator)
+    c.in_default.not-Parameters c.in_default.not-Front c.in_default.not-Returned c.in_default.not-Signature c.in_default.not-Special c.in_default.not-Enumerator c.in_default.not-Enclosing
+    c.in_default.not-Lambda)

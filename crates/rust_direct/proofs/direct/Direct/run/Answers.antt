@@ -4,7 +4,7 @@ use Rattle.rust_direct.proofs.SymbolsRead.{whole-answer}
 use Rattle.rust_direct.proofs.direct.Direct.run.Goals as goal
 
 pub steps-init : goal.steps-init
-steps-init c = (c.in-Some.ensures, omega (arith, c.requires.none))
+steps-init c = (c.in-Some.ensures, omega arith)
 
 pub returns-in-Ended-clause-answer : goal.returns-in-Ended-clause-answer
 returns-in-Ended-clause-answer c within =

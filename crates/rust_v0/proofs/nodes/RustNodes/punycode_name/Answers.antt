@@ -1,4 +1,4 @@
-use Rattle.std.proofs.Common.{refl, ap, sym, ◌+◌, ◌<◌, ◌-◌, ◌⊎◌, length, take, drop, subst}
+use Rattle.std.proofs.Common.{refl, ◌-◌, length, take, drop}
 use Rattle.std.proofs.lemmas.Result.{err_from_is_err_and}
 use Rattle.sym_link.proofs.Lists.{span_length}
 use Rattle.rust_v0.proofs.Undecoded.{undecoded_few}

@@ -1,0 +1,646 @@
+-- Types that stand in functions, from their Z to their end.
+use Rattle.std.proofs.Common.{◌≡◌, ◌≢◌, refl, ap, sym, ◌∙◌, subst, inl, inr, ℕ, ◌+◌, List, [], ◌∷◌, ◌++◌, length, reverse, Bool, true, false, Option, None, Some, arith, codes, append-nil, append_assoc}
+use Rattle.std.specs.Prelude.{decimal}
+use Rattle.std.proofs.lemmas.Fmt.{decimal_digit}
+use Rattle.cpp_grammar.specs.declared.kind.Kind.{Kind}
+use Rattle.cpp_grammar.specs.Grammar.{may_be_empty}
+use Rattle.cpp_grammar.specs.Term.{Term, any_value, function, alone, lambda, source, builtin, nil, list, absent}
+use Rattle.cpp_grammar.specs.Parts.{source_text}
+use Rattle.cpp_grammar.specs.Scope.{has_return_type, arguments_of}
+use Rattle.cpp_grammar.specs.References.{is_function_type}
+use Rattle.cpp_grammar.specs.Values.{State, Value, local_number, nothing_there, tree, named, tree_of, qualifiers_of, ref_of}
+use Rattle.cpp_grammar.specs.Between.{after, in_name, in_types, no_items}
+use Rattle.cpp_grammar.specs.Meaning.{encoding_of}
+use Rattle.cpp_direct.specs.declared.open.Open.{Open}
+use Rattle.cpp_direct.specs.declared.open.Open.TheVariants as opens
+use Rattle.cpp_direct.specs.declared.open.Purpose.TheVariants as purposes
+use Rattle.cpp_direct.specs.declared.open.Step.TheVariants as steps
+use Rattle.cpp_direct.specs.declared.direct.Direct.{Direct}
+use Rattle.cpp_direct.specs.Holes.{Opened, StandsAt, Comes, Expects, IsNameAt, with_candidate}
+use Rattle.cpp_direct.specs.HolesOfLists.{nest_marks}
+use Rattle.cpp_direct.specs.HolesOfLocals.{IsDiscriminatorAt, IsLambdaDigit, IsPieceAt, lambda_digits, lambda_ending, lambda_number, lambda_with, local_in}
+use Rattle.cpp_direct.specs.Bytes.{short_numbers}
+use Rattle.cpp_direct.specs.Prints.{Prints, PrintsPiece, Shows, Encloses, list_of}
+use Rattle.cpp_direct.specs.Stands.{AreCandidates, Below, IsFunction, IsNesting, IsWriting, ItemsGoOn, LambdaWithin, Serves, Stands, TypeWithin, in_front_of_next, qualifiers}
+use Rattle.cpp_direct.specs.Ways.{AwaitsNamedType, AwaitsNest, AwaitsTypeName, IsElementRead, IsEnclosingNamed, IsEnclosingParameterRead, IsEnclosingRead, IsLambdaParameterRead, const_text}
+use Rattle.cpp_direct.specs.Written.{Writes, Reads, added}
+use Rattle.cpp_direct.proofs.Ending.{behind-two, behind-three, behind-five, list-ends, next-written, parameter-goes_on, plain-text, qualifiers-text, void-read}
+use Rattle.cpp_direct.proofs.FoundTokens.{reads-of, reads-then}
+use Rattle.cpp_direct.proofs.Kept.{candidates-read, candidates-stay, candidates-with, candidates-written, reverse-last}
+use Rattle.cpp_direct.proofs.Listed.{some-elements}
+use Rattle.cpp_direct.proofs.Moves.{expects-empty, stands-join}
+use Rattle.cpp_direct.proofs.MovesOfEncodings.{encoding-opens, name-nested, name-source}
+use Rattle.cpp_direct.proofs.MovesOfLists.{element-awaits}
+use Rattle.cpp_direct.proofs.MovesOfLocals.{lambda-opens, lambda-piece, lambda_bytes, local-type-opens, number-is}
+use Rattle.cpp_direct.proofs.Nesting.{nest-comes}
+use Rattle.cpp_direct.proofs.PrintedLists.{next-prints, none-print}
+use Rattle.cpp_direct.proofs.PrintedLocals.{function-encloses, object-enclosing}
+use Rattle.cpp_direct.proofs.PrintedNames.{source-prints}
+use Rattle.cpp_direct.proofs.PrintedSymbols.{encoding-plain, function-shows, made-void, made-with, object-encoded, parameters-kept, void-shows}
+use Rattle.cpp_direct.proofs.PrintedWithin.{lambda-prints, lambda-list-prints, local-prints}
+
+-- ## Names
+
+-- The name of a function in which a type stands is expected, behind this text.
+record NameOpened (s : List ℕ) (below : Below) (front : List ℕ) (at : ℕ) (st : State) : Type 0 where
+  pub inner : List Opened
+  pub awaits : Expects s Kind.CompleteName (in_name at) inner at st
+  pub onward : (v : Value) (here : ℕ) (now : State) → Comes s inner v here now
+      → ItemsGoOn s (TypeWithin s below front) (λ l. encoding_of v l) [] here now
+
+name-opens : (s : List ℕ) (w : Direct) (a : AwaitsNamedType s w) → StandsAt s w.at (90 ∷ [])
+    → NameOpened s (Stands s (reverse w.waiting.list.items)) w.text.list.items (w.at + 1) a.state
+unfolding in_types is_function_type
+name-opens s w a letter =
+    let here = local-type-opens s a.kind a.begins.inner a.around w.at a.state a.is_named a.begins.awaits letter in
+    let encoding = encoding-opens s here.inner a.around (w.at + 1) a.state here.awaits in
+    record {
+      inner = encoding.inner;
+      awaits = encoding.awaits;
+      onward = λ v at st comes. let items = encoding.onward v at st comes in record {
+        around = in_types (w.at + 1) (tree_of v);
+        inner = items.inner;
+        outside = refl;
+        awaits = items.awaits;
+        onward = λ l there then_ last. (
+          a.os,
+          a.around.encoding,
+          λ ends.
+              let e = encoding_of v (no_items l) in
+              let entity = here.onward e there then_ (items.onward l there then_ last) ends in
+              record {
+                around = entity.around;
+                inner = entity.inner;
+                awaits = entity.awaits;
+                onward = λ p middle now comes_ digit end told.
+                    a.begins.passes (local_in e p digit) false end now refl (entity.onward p middle now comes_ digit end told);
+              },
+          a.stands,
+        );
+      };
+    }
+
+-- a nested one is expected, of a member function that is const or not
+pub nest-within : (s : List ℕ) (old : Direct) (n : ℕ) (const : Bool) → AwaitsNamedType s old → StandsAt s old.at (90 ∷ [])
+    → StandsAt s (old.at + 1) (nest_marks const) → n ≡ old.at + 1 + length (nest_marks const)
+    → AwaitsNest s (record old { at = n }) (purposes.Enclosing const)
+unfolding in_name
+nest-within s old n const a letter marks at_is =
+    let e = name-opens s old a letter in
+    let nest = name-nested s e.inner (in_name (old.at + 1)) const (old.at + 1) a.state e.awaits marks in
+    record {
+      state = a.state;
+      candidates = a.candidates;
+      around = in_name (old.at + 1);
+      outside = refl;
+      outer = nest.inner;
+      awaits = subst (λ k. Expects s Kind.Nest (in_name (old.at + 1)) nest.inner k a.state) (sym at_is) nest.awaits;
+      serves = λ t listed at st comes. e.onward (named t (qualifiers const) any_value) at st (nest.onward t listed at st comes);
+    }
+
+-- of one that isn't const
+pub plain-within : (s : List ℕ) (old : Direct) (first n : ℕ) → AwaitsNamedType s old → StandsAt s old.at (90 ∷ []) → first ≡ old.at + 1
+    → StandsAt s first (78 ∷ []) → n ≡ first + 1 → AwaitsNest s (record old { at = n }) (purposes.Enclosing false)
+plain-within s old first n a letter next mark at_is =
+    nest-within s old n false a letter (subst (λ k. StandsAt s k (78 ∷ [])) next mark) (omega (arith, next, at_is))
+
+-- and of one that is
+pub const-within : (s : List ℕ) (old : Direct) (first second n : ℕ) → AwaitsNamedType s old → StandsAt s old.at (90 ∷ []) → first ≡ old.at + 1
+    → StandsAt s first (78 ∷ []) → second ≡ first + 1 → StandsAt s second (75 ∷ []) → n ≡ second + 1
+    → AwaitsNest s (record old { at = n }) (purposes.Enclosing true)
+const-within s old first second n a letter next mark then_ marked at_is =
+    nest-within s old n true a letter
+    (stands-join s (old.at + 1) (78 ∷ []) (75 ∷ []) (subst (λ k. StandsAt s k (78 ∷ [])) next mark)
+    (subst (λ k. StandsAt s k (75 ∷ [])) (then_ ∙ ap (λ k. k + 1) next) marked)) (omega (arith, next, then_, at_is))
+
+-- one by itself is read
+pub source-within : (s : List ℕ) (old start new : Direct) (name : List ℕ) (from : ℕ) → AwaitsNamedType s old → StandsAt s old.at (90 ∷ [])
+    → start.text ≡ old.text → start.candidates ≡ old.candidates → start.waiting ≡ old.waiting → start.at ≡ old.at + 1
+    → IsNameAt s start.at name new.at → name ≢ [] → Reads start new (source_text name) → from ≡ length start.text.list.items
+    → IsEnclosingNamed s new false from
+unfolding may_be_empty tree_of qualifiers_of ref_of has_return_type arguments_of in_name
+source-within s old start new name from a letter same_text same_candidates same_waiting at_is is filled reads from_is =
+    let own = alone (source false name) in
+    let e = name-opens s old a letter in
+    let here = in_name (old.at + 1) in
+    let named_ = name-source s e.inner here (old.at + 1) name new.at a.state e.awaits refl (subst (λ k. IsNameAt s k name new.at) at_is is) in
+    let front = old.text.list.items in
+    record {
+      state = a.state;
+      candidates = candidates-read start new (source_text name) a.state.candidates reads
+          (subst (λ v. AreCandidates v.list.items start.candidates.list.items a.state.candidates) (sym same_text)
+          (subst (λ v. AreCandidates front v.list.items a.state.candidates) (sym same_candidates) a.candidates));
+      own = own;
+      v = tree own false;
+      tree_is = refl;
+      qualifiers_are = refl;
+      mark_is = refl;
+      front = front;
+      name = source_text name;
+      written = reads.text ∙ ap (λ v. v.list.items ++ source_text name) same_text;
+      from_is = from_is ∙ ap (λ v. length v.list.items) same_text;
+      prints = source-prints false name filled;
+      no_return = refl;
+      goes = subst (λ v. ItemsGoOn s (TypeWithin s (Stands s (reverse v.list.items)) front) (λ l. encoding_of (tree own false) l) [] new.at a.state)
+          (sym (reads.waiting ∙ same_waiting))
+          (e.onward (tree own false) new.at a.state
+          (named_.bare new.at a.state (expects-empty s Kind.MaybeArguments (after own false here) named_.inner new.at a.state named_.awaits refl)));
+    }
+
+-- a nested one is read
+pub name-within : (s : List ℕ) (old : Direct) (st : State) (t : Term) (is_const : Bool)
+    → AreCandidates old.text.list.items old.candidates.list.items st.candidates → IsNesting s Kind.NestTail old t st
+    → has_return_type t ≡ false → StandsAt s old.at (69 ∷ [])
+    → old.nest.purpose ≡ purposes.Enclosing is_const → IsEnclosingNamed s (record old { at = old.at + 1 }) is_const old.nest.from
+unfolding tree_of qualifiers_of ref_of
+name-within s old st t is_const candidates n no_return here is_name =
+    let serves = subst (λ p. Serves s p (Stands s (reverse old.waiting.list.items)) n.outer n.front) is_name n.serves in
+    record {
+      state = st;
+      candidates = candidates;
+      own = t;
+      v = named t (qualifiers is_const) any_value;
+      tree_is = refl;
+      qualifiers_are = refl;
+      mark_is = refl;
+      front = n.front;
+      name = n.bytes;
+      written = n.written;
+      from_is = n.is_nest.from_is;
+      prints = n.is_nest.prints;
+      no_return = no_return;
+      goes = serves t old.nest.is_listed (old.at + 1) st (nest-comes s old st t n here);
+    }
+
+-- ## Parameters
+
+-- a parameter comes next
+parameter-expected : (s : List ℕ) (w : Direct) (st : State) (is_const : Bool) (from : ℕ) (rest : List Open) (front : List ℕ) (make : Term → Term)
+    (ts : List Term) (name texts : List ℕ)
+    → AreCandidates w.text.list.items w.candidates.list.items st.candidates → reverse w.waiting.list.items ≡ opens.Enclosing is_const from ∷ rest
+    → IsFunction is_const make ts name texts → from ≡ length front → w.text.list.items ≡ front ++ name ++ codes "(" ++ in_front_of_next ts texts
+    → ItemsGoOn s (TypeWithin s (Stands s rest) front) make ts w.at st → IsWriting s w steps.Type
+parameter-expected s w st is_const from rest front make ts name texts candidates open_is is_function from_is written p =
+    let element = element-awaits s Kind.Items p.inner p.around w.at st tt p.awaits in
+    let stands : Stands s (opens.Enclosing is_const from ∷ rest) element.inner w.text.list.items = (
+      front,
+      make,
+      ts,
+      name,
+      texts,
+      is_function,
+      from_is,
+      written,
+      λ t here now comes. parameter-goes_on s (TypeWithin s (Stands s rest) front) make ts w.at st p t here now (element.onward t here now comes),
+    ) in
+    record {
+      state = st;
+      candidates = candidates;
+      is_before = (element.inner, p.around, p.outside, inr (inl element.awaits), subst (λ os. Stands s os element.inner w.text.list.items) (sym open_is) stands);
+    }
+
+-- the first one comes next
+pub first-within : (s : List ℕ) (w first last : Direct) (is_const : Bool) (from : ℕ) → IsEnclosingNamed s w is_const from → Writes w first (codes "(")
+    → last.text ≡ first.text → last.candidates ≡ first.candidates → last.at ≡ first.at
+    → last.waiting.list.items ≡ first.waiting.list.items ++ opens.Enclosing is_const from ∷ [] → IsWriting s last steps.Type
+first-within s w first last is_const from p one text candidates at waiting =
+    let known = candidates-written w first (codes "(") p.state.candidates one p.candidates in
+    let moved : AreCandidates last.text.list.items last.candidates.list.items p.state.candidates =
+    subst (λ l. AreCandidates l.list.items last.candidates.list.items p.state.candidates) (sym text)
+    (subst (λ l. AreCandidates first.text.list.items l.list.items p.state.candidates) (sym candidates) known) in
+    let make : Term → Term = λ l. encoding_of p.v l in
+    let is_function : IsFunction is_const make [] p.name [] = record {
+      own = p.own;
+      makes = encoding-plain p.v is_const p.own p.tree_is p.qualifiers_are p.mark_is p.no_return;
+      prints = p.prints;
+      elements = none-print 0;
+    } in
+    parameter-expected s last p.state is_const from (reverse w.waiting.list.items) p.front make [] p.name [] moved
+    (ap reverse waiting ∙ reverse-last first.waiting.list.items (opens.Enclosing is_const from)
+    ∙ ap (λ v. opens.Enclosing is_const from ∷ reverse v.list.items) one.waiting) is_function p.from_is
+    (ap (λ l. l.list.items) text ∙ one.text ∙ ap (λ l. l ++ codes "(") p.written ∙ sym (append-nil (p.front ++ p.name ++ codes "(")))
+    (subst (λ n. ItemsGoOn s (TypeWithin s (Stands s (reverse w.waiting.list.items)) p.front) make [] n p.state) (sym (at ∙ one.at)) p.goes)
+
+-- another one comes next
+pub next-within : (s : List ℕ) (w last : Direct) (is_const : Bool) (from : ℕ) → IsEnclosingParameterRead s w is_const from → Writes w last (codes ", ")
+    → IsWriting s last steps.Type
+next-within s w last is_const from p one =
+    let front = p.front ++ p.name ++ codes "(" in
+    parameter-expected s last p.state is_const from p.rest p.front p.make p.ts p.name p.texts
+    (candidates-written w last (codes ", ") p.state.candidates one p.candidates)
+    (ap (λ l. reverse l.list.items) one.waiting ∙ p.open_is) p.is_function p.from_is
+    (one.text ∙ ap (λ l. l ++ codes ", ") p.written ∙ append_assoc front p.texts (codes ", ")
+    ∙ ap (λ l. front ++ l) (sym (next-written p.ts p.texts p.some)))
+    (subst (λ n. ItemsGoOn s (TypeWithin s (Stands s p.rest) p.front) p.make p.ts n p.state) (sym one.at) p.goes)
+
+-- one is read
+pub parameter-read-within : (s : List ℕ) (w : Direct) (is_const : Bool) (from : ℕ) → IsElementRead s w (opens.Enclosing is_const from)
+    → IsEnclosingParameterRead s w is_const from
+parameter-read-within s w is_const from p =
+    let waits = p.stands in
+    let front = waits.0 in
+    let ts = waits.2 in
+    let name = waits.3 in
+    let texts = waits.4 in
+    let is_function = waits.5 in
+    record {
+      state = p.state;
+      candidates = p.candidates;
+      rest = p.rest;
+      open_is = p.open_is;
+      make = waits.1;
+      ts = ts ++ p.own ∷ [];
+      some = some-elements ts p.own;
+      front = front;
+      name = name;
+      texts = in_front_of_next ts texts ++ p.bytes;
+      is_function = record {
+        own = is_function.own;
+        makes = is_function.makes;
+        prints = is_function.prints;
+        elements = next-prints 0 ts texts p.own p.bytes is_function.elements (p.element 0);
+      };
+      from_is = waits.6;
+      written = p.written ∙ ap (λ l. l ++ p.bytes) waits.7 ∙ append_assoc (front ++ name ++ codes "(") (in_front_of_next ts texts) p.bytes;
+      goes = waits.8 p.own w.at p.state p.comes;
+    }
+
+-- ## Ends
+
+-- a name without items is read
+pub object-within : (s : List ℕ) (w : Direct) (is_const : Bool) (from : ℕ) → IsEnclosingNamed s w is_const from → IsEnclosingRead s w is_const from
+unfolding no_items may_be_empty
+object-within s w is_const from p =
+    let b = p.name in
+    let q = const_text is_const in
+    let shows : Shows (encoding_of p.v nil) (b ++ q) =
+    subst (λ l. Shows (encoding_of p.v nil) (b ++ l)) (qualifiers-text p.v is_const p.qualifiers_are p.mark_is)
+    (object-encoded p.v b (subst (λ t. Prints t b false) (sym p.tree_is) p.prints)) in
+    record {
+      state = p.state;
+      candidates = p.candidates;
+      e = encoding_of p.v nil;
+      front = p.front;
+      bytes = b ++ q;
+      written = ap (λ l. l ++ q) p.written ∙ behind-two p.front b q;
+      from_is = p.from_is;
+      encloses = object-enclosing p.v (b ++ q) shows;
+      within = p.goes.onward nothing_there w.at p.state (expects-empty s Kind.Items p.goes.around p.goes.inner w.at p.state p.goes.awaits refl);
+    }
+
+-- a function with a lone void is read
+pub void-within : (s : List ℕ) (w here new : Direct) (is_const : Bool) (from : ℕ) → IsEnclosingNamed s w is_const from → StandsAt s w.at (118 ∷ [])
+    → here.text ≡ w.text → here.candidates ≡ w.candidates → here.waiting ≡ w.waiting → here.at ≡ w.at + 1 → Writes here new (codes "()")
+    → IsEnclosingRead s new is_const from
+void-within s w here new is_const from p stands text candidates waiting at one =
+    let b = p.name in
+    let q = const_text is_const in
+    let make : Term → Term = λ l. encoding_of p.v l in
+    let e = make (list_of (builtin (118 ∷ []) ∷ [])) in
+    let made = function p.own (qualifiers is_const) any_value absent nil in
+    let is : e ≡ made = made-void is_const p.own make (encoding-plain p.v is_const p.own p.tree_is p.qualifiers_are p.mark_is p.no_return) in
+    let below = Stands s (reverse w.waiting.list.items) in
+    let shows : Shows made (b ++ codes "()" ++ q) =
+    subst (λ l. Shows made (b ++ codes "()" ++ l)) (plain-text is_const) (void-shows p.own b p.prints (qualifiers is_const) any_value) in
+    record {
+      state = p.state;
+      candidates = candidates-written here new (codes "()") p.state.candidates one
+          (subst (λ v. AreCandidates v.list.items here.candidates.list.items p.state.candidates) (sym text)
+          (subst (λ v. AreCandidates w.text.list.items v.list.items p.state.candidates) (sym candidates) p.candidates));
+      e = e;
+      front = p.front;
+      bytes = b ++ codes "()" ++ q;
+      written = ap (λ l. l ++ q) (one.text ∙ ap (λ v. v.list.items ++ codes "()") text ∙ ap (λ l. l ++ codes "()") p.written)
+          ∙ behind-three p.front b (codes "()") q;
+      from_is = p.from_is;
+      encloses = subst (λ t. Encloses t (b ++ codes "()" ++ q)) (sym is)
+          (function-encloses p.own (qualifiers is_const) any_value nil (b ++ codes "()" ++ q) shows);
+      within = subst (λ v. TypeWithin s (Stands s (reverse v.list.items)) p.front e new.at p.state) (sym (one.waiting ∙ waiting))
+          (subst (λ n. TypeWithin s below p.front e n p.state) (sym (one.at ∙ at)) (void-read s (TypeWithin s below p.front) make w.at p.state p.goes stands));
+    }
+
+-- a function with its parameters is read, unless they are a lone void
+pub function-within : (s : List ℕ) (w last new : Direct) (is_const : Bool) (from : ℕ) (p : IsEnclosingParameterRead s w is_const from)
+    → p.texts ≢ codes "void" → Writes w last (codes ")") → new.text ≡ last.text → new.candidates ≡ last.candidates → new.at ≡ last.at
+    → reverse new.waiting.list.items ≡ p.rest → IsEnclosingRead s new is_const from
+unfolding no_items may_be_empty
+function-within s w last new is_const from p apart one text candidates at waits =
+    let f = p.is_function in
+    let e = p.make (list_of p.ts) in
+    let b = p.name in
+    let l = p.texts in
+    let q = const_text is_const in
+    let made = function f.own (qualifiers is_const) any_value absent (list_of p.ts) in
+    let is : e ≡ made = made-with is_const f.own p.make f.makes p.ts p.some (parameters-kept p.ts l f.elements apart) in
+    let below = Stands s p.rest in
+    let within_ : TypeWithin s below p.front e w.at p.state = subst (λ u. TypeWithin s below p.front (p.make u) w.at p.state) (list-ends p.ts)
+    (p.goes.onward nothing_there w.at p.state (expects-empty s Kind.Items p.goes.around p.goes.inner w.at p.state p.goes.awaits refl)) in
+    let known = candidates-written w last (codes ")") p.state.candidates one p.candidates in
+    let shows : Shows made (b ++ codes "(" ++ l ++ codes ")" ++ q) =
+    subst (λ x. Shows made (b ++ codes "(" ++ l ++ codes ")" ++ x)) (plain-text is_const)
+    (function-shows f.own b f.prints p.ts l f.elements (qualifiers is_const) any_value) in
+    record {
+      state = p.state;
+      candidates = subst (λ v. AreCandidates v.list.items new.candidates.list.items p.state.candidates) (sym text)
+          (subst (λ v. AreCandidates last.text.list.items v.list.items p.state.candidates) (sym candidates) known);
+      e = e;
+      front = p.front;
+      bytes = b ++ codes "(" ++ l ++ codes ")" ++ q;
+      written = ap (λ x. x ++ q) (ap (λ v. v.list.items) text ∙ one.text ∙ ap (λ x. x ++ codes ")") p.written)
+          ∙ behind-five p.front b (codes "(") l (codes ")") q;
+      from_is = p.from_is;
+      encloses = subst (λ t. Encloses t (b ++ codes "(" ++ l ++ codes ")" ++ q)) (sym is)
+          (function-encloses f.own (qualifiers is_const) any_value (list_of p.ts) (b ++ codes "(" ++ l ++ codes ")" ++ q) shows);
+      within = subst (λ ws. TypeWithin s (Stands s ws) p.front e new.at p.state) (sym waits)
+          (subst (λ n. TypeWithin s below p.front e n p.state) (sym (at ∙ one.at)) within_);
+    }
+
+const-written : (s : List ℕ) (old new : Direct) (from : ℕ) → IsEnclosingRead s old true from → Writes old new (codes " const") → IsEnclosingRead s new false from
+const-written s old new from p writes = record {
+  state = p.state;
+  candidates = candidates-written old new (codes " const") p.state.candidates writes p.candidates;
+  e = p.e;
+  front = p.front;
+  bytes = p.bytes;
+  written = append-nil new.text.list.items ∙ writes.text ∙ p.written;
+  from_is = p.from_is;
+  encloses = p.encloses;
+  within = subst (λ v. TypeWithin s (Stands s (reverse v.list.items)) p.front p.e new.at p.state) (sym writes.waiting)
+      (subst (λ n. TypeWithin s (Stands s (reverse old.waiting.list.items)) p.front p.e n p.state) (sym writes.at) p.within);
+}
+
+-- one that is const, with its qualifier
+pub const-added-within : (s : List ℕ) (old new : Direct) (is_const : Bool) (from : ℕ) → IsEnclosingRead s old is_const from → is_const ≡ true
+    → Writes old new (codes " const") → IsEnclosingRead s new false from
+const-added-within s old new is_const from p e writes = const-written s old new from (subst (λ b. IsEnclosingRead s old b from) e p) writes
+
+-- one without
+pub const-kept-within : (s : List ℕ) (w : Direct) (is_const : Bool) (from : ℕ) → IsEnclosingRead s w is_const from → is_const ≡ false → IsEnclosingRead s w false from
+const-kept-within s w is_const from p e = subst (λ b. IsEnclosingRead s w b from) e p
+
+-- ## Lambdas
+
+-- its first bytes stand there
+pub lambda-stands : (s : List ℕ) (at second third fourth fifth : ℕ) (rest : List ℕ) → StandsAt s at (85 ∷ []) → second ≡ at + 1 → StandsAt s second (108 ∷ [])
+    → third ≡ at + 2 → StandsAt s third (118 ∷ []) → fourth ≡ at + 3 → StandsAt s fourth (69 ∷ []) → fifth ≡ at + 4 → StandsAt s fifth rest
+    → StandsAt s at (85 ∷ 108 ∷ 118 ∷ 69 ∷ rest)
+lambda-stands s at second third fourth fifth rest u b l c v d e f more =
+    stands-join s at (85 ∷ []) (108 ∷ 118 ∷ 69 ∷ rest) u
+    (stands-join s (at + 1) (108 ∷ []) (118 ∷ 69 ∷ rest) (subst (λ k. StandsAt s k (108 ∷ [])) b l)
+    (stands-join s (at + 1 + 1) (118 ∷ []) (69 ∷ rest) (subst (λ k. StandsAt s k (118 ∷ [])) (omega (arith, c)) v)
+    (stands-join s (at + 1 + 1 + 1) (69 ∷ []) rest (subst (λ k. StandsAt s k (69 ∷ [])) (omega (arith, d)) e)
+    (subst (λ k. StandsAt s k rest) (omega (arith, f)) more))))
+
+number-text : (digit : Option ℕ) → IsLambdaDigit digit → decimal (local_number (lambda_digits digit)) ≡ lambda_number digit
+unfolding local_number
+number-text None is = decimal_digit 1 (omega arith)
+number-text (Some d) is =
+    let n = local_number (d ∷ []) in
+    decimal_digit n (number-is (Some d) is) ∙ ap (λ k. k ∷ []) (omega (arith, is.0))
+
+-- it is read, and written
+pub lambda-told : (s : List ℕ) (old new : Direct) (digit : Option ℕ) → IsLambdaDigit digit → StandsAt s old.at (85 ∷ lambda_bytes (lambda_digits digit))
+    → new.at ≡ old.at + length (85 ∷ lambda_bytes (lambda_digits digit)) → Reads old new (codes "{lambda()#" ++ lambda_number digit ++ codes "}")
+    → (p : Term) × (n : List ℕ) × IsPieceAt s old.at p new.at × PrintsPiece p n × Reads old new n
+lambda-told s old new digit is stands ends reads = (
+  lambda nil (local_number (lambda_digits digit)),
+  codes "{lambda()#" ++ lambda_number digit ++ codes "}",
+  lambda-piece s old.at digit new.at is stands ends,
+  lambda-prints (local_number (lambda_digits digit)) (lambda_number digit) (number-text digit is),
+  reads,
+)
+
+-- its first bytes stand there, with parameters
+abbrev lambda_front : List ℕ
+lambda_front = codes "::{lambda("
+
+-- the first parameter of one comes next
+pub lambda-begun : (s : List ℕ) (old new : Direct) (from : ℕ) → AwaitsTypeName s old from → short_numbers 0 s ≡ true → StandsAt s old.at (85 ∷ 108 ∷ [])
+    → new.text.list.items ≡ old.text.list.items ++ lambda_front → new.candidates ≡ old.candidates → new.at ≡ old.at + 2
+    → new.waiting.list.items ≡ old.waiting.list.items ++ opens.Lambda from ∷ [] → IsWriting s new steps.Type
+lambda-begun s old new from a short stands text candidates at waiting =
+    let r = a.read in
+    let w = r.within in
+    let entity = w.2 a.letter in
+    let first = lambda-opens s entity.inner entity.around r.e (a.before + 1) r.state short entity.awaits
+    (subst (λ k. StandsAt s k (85 ∷ 108 ∷ [])) a.at_is stands) in
+    let rest = reverse old.waiting.list.items in
+    let front_written : old.text.list.items ≡ r.front ++ r.bytes = sym (append-nil old.text.list.items) ∙ r.written in
+    let written : new.text.list.items ≡ r.front ++ (r.bytes ++ lambda_front) ++ [] =
+    text ∙ ap (λ l. l ++ lambda_front) front_written ∙ append_assoc r.front r.bytes lambda_front ∙ sym (append-nil (r.front ++ (r.bytes ++ lambda_front))) in
+    let known : AreCandidates new.text.list.items new.candidates.list.items r.state.candidates =
+    subst (λ l. AreCandidates l new.candidates.list.items r.state.candidates) (sym text)
+    (subst (λ v. AreCandidates (old.text.list.items ++ lambda_front) v.list.items r.state.candidates) (sym candidates)
+    (candidates-stay old.text.list.items lambda_front old.candidates.list.items r.state.candidates r.candidates)) in
+    let stands_ : Stands s (opens.Lambda from ∷ rest) first.inner new.text.list.items = (
+      r.front,
+      r.e,
+      r.bytes,
+      [],
+      [],
+      r.encloses,
+      none-print 0,
+      r.from_is,
+      written,
+      λ t here now comes.
+          let g = first.onward t here now comes in
+          record {
+            around = g.around;
+            inner = g.inner;
+            outside = g.outside;
+            awaits = g.awaits;
+            onward = λ l there then_ last. (
+              w.0,
+              w.1,
+              λ number middle digit end is ending ends_ told.
+                  entity.onward (lambda_with (list t (no_items l)) number) middle then_ (g.onward l there then_ last number middle is ending ends_) digit end
+                  told,
+              w.3,
+            );
+          },
+    ) in
+    record {
+      state = r.state;
+      candidates = known;
+      is_before = (
+        first.inner,
+        first.around,
+        first.outside,
+        inr (inl (subst (λ k. Expects s Kind.Item first.around first.inner k r.state) (omega (arith, at, a.at_is)) first.awaits)),
+        subst (λ ws. Stands s ws first.inner new.text.list.items) (sym (ap reverse waiting ∙ reverse-last old.waiting.list.items (opens.Lambda from))) stands_,
+      );
+    }
+
+-- a parameter of one is read
+pub lambda-parameter-read : (s : List ℕ) (w : Direct) (from : ℕ) → IsElementRead s w (opens.Lambda from) → IsLambdaParameterRead s w from
+lambda-parameter-read s w from p =
+    let waits = p.stands in
+    let ts = waits.3 in
+    let texts = waits.4 in
+    record {
+      state = p.state;
+      candidates = p.candidates;
+      rest = p.rest;
+      open_is = p.open_is;
+      front = waits.0;
+      e = waits.1;
+      bytes = waits.2;
+      encloses = waits.5;
+      ts = ts ++ p.own ∷ [];
+      some = some-elements ts p.own;
+      texts = in_front_of_next ts texts ++ p.bytes;
+      elements = next-prints 0 ts texts p.own p.bytes waits.6 (p.element 0);
+      from_is = waits.7;
+      written = p.written ∙ ap (λ l. l ++ p.bytes) waits.8 ∙ append_assoc (waits.0 ++ (waits.2 ++ lambda_front)) (in_front_of_next ts texts) p.bytes;
+      goes = waits.9 p.own w.at p.state p.comes;
+    }
+
+-- another one comes next
+pub lambda-next : (s : List ℕ) (w last : Direct) (from : ℕ) → IsLambdaParameterRead s w from → Writes w last (codes ", ") → IsWriting s last steps.Type
+lambda-next s w last from p one =
+    let led = p.front ++ (p.bytes ++ lambda_front) in
+    let below = Stands s p.rest in
+    let goes = subst (λ n. ItemsGoOn s (LambdaWithin s below p.front p.e) (λ l. l) p.ts n p.state) (sym one.at) p.goes in
+    let element = element-awaits s Kind.Items goes.inner goes.around last.at p.state tt goes.awaits in
+    let stands_ : Stands s (opens.Lambda from ∷ p.rest) element.inner last.text.list.items = (
+      p.front,
+      p.e,
+      p.bytes,
+      p.ts,
+      p.texts,
+      p.encloses,
+      p.elements,
+      p.from_is,
+      one.text ∙ ap (λ l. l ++ codes ", ") p.written ∙ append_assoc led p.texts (codes ", ") ∙ ap (λ l. led ++ l) (sym (next-written p.ts p.texts p.some)),
+      λ t here now comes. parameter-goes_on s (LambdaWithin s below p.front p.e) (λ l. l) p.ts last.at p.state goes t here now (element.onward t here now comes),
+    ) in
+    record {
+      state = p.state;
+      candidates = candidates-written w last (codes ", ") p.state.candidates one p.candidates;
+      is_before = (
+        element.inner,
+        goes.around,
+        goes.outside,
+        inr (inl element.awaits),
+        subst (λ ws. Stands s ws element.inner last.text.list.items) (sym (ap (λ l. reverse l.list.items) one.waiting ∙ p.open_is)) stands_,
+      );
+    }
+
+whole-text : (f b l n : List ℕ) → ((f ++ (b ++ lambda_front)) ++ l) ++ codes ")#" ++ (n ++ codes "}")
+    ≡ f ++ (b ++ codes "::" ++ (codes "{lambda(" ++ l ++ codes ")#" ++ n ++ codes "}"))
+whole-text f b l n =
+    let x = codes "{lambda(" ++ l ++ codes ")#" ++ n ++ codes "}" in
+    sym (append_assoc (f ++ (b ++ lambda_front) ++ l ++ codes ")#") n (codes "}"))
+    ∙ behind-five f (b ++ lambda_front) l (codes ")#") n (codes "}")
+    ∙ ap (λ k. f ++ k) (behind-five b lambda_front l (codes ")#") n (codes "}") ∙ sym (append_assoc b (codes "::") x))
+
+-- its bracket stands by itself
+pub lambda-bracket : (f b l : List ℕ) → (f ++ (b ++ codes "::{lambda(")) ++ l ≡ (f ++ (b ++ codes "::{lambda")) ++ codes "(" ++ l
+lambda-bracket f b l =
+    ap (λ k. k ++ l) (ap (λ k. f ++ k) (sym (append_assoc b (codes "::{lambda") (codes "(")))
+    ∙ sym (append_assoc f (b ++ codes "::{lambda") (codes "(")))
+
+-- its end is read
+pub lambda-done : (s : List ℕ) (w begun pushed numbered popped_ last new : Direct) (from : ℕ) (p : IsLambdaParameterRead s w from) → p.texts ≢ codes "void"
+    → StandsAt s w.at (69 ∷ []) → begun.text ≡ w.text → begun.candidates ≡ w.candidates → begun.waiting ≡ w.waiting → begun.at ≡ w.at + 1
+    → Writes begun pushed (codes ")#") → (number : Option ℕ) → IsLambdaDigit number → StandsAt s pushed.at (lambda_digits number ++ 95 ∷ [])
+    → numbered.at ≡ pushed.at + length (lambda_digits number ++ 95 ∷ []) → Reads pushed numbered (lambda_number number ++ codes "}")
+    → popped_.text ≡ numbered.text → popped_.candidates ≡ numbered.candidates → popped_.at ≡ numbered.at → reverse popped_.waiting.list.items ≡ p.rest
+    → (digit : Option ℕ) → IsDiscriminatorAt s popped_.at digit last.at → Reads popped_ last []
+    → new.candidates.list.items ≡ added last from false → new.text ≡ last.text → new.waiting ≡ last.waiting → new.at ≡ last.at
+    → IsWriting s new (steps.Value false)
+unfolding no_items may_be_empty
+lambda-done s w begun pushed numbered popped_ last new from p apart ends same_text same_candidates same_waiting at one number is digits_ numbered_at two
+    popped_text popped_candidates popped_at waits digit told three candidates text waiting here =
+    let below = Stands s p.rest in
+    let items = list_of p.ts in
+    let num = lambda_number number in
+    let n = local_number (lambda_digits number) in
+    let ends_with : LambdaWithin s below p.front p.e items w.at p.state = subst (λ u. LambdaWithin s below p.front p.e u w.at p.state) (list-ends p.ts)
+    (p.goes.onward nothing_there w.at p.state (expects-empty s Kind.Items p.goes.around p.goes.inner w.at p.state p.goes.awaits refl)) in
+    let same : lambda items n ≡ lambda_with items number = ap (λ k. lambda k n) (sym (parameters-kept p.ts p.texts p.elements apart)) in
+    let own = local_in p.e (lambda_with items number) digit in
+    let bytes = p.bytes ++ codes "::" ++ (codes "{lambda(" ++ p.texts ++ codes ")#" ++ num ++ codes "}") in
+    let shown : Prints own bytes false = subst (λ u. Prints (local_in p.e u digit) bytes false) same
+    (local-prints p.e p.bytes p.encloses (lambda items n) (codes "{lambda(" ++ p.texts ++ codes ")#" ++ num ++ codes "}")
+    (lambda-list-prints p.ts p.texts p.elements n num (number-text number is)) digit) in
+    let place : pushed.at ≡ w.at + 1 = one.at ∙ at in
+    let ending : StandsAt s w.at (lambda_ending number) =
+    stands-join s w.at (69 ∷ []) (lambda_digits number ++ 95 ∷ []) ends (subst (λ k. StandsAt s k (lambda_digits number ++ 95 ∷ [])) place digits_) in
+    let middle : popped_.at ≡ w.at + length (lambda_ending number) = omega (arith, popped_at, numbered_at, place) in
+    let written : last.text.list.items ≡ p.front ++ bytes =
+    three.text ∙ append-nil popped_.text.list.items ∙ ap (λ v. v.list.items) popped_text ∙ two.text
+    ∙ ap (λ l. l ++ (num ++ codes "}")) (one.text ∙ ap (λ v. v.list.items ++ codes ")#") same_text ∙ ap (λ l. l ++ codes ")#") p.written)
+    ∙ whole-text p.front p.bytes p.texts num in
+    let st = with_candidate ends_with.1 own p.state in
+    let known : AreCandidates begun.text.list.items begun.candidates.list.items p.state.candidates =
+    subst (λ v. AreCandidates v.list.items begun.candidates.list.items p.state.candidates) (sym same_text)
+    (subst (λ v. AreCandidates w.text.list.items v.list.items p.state.candidates) (sym same_candidates) p.candidates) in
+    let numbered_known = candidates-read pushed numbered (num ++ codes "}") p.state.candidates two
+    (candidates-written begun pushed (codes ")#") p.state.candidates one known) in
+    let popped_known : AreCandidates popped_.text.list.items popped_.candidates.list.items p.state.candidates =
+    subst (λ v. AreCandidates v.list.items popped_.candidates.list.items p.state.candidates) (sym popped_text)
+    (subst (λ v. AreCandidates numbered.text.list.items v.list.items p.state.candidates) (sym popped_candidates) numbered_known) in
+    let more = candidates-with last p.state p.front bytes from own ends_with.1 false
+    (candidates-read popped_ last [] p.state.candidates three popped_known) written p.from_is shown in
+    record {
+      state = st;
+      candidates = subst (λ v. AreCandidates v.list.items new.candidates.list.items st.candidates) (sym text)
+          (subst (λ ks. AreCandidates last.text.list.items ks st.candidates) (sym candidates) more);
+      is_before = (
+        ends_with.0,
+        own,
+        p.front,
+        bytes,
+        ap (λ v. v.list.items) text ∙ written,
+        shown,
+        subst (λ k. Comes s ends_with.0 (tree own true) k st) (sym here) (ends_with.2 number popped_.at digit last.at is ending middle told),
+        subst (λ ws. Stands s ws ends_with.0 p.front) (sym (ap (λ v. reverse v.list.items) (waiting ∙ three.waiting) ∙ waits)) ends_with.3,
+      );
+    }
+
+-- ## The type
+
+-- its name is expected behind an E
+pub name-awaited : (s : List ℕ) (old : Direct) (n from : ℕ) → IsEnclosingRead s old false from → StandsAt s old.at (69 ∷ []) → n ≡ old.at + 1
+    → AwaitsTypeName s (record old { at = n }) from
+name-awaited s old n from a letter at_is = record { before = old.at; read = a; letter = letter; at_is = at_is }
+
+-- its name and its discriminator are read
+pub type-within : (s : List ℕ) (old pushed read last new : Direct) (from : ℕ) → AwaitsTypeName s old from → Writes old pushed (codes "::")
+    → (p : Term) (n : List ℕ) → IsPieceAt s pushed.at p read.at → PrintsPiece p n → Reads pushed read n
+    → (digit : Option ℕ) → IsDiscriminatorAt s read.at digit last.at → Reads read last []
+    → new.candidates.list.items ≡ added last from false → new.text ≡ last.text → new.waiting ≡ last.waiting → new.at ≡ last.at
+    → IsWriting s new (steps.Value false)
+type-within s old pushed read last new from awaits one p n is prints two digit told three candidates text waiting here =
+    let a = awaits.read in
+    let whole = reads-then old read last (codes "::" ++ n) [] (reads-then old pushed read (codes "::") n (reads-of old pushed (codes "::") one) two) three in
+    let t = local_in a.e p digit in
+    let bytes = a.bytes ++ codes "::" ++ n in
+    let w = a.within in
+    let entity = w.2 awaits.letter in
+    let old_written : old.text.list.items ≡ a.front ++ a.bytes = sym (append-nil old.text.list.items) ∙ a.written in
+    let written : last.text.list.items ≡ a.front ++ bytes =
+    whole.text ∙ ap (λ l. old.text.list.items ++ l) (append-nil (codes "::" ++ n)) ∙ sym (append_assoc old.text.list.items (codes "::") n)
+    ∙ ap (λ l. l ++ codes "::" ++ n) old_written ∙ behind-three a.front a.bytes (codes "::") n in
+    let st = with_candidate w.1 t a.state in
+    let shown = local-prints a.e a.bytes a.encloses p n prints digit in
+    let more = candidates-with last a.state a.front bytes from t w.1 false
+    (candidates-read old last (codes "::" ++ n ++ []) a.state.candidates whole a.candidates) written a.from_is shown in
+    let named_ = subst (λ k. IsPieceAt s k p read.at) (one.at ∙ awaits.at_is) is in
+    record {
+      state = st;
+      candidates = subst (λ v. AreCandidates v.list.items new.candidates.list.items st.candidates) (sym text)
+          (subst (λ ks. AreCandidates last.text.list.items ks st.candidates) (sym candidates) more);
+      is_before = (
+        w.0,
+        t,
+        a.front,
+        bytes,
+        ap (λ v. v.list.items) text ∙ written,
+        shown,
+        subst (λ k. Comes s w.0 (tree t true) k st) (sym here)
+            (entity.onward p read.at a.state (named_ entity.inner entity.around a.e a.state entity.awaits) digit last.at told),
+        subst (λ v. Stands s (reverse v.list.items) w.0 a.front) (sym (waiting ∙ whole.waiting)) w.3,
+      );
+    }

@@ -1,0 +1,238 @@
+// Types that stand in the body of a function.
+
+ghost use Rattle.std.specs.Prelude.{◌≡◌, ◌+◌, ◌∷◌, ◌++◌, [], ℕ, List, length, Option, false, codes};
+ghost use Rattle.std.specs.Option.{OnSome, IfSome};
+ghost use Rattle.sym_core.specs.Number.{FitsSymbol};
+ghost use Rattle.cpp_grammar.specs.Term.{Term};
+ghost use Rattle.cpp_direct.specs.Holes.{StandsAt};
+ghost use Rattle.cpp_direct.specs.HolesOfLocals.{IsLambdaDigit, IsPieceAt, lambda_digits, lambda_number};
+ghost use Rattle.cpp_direct.specs.Prints.{PrintsPiece};
+ghost use Rattle.cpp_direct.specs.Stands.{IsWriting};
+ghost use Rattle.cpp_direct.specs.Ways.{AwaitsNamedType, AwaitsTypeName, IsEnclosingNamed, IsEnclosingParameterRead, IsEnclosingRead, IsLambdaParameterRead};
+ghost use Rattle.cpp_direct.specs.Written.{Reads};
+
+use crate::direct::Direct;
+use crate::open::{Open, Purpose, Step};
+use crate::tokens::{are_numbers_short, byte_at};
+
+/// The longest symbol in which lambdas with parameters are read, in bytes.
+const LONGEST_WITH_LAMBDAS: usize = 1_024;
+
+impl Direct {
+    /// Reads the first bytes of a type that stands in a function, up to the first type in that one's name.
+    // <local-name> ::= Z <function encoding> E <entity name> [<discriminator>]
+    #[inline(never)]
+    pub(crate) fn begin_enclosing(&mut self, s: &[u8]) -> Option<Step>
+        requires fits { FitsSymbol s.now }
+        requires letter { StandsAt s.now self.old.at (90 ∷ []) }
+        requires awaits { AwaitsNamedType s.now self.old }
+        ensures { IfSome result (IsWriting s.now self.new) }
+    {
+        self.at = self.at.checked_add(1)?;
+        if byte_at(s, self.at) != b'N' {
+            let from = self.text.len();
+            self.name(s)?;
+            return self.enclosing_named(s, false, from);
+        }
+        self.at = self.at.checked_add(1)?;
+        if byte_at(s, self.at) == b'K' {
+            self.at = self.at.checked_add(1)?;
+            return self.nest_at(s, Purpose::Enclosing { is_const: true });
+        }
+        self.nest_at(s, Purpose::Enclosing { is_const: false })
+    }
+
+    /// The name of a function is read in which a type stands: its parameters follow, or the type.
+    // <encoding> ::= <function name> <bare-function-type> | <data name>
+    pub(crate) fn enclosing_named(&mut self, s: &[u8], is_const: bool, from: usize) -> Option<Step>
+        requires fits { FitsSymbol s.now }
+        requires named { IsEnclosingNamed s.now self.old is_const from }
+        ensures { IfSome result (IsWriting s.now self.new) }
+    {
+        let byte = byte_at(s, self.at);
+        if byte == b'E' {
+            return self.enclosing_ended(s, is_const, from);
+        }
+        let behind = byte_at(s, self.at.checked_add(1)?);
+        if byte == b'v' && behind == b'E' {
+            self.at = self.at.checked_add(1)?;
+            self.push_pair(b'(', b')')?;
+            return self.enclosing_ended(s, is_const, from);
+        }
+        self.push_byte(b'(')?;
+        self.waiting.push(Open::Enclosing { is_const, from })?;
+        Some(Step::Type)
+    }
+
+    /// A parameter of a function is read in which a type stands: another one follows, or the type.
+    // <bare-function-type> ::= <parameter type>+
+    pub(crate) fn enclosing_parameter(
+        &mut self,
+        s: &[u8],
+        is_const: bool,
+        from: usize,
+    ) -> Option<Step>
+        requires fits { FitsSymbol s.now }
+        requires read { IsEnclosingParameterRead s.now self.old is_const from }
+        ensures { IfSome result (IsWriting s.now self.new) }
+    {
+        if byte_at(s, self.at) != b'E' {
+            self.push_pair(b',', b' ')?;
+            return Some(Step::Type);
+        }
+        // a lone void is no parameter
+        if self.text.as_slice().ends_with(b"(void") {
+            return None;
+        }
+        self.push_byte(b')')?;
+        let _open = self.waiting.pop();
+        self.enclosing_ended(s, is_const, from)
+    }
+
+    /// Writes the qualifier of a function in which a type stands.
+    fn enclosing_ended(&mut self, s: &[u8], is_const: bool, from: usize) -> Option<Step>
+        requires fits { FitsSymbol s.now }
+        requires read { IsEnclosingRead s.now self.old is_const from }
+        ensures { IfSome result (IsWriting s.now self.new) }
+    {
+        if is_const {
+            self.push(b" const")?;
+        }
+        self.enclosed(s, from)
+    }
+
+    /// Reads the E behind the function that a type stands in.
+    // <local-name> ::= Z <function encoding> E <entity name> [<discriminator>]
+    fn enclosed(&mut self, s: &[u8], from: usize) -> Option<Step>
+        requires fits { FitsSymbol s.now }
+        requires read { IsEnclosingRead s.now self.old false from }
+        ensures { IfSome result (IsWriting s.now self.new) }
+    {
+        if byte_at(s, self.at) != b'E' {
+            return None;
+        }
+        self.at = self.at.checked_add(1)?;
+        if byte_at(s, self.at) != b'U' {
+            return self.enclosed_named(s, from);
+        }
+        let behind = byte_at(s, self.at.checked_add(2)?);
+        if behind == b'v' {
+            return self.enclosed_named(s, from);
+        }
+        self.begin_lambda(s, from)
+    }
+
+    /// Reads the name of a type that stands in a function.
+    // <local-name> ::= Z <function encoding> E <entity name> [<discriminator>]
+    fn enclosed_named(&mut self, s: &[u8], from: usize) -> Option<Step>
+        requires fits { FitsSymbol s.now }
+        requires awaits { AwaitsTypeName s.now self.old from }
+        ensures { IfSome result (IsWriting s.now self.new) }
+    {
+        self.push_pair(b':', b':')?;
+        self.enclosed_piece(s)?;
+        self.discriminator(s)?;
+        self.add_candidate(from, false)?;
+        Some(Step::Value {
+            is_reference: false,
+        })
+    }
+
+    // <unqualified-name> ::= <source-name> | <unnamed-type-name>
+    #[inline(always)]
+    fn enclosed_piece(&mut self, s: &[u8]) -> Option<()>
+        requires { FitsSymbol s.now }
+        ensures { OnSome result ((p : Term) × (n : List ℕ) × IsPieceAt s.now self.old.at p self.new.at × PrintsPiece p n × Reads self.old self.new n) }
+    {
+        if byte_at(s, self.at) == b'U' {
+            return self.lambda(s);
+        }
+        self.name(s)
+    }
+
+    /// Reads a lambda without parameters, one of the first nine of a function.
+    // <closure-type-name> ::= Ul <lambda-sig> E [<nonnegative number>] _
+    fn lambda(&mut self, s: &[u8]) -> Option<()>
+        requires letter { StandsAt s.now self.old.at (85 ∷ []) }
+        ensures { OnSome result ((p : Term) × (n : List ℕ) × IsPieceAt s.now self.old.at p self.new.at × PrintsPiece p n × Reads self.old self.new n) }
+    {
+        let second = byte_at(s, self.at.checked_add(1)?);
+        let third = byte_at(s, self.at.checked_add(2)?);
+        let fourth = byte_at(s, self.at.checked_add(3)?);
+        if second != b'l' || third != b'v' || fourth != b'E' {
+            return None;
+        }
+        self.at = self.at.checked_add(4)?;
+        self.push(b"{lambda()#")?;
+        self.lambda_number(s)
+    }
+
+    /// Reads the number of a lambda, one of the first nine, and writes it and what stands behind it.
+    // <closure-type-name> ::= Ul <lambda-sig> E [<nonnegative number>] _
+    fn lambda_number(&mut self, s: &[u8]) -> Option<()>
+        ensures { OnSome result ((number : Option ℕ) × IsLambdaDigit number × StandsAt s.now self.old.at (lambda_digits number ++ 95 ∷ [])
+            × (self.new.at ≡ self.old.at + length (lambda_digits number ++ 95 ∷ []))
+            × Reads self.old self.new (lambda_number number ++ codes "}")) }
+    {
+        let digit = byte_at(s, self.at);
+        self.at = self.at.checked_add(1)?;
+        if digit == b'_' {
+            return self.push(b"1}");
+        }
+        if digit < b'0' || b'7' < digit {
+            return None;
+        }
+        if byte_at(s, self.at) != b'_' {
+            return None;
+        }
+        self.at = self.at.checked_add(1)?;
+        self.push_pair(digit + 2, b'}')
+    }
+
+    /// Begins a lambda that has parameters, in a symbol that isn't a long one: each lambda goes over it once more.
+    // <closure-type-name> ::= Ul <lambda-sig> E [<nonnegative number>] _
+    fn begin_lambda(&mut self, s: &[u8], from: usize) -> Option<Step>
+        requires awaits { AwaitsTypeName s.now self.old from }
+        requires letter { StandsAt s.now self.old.at (85 ∷ []) }
+        ensures { IfSome result (IsWriting s.now self.new) }
+    {
+        self.at = self.at.checked_add(1)?;
+        if byte_at(s, self.at) != b'l' {
+            return None;
+        }
+        // its number is tested before its parameters, and isn't known yet
+        if s.len() > LONGEST_WITH_LAMBDAS || !are_numbers_short(s) {
+            return None;
+        }
+        self.at = self.at.checked_add(1)?;
+        self.push(b"::{lambda(")?;
+        self.waiting.push(Open::Lambda { from })?;
+        Some(Step::Type)
+    }
+
+    /// A parameter of a lambda is read: another one follows, or the lambda's end.
+    // <lambda-sig> ::= <parameter type>+
+    pub(crate) fn lambda_parameter(&mut self, s: &[u8], from: usize) -> Option<Step>
+        requires fits { FitsSymbol s.now }
+        requires read { IsLambdaParameterRead s.now self.old from }
+        ensures { IfSome result (IsWriting s.now self.new) }
+    {
+        if byte_at(s, self.at) != b'E' {
+            self.push_pair(b',', b' ')?;
+            return Some(Step::Type);
+        }
+        // a lone void is no parameter
+        if self.text.as_slice().ends_with(b"(void") {
+            return None;
+        }
+        self.at = self.at.checked_add(1)?;
+        self.push_pair(b')', b'#')?;
+        self.lambda_number(s)?;
+        let _open = self.waiting.pop();
+        self.discriminator(s)?;
+        self.add_candidate(from, false)?;
+        Some(Step::Value {
+            is_reference: false,
+        })
+    }
+}

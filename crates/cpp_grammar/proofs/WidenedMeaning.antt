@@ -1,0 +1,225 @@
+-- What a widened tree stands for is what the tree stands for.
+use Rattle.std.proofs.Common.{◌≡◌, ℕ, ◌+◌, ◌-◌, ◌<◌, List, [], ◌∷◌, ◌++◌, length, Bool, true, false, nat_eq, Result, Ok, Err, inl, inr, refl, ap, sym, ◌∙◌, subst, add-zero}
+use Rattle.sym_core.specs.declared.refusal.Refusal.{Refusal}
+use Rattle.sym_shape.specs.declared.rule.Rule.{Rule}
+use Rattle.sym_shape.specs.declared.rule.Sym.{Sym}
+use Rattle.sym_shape.specs.declared.rule.Sym.TheVariants.{Kind as OfKind}
+use Rattle.sym_shape.specs.Table.{symbols_of}
+use Rattle.sym_shape.specs.Law.{IsSymbol, AreSymbols}
+use Rattle.sym_shape.specs.Tree.{Tree, Forest, branch, empty, token, fixed, nothing, grown, spell, TakesRule, IsTree, AreTrees}
+use Rattle.sym_link.specs.Reading.{Found, Open, ◌>>=◌}
+use Rattle.sym_link.specs.Unfold.{found, alone, standing, unfold_tree, unfold_forest}
+use Rattle.sym_link.proofs.Steps.{bind_same}
+use Rattle.cpp_grammar.specs.declared.production.Production.{Production}
+use Rattle.cpp_grammar.specs.KindNumbers.{SYMBOL, NEST_REST}
+use Rattle.cpp_grammar.specs.Grammar.{productions, number_of, number_of_kind, parts_of}
+use Rattle.cpp_grammar.specs.Table.{rule_of, padded, wide, either}
+use Rattle.cpp_grammar.specs.Term.{instance}
+use Rattle.cpp_grammar.specs.Values.{State, Around, prefix_tree, prefix_listed, Value, nothing_there, text, tree, tree_of, part}
+use Rattle.cpp_grammar.specs.References.{appended, with_prefix}
+use Rattle.cpp_grammar.specs.Between.{inside, after, no_items, named_so_far, listed_so_far, between}
+use Rattle.cpp_grammar.specs.Meaning.{meaning}
+use Rattle.cpp_grammar.specs.Unfolding as unfolding_
+use Rattle.cpp_grammar.specs.Unfolding.{last_token, number_tested, opening, close, production_at, byte_of, cpp, first_around, first_state, first_tree, unfold_cpp}
+use Rattle.cpp_grammar.specs.Widened.{rest_or_end, with_rest_or_end, widened_branch, widened, widened_all}
+use Rattle.cpp_grammar.proofs.Widening.{arguments_rule, next_rule, rest_rule, chosen_rule, same_branch, spell_widened, widened_trees, either_symbols, either_start}
+
+-- ## A tree has one value
+
+abbrev Read : Type 0
+Read = Found (List Value) State
+
+data One : Result Read Refusal → Type 0 where
+  refused : (e : Refusal) → One (Err e)
+  one : (v : Value) (s : State) → One (Ok (found (v ∷ []) s))
+
+one_alone : (m : Result (Found Value State) Refusal) → One (m >>= alone)
+one_alone (Ok x) = one x.value x.state
+one_alone (Err e) = refused e
+
+one_bind : {A : Type 0} (m : Result A Refusal) (f : A → Result Read Refusal) → ((x : A) → One (f x)) → One (m >>= f)
+one_bind (Ok x) f each = each x
+one_bind (Err e) f each = refused e
+
+tree_one : (t : Tree) (around : Around) (place : ℕ) (state : State) → One (unfold_tree cpp around place t state)
+unfolding cpp
+tree_one (branch rule taken parts) around place state =
+    let whole = standing rule taken place around state in
+    let p = production_at rule.number in
+    one_bind (opening p parts place state) (λ begun. unfold_forest cpp whole [] (place + length taken) parts begun >>= λ inner. close p (byte_of taken) around place state inner.value inner.state >>= alone)
+    (λ begun. one_bind (unfold_forest cpp whole [] (place + length taken) parts begun) (λ inner. close p (byte_of taken) around place state inner.value inner.state >>= alone)
+    (λ inner. one_alone (close p (byte_of taken) around place state inner.value inner.state)))
+tree_one empty around place state = one nothing_there state
+tree_one (token t) around place state = one (text t.own) state
+tree_one (fixed byte) around place state = one nothing_there state
+
+-- where the value of a part is one, what follows it has to be the same for one alone
+first_same : (m : Result Read Refusal) → One m → (f h g k : Read → Result Read Refusal) → ((v : Value) (s : State) → (f (found (v ∷ []) s) >>= g) ≡ (h (found (v ∷ []) s) >>= k)) → ((m >>= f) >>= g) ≡ ((m >>= h) >>= k)
+first_same _ (refused e) f h g k same = refl
+first_same _ (one v s) f h g k same = same v s
+
+deep_same : (m : Result Read Refusal) → One m → (a b c d f g : Read → Result Read Refusal) → ((v : Value) (s : State) → (((a (found (v ∷ []) s) >>= b) >>= c) >>= d) ≡ (f (found (v ∷ []) s) >>= g))
+    → ((((m >>= a) >>= b) >>= c) >>= d) ≡ ((m >>= f) >>= g)
+deep_same _ (refused e) a b c d f g same = refl
+deep_same _ (one v s) a b c d f g same = same v s
+
+-- ## Arguments behind which a name may end
+
+instance_same : (around : Around) (place : ℕ) (taken : List ℕ) (a : Tree) (byte : ℕ) (c t : Tree) (state : State) →
+    unfold_tree cpp around place (branch (rule_of Production.NestInstance) taken (grown a (grown (fixed byte) (grown (branch (rule_of Production.NestNext) [] (grown c (grown t nothing))) nothing)))) state
+    ≡ unfold_tree cpp around place (branch (rule_of Production.NestArguments) taken (grown a (grown (fixed byte) (grown c (grown t nothing))))) state
+unfolding cpp opening production_at productions rule_of number_of between with_prefix inside named_so_far listed_so_far after close unfolding_.behind meaning part prefix_tree prefix_listed appended byte_of
+instance_same around place taken a byte c t state =
+    let next = branch (rule_of Production.NestNext) [] (grown c (grown t nothing)) in
+    let new = standing (rule_of Production.NestInstance) taken place around state in
+    let old = standing (rule_of Production.NestArguments) taken place around state in
+    let at = place + length taken + length (spell a) in
+    let new_end : Read → Result Read Refusal = λ inner. close Production.NestInstance (byte_of taken) around place state inner.value inner.state >>= alone in
+    let old_end : Read → Result Read Refusal = λ inner. close Production.NestArguments (byte_of taken) around place state inner.value inner.state >>= alone in
+    first_same (unfold_tree cpp (inside around) (place + length taken) a (with_prefix around state)) (tree_one a (inside around) (place + length taken) (with_prefix around state))
+    (λ part. unfold_forest cpp new ([] ++ part.value) at (grown (fixed byte) (grown next nothing)) part.state)
+    (λ part. unfold_forest cpp old ([] ++ part.value) at (grown (fixed byte) (grown c (grown t nothing))) part.state)
+    new_end old_end
+    (λ v s.
+    let name = instance (prefix_tree around.prefix) (no_items v) in
+    let on = at + length (spell (fixed byte)) in
+    let inner = standing (rule_of Production.NestNext) [] on (after name false around) s in
+    let inner_end : Read → Result Read Refusal = λ i. close Production.NestNext (byte_of []) (after name false around) on s i.value i.state >>= alone in
+    let onward : Read → Result Read Refusal = λ part. unfold_forest cpp new ((tree name false ∷ nothing_there ∷ []) ++ part.value) (on + length (spell next)) nothing part.state in
+    let component : ℕ → Result Read Refusal = λ n. unfold_tree cpp (after name true around) n c (appended around name s) in
+    let behind : ℕ → Read → Result Read Refusal = λ n part. unfold_forest cpp inner ([] ++ part.value) (n + length (spell c)) (grown t nothing) part.state in
+    let plain : Read → Result Read Refusal = λ part. unfold_forest cpp old ((tree name true ∷ nothing_there ∷ []) ++ part.value) (on + length (spell c)) (grown t nothing) part.state in
+    subst (λ n. ((((component n >>= behind n) >>= inner_end) >>= onward) >>= new_end) ≡ ((component on >>= plain) >>= old_end)) (sym (add-zero on))
+    (deep_same (component on) (tree_one c (after name true around) on (appended around name s)) (behind on) inner_end onward new_end plain old_end
+    (λ w s_. deep_same (unfold_tree cpp (after (tree_of w) false around) (on + length (spell c)) t s_) (tree_one t (after (tree_of w) false around) (on + length (spell c)) s_)
+    (λ part. unfold_forest cpp inner ((w ∷ []) ++ part.value) (on + length (spell c) + length (spell t)) nothing part.state) inner_end onward new_end
+    (λ part. unfold_forest cpp old ((tree name true ∷ nothing_there ∷ w ∷ []) ++ part.value) (on + length (spell c) + length (spell t)) nothing part.state) old_end
+    (λ x last. refl))))
+
+arguments_same : (parts : Forest) → AreTrees wide (symbols_of (rule_of Production.NestArguments)) parts → (around : Around) (place : ℕ) (taken : List ℕ) (state : State)
+    → unfold_tree cpp around place (rest_or_end (branch (rule_of Production.NestArguments) taken parts)) state ≡ unfold_tree cpp around place (branch (rule_of Production.NestArguments) taken parts) state
+unfolding rule_of parts_of padded number_of_kind rest_or_end
+arguments_same (grown a (grown (fixed byte) (grown c (grown t nothing)))) trees around place taken state = instance_same around place taken a byte c t state
+arguments_same nothing trees around place taken state = absurd trees
+arguments_same (grown a nothing) trees around place taken state = absurd trees.1
+arguments_same (grown a (grown empty f)) trees around place taken state = absurd trees.1.0
+arguments_same (grown a (grown (token t) f)) trees around place taken state = absurd trees.1.0
+arguments_same (grown a (grown (branch r t i) f)) trees around place taken state = absurd trees.1.0
+arguments_same (grown a (grown (fixed byte) nothing)) trees around place taken state = absurd trees.1.1
+arguments_same (grown a (grown (fixed byte) (grown c nothing))) trees around place taken state = absurd trees.1.1.1
+arguments_same (grown a (grown (fixed byte) (grown c (grown t (grown u f))))) trees around place taken state = absurd trees.1.1.1.1
+
+next_same : (parts : Forest) → AreTrees wide (symbols_of (rule_of Production.NestNext)) parts → (taken : List ℕ)
+    → rest_or_end (branch (rule_of Production.NestNext) taken parts) ≡ branch (rule_of Production.NestNext) taken parts
+unfolding rule_of parts_of padded number_of_kind rest_or_end
+next_same (grown c (grown t nothing)) trees taken = refl
+next_same nothing trees taken = absurd trees
+next_same (grown c nothing) trees taken = absurd trees.1
+next_same (grown c (grown t (grown u f))) trees taken = absurd trees.1.1
+
+rest_same : (r : Tree) → IsTree wide (OfKind NEST_REST) r → (around : Around) (place : ℕ) (state : State) → unfold_tree cpp around place (rest_or_end r) state ≡ unfold_tree cpp around place r state
+unfolding rest_or_end
+rest_same (branch rule taken parts) is around place state = elim (rest_rule rule taken is.0) [
+  | arguments_rule same own ↦ subst (λ r. unfold_tree cpp around place (rest_or_end (branch r taken parts)) state ≡ unfold_tree cpp around place (branch r taken parts) state) (sym same)
+      (arguments_same parts (subst (λ r. AreTrees wide (symbols_of r) parts) same is.1) around place taken state)
+  | next_rule same own ↦ subst (λ r. unfold_tree cpp around place (rest_or_end (branch r taken parts)) state ≡ unfold_tree cpp around place (branch r taken parts) state) (sym same)
+      (ap (λ t. unfold_tree cpp around place t state) (next_same parts (subst (λ r. AreTrees wide (symbols_of r) parts) same is.1) taken))
+]
+rest_same empty is around place state = refl
+rest_same (token t) is around place state = refl
+rest_same (fixed byte) is around place state = refl
+
+-- ## A nested name that begins with an abbreviation
+
+abbreviated_same : (a r : Tree) → IsTree wide (OfKind NEST_REST) r → (around : Around) (place : ℕ) (taken : List ℕ) (state : State) →
+    unfold_tree cpp around place (branch (rule_of Production.NestTemplate) taken (grown a (grown (rest_or_end r) nothing))) state
+    ≡ unfold_tree cpp around place (branch (rule_of Production.NestAbbreviated) taken (grown a (grown r nothing))) state
+unfolding cpp opening production_at productions rule_of number_of between listed_so_far after close unfolding_.behind meaning
+abbreviated_same a r is around place taken state =
+    let new = standing (rule_of Production.NestTemplate) taken place around state in
+    let old = standing (rule_of Production.NestAbbreviated) taken place around state in
+    let at = place + length taken + length (spell a) in
+    let new_end : Read → Result Read Refusal = λ inner. close Production.NestTemplate (byte_of taken) around place state inner.value inner.state >>= alone in
+    let old_end : Read → Result Read Refusal = λ inner. close Production.NestAbbreviated (byte_of taken) around place state inner.value inner.state >>= alone in
+    first_same (unfold_tree cpp around (place + length taken) a state) (tree_one a around (place + length taken) state)
+    (λ part. unfold_forest cpp new ([] ++ part.value) at (grown (rest_or_end r) nothing) part.state)
+    (λ part. unfold_forest cpp old ([] ++ part.value) at (grown r nothing) part.state)
+    new_end old_end
+    (λ v s. ap (λ m. (m >>= λ part. Ok (found ((tree (tree_of v) true ∷ []) ++ part.value) part.state)) >>= new_end) (rest_same r is (after (tree_of v) true around) at s))
+
+narrow_same : (parts : Forest) → AreTrees wide (symbols_of (rule_of Production.NestAbbreviated)) parts → (around : Around) (place : ℕ) (taken : List ℕ) (state : State) →
+    unfold_tree cpp around place (widened_branch (rule_of Production.NestAbbreviated) taken parts) state ≡ unfold_tree cpp around place (branch (rule_of Production.NestAbbreviated) taken parts) state
+unfolding widened_branch with_rest_or_end rule_of parts_of padded number_of_kind number_of
+narrow_same (grown a (grown r nothing)) trees around place taken state = abbreviated_same a r trees.1.0 around place taken state
+narrow_same nothing trees around place taken state = absurd trees
+narrow_same (grown a nothing) trees around place taken state = absurd trees.1
+narrow_same (grown a (grown r (grown u f))) trees around place taken state = absurd trees.1.1
+
+branch_same : (k : ℕ) (rule : Rule) (taken : List ℕ) (parts : Forest) → k < either.kinds → TakesRule either k rule taken → AreTrees wide (symbols_of rule) parts → (around : Around) (place : ℕ) (state : State)
+    → unfold_tree cpp around place (widened_branch rule taken parts) state ≡ unfold_tree cpp around place (branch rule taken parts) state
+branch_same k rule taken parts lt takes trees around place state = elim (chosen_rule k takes.byte rule lt takes.is_byte takes.found).here [
+  | inl same ↦ ap (λ t. unfold_tree cpp around place t state) (same_branch rule taken parts same.0)
+  | inr narrow ↦ rw narrow.0 (narrow_same parts (subst (λ r. AreTrees wide (symbols_of r) parts) narrow.0 trees) around place taken state)
+]
+
+-- ## Trees
+
+last_behind : (rule : Rule) (taken : List ℕ) (parts rest : Forest) (digits : List ℕ) → last_token (grown (widened_branch rule taken parts) rest) digits ≡ last_token rest digits
+unfolding widened_branch last_token
+last_behind rule taken parts rest digits = go (nat_eq rule.number (number_of Production.NestAbbreviated))
+  where
+    go : (b : Bool) → last_token (grown (elim b [ true ↦ branch (rule_of Production.NestTemplate) taken (with_rest_or_end parts) | false ↦ branch rule taken parts ]) rest) digits ≡ last_token rest digits
+    go true = refl
+    go false = refl
+
+last_same : (f : Forest) (digits : List ℕ) → last_token (widened_all f) digits ≡ last_token f digits
+unfolding widened widened_all last_token
+last_same nothing digits = refl
+last_same (grown (branch rule taken parts) f) digits = last_behind rule taken (widened_all parts) (widened_all f) digits ∙ last_same f digits
+last_same (grown empty f) digits = last_same f digits
+last_same (grown (token t) f) digits = last_same f t.own
+last_same (grown (fixed byte) f) digits = last_same f digits
+
+opening_same : (p : Production) (f : Forest) (place : ℕ) (state : State) → opening p (widened_all f) place state ≡ opening p f place state
+unfolding opening
+opening_same Production.Lambda f place state = ap (λ digits. number_tested (place - 1) digits state) (last_same f [])
+opening_same Production.Unnamed f place state = ap (λ digits. number_tested (place - 1) digits state) (last_same f [])
+opening_same _ f place state = refl
+
+mutual
+  unfolding cpp widened widened_all
+
+  pub unfold_widened : (x : Sym) (t : Tree) → IsSymbol either x → IsTree either x t → (around : Around) (place : ℕ) (state : State) → unfold_tree cpp around place (widened t) state ≡ unfold_tree cpp around place t state
+  unfold_widened (OfKind k) (branch rule taken parts) known is around place state =
+      let symbols = either_symbols k is.0.byte rule known is.0.is_byte is.0.found in
+      let whole = standing rule taken place around state in
+      let p = production_at rule.number in
+      let end : Read → Result Read Refusal = λ inner. close p (byte_of taken) around place state inner.value inner.state >>= alone in
+      branch_same k rule taken (widened_all parts) known is.0 (widened_trees (symbols_of rule) parts symbols is.1) around place state
+      ∙ ap (λ m. m >>= λ begun. unfold_forest cpp whole [] (place + length taken) (widened_all parts) begun >>= end) (opening_same p parts place state)
+      ∙ bind_same (opening p parts place state) (λ begun. unfold_forest cpp whole [] (place + length taken) (widened_all parts) begun >>= end)
+      (λ begun. unfold_forest cpp whole [] (place + length taken) parts begun >>= end)
+      (λ begun. ap (λ m. m >>= end) (forest_widened (symbols_of rule) parts symbols is.1 whole [] (place + length taken) begun))
+  unfold_widened _ empty known is around place state = refl
+  unfold_widened _ (token t) known is around place state = refl
+  unfold_widened _ (fixed byte) known is around place state = refl
+  unfold_widened _ _ known is around place state = absurd is
+
+  forest_widened : (xs : List Sym) (f : Forest) → AreSymbols either xs → AreTrees either xs f → (rule : Open State Around) (vs : List Value) (place : ℕ) (state : State)
+      → unfold_forest cpp rule vs place (widened_all f) state ≡ unfold_forest cpp rule vs place f state
+  forest_widened [] nothing known is rule vs place state = refl
+  forest_widened (x ∷ xs) (grown t f) known is rule vs place state =
+      bind_same (between (production_at rule.rule.number) rule.context rule.place vs state)
+      (λ next. unfold_tree cpp next.context place (widened t) next.state >>= λ part. unfold_forest cpp rule (next.values ++ part.value) (place + length (spell (widened t))) (widened_all f) part.state)
+      (λ next. unfold_tree cpp next.context place t next.state >>= λ part. unfold_forest cpp rule (next.values ++ part.value) (place + length (spell t)) f part.state)
+      (λ next.
+      ap (λ m. m >>= λ part. unfold_forest cpp rule (next.values ++ part.value) (place + length (spell (widened t))) (widened_all f) part.state) (unfold_widened x t known.0 is.0 next.context place next.state)
+      ∙ bind_same (unfold_tree cpp next.context place t next.state) (λ part. unfold_forest cpp rule (next.values ++ part.value) (place + length (spell (widened t))) (widened_all f) part.state)
+      (λ part. unfold_forest cpp rule (next.values ++ part.value) (place + length (spell t)) f part.state)
+      (λ part. ap (λ w. unfold_forest cpp rule (next.values ++ part.value) (place + length w) (widened_all f) part.state) (spell_widened t)
+      ∙ forest_widened xs f known.1 is.1 rule (next.values ++ part.value) (place + length (spell t)) part.state))
+  forest_widened _ _ known is rule vs place state = absurd is
+
+pub meaning_widened : (shape : Tree) → IsTree either (OfKind SYMBOL) shape → unfold_cpp (widened shape) ≡ unfold_cpp shape
+unfolding unfold_cpp
+meaning_widened shape is = ap (λ m. m >>= λ whole. Ok (first_tree whole.value)) (unfold_widened (OfKind SYMBOL) shape either_start is first_around 0 first_state)

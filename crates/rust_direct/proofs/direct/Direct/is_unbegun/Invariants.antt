@@ -1,0 +1,10 @@
+-- If nothing is written yet by what is left, nothing is by all.
+use Rattle.std.specs.Prelude.{length, reverse}
+use Rattle.rust_direct.specs.Stands.{IsUnbegun}
+use Rattle.rust_direct.proofs.direct.Direct.is_unbegun.Given as goal
+
+abbrev pub invariant-paths : goal.invariant-paths
+invariant-paths l = IsUnbegun (reverse l.waiting) → IsUnbegun (reverse l.self.waiting.list.items)
+
+abbrev pub decreases-paths : goal.decreases-paths
+decreases-paths l = length l.waiting

@@ -1,0 +1,11 @@
+-- A path or a type was read.
+use Rattle.std.specs.Prelude.{length}
+use Rattle.rust_direct.specs.declared.open.Step.TheVariants as steps
+use Rattle.rust_direct.specs.Stands.{IsWriting}
+use Rattle.rust_direct.proofs.direct.Direct.take_waiting.Given as goal
+
+abbrev pub invariant-names : goal.invariant-names
+invariant-names l = IsWriting l.s l.self (steps.Value l.from l.forms)
+
+abbrev pub decreases-names : goal.decreases-names
+decreases-names l = length l.self.waiting.list.items

@@ -1,0 +1,67 @@
+// Impls within what isn't shown: their paths are written in front of it, where nothing of it is written yet.
+
+ghost use Rattle.std.specs.Prelude.{◌≡◌, ◌+◌, ◌∷◌, [], reverse, true};
+ghost use Rattle.std.specs.Option.{IfSome};
+ghost use Rattle.sym_direct.specs.Holes.{StandsAt};
+ghost use Rattle.rust_direct.specs.Holes.{HasDisambiguator};
+ghost use Rattle.rust_direct.specs.Stands.{IsWriting, IsUnbegun};
+ghost use Rattle.rust_direct.specs.Awaits.{AwaitsPath};
+
+use crate::direct::Direct;
+use crate::open::{Open, Step};
+
+impl Direct {
+    /// Whether nothing is written yet of what isn't shown: for what is read only paths wait whose texts begin with its own.
+    fn is_unbegun(&self) -> bool
+        ensures { result ≡ true → IsUnbegun (reverse self.now.waiting.list.items) }
+    {
+        let mut waiting = self.waiting.as_slice();
+        'paths: while let Some((last, outer)) = waiting.split_last() {
+            match last {
+                Open::Nest { .. } => waiting = outer,
+                Open::Generic { .. } => waiting = outer,
+                Open::Other => return true,
+                Open::Impl { .. } => return true,
+                Open::TraitImpl { .. } => return true,
+                Open::InnerImpl { .. } => return true,
+                Open::InnerTraitImpl { .. } => return true,
+                _ => return false,
+            }
+        }
+        false
+    }
+
+    /// The path of an impl follows that isn't shown itself.
+    // <path> = "M" <impl-path> <type>
+    #[inline(never)]
+    pub(crate) fn begin_inner_impl(&mut self, _s: &[u8], behind: usize) -> Option<Step>
+        requires letter { StandsAt _s.now self.old.at (77 ∷ []) }
+        requires behind { HasDisambiguator _s.now (self.old.at + 1) behind }
+        requires awaits { AwaitsPath _s.now self.old }
+        ensures { IfSome result (IsWriting _s.now self.new) }
+    {
+        if !self.is_unbegun() {
+            return None;
+        }
+        let place = self.at;
+        self.push_open(b"", Open::InnerImpl { place }, behind)?;
+        Some(Step::Path { is_value: false })
+    }
+
+    /// The path of an impl of a trait follows that isn't shown itself.
+    // <path> = "X" <impl-path> <type> <path>
+    #[inline(never)]
+    pub(crate) fn begin_inner_trait_impl(&mut self, _s: &[u8], behind: usize) -> Option<Step>
+        requires letter { StandsAt _s.now self.old.at (88 ∷ []) }
+        requires behind { HasDisambiguator _s.now (self.old.at + 1) behind }
+        requires awaits { AwaitsPath _s.now self.old }
+        ensures { IfSome result (IsWriting _s.now self.new) }
+    {
+        if !self.is_unbegun() {
+            return None;
+        }
+        let place = self.at;
+        self.push_open(b"", Open::InnerTraitImpl { place }, behind)?;
+        Some(Step::Path { is_value: false })
+    }
+}
