@@ -11,8 +11,7 @@
      `answer` or `counts` that is null.
    - What is lent to one call doesn't overlap, and no other thread touches it during the call.
    - Calls may run in several threads at once: they share nothing, and none keeps memory behind its end.
-   - None calls itself over what it is given: whatever was tried, symdemangle_filter used less than 16 KiB of the stack and each
-     other call less than 8 KiB, malloc's part in it.
+   - None calls itself over what it is given: each used less than 16 KiB of the stack, malloc's part in it, whatever was tried.
    - They call malloc, realloc and free, so they must not run in a signal handler, nor in the forked child of a process that
      has threads. symdemangle_arena.h has the library that calls none of these.
 

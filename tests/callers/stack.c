@@ -8,13 +8,14 @@
 #include <stdlib.h>
 #include <string.h>
 
-enum { STACK = 256 << 10, ROOM = 1 << 20, FILL = 0xA5, FILTER = 4 };
+enum { STACK = 256 << 10, ROOM = 1 << 20, FILL = 0xA5, SAID = 16 << 10 };
 
 static unsigned char stack[STACK] __attribute__((aligned(4096)));
 static uint8_t room[ROOM];
 static struct {
     const uint8_t *symbol;
     size_t length;
+    uint32_t detail;
     int call;
 } job;
 
@@ -24,10 +25,10 @@ static void *run(void *unused)
     symdemangle_counts counts;
     symdemangle_told told;
     switch (job.call) {
-    case 1: symdemangle_text(job.symbol, job.length, 1000000, SYMDEMANGLE_FULL, room, ROOM, &answer); break;
-    case 2: symdemangle_word(job.symbol, job.length, 1000000, SYMDEMANGLE_BRIEF, room, ROOM, &answer); break;
-    case 3: symdemangle_texts(job.symbol, job.length, &job.length, 1, 1000000, SYMDEMANGLE_FULL, room, ROOM, &told, 1); break;
-    case FILTER: symdemangle_filter(job.symbol, job.length, 1000000, SYMDEMANGLE_FULL, room, ROOM, &answer); break;
+    case 1: symdemangle_text(job.symbol, job.length, 1000000, job.detail, room, ROOM, &answer); break;
+    case 2: symdemangle_word(job.symbol, job.length, 1000000, job.detail | SYMDEMANGLE_BRIEF, room, ROOM, &answer); break;
+    case 3: symdemangle_texts(job.symbol, job.length, &job.length, 1, 1000000, job.detail, room, ROOM, &told, 1); break;
+    case 4: symdemangle_filter(job.symbol, job.length, 1000000, job.detail, room, ROOM, &answer); break;
     case 5: symdemangle_count(job.symbol, job.length, &counts, &answer); break;
     case 6: symdemangle_press(job.symbol, job.length, room, ROOM, &answer); break;
     }
@@ -56,11 +57,12 @@ static void measure(const char *symbol, size_t length)
     int call;
     job.symbol = (const uint8_t *)symbol;
     job.length = length;
-    for (call = 1; call < 7; call++) {
-        size_t bytes = used(call);
-        if (bytes > most[call])
-            most[call] = bytes;
-    }
+    for (job.detail = SYMDEMANGLE_FULL; job.detail <= SYMDEMANGLE_WIDE; job.detail += SYMDEMANGLE_WIDE)
+        for (call = 1; call < 7; call++) {
+            size_t bytes = used(call);
+            if (bytes > most[call])
+                most[call] = bytes;
+        }
 }
 
 /* A front, a part so many times, and an end. */
@@ -101,7 +103,7 @@ int main(int words, char **files)
     measure_repeated("_RINvC1a1b", "T", 30000, "u");
     for (call = 1; call < 7; call++) {
         printf("%s %zu%s", names[call], most[call] - none, call < 6 ? ", " : " bytes of stack at most\n");
-        failed |= most[call] - none > (call == FILTER ? 16 << 10 : 8 << 10);
+        failed |= most[call] - none > SAID;
     }
     return failed;
 }
