@@ -28,8 +28,13 @@ def compare_words(symfilt, reference, options, words):
     other = run(reference + options + words)
     if own == other:
         return 0
+    alone = len(words) > 1 and sum(compare_words(symfilt, reference, options, [word]) for word in words)
+    if alone:
+        return alone
     if len(words) > 1:
-        return sum(compare_words(symfilt, reference, options, [word]) for word in words)
+        print(f"{options}: {len(words)} words together, of which each is answered alike by itself, from {words[0]} on")
+        own, other = (own[0], own[2][:200]), (other[0], other[2][:200])
+        words = words[:1]
     print(f"{options} {words[0]}\n  symfilt:   {own}\n  reference: {other}")
     return 1
 
@@ -48,8 +53,8 @@ def main():
     symfilt = [programs[0]]
     reference = command_of(programs[1])
     for command in (symfilt, reference):
-        if run(command + ways[0] + ["_Z1fv"]) != (0, b"f()\n", b""):
-            sys.exit(f"{command[-1]} doesn't print symbols as symfilt's command line does: {' '.join(ways[0])} _Z1fv isn't f()")
+        if run(command + ways[0] + ["_Z1fv", "_Z1fQ"]) != (1, b"f()\n_Z1fQ\n", b"symfilt: _Z1fQ: malformed at 4\n"):
+            sys.exit(f"{command[-1]} doesn't answer as symfilt's command line does: {' '.join([*ways[0], '_Z1fv', '_Z1fQ'])}")
     text = sys.stdin.buffer.read()
     lines = [line for line in text.split(b"\n") if line]
     # a command line is text, and an option begins with a dash
