@@ -1,4 +1,6 @@
+pub mod Arguments
 pub mod Begins
+pub mod DependentsRead
 pub mod Elements
 pub mod Ending
 pub mod Entities
@@ -17,6 +19,7 @@ pub mod MovesOfFunctions
 pub mod MovesOfLists
 pub mod MovesOfLocals
 pub mod MovesOfNests
+pub mod MovesOfParameters
 pub mod MovesOfTypes
 pub mod NamePlaces
 pub mod NestComponents
@@ -28,9 +31,11 @@ pub mod PrintedLists
 pub mod PrintedLocals
 pub mod PrintedNames
 pub mod PrintedNests
+pub mod PrintedParameters
 pub mod PrintedParts
 pub mod PrintedSymbols
 pub mod PrintedTypes
 pub mod PrintedValues
+pub mod Scopes
 pub mod Signatures
 pub mod TypesRead

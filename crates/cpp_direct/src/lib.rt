@@ -15,6 +15,7 @@ mod locals;
 mod names;
 mod nested;
 mod open;
+mod parameters;
 mod symbols;
 mod thunks;
 mod tokens;
