@@ -1,10 +1,10 @@
 -- A type that names the argument of a function's template is read, and handed on.
-use Rattle.std.proofs.Common.{◌≡◌, ◌≢◌, ℕ, ◌+◌, ◌-◌, ◌≤◌, length, List, [], ◌∷◌, ◌++◌, take, drop, reverse, slice_get, Bool, true, false, Option, Some, None, refl, ap, sym, ◌∙◌, subst, arith, append_assoc, append-nil}
+use Rattle.std.proofs.Common.{◌≡◌, ℕ, ◌+◌, ◌-◌, ◌≤◌, length, List, [], ◌∷◌, ◌++◌, take, drop, reverse, slice_get, Bool, true, false, Option, Some, refl, ap, sym, ◌∙◌, subst, arith, append_assoc, append-nil}
 use Rattle.cpp_grammar.specs.Term.{Term, parameter, nil, list}
 use Rattle.cpp_grammar.specs.Parts.{types_of}
 use Rattle.cpp_grammar.specs.Scope.{arguments_of, element}
 use Rattle.cpp_grammar.specs.Items.{argument, indexed}
-use Rattle.cpp_grammar.specs.Values.{State, tree}
+use Rattle.cpp_grammar.specs.Values.{tree}
 use Rattle.cpp_direct.specs.declared.open.Open.{Open}
 use Rattle.cpp_direct.specs.declared.open.Open.TheVariants as opens
 use Rattle.cpp_direct.specs.declared.open.Place.{Place}
@@ -14,7 +14,7 @@ use Rattle.cpp_direct.specs.Holes.{Opened, StandsAt, Comes, with_candidate}
 use Rattle.cpp_direct.specs.Prints.{Prints, PrintsIn, PrintsBehind}
 use Rattle.cpp_direct.specs.Stands.{AreCandidates, IsArgument, IsPlaced, IsWriting, Marks, Stands, argument_of}
 use Rattle.cpp_direct.specs.Ways.{AwaitsType, AwaitsDependentMark, IsFrontRead, IsParameterEnded}
-use Rattle.cpp_direct.specs.Written.{Writes, with_hidden}
+use Rattle.cpp_direct.specs.Written.{with_hidden}
 use Rattle.cpp_direct.proofs.Handed.{front-got, parameter-got}
 use Rattle.cpp_direct.proofs.Kept.{candidates-stay, piece-found}
 use Rattle.cpp_direct.proofs.Listed.{last-found}

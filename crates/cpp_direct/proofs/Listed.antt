@@ -19,7 +19,7 @@ use Rattle.cpp_direct.specs.declared.direct.Direct.{Direct}
 use Rattle.cpp_direct.specs.Holes.{Opened, Comes, Expects, IsListKind, ListGoesOn, StandsAt, AwaitsComponent, with_candidate}
 use Rattle.cpp_direct.specs.HolesOfLists.{IsArgumentKind}
 use Rattle.cpp_direct.specs.Prints.{Prints, PrintAll, list_of}
-use Rattle.cpp_direct.specs.Stands.{IsArgument, IsScoped, argument_of, AreCandidates, IsListing, IsNest, IsTail, IsTemplate, IsWriting, Owns, Serves, ArgumentsGoOn, AwaitsElementOf, AwaitsEnumerator, Belongs, Closes, ElementsGoOn, EnumeratorGoesOn, GoesOn, Listing, of_template, of_pack, Stands, element_kind, extra_of, led_by, list_with, in_front_of_next}
+use Rattle.cpp_direct.specs.Stands.{IsArgument, argument_of, AreCandidates, IsListing, IsNest, IsTail, IsTemplate, IsWriting, Owns, Serves, ArgumentsGoOn, AwaitsElementOf, AwaitsEnumerator, Belongs, Closes, ElementsGoOn, EnumeratorGoesOn, GoesOn, Listing, of_template, of_pack, Stands, element_kind, extra_of, led_by, list_with, in_front_of_next}
 use Rattle.cpp_direct.specs.Ways.{IsListEnded, AwaitsNextArgument, IsNameEnded}
 use Rattle.cpp_direct.specs.Written.{Writes, added}
 use Rattle.cpp_direct.proofs.Moves.{expects-empty, stands-split}

@@ -1,20 +1,17 @@
 -- A parameter of a template is read as a type.
-use Rattle.std.proofs.Common.{◌≡◌, ℕ, ◌+◌, List, [], ◌∷◌, Bool, true, false, Option, Some, None, Result, Ok, refl, ap, subst, ◌∙◌, arith}
+use Rattle.std.proofs.Common.{◌≡◌, ℕ, ◌+◌, List, [], ◌∷◌, true, Ok, refl, subst, arith}
 use Rattle.sym_core.specs.declared.NumberKind.TheVariants.{Decimal}
-use Rattle.sym_core.specs.Number.{AreDigitsOf}
 use Rattle.sym_core.specs.Token.{Token, IsNumberToken}
-use Rattle.sym_core.specs.Value.{counted_value}
 use Rattle.sym_shape.specs.declared.rule.Sym.TheVariants.{Kind as OfKind, Number}
-use Rattle.sym_link.specs.Reading.{Next, ◌>>=◌}
-use Rattle.sym_link.specs.Unfold.{found, standing}
+use Rattle.sym_link.specs.Unfold.{standing}
 use Rattle.cpp_grammar.specs.declared.kind.Kind.{Kind}
 use Rattle.cpp_grammar.specs.declared.production.Production.{Production}
 use Rattle.cpp_grammar.specs.KindNumbers.{MAYBE_ARGUMENTS}
 use Rattle.cpp_grammar.specs.Grammar.{in_ranges, among, is_in, pick, number_of_kind, alternatives, choose, parts_of, is_chain, may_be_empty}
 use Rattle.cpp_grammar.specs.Table.{rule_of}
-use Rattle.cpp_grammar.specs.Term.{Term, parameter}
-use Rattle.cpp_grammar.specs.Scope.{count, element, length_if_pack}
-use Rattle.cpp_grammar.specs.Values.{State, Around, Value, nothing_there, text, tree, tree_of, is_there, text_of, part}
+use Rattle.cpp_grammar.specs.Term.{parameter}
+use Rattle.cpp_grammar.specs.Scope.{count, element}
+use Rattle.cpp_grammar.specs.Values.{State, Around, nothing_there, text, tree, tree_of, is_there, text_of, part}
 use Rattle.cpp_grammar.specs.References.{appended, is_function_type, with_packs, parameter_named}
 use Rattle.cpp_grammar.specs.Between.{Going, between, after, applied, listed_so_far, parameter_so_far, index_of}
 use Rattle.cpp_grammar.specs.Meaning.{meaning}

@@ -1,5 +1,5 @@
 -- Types that name the argument of a function's template.
-use Rattle.std.proofs.Common.{◌≡◌, refl, ap, sym, ◌∙◌, subst, ℕ, List, [], ◌∷◌, ◌++◌, Bool, true, false, arith, codes, length-append, append-nil, append_assoc}
+use Rattle.std.proofs.Common.{refl, ap, sym, ◌∙◌, subst, ℕ, List, [], ◌∷◌, ◌++◌, Bool, true, false, arith, codes, length-append, append-nil, append_assoc}
 use Rattle.cpp_grammar.specs.Term.{Term, parameter, pointer, lvalue, rvalue, qualified}
 use Rattle.cpp_grammar.specs.References.{is_function_type}
 use Rattle.cpp_grammar.specs.Items.{left, right, low, closed, Context, argument, head_closed, head_with, head, is_reference, is_funarr, is_empty}

@@ -32,7 +32,7 @@ use Rattle.cpp_direct.specs.HolesOfTypes.{NoReference}
 use Rattle.cpp_direct.specs.HolesOfLists.{IsSuffix, IsDigitsAt, minus_sign}
 use Rattle.cpp_direct.specs.HolesOfLocals.{IsEntityAt}
 use Rattle.cpp_grammar.specs.Parts.{types_of}
-use Rattle.cpp_direct.specs.Prints.{Prints, PrintsIn, PrintsBehind, PrintAllIn, Shows, Encloses, NamesClass, PrintAll}
+use Rattle.cpp_direct.specs.Prints.{Prints, PrintsBehind, PrintAllIn, Shows, Encloses, NamesClass, PrintAll}
 
 -- ## Candidates
 

@@ -12,6 +12,17 @@ use crate::direct::Direct;
 use crate::open::{Open, Place, Step};
 use crate::tokens::byte_at;
 
+/// The place, unless it is nowhere.
+fn known(place: Place) -> Option<Place>
+    ensures is { IfSome result (λ p. p ≡ place) }
+    ensures ordered { IfSome result (λ p. p.from ≤ p.to) }
+{
+    if place.to < place.from {
+        return None;
+    }
+    Some(place)
+}
+
 impl Direct {
     /// The first element of a list, which is a type. Where it is an argument of a name, and may be the only one, it is what T_ stands for.
     // <template-args> ::= I <template-arg>* E
@@ -46,7 +57,12 @@ impl Direct {
 
     /// The first argument of a name is read: others follow, or the end.
     // <template-args> ::= I <template-arg>* E
-    pub(crate) fn argument_ended(&mut self, s: &[u8], from: usize, is_reference: bool) -> Option<Step>
+    pub(crate) fn argument_ended(
+        &mut self,
+        s: &[u8],
+        from: usize,
+        is_reference: bool,
+    ) -> Option<Step>
         requires fits { FitsSymbol s.now }
         requires read { IsArgumentRead s.now self.old from is_reference }
         ensures { IfSome result (IsWriting s.now self.new) }
@@ -71,12 +87,12 @@ impl Direct {
         let mut open = self.waiting.as_slice();
         'marks: while let Some((last, rest)) = open.split_last() {
             match *last {
-                Open::Pointer { .. } | Open::Lvalue { .. } | Open::Rvalue { .. } | Open::Const { .. } => {
-                    open = rest;
-                }
-                Open::Front { argument, .. } | Open::Parameters { argument, .. } => {
-                    return if argument.from <= argument.to { Some(argument) } else { None };
-                }
+                Open::Pointer { .. } => open = rest,
+                Open::Lvalue { .. } => open = rest,
+                Open::Rvalue { .. } => open = rest,
+                Open::Const { .. } => open = rest,
+                Open::Front { argument, .. } => return known(argument),
+                Open::Parameters { argument, .. } => return known(argument),
                 _ => return None,
             }
         }

@@ -1,4 +1,4 @@
-use Rattle.std.proofs.Common.{refl, subst, sym, ◌∙◌, arith, [], ◌∷◌}
+use Rattle.std.proofs.Common.{refl, subst, arith, [], ◌∷◌}
 use Rattle.cpp_direct.specs.Holes.{StandsAt}
 use Rattle.cpp_direct.proofs.Arguments.{argument-passes, argument-alone}
 use Rattle.cpp_direct.proofs.TypesRead.{popped}

@@ -1,4 +1,4 @@
-use Rattle.std.proofs.Common.{refl, codes, true, false, subst}
+use Rattle.std.proofs.Common.{refl, codes, false, subst}
 use Rattle.cpp_grammar.specs.Term.{pointer}
 use Rattle.cpp_direct.specs.declared.open.Open.TheVariants as opens
 use Rattle.cpp_direct.specs.declared.open.Step.TheVariants as steps
