@@ -37,7 +37,7 @@ argument-is name own e = rw e refl
 
 -- what prints behind the argument prints so in the types of the name that has it
 behind-argument : (text : List ℕ) (p : Place) (name t : Term) (bytes marks : List ℕ) (r : Bool) → IsArgument text p name → IsPlaced text p bytes
-    → PrintsBehind t marks r → PrintsIn (types_of name) t (bytes ++ marks) r
+    → PrintsBehind t marks r → PrintsIn (types_of name) 2 t (bytes ++ marks) r
 behind-argument text p name t bytes marks r a placed behind =
     behind (types_of name) bytes
     (subst (λ own. Prints own bytes false) (sym (argument-is name a.own a.alone))

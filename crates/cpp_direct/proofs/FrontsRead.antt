@@ -80,7 +80,7 @@ front-begins s w new is_const from start p none apart start_is text candidates a
 
 -- a function's return type stands in front of what it shows without one
 turned : (s : List ℕ) (argument : Place) (is_const : Bool) (v : Value) (name : List ℕ) (is : IsInstance argument is_const v name) (r : Term) (b : List ℕ)
-    (is_reference : Bool) → PrintsIn (types_of is.own) r b is_reference → (items : Term) (at : ℕ) → is_local s ≡ false → EncodedBehind s [] (encoding_of v (list r items)) at
+    (is_reference : Bool) → PrintsIn (types_of is.own) 2 r b is_reference → (items : Term) (at : ℕ) → is_local s ≡ false → EncodedBehind s [] (encoding_of v (list r items)) at
     → EncodedBehind s (b ++ codes " ") (plain_encoding is_const is.own items) at
 turned s argument is_const v name is r b is_reference prints items at apart p = record {
   whole = λ e. let w = p.whole e in record {

@@ -15,7 +15,7 @@ use Rattle.cpp_direct.specs.Stands.{AreCandidates, IsArgument, IsTemplate, IsWri
 use Rattle.cpp_direct.specs.Ways.{AwaitsMark, AwaitsNumber, AwaitsSignature, IsElementRead, IsFrontRead, IsParameterEnded, IsReturned, IsSymbolEnded}
 use Rattle.cpp_direct.proofs.Listed.{TakesElements, last-found, list-waits, listing-at, some-elements}
 use Rattle.cpp_direct.proofs.PrintedLists.{element-in, next-prints, next-prints-in, type-element}
-use Rattle.cpp_direct.proofs.PrintedParameters.{prints-in}
+use Rattle.cpp_direct.proofs.PrintedTypes.{prints-in}
 use Rattle.cpp_direct.proofs.PrintedSymbols.{special-shows}
 use Rattle.cpp_direct.proofs.Kept.{template-stays}
 use Rattle.cpp_direct.proofs.Scopes.{argument-stays}
@@ -247,7 +247,7 @@ argument-read s w o p takes =
 pub front-got : (s : List ℕ) (w : Direct) (is_reference is_const : Bool) (start : ℕ) (argument : Place) (st : State) (rest : List Open) (os : List Opened)
     (t : Term) (front bytes : List ℕ) (waits : Stands s (opens.Front is_const start argument ∷ rest) os front)
     → AreCandidates w.text.list.items w.candidates.list.items st.candidates → w.text.list.items ≡ front ++ bytes → Comes s os (tree t true) w.at st
-    → PrintsIn (types_of waits.1.own) t bytes is_reference → IsFrontRead s w is_const start argument
+    → PrintsIn (types_of waits.1.own) 2 t bytes is_reference → IsFrontRead s w is_const start argument
 front-got s w is_reference is_const start argument st rest os t front bytes waits candidates written comes prints = record {
   state = st;
   candidates = candidates;
@@ -272,7 +272,7 @@ value-front s w is_reference is_const start argument p found =
     let last = last-found w.waiting.list.items (opens.Front is_const start argument) found in
     let waits : Stands s (opens.Front is_const start argument ∷ last.0) os front = subst (λ ws. Stands s ws os front) last.1 p.is_before.7 in
     front-got s w is_reference is_const start argument p.state last.0 os p.is_before.1 front p.is_before.3 waits p.candidates p.is_before.4 p.is_before.6
-    (prints-in (types_of waits.1.own) p.is_before.1 p.is_before.3 is_reference p.is_before.5)
+    (prints-in (types_of waits.1.own) 2 p.is_before.1 p.is_before.3 is_reference p.is_before.5)
 
 -- ## Function types
 

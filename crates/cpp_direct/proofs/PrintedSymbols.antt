@@ -52,7 +52,7 @@ function-shows name b p ts l all q ref =
     }
 
 -- what prints something is there
-not-absent : (c : Context) (t : Term) (b : List ℕ) (r : Bool) → PrintsIn c t b r → t ≡ absent → ⊥
+not-absent : (c : Context) (t : Term) (b : List ℕ) (r : Bool) → PrintsIn c 2 t b r → t ≡ absent → ⊥
 unfolding parts_in left_parts not_empty
 not-absent c t b r p e =
     let none : b ≡ [] = sym p.left_text ∙ ap (λ u. text_of (in_form left c u)) e ∙ text_by left c absent [] refl in
@@ -70,7 +70,7 @@ fronted_text x y z b l e f g = rw (e, f, g) (append-nil (b ++ codes " " ++ l))
 
 -- A function that has a return type prints it in front of what it prints without.
 pub front-shows : (name : Term) (q : Qualifiers) (ref : RefQualifier) (items : Term) (l : List ℕ) → Shows (function name q ref absent items) l
-    → (r : Term) (b : List ℕ) (is_reference : Bool) → PrintsIn (types_of name) r b is_reference → Shows (function name q ref r items) (b ++ codes " " ++ l)
+    → (r : Term) (b : List ℕ) (is_reference : Bool) → PrintsIn (types_of name) 2 r b is_reference → Shows (function name q ref r items) (b ++ codes " " ++ l)
 unfolding parts_in full_parts function_full not_empty
 front-shows name q ref items l shows r b is_reference p =
     let c = types_of name in

@@ -35,11 +35,11 @@ pub record Prints (t : Term) (bytes : List ℕ) (reference : Bool) : Type 0 wher
   pub void : is_void t ≡ true → bytes ≡ codes "void"
   pub integer : is_plain_integer t ≡ true → EndsAsInteger bytes
 
--- A tree with this text in a context. It may cost 2 more than one that has this text wherever it stands.
-pub record PrintsIn (context : Context) (t : Term) (bytes : List ℕ) (reference : Bool) : Type 0 where
+-- A tree with this text in a context. It may cost so much more than one that has this text wherever it stands.
+pub record PrintsIn (context : Context) (extra : ℕ) (t : Term) (bytes : List ℕ) (reference : Bool) : Type 0 where
   pub left_text : text_of (in_form left context t) ≡ bytes
   pub right_text : text_of (in_form right context t) ≡ []
-  pub cost : 1 + cost_of (in_form left context t) + cost_of (in_form right context t) ≤ 2 + 4 * length bytes
+  pub cost : 1 + cost_of (in_form left context t) + cost_of (in_form right context t) ≤ extra + 4 * length bytes
   pub is_reference_head : is_reference (head context t) ≡ reference
   pub is_funarr_head : is_funarr (head context t) ≡ false
   pub filled : is_empty context t ≡ false
@@ -49,7 +49,7 @@ pub record PrintsIn (context : Context) (t : Term) (bytes : List ℕ) (reference
 -- A tree that names the first argument of its scope: wherever that is a type with a text, and no reference, it prints this behind it.
 abbrev pub PrintsBehind : Term → (marks : List ℕ) → (reference : Bool) → Type 0
 PrintsBehind t marks reference =
-    (context : Context) (bytes : List ℕ) → Prints (argument context 0) bytes false → PrintsIn context t (bytes ++ marks) reference
+    (context : Context) (bytes : List ℕ) → Prints (argument context 0) bytes false → PrintsIn context 2 t (bytes ++ marks) reference
 
 -- A tree whose class is named so where it stands in front of a constructor or a destructor.
 pub record NamesClass (t : Term) (class : List ℕ) : Type 0 where

@@ -280,7 +280,7 @@ pub record IsFrontRead (s : List ℕ) (w : Direct) (is_const : Bool) (start : �
   pub returned : Term
   pub bytes : List ℕ
   pub is_reference : Bool
-  pub prints : PrintsIn (types_of is_instance.own) returned bytes is_reference
+  pub prints : PrintsIn (types_of is_instance.own) 2 returned bytes is_reference
   pub written : w.text.list.items ≡ name ++ bytes
   pub goes : ParametersGoOn s argument [] (encoding_of v) (returned ∷ []) w.at state
 

@@ -121,6 +121,7 @@ impl Direct {
     }
 
     /// Hands a type that names the argument on to what waits for it.
+    // <type> ::= P <type>
     #[inline(never)]
     pub(crate) fn pass_dependent(&mut self, s: &[u8], is_reference: bool) -> Option<Step>
         requires fits { FitsSymbol s.now }
@@ -150,6 +151,7 @@ impl Direct {
     }
 
     /// Ends a type that names the argument, and is no reference, with a mark.
+    // <type> ::= R <type> | O <type> | <CV-qualifiers> <type>
     fn mark_plain(&mut self, s: &[u8]) -> Option<Step>
         requires { IsWriting s.now self.old (steps.Dependent false) }
         ensures { IfSome result (IsWriting s.now self.new) }
