@@ -26,16 +26,20 @@ fn known(place: Place) -> Option<Place>
 impl Direct {
     /// The first element of a list, which is a type. Where it is an argument of a name, and may be the only one, it is what T_ stands for.
     // <template-args> ::= I <template-arg>* E
+    #[inline(always)]
     pub(crate) fn first_type(&mut self, s: &[u8]) -> Option<Step>
         requires fits { FitsSymbol s.now }
         requires writing { IsWriting s.now self.old (steps.List true) }
         ensures { IfSome result (IsWriting s.now self.new) }
     {
+        if self.waiting.len() != 1 {
+            return Some(Step::Type);
+        }
         match *self.waiting.as_slice().last()? {
             Open::NestArguments { .. } | Open::NameArguments { .. } => {}
             _ => return Some(Step::Type),
         }
-        if self.waiting.len() != 1 || self.is_function_at(s) {
+        if self.is_function_at(s) {
             return Some(Step::Type);
         }
         let from = self.text.len();

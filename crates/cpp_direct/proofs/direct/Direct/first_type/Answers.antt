@@ -13,3 +13,6 @@ pub returns : goal.returns
 returns c =
     argument-begins c.args.s.now c.args.self.now _ c.len-from.result c.requires.writing (omega (arith, c.len.ensures, c.if-len-ne1.false))
     c.len-from.ensures c.in_ok-push.ensures.items refl refl refl
+
+pub returns-then-is_function_at : goal.returns-then-is_function_at
+returns-then-is_function_at c = type-expected c.args.s.now _ (first-expected c.args.s.now c.args.self.now _ true c.requires.writing refl refl)
