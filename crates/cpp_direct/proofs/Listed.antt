@@ -179,9 +179,6 @@ closed-by s old mid new x owner p writes text candidates at items is =
     (subst (λ v. v.list.items ≡ old.candidates.list.items) (sym (candidates ∙ writes.candidates)) refl) (at ∙ writes.at)
     (subst (λ v. v.list.items ≡ new.waiting.list.items ++ owner ∷ []) writes.waiting (items ∙ ap (λ o. new.waiting.list.items ++ o ∷ []) is))
 
-arguments-placed : (a b d : List ℕ) → a ++ (b ++ codes "<" ++ d ++ codes ">") ≡ (a ++ b ++ codes "<") ++ d ++ codes ">"
-arguments-placed a b d = sym (closing a b d)
-
 -- where they are one alone, it is the argument of what they make
 closed-argument : (s : List ℕ) (w : Direct) (owner : Open) (p : IsClosed s w owner) → w.argument.from ≤ w.argument.to
     → IsArgument w.text.list.items w.argument (instance p.template (list_with p.ts p.tail))
@@ -193,7 +190,7 @@ closed-argument s w owner p ordered =
       placed = record {
         front = p.front ++ p.name ++ codes "<";
         back = codes ">";
-        written = p.written ∙ arguments-placed p.front p.name p.arguments;
+        written = p.written ∙ sym (closing p.front p.name p.arguments);
         from_is = alone.3;
         to_is = alone.4;
       };
@@ -340,7 +337,6 @@ name-closed s w from p =
 
 -- ## Between elements
 
--- no place
 abbrev pub nowhere : Place
 nowhere = record { from = 1; to = 0 }
 

@@ -3,8 +3,9 @@
 //! Functions, variables, their local entities, thunks and special objects are read so, with names, nested names, operators of
 //! classes, constructors, template arguments, packs, literals, pointers, references and const; function types where they are
 //! arguments or parameters, by themselves or behind one pointer; instances of function templates whose types name no parameter
-//! of the template, or its one argument, by itself or behind pointers, references and const. A symbol with anything else in it is given up, and is to be read by its grammar: no answer depends on this
-//! crate, which one call in `sym_filter` (`languages`) makes and may leave out.
+//! of the template, or its one argument, by itself or behind pointers, references and const. A symbol with anything else in it
+//! is given up, and is to be read by its grammar: no answer depends on this crate, which one call in `sym_filter`
+//! (`languages`) makes and may leave out.
 #![tactic(auto)]
 
 mod direct;

@@ -24,7 +24,8 @@ fn known(place: Place) -> Option<Place>
 }
 
 impl Direct {
-    /// The first element of a list, which is a type. Where it is an argument of a name, and may be the only one, it is what T_ stands for.
+    /// The first element of a list, which is a type. Where it is an argument of a name, and may be the only one, it is what T_
+    /// stands for.
     // <template-args> ::= I <template-arg>* E
     #[inline(always)]
     pub(crate) fn first_type(&mut self, s: &[u8]) -> Option<Step>
