@@ -19,7 +19,6 @@ pub mod MovesOfFunctions
 pub mod MovesOfLists
 pub mod MovesOfLocals
 pub mod MovesOfNests
-pub mod MovesOfParameters
 pub mod MovesOfTypes
 pub mod NamePlaces
 pub mod NestComponents
@@ -31,7 +30,6 @@ pub mod PrintedLists
 pub mod PrintedLocals
 pub mod PrintedNames
 pub mod PrintedNests
-pub mod PrintedParameters
 pub mod PrintedParts
 pub mod PrintedSymbols
 pub mod PrintedTypes

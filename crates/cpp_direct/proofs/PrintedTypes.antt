@@ -1,14 +1,15 @@
 -- Types that are made of another type: pointers, references and constant types.
-use Rattle.std.proofs.Common.{◌≡◌, refl, ap, ◌∙◌, ℕ, List, [], ◌∷◌, ◌++◌, Bool, true, false, None, arith, codes, length-append}
 use Prim.Native.String.{String}
-use Rattle.cpp_grammar.specs.Term.{Qualifiers, Term, function_type, pointer, lvalue, rvalue, qualified}
-use Rattle.cpp_grammar.specs.Scope.{is_open, pack_length, length_if_pack}
-use Rattle.cpp_grammar.specs.References.{is_function_type}
-use Rattle.cpp_grammar.specs.Items.{closed, Form, left, right, low, Context, Head, lref, collapsed, head_with, head, is_reference, is_funarr, is_empty}
+use Rattle.cpp_direct.proofs.PrintedParts.{text_by, cost_by}
+use Rattle.cpp_direct.specs.Prints.{Prints, PrintsIn, EndsAsInteger, in_form, PrintsBehind, IsElementIn}
+use Rattle.cpp_grammar.specs.Items.{closed, Form, left, right, low, Context, Head, lref, collapsed, head_with, head, is_reference, is_funarr, is_empty, argument, head_closed}
 use Rattle.cpp_grammar.specs.Meaning.{is_void}
 use Rattle.cpp_grammar.specs.Parts.{as_item, says, text_part, qualifier_text, prefix_item, last_piece, opening_text, marked_parts, reference_parts, qualified_left, qualified_right, closing_right, left_parts, right_parts, parts_in, not_empty, is_plain_integer}
-use Rattle.cpp_direct.specs.Prints.{Prints, PrintsIn, EndsAsInteger}
-use Rattle.cpp_direct.proofs.PrintedParts.{text_by, cost_by}
+use Rattle.cpp_grammar.specs.References.{is_function_type}
+use Rattle.cpp_grammar.specs.Scope.{is_open, pack_length, length_if_pack}
+use Rattle.cpp_grammar.specs.Term.{Qualifiers, Term, function_type, pointer, lvalue, rvalue, qualified, parameter}
+use Rattle.std.proofs.Common.{◌≡◌, refl, ap, ◌∙◌, ℕ, List, [], ◌∷◌, ◌++◌, Bool, true, false, None, arith, codes, length-append, sym, subst, append-nil, append_assoc}
+use Rattle.sym_print.specs.Unshared.{text_of}
 
 marked : (c : Context) (t : Term) (mark : String) → is_funarr (head c t) ≡ false → marked_parts c t mark ≡ as_item left c t ∷ says mark ∷ []
 unfolding marked_parts
@@ -194,3 +195,51 @@ pub const-prints : (t : Term) (b : List ℕ) → Prints t b false → Prints (qu
 unfolding is_open pack_length length_if_pack prefix_item last_piece opening_text is_plain_integer
 const-prints t b p =
     made-prints (qualified constant t) (b ++ codes " const") false (λ c. const-in c 0 t b (prints-in c 0 t b false p)) p.is_closed p.packless refl (λ c. refl) refl (λ e. cc e)
+
+-- ## Types that name the argument of a function's template
+
+-- What prints in a context prints so as an element.
+pub type-element-in : (c : Context) (t : Term) (b : List ℕ) (r : Bool) → PrintsIn c 2 t b r → IsElementIn c 3 t b
+type-element-in c t b r p = record {
+  both_texts = rw (p.left_text, p.right_text) (append-nil b);
+  cost = omega (arith, p.cost);
+  filled = p.filled;
+  void = p.void;
+}
+
+-- A parameter prints the argument that it names.
+pub parameter-prints : PrintsBehind (parameter 0) [] false
+unfolding parts_in left_parts right_parts not_empty head head_closed head_with argument is_reference is_funarr is_empty is_function_type is_void
+parameter-prints c b p =
+    let t = parameter 0 in
+    let a = argument c 0 in
+    record {
+      left_text = text_by left c t (as_item left closed a ∷ []) refl ∙ append-nil (text_of (in_form left closed a)) ∙ p.left_text closed ∙ sym (append-nil b);
+      right_text = text_by right c t (as_item right closed a ∷ []) refl ∙ append-nil (text_of (in_form right closed a)) ∙ p.right_text closed;
+      cost = omega (
+        arith,
+        p.cost closed,
+        length-append b [],
+        cost_by left c t (as_item left closed a ∷ []) refl,
+        cost_by right c t (as_item right closed a ∷ []) refl,
+      );
+      is_reference_head = p.is_reference_head closed;
+      is_funarr_head = p.is_funarr_head closed;
+      filled = refl;
+      no_function = refl;
+      void = λ e. cc e;
+    }
+
+-- With a mark behind it a type that names the argument prints that too.
+pub pointer-behind : (t : Term) (m : List ℕ) (r : Bool) → PrintsBehind t m r → PrintsBehind (pointer t) (m ++ codes "*") false
+pointer-behind t m r h c b p = subst (λ l. PrintsIn c 2 (pointer t) l false) (append_assoc b m (codes "*")) (pointer-in c 2 t (b ++ m) r (h c b p))
+
+pub lvalue-behind : (t : Term) (m : List ℕ) → PrintsBehind t m false → PrintsBehind (lvalue t) (m ++ codes "&") true
+lvalue-behind t m h c b p = subst (λ l. PrintsIn c 2 (lvalue t) l true) (append_assoc b m (codes "&")) (lvalue-in c 2 t (b ++ m) (h c b p))
+
+pub rvalue-behind : (t : Term) (m : List ℕ) → PrintsBehind t m false → PrintsBehind (rvalue t) (m ++ codes "&&") true
+rvalue-behind t m h c b p = subst (λ l. PrintsIn c 2 (rvalue t) l true) (append_assoc b m (codes "&&")) (rvalue-in c 2 t (b ++ m) (h c b p))
+
+pub const-behind : (t : Term) (m : List ℕ) → PrintsBehind t m false → PrintsBehind (qualified constant t) (m ++ codes " const") false
+const-behind t m h c b p =
+    subst (λ l. PrintsIn c 2 (qualified constant t) l false) (append_assoc b m (codes " const")) (const-in c 2 t (b ++ m) (h c b p))

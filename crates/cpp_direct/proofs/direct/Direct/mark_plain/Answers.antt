@@ -4,7 +4,7 @@ use Rattle.cpp_direct.specs.declared.open.Open.TheVariants as opens
 use Rattle.cpp_direct.specs.Stands.{qualifiers}
 use Rattle.cpp_direct.proofs.DependentsRead.{dependent-marked}
 use Rattle.cpp_direct.proofs.Listed.{waits-last}
-use Rattle.cpp_direct.proofs.PrintedParameters.{lvalue-behind, rvalue-behind, const-behind}
+use Rattle.cpp_direct.proofs.PrintedTypes.{lvalue-behind, rvalue-behind, const-behind}
 use Rattle.cpp_direct.proofs.direct.Direct.mark_plain.Goals as goal
 
 pub mark_dependent-requires : goal.mark_dependent-requires

@@ -5,7 +5,7 @@ use Rattle.cpp_direct.specs.declared.open.Step.TheVariants as steps
 use Rattle.cpp_direct.specs.Stands.{IsWriting}
 use Rattle.cpp_direct.proofs.DependentsRead.{dependent-marked, dependent-parameter, dependent-front}
 use Rattle.cpp_direct.proofs.Listed.{waits-last}
-use Rattle.cpp_direct.proofs.PrintedParameters.{pointer-behind}
+use Rattle.cpp_direct.proofs.PrintedTypes.{pointer-behind}
 use Rattle.cpp_direct.proofs.direct.Direct.pass_dependent.Goals as goal
 
 pub mark_dependent-requires : goal.mark_dependent-requires
