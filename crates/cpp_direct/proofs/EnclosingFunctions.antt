@@ -5,7 +5,7 @@ use Rattle.std.proofs.lemmas.Fmt.{decimal_digit}
 use Rattle.cpp_grammar.specs.declared.kind.Kind.{Kind}
 use Rattle.cpp_grammar.specs.Grammar.{may_be_empty}
 use Rattle.cpp_grammar.specs.Term.{Term, any_value, function, alone, lambda, source, builtin, nil, absent}
-use Rattle.cpp_grammar.specs.Parts.{source_text}
+use Rattle.cpp_grammar.specs.Parts.{source_text, types_of}
 use Rattle.cpp_grammar.specs.Scope.{has_return_type, arguments_of}
 use Rattle.cpp_grammar.specs.References.{is_function_type}
 use Rattle.cpp_grammar.specs.Values.{State, Value, local_number, nothing_there, tree, named, tree_of, qualifiers_of, ref_of}
@@ -20,7 +20,7 @@ use Rattle.cpp_direct.specs.Holes.{Opened, StandsAt, Comes, Expects, IsNameAt, w
 use Rattle.cpp_direct.specs.HolesOfLists.{nest_marks}
 use Rattle.cpp_direct.specs.HolesOfLocals.{IsDiscriminatorAt, IsLambdaDigit, IsPieceAt, lambda_digits, lambda_number, local_in}
 use Rattle.cpp_direct.specs.Prints.{Prints, PrintsPiece, Shows, Encloses, list_of}
-use Rattle.cpp_direct.specs.Stands.{AreCandidates, Below, IsFunction, IsNesting, IsWriting, ItemsGoOn, Serves, Stands, TypeWithin, in_front_of_next, qualifiers}
+use Rattle.cpp_direct.specs.Stands.{AreCandidates, Below, IsFunction, IsNesting, IsScoped, IsWriting, ItemsGoOn, Serves, Stands, TypeWithin, nowhere, in_front_of_next, qualifiers}
 use Rattle.cpp_direct.specs.Ways.{AwaitsNamedType, AwaitsNest, IsElementRead, IsEnclosingNamed, IsEnclosingParameterRead, IsEnclosingRead, const_text}
 use Rattle.cpp_direct.specs.Written.{Writes, Reads, added}
 use Rattle.cpp_direct.proofs.Ending.{behind-two, behind-three, behind-five, list-ends, next-written, parameter-goes_on, plain-text, qualifiers-text, void-read}
@@ -32,11 +32,12 @@ use Rattle.cpp_direct.proofs.MovesOfEncodings.{encoding-opens, name-nested, name
 use Rattle.cpp_direct.proofs.MovesOfLists.{element-awaits}
 use Rattle.cpp_direct.proofs.MovesOfLocals.{lambda-piece, lambda_bytes, local-type-opens, number-is}
 use Rattle.cpp_direct.proofs.Nesting.{nest-comes}
-use Rattle.cpp_direct.proofs.PrintedLists.{next-prints, none-print}
+use Rattle.cpp_direct.proofs.PrintedLists.{element-in, next-prints-in, none-print-in}
 use Rattle.cpp_direct.proofs.PrintedLocals.{function-encloses, object-enclosing}
 use Rattle.cpp_direct.proofs.PrintedNames.{source-prints}
 use Rattle.cpp_direct.proofs.PrintedSymbols.{encoding-plain, function-shows, made-void, made-with, object-encoded, parameters-kept, void-shows}
 use Rattle.cpp_direct.proofs.PrintedWithin.{lambda-prints, local-prints}
+use Rattle.cpp_direct.proofs.Scopes.{none-scoped}
 
 -- ## Names
 
@@ -45,7 +46,7 @@ record NameOpened (s : List ℕ) (below : Below) (front : List ℕ) (at : ℕ) (
   pub inner : List Opened
   pub awaits : Expects s Kind.CompleteName (in_name at) inner at st
   pub onward : (v : Value) (here : ℕ) (now : State) → Comes s inner v here now
-      → ItemsGoOn s (TypeWithin s below front) (λ l. encoding_of v l) [] here now
+      → ItemsGoOn s nowhere (TypeWithin s below front) (λ l. encoding_of v l) [] here now
 
 name-opens : (s : List ℕ) (w : Direct) (a : AwaitsNamedType s w) → StandsAt s w.at (90 ∷ [])
     → NameOpened s (Stands s (reverse w.waiting.list.items)) w.text.list.items (w.at + 1) a.state
@@ -60,6 +61,7 @@ name-opens s w a letter =
         around = in_types (w.at + 1) (tree_of v);
         inner = items.inner;
         outside = refl;
+        scoped = λ o. absurd (omega (arith, o));
         awaits = items.awaits;
         onward = λ l there then_ last. (
           a.os,
@@ -134,7 +136,7 @@ source-within s old start new name from a letter same_text same_candidates same_
       from_is = from_is ∙ ap (λ v. length v.list.items) same_text;
       prints = source-prints false name filled;
       no_return = refl;
-      goes = subst (λ v. ItemsGoOn s (TypeWithin s (Stands s (reverse v.list.items)) front) (λ l. encoding_of (tree own false) l) [] new.at a.state)
+      goes = subst (λ v. ItemsGoOn s nowhere (TypeWithin s (Stands s (reverse v.list.items)) front) (λ l. encoding_of (tree own false) l) [] new.at a.state)
           (sym (reads.waiting ∙ same_waiting))
           (e.onward (tree own false) new.at a.state
           (named_.bare new.at a.state (expects-empty s Kind.MaybeArguments (after own false here) named_.inner new.at a.state named_.awaits refl)));
@@ -171,8 +173,8 @@ name-within s old st t is_const candidates n no_return here is_name =
 parameter-expected : (s : List ℕ) (w : Direct) (st : State) (is_const : Bool) (from : ℕ) (rest : List Open) (front : List ℕ) (make : Term → Term)
     (ts : List Term) (name texts : List ℕ)
     → AreCandidates w.text.list.items w.candidates.list.items st.candidates → reverse w.waiting.list.items ≡ opens.Enclosing is_const from ∷ rest
-    → IsFunction is_const make ts name texts → from ≡ length front → w.text.list.items ≡ front ++ name ++ codes "(" ++ in_front_of_next ts texts
-    → ItemsGoOn s (TypeWithin s (Stands s rest) front) make ts w.at st → IsWriting s w steps.Type
+    → IsFunction [] nowhere is_const make ts name texts → from ≡ length front → w.text.list.items ≡ front ++ name ++ codes "(" ++ in_front_of_next ts texts
+    → ItemsGoOn s nowhere (TypeWithin s (Stands s rest) front) make ts w.at st → IsWriting s w steps.Type
 parameter-expected s w st is_const from rest front make ts name texts candidates open_is is_function from_is written p =
     let element = element-awaits s Kind.Items p.inner p.around w.at st tt p.awaits in
     let stands : Stands s (opens.Enclosing is_const from ∷ rest) element.inner w.text.list.items = (
@@ -184,12 +186,19 @@ parameter-expected s w st is_const from rest front make ts name texts candidates
       is_function,
       from_is,
       written,
-      λ t here now comes. parameter-goes_on s (TypeWithin s (Stands s rest) front) make ts w.at st p t here now (element.onward t here now comes),
+      λ t here now comes. parameter-goes_on s nowhere (TypeWithin s (Stands s rest) front) make ts w.at st p t here now (element.onward t here now comes),
     ) in
     record {
       state = st;
       candidates = candidates;
-      is_before = (element.inner, p.around, p.outside, inr (inl element.awaits), subst (λ os. Stands s os element.inner w.text.list.items) (sym open_is) stands);
+      is_before = (
+        element.inner,
+        p.around,
+        p.outside,
+        inr (inl element.awaits),
+        subst (λ os. Stands s os element.inner w.text.list.items) (sym open_is) stands,
+        subst (λ os. IsScoped p.around os) (sym open_is) (none-scoped p.around (opens.Enclosing is_const from ∷ rest) refl),
+      );
     }
 
 -- the first one comes next
@@ -202,17 +211,18 @@ first-within s w first last is_const from p one text candidates at waiting =
     subst (λ l. AreCandidates l.list.items last.candidates.list.items p.state.candidates) (sym text)
     (subst (λ l. AreCandidates first.text.list.items l.list.items p.state.candidates) (sym candidates) known) in
     let make : Term → Term = λ l. encoding_of p.v l in
-    let is_function : IsFunction is_const make [] p.name [] = record {
+    let is_function : IsFunction [] nowhere is_const make [] p.name [] = record {
       own = p.own;
       makes = encoding-plain p.v is_const p.own p.tree_is p.qualifiers_are p.mark_is p.no_return;
       prints = p.prints;
-      elements = none-print 0;
+      elements = none-print-in (types_of p.own) 3;
+      names = λ o. absurd (omega (arith, o));
     } in
     parameter-expected s last p.state is_const from (reverse w.waiting.list.items) p.front make [] p.name [] moved
     (ap reverse waiting ∙ reverse-last first.waiting.list.items (opens.Enclosing is_const from)
     ∙ ap (λ v. opens.Enclosing is_const from ∷ reverse v.list.items) one.waiting) is_function p.from_is
     (ap (λ l. l.list.items) text ∙ one.text ∙ ap (λ l. l ++ codes "(") p.written ∙ sym (append-nil (p.front ++ p.name ++ codes "(")))
-    (subst (λ n. ItemsGoOn s (TypeWithin s (Stands s (reverse w.waiting.list.items)) p.front) make [] n p.state) (sym (at ∙ one.at)) p.goes)
+    (subst (λ n. ItemsGoOn s nowhere (TypeWithin s (Stands s (reverse w.waiting.list.items)) p.front) make [] n p.state) (sym (at ∙ one.at)) p.goes)
 
 -- another one comes next
 pub next-within : (s : List ℕ) (w last : Direct) (is_const : Bool) (from : ℕ) → IsEnclosingParameterRead s w is_const from → Writes w last (codes ", ")
@@ -224,7 +234,7 @@ next-within s w last is_const from p one =
     (ap (λ l. reverse l.list.items) one.waiting ∙ p.open_is) p.is_function p.from_is
     (one.text ∙ ap (λ l. l ++ codes ", ") p.written ∙ append_assoc front p.texts (codes ", ")
     ∙ ap (λ l. front ++ l) (sym (next-written p.ts p.texts p.some)))
-    (subst (λ n. ItemsGoOn s (TypeWithin s (Stands s p.rest) p.front) p.make p.ts n p.state) (sym one.at) p.goes)
+    (subst (λ n. ItemsGoOn s nowhere (TypeWithin s (Stands s p.rest) p.front) p.make p.ts n p.state) (sym one.at) p.goes)
 
 -- one is read
 pub parameter-read-within : (s : List ℕ) (w : Direct) (is_const : Bool) (from : ℕ) → IsElementRead s w (opens.Enclosing is_const from)
@@ -251,7 +261,9 @@ parameter-read-within s w is_const from p =
         own = is_function.own;
         makes = is_function.makes;
         prints = is_function.prints;
-        elements = next-prints 0 ts texts p.own p.bytes is_function.elements (p.element 0);
+        elements = next-prints-in (types_of is_function.own) 3 ts texts p.own p.bytes is_function.elements
+            (element-in (types_of is_function.own) 3 p.own p.bytes (p.element 3));
+        names = is_function.names;
       };
       from_is = waits.6;
       written = p.written ∙ ap (λ l. l ++ p.bytes) waits.7 ∙ append_assoc (front ++ name ++ codes "(") (in_front_of_next ts texts) p.bytes;
@@ -309,7 +321,7 @@ void-within s w here new is_const from p stands text candidates waiting at one =
       encloses = subst (λ t. Encloses t (b ++ codes "()" ++ q)) (sym is)
           (function-encloses p.own (qualifiers is_const) any_value nil (b ++ codes "()" ++ q) shows);
       within = subst (λ v. TypeWithin s (Stands s (reverse v.list.items)) p.front e new.at p.state) (sym (one.waiting ∙ waiting))
-          (subst (λ n. TypeWithin s below p.front e n p.state) (sym (one.at ∙ at)) (void-read s (TypeWithin s below p.front) make w.at p.state p.goes stands));
+          (subst (λ n. TypeWithin s below p.front e n p.state) (sym (one.at ∙ at)) (void-read s nowhere (TypeWithin s below p.front) make w.at p.state p.goes stands));
     }
 
 -- a function with its parameters is read, unless they are a lone void
@@ -324,7 +336,7 @@ function-within s w last new is_const from p apart one text candidates at waits 
     let l = p.texts in
     let q = const_text is_const in
     let made = function f.own (qualifiers is_const) any_value absent (list_of p.ts) in
-    let is : e ≡ made = made-with is_const f.own p.make f.makes p.ts p.some (parameters-kept p.ts l f.elements apart) in
+    let is : e ≡ made = made-with is_const f.own p.make f.makes p.ts p.some (parameters-kept (types_of f.own) 3 p.ts l f.elements apart) in
     let below = Stands s p.rest in
     let within_ : TypeWithin s below p.front e w.at p.state = subst (λ u. TypeWithin s below p.front (p.make u) w.at p.state) (list-ends p.ts)
     (p.goes.onward nothing_there w.at p.state (expects-empty s Kind.Items p.goes.around p.goes.inner w.at p.state p.goes.awaits refl)) in
