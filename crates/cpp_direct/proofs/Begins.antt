@@ -93,11 +93,11 @@ encoding-awaited s w no_text no_candidate starts at_is apart =
     }
 
 -- the name of an encoding is expected
-encoding-expected : (s : List ℕ) (w : Direct) (p : AwaitsEncoding s w) → EncodingOpened s p.outer w.at p.state
+pub encoding-expected : (s : List ℕ) (w : Direct) (p : AwaitsEncoding s w) → EncodingOpened s p.outer w.at p.state
 encoding-expected s w p = encoding-opens s p.outer p.around w.at p.state p.awaits
 
 -- a name that comes awaits its items
-items-await : (s : List ℕ) (w : Direct) (p : AwaitsEncoding s w) (v : Value) (at : ℕ) (st : State) → Comes s (encoding-expected s w p).inner v at st
+pub items-await : (s : List ℕ) (w : Direct) (p : AwaitsEncoding s w) (v : Value) (at : ℕ) (st : State) → Comes s (encoding-expected s w p).inner v at st
     → AwaitsItems s w.text.list.items v at st
 unfolding in_types
 items-await s w p v at st comes =
@@ -257,114 +257,3 @@ pub nested-const : (s : List ℕ) (old : Direct) (inside_ n : ℕ) → AwaitsEnc
 nested-const s old inside_ n p letter next mark at_is =
     nested-marked s old n true p
     (stands-join s old.at (78 ∷ []) (75 ∷ []) letter (subst (λ k. StandsAt s k (75 ∷ [])) next mark)) (omega (arith, next, at_is))
-
--- ## Names
-
--- the name of an encoding was read behind a text, with or without arguments behind it
-record HasName (s : List ℕ) (lead : List ℕ) (encoding : ℕ) (t : Term) (at : ℕ) (st : State) : Type 0 where
-  pub inner : List Opened
-  pub awaits : Expects s Kind.MaybeArguments (after t false (in_name encoding)) inner at st
-  pub bare : (at : ℕ) (st : State) → Comes s inner nothing_there at st → AwaitsItems s lead (tree t false) at st
-  pub argued : (a : Term) (at : ℕ) (st : State) → Comes s inner (tree a true) at st → AwaitsItems s lead (tree (instance t a) false) at st
-
-named-has : (s : List ℕ) (w : Direct) (p : AwaitsEncoding s w) (t : Term) (at : ℕ)
-    → Named s (encoding-expected s w p).inner (in_name w.at) t at p.state → HasName s w.text.list.items w.at t at p.state
-named-has s w p t at is = record {
-  inner = is.inner;
-  awaits = is.awaits;
-  bare = λ here now comes. items-await s w p (tree t false) here now (is.bare here now comes);
-  argued = λ a here now comes. items-await s w p (tree (instance t a) false) here now (is.argued a here now comes);
-}
-
-name-has : (s : List ℕ) (internal : Bool) (w : Direct) (p : AwaitsEncoding s w) (at : ℕ) (name : List ℕ) (end : ℕ)
-    → (internal ≡ true → StandsAt s w.at (76 ∷ [])) → at ≡ w.at + cond internal 1 0 → IsNameAt s at name end
-    → HasName s w.text.list.items w.at (alone (source internal name)) end p.state
-unfolding in_name
-name-has s true w p at name end letter at_is is =
-    let encoding = encoding-expected s w p in
-    named-has s w p (alone (source true name)) end
-    (name-internal s encoding.inner (in_name w.at) w.at name end p.state encoding.awaits refl (letter refl) (subst (λ n. IsNameAt s n name end) at_is is))
-name-has s false w p at name end letter at_is is =
-    let encoding = encoding-expected s w p in
-    let here : at ≡ w.at = omega (arith, at_is) in
-    named-has s w p (alone (source false name)) end
-    (name-source s encoding.inner (in_name w.at) w.at name end p.state encoding.awaits refl (subst (λ n. IsNameAt s n name end) here is))
-
--- the name of an encoding, by what awaited it
-source-has : (s : List ℕ) (internal : Bool) (w : Direct) (p : AwaitsSource s w internal) (name : List ℕ) (end : ℕ) → IsNameAt s w.at name end
-    → HasName s w.text.list.items p.before (alone (source internal name)) end p.awaits.state
-source-has s internal w p name end is = name-has s internal (record w { at = p.before }) p.awaits w.at name end p.letter p.at_is is
-
--- a name without arguments
-pub name-bare : (s : List ℕ) (internal : Bool) (old new : Direct) (name : List ℕ) → AwaitsSource s old internal → IsNameAt s old.at name new.at
-    → name ≢ [] → Reads old new (source_text name) → (from : ℕ) → from ≡ length old.text.list.items → IsNameEnded s new false false from
-unfolding may_be_empty tree_of qualifiers_of ref_of has_return_type arguments_of
-name-bare s internal old new name p is filled reads from from_is =
-    let own = alone (source internal name) in
-    let st = p.awaits.state in
-    let has = source-has s internal old p name new.at is in
-    record {
-      state = st;
-      candidates = candidates-read old new (source_text name) st.candidates reads p.awaits.candidates;
-      own = own;
-      v = tree own false;
-      tree_is = refl;
-      qualifiers_are = refl;
-      mark_is = refl;
-      lead = old.text.list.items;
-      name = source_text name;
-      written = reads.text;
-      prints = source-prints internal name filled;
-      from_is = from_is;
-      no_return = λ e. refl;
-      returns = λ e. absurd (false≢true e);
-      awaits = has.bare new.at st (expects-empty s Kind.MaybeArguments (after own false (in_name p.before)) has.inner new.at st has.awaits refl);
-    }
-
--- where arguments were opened behind a name
-list-stands : (s : List ℕ) (internal : Bool) (old read new : Direct) (name : List ℕ) (from : ℕ) → AwaitsSource s old internal
-    → from ≡ length old.text.list.items → IsNameAt s old.at name read.at → name ≢ [] → Reads old read (source_text name)
-    → StandsAt s read.at (73 ∷ []) → new.candidates.list.items ≡ added read from false → new.text.list.items ≡ read.text.list.items ++ codes "<"
-    → new.waiting.list.items ≡ read.waiting.list.items ++ opens.NameArguments from ∷ [] → new.at ≡ read.at + 1 → IsWriting s new (steps.List true)
-unfolding in_name inside is_structor
-list-stands s internal old read new name from p from_is is filled reads there candidates_are text_is waiting_is here_is =
-    let own = alone (source internal name) in
-    let st = p.awaits.state in
-    let place = p.before in
-    let front = old.text.list.items in
-    let has = source-has s internal old p name read.at is in
-    let list = arguments-open s has.inner (in_name place) own false read.at st has.awaits there in
-    let prints = source-prints internal name filled in
-    let state = with_candidate place own st in
-    record {
-      state = state;
-      candidates = subst (λ l. AreCandidates l new.candidates.list.items state.candidates) (sym text_is)
-          (subst (λ ks. AreCandidates (read.text.list.items ++ codes "<") ks state.candidates) (sym candidates_are)
-          (candidates-stay read.text.list.items (codes "<") (added read from false) state.candidates
-          (candidates-with read st front (source_text name) from own place false
-          (candidates-read old read (source_text name) st.candidates reads p.awaits.candidates) reads.text from_is prints)));
-      is_before = arguments-begun s new state (opens.NameArguments from) (reverse read.waiting.list.items) front (source_text name) own
-          (ap reverse waiting_is ∙ reverse-last read.waiting.list.items (opens.NameArguments from)) (from_is, prints, refl)
-          (text_is ∙ ap (λ l. l ++ codes "<") reads.text) (
-            inside (in_name place),
-            list.inner,
-            refl,
-            subst (λ n. Expects s Kind.ArgumentList (inside (in_name place)) list.inner n state) (sym here_is) list.awaits,
-            λ l at st comes ended. has.argued (no_items l) (at + 1) st (list.onward l at st comes ended),
-          );
-    }
-
--- a name with arguments
-pub name-argued : (s : List ℕ) (internal : Bool) (old read kept new : Direct) (name : List ℕ) (from : ℕ) (r : Option Step) → AwaitsSource s old internal
-    → from ≡ length old.text.list.items → IsNameAt s old.at name read.at → name ≢ [] → Reads old read (source_text name)
-    → StandsAt s read.at (73 ∷ []) → kept.candidates.list.items ≡ added read from false → kept.text ≡ read.text → kept.waiting ≡ read.waiting → kept.at ≡ read.at
-    → IfSome r (λ next. next ≡ steps.List true) → OnSome r (new.waiting.list.items ≡ kept.waiting.list.items ++ opens.NameArguments from ∷ []) → OnSome r (new.at ≡ kept.at + 1)
-    → OnSome r (new.text.list.items ≡ kept.text.list.items ++ codes "<") → OnSome r (new.candidates ≡ kept.candidates) → IfSome r (IsWriting s new)
-name-argued s internal old read kept new name from None p from_is is filled reads there ks same_text same_open same_at step open_ at_ text_ candidates_ = tt
-name-argued s internal old read kept new name from (Some next) p from_is is filled reads there ks same_text same_open same_at step open_ at_ text_ candidates_ =
-    subst (λ x. IsWriting s new x) (sym step)
-    (list-stands s internal old read new name from p from_is is filled reads there
-    (ap (λ v. v.list.items) candidates_ ∙ ks)
-    (text_ ∙ ap (λ v. v.list.items ++ codes "<") same_text)
-    (open_ ∙ ap (λ v. v.list.items ++ opens.NameArguments from ∷ []) same_open)
-    (at_ ∙ ap (λ n. n + 1) same_at))

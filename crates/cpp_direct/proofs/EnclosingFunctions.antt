@@ -20,7 +20,7 @@ use Rattle.cpp_direct.specs.Holes.{Opened, StandsAt, Comes, Expects, IsNameAt, w
 use Rattle.cpp_direct.specs.HolesOfLists.{nest_marks}
 use Rattle.cpp_direct.specs.HolesOfLocals.{IsDiscriminatorAt, IsLambdaDigit, IsPieceAt, lambda_digits, lambda_ending, lambda_number, lambda_with, local_in}
 use Rattle.cpp_direct.specs.Bytes.{short_numbers}
-use Rattle.cpp_direct.specs.Prints.{Prints, PrintsPiece, Shows, Encloses, list_of}
+use Rattle.cpp_direct.specs.Prints.{Prints, PrintsName, PrintsPiece, Shows, Encloses, list_of}
 use Rattle.cpp_direct.specs.Stands.{AreCandidates, Below, IsFunction, IsNesting, IsWriting, ItemsGoOn, LambdaWithin, Serves, Stands, TypeWithin, in_front_of_next, qualifiers}
 use Rattle.cpp_direct.specs.Ways.{AwaitsNamedType, AwaitsNest, AwaitsTypeName, IsElementRead, IsEnclosingNamed, IsEnclosingParameterRead, IsEnclosingRead, IsLambdaParameterRead, const_text}
 use Rattle.cpp_direct.specs.Written.{Writes, Reads, added}
@@ -35,7 +35,7 @@ use Rattle.cpp_direct.proofs.MovesOfLocals.{lambda-opens, lambda-piece, lambda_b
 use Rattle.cpp_direct.proofs.Nesting.{nest-comes}
 use Rattle.cpp_direct.proofs.PrintedLists.{next-prints, none-print}
 use Rattle.cpp_direct.proofs.PrintedLocals.{function-encloses, object-enclosing}
-use Rattle.cpp_direct.proofs.PrintedNames.{source-prints}
+use Rattle.cpp_direct.proofs.PrintedNames.{as-name, source-prints}
 use Rattle.cpp_direct.proofs.PrintedSymbols.{encoding-plain, function-shows, made-void, made-with, object-encoded, parameters-kept, void-shows}
 use Rattle.cpp_direct.proofs.PrintedWithin.{lambda-prints, lambda-list-prints, local-prints}
 
@@ -139,7 +139,7 @@ source-within s old start new name from a letter same_text same_candidates same_
       name = source_text name;
       written = reads.text ∙ ap (λ v. v.list.items ++ source_text name) same_text;
       from_is = from_is ∙ ap (λ v. length v.list.items) same_text;
-      prints = source-prints false name filled;
+      prints = as-name own (source_text name) false (source-prints false name filled);
       no_return = refl;
       goes = subst (λ v. ItemsGoOn s (TypeWithin s (Stands s (reverse v.list.items)) front) (λ l. encoding_of (tree own false) l) [] new.at a.state)
           (sym (reads.waiting ∙ same_waiting))
@@ -167,7 +167,7 @@ name-within s old st t is_const candidates n no_return here is_name =
       name = n.bytes;
       written = n.written;
       from_is = n.is_nest.from_is;
-      prints = n.is_nest.prints;
+      prints = as-name t n.bytes false n.is_nest.prints;
       no_return = no_return;
       goes = serves t old.nest.is_listed (old.at + 1) st (nest-comes s old st t n here);
     }
@@ -275,7 +275,7 @@ object-within s w is_const from p =
     let q = const_text is_const in
     let shows : Shows (encoding_of p.v nil) (b ++ q) =
     subst (λ l. Shows (encoding_of p.v nil) (b ++ l)) (qualifiers-text p.v is_const p.qualifiers_are p.mark_is)
-    (object-encoded p.v b (subst (λ t. Prints t b false) (sym p.tree_is) p.prints)) in
+    (object-encoded p.v b (subst (λ t. PrintsName t b) (sym p.tree_is) p.prints)) in
     record {
       state = p.state;
       candidates = p.candidates;

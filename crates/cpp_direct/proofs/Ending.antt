@@ -19,7 +19,7 @@ use Rattle.cpp_direct.specs.declared.direct.Direct.{Direct}
 use Rattle.cpp_direct.specs.Bytes.{is_builtin, is_local}
 use Rattle.cpp_direct.specs.Holes.{StandsAt, ListGoesOn}
 use Rattle.cpp_direct.specs.HolesOfLists.{IsSuffix}
-use Rattle.cpp_direct.specs.Prints.{Prints, Shows, Encloses, list_of}
+use Rattle.cpp_direct.specs.Prints.{PrintsName, Shows, Encloses, list_of}
 use Rattle.cpp_direct.specs.Stands.{AreCandidates, AwaitsItems, Encoded, EndsBehind, EncodedBehind, IsWhole, IsWriting, IsFunction, ItemsGoOn, ParametersGoOn, Stands, qualifiers, list_with, in_front_of_next}
 use Rattle.cpp_direct.specs.Ways.{IsNameEnded, AwaitsParameters, IsParameterEnded, IsEncodingEnded, IsSymbolEnded, const_text}
 use Rattle.cpp_direct.specs.Written.{Writes, Cuts}
@@ -153,7 +153,7 @@ object-ended s w is_const is_instance from p =
     (expects-empty s Kind.Items p.awaits.around p.awaits.inner w.at p.state p.awaits.awaits refl) in
     let shows : Shows (encoding_of p.v nil) (b ++ q) =
     subst (λ l. Shows (encoding_of p.v nil) (b ++ l)) (qualifiers-text p.v is_const p.qualifiers_are p.mark_is)
-    (object-encoded p.v b (subst (λ t. Prints t b false) (sym p.tree_is) p.prints)) in
+    (object-encoded p.v b (subst (λ t. PrintsName t b) (sym p.tree_is) p.prints)) in
     record {
       state = p.state;
       candidates = p.candidates;

@@ -12,7 +12,7 @@ use Rattle.cpp_direct.specs.declared.open.Step.TheVariants as steps
 use Rattle.cpp_direct.specs.declared.direct.Direct.{Direct}
 use Rattle.cpp_direct.specs.Bytes.{is_local}
 use Rattle.cpp_direct.specs.Holes.{Expects}
-use Rattle.cpp_direct.specs.Prints.{Prints, Shows}
+use Rattle.cpp_direct.specs.Prints.{Prints, PrintsName, Shows}
 use Rattle.cpp_direct.specs.Stands.{AreCandidates, EncodedBehind, IsWriting, IsInstance, ParametersGoOn, Stands, qualifiers, plain_encoding}
 use Rattle.cpp_direct.specs.Ways.{IsNameEnded, IsFrontRead, AwaitsParameters}
 use Rattle.cpp_direct.specs.Written.{Writes}
@@ -38,7 +38,7 @@ front-begins s w new is_const from start p none apart start_is text candidates a
       tree_is = p.tree_is;
       qualifiers_are = p.qualifiers_are;
       mark_is = p.mark_is;
-      prints = subst (λ l. Prints p.own l false) (sym named) p.prints;
+      prints = subst (λ l. PrintsName p.own l) (sym named) p.prints;
       returns = p.returns refl;
     } in
     let goes : ParametersGoOn s [] (λ l. encoding_of p.v l) [] w.at p.state =

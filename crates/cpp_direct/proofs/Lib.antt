@@ -19,6 +19,7 @@ pub mod MovesOfLists
 pub mod MovesOfLocals
 pub mod MovesOfNests
 pub mod MovesOfTypes
+mod MovesOfUnscoped
 pub mod NamePlaces
 pub mod NestComponents
 pub mod Nesting
@@ -37,3 +38,4 @@ mod PrintedWithin
 pub mod ShortNumbers
 mod Signatures
 pub mod TypesRead
+pub mod UnscopedNames

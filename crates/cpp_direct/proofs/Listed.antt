@@ -24,6 +24,7 @@ use Rattle.cpp_direct.specs.Written.{Writes, added}
 use Rattle.cpp_direct.proofs.Moves.{expects-empty, stands-split}
 use Rattle.cpp_direct.proofs.MovesOfLists.{element-awaits, pack-opens}
 use Rattle.cpp_direct.proofs.PrintedLists.{list-with-none, next-prints, none-print, pack-element}
+use Rattle.cpp_direct.proofs.PrintedNames.{as-name}
 use Rattle.cpp_direct.proofs.PrintedNests.{instance-prints, instance-class}
 use Rattle.cpp_direct.proofs.Kept.{candidates-stay, candidates-with, template-stays, reverse-last, last-reversed}
 
@@ -302,7 +303,7 @@ name-closed s w from p =
       name = bytes;
       written = p.written;
       from_is = p.is_template.0;
-      prints = instance-prints p.template p.name p.is_template.1 p.ts p.tail p.arguments p.is_tail p.elements;
+      prints = as-name t bytes false (instance-prints p.template p.name p.is_template.1 p.ts p.tail p.arguments p.is_tail p.elements);
       no_return = λ h. absurd (false≢true (sym h));
       returns = λ h. instance-returns p.template (list_with p.ts p.tail) p.is_template.2;
       awaits = p.owns;

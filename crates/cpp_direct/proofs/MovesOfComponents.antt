@@ -98,7 +98,7 @@ nest-end s os around t listed at st expects stands =
 -- ## Components
 
 -- what a component is named by was read
-named-by : (s : List ℕ) (os : List Opened) (p : Production) (taken : List ℕ) (at0 : ℕ) (around : Around) (before : State) (u : Term) (at : ℕ)
+pub named-by : (s : List ℕ) (os : List Opened) (p : Production) (taken : List ℕ) (at0 : ℕ) (around : Around) (before : State) (u : Term) (at : ℕ)
     (st : State)
     → ((byte : ℕ) (here : Around) (began later : State) (v : Value)
     → close p byte here at0 began (tree u false ∷ v ∷ []) later ≡ Ok (found (tree (applied u v) false) later))

@@ -3,8 +3,8 @@ use Rattle.std.proofs.Common.{◌≡◌, ◌≢◌, ℕ, ◌+◌, ◌-◌, ◌�
 use Rattle.std.proofs.lemmas.Bool.{false≢true}
 use Rattle.std.proofs.lemmas.List.{length-append}
 use Rattle.cpp_grammar.specs.Term.{Term, within, instance, source, operator, constructor, destructor}
-use Rattle.cpp_grammar.specs.Texts.{look_up, operator_texts, same_bytes}
-use Rattle.cpp_grammar.specs.Parts.{source_text}
+use Rattle.cpp_grammar.specs.Texts.{look_up, operator_texts}
+use Rattle.cpp_grammar.specs.Parts.{opening_text, source_text}
 use Rattle.cpp_grammar.specs.Scope.{arguments_of, has_return_type, is_structor}
 use Rattle.cpp_grammar.specs.Values as values
 use Rattle.cpp_grammar.specs.Values.{State, Around}
@@ -13,15 +13,16 @@ use Rattle.cpp_direct.specs.declared.open.Purpose.{Purpose}
 use Rattle.cpp_direct.specs.declared.open.Step.TheVariants as steps
 use Rattle.cpp_direct.specs.declared.direct.Direct.{Direct}
 use Rattle.cpp_direct.specs.Holes.{Opened, StandsAt, IsNameAt, Named, NestNamed, AwaitsComponent}
+use Rattle.cpp_direct.specs.Names.{IsOperatorAt, is_angle, operator_text}
 use Rattle.cpp_direct.specs.Prints.{Prints}
 use Rattle.cpp_direct.specs.Stands.{AreCandidates, IsNest, IsWriting, Serves, Stands}
-use Rattle.cpp_direct.specs.Ways.{AwaitsClass, IsNestNamed}
+use Rattle.cpp_direct.specs.Ways.{AwaitsClass, IsNestNamed, IsOperatorRead}
 use Rattle.cpp_direct.specs.Written.{Writes, Reads}
 use Rattle.cpp_direct.proofs.Kept.{piece-found, candidates-stay}
 use Rattle.cpp_direct.proofs.Moves.{stands-join}
 use Rattle.cpp_direct.proofs.MovesOfComponents.{component-source, component-internal, component-operator, component-constructor, component-destructor}
 use Rattle.cpp_direct.proofs.Operators.{IsOperator, operator-listed}
-use Rattle.cpp_direct.proofs.PrintedNests.{IsPiece, source-piece, operator-piece, within-prints, within-class, constructor-prints, destructor-prints}
+use Rattle.cpp_direct.proofs.PrintedNests.{IsPiece, source-opening, source-piece, operator-opening, operator-piece, within-names, within-prints, within-class, constructor-prints, destructor-prints}
 
 -- ## Pieces of a text
 
@@ -202,11 +203,11 @@ class-named s old between new p w text candidates waiting at nest_from purpose f
 piece-named : (s : List ℕ) (old new : Direct) (st : State) (t piece : Term) (x front bytes : List ℕ) (around : Around) (outer : List Opened)
     → AreCandidates old.text.list.items old.candidates.list.items st.candidates → old.text.list.items ≡ front ++ bytes
     → IsNest front bytes old.text.list.items old.nest t → Serves s old.nest.purpose (Stands s (reverse old.waiting.list.items)) outer front
-    → Goes old new (codes "::" ++ x) → NestNamed s outer around (within t piece) new.at st → IsPiece piece x
+    → Goes old new (codes "::" ++ x) → NestNamed s outer around (within t piece) new.at st → IsPiece piece x → opening_text piece ≡ codes "<"
     → new.nest.class_from ≡ length (old.text.list.items ++ codes "::") → new.nest.class_to ≡ length new.text.list.items → new.nest.is_listed ≡ false
     → new.nest.has_class ≡ true → new.nest.is_instance ≡ false → IsNestNamed s new
 unfolding has_return_type arguments_of
-piece-named s old new st t piece x front bytes around outer candidates before is serves g named is_piece from to unlisted has no_instance =
+piece-named s old new st t piece x front bytes around outer candidates before is serves g named is_piece opening from to unlisted has no_instance =
     let m : List ℕ = codes "::" in
     let written : new.text.list.items ≡ front ++ (bytes ++ m ++ x)
     = g.text ∙ ap (λ l. l ++ (m ++ x)) before ∙ append_assoc front bytes (m ++ x) ∙ ap (λ l. front ++ l) (sym (append_assoc bytes m x)) in
@@ -225,7 +226,7 @@ piece-named s old new st t piece x front bytes around outer candidates before is
         back = [];
         written = written ∙ sym (append-nil (front ++ (bytes ++ m ++ x)));
         from_is = g.from ∙ is.from_is;
-        prints = within-prints t bytes is.prints piece x is_piece;
+        prints = within-prints t bytes is.prints piece x is_piece opening;
         class_front = old.text.list.items ++ m;
         class = x;
         class_back = [];
@@ -254,13 +255,13 @@ moves-to old new at by same e =
 
 -- The same of a writer that goes on so.
 piece-follows : (s : List ℕ) (old start marked read new : Direct) (by : ℕ) (piece : Term) (x : List ℕ) (p : IsWriting s old steps.Component)
-    → IsPiece piece x → Moves old start by → Writes start marked (codes "::") → Reads marked read x
+    → IsPiece piece x → opening_text piece ≡ codes "<" → Moves old start by → Writes start marked (codes "::") → Reads marked read x
     → NestNamed s p.is_before.4 p.is_before.3 (within p.is_before.0 piece) new.at p.state
     → new.text.list.items ≡ read.text.list.items → new.candidates.list.items ≡ read.candidates.list.items → new.waiting.list.items ≡ read.waiting.list.items
     → new.nest.from ≡ read.nest.from → new.nest.purpose ≡ read.nest.purpose
     → new.nest.class_from ≡ length marked.text.list.items → new.nest.class_to ≡ length read.text.list.items → new.nest.is_listed ≡ false
     → new.nest.has_class ≡ true → new.nest.is_instance ≡ false → IsNestNamed s new
-piece-follows s old start marked read new by piece x p is m w r named text candidates waiting nest_from purpose from to unlisted has no_instance =
+piece-follows s old start marked read new by piece x p is opening m w r named text candidates waiting nest_from purpose from to unlisted has no_instance =
     let b = p.is_before in
     let m1 : marked.text.list.items ≡ old.text.list.items ++ codes "::" = rw (w.text, m.text) refl in
     let g : Goes old new (codes "::" ++ x) = record {
@@ -270,7 +271,7 @@ piece-follows s old start marked read new by piece x p is m w r named text candi
       from = rw (nest_from, r.nest, w.nest, m.nest) refl;
       purpose = rw (purpose, r.nest, w.nest, m.nest) refl;
     } in
-    piece-named s old new p.state b.0 piece x b.1 b.2 b.3 b.4 p.candidates b.5 b.6 b.8 g named is (from ∙ ap length m1) (to ∙ ap length (sym text))
+    piece-named s old new p.state b.0 piece x b.1 b.2 b.3 b.4 p.candidates b.5 b.6 b.8 g named is opening (from ∙ ap length m1) (to ∙ ap length (sym text))
     unlisted has no_instance
 
 -- ## A name
@@ -300,31 +301,65 @@ pub source-follows : (s : List ℕ) (old start marked read new : Direct) (intern
 source-follows s old start marked read new internal p letter m w name is filled r text candidates waiting at nest_from purpose from to unlisted has
     no_instance =
     let b = p.is_before in
-    piece-follows s old start marked read new (letters internal) (source internal name) (source_text name) p (source-piece internal name filled) m w r
+    piece-follows s old start marked read new (letters internal) (source internal name) (source_text name) p (source-piece internal name filled) (source-opening internal name) m w r
     (source-read s b.4 b.3 b.0 old.at p.state b.7 internal name read.at marked.at new.at letter is (w.at ∙ m.at) at)
     text candidates waiting nest_from purpose from to unlisted has no_instance
 
 -- ## An operator
 
--- An operator follows the name so far.
-pub operator-follows : (s : List ℕ) (old start marked read new : Direct) (first second : ℕ) → IsWriting s old steps.Component
-    → look_up (first ∷ second ∷ []) operator_texts ≢ []
-    → same_bytes (first ∷ second ∷ []) (codes "ls") || same_bytes (first ∷ second ∷ []) (codes "lt") ≡ false
-    → (first ≢ 0 → StandsAt s old.at (first ∷ [])) → (second ≢ 0 → StandsAt s (old.at + 1) (second ∷ []))
-    → Writes start marked (codes "::") → Moves old start 2
-    → Writes marked read (codes "operator" ++ look_up (first ∷ second ∷ []) operator_texts)
+-- what an operator in a nested name is read as
+operator-read : (s : List ℕ) (os : List Opened) (around : Around) (t : Term) (at : ℕ) (st : State) (a : AwaitsComponent s os around t at st)
+    → (first second to end : ℕ) → IsOperatorAt s at first second to → end ≡ to → NestNamed s os around (within t (operator first second)) end st
+operator-read s os around t at st a first second to end there same =
+    let is : IsOperator first second = operator-listed first second there.known in
+    component-named s os around t (within t (operator first second)) at st a (at + 2) end (same ∙ there.ends)
+    (component-operator s a.inner around t at st first second is a.awaits there.stands)
+
+-- An operator follows the name so far, and arguments may follow it.
+pub operator-follows : (s : List ℕ) (old marked read new : Direct) (first second : ℕ) → IsWriting s old steps.Component
+    → Writes old marked (codes "::") → IsOperatorAt s marked.at first second read.at → is_angle first second ≡ false
+    → Reads marked read (operator_text first second)
     → new.text.list.items ≡ read.text.list.items → new.candidates.list.items ≡ read.candidates.list.items → new.waiting.list.items ≡ read.waiting.list.items
     → new.at ≡ read.at → new.nest.from ≡ read.nest.from → new.nest.purpose ≡ read.nest.purpose
     → new.nest.class_from ≡ length marked.text.list.items → new.nest.class_to ≡ length read.text.list.items → new.nest.is_listed ≡ false
     → new.nest.has_class ≡ true → new.nest.is_instance ≡ false → IsNestNamed s new
-operator-follows s old start marked read new first second p known plain letter next w m r text candidates waiting at nest_from purpose from to
-    unlisted has no_instance =
+operator-follows s old marked read new first second p w there plain r text candidates waiting at nest_from purpose from to unlisted has no_instance =
     let b = p.is_before in
-    let is : IsOperator first second = operator-listed first second known in
-    piece-follows s old start marked read new 2 (operator first second) (codes "operator" ++ look_up (first ∷ second ∷ []) operator_texts) p
-    (operator-piece first second plain) m w
-    (record { text = r.text; candidates = r.candidates; waiting = r.waiting; nest = r.nest; rounds = r.rounds })
-    (component-named s b.4 b.3 b.0 (within b.0 (operator first second)) old.at p.state b.7 (old.at + 2) new.at (at ∙ r.at ∙ w.at ∙ m.at)
-    (component-operator s b.7.inner b.3 b.0 old.at p.state first second is b.7.awaits
-    (stands-join s old.at (first ∷ []) (second ∷ []) (letter is.first_filled) (next is.second_filled))))
+    piece-follows s old old marked read new 0 (operator first second) (operator_text first second) p
+    (operator-piece first second) (operator-opening first second plain)
+    (record { text = refl; candidates = refl; waiting = refl; nest = refl; at = omega arith }) w r
+    (operator-read s b.4 b.3 b.0 old.at p.state b.7 first second read.at new.at (subst (λ k. IsOperatorAt s k first second read.at) w.at there) at)
     text candidates waiting nest_from purpose from to unlisted has no_instance
+
+-- An operator follows the name so far, and ends it.
+pub operator-last : (s : List ℕ) (old marked read : Direct) (first second : ℕ) → IsWriting s old steps.Component
+    → Writes old marked (codes "::") → IsOperatorAt s marked.at first second read.at → Reads marked read (operator_text first second)
+    → IsOperatorRead s read
+unfolding has_return_type arguments_of
+operator-last s old marked read first second p w there r =
+    let b = p.is_before in
+    let x = operator_text first second in
+    let m : List ℕ = codes "::" in
+    let g : Goes old read (m ++ x) = record {
+      text = r.text ∙ ap (λ l. l ++ x) w.text ∙ append_assoc old.text.list.items m x;
+      candidates = rw (r.candidates, w.candidates) refl;
+      waiting = rw (r.waiting, w.waiting) refl;
+      from = rw (r.nest, w.nest) refl;
+      purpose = rw (r.nest, w.nest) refl;
+    } in
+    record {
+      state = p.state;
+      candidates = candidates-go old read (m ++ x) p.state.candidates g p.candidates;
+      around = b.3;
+      outer = b.4;
+      own = within b.0 (operator first second);
+      named = operator-read s b.4 b.3 b.0 old.at p.state b.7 first second read.at read.at
+          (subst (λ k. IsOperatorAt s k first second read.at) w.at there) refl;
+      front = b.1;
+      bytes = b.2 ++ m ++ x;
+      written = g.text ∙ ap (λ l. l ++ (m ++ x)) b.5 ∙ append_assoc b.1 b.2 (m ++ x) ∙ ap (λ l. b.1 ++ l) (sym (append_assoc b.2 m x));
+      from_is = g.from ∙ b.6.from_is;
+      prints = within-names b.0 b.2 b.6.prints (operator first second) x (operator-piece first second);
+      no_return = refl;
+      serves = serves-go s old read (m ++ x) b.4 b.1 g b.8;
+    }

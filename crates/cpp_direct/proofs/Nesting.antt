@@ -25,14 +25,14 @@ use Rattle.cpp_direct.specs.Holes.{Opened, Comes, StandsAt, IsNameAt, IsSeqAt, S
 use Rattle.cpp_direct.specs.HolesOfNests.{IsRest}
 use Rattle.cpp_direct.specs.Prints.{Prints, NamesClass}
 use Rattle.cpp_direct.specs.Stands.{AreCandidates, IsNest, IsNesting, IsTemplate, ArgumentsGoOn, Serves, Stands, IsWriting, qualifiers}
-use Rattle.cpp_direct.specs.Ways.{AwaitsNest, IsNestNamed, IsNameEnded}
+use Rattle.cpp_direct.specs.Ways.{AwaitsNest, IsNestNamed, IsNameEnded, IsOperatorRead}
 use Rattle.cpp_direct.specs.Written.{Reads, added, added_unless}
 use Rattle.cpp_direct.proofs.Kept.{arguments-begun, candidates-stay, candidates-with, candidates-unless, candidate-found, piece-found, nest-stays, reverse-last}
 use Rattle.cpp_direct.proofs.Moves.{expects-empty, stands-join, comes-moved}
 use Rattle.cpp_direct.proofs.MovesOfComponents.{component-awaits, first-arguments, nest-end}
 use Rattle.cpp_direct.proofs.MovesOfLists.{arguments-open}
 use Rattle.cpp_direct.proofs.MovesOfNests.{nest-source, nest-abbreviation, nest-substitution, nest-std}
-use Rattle.cpp_direct.proofs.PrintedNames.{source-prints, source-class, std-prints, std-class, abbreviation-prints}
+use Rattle.cpp_direct.proofs.PrintedNames.{as-name, source-prints, source-class, std-prints, std-class, abbreviation-prints}
 
 -- ## What small functions did
 
@@ -251,10 +251,38 @@ name-comes s old st t is_const candidates n no_return returns here is_name =
       name = n.bytes;
       written = n.written;
       from_is = n.is_nest.from_is;
-      prints = n.is_nest.prints;
+      prints = as-name t n.bytes false n.is_nest.prints;
       no_return = no_return;
       returns = returns;
       awaits = serves t old.nest.is_listed (old.at + 1) st (nest-comes s old st t n here);
+    }
+
+-- the E of one that an operator ends
+pub operator-ends : (s : List ℕ) (w : Direct) (is_const : Bool) → IsOperatorRead s w → StandsAt s w.at (69 ∷ [])
+    → w.nest.purpose ≡ purposes.Name is_const → IsNameEnded s (record w { at = w.at + 1 }) is_const false w.nest.from
+unfolding may_be_empty tree_of qualifiers_of ref_of
+operator-ends s w is_const p here is_name =
+    let t = p.own in
+    let st = p.state in
+    let serves = subst (λ u. Serves s u (Stands s (reverse w.waiting.list.items)) p.outer p.front) is_name p.serves in
+    let goes = p.named.bare w.at st (expects-empty s Kind.MaybeArguments (after t false p.around) p.named.inner w.at st p.named.awaits refl) in
+    record {
+      state = st;
+      candidates = p.candidates;
+      own = t;
+      v = named t (qualifiers is_const) any_value;
+      tree_is = refl;
+      qualifiers_are = refl;
+      mark_is = refl;
+      lead = p.front;
+      name = p.bytes;
+      written = p.written;
+      from_is = p.from_is;
+      prints = p.prints;
+      no_return = λ e. p.no_return;
+      returns = λ e. absurd (false≢true e);
+      awaits = serves t false (w.at + 1) st
+          (goes.passes (tree t false) (w.at + 1) st (nest-end s goes.inner p.around t false w.at st goes.awaits here));
     }
 
 -- ## The first piece

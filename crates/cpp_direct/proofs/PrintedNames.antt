@@ -1,16 +1,18 @@
 -- Names and types that are one text: source names, abbreviations and builtin types.
 use Rattle.std.proofs.Common.{◌≡◌, ◌≢◌, refl, ap, sym, ◌∙◌, ℕ, ◌+◌, ◌≤◌, List, [], ◌∷◌, ◌++◌, length, Bool, true, false, arith, codes, length-append, append-nil, subst, nat_eq, ◌||◌, inl, inr}
 use Rattle.std.proofs.lemmas.Bool.{eqb-true}
+use Rattle.sym_print.specs.declared.detail.Detail.TheVariants.{Full}
 use Rattle.sym_print.specs.Unfold.{text}
 use Rattle.sym_print.specs.Unshared.{text_of, cost_of}
-use Rattle.cpp_grammar.specs.Term.{alone, in_std, abbreviation, source, operator, builtin}
+use Rattle.cpp_grammar.specs.Term.{Term, alone, in_std, abbreviation, source, operator, builtin}
 use Rattle.cpp_grammar.specs.Scope.{is_open, pack_length}
 use Rattle.cpp_grammar.specs.References.{is_function_type}
 use Rattle.cpp_grammar.specs.Texts.{look_up, abbreviation_texts, builtin_texts, operator_texts, same_bytes}
 use Rattle.cpp_grammar.specs.Items.{left, right, base, piece, Context, head_with, head, is_reference, is_funarr, is_empty}
 use Rattle.cpp_grammar.specs.Meaning.{is_void}
 use Rattle.cpp_grammar.specs.Parts.{as_item, says, source_text, prefix_item, last_piece, opening_text, piece_parts, left_parts, right_parts, base_parts, parts_in, not_empty, is_plain_integer}
-use Rattle.cpp_direct.specs.Prints.{in_form, EndsAsInteger, Prints, NamesClass}
+use Rattle.cpp_direct.specs.Names.{is_angle, operator_text}
+use Rattle.cpp_direct.specs.Prints.{in_form, EndsAsInteger, Prints, PrintsName, NamesClass}
 use Rattle.cpp_direct.proofs.PrintedParts.{text_by, cost_by, text_alone, cost_first, length-filled}
 
 -- the text of a source name isn't empty
@@ -21,6 +23,10 @@ source-filled name filled = go _
     go : (anonymous : Bool) → 1 ≤ length {A = ℕ} (elim anonymous [ true ↦ codes "(anonymous namespace)" | false ↦ name ])
     go true = omega arith
     go false = length-filled name filled
+
+-- what prints so names something so
+pub as-name : (t : Term) (b : List ℕ) (reference : Bool) → Prints t b reference → PrintsName t b
+as-name t b reference p = record { left_text = p.left_text; cost = p.cost }
 
 -- one of some letters, or one more
 at-letter : (P : ℕ → Type 0) (letter c : ℕ) (before : Bool) → (before ≡ true → P letter) → P c → (before || nat_eq letter c) ≡ true → P letter
@@ -97,18 +103,18 @@ piece-cost c internal name = omega (
 
 -- an operator as a piece
 pub operator-text : (c : Context) (first second : ℕ)
-    → text_of (in_form piece c (operator first second)) ≡ codes "operator" ++ look_up (first ∷ second ∷ []) operator_texts
+    → text_of (in_form piece c (operator first second)) ≡ operator_text first second
 unfolding parts_in piece_parts
 operator-text c first second =
-    let x : List ℕ = codes "operator" ++ look_up (first ∷ second ∷ []) operator_texts in
+    let x = operator_text first second in
     text_by piece c (operator first second) (text x ∷ []) refl ∙ text_alone x
 
 -- and what it costs
 pub operator-cost : (c : Context) (first second : ℕ)
-    → cost_of (in_form piece c (operator first second)) ≡ 1 + length (codes "operator" ++ look_up (first ∷ second ∷ []) operator_texts)
+    → cost_of (in_form piece c (operator first second)) ≡ 1 + length (operator_text first second)
 unfolding parts_in piece_parts not_empty
 operator-cost c first second =
-    let x : List ℕ = codes "operator" ++ look_up (first ∷ second ∷ []) operator_texts in
+    let x = operator_text first second in
     omega (arith, cost_by piece c (operator first second) (text x ∷ []) refl, cost_first x [])
 
 std-left : (c : Context) (internal : Bool) (name : List ℕ)
@@ -149,6 +155,79 @@ std-prints internal name filled = let t = in_std (source internal name) in recor
   no_function = refl;
   as_prefix = λ c. refl;
   opening = refl;
+  void = λ e. cc e;
+  integer = λ e. cc e;
+}
+
+-- An operator names something by its text.
+pub operator-names : (a b : ℕ) → PrintsName (alone (operator a b)) (operator_text a b)
+unfolding parts_in left_parts right_parts piece_parts not_empty
+operator-names a b = let t = alone (operator a b) in let x = operator_text a b in record {
+  left_text = λ c. text_by left c t (text x ∷ []) refl ∙ text_alone x;
+  cost = λ c. omega (
+    arith,
+    length-append (codes "operator") (look_up (a ∷ b ∷ []) operator_texts),
+    cost_first x [],
+    cost_by left c t (text x ∷ []) refl,
+    cost_by right c t [] refl,
+  );
+}
+
+-- It prints so, unless a blank stands between it and arguments.
+pub operator-prints : (a b : ℕ) → is_angle a b ≡ false → Prints (alone (operator a b)) (operator_text a b) false
+unfolding parts_in right_parts not_empty head head_with is_reference is_funarr is_empty is_open pack_length is_function_type
+    prefix_item last_piece opening_text is_void is_plain_integer
+operator-prints a b plain = let t = alone (operator a b) in let n = operator-names a b in record {
+  left_text = n.left_text;
+  right_text = λ c. text_by right c t [] refl;
+  cost = n.cost;
+  is_reference_head = λ c. refl;
+  is_funarr_head = λ c. refl;
+  filled = λ c. refl;
+  is_closed = refl;
+  packless = λ scope. refl;
+  no_function = refl;
+  as_prefix = λ c. refl;
+  opening = rw plain refl;
+  void = λ e. cc e;
+  integer = λ e. cc e;
+}
+
+-- The same in std.
+pub std-operator-names : (a b : ℕ) → PrintsName (in_std (operator a b)) (codes "std::" ++ operator_text a b)
+unfolding parts_in left_parts right_parts not_empty
+std-operator-names a b =
+    let t = in_std (operator a b) in
+    let x = operator_text a b in
+    let is : (c : Context) → parts_in Full c left t ≡ says "std::" ∷ as_item piece c (operator a b) ∷ [] = λ c. refl in
+    record {
+      left_text = λ c. text_by left c t (says "std::" ∷ as_item piece c (operator a b) ∷ []) (is c)
+          ∙ ap (λ s. codes "std::" ++ (s ++ [])) (operator-text c a b) ∙ ap (λ s. codes "std::" ++ s) (append-nil x);
+      cost = λ c. omega (
+        arith,
+        operator-cost c a b,
+        length-append (codes "operator") (look_up (a ∷ b ∷ []) operator_texts),
+        cost_by left c t (says "std::" ∷ as_item piece c (operator a b) ∷ []) (is c),
+        cost_by right c t [] refl,
+        length-append (codes "std::") x,
+      );
+    }
+
+pub std-operator-prints : (a b : ℕ) → is_angle a b ≡ false → Prints (in_std (operator a b)) (codes "std::" ++ operator_text a b) false
+unfolding parts_in right_parts not_empty head head_with is_reference is_funarr is_empty is_open pack_length is_function_type
+    prefix_item last_piece opening_text is_void is_plain_integer
+std-operator-prints a b plain = let t = in_std (operator a b) in let n = std-operator-names a b in record {
+  left_text = n.left_text;
+  right_text = λ c. text_by right c t [] refl;
+  cost = n.cost;
+  is_reference_head = λ c. refl;
+  is_funarr_head = λ c. refl;
+  filled = λ c. refl;
+  is_closed = refl;
+  packless = λ scope. refl;
+  no_function = refl;
+  as_prefix = λ c. refl;
+  opening = rw plain refl;
   void = λ e. cc e;
   integer = λ e. cc e;
 }

@@ -1,15 +1,16 @@
 -- Names in other names, constructors and destructors, and names with arguments.
-use Rattle.std.proofs.Common.{◌≡◌, ◌≢◌, refl, ap, sym, ◌∙◌, ℕ, ◌+◌, ◌*◌, ◌≤◌, List, [], ◌∷◌, ◌++◌, length, Bool, true, false, ◌||◌, None, arith, codes, length-append, append-nil, append_assoc}
+use Rattle.std.proofs.Common.{◌≡◌, ◌≢◌, refl, ap, sym, ◌∙◌, ℕ, ◌+◌, ◌*◌, ◌≤◌, List, [], ◌∷◌, ◌++◌, length, Bool, true, false, None, arith, codes, length-append, append-nil, append_assoc}
 use Rattle.sym_print.specs.Unfold.{text}
 use Rattle.sym_print.specs.Unshared.{text_of, cost_of}
 use Rattle.cpp_grammar.specs.Term.{Term, within, instance, source, operator, constructor, destructor}
 use Rattle.cpp_grammar.specs.Scope.{is_open, pack_length, first_of, is_structor}
 use Rattle.cpp_grammar.specs.References.{is_function_type}
-use Rattle.cpp_grammar.specs.Texts.{look_up, operator_texts, same_bytes}
+use Rattle.cpp_grammar.specs.Texts.{look_up, operator_texts}
 use Rattle.cpp_grammar.specs.Items.{left, right, base, piece, first, Context, head_with, head, is_reference, is_funarr, is_empty}
 use Rattle.cpp_grammar.specs.Meaning.{is_void}
 use Rattle.cpp_grammar.specs.Parts.{as_item, says, list_part, source_text, prefix_item, last_piece, opening_text, piece_parts, within_parts, base_within, instance_parts, left_parts, right_parts, base_parts, parts_in, not_empty, is_plain_integer}
-use Rattle.cpp_direct.specs.Prints.{in_form, Prints, NamesClass, PrintAll}
+use Rattle.cpp_direct.specs.Names.{is_angle, operator_text}
+use Rattle.cpp_direct.specs.Prints.{in_form, Prints, PrintsName, NamesClass, PrintAll}
 use Rattle.cpp_direct.specs.Stands.{IsTail, list_with}
 use Rattle.cpp_direct.proofs.PrintedParts.{printed_by, text_by, cost_by, text_alone, cost_first, text_append, cost_append}
 use Rattle.cpp_direct.proofs.PrintedNames.{source-filled, piece-text, piece-cost, operator-text, operator-cost}
@@ -30,12 +31,11 @@ pub record IsPiece (p : Term) (x : List ℕ) : Type 0 where
   pub filled : 1 ≤ length x
   pub is_closed : is_open p ≡ false
   pub packless : (scope : Term) → pack_length scope p ≡ None
-  pub opening : opening_text p ≡ codes "<"
   pub no_structor : (t : Term) → is_structor (within t p) ≡ false
 
 -- a source name is one
 pub source-piece : (internal : Bool) (name : List ℕ) → name ≢ [] → IsPiece (source internal name) (source_text name)
-unfolding within_parts base_within piece_parts is_open pack_length opening_text is_structor
+unfolding within_parts base_within piece_parts is_open pack_length is_structor
 source-piece internal name filled = record {
   piece_text = λ c. piece-text c internal name;
   piece_cost = λ c. piece-cost c internal name;
@@ -44,15 +44,18 @@ source-piece internal name filled = record {
   filled = source-filled name filled;
   is_closed = refl;
   packless = λ scope. refl;
-  opening = refl;
   no_structor = λ t. refl;
 }
 
--- and so is an operator, but for << and <, behind which a blank stands before arguments
-pub operator-piece : (a b : ℕ) → same_bytes (a ∷ b ∷ []) (codes "ls") || same_bytes (a ∷ b ∷ []) (codes "lt") ≡ false
-    → IsPiece (operator a b) (codes "operator" ++ look_up (a ∷ b ∷ []) operator_texts)
-unfolding within_parts base_within piece_parts is_open pack_length opening_text is_structor
-operator-piece a b plain = record {
+-- behind which arguments stand in brackets
+pub source-opening : (internal : Bool) (name : List ℕ) → opening_text (source internal name) ≡ codes "<"
+unfolding opening_text
+source-opening internal name = refl
+
+-- and so is an operator
+pub operator-piece : (a b : ℕ) → IsPiece (operator a b) (operator_text a b)
+unfolding within_parts base_within piece_parts is_open pack_length is_structor
+operator-piece a b = record {
   piece_text = λ c. operator-text c a b;
   piece_cost = λ c. operator-cost c a b;
   within_is = λ c t. refl;
@@ -60,9 +63,13 @@ operator-piece a b plain = record {
   filled = omega (arith, length-append (codes "operator") (look_up (a ∷ b ∷ []) operator_texts));
   is_closed = refl;
   packless = λ scope. refl;
-  opening = rw plain refl;
   no_structor = λ t. refl;
 }
+
+-- but for << and <, behind which a blank stands before them
+pub operator-opening : (a b : ℕ) → is_angle a b ≡ false → opening_text (operator a b) ≡ codes "<"
+unfolding opening_text
+operator-opening a b plain = rw plain refl
 
 within-is : (c : Context) (t p : Term) (x : List ℕ) → IsPiece p x → prefix_item c t ≡ as_item left c t
     → within_parts c t p ≡ as_item left c t ∷ says "::" ∷ as_item piece c p ∷ []
@@ -85,14 +92,12 @@ within-cost t b prints p x is c =
       is.piece_cost c,
     )
 
--- A piece in a class or a namespace prints both.
-pub within-prints : (t : Term) (b : List ℕ) → Prints t b false → (p : Term) (x : List ℕ) → IsPiece p x
-    → Prints (within t p) (b ++ codes "::" ++ x) false
-unfolding parts_in left_parts right_parts not_empty head head_with is_reference is_funarr is_empty is_open pack_length first_of is_function_type
-    prefix_item last_piece is_void is_plain_integer
-within-prints t b prints p x is = let w = within t p in record {
+-- A piece in a class or a namespace names something by both.
+pub within-names : (t : Term) (b : List ℕ) → Prints t b false → (p : Term) (x : List ℕ) → IsPiece p x
+    → PrintsName (within t p) (b ++ codes "::" ++ x)
+unfolding parts_in right_parts not_empty
+within-names t b prints p x is = let w = within t p in record {
   left_text = within-text t b prints p x is;
-  right_text = λ c. text_by right c w [] refl;
   cost = λ c. omega (
     arith,
     prints.cost c,
@@ -102,6 +107,17 @@ within-prints t b prints p x is = let w = within t p in record {
     length-append (b ++ codes "::") x,
     length-append b (codes "::"),
   );
+}
+
+-- A piece in a class or a namespace prints both.
+pub within-prints : (t : Term) (b : List ℕ) → Prints t b false → (p : Term) (x : List ℕ) → IsPiece p x → opening_text p ≡ codes "<"
+    → Prints (within t p) (b ++ codes "::" ++ x) false
+unfolding parts_in left_parts right_parts not_empty head head_with is_reference is_funarr is_empty is_open pack_length first_of is_function_type
+    prefix_item last_piece is_void is_plain_integer
+within-prints t b prints p x is opening = let w = within t p in let n = within-names t b prints p x is in record {
+  left_text = n.left_text;
+  right_text = λ c. text_by right c w [] refl;
+  cost = n.cost;
   is_reference_head = λ c. refl;
   is_funarr_head = λ c. refl;
   filled = λ c. refl;
@@ -109,7 +125,7 @@ within-prints t b prints p x is = let w = within t p in record {
   packless = λ scope. rw (prints.packless scope, is.packless scope) refl;
   no_function = refl;
   as_prefix = λ c. refl;
-  opening = is.opening;
+  opening = opening;
   void = λ e. cc e;
   integer = λ e. cc e;
 }

@@ -11,7 +11,7 @@ use Rattle.cpp_grammar.specs.Values.{Value, tree_of, qualifiers_of, ref_of}
 use Rattle.cpp_grammar.specs.Meaning.{is_void, is_nil, parameters, encoding_of}
 use Rattle.cpp_grammar.specs.Parts.{as_item, says, text_part, list_part, types_of, qualifier_text, ref_text, encoding_text, function_bare, function_full, thunk_text, full_parts, left_parts, root_parts, parts_in, not_empty}
 use Rattle.cpp_grammar.specs.Answer.{shown, root_item}
-use Rattle.cpp_direct.specs.Prints.{in_form, Prints, IsElement, Shows, list_of, joined, PrintEach, PrintAll}
+use Rattle.cpp_direct.specs.Prints.{in_form, Prints, PrintsName, IsElement, Shows, list_of, joined, PrintEach, PrintAll}
 use Rattle.cpp_direct.specs.Stands.{qualifiers, plain_encoding}
 use Rattle.cpp_direct.proofs.PrintedParts.{printed_by, text_by, cost_by, text_first, cost_first, text_append, cost_append, part-text, part-cost, length-filled}
 use Rattle.cpp_direct.proofs.PrintedLists.{list-text, list-cost, none-print}
@@ -23,7 +23,7 @@ signed_text x y z b l q e f g =
     rw (e, f, g) (ap (λ s. s ++ (codes ")" ++ q)) (sym (append_assoc b (codes "(") l)) ∙ sym (append_assoc (b ++ codes "(" ++ l) (codes ")") q))
 
 -- A function that has no return type prints its name, its parameters and its qualifiers.
-pub function-shows : (name : Term) (b : List ℕ) → Prints name b false → (ts : List Term) (l : List ℕ) → PrintAll 0 ts l
+pub function-shows : (name : Term) (b : List ℕ) → PrintsName name b → (ts : List Term) (l : List ℕ) → PrintAll 0 ts l
     → (q : Qualifiers) (ref : RefQualifier)
     → Shows (function name q ref absent (list_of ts)) (b ++ codes "(" ++ l ++ codes ")" ++ encoding_text q ref)
 unfolding parts_in full_parts function_full function_bare not_empty
@@ -99,7 +99,7 @@ front-shows name q ref items l shows r b is_reference p =
     }
 
 -- Data print their name.
-pub object-shows : (name : Term) (b : List ℕ) → Prints name b false → (q : Qualifiers) (ref : RefQualifier)
+pub object-shows : (name : Term) (b : List ℕ) → PrintsName name b → (q : Qualifiers) (ref : RefQualifier)
     → Shows (object name q ref) (b ++ encoding_text q ref)
 unfolding parts_in full_parts not_empty
 object-shows name b p q ref =
@@ -230,13 +230,13 @@ none_bracketed : (b q : List ℕ) → b ++ codes "(" ++ [] ++ codes ")" ++ q ≡
 none_bracketed b q = ap (λ s. s ++ codes ")" ++ q) (append-nil (b ++ codes "(")) ∙ ap (λ s. s ++ q) (append_assoc b (codes "(") (codes ")"))
 
 -- A function without parameters shows its name and its qualifiers.
-pub void-shows : (name : Term) (b : List ℕ) → Prints name b false → (q : Qualifiers) (ref : RefQualifier)
+pub void-shows : (name : Term) (b : List ℕ) → PrintsName name b → (q : Qualifiers) (ref : RefQualifier)
     → Shows (function name q ref absent nil) (b ++ codes "()" ++ encoding_text q ref)
 void-shows name b p q ref =
     subst (λ l. Shows (function name q ref absent nil) l) (none_bracketed b (encoding_text q ref)) (function-shows name b p [] [] (none-print 0) q ref)
 
 -- Without items it shows the name.
-pub object-encoded : (v : Value) (b : List ℕ) → Prints (tree_of v) b false
+pub object-encoded : (v : Value) (b : List ℕ) → PrintsName (tree_of v) b
     → Shows (encoding_of v nil) (b ++ encoding_text (qualifiers_of v) (ref_of v))
 object-encoded v b p = subst (λ f. Shows f (b ++ encoding_text (qualifiers_of v) (ref_of v))) (sym (encoding-object v))
     (object-shows (tree_of v) b p (qualifiers_of v) (ref_of v))

@@ -17,14 +17,14 @@ use Rattle.cpp_direct.proofs.PrintedLists.{list-text, list-cost}
 use Rattle.cpp_direct.proofs.PrintedNests.{IsPiece, joins}
 
 -- a piece of a nested name is one
-pub piece-prints : (p : Term) (x : List ℕ) → IsPiece p x → PrintsPiece p x
-piece-prints p x is = record {
+pub piece-prints : (p : Term) (x : List ℕ) → IsPiece p x → opening_text p ≡ codes "<" → PrintsPiece p x
+piece-prints p x is opening = record {
   piece_text = is.piece_text;
   piece_cost = λ c. omega (arith, is.piece_cost c, is.filled);
   as_component = is.within_is;
   is_closed = is.is_closed;
   packless = is.packless;
-  opening = is.opening;
+  opening = opening;
 }
 
 lambda_text : (d t : List ℕ) → d ≡ t → codes "{lambda(" ++ (codes ")#" ++ (d ++ codes "}")) ≡ codes "{lambda()#" ++ t ++ codes "}"

@@ -1,8 +1,9 @@
--- Names: what is read of their length, and where their own bytes stand.
-use Rattle.std.specs.Prelude.{◌≡◌, ◌≢◌, ℕ, ◌+◌, ◌-◌, ◌≤◌, ◌<◌, List, [], length, take, drop}
+-- Names: what is read of their length, and where their own bytes stand. Operators: where their codes stand, and their names.
+use Rattle.std.specs.Prelude.{◌≡◌, ◌≢◌, ℕ, ◌+◌, ◌-◌, ◌≤◌, ◌<◌, List, [], ◌∷◌, ◌++◌, ◌||◌, length, take, drop, Bool, codes}
 use Rattle.sym_core.specs.declared.NumberKind.TheVariants.{Length}
 use Rattle.sym_core.specs.Number.{AreDigitsOf}
 use Rattle.sym_core.specs.Value.{value_of}
+use Rattle.cpp_grammar.specs.Texts.{look_up, operator_texts, same_bytes}
 use Rattle.cpp_direct.specs.declared.names.NamePlace.{NamePlace}
 use Rattle.cpp_direct.specs.Holes.{StandsAt, IsNameAt}
 
@@ -14,6 +15,20 @@ pub record IsLengthRead (s : List ℕ) (at from size : ℕ) : Type 0 where
   pub from_is : from ≡ at + length digits
   pub size_is : size ≡ value_of Length digits
   pub some : 0 < size
+
+-- The code of an operator stands at the place, and this is the place behind it.
+pub record IsOperatorAt (s : List ℕ) (at : ℕ) (first second : ℕ) (end : ℕ) : Type 0 where
+  pub known : look_up (first ∷ second ∷ []) operator_texts ≢ []
+  pub stands : StandsAt s at (first ∷ second ∷ [])
+  pub ends : end ≡ at + 2
+
+-- it is that of << or <
+abbrev pub is_angle : (first second : ℕ) → Bool
+is_angle first second = same_bytes (first ∷ second ∷ []) (codes "ls") || same_bytes (first ∷ second ∷ []) (codes "lt")
+
+-- the name of an operator
+abbrev pub operator_text : (first second : ℕ) → List ℕ
+operator_text first second = codes "operator" ++ look_up (first ∷ second ∷ []) operator_texts
 
 -- A name stands at the place, and its own bytes are those from here to there.
 pub record IsNamePlace (s : List ℕ) (at : ℕ) (place : NamePlace) : Type 0 where

@@ -34,6 +34,11 @@ pub record Prints (t : Term) (bytes : List ℕ) (reference : Bool) : Type 0 wher
   pub void : is_void t ≡ true → bytes ≡ codes "void"
   pub integer : is_plain_integer t ≡ true → EndsAsInteger bytes
 
+-- A tree with this text at the left, as the name of a function or of data has it.
+pub record PrintsName (t : Term) (bytes : List ℕ) : Type 0 where
+  pub left_text : (context : Context) → text_of (in_form left context t) ≡ bytes
+  pub cost : (context : Context) → 1 + cost_of (in_form left context t) + cost_of (in_form right context t) ≤ 4 * length bytes
+
 -- A tree whose class is named so where it stands in front of a constructor or a destructor.
 pub record NamesClass (t : Term) (class : List ℕ) : Type 0 where
   pub base_text : (context : Context) → text_of (in_form base context t) ≡ class

@@ -30,7 +30,7 @@ use Rattle.cpp_direct.specs.HolesOfFunctions.{SignatureGoesOn, plain_function}
 use Rattle.cpp_direct.specs.HolesOfTypes.{NoReference}
 use Rattle.cpp_direct.specs.HolesOfLists.{IsSuffix, IsDigitsAt, minus_sign}
 use Rattle.cpp_direct.specs.HolesOfLocals.{EntityOpened, IsDiscriminatorAt, IsEntityAt, IsLambdaDigit, lambda_ending, lambda_with, local_in}
-use Rattle.cpp_direct.specs.Prints.{Prints, Shows, Encloses, NamesClass, PrintAll}
+use Rattle.cpp_direct.specs.Prints.{Prints, PrintsName, Shows, Encloses, NamesClass, PrintAll}
 
 -- ## Candidates
 
@@ -147,7 +147,7 @@ plain_encoding is_const own items = function own (qualifiers is_const) any_value
 pub record IsFunction (is_const : Bool) (make : Term → Term) (ts : List Term) (name texts : List ℕ) : Type 0 where
   pub own : Term
   pub makes : (t rest : Term) → make (list t rest) ≡ plain_encoding is_const own (list t rest)
-  pub prints : Prints own name false
+  pub prints : PrintsName own name
   pub elements : PrintAll 0 ts texts
 
 -- the name of a function that has a return type, and its text
@@ -156,7 +156,7 @@ pub record IsInstance (is_const : Bool) (v : Value) (name : List ℕ) : Type 0 w
   pub tree_is : tree_of v ≡ own
   pub qualifiers_are : qualifiers_of v ≡ qualifiers is_const
   pub mark_is : ref_of v ≡ any_value
-  pub prints : Prints own name false
+  pub prints : PrintsName own name
   pub returns : has_return_type own ≡ true
 
 -- ## What is open

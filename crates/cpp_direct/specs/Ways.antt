@@ -5,8 +5,9 @@ use Rattle.cpp_grammar.specs.Term.{Term, Signed, any_value, instance, builtin}
 use Rattle.cpp_grammar.specs.Texts.{look_up, builtin_texts, literal_endings}
 use Rattle.cpp_grammar.specs.Parts.{is_plain_integer}
 use Rattle.cpp_grammar.specs.Scope.{has_return_type, is_structor}
+use Rattle.cpp_grammar.specs.Between.{after, in_name}
 use Rattle.cpp_grammar.specs.Meaning.{encoding_of}
-use Rattle.cpp_grammar.specs.Values.{State, Around, Value, tree, outermost, tree_of, qualifiers_of, ref_of}
+use Rattle.cpp_grammar.specs.Values.{State, Around, Value, nothing_there, tree, outermost, tree_of, qualifiers_of, ref_of}
 use Rattle.cpp_direct.specs.declared.open.Purpose.{Purpose}
 use Rattle.cpp_direct.specs.declared.open.Open.{Open}
 use Rattle.cpp_direct.specs.declared.open.Open.TheVariants as opens
@@ -15,7 +16,7 @@ use Rattle.cpp_direct.specs.Bytes.{is_local}
 use Rattle.cpp_direct.specs.Holes.{Opened, StandsAt, Comes, Expects, IsReferable, IsTyped, TypeNamed, NestNamed, with_candidate}
 use Rattle.cpp_direct.specs.HolesOfFunctions.{SignatureGoesOn, plain_function, pointed, with_pointed}
 use Rattle.cpp_direct.specs.HolesOfTypes.{IsNamedKind, NoReference, TreeOpens}
-use Rattle.cpp_direct.specs.Prints.{Prints, IsElement, PrintAll, Shows, Encloses, sign_text}
+use Rattle.cpp_direct.specs.Prints.{Prints, PrintsName, IsElement, PrintAll, Shows, Encloses, sign_text}
 use Rattle.cpp_direct.specs.Stands.{AreCandidates, AwaitsItems, Encoded, EncodedBehind, IsFunction, IsInstance, IsListing, IsNest, IsTail, IsTemplate, GoesOn, EnumeratorGoesOn, ItemsGoOn, LambdaWithin, Owns, ParametersGoOn, Serves, Stands, TypeWithin, TakesFunction, opening_text, qualifiers, extra_of, led_by, list_with, in_front_of_next}
 
 -- what stands behind the parameters of a member function
@@ -44,6 +45,29 @@ pub record AwaitsSource (s : List ℕ) (w : Direct) (is_internal : Bool) : Type 
   pub awaits : AwaitsEncoding s (record w { at = before })
   pub letter : is_internal ≡ true → StandsAt s before (76 ∷ [])
   pub at_is : w.at ≡ before + cond is_internal 1 0
+
+-- the name of an encoding was read behind a text, with or without arguments behind it
+pub record HasName (s : List ℕ) (lead : List ℕ) (encoding : ℕ) (t : Term) (at : ℕ) (st : State) : Type 0 where
+  pub inner : List Opened
+  pub awaits : Expects s Kind.MaybeArguments (after t false (in_name encoding)) inner at st
+  pub bare : (at : ℕ) (st : State) → Comes s inner nothing_there at st → AwaitsItems s lead (tree t false) at st
+  pub argued : (a : Term) (at : ℕ) (st : State) → Comes s inner (tree a true) at st → AwaitsItems s lead (tree (instance t a) false) at st
+
+-- The name of an encoding that stands in no class was read, and written from a place on. It takes arguments behind it, or may have none.
+pub record IsUnscoped (s : List ℕ) (w : Direct) (from : ℕ) (takes : Bool) : Type 0 where
+  pub state : State
+  pub candidates : AreCandidates w.text.list.items w.candidates.list.items state.candidates
+  pub encoding : ℕ
+  pub own : Term
+  pub front : List ℕ
+  pub bytes : List ℕ
+  pub has : HasName s front encoding own w.at state
+  pub written : w.text.list.items ≡ front ++ bytes
+  pub from_is : from ≡ length front
+  pub names : PrintsName own bytes
+  pub prints : takes ≡ true → Prints own bytes false
+  pub no_return : has_return_type own ≡ false
+  pub no_structor : is_structor own ≡ false
 
 -- a type is expected
 pub record AwaitsType (s : List ℕ) (w : Direct) : Type 0 where
@@ -134,6 +158,22 @@ pub record IsNestNamed (s : List ℕ) (w : Direct) : Type 0 where
   pub no_structor : w.nest.has_class ≡ true → is_structor own ≡ false
   pub serves : Serves s w.nest.purpose (Stands s (reverse w.waiting.list.items)) outer front
 
+-- An operator was read that ends a nested name: no arguments are read behind it.
+pub record IsOperatorRead (s : List ℕ) (w : Direct) : Type 0 where
+  pub state : State
+  pub candidates : AreCandidates w.text.list.items w.candidates.list.items state.candidates
+  pub around : Around
+  pub outer : List Opened
+  pub own : Term
+  pub named : NestNamed s outer around own w.at state
+  pub front : List ℕ
+  pub bytes : List ℕ
+  pub written : w.text.list.items ≡ front ++ bytes
+  pub from_is : w.nest.from ≡ length front
+  pub prints : PrintsName own bytes
+  pub no_return : has_return_type own ≡ false
+  pub serves : Serves s w.nest.purpose (Stands s (reverse w.waiting.list.items)) outer front
+
 -- A constructor or a destructor was read, and was written but for the name of its class.
 pub record AwaitsClass (s : List ℕ) (w : Direct) : Type 0 where
   pub state : State
@@ -217,7 +257,7 @@ pub record IsNameEnded (s : List ℕ) (w : Direct) (is_const is_instance : Bool)
   pub name : List ℕ
   pub written : w.text.list.items ≡ lead ++ name
   pub from_is : from ≡ length lead
-  pub prints : Prints own name false
+  pub prints : PrintsName own name
   pub no_return : is_instance ≡ false → has_return_type own ≡ false
   pub returns : is_instance ≡ true → has_return_type own ≡ true
   pub awaits : AwaitsItems s lead v w.at state
@@ -315,7 +355,7 @@ pub record IsEnclosingNamed (s : List ℕ) (w : Direct) (is_const : Bool) (from 
   pub name : List ℕ
   pub written : w.text.list.items ≡ front ++ name
   pub from_is : from ≡ length front
-  pub prints : Prints own name false
+  pub prints : PrintsName own name
   pub no_return : has_return_type own ≡ false
   pub goes : ItemsGoOn s (TypeWithin s (Stands s (reverse w.waiting.list.items)) front) (λ l. encoding_of v l) [] w.at state
 

@@ -1,10 +1,11 @@
 //! The text of a C++ symbol, written while its bytes are read.
 //!
-//! Functions, variables, their local entities, thunks and special objects are read so, with names, nested names, operators of
-//! classes, constructors, template arguments, packs, literals, pointers, references and const; types that stand in functions, and
+//! Functions, variables, their local entities, thunks and special objects are read so, with names, nested names, operators,
+//! constructors, template arguments, packs, literals, pointers, references and const; types that stand in functions, and
 //! lambdas there; function types where they are arguments, parameters or what a special object is of, by themselves
-//! or behind one pointer; instances of function templates whose types name no parameter of the template. A symbol with anything else in it is given up, and is to be read by its grammar: no answer depends on this
-//! crate, which one call in `sym_filter` (`languages`) makes and may leave out.
+//! or behind one pointer; instances of function templates whose types name no parameter of the template. A symbol with
+//! anything else in it is given up, and is to be read by its grammar: no answer depends on this crate, which one call in
+//! `sym_filter` (`languages`) makes and may leave out.
 #![tactic(auto)]
 
 mod direct;
@@ -20,6 +21,7 @@ mod symbols;
 mod thunks;
 mod tokens;
 mod types;
+mod unscoped;
 mod writing;
 
 pub use direct::Direct;

@@ -6,7 +6,7 @@ ghost use Rattle.sym_core.specs.Number.{FitsSymbol};
 ghost use Rattle.cpp_direct.specs.declared.open.Step.TheVariants as steps;
 ghost use Rattle.cpp_direct.specs.Holes.{StandsAt};
 ghost use Rattle.cpp_direct.specs.Stands.{IsWriting};
-ghost use Rattle.cpp_direct.specs.Ways.{AwaitsNest, AwaitsClass, IsNestNamed};
+ghost use Rattle.cpp_direct.specs.Ways.{AwaitsNest, AwaitsClass, IsNestNamed, IsOperatorRead};
 
 use crate::direct::Direct;
 use crate::open::{Nest, Open, Purpose, Step};
@@ -215,25 +215,18 @@ impl Direct {
         self.nest_named(s)
     }
 
-    /// Reads an operator, but for << and <: a blank stands between these and the arguments behind them.
-    // <operator-name> ::= nw | na | dl | da | ps | ng | ..
+    // <unqualified-name> ::= <operator-name>
     #[inline(never)]
     fn operator(&mut self, s: &[u8]) -> Option<Step>
-        requires { IsWriting s.now self.old steps.Component }
+        requires fits { FitsSymbol s.now }
+        requires writing { IsWriting s.now self.old steps.Component }
         ensures { IfSome result (IsWriting s.now self.new) }
     {
-        let first = byte_at(s, self.at);
-        self.at = self.at.checked_add(1)?;
-        let second = byte_at(s, self.at);
-        let text = cpp_layout::operator_text(first, second);
-        let size = text.len();
-        if size == b"operator".len() || cpp_layout::is_angle_code(first, second) {
-            return None;
-        }
-        self.at = self.at.checked_add(1)?;
         self.push_pair(b':', b':')?;
         let class_from = self.text.len();
-        self.push(text)?;
+        if !self.operator_name(s)? {
+            return self.operator_ended(s);
+        }
         self.nest = Nest {
             class_from,
             class_to: self.text.len(),
@@ -243,6 +236,22 @@ impl Direct {
             ..self.nest
         };
         self.nest_named(s)
+    }
+
+    /// Reads the E of a nested name behind an operator that no arguments are read of.
+    fn operator_ended(&mut self, s: &[u8]) -> Option<Step>
+        requires fits { FitsSymbol s.now }
+        requires read { IsOperatorRead s.now self.old }
+        ensures { IfSome result (IsWriting s.now self.new) }
+    {
+        if byte_at(s, self.at) != b'E' {
+            return None;
+        }
+        self.at = self.at.checked_add(1)?;
+        match self.nest.purpose {
+            Purpose::Name { is_const } => self.name_ended(s, is_const, false, self.nest.from),
+            _ => None,
+        }
     }
 
     // <ctor-dtor-name> ::= C1 | C2 | C3

@@ -7,7 +7,7 @@ ghost use Rattle.sym_print.specs.declared.detail.Detail.TheVariants as details;
 ghost use Rattle.cpp_grammar.specs.Mangled.{IsAnswer};
 ghost use Rattle.cpp_direct.specs.Holes.{StandsAt};
 ghost use Rattle.cpp_direct.specs.Stands.{IsWriting};
-ghost use Rattle.cpp_direct.specs.Ways.{IsFresh, AwaitsEncoding, AwaitsSource, IsNameEnded, IsFrontRead, AwaitsParameters, IsParameterEnded, IsEncodingEnded, IsSymbolEnded};
+ghost use Rattle.cpp_direct.specs.Ways.{IsFresh, AwaitsEncoding, IsNameEnded, IsFrontRead, AwaitsParameters, IsParameterEnded, IsEncodingEnded, IsSymbolEnded};
 
 use crate::direct::Direct;
 use crate::open::{Nest, Open, Purpose, Step};
@@ -195,6 +195,8 @@ impl Direct {
                 self.at = self.at.checked_add(1)?;
                 self.begin_name(s, true)
             }
+            b'S' => self.begin_in_std(s),
+            b'a'..=b'z' => self.begin_operator(s),
             _ => self.begin_name(s, false),
         }
     }
@@ -231,22 +233,6 @@ impl Direct {
             return self.nest_at(s, Purpose::Name { is_const: true });
         }
         self.nest_at(s, Purpose::Name { is_const: false })
-    }
-
-    /// A name of its own, behind the L of internal linkage or without one.
-    // <unscoped-name> ::= <source-name>
-    fn begin_name(&mut self, s: &[u8], is_internal: bool) -> Option<Step>
-        requires fits { FitsSymbol s.now }
-        requires awaits { AwaitsSource s.now self.old is_internal }
-        ensures { IfSome result (IsWriting s.now self.new) }
-    {
-        let from = self.text.len();
-        self.name(s)?;
-        if byte_at(s, self.at) == b'I' {
-            self.add_candidate(from, false)?;
-            return self.open_arguments(Open::NameArguments { from });
-        }
-        self.name_ended(s, false, false, from)
     }
 
     /// The name of an encoding is read: nothing is left, or the function's types.

@@ -3,7 +3,7 @@ use Rattle.cpp_grammar.specs.Term.{source}
 use Rattle.std.proofs.Common.{false}
 use Rattle.cpp_direct.proofs.FoundTokens.{some-by}
 use Rattle.cpp_direct.proofs.MovesOfLocals.{source-name-piece}
-use Rattle.cpp_direct.proofs.PrintedNests.{source-piece}
+use Rattle.cpp_direct.proofs.PrintedNests.{source-opening, source-piece}
 use Rattle.cpp_direct.proofs.PrintedWithin.{piece-prints}
 use Rattle.cpp_direct.proofs.direct.Direct.enclosed_piece.Goals as goal
 
@@ -14,6 +14,6 @@ returns c =
       source false r.0,
       source_text r.0,
       source-name-piece c.args.s.now c.args.self.now.at r.0 c.name.new.self.at r.1,
-      piece-prints (source false r.0) (source_text r.0) (source-piece false r.0 r.2),
+      piece-prints (source false r.0) (source_text r.0) (source-piece false r.0 r.2) (source-opening false r.0),
       r.3,
     ))

@@ -1,0 +1,224 @@
+-- Names of encodings that stand in no class: where a writer is behind them.
+use Rattle.std.proofs.Common.{◌≡◌, ◌≢◌, ℕ, ◌+◌, length, List, [], ◌∷◌, ◌++◌, reverse, Bool, true, false, not, cond, Option, Some, None, refl, ap, sym, subst, ◌∙◌, arith, codes, append_assoc}
+use Rattle.std.specs.Option.{IfSome, OnSome}
+use Rattle.std.proofs.lemmas.Bool.{false≢true}
+use Rattle.cpp_grammar.specs.declared.kind.Kind.{Kind}
+use Rattle.cpp_grammar.specs.Grammar.{may_be_empty}
+use Rattle.cpp_grammar.specs.Term.{Term, alone, in_std, source, operator, instance}
+use Rattle.cpp_grammar.specs.Parts.{source_text}
+use Rattle.cpp_grammar.specs.Scope.{has_return_type, arguments_of, is_structor}
+use Rattle.cpp_grammar.specs.Values.{State, nothing_there, piece, tree, tree_of, qualifiers_of, ref_of}
+use Rattle.cpp_grammar.specs.Between.{after, in_name, inside, no_items}
+use Rattle.cpp_direct.specs.declared.open.Open.TheVariants as opens
+use Rattle.cpp_direct.specs.declared.open.Step.{Step}
+use Rattle.cpp_direct.specs.declared.open.Step.TheVariants as steps
+use Rattle.cpp_direct.specs.declared.direct.Direct.{Direct}
+use Rattle.cpp_direct.specs.Holes.{StandsAt, Comes, Expects, IsNameAt, Named, with_candidate}
+use Rattle.cpp_direct.specs.Names.{IsOperatorAt, is_angle, operator_text}
+use Rattle.cpp_direct.specs.Prints.{Prints, PrintsName}
+use Rattle.cpp_direct.specs.Stands.{AreCandidates, AwaitsItems, IsWriting}
+use Rattle.cpp_direct.specs.Ways.{AwaitsEncoding, AwaitsSource, HasName, IsNameEnded, IsUnscoped}
+use Rattle.cpp_direct.specs.Written.{Writes, Reads, added}
+use Rattle.cpp_direct.proofs.Begins.{encoding-expected, items-await}
+use Rattle.cpp_direct.proofs.Kept.{arguments-begun, candidates-stay, candidates-with, candidates-read, reverse-last}
+use Rattle.cpp_direct.proofs.FoundTokens.{reads-of, reads-then}
+use Rattle.cpp_direct.proofs.Moves.{expects-empty, stands-join}
+use Rattle.cpp_direct.proofs.MovesOfEncodings.{name-source, name-internal}
+use Rattle.cpp_direct.proofs.MovesOfLists.{arguments-open}
+use Rattle.cpp_direct.proofs.MovesOfNests.{piece-comes}
+use Rattle.cpp_direct.proofs.MovesOfUnscoped.{name-operator, name-std, operator-piece-comes}
+use Rattle.cpp_direct.proofs.Operators.{operator-listed}
+use Rattle.cpp_direct.proofs.PrintedNames.{as-name, source-prints, std-prints, operator-names, operator-prints, std-operator-names, std-operator-prints}
+
+-- what isn't so
+pub not-so : (b other : Bool) → b ≡ other → not b ≡ true → other ≡ false
+not-so true other e h = absurd (false≢true h)
+not-so false other e h = sym e
+
+-- ## What was read
+
+-- a name that comes awaits its items, and arguments may stand behind it
+named-has : (s : List ℕ) (w : Direct) (p : AwaitsEncoding s w) (t : Term) (at : ℕ)
+    → Named s (encoding-expected s w p).inner (in_name w.at) t at p.state → HasName s w.text.list.items w.at t at p.state
+named-has s w p t at is = record {
+  inner = is.inner;
+  awaits = is.awaits;
+  bare = λ here now comes. items-await s w p (tree t false) here now (is.bare here now comes);
+  argued = λ a here now comes. items-await s w p (tree (instance t a) false) here now (is.argued a here now comes);
+}
+
+name-has : (s : List ℕ) (internal : Bool) (w : Direct) (p : AwaitsEncoding s w) (at : ℕ) (name : List ℕ) (end : ℕ)
+    → (internal ≡ true → StandsAt s w.at (76 ∷ [])) → at ≡ w.at + cond internal 1 0 → IsNameAt s at name end
+    → HasName s w.text.list.items w.at (alone (source internal name)) end p.state
+unfolding in_name
+name-has s true w p at name end letter at_is is =
+    let encoding = encoding-expected s w p in
+    named-has s w p (alone (source true name)) end
+    (name-internal s encoding.inner (in_name w.at) w.at name end p.state encoding.awaits refl (letter refl) (subst (λ n. IsNameAt s n name end) at_is is))
+name-has s false w p at name end letter at_is is =
+    let encoding = encoding-expected s w p in
+    let here : at ≡ w.at = omega (arith, at_is) in
+    named-has s w p (alone (source false name)) end
+    (name-source s encoding.inner (in_name w.at) w.at name end p.state encoding.awaits refl (subst (λ n. IsNameAt s n name end) here is))
+
+-- A name was read and written that stands in no class.
+unscoped-read : (s : List ℕ) (old new : Direct) (takes : Bool) (own : Term) (bytes : List ℕ) (st : State) (encoding : ℕ)
+    → AreCandidates old.text.list.items old.candidates.list.items st.candidates → HasName s old.text.list.items encoding own new.at st
+    → Reads old new bytes → PrintsName own bytes → (takes ≡ true → Prints own bytes false) → has_return_type own ≡ false → is_structor own ≡ false
+    → (from : ℕ) → from ≡ length old.text.list.items → IsUnscoped s new from takes
+unscoped-read s old new takes own bytes st encoding candidates has reads names prints no_return no_structor from from_is = record {
+  state = st;
+  candidates = candidates-read old new bytes st.candidates reads candidates;
+  encoding = encoding;
+  own = own;
+  front = old.text.list.items;
+  bytes = bytes;
+  has = has;
+  written = reads.text;
+  from_is = from_is;
+  names = names;
+  prints = prints;
+  no_return = no_return;
+  no_structor = no_structor;
+}
+
+-- a source name
+pub source-unscoped : (s : List ℕ) (internal : Bool) (old new : Direct) (name : List ℕ) → AwaitsSource s old internal → IsNameAt s old.at name new.at
+    → name ≢ [] → Reads old new (source_text name) → (from : ℕ) → from ≡ length old.text.list.items → IsUnscoped s new from true
+unfolding has_return_type arguments_of is_structor
+source-unscoped s internal old new name p is filled reads from from_is =
+    let own = alone (source internal name) in
+    let prints = source-prints internal name filled in
+    unscoped-read s old new true own (source_text name) p.awaits.state p.before p.awaits.candidates
+    (name-has s internal (record old { at = p.before }) p.awaits old.at name new.at p.letter p.at_is is)
+    reads (as-name own (source_text name) false prints) (λ e. prints) refl refl from from_is
+
+-- an operator
+pub operator-unscoped : (s : List ℕ) (old new : Direct) (first second : ℕ) (takes : Bool) → AwaitsEncoding s old → IsOperatorAt s old.at first second new.at
+    → (takes ≡ true → is_angle first second ≡ false) → Reads old new (operator_text first second) → (from : ℕ) → from ≡ length old.text.list.items
+    → IsUnscoped s new from takes
+unfolding has_return_type arguments_of is_structor in_name
+operator-unscoped s old new first second takes p is plain reads from from_is =
+    let own = alone (operator first second) in
+    let encoding = encoding-expected s old p in
+    unscoped-read s old new takes own (operator_text first second) p.state old.at p.candidates
+    (subst (λ n. HasName s old.text.list.items old.at own n p.state) (sym is.ends)
+    (named-has s old p own (old.at + 2)
+    (name-operator s encoding.inner (in_name old.at) old.at p.state first second (operator-listed first second is.known) encoding.awaits refl is.stands)))
+    reads (operator-names first second) (λ e. operator-prints first second (plain e)) refl refl from from_is
+
+-- what was read behind an St was read behind it and its text
+std-reads : (old marked read : Direct) (n : ℕ) (bytes : List ℕ) → Writes (record old { at = n }) marked (codes "std::") → Reads marked read bytes
+    → Reads old read (codes "std::" ++ bytes)
+std-reads old marked read n bytes w r =
+    reads-then old marked read (codes "std::") bytes
+    (record { text = w.text; candidates = w.candidates; waiting = w.waiting; nest = w.nest; rounds = w.rounds }) r
+
+std-place : (n first second at : ℕ) → first ≡ n + 1 → second ≡ first + 1 → at ≡ second → at ≡ n + 2
+std-place n first second at e f g = omega (arith, e, f, g)
+
+-- a source name in std
+pub std-source-unscoped : (s : List ℕ) (old marked read : Direct) (first second : ℕ) (name : List ℕ) → AwaitsEncoding s old
+    → StandsAt s old.at (83 ∷ []) → first ≡ old.at + 1 → StandsAt s first (116 ∷ []) → second ≡ first + 1
+    → Writes (record old { at = second }) marked (codes "std::") → IsNameAt s marked.at name read.at → name ≢ [] → Reads marked read (source_text name)
+    → (from : ℕ) → from ≡ length old.text.list.items → IsUnscoped s read from true
+unfolding has_return_type arguments_of is_structor
+std-source-unscoped s old marked read first second name p letter next mark then_ w is filled r from from_is =
+    let own = in_std (source false name) in
+    let x = codes "std::" ++ source_text name in
+    let encoding = encoding-expected s old p in
+    let prints = std-prints false name filled in
+    let here = stands-join s old.at (83 ∷ []) (116 ∷ []) letter (subst (λ n. StandsAt s n (116 ∷ [])) next mark) in
+    let there = subst (λ n. IsNameAt s n name read.at) (std-place old.at first second marked.at next then_ w.at) is in
+    unscoped-read s old read true own x p.state old.at p.candidates
+    (named-has s old p own read.at
+    (name-std s encoding.inner (in_name old.at) old.at (source false name) read.at p.state encoding.awaits here
+    (λ inner expects. piece-comes s inner (in_name old.at) (old.at + 2) p.state name read.at expects there)))
+    (std-reads old marked read second (source_text name) w r) (as-name own x false prints) (λ e. prints) refl refl from from_is
+
+-- an operator in std
+pub std-operator-unscoped : (s : List ℕ) (old marked read : Direct) (first second : ℕ) (a b : ℕ) (takes : Bool) → AwaitsEncoding s old
+    → StandsAt s old.at (83 ∷ []) → first ≡ old.at + 1 → StandsAt s first (116 ∷ []) → second ≡ first + 1
+    → Writes (record old { at = second }) marked (codes "std::") → IsOperatorAt s marked.at a b read.at → (takes ≡ true → is_angle a b ≡ false)
+    → Reads marked read (operator_text a b) → (from : ℕ) → from ≡ length old.text.list.items → IsUnscoped s read from takes
+unfolding has_return_type arguments_of is_structor
+std-operator-unscoped s old marked read first second a b takes p letter next mark then_ w is plain r from from_is =
+    let own = in_std (operator a b) in
+    let encoding = encoding-expected s old p in
+    let here = stands-join s old.at (83 ∷ []) (116 ∷ []) letter (subst (λ n. StandsAt s n (116 ∷ [])) next mark) in
+    let place = std-place old.at first second marked.at next then_ w.at in
+    let there = subst (λ n. IsOperatorAt s n a b read.at) place is in
+    unscoped-read s old read takes own (codes "std::" ++ operator_text a b) p.state old.at p.candidates
+    (named-has s old p own read.at
+    (name-std s encoding.inner (in_name old.at) old.at (operator a b) read.at p.state encoding.awaits here
+    (λ inner expects. subst (λ n. Comes s inner (piece (operator a b)) n p.state) (sym there.ends)
+    (operator-piece-comes s inner (in_name old.at) (old.at + 2) p.state a b (operator-listed a b there.known) expects there.stands))))
+    (std-reads old marked read second (operator_text a b) w r) (std-operator-names a b) (λ e. std-operator-prints a b (plain e)) refl refl from from_is
+
+-- ## What stands behind it
+
+-- no arguments
+pub unscoped-bare : (s : List ℕ) (w : Direct) (from : ℕ) (takes : Bool) → IsUnscoped s w from takes → IsNameEnded s w false false from
+unfolding may_be_empty tree_of qualifiers_of ref_of
+unscoped-bare s w from takes p = record {
+  state = p.state;
+  candidates = p.candidates;
+  own = p.own;
+  v = tree p.own false;
+  tree_is = refl;
+  qualifiers_are = refl;
+  mark_is = refl;
+  lead = p.front;
+  name = p.bytes;
+  written = p.written;
+  prints = p.names;
+  from_is = p.from_is;
+  no_return = λ e. p.no_return;
+  returns = λ e. absurd (false≢true e);
+  awaits = p.has.bare w.at p.state
+      (expects-empty s Kind.MaybeArguments (after p.own false (in_name p.encoding)) p.has.inner w.at p.state p.has.awaits refl);
+}
+
+-- where arguments were opened behind it
+list-stands : (s : List ℕ) (read new : Direct) (from : ℕ) (takes : Bool) → IsUnscoped s read from takes → takes ≡ true → StandsAt s read.at (73 ∷ [])
+    → new.candidates.list.items ≡ added read from false → new.text.list.items ≡ read.text.list.items ++ codes "<"
+    → new.waiting.list.items ≡ read.waiting.list.items ++ opens.NameArguments from ∷ [] → new.at ≡ read.at + 1 → IsWriting s new (steps.List true)
+unfolding in_name inside
+list-stands s read new from takes p some there candidates_are text_is waiting_is here_is =
+    let own = p.own in
+    let st = p.state in
+    let place = p.encoding in
+    let has = p.has in
+    let list = arguments-open s has.inner (in_name place) own false read.at st has.awaits there in
+    let prints = p.prints some in
+    let state = with_candidate place own st in
+    record {
+      state = state;
+      candidates = subst (λ l. AreCandidates l new.candidates.list.items state.candidates) (sym text_is)
+          (subst (λ ks. AreCandidates (read.text.list.items ++ codes "<") ks state.candidates) (sym candidates_are)
+          (candidates-stay read.text.list.items (codes "<") (added read from false) state.candidates
+          (candidates-with read st p.front p.bytes from own place false p.candidates p.written p.from_is prints)));
+      is_before = arguments-begun s new state (opens.NameArguments from) (reverse read.waiting.list.items) p.front p.bytes own
+          (ap reverse waiting_is ∙ reverse-last read.waiting.list.items (opens.NameArguments from)) (p.from_is, prints, p.no_structor)
+          (text_is ∙ ap (λ l. l ++ codes "<") p.written) (
+            inside (in_name place),
+            list.inner,
+            refl,
+            subst (λ n. Expects s Kind.ArgumentList (inside (in_name place)) list.inner n state) (sym here_is) list.awaits,
+            λ l at now comes ended. has.argued (no_items l) (at + 1) now (list.onward l at now comes ended),
+          );
+    }
+
+-- arguments
+pub unscoped-argued : (s : List ℕ) (read kept new : Direct) (from : ℕ) (takes : Bool) (r : Option Step) → IsUnscoped s read from takes → takes ≡ true
+    → StandsAt s read.at (73 ∷ []) → kept.candidates.list.items ≡ added read from false → kept.text ≡ read.text → kept.waiting ≡ read.waiting → kept.at ≡ read.at
+    → IfSome r (λ next. next ≡ steps.List true) → OnSome r (new.waiting.list.items ≡ kept.waiting.list.items ++ opens.NameArguments from ∷ []) → OnSome r (new.at ≡ kept.at + 1)
+    → OnSome r (new.text.list.items ≡ kept.text.list.items ++ codes "<") → OnSome r (new.candidates ≡ kept.candidates) → IfSome r (IsWriting s new)
+unscoped-argued s read kept new from takes None p some there ks same_text same_open same_at step open_ at_ text_ candidates_ = tt
+unscoped-argued s read kept new from takes (Some next) p some there ks same_text same_open same_at step open_ at_ text_ candidates_ =
+    subst (λ x. IsWriting s new x) (sym step)
+    (list-stands s read new from takes p some there
+    (ap (λ v. v.list.items) candidates_ ∙ ks)
+    (text_ ∙ ap (λ v. v.list.items ++ codes "<") same_text)
+    (open_ ∙ ap (λ v. v.list.items ++ opens.NameArguments from ∷ []) same_open)
+    (at_ ∙ ap (λ n. n + 1) same_at))

@@ -1,0 +1,102 @@
+// Names of encodings that stand in no class, and operators.
+
+ghost use Rattle.std.specs.Prelude.{◌≡◌, ◌∷◌, [], ℕ, true, false};
+ghost use Rattle.std.specs.Option.{IfSome};
+ghost use Rattle.sym_core.specs.Number.{FitsSymbol};
+ghost use Rattle.cpp_direct.specs.Holes.{StandsAt};
+ghost use Rattle.cpp_direct.specs.Names.{IsOperatorAt, is_angle, operator_text};
+ghost use Rattle.cpp_direct.specs.Stands.{IsWriting};
+ghost use Rattle.cpp_direct.specs.Ways.{AwaitsEncoding, AwaitsSource, IsUnscoped};
+ghost use Rattle.cpp_direct.specs.Written.{Reads};
+
+use crate::direct::Direct;
+use crate::open::{Open, Step};
+use crate::tokens::byte_at;
+
+impl Direct {
+    /// A name of its own, behind the L of internal linkage or without one.
+    // <unscoped-name> ::= <source-name>
+    pub(crate) fn begin_name(&mut self, s: &[u8], is_internal: bool) -> Option<Step>
+        requires fits { FitsSymbol s.now }
+        requires awaits { AwaitsSource s.now self.old is_internal }
+        ensures { IfSome result (IsWriting s.now self.new) }
+    {
+        let from = self.text.len();
+        self.name(s)?;
+        self.unscoped_named(s, from, true)
+    }
+
+    /// An operator that isn't one of a class.
+    // <unscoped-name> ::= <operator-name>
+    #[inline(never)]
+    pub(crate) fn begin_operator(&mut self, s: &[u8]) -> Option<Step>
+        requires fits { FitsSymbol s.now }
+        requires awaits { AwaitsEncoding s.now self.old }
+        ensures { IfSome result (IsWriting s.now self.new) }
+    {
+        let from = self.text.len();
+        let takes = self.operator_name(s)?;
+        self.unscoped_named(s, from, takes)
+    }
+
+    /// A name or an operator in std.
+    // <unscoped-name> ::= St <unqualified-name>
+    #[inline(never)]
+    pub(crate) fn begin_in_std(&mut self, s: &[u8]) -> Option<Step>
+        requires fits { FitsSymbol s.now }
+        requires awaits { AwaitsEncoding s.now self.old }
+        requires letter { StandsAt s.now self.old.at (83 ∷ []) }
+        ensures { IfSome result (IsWriting s.now self.new) }
+    {
+        let from = self.text.len();
+        self.at = self.at.checked_add(1)?;
+        if byte_at(s, self.at) != b't' {
+            return None;
+        }
+        self.at = self.at.checked_add(1)?;
+        self.push(b"std::")?;
+        if let b'a'..=b'z' = byte_at(s, self.at) {
+            let takes = self.operator_name(s)?;
+            return self.unscoped_named(s, from, takes);
+        }
+        self.name(s)?;
+        self.unscoped_named(s, from, true)
+    }
+
+    /// The name of an encoding is read, which was written from a place on. Arguments may stand behind it, if it is one that takes them.
+    // <encoding> ::= <unscoped-template-name> <template-args> <bare-function-type>
+    fn unscoped_named(&mut self, s: &[u8], from: usize, takes: bool) -> Option<Step>
+        requires fits { FitsSymbol s.now }
+        requires named { IsUnscoped s.now self.old from takes }
+        ensures { IfSome result (IsWriting s.now self.new) }
+    {
+        if byte_at(s, self.at) != b'I' {
+            return self.name_ended(s, false, false, from);
+        }
+        if !takes {
+            return None;
+        }
+        self.add_candidate(from, false)?;
+        self.open_arguments(Open::NameArguments { from })
+    }
+
+    /// Reads an operator, and answers whether arguments behind it are read: between << or < and its arguments stands a blank.
+    // <operator-name> ::= nw | na | dl | da | ps | ng | ..
+    #[inline(never)]
+    pub(crate) fn operator_name(&mut self, s: &[u8]) -> Option<bool>
+        ensures { IfSome result (λ takes. (first : ℕ) × (second : ℕ) × IsOperatorAt s.now self.old.at first second self.new.at
+            × (takes ≡ true → is_angle first second ≡ false) × Reads self.old self.new (operator_text first second)) }
+    {
+        let first = byte_at(s, self.at);
+        self.at = self.at.checked_add(1)?;
+        let second = byte_at(s, self.at);
+        let text = cpp_layout::operator_text(first, second);
+        let size = text.len();
+        if size == b"operator".len() {
+            return None;
+        }
+        self.at = self.at.checked_add(1)?;
+        self.push(text)?;
+        Some(!cpp_layout::is_angle_code(first, second))
+    }
+}
