@@ -1,42 +1,35 @@
 -- The beginnings of symbols, and their answers.
-use Rattle.std.proofs.Common.{◌≡◌, ◌≢◌, ℕ, ◌+◌, ◌≤◌, ◌/◌, inl, length, List, [], ◌∷◌, ◌++◌, reverse, Bool, true, false, ◌&&◌, ◌||◌, nat_eq, nat_le, cond, Option, Some, None, Ok, refl, ap, sym, subst, ◌∙◌, arith, codes}
-use Rattle.std.specs.Option.{IfSome, OnSome}
+use Rattle.std.proofs.Common.{◌≡◌, ◌≢◌, ℕ, ◌+◌, ◌≤◌, ◌/◌, inl, length, List, [], ◌∷◌, ◌++◌, reverse, Bool, true, false, ◌&&◌, ◌||◌, nat_eq, nat_le, Ok, refl, ap, sym, subst, ◌∙◌, arith, codes}
 use Rattle.std.proofs.lemmas.Bool.{false≢true, leb-true, eqb-true}
 use Rattle.sym_print.specs.declared.detail.Detail.TheVariants as details
 use Rattle.sym_print.proofs.Answering.{text_within-ok}
 use Rattle.sym_demangle.specs.Mangled.{shaped, answer_of_symbol}
 use Rattle.cpp_grammar.specs.declared.kind.Kind.{Kind}
-use Rattle.cpp_grammar.specs.Grammar.{may_be_empty}
 use Rattle.cpp_grammar.specs.Mangled.{cpp_mangled, IsAnswer}
 use Rattle.cpp_grammar.specs.Answer.{shown, root_item}
-use Rattle.cpp_grammar.specs.Term.{Term, any_value, Adjustment, non_virtual, by_table, adjusting, special, thunk, alone, source, instance}
-use Rattle.cpp_grammar.specs.Parts.{source_text, thunk_text}
-use Rattle.cpp_grammar.specs.Scope.{has_return_type, arguments_of, is_structor}
+use Rattle.cpp_grammar.specs.Term.{Term, any_value, Adjustment, non_virtual, by_table, adjusting, special, thunk}
+use Rattle.cpp_grammar.specs.Parts.{thunk_text}
 use Rattle.cpp_grammar.specs.Texts.{Naming, look_up, special_texts, same_bytes}
-use Rattle.cpp_grammar.specs.Values.{State, Value, nothing_there, tree, named, tree_of, qualifiers_of, ref_of, signed_digits}
-use Rattle.cpp_grammar.specs.Between.{after, in_name, in_types, inside, no_items}
+use Rattle.cpp_grammar.specs.Values.{State, Value, tree, named, tree_of, signed_digits}
+use Rattle.cpp_grammar.specs.Between.{in_name, in_types, no_items}
 use Rattle.cpp_grammar.specs.Meaning.{encoding_of}
 use Rattle.cpp_grammar.specs.Unfolding.{first_around, first_state}
 use Rattle.cpp_direct.specs.declared.open.Purpose.TheVariants as purposes
 use Rattle.cpp_direct.specs.declared.open.Open.TheVariants as opens
-use Rattle.cpp_direct.specs.declared.open.Step.{Step}
 use Rattle.cpp_direct.specs.declared.open.Step.TheVariants as steps
 use Rattle.cpp_direct.specs.declared.direct.Direct.{Direct}
 use Rattle.cpp_direct.specs.Bytes.{is_local}
-use Rattle.cpp_direct.specs.Holes.{Opened, StandsAt, Comes, Expects, IsNameAt, Named, with_candidate}
+use Rattle.cpp_direct.specs.Holes.{StandsAt, Comes, Expects}
 use Rattle.cpp_direct.specs.HolesOfLists.{SymbolOpened, EncodingOpened, IsOffsetAt, ThunkOpened, nest_marks}
 use Rattle.cpp_direct.specs.ItemBytes.{one_of, is_special_letter}
 use Rattle.cpp_direct.specs.Letters.{special_letters}
 use Rattle.cpp_direct.specs.Prints.{Shows}
 use Rattle.cpp_direct.specs.Stands.{AreCandidates, Encoded, EndsBehind, EncodedBehind, AwaitsItems, IsWhole, Stands, IsWriting, qualifiers}
-use Rattle.cpp_direct.specs.Ways.{IsFresh, AwaitsEncoding, AwaitsSource, AwaitsNest, IsNameEnded}
-use Rattle.cpp_direct.specs.Written.{Writes, Reads, added}
-use Rattle.cpp_direct.proofs.Kept.{arguments-begun, candidates-stay, candidates-with, candidates-read, reverse-last}
+use Rattle.cpp_direct.specs.Ways.{IsFresh, AwaitsEncoding, AwaitsNest}
+use Rattle.cpp_direct.specs.Written.{Writes, Reads}
 use Rattle.cpp_direct.proofs.FoundTokens.{reads-then}
-use Rattle.cpp_direct.proofs.Moves.{stands-join, expects-empty}
-use Rattle.cpp_direct.proofs.MovesOfEncodings.{symbol-starts, encoding-opens, special-opens, thunk-opens, virtual-thunk-opens, name-nested, name-source, name-internal}
-use Rattle.cpp_direct.proofs.MovesOfLists.{arguments-open}
-use Rattle.cpp_direct.proofs.PrintedNames.{source-prints}
+use Rattle.cpp_direct.proofs.Moves.{stands-join}
+use Rattle.cpp_direct.proofs.MovesOfEncodings.{symbol-starts, encoding-opens, special-opens, thunk-opens, virtual-thunk-opens, name-nested}
 use Rattle.cpp_direct.proofs.PrintedSymbols.{thunk-shows}
 
 -- ## Answers

@@ -1,13 +1,14 @@
 -- Where names stand.
-use Rattle.std.proofs.Common.{◌≡◌, ◌≢◌, ℕ, ◌+◌, ◌-◌, ◌*◌, ◌≤◌, ◌<◌, suc, List, [], ◌∷◌, ◌++◌, length, take, drop, get_or, true, false, refl, ap, sym, subst, ◌∙◌, arith, append_assoc, append-nil}
-use Rattle.std.proofs.lemmas.List.{length-append, length-drop, length-take-le, take-append-drop, drop-drop}
-use Rattle.std.proofs.lemmas.Bool.{le-leb}
+use Rattle.std.proofs.Common.{◌≡◌, ◌≢◌, ℕ, ◌+◌, ◌-◌, ◌*◌, ◌≤◌, ◌<◌, suc, List, [], ◌∷◌, ◌++◌, length, take, drop, get_or, Bool, true, false, ◌&&◌, not, nat_eq, nat_lt, refl, ap, sym, subst, ◌∙◌, arith, append_assoc, append-nil}
+use Rattle.std.proofs.lemmas.List.{get_or-drop, get_or-take, length-append, length-drop, length-take-le, take-append-drop, drop-drop}
+use Rattle.std.proofs.lemmas.Bool.{and_parts, le-leb, ltb-false, ltb-true}
+use Rattle.std.proofs.lemmas.Bool.Decides.{nat_tests}
 use Rattle.std.proofs.Math.Seq.{drop-append_seam}
 use Rattle.sym_core.specs.declared.NameClass.TheVariants.{Cpp}
 use Rattle.sym_core.specs.Number.{is_decimal_digit}
 use Rattle.sym_core.specs.Scan.{ReachesNameBytes}
 use Rattle.sym_core.specs.declared.tokens.TokenPlace.{TokenPlace}
-use Rattle.sym_core.specs.Token.{AreNameBytes, IsSeparator, IsName, HasToken}
+use Rattle.sym_core.specs.Token.{AreNameBytes, IsSeparator, IsName, HasToken, is_name_byte}
 use Rattle.cpp_grammar.specs.Parts.{source_text}
 use Rattle.cpp_direct.specs.declared.direct.Direct.{Direct}
 use Rattle.cpp_direct.specs.declared.names.NamePlace.{NamePlace}
@@ -61,6 +62,36 @@ all-reached (b ∷ bs) h = (h 0 (omega arith), all-reached bs (λ k less. h (suc
 begins-no-number : (own : List ℕ) → 0 < length own → is_decimal_digit (get_or own 0 0) ≡ false → IsSeparator Cpp [] own
 begins-no-number [] some bare = absurd (omega (arith, some))
 begins-no-number (b ∷ bs) some bare = bare
+
+byte-may : (b : ℕ) → b < 256 → nat_lt 32 b ≡ true → not (nat_eq b 127) ≡ true → is_name_byte Cpp b ≡ true
+byte-may b small low other = grind (arith, nat_tests)
+
+-- one byte more may stand in a name
+pub reached-more : (bytes : List ℕ) (at : ℕ) (are : Bool) → (are ≡ true → ReachesNameBytes Cpp bytes at) → get_or bytes at 0 < 256
+    → (are && nat_lt 32 (get_or bytes at 0) && not (nat_eq (get_or bytes at 0) 127)) ≡ true → ReachesNameBytes Cpp bytes (at + 1)
+reached-more bytes at are before small e k less = go (nat_lt k at) refl
+  where
+    b : ℕ
+    b = get_or bytes at 0
+
+    both : ((are && nat_lt 32 b) ≡ true) × (not (nat_eq b 127) ≡ true)
+    both = and_parts (are && nat_lt 32 b) (not (nat_eq b 127)) e
+
+    parts : (are ≡ true) × (nat_lt 32 b ≡ true)
+    parts = and_parts are (nat_lt 32 b) both.0
+
+    go : (d : Bool) → nat_lt k at ≡ d → is_name_byte Cpp (get_or bytes k 0) ≡ true
+    go true d = before parts.0 k (ltb-true k at d)
+    go false d = subst (λ n. is_name_byte Cpp (get_or bytes n 0) ≡ true) (omega (arith, less, ltb-false k at d)) (byte-may b small parts.1 both.1)
+
+-- what is cut out of bytes that may stand in a name may stand there as well
+pub own-each : (s : List ℕ) (from size : ℕ) (own : List ℕ) → from ≤ length s → size ≤ length s - from → own ≡ take size (drop from s)
+    → ReachesNameBytes Cpp s (length s) → ReachesNameBytes Cpp own (length own)
+own-each s from size own within few own_is each k less =
+    let counted : length own ≡ size = ap length own_is ∙ length-take-le size (drop from s) (omega (arith, few, length-drop from s)) in
+    subst (λ b. is_name_byte Cpp b ≡ true)
+    (sym (ap (λ l. get_or l k 0) own_is ∙ get_or-take size (drop from s) k 0 (omega (arith, less, counted)) ∙ get_or-drop from s k 0))
+    (each (from + k) (omega (arith, less, counted, within, few)))
 
 -- a name's own bytes stand behind its length
 pub own-placed : (s : List ℕ) (at from size : ℕ) (own : List ℕ) → IsLengthRead s at from size → from ≤ length s → size ≤ length s - from

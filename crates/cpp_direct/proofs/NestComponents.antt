@@ -1,9 +1,8 @@
 -- A component of a nested name is written: where the writer is then.
-use Rattle.std.proofs.Common.{◌≡◌, ◌≢◌, ℕ, ◌+◌, ◌-◌, ◌≤◌, length, List, [], ◌∷◌, ◌++◌, take, drop, reverse, Bool, true, false, ◌||◌, refl, ap, sym, ◌∙◌, subst, arith, codes, append_assoc, append-nil}
+use Rattle.std.proofs.Common.{◌≡◌, ◌≢◌, ℕ, ◌+◌, ◌-◌, ◌≤◌, length, List, [], ◌∷◌, ◌++◌, take, drop, reverse, Bool, true, false, refl, ap, sym, ◌∙◌, subst, arith, codes, append_assoc, append-nil}
 use Rattle.std.proofs.lemmas.Bool.{false≢true}
 use Rattle.std.proofs.lemmas.List.{length-append}
 use Rattle.cpp_grammar.specs.Term.{Term, within, instance, source, operator, constructor, destructor}
-use Rattle.cpp_grammar.specs.Texts.{look_up, operator_texts}
 use Rattle.cpp_grammar.specs.Parts.{opening_text, source_text}
 use Rattle.cpp_grammar.specs.Scope.{arguments_of, has_return_type, is_structor}
 use Rattle.cpp_grammar.specs.Values as values

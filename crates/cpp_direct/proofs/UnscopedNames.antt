@@ -1,5 +1,5 @@
 -- Names of encodings that stand in no class: where a writer is behind them.
-use Rattle.std.proofs.Common.{◌≡◌, ◌≢◌, ℕ, ◌+◌, length, List, [], ◌∷◌, ◌++◌, reverse, Bool, true, false, not, cond, Option, Some, None, refl, ap, sym, subst, ◌∙◌, arith, codes, append_assoc}
+use Rattle.std.proofs.Common.{◌≡◌, ◌≢◌, ℕ, ◌+◌, length, List, [], ◌∷◌, ◌++◌, reverse, Bool, true, false, not, cond, Option, Some, None, refl, ap, sym, subst, ◌∙◌, arith, codes}
 use Rattle.std.specs.Option.{IfSome, OnSome}
 use Rattle.std.proofs.lemmas.Bool.{false≢true}
 use Rattle.cpp_grammar.specs.declared.kind.Kind.{Kind}
@@ -7,7 +7,7 @@ use Rattle.cpp_grammar.specs.Grammar.{may_be_empty}
 use Rattle.cpp_grammar.specs.Term.{Term, alone, in_std, source, operator, instance}
 use Rattle.cpp_grammar.specs.Parts.{source_text}
 use Rattle.cpp_grammar.specs.Scope.{has_return_type, arguments_of, is_structor}
-use Rattle.cpp_grammar.specs.Values.{State, nothing_there, piece, tree, tree_of, qualifiers_of, ref_of}
+use Rattle.cpp_grammar.specs.Values.{State, piece, tree, tree_of, qualifiers_of, ref_of}
 use Rattle.cpp_grammar.specs.Between.{after, in_name, inside, no_items}
 use Rattle.cpp_direct.specs.declared.open.Open.TheVariants as opens
 use Rattle.cpp_direct.specs.declared.open.Step.{Step}
@@ -16,12 +16,12 @@ use Rattle.cpp_direct.specs.declared.direct.Direct.{Direct}
 use Rattle.cpp_direct.specs.Holes.{StandsAt, Comes, Expects, IsNameAt, Named, with_candidate}
 use Rattle.cpp_direct.specs.Names.{IsOperatorAt, is_angle, operator_text}
 use Rattle.cpp_direct.specs.Prints.{Prints, PrintsName}
-use Rattle.cpp_direct.specs.Stands.{AreCandidates, AwaitsItems, IsWriting}
+use Rattle.cpp_direct.specs.Stands.{AreCandidates, IsWriting}
 use Rattle.cpp_direct.specs.Ways.{AwaitsEncoding, AwaitsSource, HasName, IsNameEnded, IsUnscoped}
 use Rattle.cpp_direct.specs.Written.{Writes, Reads, added}
 use Rattle.cpp_direct.proofs.Begins.{encoding-expected, items-await}
 use Rattle.cpp_direct.proofs.Kept.{arguments-begun, candidates-stay, candidates-with, candidates-read, reverse-last}
-use Rattle.cpp_direct.proofs.FoundTokens.{reads-of, reads-then}
+use Rattle.cpp_direct.proofs.FoundTokens.{reads-then}
 use Rattle.cpp_direct.proofs.Moves.{expects-empty, stands-join}
 use Rattle.cpp_direct.proofs.MovesOfEncodings.{name-source, name-internal}
 use Rattle.cpp_direct.proofs.MovesOfLists.{arguments-open}

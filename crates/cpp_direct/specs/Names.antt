@@ -1,11 +1,18 @@
 -- Names: what is read of their length, and where their own bytes stand. Operators: where their codes stand, and their names.
 use Rattle.std.specs.Prelude.{◌≡◌, ◌≢◌, ℕ, ◌+◌, ◌-◌, ◌≤◌, ◌<◌, List, [], ◌∷◌, ◌++◌, ◌||◌, length, take, drop, Bool, codes}
 use Rattle.sym_core.specs.declared.NumberKind.TheVariants.{Length}
-use Rattle.sym_core.specs.Number.{AreDigitsOf}
+use Rattle.sym_core.specs.declared.NameClass.TheVariants.{Cpp}
+use Rattle.sym_core.specs.Number.{AreDigitsOf, FitsSymbol}
+use Rattle.sym_core.specs.Scan.{ReachesNameBytes}
 use Rattle.sym_core.specs.Value.{value_of}
 use Rattle.cpp_grammar.specs.Texts.{look_up, operator_texts, same_bytes}
 use Rattle.cpp_direct.specs.declared.names.NamePlace.{NamePlace}
 use Rattle.cpp_direct.specs.Holes.{StandsAt, IsNameAt}
+
+-- A symbol that isn't too long to be read, and of which each byte may stand in a name.
+pub record IsReadable (s : List ℕ) : Type 0 where
+  pub fits : FitsSymbol s
+  pub plain : ReachesNameBytes Cpp s (length s)
 
 -- The length of a name stands at the place. The name's own bytes, this many, would stand from here on.
 pub record IsLengthRead (s : List ℕ) (at from size : ℕ) : Type 0 where

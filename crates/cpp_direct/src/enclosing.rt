@@ -2,8 +2,8 @@
 
 ghost use Rattle.std.specs.Prelude.{◌≡◌, ◌+◌, ◌∷◌, ◌++◌, [], ℕ, List, length, Option, false, codes};
 ghost use Rattle.std.specs.Option.{OnSome, IfSome};
-ghost use Rattle.sym_core.specs.Number.{FitsSymbol};
 ghost use Rattle.cpp_grammar.specs.Term.{Term};
+ghost use Rattle.cpp_direct.specs.Names.{IsReadable};
 ghost use Rattle.cpp_direct.specs.Holes.{StandsAt};
 ghost use Rattle.cpp_direct.specs.HolesOfLocals.{IsLambdaDigit, IsPieceAt, lambda_digits, lambda_number};
 ghost use Rattle.cpp_direct.specs.Prints.{PrintsPiece};
@@ -23,7 +23,7 @@ impl Direct {
     // <local-name> ::= Z <function encoding> E <entity name> [<discriminator>]
     #[inline(never)]
     pub(crate) fn begin_enclosing(&mut self, s: &[u8]) -> Option<Step>
-        requires fits { FitsSymbol s.now }
+        requires fits { IsReadable s.now }
         requires letter { StandsAt s.now self.old.at (90 ∷ []) }
         requires awaits { AwaitsNamedType s.now self.old }
         ensures { IfSome result (IsWriting s.now self.new) }
@@ -45,7 +45,7 @@ impl Direct {
     /// The name of a function is read in which a type stands: its parameters follow, or the type.
     // <encoding> ::= <function name> <bare-function-type> | <data name>
     pub(crate) fn enclosing_named(&mut self, s: &[u8], is_const: bool, from: usize) -> Option<Step>
-        requires fits { FitsSymbol s.now }
+        requires fits { IsReadable s.now }
         requires named { IsEnclosingNamed s.now self.old is_const from }
         ensures { IfSome result (IsWriting s.now self.new) }
     {
@@ -72,7 +72,7 @@ impl Direct {
         is_const: bool,
         from: usize,
     ) -> Option<Step>
-        requires fits { FitsSymbol s.now }
+        requires fits { IsReadable s.now }
         requires read { IsEnclosingParameterRead s.now self.old is_const from }
         ensures { IfSome result (IsWriting s.now self.new) }
     {
@@ -91,7 +91,7 @@ impl Direct {
 
     /// Writes the qualifier of a function in which a type stands.
     fn enclosing_ended(&mut self, s: &[u8], is_const: bool, from: usize) -> Option<Step>
-        requires fits { FitsSymbol s.now }
+        requires fits { IsReadable s.now }
         requires read { IsEnclosingRead s.now self.old is_const from }
         ensures { IfSome result (IsWriting s.now self.new) }
     {
@@ -104,7 +104,7 @@ impl Direct {
     /// Reads the E behind the function that a type stands in.
     // <local-name> ::= Z <function encoding> E <entity name> [<discriminator>]
     fn enclosed(&mut self, s: &[u8], from: usize) -> Option<Step>
-        requires fits { FitsSymbol s.now }
+        requires fits { IsReadable s.now }
         requires read { IsEnclosingRead s.now self.old false from }
         ensures { IfSome result (IsWriting s.now self.new) }
     {
@@ -125,7 +125,7 @@ impl Direct {
     /// Reads the name of a type that stands in a function.
     // <local-name> ::= Z <function encoding> E <entity name> [<discriminator>]
     fn enclosed_named(&mut self, s: &[u8], from: usize) -> Option<Step>
-        requires fits { FitsSymbol s.now }
+        requires fits { IsReadable s.now }
         requires awaits { AwaitsTypeName s.now self.old from }
         ensures { IfSome result (IsWriting s.now self.new) }
     {
@@ -141,7 +141,7 @@ impl Direct {
     // <unqualified-name> ::= <source-name> | <unnamed-type-name>
     #[inline(always)]
     fn enclosed_piece(&mut self, s: &[u8]) -> Option<()>
-        requires { FitsSymbol s.now }
+        requires { IsReadable s.now }
         ensures { OnSome result ((p : Term) × (n : List ℕ) × IsPieceAt s.now self.old.at p self.new.at × PrintsPiece p n × Reads self.old self.new n) }
     {
         if byte_at(s, self.at) == b'U' {
@@ -213,7 +213,7 @@ impl Direct {
     /// A parameter of a lambda is read: another one follows, or the lambda's end.
     // <lambda-sig> ::= <parameter type>+
     pub(crate) fn lambda_parameter(&mut self, s: &[u8], from: usize) -> Option<Step>
-        requires fits { FitsSymbol s.now }
+        requires fits { IsReadable s.now }
         requires read { IsLambdaParameterRead s.now self.old from }
         ensures { IfSome result (IsWriting s.now self.new) }
     {

@@ -2,7 +2,7 @@
 
 ghost use Rattle.std.specs.Prelude.{◌∷◌, [], true, if◌then◌else◌};
 ghost use Rattle.std.specs.Option.{IfSome};
-ghost use Rattle.sym_core.specs.Number.{FitsSymbol};
+ghost use Rattle.cpp_direct.specs.Names.{IsReadable};
 ghost use Rattle.cpp_direct.specs.declared.open.Step.TheVariants as steps;
 ghost use Rattle.cpp_direct.specs.Holes.{StandsAt};
 ghost use Rattle.cpp_direct.specs.Stands.{IsWriting};
@@ -17,7 +17,7 @@ impl Direct {
     // <function-type> ::= F <bare-function-type> E
     #[inline(never)]
     pub(crate) fn begin_function(&mut self, s: &[u8], is_pointer: bool) -> Option<Step>
-        requires fits { FitsSymbol s.now }
+        requires fits { IsReadable s.now }
         requires letters { StandsAt s.now self.old.at (if is_pointer then 80 ∷ 70 ∷ [] else 70 ∷ []) }
         requires writing { IsWriting s.now self.old steps.Type }
         ensures { IfSome result (IsWriting s.now self.new) }
@@ -42,7 +42,7 @@ impl Direct {
     /// The return type of a function type is read: its parameters follow.
     // <bare-function-type> ::= <return type> <parameter type>+
     pub(crate) fn returned(&mut self, s: &[u8], is_pointer: bool) -> Option<Step>
-        requires fits { FitsSymbol s.now }
+        requires fits { IsReadable s.now }
         requires returned { IsReturned s.now self.old is_pointer }
         ensures { IfSome result (IsWriting s.now self.new) }
     {
@@ -55,7 +55,7 @@ impl Direct {
     /// Reads the first parameter of a function type, unless it is a lone void, which is none.
     // <bare-function-type> ::= <return type> v
     fn first_parameter(&mut self, s: &[u8], is_pointer: bool) -> Option<Step>
-        requires fits { FitsSymbol s.now }
+        requires fits { IsReadable s.now }
         requires awaits { AwaitsSignature s.now self.old is_pointer true }
         ensures { IfSome result (IsWriting s.now self.new) }
     {
@@ -75,7 +75,7 @@ impl Direct {
         is_pointer: bool,
         is_first: bool,
     ) -> Option<Step>
-        requires fits { FitsSymbol s.now }
+        requires fits { IsReadable s.now }
         requires awaits { AwaitsSignature s.now self.old is_pointer is_first }
         ensures { IfSome result (IsWriting s.now self.new) }
     {
@@ -116,7 +116,7 @@ impl Direct {
     /// Writes the end of a function type, and hands it on.
     // <function-type> ::= F <bare-function-type> E
     fn function_ended(&mut self, s: &[u8], is_pointer: bool) -> Option<Step>
-        requires fits { FitsSymbol s.now }
+        requires fits { IsReadable s.now }
         requires ended { IsFunctionRead s.now self.old is_pointer }
         ensures { IfSome result (IsWriting s.now self.new) }
     {

@@ -2,11 +2,11 @@
 
 ghost use Rattle.std.specs.Prelude.{◌≡◌, ◌∷◌, [], ◌⊎◌, ◌+◌, ℕ, List, Bool, length, nat_eq, true};
 ghost use Rattle.std.specs.Option.{OnSome, IfSome};
-ghost use Rattle.sym_core.specs.Number.{FitsSymbol};
 ghost use Rattle.cpp_grammar.specs.Parts.{is_plain_integer};
 ghost use Rattle.cpp_grammar.specs.Term.{builtin};
 ghost use Rattle.cpp_grammar.specs.Values as values;
 ghost use Rattle.cpp_grammar.specs.Values.{signed_digits};
+ghost use Rattle.cpp_direct.specs.Names.{IsReadable};
 ghost use Rattle.cpp_direct.specs.declared.open.Step.TheVariants as steps;
 ghost use Rattle.cpp_direct.specs.Holes.{StandsAt};
 ghost use Rattle.cpp_direct.specs.HolesOfLists.{IsDigitsAt, minus_sign};
@@ -68,7 +68,7 @@ impl Direct {
     /// Reads an argument or an element of a pack up to the first type in it, or the end of either.
     // <template-args> ::= I <template-arg>* E
     pub(crate) fn list_at(&mut self, s: &[u8], is_first: bool) -> Option<Step>
-        requires fits { FitsSymbol s.now }
+        requires fits { IsReadable s.now }
         requires writing { IsWriting s.now self.old (steps.List is_first) }
         ensures { IfSome result (IsWriting s.now self.new) }
     {
@@ -109,7 +109,7 @@ impl Direct {
     // <template-arg> ::= J <template-arg>* E
     #[inline(never)]
     fn empty_pack(&mut self, s: &[u8], _is_first: bool) -> Option<Step>
-        requires fits { FitsSymbol s.now }
+        requires fits { IsReadable s.now }
         requires letters { StandsAt s.now self.old.at (74 ∷ 69 ∷ []) }
         requires writing { IsWriting s.now self.old (steps.List _is_first) }
         ensures { IfSome result (IsWriting s.now self.new) }
@@ -128,7 +128,7 @@ impl Direct {
     /// Reads the E of arguments or of a pack.
     #[inline(always)]
     fn list_ended(&mut self, s: &[u8], is_first: bool) -> Option<Step>
-        requires fits { FitsSymbol s.now }
+        requires fits { IsReadable s.now }
         requires letter { StandsAt s.now self.old.at (69 ∷ []) }
         requires writing { IsWriting s.now self.old (steps.List is_first) }
         ensures { IfSome result (IsWriting s.now self.new) }
@@ -149,7 +149,7 @@ impl Direct {
 
     /// Ends arguments.
     fn close_list(&mut self, s: &[u8]) -> Option<Step>
-        requires fits { FitsSymbol s.now }
+        requires fits { IsReadable s.now }
         requires ended { IsListEnded s.now self.old }
         ensures { IfSome result (IsWriting s.now self.new) }
     {
@@ -181,7 +181,7 @@ impl Direct {
 
     // <expr-primary> ::= L <type> <value number> E | Lb0E | Lb1E
     fn literal(&mut self, s: &[u8]) -> Option<Step>
-        requires fits { FitsSymbol s.now }
+        requires fits { IsReadable s.now }
         requires letter { StandsAt s.now self.old.at (76 ∷ []) }
         requires awaits { AwaitsNextArgument s.now self.old }
         ensures { IfSome result (IsWriting s.now self.new) }
@@ -209,7 +209,7 @@ impl Direct {
     /// Reads the number of an enumerator, behind its type.
     // <expr-primary> ::= L <type> <value number> E
     pub(crate) fn enumerator(&mut self, s: &[u8]) -> Option<Step>
-        requires fits { FitsSymbol s.now }
+        requires fits { IsReadable s.now }
         requires awaits { AwaitsNumber s.now self.old }
         ensures { IfSome result (IsWriting s.now self.new) }
     {
@@ -257,7 +257,7 @@ impl Direct {
 
     /// Reads an integer with its type, at whose letter the writer is.
     fn integer(&mut self, s: &[u8]) -> Option<()>
-        requires { FitsSymbol s.now }
+        requires { IsReadable s.now }
         ensures { OnSome result ((letter : ℕ) × (is_negative : Bool) × (digits : List ℕ) × (is_integer_letter letter ≡ true)
             × StandsAt s.now self.old.at (letter ∷ minus_sign is_negative)
             × IsDigitsAt s.now (self.old.at + 1 + length (minus_sign is_negative)) digits self.new.at
@@ -280,7 +280,7 @@ impl Direct {
 
     // <number> ::= [n] <non-negative decimal integer>
     fn number(&mut self, s: &[u8]) -> Option<()>
-        requires { FitsSymbol s.now }
+        requires { IsReadable s.now }
         ensures { OnSome result ((is_negative : Bool) × (digits : List ℕ) × StandsAt s.now self.old.at (minus_sign is_negative)
             × IsDigitsAt s.now (self.old.at + length (minus_sign is_negative)) digits self.new.at
             × Reads self.old self.new (number_text (signed_digits is_negative digits))) }
@@ -295,7 +295,7 @@ impl Direct {
     /// Reads the digits of a number behind its sign, and writes both.
     // <non-negative decimal integer>
     fn digits(&mut self, s: &[u8], is_negative: bool) -> Option<()>
-        requires { FitsSymbol s.now }
+        requires { IsReadable s.now }
         ensures { OnSome result ((digits : List ℕ) × IsDigitsAt s.now self.old.at digits self.new.at
             × Reads self.old self.new (number_text (signed_digits is_negative digits))) }
     {

@@ -2,7 +2,7 @@
 
 ghost use Rattle.std.specs.Prelude.{◌≡◌, ◌∷◌, [], ℕ, Option, true, false};
 ghost use Rattle.std.specs.Option.{OnSome, IfSome};
-ghost use Rattle.sym_core.specs.Number.{FitsSymbol};
+ghost use Rattle.cpp_direct.specs.Names.{IsReadable};
 ghost use Rattle.cpp_direct.specs.Bytes.{is_local};
 ghost use Rattle.cpp_direct.specs.Holes.{StandsAt};
 ghost use Rattle.cpp_direct.specs.HolesOfLocals.{IsDiscriminatorAt};
@@ -18,7 +18,7 @@ impl Direct {
     /// The first bytes of the symbol of a local entity, or of its guard variable.
     // <local-name> ::= Z <function encoding> E <entity name> [<discriminator>]
     pub(crate) fn begin_local(&mut self, s: &[u8]) -> Option<Step>
-        requires fits { FitsSymbol s.now }
+        requires fits { IsReadable s.now }
         requires fresh { IsFresh self.old }
         requires starts { StandsAt s.now 0 (95 ∷ 90 ∷ []) }
         ensures { IfSome result (IsWriting s.now self.new) }
@@ -33,7 +33,7 @@ impl Direct {
     /// The first bytes of the symbol of a guard variable.
     // <special-name> ::= GV <object name>
     fn begin_guard(&mut self, s: &[u8]) -> Option<Step>
-        requires fits { FitsSymbol s.now }
+        requires fits { IsReadable s.now }
         requires fresh { IsFresh self.old }
         requires starts { StandsAt s.now 0 (95 ∷ 90 ∷ []) }
         ensures { IfSome result (IsWriting s.now self.new) }
@@ -49,7 +49,7 @@ impl Direct {
     /// A local entity, behind the encoding that it stands in.
     // <local-name> ::= Z <function encoding> E <entity name> [<discriminator>]
     pub(crate) fn entity(&mut self, s: &[u8]) -> Option<Step>
-        requires fits { FitsSymbol s.now }
+        requires fits { IsReadable s.now }
         requires ended { IsEncodingEnded s.now self.old false }
         requires local { is_local s.now ≡ true }
         ensures { IfSome result (IsWriting s.now self.new) }
@@ -68,7 +68,7 @@ impl Direct {
     /// The name of a local entity, behind the L of internal linkage or without one.
     // <unscoped-name> ::= <source-name>
     fn entity_name(&mut self, s: &[u8], is_internal: bool) -> Option<Step>
-        requires fits { FitsSymbol s.now }
+        requires fits { IsReadable s.now }
         requires awaits { AwaitsEntity s.now self.old is_internal }
         ensures { IfSome result (IsWriting s.now self.new) }
     {

@@ -3,67 +3,27 @@
 ghost use Rattle.std.specs.Prelude.{◌≡◌, ◌≤◌, length, true, false};
 ghost use Rattle.std.specs.Option.{IfSome};
 ghost use Rattle.sym_core.specs.declared.NameClass.TheVariants.{Cpp};
-ghost use Rattle.sym_core.specs.Number.{FitsSymbol, is_decimal_digit};
+ghost use Rattle.sym_core.specs.Number.{is_decimal_digit};
 ghost use Rattle.sym_core.specs.Scan.{ReachesNameBytes};
 ghost use Rattle.sym_core.specs.Token.{is_name_byte};
-ghost use Rattle.cpp_direct.specs.Names.{IsLengthRead, IsNamePlace};
+ghost use Rattle.cpp_direct.specs.Names.{IsLengthRead, IsNamePlace, IsReadable};
 
 use crate::tokens::byte_at;
 use sym_core::{NameClass, find_name};
 
-// For each byte 1 where it may not stand in a name, else 0.
-static BARRED: [u8; 256] = [
-    1, 1, 1, 1, 1, 1, 1, 1, 1, 1, 1, 1, 1, 1, 1, 1, 1, 1, 1, 1, 1, 1, 1, 1, 1, 1, 1, 1, 1, 1, 1, 1,
-    1, 0, 0, 0, 0, 0, 0, 0, 0, 0, 0, 0, 0, 0, 0, 0, 0, 0, 0, 0, 0, 0, 0, 0, 0, 0, 0, 0, 0, 0, 0, 0,
-    0, 0, 0, 0, 0, 0, 0, 0, 0, 0, 0, 0, 0, 0, 0, 0, 0, 0, 0, 0, 0, 0, 0, 0, 0, 0, 0, 0, 0, 0, 0, 0,
-    0, 0, 0, 0, 0, 0, 0, 0, 0, 0, 0, 0, 0, 0, 0, 0, 0, 0, 0, 0, 0, 0, 0, 0, 0, 0, 0, 0, 0, 0, 0, 1,
-    0, 0, 0, 0, 0, 0, 0, 0, 0, 0, 0, 0, 0, 0, 0, 0, 0, 0, 0, 0, 0, 0, 0, 0, 0, 0, 0, 0, 0, 0, 0, 0,
-    0, 0, 0, 0, 0, 0, 0, 0, 0, 0, 0, 0, 0, 0, 0, 0, 0, 0, 0, 0, 0, 0, 0, 0, 0, 0, 0, 0, 0, 0, 0, 0,
-    0, 0, 0, 0, 0, 0, 0, 0, 0, 0, 0, 0, 0, 0, 0, 0, 0, 0, 0, 0, 0, 0, 0, 0, 0, 0, 0, 0, 0, 0, 0, 0,
-    0, 0, 0, 0, 0, 0, 0, 0, 0, 0, 0, 0, 0, 0, 0, 0, 0, 0, 0, 0, 0, 0, 0, 0, 0, 0, 0, 0, 0, 0, 0, 0,
-];
-
-/// 1 where a byte may not stand in a name, else 0.
-#[inline(always)]
-fn barred(byte: u8) -> u8
-    ensures few { result ≤ 1 }
-    ensures none { result ≡ 0 → is_name_byte Cpp byte ≡ true }
-{
-    BARRED[byte as usize]
-}
-
-/// How many of the first bytes, by fours, may stand in a name.
-#[inline(always)]
-fn named_fours(bytes: &[u8]) -> usize
-    ensures within { result ≤ length bytes.now }
-    ensures each { ReachesNameBytes Cpp bytes.now result }
-{
-    let mut end = 0;
-    'fours: while bytes.len() - end >= 4
-        && barred(bytes[end])
-            + barred(bytes[end + 1])
-            + barred(bytes[end + 2])
-            + barred(bytes[end + 3])
-            == 0
-    {
-        end += 4;
-    }
-    end
-}
-
 /// Whether each byte may stand in a name.
-#[inline(always)]
-fn are_name_bytes(bytes: &[u8]) -> bool
+// without an end in between, so that many bytes are held against the bounds at once
+#[inline(never)]
+pub fn are_name_bytes(bytes: &[u8]) -> bool
     ensures { result ≡ true → ReachesNameBytes Cpp bytes.now (length bytes.now) }
 {
-    let mut end = named_fours(bytes);
-    'ones: while end < bytes.len() {
-        if barred(bytes[end]) != 0 {
-            return false;
-        }
-        end += 1;
+    let mut are = true;
+    let mut at = 0;
+    'bytes: while at < bytes.len() {
+        are = are & (bytes[at] > b' ') & (bytes[at] != 127);
+        at += 1;
     }
-    true
+    are
 }
 
 /// Where a name has its own bytes: those behind its length.
@@ -84,6 +44,7 @@ pub fn is_digit(byte: u8) -> bool
 /// A name's own bytes, so many, behind its length, which stands at a place.
 #[inline(always)]
 fn own_at(s: &[u8], _at: usize, from: usize, size: usize) -> Option<NamePlace>
+    requires readable { IsReadable s.now }
     requires read { IsLengthRead s.now _at from size }
     requires within { from ≤ length s.now }
     ensures { IfSome result (IsNamePlace s.now _at) }
@@ -96,16 +57,13 @@ fn own_at(s: &[u8], _at: usize, from: usize, size: usize) -> Option<NamePlace>
     if is_digit(own[0]) {
         return None;
     }
-    if !are_name_bytes(own) {
-        return None;
-    }
     Some(NamePlace { from, to })
 }
 
 /// The same where the length has more than two digits.
 #[inline(never)]
 fn long_name_at(s: &[u8], at: usize) -> Option<NamePlace>
-    requires { FitsSymbol s.now }
+    requires { IsReadable s.now }
     ensures { IfSome result (IsNamePlace s.now at) }
 {
     if at > s.len() {
@@ -122,7 +80,7 @@ fn long_name_at(s: &[u8], at: usize) -> Option<NamePlace>
 // <source-name> ::= <positive length number> <identifier>
 #[inline(always)]
 pub fn name_at(s: &[u8], at: usize) -> Option<NamePlace>
-    requires { FitsSymbol s.now }
+    requires { IsReadable s.now }
     ensures { IfSome result (IsNamePlace s.now at) }
 {
     let first = byte_at(s, at);

@@ -2,7 +2,7 @@
 
 ghost use Rattle.std.specs.Prelude.{◌≡◌, ℕ, ◌+◌, ◌∷◌, [], true, false};
 ghost use Rattle.std.specs.Option.{IfSome};
-ghost use Rattle.sym_core.specs.Number.{FitsSymbol};
+ghost use Rattle.cpp_direct.specs.Names.{IsReadable};
 ghost use Rattle.cpp_direct.specs.declared.open.Step.TheVariants as steps;
 ghost use Rattle.cpp_direct.specs.Holes.{StandsAt};
 ghost use Rattle.cpp_direct.specs.Stands.{IsWriting};
@@ -32,7 +32,7 @@ impl Direct {
     /// Reads the first piece of a nested name.
     // <prefix> ::= <unqualified-name> | <substitution>
     pub(crate) fn nest_at(&mut self, s: &[u8], purpose: Purpose) -> Option<Step>
-        requires fits { FitsSymbol s.now }
+        requires fits { IsReadable s.now }
         requires awaits { AwaitsNest s.now self.old purpose }
         ensures { IfSome result (IsWriting s.now self.new) }
     {
@@ -55,7 +55,7 @@ impl Direct {
 
     // <substitution> ::= S <seq-id> _ | S_ | St | Sa | Ss | Sb | Si | So | Sd
     fn nest_with_s(&mut self, s: &[u8], purpose: Purpose) -> Option<Step>
-        requires fits { FitsSymbol s.now }
+        requires fits { IsReadable s.now }
         requires letter { StandsAt s.now self.old.at (83 ∷ []) }
         requires awaits { AwaitsNest s.now self.old purpose }
         ensures { IfSome result (IsWriting s.now self.new) }
@@ -85,7 +85,7 @@ impl Direct {
     /// Reads a name in std at the front of a nested one, whose S has been read.
     // <prefix> ::= St <unqualified-name>
     fn nest_in_std(&mut self, s: &[u8], purpose: Purpose) -> Option<Step>
-        requires fits { FitsSymbol s.now }
+        requires fits { IsReadable s.now }
         requires awaits { (before : ℕ) × (before + 1 ≡ self.old.at) × StandsAt s.now before (83 ∷ 116 ∷ [])
             × AwaitsNest s.now (record self.old { at = before }) purpose }
         ensures { IfSome result (IsWriting s.now self.new) }
@@ -123,7 +123,7 @@ impl Direct {
 
     /// Reads what stands behind the first piece of a nested name.
     pub(crate) fn rest_at(&mut self, s: &[u8]) -> Option<Step>
-        requires fits { FitsSymbol s.now }
+        requires fits { IsReadable s.now }
         requires writing { IsWriting s.now self.old steps.Rest }
         ensures { IfSome result (IsWriting s.now self.new) }
     {
@@ -136,7 +136,7 @@ impl Direct {
 
     /// Reads another component of a nested name, or its end.
     pub(crate) fn tail_at(&mut self, s: &[u8]) -> Option<Step>
-        requires fits { FitsSymbol s.now }
+        requires fits { IsReadable s.now }
         requires writing { IsWriting s.now self.old steps.Tail }
         ensures { IfSome result (IsWriting s.now self.new) }
     {
@@ -149,7 +149,7 @@ impl Direct {
 
     /// Reads the E of a nested name.
     fn nest_ended(&mut self, s: &[u8]) -> Option<Step>
-        requires fits { FitsSymbol s.now }
+        requires fits { IsReadable s.now }
         requires end { StandsAt s.now self.old.at (69 ∷ []) }
         requires writing { IsWriting s.now self.old steps.Tail }
         ensures { IfSome result (IsWriting s.now self.new) }
@@ -177,7 +177,7 @@ impl Direct {
     /// Reads a component of a nested name.
     // <unqualified-name> ::= <source-name> | <operator-name> | <ctor-dtor-name>
     pub(crate) fn component_at(&mut self, s: &[u8]) -> Option<Step>
-        requires fits { FitsSymbol s.now }
+        requires fits { IsReadable s.now }
         requires writing { IsWriting s.now self.old steps.Component }
         ensures { IfSome result (IsWriting s.now self.new) }
     {
@@ -193,7 +193,7 @@ impl Direct {
     // <unqualified-name> ::= <source-name>
     #[inline(always)]
     fn source(&mut self, s: &[u8], is_internal: bool) -> Option<Step>
-        requires fits { FitsSymbol s.now }
+        requires fits { IsReadable s.now }
         requires letter { is_internal ≡ true → StandsAt s.now self.old.at (76 ∷ []) }
         requires writing { IsWriting s.now self.old steps.Component }
         ensures { IfSome result (IsWriting s.now self.new) }
@@ -218,7 +218,7 @@ impl Direct {
     // <unqualified-name> ::= <operator-name>
     #[inline(never)]
     fn operator(&mut self, s: &[u8]) -> Option<Step>
-        requires fits { FitsSymbol s.now }
+        requires fits { IsReadable s.now }
         requires writing { IsWriting s.now self.old steps.Component }
         ensures { IfSome result (IsWriting s.now self.new) }
     {
@@ -240,7 +240,7 @@ impl Direct {
 
     /// Reads the E of a nested name behind an operator that no arguments are read of.
     fn operator_ended(&mut self, s: &[u8]) -> Option<Step>
-        requires fits { FitsSymbol s.now }
+        requires fits { IsReadable s.now }
         requires read { IsOperatorRead s.now self.old }
         ensures { IfSome result (IsWriting s.now self.new) }
     {
@@ -256,7 +256,7 @@ impl Direct {
 
     // <ctor-dtor-name> ::= C1 | C2 | C3
     fn constructor(&mut self, s: &[u8]) -> Option<Step>
-        requires fits { FitsSymbol s.now }
+        requires fits { IsReadable s.now }
         requires letter { StandsAt s.now self.old.at (67 ∷ []) }
         requires writing { IsWriting s.now self.old steps.Component }
         ensures { IfSome result (IsWriting s.now self.new) }
@@ -273,7 +273,7 @@ impl Direct {
 
     // <ctor-dtor-name> ::= D0 | D1 | D2
     fn destructor(&mut self, s: &[u8]) -> Option<Step>
-        requires fits { FitsSymbol s.now }
+        requires fits { IsReadable s.now }
         requires letter { StandsAt s.now self.old.at (68 ∷ []) }
         requires writing { IsWriting s.now self.old steps.Component }
         ensures { IfSome result (IsWriting s.now self.new) }

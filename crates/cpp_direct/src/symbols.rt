@@ -6,10 +6,12 @@ ghost use Rattle.sym_core.specs.Number.{FitsSymbol};
 ghost use Rattle.sym_print.specs.declared.detail.Detail.TheVariants as details;
 ghost use Rattle.cpp_grammar.specs.Mangled.{IsAnswer};
 ghost use Rattle.cpp_direct.specs.Holes.{StandsAt};
+ghost use Rattle.cpp_direct.specs.Names.{IsReadable};
 ghost use Rattle.cpp_direct.specs.Stands.{IsWriting};
 ghost use Rattle.cpp_direct.specs.Ways.{IsFresh, AwaitsEncoding, IsNameEnded, IsFrontRead, AwaitsParameters, IsParameterEnded, IsEncodingEnded, IsSymbolEnded};
 
 use crate::direct::Direct;
+use crate::names::are_name_bytes;
 use crate::open::{Nest, Open, Purpose, Step};
 use crate::tokens::{byte_at, is_local, is_suffix, may_end};
 use std::alloc::Global;
@@ -121,6 +123,9 @@ impl Direct {
         ensures answer { result ≡ true → IsAnswer details.Full s.now limit (Ok self.new.text.list.items) }
         ensures rounds { rounds.new ≤ 8 * length s.now }
     {
+        if s.len() > LONGEST || !are_name_bytes(s) {
+            return false;
+        }
         let Some(first) = self.begin(s) else {
             return false;
         };
@@ -142,7 +147,7 @@ impl Direct {
     /// Takes a step.
     #[inline(always)]
     fn take(&mut self, s: &[u8], step: Step) -> Option<Step>
-        requires fits { FitsSymbol s.now }
+        requires fits { IsReadable s.now }
         requires writing { IsWriting s.now self.old step }
         ensures { IfSome result (IsWriting s.now self.new) }
     {
@@ -161,11 +166,11 @@ impl Direct {
     /// The first bytes of a symbol.
     // <mangled-name> ::= _Z <encoding>
     fn begin(&mut self, s: &[u8]) -> Option<Step>
-        requires fits { FitsSymbol s.now }
+        requires fits { IsReadable s.now }
         requires fresh { IsFresh self.old }
         ensures { IfSome result (IsWriting s.now self.new) }
     {
-        if s.len() > LONGEST || byte_at(s, 0) != b'_' || byte_at(s, 1) != b'Z' {
+        if byte_at(s, 0) != b'_' || byte_at(s, 1) != b'Z' {
             return None;
         }
         if is_local(s) {
@@ -185,7 +190,7 @@ impl Direct {
     /// The first bytes of an encoding.
     // <encoding> ::= <function name> <bare-function-type> | <data name>
     pub(crate) fn begin_encoding(&mut self, s: &[u8]) -> Option<Step>
-        requires fits { FitsSymbol s.now }
+        requires fits { IsReadable s.now }
         requires awaits { AwaitsEncoding s.now self.old }
         ensures { IfSome result (IsWriting s.now self.new) }
     {
@@ -204,7 +209,7 @@ impl Direct {
     // <special-name> ::= TV <type> | TT <type> | TI <type> | TS <type>
     #[inline(never)]
     fn begin_special(&mut self, s: &[u8]) -> Option<Step>
-        requires fits { FitsSymbol s.now }
+        requires fits { IsReadable s.now }
         requires fresh { IsFresh self.old }
         requires starts { StandsAt s.now 0 (95 ∷ 90 ∷ []) }
         requires letter { StandsAt s.now 2 (84 ∷ []) }
@@ -222,7 +227,7 @@ impl Direct {
 
     // <nested-name> ::= N [<CV-qualifiers>] [<ref-qualifier>] <prefix> <unqualified-name> E
     fn begin_nested(&mut self, s: &[u8]) -> Option<Step>
-        requires fits { FitsSymbol s.now }
+        requires fits { IsReadable s.now }
         requires awaits { AwaitsEncoding s.now self.old }
         requires letter { StandsAt s.now self.old.at (78 ∷ []) }
         ensures { IfSome result (IsWriting s.now self.new) }
@@ -244,7 +249,7 @@ impl Direct {
         is_instance: bool,
         from: usize,
     ) -> Option<Step>
-        requires fits { FitsSymbol s.now }
+        requires fits { IsReadable s.now }
         requires ended { IsNameEnded s.now self.old is_const is_instance from }
         ensures { IfSome result (IsWriting s.now self.new) }
     {
@@ -262,7 +267,7 @@ impl Direct {
     // <bare-function-type> ::= <return type> <parameter type>+
     #[inline(never)]
     fn begin_front(&mut self, s: &[u8], is_const: bool, from: usize) -> Option<Step>
-        requires fits { FitsSymbol s.now }
+        requires fits { IsReadable s.now }
         requires ended { IsNameEnded s.now self.old is_const true from }
         ensures { IfSome result (IsWriting s.now self.new) }
     {
@@ -279,7 +284,7 @@ impl Direct {
     // <bare-function-type> ::= <return type> <parameter type>+
     #[inline(never)]
     pub(crate) fn front_ended(&mut self, s: &[u8], is_const: bool, start: usize) -> Option<Step>
-        requires fits { FitsSymbol s.now }
+        requires fits { IsReadable s.now }
         requires ended { IsFrontRead s.now self.old is_const start }
         ensures { IfSome result (IsWriting s.now self.new) }
     {
@@ -296,7 +301,7 @@ impl Direct {
     // <bare-function-type> ::= <parameter type>+ | v
     #[inline(always)]
     fn begin_parameters(&mut self, s: &[u8], is_const: bool, start: usize) -> Option<Step>
-        requires fits { FitsSymbol s.now }
+        requires fits { IsReadable s.now }
         requires awaits { AwaitsParameters s.now self.old is_const start }
         ensures { IfSome result (IsWriting s.now self.new) }
     {
@@ -315,7 +320,7 @@ impl Direct {
 
     /// A parameter is read: another one follows, or the end of the encoding.
     pub(crate) fn parameter_ended(&mut self, s: &[u8], is_const: bool, start: usize) -> Option<Step>
-        requires fits { FitsSymbol s.now }
+        requires fits { IsReadable s.now }
         requires ended { IsParameterEnded s.now self.old is_const start }
         ensures { IfSome result (IsWriting s.now self.new) }
     {
@@ -335,7 +340,7 @@ impl Direct {
 
     /// The end of an encoding, behind its text but for its qualifier: a local entity follows, or the end of the symbol.
     pub(crate) fn end(&mut self, s: &[u8], is_const: bool) -> Option<Step>
-        requires fits { FitsSymbol s.now }
+        requires fits { IsReadable s.now }
         requires ended { IsEncodingEnded s.now self.old is_const }
         ensures { IfSome result (IsWriting s.now self.new) }
     {

@@ -2,7 +2,7 @@
 
 ghost use Rattle.std.specs.Prelude.{◌≡◌, ◌+◌, ◌∷◌, [], ℕ, List};
 ghost use Rattle.std.specs.Option.{OnSome, IfSome};
-ghost use Rattle.sym_core.specs.Number.{FitsSymbol};
+ghost use Rattle.cpp_direct.specs.Names.{IsReadable};
 ghost use Rattle.cpp_direct.specs.Holes.{StandsAt};
 ghost use Rattle.cpp_direct.specs.HolesOfLists.{IsDigitsAt, IsOffsetAt};
 ghost use Rattle.cpp_direct.specs.Stands.{IsWriting};
@@ -19,7 +19,7 @@ impl Direct {
     // <call-offset> ::= h <nv-offset> _
     #[inline(never)]
     pub(crate) fn begin_thunk(&mut self, s: &[u8]) -> Option<Step>
-        requires fits { FitsSymbol s.now }
+        requires fits { IsReadable s.now }
         requires fresh { IsFresh self.old }
         requires starts { StandsAt s.now 0 (95 ∷ 90 ∷ []) }
         requires letter { StandsAt s.now 2 (84 ∷ []) }
@@ -36,7 +36,7 @@ impl Direct {
     // <call-offset> ::= v <offset number> _ <virtual offset number> _
     #[inline(never)]
     pub(crate) fn begin_virtual_thunk(&mut self, s: &[u8]) -> Option<Step>
-        requires fits { FitsSymbol s.now }
+        requires fits { IsReadable s.now }
         requires fresh { IsFresh self.old }
         requires starts { StandsAt s.now 0 (95 ∷ 90 ∷ []) }
         requires letter { StandsAt s.now 2 (84 ∷ []) }
@@ -53,7 +53,7 @@ impl Direct {
     /// Reads an offset and the _ behind it, of which nothing is written.
     // <number> ::= [n] <non-negative decimal integer>
     fn offset(&mut self, s: &[u8]) -> Option<()>
-        requires { FitsSymbol s.now }
+        requires { IsReadable s.now }
         ensures { OnSome result (IsOffsetAt s.now self.old.at self.new.at × Reads self.old self.new []) }
     {
         if byte_at(s, self.at) == b'n' {
@@ -66,7 +66,7 @@ impl Direct {
     /// Reads the digits of an offset and the _ behind them.
     // <non-negative decimal integer>
     fn distance(&mut self, s: &[u8]) -> Option<()>
-        requires { FitsSymbol s.now }
+        requires { IsReadable s.now }
         ensures { OnSome result ((digits : List ℕ) × (end : ℕ) × IsDigitsAt s.now self.old.at digits end × StandsAt s.now end (95 ∷ [])
             × (self.new.at ≡ end + 1) × Reads self.old self.new []) }
     {

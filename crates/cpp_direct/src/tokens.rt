@@ -3,10 +3,10 @@
 ghost use Rattle.std.specs.Prelude.{◌≡◌, ◌≢◌, ◌≤◌, ◌∷◌, ◌++◌, [], ℕ, List, length, slice_get, true, Some};
 ghost use Rattle.std.specs.List.{AllByRecursion};
 ghost use Rattle.std.specs.Option.{OnSome, IfSome};
-ghost use Rattle.sym_core.specs.Number.{FitsSymbol};
 ghost use Rattle.sym_core.specs.Value.{counted_value};
 ghost use Rattle.sym_core.specs.declared.NumberKind.{NumberKind};
 ghost use Rattle.cpp_grammar.specs.Parts.{source_text};
+ghost use Rattle.cpp_direct.specs.Names.{IsReadable};
 ghost use Rattle.cpp_direct.specs.Bytes.{is_local, short_numbers};
 ghost use Rattle.cpp_direct.specs.Holes.{StandsAt, IsNameAt, IsSeqAt};
 ghost use Rattle.cpp_direct.specs.HolesOfLists.{IsSuffix};
@@ -101,7 +101,7 @@ impl Direct {
     // <source-name> ::= <positive length number> <identifier>
     #[inline(always)]
     pub(crate) fn name(&mut self, s: &[u8]) -> Option<()>
-        requires { FitsSymbol s.now }
+        requires { IsReadable s.now }
         ensures { OnSome result ((name : List ℕ) × IsNameAt s.now self.old.at name self.new.at × (name ≢ []) × Reads self.old self.new (source_text name)) }
     {
         let place = name_at(s, self.at)?;
@@ -112,7 +112,7 @@ impl Direct {
     /// Reads the number of a substitution, and finds what it names, where its text is kept.
     // <substitution> ::= S <seq-id> _ | S_
     pub(crate) fn substitution(&mut self, s: &[u8]) -> Option<Candidate>
-        requires { FitsSymbol s.now }
+        requires { IsReadable s.now }
         ensures is { IfSome result (λ candidate. (digits : List ℕ) × IsSeqAt s.now self.old.at digits self.new.at
             × (slice_get self.old.candidates.list.items (counted_value NumberKind.Seq36 digits) ≡ Some candidate)) }
         ensures ordered { IfSome result (λ candidate. candidate.from ≤ candidate.to) }

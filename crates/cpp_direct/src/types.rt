@@ -2,7 +2,7 @@
 
 ghost use Rattle.std.specs.Prelude.{◌≢◌, ◌∷◌, [], if◌then◌else◌};
 ghost use Rattle.std.specs.Option.{IfSome};
-ghost use Rattle.sym_core.specs.Number.{FitsSymbol};
+ghost use Rattle.cpp_direct.specs.Names.{IsReadable};
 ghost use Rattle.cpp_direct.specs.declared.open.Step.TheVariants as steps;
 ghost use Rattle.cpp_direct.specs.Holes.{StandsAt};
 ghost use Rattle.cpp_direct.specs.Stands.{IsWriting};
@@ -17,7 +17,7 @@ impl Direct {
     /// Reads a type, up to the first that stands in it.
     // <type> ::= <builtin-type> | <qualified-type> | <class-enum-type> | P <type> | R <type> | O <type> | <substitution>
     pub(crate) fn type_at(&mut self, s: &[u8], is_plain: bool) -> Option<Step>
-        requires fits { FitsSymbol s.now }
+        requires fits { IsReadable s.now }
         requires writing { IsWriting s.now self.old (if is_plain then steps.Plain else steps.Type) }
         ensures { IfSome result (IsWriting s.now self.new) }
     {
@@ -52,7 +52,7 @@ impl Direct {
     /// Reads a type that is a name, up to the first type that stands in it.
     // <class-enum-type> ::= <name>
     pub(crate) fn named_type(&mut self, s: &[u8]) -> Option<Step>
-        requires fits { FitsSymbol s.now }
+        requires fits { IsReadable s.now }
         requires awaits { AwaitsNamedType s.now self.old }
         ensures { IfSome result (IsWriting s.now self.new) }
     {
@@ -110,7 +110,7 @@ impl Direct {
 
     // <substitution> ::= S <seq-id> _ | S_ | St | Sa | Ss | Sb | Si | So | Sd
     fn type_with_s(&mut self, s: &[u8]) -> Option<Step>
-        requires fits { FitsSymbol s.now }
+        requires fits { IsReadable s.now }
         requires letter { StandsAt s.now self.old.at (83 ∷ []) }
         requires awaits { AwaitsNamedType s.now self.old }
         ensures { IfSome result (IsWriting s.now self.new) }
@@ -160,7 +160,7 @@ impl Direct {
 
     /// Hands a type on to what waits for it.
     pub(crate) fn pass(&mut self, s: &[u8], is_reference: bool) -> Option<Step>
-        requires fits { FitsSymbol s.now }
+        requires fits { IsReadable s.now }
         requires writing { IsWriting s.now self.old (steps.Value is_reference) }
         ensures { IfSome result (IsWriting s.now self.new) }
     {

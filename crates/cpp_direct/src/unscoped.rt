@@ -2,9 +2,8 @@
 
 ghost use Rattle.std.specs.Prelude.{◌≡◌, ◌∷◌, [], ℕ, true, false};
 ghost use Rattle.std.specs.Option.{IfSome};
-ghost use Rattle.sym_core.specs.Number.{FitsSymbol};
 ghost use Rattle.cpp_direct.specs.Holes.{StandsAt};
-ghost use Rattle.cpp_direct.specs.Names.{IsOperatorAt, is_angle, operator_text};
+ghost use Rattle.cpp_direct.specs.Names.{IsOperatorAt, is_angle, operator_text, IsReadable};
 ghost use Rattle.cpp_direct.specs.Stands.{IsWriting};
 ghost use Rattle.cpp_direct.specs.Ways.{AwaitsEncoding, AwaitsSource, IsUnscoped};
 ghost use Rattle.cpp_direct.specs.Written.{Reads};
@@ -17,7 +16,7 @@ impl Direct {
     /// A name of its own, behind the L of internal linkage or without one.
     // <unscoped-name> ::= <source-name>
     pub(crate) fn begin_name(&mut self, s: &[u8], is_internal: bool) -> Option<Step>
-        requires fits { FitsSymbol s.now }
+        requires fits { IsReadable s.now }
         requires awaits { AwaitsSource s.now self.old is_internal }
         ensures { IfSome result (IsWriting s.now self.new) }
     {
@@ -30,7 +29,7 @@ impl Direct {
     // <unscoped-name> ::= <operator-name>
     #[inline(never)]
     pub(crate) fn begin_operator(&mut self, s: &[u8]) -> Option<Step>
-        requires fits { FitsSymbol s.now }
+        requires fits { IsReadable s.now }
         requires awaits { AwaitsEncoding s.now self.old }
         ensures { IfSome result (IsWriting s.now self.new) }
     {
@@ -43,7 +42,7 @@ impl Direct {
     // <unscoped-name> ::= St <unqualified-name>
     #[inline(never)]
     pub(crate) fn begin_in_std(&mut self, s: &[u8]) -> Option<Step>
-        requires fits { FitsSymbol s.now }
+        requires fits { IsReadable s.now }
         requires awaits { AwaitsEncoding s.now self.old }
         requires letter { StandsAt s.now self.old.at (83 ∷ []) }
         ensures { IfSome result (IsWriting s.now self.new) }
@@ -66,7 +65,7 @@ impl Direct {
     /// The name of an encoding is read, which was written from a place on. Arguments may stand behind it, if it is one that takes them.
     // <encoding> ::= <unscoped-template-name> <template-args> <bare-function-type>
     fn unscoped_named(&mut self, s: &[u8], from: usize, takes: bool) -> Option<Step>
-        requires fits { FitsSymbol s.now }
+        requires fits { IsReadable s.now }
         requires named { IsUnscoped s.now self.old from takes }
         ensures { IfSome result (IsWriting s.now self.new) }
     {

@@ -1,15 +1,15 @@
--- the bytes so far may stand in a name
-use Rattle.std.proofs.Common.{◌≤◌, ◌-◌, length}
+-- where none of the bytes so far is out of bounds, they may stand in a name
+use Rattle.std.proofs.Common.{◌≡◌, ◌≤◌, ◌-◌, length, true}
 use Rattle.sym_core.specs.Scan.{ReachesNameBytes}
 use Rattle.sym_core.specs.declared.NameClass.TheVariants.{Cpp}
 use Rattle.cpp_direct.proofs.names.are_name_bytes.Given as goal
 
-abbrev pub invariant-ones : goal.invariant-ones
-invariant-ones l =
+abbrev pub invariant-bytes : goal.invariant-bytes
+invariant-bytes l =
     record {
-      high : l.end ≤ length l.bytes;
-      each : ReachesNameBytes Cpp l.bytes l.end;
+      high : l.at ≤ length l.bytes;
+      each : l.are ≡ true → ReachesNameBytes Cpp l.bytes l.at;
     }
 
-abbrev pub decreases-ones : goal.decreases-ones
-decreases-ones l = length l.bytes - l.end
+abbrev pub decreases-bytes : goal.decreases-bytes
+decreases-bytes l = length l.bytes - l.at

@@ -12,8 +12,14 @@ returns-in-Ended-clause-answer c within =
     (subst (λ k. IsBefore c.args.s.now c.steps.self c.steps.invariant.0.state k) c.in-Ended.is c.steps.invariant.0.is_before)
     c.len.ensures within
 
+pub begin-requires-clause-fits : goal.begin-requires-clause-fits
+begin-requires-clause-fits c = record { fits = c.requires.fits; plain = c.are_name_bytes.ensures c.if-not-are_name_bytes.false }
+
 pub take-requires : goal.take-requires
-take-requires c = record { fits = c.requires.fits; writing = c.steps.invariant.0 }
+take-requires c = record {
+  fits = record { fits = c.requires.fits; plain = c.are_name_bytes.ensures c.if-not-are_name_bytes.false };
+  writing = c.steps.invariant.0;
+}
 
 pub steps-preserved : goal.steps-preserved
 steps-preserved c = (c.in-Some-take.ensures, omega (arith, c.steps-test.true))
