@@ -28,7 +28,7 @@ use Rattle.cpp_direct.specs.HolesOfLists.{SymbolOpened, EncodingOpened, IsOffset
 use Rattle.cpp_direct.specs.ItemBytes.{one_of, is_special_letter}
 use Rattle.cpp_direct.specs.Letters.{special_letters}
 use Rattle.cpp_direct.specs.Prints.{Shows}
-use Rattle.cpp_direct.specs.Stands.{AreCandidates, Encoded, EndsBehind, EncodedBehind, AwaitsItems, IsWhole, Stands, IsWriting, qualifiers}
+use Rattle.cpp_direct.specs.Stands.{AreCandidates, Encoded, EndsBehind, EncodedBehind, AwaitsItems, IsScoped, IsWhole, Stands, IsWriting, qualifiers}
 use Rattle.cpp_direct.specs.Ways.{IsFresh, AwaitsEncoding, AwaitsSource, AwaitsNest, IsNameEnded}
 use Rattle.cpp_direct.specs.Written.{Writes, Reads, added}
 use Rattle.cpp_direct.proofs.Kept.{arguments-begun, candidates-stay, candidates-with, candidates-read, reverse-last}
@@ -38,6 +38,7 @@ use Rattle.cpp_direct.proofs.MovesOfEncodings.{symbol-starts, encoding-opens, sp
 use Rattle.cpp_direct.proofs.MovesOfLists.{arguments-open}
 use Rattle.cpp_direct.proofs.PrintedNames.{source-prints}
 use Rattle.cpp_direct.proofs.PrintedSymbols.{thunk-shows}
+use Rattle.cpp_direct.proofs.Scopes.{none-scoped}
 
 -- ## Answers
 
@@ -106,6 +107,7 @@ items-await s w p v at st comes =
       around = in_types w.at (tree_of v);
       inner = items.inner;
       outside = refl;
+      scope_is = refl;
       awaits = items.awaits;
       onward = λ l here now last. p.onward (encoding_of v (no_items l)) here now (items.onward l here now last);
     }
@@ -224,6 +226,7 @@ special-begins s w letter starts stands at_is written filled none_ waiting =
           (λ e. filled (sym written ∙ e)),
           λ t at st comes. encoded-whole s opened_ (special letter t) at st (here.onward t at st comes),
         ),
+        subst (λ ws. IsScoped (in_name 2) (reverse ws)) (sym waiting) (none-scoped (in_name 2) (opens.Special ∷ []) refl),
       );
     }
 
@@ -318,6 +321,7 @@ name-bare s internal old new name p is filled reads from from_is =
       from_is = from_is;
       no_return = λ e. refl;
       returns = λ e. absurd (false≢true e);
+      names = λ e. absurd (false≢true e);
       awaits = has.bare new.at st (expects-empty s Kind.MaybeArguments (after own false (in_name p.before)) has.inner new.at st has.awaits refl);
     }
 

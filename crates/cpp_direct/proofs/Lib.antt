@@ -1,4 +1,6 @@
+pub mod Arguments
 pub mod Begins
+pub mod DependentsRead
 pub mod Elements
 mod EnclosingFunctions
 pub mod Ending
@@ -34,6 +36,7 @@ pub mod PrintedSymbols
 pub mod PrintedTypes
 pub mod PrintedValues
 mod PrintedWithin
+pub mod Scopes
 pub mod ShortNumbers
-mod Signatures
+pub mod Signatures
 pub mod TypesRead

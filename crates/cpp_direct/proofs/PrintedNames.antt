@@ -4,7 +4,7 @@ use Rattle.std.proofs.lemmas.Bool.{eqb-true}
 use Rattle.sym_print.specs.Unfold.{text}
 use Rattle.sym_print.specs.Unshared.{text_of, cost_of}
 use Rattle.cpp_grammar.specs.Term.{alone, in_std, abbreviation, source, operator, builtin}
-use Rattle.cpp_grammar.specs.Scope.{is_open, pack_length}
+use Rattle.cpp_grammar.specs.Scope.{is_open, pack_length, length_if_pack}
 use Rattle.cpp_grammar.specs.References.{is_function_type}
 use Rattle.cpp_grammar.specs.Texts.{look_up, abbreviation_texts, builtin_texts, operator_texts, same_bytes}
 use Rattle.cpp_grammar.specs.Items.{left, right, base, piece, Context, head_with, head, is_reference, is_funarr, is_empty}
@@ -41,7 +41,7 @@ builtin-ends letter e =
 
 -- A source name prints itself.
 pub source-prints : (internal : Bool) (name : List ℕ) → name ≢ [] → Prints (alone (source internal name)) (source_text name) false
-unfolding parts_in left_parts right_parts piece_parts not_empty head head_with is_reference is_funarr is_empty is_open pack_length is_function_type
+unfolding parts_in left_parts right_parts piece_parts not_empty head head_with is_reference is_funarr is_empty is_open pack_length is_function_type length_if_pack
     prefix_item last_piece opening_text is_void is_plain_integer
 source-prints internal name filled = let t = alone (source internal name) in record {
   left_text = λ c. text_by left c t (text (source_text name) ∷ []) refl ∙ text_alone (source_text name);
@@ -59,6 +59,7 @@ source-prints internal name filled = let t = alone (source internal name) in rec
   is_closed = refl;
   packless = λ scope. refl;
   no_function = refl;
+  no_pack = refl;
   as_prefix = λ c. refl;
   opening = refl;
   void = λ e. cc e;
@@ -129,7 +130,7 @@ std-cost c internal name =
 
 -- A source name in std prints so.
 pub std-prints : (internal : Bool) (name : List ℕ) → name ≢ [] → Prints (in_std (source internal name)) (codes "std::" ++ source_text name) false
-unfolding parts_in left_parts right_parts not_empty head head_with is_reference is_funarr is_empty is_open pack_length is_function_type prefix_item
+unfolding parts_in left_parts right_parts not_empty head head_with is_reference is_funarr is_empty is_open pack_length is_function_type length_if_pack prefix_item
     last_piece opening_text is_void is_plain_integer
 std-prints internal name filled = let t = in_std (source internal name) in record {
   left_text = λ c. std-left c internal name;
@@ -147,6 +148,7 @@ std-prints internal name filled = let t = in_std (source internal name) in recor
   is_closed = refl;
   packless = λ scope. refl;
   no_function = refl;
+  no_pack = refl;
   as_prefix = λ c. refl;
   opening = refl;
   void = λ e. cc e;
@@ -173,7 +175,7 @@ std-class internal name filled = let t = in_std (source internal name) in record
 -- An abbreviation prints its text.
 pub abbreviation-prints : (letter : ℕ) → look_up (letter ∷ []) abbreviation_texts ≢ []
     → Prints (abbreviation letter) (look_up (letter ∷ []) abbreviation_texts) false
-unfolding parts_in left_parts right_parts not_empty head head_with is_reference is_funarr is_empty is_open pack_length is_function_type prefix_item
+unfolding parts_in left_parts right_parts not_empty head head_with is_reference is_funarr is_empty is_open pack_length is_function_type length_if_pack prefix_item
     last_piece opening_text is_void is_plain_integer
 abbreviation-prints letter filled = let t = abbreviation letter in let b = look_up (letter ∷ []) abbreviation_texts in record {
   left_text = λ c. text_by left c t (text b ∷ []) refl ∙ text_alone b;
@@ -185,6 +187,7 @@ abbreviation-prints letter filled = let t = abbreviation letter in let b = look_
   is_closed = refl;
   packless = λ scope. refl;
   no_function = refl;
+  no_pack = refl;
   as_prefix = λ c. refl;
   opening = refl;
   void = λ e. cc e;
@@ -198,7 +201,7 @@ void-text letter same = subst (λ l. look_up (l ∷ []) builtin_texts ≡ codes 
 -- A builtin type prints its text.
 pub builtin-prints : (letter : ℕ) → look_up (letter ∷ []) builtin_texts ≢ []
     → Prints (builtin (letter ∷ [])) (look_up (letter ∷ []) builtin_texts) false
-unfolding parts_in left_parts right_parts not_empty head head_with is_reference is_funarr is_empty is_open pack_length is_function_type prefix_item
+unfolding parts_in left_parts right_parts not_empty head head_with is_reference is_funarr is_empty is_open pack_length is_function_type length_if_pack prefix_item
     last_piece opening_text is_void is_plain_integer
 builtin-prints letter filled = let t = builtin (letter ∷ []) in let b = look_up (letter ∷ []) builtin_texts in record {
   left_text = λ c. text_by left c t (text b ∷ []) refl ∙ text_alone b;
@@ -210,6 +213,7 @@ builtin-prints letter filled = let t = builtin (letter ∷ []) in let b = look_u
   is_closed = refl;
   packless = λ scope. refl;
   no_function = refl;
+  no_pack = refl;
   as_prefix = λ c. refl;
   opening = refl;
   void = λ e. void-text letter (eqb-true letter 118 e);
@@ -219,7 +223,7 @@ builtin-prints letter filled = let t = builtin (letter ∷ []) in let b = look_u
 -- So does one with a code of two letters.
 pub builtin-with-d-prints : (letter : ℕ) → look_up (68 ∷ letter ∷ []) builtin_texts ≢ []
     → Prints (builtin (68 ∷ letter ∷ [])) (look_up (68 ∷ letter ∷ []) builtin_texts) false
-unfolding parts_in left_parts right_parts not_empty head head_with is_reference is_funarr is_empty is_open pack_length is_function_type prefix_item
+unfolding parts_in left_parts right_parts not_empty head head_with is_reference is_funarr is_empty is_open pack_length is_function_type length_if_pack prefix_item
     last_piece opening_text is_void is_plain_integer
 builtin-with-d-prints letter filled = let t = builtin (68 ∷ letter ∷ []) in let b = look_up (68 ∷ letter ∷ []) builtin_texts in record {
   left_text = λ c. text_by left c t (text b ∷ []) refl ∙ text_alone b;
@@ -231,6 +235,7 @@ builtin-with-d-prints letter filled = let t = builtin (68 ∷ letter ∷ []) in 
   is_closed = refl;
   packless = λ scope. refl;
   no_function = refl;
+  no_pack = refl;
   as_prefix = λ c. refl;
   opening = refl;
   void = λ e. cc e;
