@@ -23,7 +23,7 @@ use Rattle.cpp_direct.proofs.PrintedLists.{type-element}
 use Rattle.cpp_direct.proofs.Scopes.{none-scoped}
 
 -- no elements have no text
-none-text : (by : Term → List ℕ → Type 0) (l : List ℕ) → PrintAllBy by [] l → l ≡ []
+pub none-text : (by : Term → List ℕ → Type 0) (l : List ℕ) → PrintAllBy by [] l → l ≡ []
 none-text by l all = go all.0 all.1 all.2
   where
     go : (texts : List (List ℕ)) → PrintEachBy by [] texts → joined texts ≡ l → l ≡ []
@@ -152,7 +152,7 @@ argument-passes s old new from is_reference p waits text candidates at = record 
 -- or the end: it is the only one
 pub argument-alone : (s : List ℕ) (old new : Direct) (from to : ℕ) (is_reference : Bool) (p : IsArgumentRead s old from is_reference) → is_reference ≡ false
     → StandsAt s old.at (69 ∷ []) → reverse new.waiting.list.items ≡ p.owner ∷ p.rest → new.text ≡ old.text → new.candidates ≡ old.candidates
-    → new.at ≡ old.at + 1 → to ≡ length old.text.list.items → IsListEnded s new (record { from = from; to = to })
+    → new.at ≡ old.at + 1 → to ≡ length old.text.list.items → IsListEnded s new (record { from = from; to = to; is_pack = false; is_reference = false })
 unfolding no_items may_be_empty
 argument-alone s old new from to is_reference p plain stands waits text candidates at to_is = record {
   state = p.state;

@@ -223,7 +223,7 @@ first-within s w first last is_const from p one text candidates at waiting =
       own = p.own;
       makes = encoding-plain p.v is_const p.own p.tree_is p.qualifiers_are p.mark_is p.no_return;
       prints = p.prints;
-      elements = none-print-in (types_of p.own) 3;
+      elements = none-print-in (types_of p.own) 6;
       names = λ o. absurd (omega (arith, o));
     } in
     parameter-expected s last p.state is_const from (reverse w.waiting.list.items) p.front make [] p.name [] moved
@@ -269,8 +269,8 @@ parameter-read-within s w is_const from p =
         own = is_function.own;
         makes = is_function.makes;
         prints = is_function.prints;
-        elements = next-prints-in (types_of is_function.own) 3 ts texts p.own p.bytes is_function.elements
-            (element-in (types_of is_function.own) 3 p.own p.bytes (p.element 3));
+        elements = next-prints-in (types_of is_function.own) 6 ts texts p.own p.bytes is_function.elements
+            (element-in (types_of is_function.own) 6 p.own p.bytes (p.element 6));
         names = is_function.names;
       };
       from_is = waits.6;
@@ -344,7 +344,7 @@ function-within s w last new is_const from p apart one text candidates at waits 
     let l = p.texts in
     let q = const_text is_const in
     let made = function f.own (qualifiers is_const) any_value absent (list_of p.ts) in
-    let is : e ≡ made = made-with is_const f.own p.make f.makes p.ts p.some (parameters-kept (types_of f.own) 3 p.ts l f.elements apart) in
+    let is : e ≡ made = made-with is_const f.own p.make f.makes p.ts p.some (parameters-kept (types_of f.own) 6 p.ts l f.elements apart) in
     let below = Stands s p.rest in
     let within_ : TypeWithin s below p.front e w.at p.state = subst (λ u. TypeWithin s below p.front (p.make u) w.at p.state) (list-ends p.ts)
     (p.goes.onward nothing_there w.at p.state (expects-empty s Kind.Items p.goes.around p.goes.inner w.at p.state p.goes.awaits refl)) in

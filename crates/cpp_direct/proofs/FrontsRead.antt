@@ -8,7 +8,7 @@ use Rattle.cpp_grammar.specs.Between.{no_items}
 use Rattle.cpp_grammar.specs.Meaning.{parameters, encoding_of}
 use Rattle.cpp_grammar.specs.Values.{Value}
 use Rattle.cpp_direct.specs.declared.open.Open.TheVariants as opens
-use Rattle.cpp_direct.specs.declared.open.Place.{Place}
+use Rattle.cpp_direct.specs.declared.open.Argument.{Argument}
 use Rattle.cpp_grammar.specs.Parts.{types_of}
 use Rattle.cpp_grammar.specs.Scope.{arguments_of}
 use Rattle.cpp_direct.specs.declared.open.Step.TheVariants as steps
@@ -80,7 +80,7 @@ front-begins s w new is_const from start p none apart start_is text candidates a
     }
 
 -- a function's return type stands in front of what it shows without one
-turned : (s : List ℕ) (argument : Place) (is_const : Bool) (v : Value) (name : List ℕ) (is : IsInstance argument is_const v name) (r : Term) (b : List ℕ)
+turned : (s : List ℕ) (argument : Argument) (is_const : Bool) (v : Value) (name : List ℕ) (is : IsInstance argument is_const v name) (r : Term) (b : List ℕ)
     (is_reference : Bool) → PrintsIn (types_of is.own) 2 r b is_reference → (items : Term) (at : ℕ) → is_local s ≡ false → EncodedBehind s [] (encoding_of v (list r items)) at
     → EncodedBehind s (b ++ codes " ") (plain_encoding is_const is.own items) at
 turned s argument is_const v name is r b is_reference prints items at apart p = record {
@@ -96,7 +96,7 @@ turned s argument is_const v name is r b is_reference prints items at apart p = 
 }
 
 -- the return type is read, and behind it the name is written once more
-pub front-turned : (s : List ℕ) (w here first last : Direct) (is_const : Bool) (start : ℕ) (argument : Place) → IsFrontRead s w is_const start argument
+pub front-turned : (s : List ℕ) (w here first last : Direct) (is_const : Bool) (start : ℕ) (argument : Argument) → IsFrontRead s w is_const start argument
     → here.text ≡ w.text → here.candidates ≡ w.candidates → here.at ≡ w.at → Writes here first (codes " ")
     → Writes first last (take (start - 0) (drop 0 first.text.list.items)) → AwaitsParameters s last is_const start argument
 front-turned s w here first last is_const start argument p text candidates at one two =
@@ -122,7 +122,7 @@ front-turned s w here first last is_const start argument p text candidates at on
         own = is.own;
         makes = λ t rest. refl;
         prints = is.prints;
-        elements = none-print-in (types_of is.own) 3;
+        elements = none-print-in (types_of is.own) 6;
         names = λ o. subst (λ l. IsArgument l argument is.own) (sym written)
             (argument-stays (p.name ++ lead) p.name argument is.own (argument-stays p.name lead argument is.own (is.names o)));
       };

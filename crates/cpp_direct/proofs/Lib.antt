@@ -5,6 +5,7 @@ pub mod Elements
 mod EnclosingFunctions
 pub mod Ending
 pub mod Entities
+pub mod ExpansionsRead
 pub mod FoundTokens
 pub mod FrontsRead
 pub mod FunctionsRead
@@ -16,6 +17,7 @@ pub mod Literals
 pub mod Moves
 pub mod MovesOfComponents
 pub mod MovesOfEncodings
+pub mod MovesOfExpansions
 pub mod MovesOfFunctions
 pub mod MovesOfLists
 pub mod MovesOfLocals
@@ -25,6 +27,8 @@ pub mod NamePlaces
 pub mod NestComponents
 pub mod Nesting
 pub mod Operators
+pub mod PacksRead
+pub mod PrintedExpansions
 pub mod PrintedFunctions
 pub mod PrintedLetters
 pub mod PrintedLists

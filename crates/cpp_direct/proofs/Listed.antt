@@ -12,14 +12,14 @@ use Rattle.cpp_grammar.specs.Values.{State, tree, nothing_there, tree_of, qualif
 use Rattle.cpp_grammar.specs.Between.{no_items}
 use Rattle.cpp_direct.specs.declared.open.Nest.{Nest}
 use Rattle.cpp_direct.specs.declared.open.Open.{Open}
-use Rattle.cpp_direct.specs.declared.open.Place.{Place}
+use Rattle.cpp_direct.specs.declared.open.Argument.{Argument}
 use Rattle.cpp_direct.specs.declared.open.Open.TheVariants as opens
 use Rattle.cpp_direct.specs.declared.open.Step.TheVariants as steps
 use Rattle.cpp_direct.specs.declared.direct.Direct.{Direct}
 use Rattle.cpp_direct.specs.Holes.{Opened, Comes, Expects, IsListKind, ListGoesOn, StandsAt, AwaitsComponent, with_candidate}
 use Rattle.cpp_direct.specs.HolesOfLists.{IsArgumentKind}
 use Rattle.cpp_direct.specs.Prints.{Prints, PrintAll, list_of}
-use Rattle.cpp_direct.specs.Stands.{IsArgument, argument_of, AreCandidates, IsListing, IsNest, IsTail, IsTemplate, IsWriting, Owns, Serves, ArgumentsGoOn, AwaitsElementOf, AwaitsEnumerator, Belongs, Closes, ElementsGoOn, EnumeratorGoesOn, GoesOn, Listing, of_template, of_pack, Stands, element_kind, extra_of, led_by, list_with, in_front_of_next}
+use Rattle.cpp_direct.specs.Stands.{IsArgument, argument_of, AreCandidates, IsListing, IsNest, IsTail, IsTemplate, IsWriting, Owns, Serves, ArgumentsGoOn, AwaitsElementOf, AwaitsEnumerator, Belongs, Closes, ElementsGoOn, EnumeratorGoesOn, GoesOn, Listing, of_template, of_pack, Stands, element_kind, extra_of, led_by, list_with, in_front_of_next, nowhere, packed}
 use Rattle.cpp_direct.specs.Ways.{IsListEnded, AwaitsNextArgument, IsNameEnded}
 use Rattle.cpp_direct.specs.Written.{Writes, added}
 use Rattle.cpp_direct.proofs.Moves.{expects-empty, stands-split}
@@ -133,7 +133,8 @@ pub record IsClosed (s : List ℕ) (w : Direct) (owner : Open) : Type 0 where
   pub elements : PrintAll 3 ts arguments
   pub written : w.text.list.items ≡ front ++ (name ++ codes "<" ++ arguments ++ codes ">")
   pub owns : Owns s owner (Stands s (reverse w.waiting.list.items)) front (instance template (list_with ts tail)) w.at state
-  pub alone : w.argument.from ≤ w.argument.to → (t : Term) × (list_with ts tail ≡ list t nil) × Prints t arguments false
+  pub alone : w.argument.from ≤ w.argument.to → (t : Term) × (list_with ts tail ≡ list (packed w.argument.is_pack t) nil)
+      × Prints t arguments w.argument.is_reference
       × (w.argument.from ≡ length (front ++ name ++ codes "<")) × (w.argument.to ≡ length (front ++ name ++ codes "<") + length arguments)
 
 closing : (a b d : List ℕ) → (a ++ b ++ codes "<" ++ d) ++ codes ">" ≡ a ++ (b ++ codes "<" ++ d ++ codes ">")
@@ -336,9 +337,6 @@ name-closed s w from p =
     }
 
 -- ## Between elements
-
-abbrev pub nowhere : Place
-nowhere = record { from = 1; to = 0 }
 
 -- an E ends the arguments
 pub list-ends : (s : List ℕ) (w : Direct) (first : Bool) (owner : Open) → IsWriting s w (steps.List first) → StandsAt s w.at (69 ∷ [])

@@ -92,7 +92,7 @@ more-text c extra (t ∷ ts) tail (b ∷ bs) most ends each =
 more-text c extra [] tail (b ∷ bs) most ends each = elim each [ ]
 more-text c extra (t ∷ ts) tail [] most ends each = elim each [ ]
 
-more-cost : (c : Context) (extra : ℕ) (ts : List Term) (tail : Term) (texts : List (List ℕ)) (most : ℕ) → extra ≤ 3 → EndsList most tail → PrintEachIn c extra ts texts
+more-cost : (c : Context) (extra : ℕ) (ts : List Term) (tail : Term) (texts : List (List ℕ)) (most : ℕ) → extra ≤ 6 → EndsList most tail → PrintEachIn c extra ts texts
     → cost_of (printed_by (list_part more c (list_with ts tail))) ≤ 1 + most + 4 * length (further texts)
 unfolding list_part parts_in not_empty
 more-cost c extra [] tail [] most few ends each = omega (arith, ends.more_cost c)
@@ -124,7 +124,7 @@ first-text c extra (t ∷ ts) tail (b ∷ bs) most ends each =
 first-text c extra [] tail (b ∷ bs) most ends each = elim each [ ]
 first-text c extra (t ∷ ts) tail [] most ends each = elim each [ ]
 
-first-cost : (c : Context) (extra : ℕ) (ts : List Term) (tail : Term) (texts : List (List ℕ)) (most : ℕ) → extra ≤ 3 → EndsList most tail → PrintEachIn c extra ts texts
+first-cost : (c : Context) (extra : ℕ) (ts : List Term) (tail : Term) (texts : List (List ℕ)) (most : ℕ) → extra ≤ 6 → EndsList most tail → PrintEachIn c extra ts texts
     → cost_of (printed_by (list_part first c (list_with ts tail))) ≤ 1 + most + extra + 4 * length (joined texts)
 unfolding list_part parts_in not_empty
 first-cost c extra [] tail [] most few ends each = omega (arith, ends.first_cost c)
@@ -162,7 +162,7 @@ pub list-text-before : (c : Context) (extra : ℕ) (ts : List Term) (tail : Term
 list-text-before c extra ts tail l is all = first-text c extra ts tail all.0 1 (ends-list tail is) (each-in c extra ts all.0 all.1) ∙ all.2
 
 -- at a cost that its text bounds
-pub list-cost-before : (c : Context) (extra : ℕ) (ts : List Term) (tail : Term) (l : List ℕ) → extra ≤ 3 → IsTail tail → PrintAll extra ts l
+pub list-cost-before : (c : Context) (extra : ℕ) (ts : List Term) (tail : Term) (l : List ℕ) → extra ≤ 6 → IsTail tail → PrintAll extra ts l
     → cost_of (printed_by (list_part first c (list_with ts tail))) ≤ 2 + extra + 4 * length l
 list-cost-before c extra ts tail l few is all =
     omega (arith, first-cost c extra ts tail all.0 1 few (ends-list tail is) (each-in c extra ts all.0 all.1), ap length all.2)
@@ -174,7 +174,7 @@ list-text-in c extra ts l all =
     subst (λ k. text_of (printed_by (list_part first c k)) ≡ l) (list-with-none ts) (first-text c extra ts nil all.0 0 ends-bare all.1 ∙ all.2)
 
 -- at a cost that its text bounds
-pub list-cost-in : (c : Context) (extra : ℕ) (ts : List Term) (l : List ℕ) → extra ≤ 3 → PrintAllIn c extra ts l
+pub list-cost-in : (c : Context) (extra : ℕ) (ts : List Term) (l : List ℕ) → extra ≤ 6 → PrintAllIn c extra ts l
     → cost_of (printed_by (list_part first c (list_of ts))) ≤ 1 + extra + 4 * length l
 list-cost-in c extra ts l few all =
     subst (λ k. cost_of (printed_by (list_part first c k)) ≤ 1 + extra + 4 * length l) (list-with-none ts)
@@ -185,7 +185,7 @@ pub list-text : (c : Context) (extra : ℕ) (ts : List Term) (l : List ℕ) → 
 list-text c extra ts l all = list-text-in c extra ts l (all-in c extra ts l all)
 
 -- at a cost that its text bounds
-pub list-cost : (c : Context) (extra : ℕ) (ts : List Term) (l : List ℕ) → extra ≤ 3 → PrintAll extra ts l
+pub list-cost : (c : Context) (extra : ℕ) (ts : List Term) (l : List ℕ) → extra ≤ 6 → PrintAll extra ts l
     → cost_of (printed_by (list_part first c (list_of ts))) ≤ 1 + extra + 4 * length l
 list-cost c extra ts l few all = list-cost-in c extra ts l few (all-in c extra ts l all)
 

@@ -60,6 +60,7 @@ source-prints internal name filled = let t = alone (source internal name) in rec
   packless = λ scope. refl;
   no_function = refl;
   no_pack = refl;
+  reference_cost = λ e. cc e;
   as_prefix = λ c. refl;
   opening = refl;
   void = λ e. cc e;
@@ -149,6 +150,7 @@ std-prints internal name filled = let t = in_std (source internal name) in recor
   packless = λ scope. refl;
   no_function = refl;
   no_pack = refl;
+  reference_cost = λ e. cc e;
   as_prefix = λ c. refl;
   opening = refl;
   void = λ e. cc e;
@@ -188,6 +190,7 @@ abbreviation-prints letter filled = let t = abbreviation letter in let b = look_
   packless = λ scope. refl;
   no_function = refl;
   no_pack = refl;
+  reference_cost = λ e. cc e;
   as_prefix = λ c. refl;
   opening = refl;
   void = λ e. cc e;
@@ -214,6 +217,7 @@ builtin-prints letter filled = let t = builtin (letter ∷ []) in let b = look_u
   packless = λ scope. refl;
   no_function = refl;
   no_pack = refl;
+  reference_cost = λ e. cc e;
   as_prefix = λ c. refl;
   opening = refl;
   void = λ e. void-text letter (eqb-true letter 118 e);
@@ -236,6 +240,7 @@ builtin-with-d-prints letter filled = let t = builtin (68 ∷ letter ∷ []) in 
   packless = λ scope. refl;
   no_function = refl;
   no_pack = refl;
+  reference_cost = λ e. cc e;
   as_prefix = λ c. refl;
   opening = refl;
   void = λ e. cc e;

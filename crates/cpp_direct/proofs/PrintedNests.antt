@@ -109,6 +109,7 @@ within-prints t b prints p x is = let w = within t p in record {
   packless = λ scope. rw (prints.packless scope, is.packless scope) refl;
   no_function = refl;
   no_pack = refl;
+  reference_cost = λ e. cc e;
   as_prefix = λ c. refl;
   opening = is.opening;
   void = λ e. cc e;
@@ -161,6 +162,7 @@ constructor-prints t b class p n digit = let w = within t (constructor digit) in
   packless = λ scope. rw (p.packless scope) refl;
   no_function = refl;
   no_pack = refl;
+  reference_cost = λ e. cc e;
   as_prefix = λ c. refl;
   opening = refl;
   void = λ e. cc e;
@@ -192,6 +194,7 @@ destructor-prints t b class p n digit = let w = within t (destructor digit) in r
   packless = λ scope. rw (p.packless scope) refl;
   no_function = refl;
   no_pack = refl;
+  reference_cost = λ e. cc e;
   as_prefix = λ c. refl;
   opening = refl;
   void = λ e. cc e;
@@ -253,6 +256,7 @@ instance-prints t b p ts tail l is all = let i = instance t (list_with ts tail) 
   packless = λ scope. rw (p.packless scope, list-packless scope 3 ts tail l is all) refl;
   no_function = refl;
   no_pack = refl;
+  reference_cost = λ e. cc e;
   as_prefix = λ c. refl;
   opening = refl;
   void = λ e. cc e;

@@ -23,7 +23,7 @@ signed_text x y z b l q e f g =
     rw (e, f, g) (ap (λ s. s ++ (codes ")" ++ q)) (sym (append_assoc b (codes "(") l)) ∙ sym (append_assoc (b ++ codes "(" ++ l) (codes ")") q))
 
 -- A function that has no return type prints its name, its parameters and its qualifiers.
-pub function-shows : (name : Term) (b : List ℕ) → Prints name b false → (ts : List Term) (l : List ℕ) → PrintAllIn (types_of name) 3 ts l
+pub function-shows : (name : Term) (b : List ℕ) → Prints name b false → (ts : List Term) (l : List ℕ) → PrintAllIn (types_of name) 6 ts l
     → (q : Qualifiers) (ref : RefQualifier)
     → Shows (function name q ref absent (list_of ts)) (b ++ codes "(" ++ l ++ codes ")" ++ encoding_text q ref)
 unfolding parts_in full_parts function_full function_bare not_empty
@@ -36,11 +36,11 @@ function-shows name b p ts l all q ref =
       shown_text = text_by full closed f (front ++ behind) refl ∙ text_append front behind
           ∙ signed_text (text_of (in_form left closed name)) (text_of (printed_by (list_part first c (list_of ts))))
           (text_of (printed_by (text_part (encoding_text q ref)))) b l (encoding_text q ref) (p.left_text closed)
-          (list-text-in c 3 ts l all) (part-text (encoding_text q ref));
+          (list-text-in c 6 ts l all) (part-text (encoding_text q ref));
       shown_cost = omega (
         arith,
         p.cost closed,
-        list-cost-in c 3 ts l (omega arith) all,
+        list-cost-in c 6 ts l (omega arith) all,
         cost_by full closed f (front ++ behind) refl,
         cost_append front behind,
         part-cost (encoding_text q ref),
@@ -233,7 +233,7 @@ none_bracketed b q = ap (λ s. s ++ codes ")" ++ q) (append-nil (b ++ codes "(")
 pub void-shows : (name : Term) (b : List ℕ) → Prints name b false → (q : Qualifiers) (ref : RefQualifier)
     → Shows (function name q ref absent nil) (b ++ codes "()" ++ encoding_text q ref)
 void-shows name b p q ref =
-    subst (λ l. Shows (function name q ref absent nil) l) (none_bracketed b (encoding_text q ref)) (function-shows name b p [] [] (none-print-in (types_of name) 3) q ref)
+    subst (λ l. Shows (function name q ref absent nil) l) (none_bracketed b (encoding_text q ref)) (function-shows name b p [] [] (none-print-in (types_of name) 6) q ref)
 
 -- Without items it shows the name.
 pub object-encoded : (v : Value) (b : List ℕ) → Prints (tree_of v) b false

@@ -8,8 +8,8 @@ use Rattle.cpp_grammar.specs.Parts.{as_item, says, text_part, qualifier_text, pr
 use Rattle.cpp_grammar.specs.References.{is_function_type}
 use Rattle.cpp_grammar.specs.Scope.{is_open, pack_length, length_if_pack}
 use Rattle.cpp_grammar.specs.Term.{Qualifiers, Term, function_type, pointer, lvalue, rvalue, qualified, parameter}
-use Rattle.std.proofs.Common.{◌≡◌, refl, ap, ◌∙◌, ℕ, List, [], ◌∷◌, ◌++◌, Bool, true, false, None, arith, codes, length-append, sym, subst, append-nil, append_assoc}
-use Rattle.sym_print.specs.Unshared.{text_of}
+use Rattle.std.proofs.Common.{◌≡◌, refl, ap, ◌∙◌, ℕ, ◌+◌, ◌*◌, ◌≤◌, List, [], ◌∷◌, ◌++◌, length, Bool, true, false, None, arith, codes, length-append, sym, subst, append-nil, append_assoc}
+use Rattle.sym_print.specs.Unshared.{text_of, cost_of}
 
 marked : (c : Context) (t : Term) (mark : String) → is_funarr (head c t) ≡ false → marked_parts c t mark ≡ as_item left c t ∷ says mark ∷ []
 unfolding marked_parts
@@ -40,8 +40,9 @@ prints-in c extra t b r p = record {
 -- What prints in each context prints anywhere, if it is closed and names no packs.
 made-prints : (t : Term) (b : List ℕ) (r : Bool) → ((c : Context) → PrintsIn c 0 t b r) → is_open t ≡ false → ((scope : Term) → pack_length scope t ≡ None)
     → length_if_pack t ≡ None → ((c : Context) → prefix_item c t ≡ as_item left c t) → opening_text (last_piece t) ≡ codes "<"
-    → (is_plain_integer t ≡ true → EndsAsInteger b) → Prints t b r
-made-prints t b r h is_closed packless no_pack as_prefix opening integer = record {
+    → (is_plain_integer t ≡ true → EndsAsInteger b)
+    → (r ≡ true → (c : Context) → 2 + cost_of (in_form left c t) + cost_of (in_form right c t) ≤ 4 * length b) → Prints t b r
+made-prints t b r h is_closed packless no_pack as_prefix opening integer reference_cost = record {
   left_text = λ c. (h c).left_text;
   right_text = λ c. (h c).right_text;
   cost = λ c. omega (arith, (h c).cost);
@@ -52,6 +53,7 @@ made-prints t b r h is_closed packless no_pack as_prefix opening integer = recor
   packless = packless;
   no_function = (h closed).no_function;
   no_pack = no_pack;
+  reference_cost = reference_cost;
   as_prefix = as_prefix;
   opening = opening;
   void = (h closed).void;
@@ -83,6 +85,20 @@ pub pointer-prints : (t : Term) (b : List ℕ) (r : Bool) → Prints t b r → P
 unfolding is_open pack_length length_if_pack prefix_item last_piece opening_text is_plain_integer
 pointer-prints t b r p =
     made-prints (pointer t) (b ++ codes "*") false (λ c. pointer-in c 0 t b r (prints-in c 0 t b r p)) p.is_closed p.packless refl (λ c. refl) refl (λ e. cc e)
+    (λ e. cc e)
+
+-- An lvalue reference costs one less than its text allows.
+lvalue-cost : (c : Context) (t : Term) (b : List ℕ) → Prints t b false
+    → 2 + cost_of (in_form left c (lvalue t)) + cost_of (in_form right c (lvalue t)) ≤ 4 * length (b ++ codes "&")
+unfolding parts_in left_parts right_parts not_empty
+lvalue-cost c t b p =
+    omega (
+      arith,
+      p.cost c,
+      length-append b (codes "&"),
+      cost_by left c (lvalue t) (as_item left c t ∷ says "&" ∷ []) (reference c low t "&" (p.is_reference_head c) (p.is_funarr_head c)),
+      cost_by right c (lvalue t) (as_item right c t ∷ []) (closing c t (p.is_funarr_head c)),
+    )
 
 -- An lvalue reference prints its type, which is no reference, and its mark.
 pub lvalue-in : (c : Context) (extra : ℕ) (t : Term) (b : List ℕ) → PrintsIn c extra t b false → PrintsIn c extra (lvalue t) (b ++ codes "&") true
@@ -112,6 +128,7 @@ pub lvalue-prints : (t : Term) (b : List ℕ) → Prints t b false → Prints (l
 unfolding is_open pack_length length_if_pack prefix_item last_piece opening_text is_plain_integer
 lvalue-prints t b p =
     made-prints (lvalue t) (b ++ codes "&") true (λ c. lvalue-in c 0 t b (prints-in c 0 t b false p)) p.is_closed p.packless refl (λ c. refl) refl (λ e. cc e)
+    (λ e c. lvalue-cost c t b p)
 
 collapsed-refers : (h : Head) → is_reference (collapsed h) ≡ true
 unfolding is_reference collapsed
@@ -123,7 +140,20 @@ unfolding is_funarr collapsed
 collapsed-no_function lref = refl
 collapsed-no_function _ = refl
 
--- An rvalue reference does as well.
+-- An rvalue reference costs so much less, too,
+rvalue-cost : (c : Context) (t : Term) (b : List ℕ) → Prints t b false
+    → 2 + cost_of (in_form left c (rvalue t)) + cost_of (in_form right c (rvalue t)) ≤ 4 * length (b ++ codes "&&")
+unfolding parts_in left_parts right_parts not_empty
+rvalue-cost c t b p =
+    omega (
+      arith,
+      p.cost c,
+      length-append b (codes "&&"),
+      cost_by left c (rvalue t) (as_item left c t ∷ says "&&" ∷ []) (reference c left t "&&" (p.is_reference_head c) (p.is_funarr_head c)),
+      cost_by right c (rvalue t) (as_item right c t ∷ []) (closing c t (p.is_funarr_head c)),
+    )
+
+-- and prints its type and its mark.
 pub rvalue-in : (c : Context) (extra : ℕ) (t : Term) (b : List ℕ) → PrintsIn c extra t b false → PrintsIn c extra (rvalue t) (b ++ codes "&&") true
 unfolding parts_in left_parts right_parts not_empty head head_with is_empty is_function_type is_void
 rvalue-in c extra t b p =
@@ -151,6 +181,7 @@ pub rvalue-prints : (t : Term) (b : List ℕ) → Prints t b false → Prints (r
 unfolding is_open pack_length length_if_pack prefix_item last_piece opening_text is_plain_integer
 rvalue-prints t b p =
     made-prints (rvalue t) (b ++ codes "&&") true (λ c. rvalue-in c 0 t b (prints-in c 0 t b false p)) p.is_closed p.packless refl (λ c. refl) refl (λ e. cc e)
+    (λ e c. rvalue-cost c t b p)
 
 -- the qualifiers of a type that is declared const
 abbrev pub constant : Qualifiers
@@ -195,11 +226,12 @@ pub const-prints : (t : Term) (b : List ℕ) → Prints t b false → Prints (qu
 unfolding is_open pack_length length_if_pack prefix_item last_piece opening_text is_plain_integer
 const-prints t b p =
     made-prints (qualified constant t) (b ++ codes " const") false (λ c. const-in c 0 t b (prints-in c 0 t b false p)) p.is_closed p.packless refl (λ c. refl) refl (λ e. cc e)
+    (λ e. cc e)
 
 -- ## Types that name the argument of a function's template
 
 -- What prints in a context prints so as an element.
-pub type-element-in : (c : Context) (t : Term) (b : List ℕ) (r : Bool) → PrintsIn c 2 t b r → IsElementIn c 3 t b
+pub type-element-in : (c : Context) (t : Term) (b : List ℕ) (r : Bool) → PrintsIn c 2 t b r → IsElementIn c 6 t b
 type-element-in c t b r p = record {
   both_texts = rw (p.left_text, p.right_text) (append-nil b);
   cost = omega (arith, p.cost);
@@ -208,23 +240,52 @@ type-element-in c t b r p = record {
 }
 
 -- A parameter prints the argument that it names.
-pub parameter-prints : PrintsBehind (parameter 0) [] false
+pub parameter-in : (c : Context) (b : List ℕ) (r : Bool) → Prints (argument c 0) b r → PrintsIn c 2 (parameter 0) b r
 unfolding parts_in left_parts right_parts not_empty head head_closed head_with argument is_reference is_funarr is_empty is_function_type is_void
-parameter-prints c b p =
+parameter-in c b r p =
     let t = parameter 0 in
     let a = argument c 0 in
     record {
-      left_text = text_by left c t (as_item left closed a ∷ []) refl ∙ append-nil (text_of (in_form left closed a)) ∙ p.left_text closed ∙ sym (append-nil b);
+      left_text = text_by left c t (as_item left closed a ∷ []) refl ∙ append-nil (text_of (in_form left closed a)) ∙ p.left_text closed;
       right_text = text_by right c t (as_item right closed a ∷ []) refl ∙ append-nil (text_of (in_form right closed a)) ∙ p.right_text closed;
       cost = omega (
         arith,
         p.cost closed,
-        length-append b [],
         cost_by left c t (as_item left closed a ∷ []) refl,
         cost_by right c t (as_item right closed a ∷ []) refl,
       );
       is_reference_head = p.is_reference_head closed;
       is_funarr_head = p.is_funarr_head closed;
+      filled = refl;
+      no_function = refl;
+      void = λ e. cc e;
+    }
+
+pub parameter-prints : PrintsBehind (parameter 0) [] false
+parameter-prints c b p = subst (λ l. PrintsIn c 2 (parameter 0) l false) (sym (append-nil b)) (parameter-in c b false p)
+
+-- An rvalue reference to a reference prints what this does.
+pub rvalue-again : (c : Context) (b : List ℕ) → Prints (argument c 0) b true → PrintsIn c 3 (rvalue (parameter 0)) b true
+unfolding parts_in left_parts right_parts not_empty head head_closed head_with argument is_empty is_function_type is_void reference_parts closing_right
+rvalue-again c b p =
+    let u = parameter 0 in
+    let a = argument c 0 in
+    let inner = parameter-in c b true p in
+    let ps = as_item left c u ∷ [] in
+    let is : reference_parts c left u "&&" ≡ ps = rw (p.is_reference_head closed, reference_parts) refl in
+    record {
+      left_text = text_by left c (rvalue u) ps is ∙ append-nil (text_of (in_form left c u)) ∙ inner.left_text;
+      right_text = text_by right c (rvalue u) (as_item right c u ∷ []) (closing c u inner.is_funarr_head) ∙ append-nil (text_of (in_form right c u)) ∙ inner.right_text;
+      cost = omega (
+        arith,
+        p.reference_cost refl closed,
+        cost_by left c u (as_item left closed a ∷ []) refl,
+        cost_by right c u (as_item right closed a ∷ []) refl,
+        cost_by left c (rvalue u) ps is,
+        cost_by right c (rvalue u) (as_item right c u ∷ []) (closing c u inner.is_funarr_head),
+      );
+      is_reference_head = collapsed-refers (head c u);
+      is_funarr_head = collapsed-no_function (head c u);
       filled = refl;
       no_function = refl;
       void = λ e. cc e;

@@ -139,6 +139,7 @@ local-prints e b h p n q digit = let t = local_in e p digit in record {
   packless = λ scope. rw (h.packless scope, q.packless scope) refl;
   no_function = refl;
   no_pack = refl;
+  reference_cost = λ e. cc e;
   as_prefix = λ c. refl;
   opening = q.opening;
   void = λ e. cc e;

@@ -30,6 +30,7 @@ pub record Prints (t : Term) (bytes : List ℕ) (reference : Bool) : Type 0 wher
   pub packless : (scope : Term) → pack_length scope t ≡ None
   pub no_function : is_function_type t ≡ false
   pub no_pack : length_if_pack t ≡ None
+  pub reference_cost : reference ≡ true → (context : Context) → 2 + cost_of (in_form left context t) + cost_of (in_form right context t) ≤ 4 * length bytes
   pub as_prefix : (context : Context) → prefix_item context t ≡ as_item left context t
   pub opening : opening_text (last_piece t) ≡ codes "<"
   pub void : is_void t ≡ true → bytes ≡ codes "void"
@@ -50,6 +51,11 @@ pub record PrintsIn (context : Context) (extra : ℕ) (t : Term) (bytes : List �
 abbrev pub PrintsBehind : Term → (marks : List ℕ) → (reference : Bool) → Type 0
 PrintsBehind t marks reference =
     (context : Context) (bytes : List ℕ) → Prints (argument context 0) bytes false → PrintsIn context 2 t (bytes ++ marks) reference
+
+-- what an rvalue reference to a type has behind its text, if it is no reference
+abbrev pub forwarded : (reference : Bool) → List ℕ
+forwarded true = []
+forwarded false = codes "&&"
 
 -- A tree whose class is named so where it stands in front of a constructor or a destructor.
 pub record NamesClass (t : Term) (class : List ℕ) : Type 0 where

@@ -20,7 +20,7 @@ use Rattle.cpp_direct.specs.declared.open.Nest.{Nest}
 use Rattle.cpp_direct.specs.declared.open.Purpose.{Purpose}
 use Rattle.cpp_direct.specs.declared.open.Purpose.TheVariants as purposes
 use Rattle.cpp_direct.specs.declared.open.Open.{Open}
-use Rattle.cpp_direct.specs.declared.open.Place.{Place}
+use Rattle.cpp_direct.specs.declared.open.Argument.{Argument}
 use Rattle.cpp_direct.specs.declared.open.Open.TheVariants as opens
 use Rattle.cpp_direct.specs.declared.open.Step.{Step}
 use Rattle.cpp_direct.specs.declared.open.Step.TheVariants as steps
@@ -55,33 +55,38 @@ AreCandidates text _ _ = ⊥
 -- ## Arguments of templates
 
 -- this text stands at a place
-pub record IsPlaced (text : List ℕ) (p : Place) (bytes : List ℕ) : Type 0 where
+pub record IsPlaced (text : List ℕ) (p : Argument) (bytes : List ℕ) : Type 0 where
   pub front : List ℕ
   pub back : List ℕ
   pub written : text ≡ front ++ bytes ++ back
   pub from_is : p.from ≡ length front
   pub to_is : p.to ≡ length front + length bytes
 
--- the place of what stands nowhere
-abbrev pub nowhere : Place
-nowhere = record { from = 1; to = 0 }
+-- what stands nowhere
+abbrev pub nowhere : Argument
+nowhere = record { from = 1; to = 0; is_pack = false; is_reference = false }
+
+-- an argument: a type, or a pack of it alone
+abbrev pub packed : (is_pack : Bool) → (own : Term) → Term
+packed false own = own
+packed true own = pack (list own nil)
 
 -- The arguments of a name are one alone, which stands at a place.
-pub record IsArgument (text : List ℕ) (p : Place) (name : Term) : Type 0 where
+pub record IsArgument (text : List ℕ) (p : Argument) (name : Term) : Type 0 where
   pub bytes : List ℕ
   pub placed : IsPlaced text p bytes
   pub own : Term
-  pub alone : arguments_of name ≡ Some (list own nil)
-  pub prints : Prints own bytes false
+  pub alone : arguments_of name ≡ Some (list (packed p.is_pack own) nil)
+  pub prints : Prints own bytes p.is_reference
 
 -- a parameter may name that argument here
-pub record IsScope (around : Around) : Type 0 where
+pub record IsScope (is_pack : Bool) (around : Around) : Type 0 where
   pub own : Term
-  pub scope_is : around.scope ≡ Some (list own nil)
+  pub scope_is : around.scope ≡ Some (list (packed is_pack own) nil)
   pub no_pack : length_if_pack own ≡ None
 
 -- where the argument stands that a type names, or one that is marked
-abbrev pub argument_of : List Open → Option Place
+abbrev pub argument_of : List Open → Option Argument
 argument_of (opens.Pointer from ∷ rest) = argument_of rest
 argument_of (opens.Lvalue from ∷ rest) = argument_of rest
 argument_of (opens.Rvalue from ∷ rest) = argument_of rest
@@ -92,7 +97,11 @@ argument_of _ = None
 
 -- if there is one, a parameter may name it
 abbrev pub IsScoped : Around → List Open → Type 0
-IsScoped around open_ = (p : Place) → argument_of open_ ≡ Some p → p.from ≤ p.to → IsScope around
+IsScoped around open_ = (p : Argument) → argument_of open_ ≡ Some p → p.from ≤ p.to → IsScope p.is_pack around
+
+-- it is a type, and no reference
+abbrev pub IsPlain : Argument → Type 0
+IsPlain p = (p.from ≤ p.to) × (p.is_pack ≡ false) × (p.is_reference ≡ false)
 
 -- ## The end
 
@@ -173,16 +182,16 @@ in_front_of_next [] l = l
 in_front_of_next (t ∷ ts) l = l ++ codes ", "
 
 -- Parameters go on behind these. All of them make an encoding, of which something becomes. They may name an argument at a place.
-pub record ItemsGoOn (s : List ℕ) (argument : Place) (becomes : Term → (at : ℕ) → State → Type 0) (make : Term → Term) (ts : List Term) (at : ℕ) (st : State) : Type 0 where
+pub record ItemsGoOn (s : List ℕ) (argument : Argument) (becomes : Term → (at : ℕ) → State → Type 0) (make : Term → Term) (ts : List Term) (at : ℕ) (st : State) : Type 0 where
   pub around : Around
   pub inner : List Opened
   pub outside : around.prefix ≡ outermost
-  pub scoped : argument.from ≤ argument.to → IsScope around
+  pub scoped : argument.from ≤ argument.to → IsScope argument.is_pack around
   pub awaits : Expects s Kind.Items around inner at st
   pub onward : (l : Value) (at : ℕ) (st : State) → Comes s inner l at st → becomes (make (list_with ts (no_items l))) at st
 
 -- They are those of an encoding behind a text.
-abbrev pub ParametersGoOn : (s : List ℕ) → (argument : Place) → (lead : List ℕ) → (make : Term → Term) → (ts : List Term) → (at : ℕ) → State → Type 0
+abbrev pub ParametersGoOn : (s : List ℕ) → (argument : Argument) → (lead : List ℕ) → (make : Term → Term) → (ts : List Term) → (at : ℕ) → State → Type 0
 ParametersGoOn s argument lead make ts at st = ItemsGoOn s argument (λ e here now. EncodedBehind s lead e here) make ts at st
 
 -- a function of this name and these items, without a return type
@@ -191,15 +200,15 @@ plain_encoding is_const own items = function own (qualifiers is_const) any_value
 
 -- A function's name and the parameters so far, with their texts. All parameters make a function that has no return type. The argument
 -- of its template stands at a place, or it isn't known.
-pub record IsFunction (text : List ℕ) (argument : Place) (is_const : Bool) (make : Term → Term) (ts : List Term) (name texts : List ℕ) : Type 0 where
+pub record IsFunction (text : List ℕ) (argument : Argument) (is_const : Bool) (make : Term → Term) (ts : List Term) (name texts : List ℕ) : Type 0 where
   pub own : Term
   pub makes : (t rest : Term) → make (list t rest) ≡ plain_encoding is_const own (list t rest)
   pub prints : Prints own name false
-  pub elements : PrintAllIn (types_of own) 3 ts texts
+  pub elements : PrintAllIn (types_of own) 6 ts texts
   pub names : argument.from ≤ argument.to → IsArgument text argument own
 
 -- the name of a function that has a return type, and its text, and where the argument of its template stands
-pub record IsInstance (argument : Place) (is_const : Bool) (v : Value) (name : List ℕ) : Type 0 where
+pub record IsInstance (argument : Argument) (is_const : Bool) (v : Value) (name : List ℕ) : Type 0 where
   pub own : Term
   pub tree_is : tree_of v ≡ own
   pub qualifiers_are : qualifiers_of v ≡ qualifiers is_const
@@ -414,6 +423,12 @@ Stands s (opens.Argument from ∷ owner ∷ rest) os text =
     × (text ≡ front ++ name ++ codes "<") × (from ≡ length text)
     × ((t : Term) (at : ℕ) (st : State) → Comes s os (tree t true) at st
     → ArgumentsGoOn s owner (Stands s rest) front template (t ∷ []) at st)
+Stands s (opens.Element from ∷ opens.Pack ∷ owner ∷ rest) os text =
+    (front : List ℕ) × (template : Term) × (name : List ℕ) × IsTemplate owner front template name text
+    × (text ≡ front ++ name ++ codes "<") × (from ≡ length text)
+    × ((t : Term) (at : ℕ) (st : State) → Comes s os (tree t true) at st
+    → GoesOn s (of_pack [] []) owner (Stands s rest) front template (t ∷ []) at st)
+Stands s (opens.Element from ∷ rest) os text = ⊥
 Stands s (opens.Enumerator ∷ []) os text = ⊥
 Stands s (opens.Enumerator ∷ opens.Pack ∷ []) os text = ⊥
 Stands s (opens.Enumerator ∷ opens.Pack ∷ owner ∷ rest) os text =
@@ -453,9 +468,9 @@ IsBefore s w st (steps.Value is_reference) =
     × (w.text.list.items ≡ front ++ bytes) × Prints t bytes is_reference
     × Comes s os (tree t true) w.at st × Stands s (reverse w.waiting.list.items) os front
 IsBefore s w st (steps.Dependent is_reference) =
-    (os : List Opened) × (t : Term) × (front : List ℕ) × (bytes : List ℕ) × (marks : List ℕ) × (p : Place)
+    (os : List Opened) × (t : Term) × (front : List ℕ) × (bytes : List ℕ) × (marks : List ℕ) × (p : Argument)
     × (w.text.list.items ≡ front ++ bytes ++ marks) × PrintsBehind t marks is_reference
-    × (argument_of (reverse w.waiting.list.items) ≡ Some p) × (p.from ≤ p.to) × IsPlaced front p bytes
+    × (argument_of (reverse w.waiting.list.items) ≡ Some p) × IsPlain p × IsPlaced front p bytes
     × Comes s os (tree t true) w.at st × Stands s (reverse w.waiting.list.items) os front
 IsBefore s w st (steps.List is_first) =
     (place : IsListing (reverse w.waiting.list.items) w.text.list.items) × (ts : List Term) × (elements : List ℕ)

@@ -9,7 +9,7 @@ use Rattle.cpp_grammar.specs.Meaning.{encoding_of}
 use Rattle.cpp_grammar.specs.Values.{State, Around, Value, tree, outermost, tree_of, qualifiers_of, ref_of}
 use Rattle.cpp_direct.specs.declared.open.Purpose.{Purpose}
 use Rattle.cpp_direct.specs.declared.open.Open.{Open}
-use Rattle.cpp_direct.specs.declared.open.Place.{Place}
+use Rattle.cpp_direct.specs.declared.open.Argument.{Argument}
 use Rattle.cpp_direct.specs.declared.open.Open.TheVariants as opens
 use Rattle.cpp_direct.specs.declared.direct.Direct.{Direct}
 use Rattle.cpp_direct.specs.Bytes.{is_local}
@@ -17,7 +17,7 @@ use Rattle.cpp_direct.specs.Holes.{Opened, StandsAt, Comes, Expects, IsReferable
 use Rattle.cpp_direct.specs.HolesOfFunctions.{SignatureGoesOn, plain_function, pointed, with_pointed}
 use Rattle.cpp_direct.specs.HolesOfTypes.{IsNamedKind, NoReference, TreeOpens}
 use Rattle.cpp_direct.specs.Prints.{Prints, IsElement, PrintAll, Shows, Encloses, sign_text, PrintsIn, PrintsBehind}
-use Rattle.cpp_direct.specs.Stands.{AreCandidates, AwaitsItems, Encoded, EncodedBehind, IsFunction, IsInstance, IsListing, IsNest, IsTail, IsTemplate, GoesOn, EnumeratorGoesOn, ItemsGoOn, LambdaWithin, Owns, ParametersGoOn, Serves, Stands, TypeWithin, TakesFunction, opening_text, qualifiers, extra_of, led_by, list_with, in_front_of_next, IsPlaced, IsArgument, IsScoped, argument_of, nowhere, ArgumentsGoOn}
+use Rattle.cpp_direct.specs.Stands.{AreCandidates, AwaitsItems, Encoded, EncodedBehind, IsFunction, IsInstance, IsListing, IsNest, IsTail, IsTemplate, GoesOn, EnumeratorGoesOn, ItemsGoOn, LambdaWithin, Owns, ParametersGoOn, Serves, Stands, TypeWithin, TakesFunction, opening_text, qualifiers, extra_of, led_by, list_with, in_front_of_next, IsPlaced, IsArgument, IsScoped, argument_of, nowhere, packed, of_pack, IsPlain, ArgumentsGoOn}
 
 -- what stands behind the parameters of a member function
 abbrev pub const_text : (is_const : Bool) → List ℕ
@@ -123,9 +123,9 @@ pub record AwaitsDependentMark (s : List ℕ) (w : Direct) (mark : List ℕ) (is
   pub marks : List ℕ
   pub written : w.text.list.items ≡ front ++ bytes ++ marks
   pub prints : PrintsBehind made (marks ++ mark) is_reference
-  pub argument : Place
+  pub argument : Argument
   pub found : argument_of rest ≡ Some argument
-  pub ordered : argument.from ≤ argument.to
+  pub plain : IsPlain argument
   pub placed : IsPlaced front argument bytes
   pub stands : Stands s rest outer front
 
@@ -146,6 +146,24 @@ pub record IsArgumentRead (s : List ℕ) (w : Direct) (from : ℕ) (is_reference
   pub from_is : from ≡ length (front ++ name ++ codes "<")
   pub prints : Prints t bytes is_reference
   pub goes : ArgumentsGoOn s owner (Stands s rest) front template (t ∷ []) w.at state
+
+-- The first element of a pack was read, which is the first argument of a name.
+pub record IsPackElementRead (s : List ℕ) (w : Direct) (from : ℕ) (is_reference : Bool) : Type 0 where
+  pub state : State
+  pub candidates : AreCandidates w.text.list.items w.candidates.list.items state.candidates
+  pub owner : Open
+  pub rest : List Open
+  pub open_is : reverse w.waiting.list.items ≡ opens.Element from ∷ opens.Pack ∷ owner ∷ rest
+  pub front : List ℕ
+  pub template : Term
+  pub name : List ℕ
+  pub t : Term
+  pub bytes : List ℕ
+  pub is_template : IsTemplate owner front template name w.text.list.items
+  pub written : w.text.list.items ≡ front ++ name ++ codes "<" ++ bytes
+  pub from_is : from ≡ length (front ++ name ++ codes "<")
+  pub prints : Prints t bytes is_reference
+  pub goes : GoesOn s (of_pack [] []) owner (Stands s rest) front template (t ∷ []) w.at state
 
 -- the first piece of a nested name is expected
 pub record AwaitsNest (s : List ℕ) (w : Direct) (purpose : Purpose) : Type 0 where
@@ -200,8 +218,8 @@ pub record AwaitsClass (s : List ℕ) (w : Direct) : Type 0 where
   pub serves : Serves s w.nest.purpose (Stands s (reverse w.waiting.list.items)) outer front
 
 -- The arguments of what was opened last are read and their E, but for their last bracket. Where a place is given they are one type
--- alone, which is no reference and stands there.
-pub record IsListEnded (s : List ℕ) (w : Direct) (argument : Place) : Type 0 where
+-- alone, or a pack of one, which stands there.
+pub record IsListEnded (s : List ℕ) (w : Direct) (argument : Argument) : Type 0 where
   pub state : State
   pub candidates : AreCandidates w.text.list.items w.candidates.list.items state.candidates
   pub owner : Open
@@ -218,7 +236,7 @@ pub record IsListEnded (s : List ℕ) (w : Direct) (argument : Place) : Type 0 w
   pub elements : PrintAll 3 ts arguments
   pub written : w.text.list.items ≡ front ++ name ++ codes "<" ++ arguments
   pub owns : Owns s owner (Stands s rest) front (instance template (list_with ts tail)) w.at state
-  pub alone : argument.from ≤ argument.to → (t : Term) × (list_with ts tail ≡ list t nil) × Prints t arguments false
+  pub alone : argument.from ≤ argument.to → (t : Term) × (list_with ts tail ≡ list (packed argument.is_pack t) nil) × Prints t arguments argument.is_reference
       × (argument.from ≡ length (front ++ name ++ codes "<")) × (argument.to ≡ length (front ++ name ++ codes "<") + length arguments)
 
 -- An element is expected, and the comma before it is written.
@@ -269,7 +287,7 @@ pub record IsNameEnded (s : List ℕ) (w : Direct) (is_const is_instance : Bool)
   pub awaits : AwaitsItems s lead v w.at state
 
 -- The return type of a function was read, and stands behind the function's name.
-pub record IsFrontRead (s : List ℕ) (w : Direct) (is_const : Bool) (start : ℕ) (argument : Place) : Type 0 where
+pub record IsFrontRead (s : List ℕ) (w : Direct) (is_const : Bool) (start : ℕ) (argument : Argument) : Type 0 where
   pub state : State
   pub candidates : AreCandidates w.text.list.items w.candidates.list.items state.candidates
   pub v : Value
@@ -285,7 +303,7 @@ pub record IsFrontRead (s : List ℕ) (w : Direct) (is_const : Bool) (start : �
   pub goes : ParametersGoOn s argument [] (encoding_of v) (returned ∷ []) w.at state
 
 -- A function's name was read and written, and what stands in front of it. Its parameters are expected.
-pub record AwaitsParameters (s : List ℕ) (w : Direct) (is_const : Bool) (start : ℕ) (argument : Place) : Type 0 where
+pub record AwaitsParameters (s : List ℕ) (w : Direct) (is_const : Bool) (start : ℕ) (argument : Argument) : Type 0 where
   pub state : State
   pub candidates : AreCandidates w.text.list.items w.candidates.list.items state.candidates
   pub make : Term → Term
@@ -297,8 +315,25 @@ pub record AwaitsParameters (s : List ℕ) (w : Direct) (is_const : Bool) (start
   pub written : w.text.list.items ≡ aside ++ lead ++ name
   pub goes : ParametersGoOn s argument lead make [] w.at state
 
+-- A parameter of a function is expected.
+pub record AwaitsNextParameter (s : List ℕ) (w : Direct) (is_const : Bool) (start : ℕ) (argument : Argument) : Type 0 where
+  pub state : State
+  pub candidates : AreCandidates w.text.list.items w.candidates.list.items state.candidates
+  pub rest : List Open
+  pub open_is : reverse w.waiting.list.items ≡ opens.Parameters is_const start argument ∷ rest
+  pub make : Term → Term
+  pub ts : List Term
+  pub aside : List ℕ
+  pub lead : List ℕ
+  pub name : List ℕ
+  pub texts : List ℕ
+  pub is_function : IsFunction w.text.list.items argument is_const make ts name texts
+  pub start_is : start ≡ length aside
+  pub written : w.text.list.items ≡ aside ++ lead ++ name ++ codes "(" ++ in_front_of_next ts texts
+  pub goes : ParametersGoOn s argument lead make ts w.at state
+
 -- A parameter of a function was read.
-pub record IsParameterEnded (s : List ℕ) (w : Direct) (is_const : Bool) (start : ℕ) (argument : Place) : Type 0 where
+pub record IsParameterEnded (s : List ℕ) (w : Direct) (is_const : Bool) (start : ℕ) (argument : Argument) : Type 0 where
   pub state : State
   pub candidates : AreCandidates w.text.list.items w.candidates.list.items state.candidates
   pub rest : List Open

@@ -31,6 +31,7 @@ impl Direct {
             | Open::Lambda { .. }
             | Open::Front { .. }
             | Open::Argument { .. }
+            | Open::Element { .. }
             | Open::Returned { .. }
             | Open::Signature { .. } => return None,
             _ => {}

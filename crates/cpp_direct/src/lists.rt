@@ -17,7 +17,7 @@ ghost use Rattle.cpp_direct.specs.Written.{Reads};
 
 use crate::direct::Direct;
 use crate::letters::is_integer_letter;
-use crate::open::{Nest, Open, Place, Step};
+use crate::open::{Argument, Nest, Open, Step};
 use crate::symbols::NOWHERE;
 use crate::tokens::byte_at;
 use sym_core::{NumberKind, find_number};
@@ -82,6 +82,9 @@ impl Direct {
             if behind == b'E' {
                 return self.empty_pack(s, is_first);
             }
+            if is_first {
+                return self.first_pack(s);
+            }
         }
         if !is_first {
             self.push_pair(b',', b' ')?;
@@ -100,7 +103,7 @@ impl Direct {
 
     // <template-arg> ::= J <template-arg>* E
     #[inline(always)]
-    fn begin_pack(&mut self, s: &[u8]) -> Option<Step>
+    pub(crate) fn begin_pack(&mut self, s: &[u8]) -> Option<Step>
         requires letter { StandsAt s.now self.old.at (74 ∷ []) }
         requires awaits { AwaitsNextArgument s.now self.old }
         ensures { IfSome result (IsWriting s.now self.new) }
@@ -153,8 +156,8 @@ impl Direct {
         }
     }
 
-    /// Ends arguments. Where they are one alone, a type, its text may stand at a place.
-    pub(crate) fn close_list(&mut self, s: &[u8], argument: Place) -> Option<Step>
+    /// Ends arguments. Where they are one alone, a type or a pack of one, its text may stand at a place.
+    pub(crate) fn close_list(&mut self, s: &[u8], argument: Argument) -> Option<Step>
         requires fits { FitsSymbol s.now }
         requires ended { IsListEnded s.now self.old argument }
         ensures { IfSome result (IsWriting s.now self.new) }

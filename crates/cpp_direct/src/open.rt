@@ -8,11 +8,14 @@ pub struct Candidate {
     pub is_reference: bool,
 }
 
-/// Where a text stands in what is written. One that ends before it begins is nowhere.
+/// The one argument of a name, a type or a pack of one type, and where its text stands in what is written. One that ends before it
+/// begins is nowhere.
 #[derive(Clone, Copy)]
-pub struct Place {
+pub struct Argument {
     pub from: usize,
     pub to: usize,
+    pub is_pack: bool,
+    pub is_reference: bool,
 }
 
 /// What a nested name is read as.
@@ -76,13 +79,13 @@ pub enum Open {
     Front {
         is_const: bool,
         start: usize,
-        argument: Place,
+        argument: Argument,
     },
     /// the parameters of a function, whose text begins at this place
     Parameters {
         is_const: bool,
         start: usize,
-        argument: Place,
+        argument: Argument,
     },
     /// the parameters of a function in which a type stands; the type's text begins at this place, with the function's
     Enclosing {
@@ -109,6 +112,10 @@ pub enum Open {
     },
     /// the elements of a pack, an argument of what was opened before
     Pack,
+    /// the first element of a pack that is the first argument of a name, whose text begins at this place
+    Element {
+        from: usize,
+    },
     /// the number of an enumerator, an element of what was opened before
     Enumerator,
 }

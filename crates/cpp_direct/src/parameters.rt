@@ -1,19 +1,19 @@
 // The argument of a function's template, and the types that name it.
 
-ghost use Rattle.std.specs.Prelude.{◌≡◌, ◌≤◌, ◌∷◌, [], reverse, true, false, Some};
+ghost use Rattle.std.specs.Prelude.{◌≡◌, ◌≤◌, ◌+◌, ◌∷◌, [], reverse, true, false, Some};
 ghost use Rattle.std.specs.Option.{IfSome};
 ghost use Rattle.sym_core.specs.Number.{FitsSymbol};
 ghost use Rattle.cpp_direct.specs.declared.open.Step.TheVariants as steps;
 ghost use Rattle.cpp_direct.specs.Holes.{StandsAt};
 ghost use Rattle.cpp_direct.specs.Stands.{IsWriting, argument_of};
-ghost use Rattle.cpp_direct.specs.Ways.{AwaitsType, AwaitsDependentMark, IsArgumentRead};
+ghost use Rattle.cpp_direct.specs.Ways.{AwaitsType, AwaitsDependentMark, AwaitsNextParameter, IsArgumentRead, IsPackElementRead};
 
 use crate::direct::Direct;
-use crate::open::{Open, Place, Step};
-use crate::tokens::byte_at;
+use crate::open::{Argument, Open, Step};
+use crate::tokens::{byte_at, may_end};
 
 /// The place, unless it is nowhere.
-fn known(place: Place) -> Option<Place>
+fn known(place: Argument) -> Option<Argument>
     ensures is { IfSome result (λ p. p ≡ place) }
     ensures ordered { IfSome result (λ p. p.from ≤ p.to) }
 {
@@ -21,6 +21,37 @@ fn known(place: Place) -> Option<Place>
         return None;
     }
     Some(place)
+}
+
+/// Whether a function type stands at a place, or a pointer to one.
+fn is_function_at(s: &[u8], at: usize) -> bool {
+    match byte_at(s, at) {
+        b'F' => true,
+        b'P' => match s.get(at..) {
+            Some([_, behind, ..]) => *behind == b'F',
+            _ => false,
+        },
+        _ => false,
+    }
+}
+
+/// The place behind `DpOT_`, if this stands at a place.
+// <type> ::= Dp <type>
+fn expansion_end(s: &[u8], at: usize) -> Option<usize>
+    ensures stands { IfSome result (λ end. StandsAt s.now at (68 ∷ 112 ∷ 79 ∷ 84 ∷ 95 ∷ [])) }
+    ensures end { IfSome result (λ end. end ≡ at + 5) }
+{
+    let second = byte_at(s, at.checked_add(1)?);
+    let third = byte_at(s, at.checked_add(2)?);
+    let fourth = byte_at(s, at.checked_add(3)?);
+    let fifth = byte_at(s, at.checked_add(4)?);
+    if byte_at(s, at) != b'D' || second != b'p' || third != b'O' {
+        return None;
+    }
+    if fourth != b'T' || fifth != b'_' {
+        return None;
+    }
+    at.checked_add(5)
 }
 
 impl Direct {
@@ -40,7 +71,7 @@ impl Direct {
             Open::NestArguments { .. } | Open::NameArguments { .. } => {}
             _ => return Some(Step::Type),
         }
-        if self.is_function_at(s) {
+        if is_function_at(s, self.at) {
             return Some(Step::Type);
         }
         let from = self.text.len();
@@ -48,16 +79,111 @@ impl Direct {
         Some(Step::Type)
     }
 
-    /// Whether a function type comes next, or a pointer to one.
-    fn is_function_at(&self, s: &[u8]) -> bool {
-        match byte_at(s, self.at) {
-            b'F' => true,
-            b'P' => match s.get(self.at..) {
-                Some([_, behind, ..]) => *behind == b'F',
-                _ => false,
-            },
-            _ => false,
+    /// The first argument of a list, which is a pack of something. Where it is an argument of a name, it may be the only one, and
+    /// have one type alone.
+    // <template-arg> ::= J <template-arg>* E
+    #[inline(never)]
+    pub(crate) fn first_pack(&mut self, s: &[u8]) -> Option<Step>
+        requires fits { FitsSymbol s.now }
+        requires letter { StandsAt s.now self.old.at (74 ∷ []) }
+        requires writing { IsWriting s.now self.old (steps.List true) }
+        ensures { IfSome result (IsWriting s.now self.new) }
+    {
+        if self.waiting.len() != 1 {
+            return self.begin_pack(s);
         }
+        match *self.waiting.as_slice().last()? {
+            Open::NestArguments { .. } | Open::NameArguments { .. } => {}
+            _ => return self.begin_pack(s),
+        }
+        let behind = self.at.checked_add(1)?;
+        if byte_at(s, behind) == b'L' || is_function_at(s, behind) {
+            return self.begin_pack(s);
+        }
+        self.at = behind;
+        let from = self.text.len();
+        self.waiting.push(Open::Pack)?;
+        self.waiting.push(Open::Element { from })?;
+        Some(Step::Type)
+    }
+
+    /// The first element of a pack is read, which is the first argument of a name: others follow, or the end of the pack, and behind
+    /// it that of the arguments.
+    // <template-arg> ::= J <template-arg>* E
+    pub(crate) fn element_ended(
+        &mut self,
+        s: &[u8],
+        from: usize,
+        is_reference: bool,
+    ) -> Option<Step>
+        requires fits { FitsSymbol s.now }
+        requires read { IsPackElementRead s.now self.old from is_reference }
+        ensures { IfSome result (IsWriting s.now self.new) }
+    {
+        let _element = self.waiting.pop();
+        if byte_at(s, self.at) != b'E' {
+            return Some(Step::List { is_first: false });
+        }
+        let behind = self.at.checked_add(1)?;
+        if byte_at(s, behind) != b'E' {
+            return Some(Step::List { is_first: false });
+        }
+        let _pack = self.waiting.pop();
+        self.at = behind.checked_add(1)?;
+        let to = self.text.len();
+        self.close_list(
+            s,
+            Argument {
+                from,
+                to,
+                is_pack: true,
+                is_reference,
+            },
+        )
+    }
+
+    /// A parameter of a function comes next.
+    #[inline(always)]
+    pub(crate) fn next_parameter(
+        &mut self,
+        s: &[u8],
+        is_const: bool,
+        start: usize,
+        argument: Argument,
+    ) -> Option<Step>
+        requires fits { FitsSymbol s.now }
+        requires awaits { AwaitsNextParameter s.now self.old is_const start argument }
+        ensures { IfSome result (IsWriting s.now self.new) }
+    {
+        if argument.is_pack {
+            return self.expansion(s, is_const, start, argument);
+        }
+        Some(Step::Type)
+    }
+
+    /// The last parameter may be a reference to each type of the pack that the function's template has as its argument.
+    // <type> ::= Dp <type>
+    #[inline(never)]
+    fn expansion(&mut self, s: &[u8], is_const: bool, start: usize, pack: Argument) -> Option<Step>
+        requires fits { FitsSymbol s.now }
+        requires is_pack { pack.is_pack ≡ true }
+        requires awaits { AwaitsNextParameter s.now self.old is_const start pack }
+        ensures { IfSome result (IsWriting s.now self.new) }
+    {
+        let Some(end) = expansion_end(s, self.at) else {
+            return Some(Step::Type);
+        };
+        if pack.to < pack.from || !may_end(byte_at(s, end)) {
+            return None;
+        }
+        self.at = end;
+        self.repeat(pack.from, pack.to)?;
+        // a reference to a reference is one to what this refers to
+        self.push(if pack.is_reference { b"" } else { b"&&" })?;
+        self.add_hidden(false)?;
+        self.add_hidden(false)?;
+        self.add_hidden(false)?;
+        self.close_parameters(s, is_const, start, pack)
     }
 
     /// The first argument of a name is read: others follow, or the end.
@@ -81,11 +207,19 @@ impl Direct {
         }
         self.at = self.at.checked_add(1)?;
         let to = self.text.len();
-        self.close_list(s, Place { from, to })
+        self.close_list(
+            s,
+            Argument {
+                from,
+                to,
+                is_pack: false,
+                is_reference: false,
+            },
+        )
     }
 
     /// Where the argument stands that T_ names in what is open, if it is known.
-    fn argument(&self) -> Option<Place>
+    fn argument(&self) -> Option<Argument>
         ensures is { IfSome result (λ p. argument_of (reverse self.now.waiting.list.items) ≡ Some p) }
         ensures ordered { IfSome result (λ p. p.from ≤ p.to) }
     {
@@ -117,6 +251,10 @@ impl Direct {
             return None;
         }
         let argument = self.argument()?;
+        // a pack is named in what is expanded alone
+        if argument.is_pack || argument.is_reference {
+            return None;
+        }
         self.at = self.at.checked_add(1)?;
         self.repeat(argument.from, argument.to)?;
         self.add_hidden(false)?;

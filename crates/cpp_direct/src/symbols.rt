@@ -10,7 +10,7 @@ ghost use Rattle.cpp_direct.specs.Stands.{IsWriting};
 ghost use Rattle.cpp_direct.specs.Ways.{IsFresh, AwaitsEncoding, AwaitsSource, IsNameEnded, IsFrontRead, AwaitsParameters, IsParameterEnded, IsEncodingEnded, IsSymbolEnded};
 
 use crate::direct::Direct;
-use crate::open::{Nest, Open, Place, Purpose, Step};
+use crate::open::{Argument, Nest, Open, Purpose, Step};
 use crate::tokens::{byte_at, is_local, is_suffix, may_end};
 use std::alloc::Global;
 use sym_direct::Bounded;
@@ -39,7 +39,12 @@ const NO_NEST: Nest = Nest {
 };
 
 /// No argument that is known.
-pub const NOWHERE: Place = Place { from: 1, to: 0 };
+pub const NOWHERE: Argument = Argument {
+    from: 1,
+    to: 0,
+    is_pack: false,
+    is_reference: false,
+};
 
 impl Direct {
     /// Lists that have no memory yet.
@@ -307,7 +312,7 @@ impl Direct {
         s: &[u8],
         is_const: bool,
         start: usize,
-        argument: Place,
+        argument: Argument,
     ) -> Option<Step>
         requires fits { FitsSymbol s.now }
         requires ended { IsFrontRead s.now self.old is_const start argument }
@@ -330,7 +335,7 @@ impl Direct {
         s: &[u8],
         is_const: bool,
         start: usize,
-        argument: Place,
+        argument: Argument,
     ) -> Option<Step>
         requires fits { FitsSymbol s.now }
         requires awaits { AwaitsParameters s.now self.old is_const start argument }
@@ -350,7 +355,7 @@ impl Direct {
             start,
             argument,
         })?;
-        Some(Step::Type)
+        self.next_parameter(s, is_const, start, argument)
     }
 
     /// A parameter is read: another one follows, or the end of the encoding.
@@ -359,7 +364,7 @@ impl Direct {
         s: &[u8],
         is_const: bool,
         start: usize,
-        argument: Place,
+        argument: Argument,
     ) -> Option<Step>
         requires fits { FitsSymbol s.now }
         requires ended { IsParameterEnded s.now self.old is_const start argument }
@@ -368,8 +373,25 @@ impl Direct {
         let byte = byte_at(s, self.at);
         if !may_end(byte) {
             self.push_pair(b',', b' ')?;
-            return Some(Step::Type);
+            return self.next_parameter(s, is_const, start, argument);
         }
+        self.close_parameters(s, is_const, start, argument)
+    }
+
+    /// The end of an encoding is reached behind a parameter.
+    // <bare-function-type> ::= <parameter type>+
+    #[inline(always)]
+    pub(crate) fn close_parameters(
+        &mut self,
+        s: &[u8],
+        is_const: bool,
+        start: usize,
+        _argument: Argument,
+    ) -> Option<Step>
+        requires fits { FitsSymbol s.now }
+        requires ended { IsParameterEnded s.now self.old is_const start _argument }
+        ensures { IfSome result (IsWriting s.now self.new) }
+    {
         // a lone void is no parameter
         if self.text.as_slice().ends_with(b"(void") {
             return None;

@@ -202,6 +202,7 @@ impl Direct {
             Open::Special => self.finish(s),
             Open::Enumerator => self.enumerator(s),
             Open::Argument { from } => self.argument_ended(s, from, is_reference),
+            Open::Element { from } => self.element_ended(s, from, is_reference),
             _ => Some(Step::List { is_first: false }),
         }
     }

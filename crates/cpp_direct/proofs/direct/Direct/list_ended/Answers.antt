@@ -4,7 +4,8 @@ use Rattle.cpp_direct.specs.declared.open.Open.TheVariants as opens
 use Rattle.cpp_direct.specs.declared.open.Step.TheVariants as steps
 use Rattle.cpp_direct.specs.Stands.{IsWriting}
 use Rattle.cpp_direct.specs.Ways.{IsListEnded}
-use Rattle.cpp_direct.proofs.Listed.{nowhere, waits-last, list-ends, pack-ends}
+use Rattle.cpp_direct.specs.Stands.{nowhere}
+use Rattle.cpp_direct.proofs.Listed.{waits-last, list-ends, pack-ends}
 use Rattle.cpp_direct.proofs.TypesRead.{popped}
 use Rattle.cpp_direct.proofs.direct.Direct.list_ended.Goals as goal
 

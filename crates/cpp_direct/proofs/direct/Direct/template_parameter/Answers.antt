@@ -15,6 +15,6 @@ returns c =
     parameter-done s old c.repeat.new.self c.add_hidden.new.self c.in_ok-argument.argument c.requires.awaits c.requires.letter
     (subst (λ n. StandsAt s n (95 ∷ [])) c.in_ok-self.ensures.1
     (subst (λ b. StandsAt s c.in_ok-self.field-0 (b ∷ [])) c.if-byte_at-ne95.false (c.byte_at.ensures (λ e. omega (arith, e, c.if-byte_at-ne95.false)))))
-    c.in_ok-argument.ensures.is c.in_ok-argument.ensures.ordered wrote.text wrote.candidates wrote.waiting
+    c.in_ok-argument.ensures.is (c.in_ok-argument.ensures.ordered, c.if-argument.false, c.if-argument-2.false) wrote.text wrote.candidates wrote.waiting
     (wrote.at ∙ c.in_ok-self-2.ensures.1 ∙ ap (λ n. n + 1) c.in_ok-self.ensures.1)
     c.in_ok-add_hidden.ensures.candidates c.add_hidden.ensures.text c.add_hidden.ensures.open c.add_hidden.ensures.at
