@@ -1,16 +1,15 @@
 -- A reference to each type of a pack is a function's last parameter.
-use Rattle.std.proofs.Common.{◌≡◌, ℕ, ◌+◌, ◌-◌, ◌≤◌, length, List, [], ◌∷◌, ◌++◌, take, drop, Bool, true, Option, None, Some, reverse, codes, refl, ap, sym, ◌∙◌, subst, arith, append_assoc}
+use Rattle.std.proofs.Common.{◌≡◌, ℕ, ◌+◌, ◌-◌, ◌≤◌, length, List, [], ◌∷◌, ◌++◌, take, drop, Bool, true, Option, None, Some, reverse, codes, ap, sym, ◌∙◌, subst, arith, append_assoc}
 use Rattle.std.specs.Option.{IfSome}
 use Rattle.cpp_grammar.specs.declared.kind.Kind.{Kind}
 use Rattle.cpp_grammar.specs.Parts.{types_of}
 use Rattle.cpp_grammar.specs.Scope.{arguments_of}
-use Rattle.cpp_grammar.specs.Term.{Term, expansion, parameter, rvalue, list, nil}
-use Rattle.cpp_grammar.specs.Values as values
+use Rattle.cpp_grammar.specs.Term.{expansion, parameter, rvalue, list, nil}
 use Rattle.cpp_direct.specs.declared.direct.Direct.{Direct}
 use Rattle.cpp_direct.specs.declared.open.Argument.{Argument}
 use Rattle.cpp_direct.specs.declared.open.Candidate.{Candidate}
 use Rattle.cpp_direct.specs.Holes.{StandsAt}
-use Rattle.cpp_direct.specs.Prints.{Prints, forwarded}
+use Rattle.cpp_direct.specs.Prints.{forwarded}
 use Rattle.cpp_direct.specs.Stands.{AreCandidates, EncodedBehind, IsArgument, IsScope, ParametersGoOn, in_front_of_next, packed}
 use Rattle.cpp_direct.specs.Ways.{AwaitsNextParameter, IsParameterEnded}
 use Rattle.cpp_direct.specs.Written.{hidden}

@@ -1,5 +1,5 @@
 -- A reference to each type of a pack is read, where a parameter of a function is expected.
-use Rattle.std.proofs.Common.{◌≡◌, ℕ, ◌+◌, List, [], ◌∷◌, ◌++◌, Bool, true, false, None, Some, Ok, refl, subst, arith}
+use Rattle.std.proofs.Common.{◌≡◌, ℕ, ◌+◌, List, [], ◌∷◌, true, false, None, Some, Ok, refl, subst, arith}
 use Rattle.sym_link.specs.Unfold.{standing}
 use Rattle.sym_shape.specs.declared.rule.Sym.TheVariants.{Kind as OfKind, Number}
 use Rattle.sym_core.specs.declared.NumberKind.TheVariants.{Decimal}
@@ -12,7 +12,7 @@ use Rattle.cpp_grammar.specs.Meaning.{meaning, listed_value}
 use Rattle.cpp_grammar.specs.References.{appended, is_function_type, with_packs, with_type, parameter_named}
 use Rattle.cpp_grammar.specs.Scope.{element, count, length_if_pack}
 use Rattle.cpp_grammar.specs.Table.{rule_of}
-use Rattle.cpp_grammar.specs.Term.{Term, expansion, parameter, rvalue}
+use Rattle.cpp_grammar.specs.Term.{expansion, parameter, rvalue}
 use Rattle.cpp_grammar.specs.Unfolding as unfolding_
 use Rattle.cpp_grammar.specs.Unfolding.{opening, close, byte_of}
 use Rattle.cpp_grammar.specs.Values as values

@@ -1,5 +1,5 @@
 -- What is expanded to the types of a pack.
-use Rattle.std.proofs.Common.{◌≡◌, refl, ap, sym, ◌∙◌, subst, List, [], ◌∷◌, ◌++◌, Bool, true, false, Option, Some, None, ℕ, ◌+◌, arith, codes, append-nil}
+use Rattle.std.proofs.Common.{◌≡◌, refl, ap, sym, ◌∙◌, subst, List, [], ◌∷◌, ◌++◌, Bool, true, false, Option, Some, None, ℕ, arith, codes, append-nil}
 use Rattle.sym_print.specs.Unshared.{text_of}
 use Rattle.cpp_grammar.specs.Term.{Term, parameter, rvalue, expansion, pack, nil, list}
 use Rattle.cpp_grammar.specs.Scope.{arguments_of, count, element, pack_length, length_if_pack}

@@ -30,7 +30,7 @@ use Rattle.cpp_direct.specs.Holes.{Opened, Comes, Expects, StandsAt, TypePasses,
 use Rattle.cpp_direct.specs.HolesOfFunctions.{SignatureGoesOn, plain_function}
 use Rattle.cpp_direct.specs.HolesOfTypes.{NoReference}
 use Rattle.cpp_direct.specs.HolesOfLists.{IsSuffix, IsDigitsAt, minus_sign}
-use Rattle.cpp_direct.specs.HolesOfLocals.{EntityOpened, IsDiscriminatorAt, IsEntityAt, IsLambdaDigit, lambda_ending, lambda_with, local_in, IsPieceAt}
+use Rattle.cpp_direct.specs.HolesOfLocals.{EntityOpened, IsDiscriminatorAt, IsEntityAt, IsLambdaDigit, lambda_ending, lambda_with, local_in}
 use Rattle.cpp_direct.specs.Prints.{Prints, Shows, Encloses, NamesClass, PrintAll, PrintsBehind, PrintAllIn}
 use Rattle.cpp_grammar.specs.Parts.{types_of}
 
