@@ -24,13 +24,14 @@ use Rattle.cpp_direct.specs.HolesOfLists.{SymbolOpened, EncodingOpened, IsOffset
 use Rattle.cpp_direct.specs.ItemBytes.{one_of, is_special_letter}
 use Rattle.cpp_direct.specs.Letters.{special_letters}
 use Rattle.cpp_direct.specs.Prints.{Shows}
-use Rattle.cpp_direct.specs.Stands.{AreCandidates, Encoded, EndsBehind, EncodedBehind, AwaitsItems, IsWhole, Stands, IsWriting, qualifiers}
+use Rattle.cpp_direct.specs.Stands.{AreCandidates, Encoded, EndsBehind, EncodedBehind, AwaitsItems, IsScoped, IsWhole, Stands, IsWriting, qualifiers}
 use Rattle.cpp_direct.specs.Ways.{IsFresh, AwaitsEncoding, AwaitsNest}
 use Rattle.cpp_direct.specs.Written.{Writes, Reads}
 use Rattle.cpp_direct.proofs.FoundTokens.{reads-then}
 use Rattle.cpp_direct.proofs.Moves.{stands-join}
 use Rattle.cpp_direct.proofs.MovesOfEncodings.{symbol-starts, encoding-opens, special-opens, thunk-opens, virtual-thunk-opens, name-nested}
 use Rattle.cpp_direct.proofs.PrintedSymbols.{thunk-shows}
+use Rattle.cpp_direct.proofs.Scopes.{none-scoped}
 
 -- ## Answers
 
@@ -99,6 +100,7 @@ items-await s w p v at st comes =
       around = in_types w.at (tree_of v);
       inner = items.inner;
       outside = refl;
+      scope_is = refl;
       awaits = items.awaits;
       onward = λ l here now last. p.onward (encoding_of v (no_items l)) here now (items.onward l here now last);
     }
@@ -217,6 +219,7 @@ special-begins s w letter starts stands at_is written filled none_ waiting =
           (λ e. filled (sym written ∙ e)),
           λ t at st comes. encoded-whole s opened_ (special letter t) at st (here.onward t at st comes),
         ),
+        subst (λ ws. IsScoped (in_name 2) (reverse ws)) (sym waiting) (none-scoped (in_name 2) (opens.Special ∷ []) refl),
       );
     }
 

@@ -5,7 +5,8 @@ use Rattle.std.proofs.lemmas.Fmt.{decimal_digit}
 use Rattle.cpp_grammar.specs.declared.kind.Kind.{Kind}
 use Rattle.cpp_grammar.specs.Grammar.{may_be_empty}
 use Rattle.cpp_grammar.specs.Term.{Term, any_value, function, alone, lambda, source, builtin, nil, list, absent}
-use Rattle.cpp_grammar.specs.Parts.{source_text}
+use Rattle.cpp_grammar.specs.Items.{closed}
+use Rattle.cpp_grammar.specs.Parts.{source_text, types_of}
 use Rattle.cpp_grammar.specs.Scope.{has_return_type, arguments_of}
 use Rattle.cpp_grammar.specs.References.{is_function_type}
 use Rattle.cpp_grammar.specs.Values.{State, Value, local_number, nothing_there, tree, named, tree_of, qualifiers_of, ref_of}
@@ -21,7 +22,7 @@ use Rattle.cpp_direct.specs.HolesOfLists.{nest_marks}
 use Rattle.cpp_direct.specs.HolesOfLocals.{IsDiscriminatorAt, IsLambdaDigit, IsPieceAt, lambda_digits, lambda_ending, lambda_number, lambda_with, local_in}
 use Rattle.cpp_direct.specs.Bytes.{short_numbers}
 use Rattle.cpp_direct.specs.Prints.{Prints, PrintsName, PrintsPiece, Shows, Encloses, list_of}
-use Rattle.cpp_direct.specs.Stands.{AreCandidates, Below, IsFunction, IsNesting, IsWriting, ItemsGoOn, LambdaWithin, Serves, Stands, TypeWithin, in_front_of_next, qualifiers}
+use Rattle.cpp_direct.specs.Stands.{AreCandidates, Below, IsFunction, IsNesting, IsWriting, ItemsGoOn, LambdaWithin, Serves, Stands, TypeWithin, in_front_of_next, qualifiers, IsScoped, nowhere}
 use Rattle.cpp_direct.specs.Ways.{AwaitsNamedType, AwaitsNest, AwaitsTypeName, IsElementRead, IsEnclosingNamed, IsEnclosingParameterRead, IsEnclosingRead, IsLambdaParameterRead, const_text}
 use Rattle.cpp_direct.specs.Written.{Writes, Reads, added}
 use Rattle.cpp_direct.proofs.Ending.{behind-two, behind-three, behind-five, list-ends, next-written, parameter-goes_on, plain-text, qualifiers-text, void-read}
@@ -33,11 +34,12 @@ use Rattle.cpp_direct.proofs.MovesOfEncodings.{encoding-opens, name-nested, name
 use Rattle.cpp_direct.proofs.MovesOfLists.{element-awaits}
 use Rattle.cpp_direct.proofs.MovesOfLocals.{lambda-opens, lambda-piece, lambda_bytes, local-type-opens, number-is}
 use Rattle.cpp_direct.proofs.Nesting.{nest-comes}
-use Rattle.cpp_direct.proofs.PrintedLists.{next-prints, none-print}
+use Rattle.cpp_direct.proofs.PrintedLists.{all-in, element-in, next-prints, next-prints-in, none-print, none-print-in}
 use Rattle.cpp_direct.proofs.PrintedLocals.{function-encloses, object-enclosing}
 use Rattle.cpp_direct.proofs.PrintedNames.{as-name, source-prints}
 use Rattle.cpp_direct.proofs.PrintedSymbols.{encoding-plain, function-shows, made-void, made-with, object-encoded, parameters-kept, void-shows}
 use Rattle.cpp_direct.proofs.PrintedWithin.{lambda-prints, lambda-list-prints, local-prints}
+use Rattle.cpp_direct.proofs.Scopes.{none-scoped}
 
 -- ## Names
 
@@ -46,7 +48,7 @@ record NameOpened (s : List ℕ) (below : Below) (front : List ℕ) (at : ℕ) (
   pub inner : List Opened
   pub awaits : Expects s Kind.CompleteName (in_name at) inner at st
   pub onward : (v : Value) (here : ℕ) (now : State) → Comes s inner v here now
-      → ItemsGoOn s (TypeWithin s below front) (λ l. encoding_of v l) [] here now
+      → ItemsGoOn s nowhere (TypeWithin s below front) (λ l. encoding_of v l) [] here now
 
 name-opens : (s : List ℕ) (w : Direct) (a : AwaitsNamedType s w) → StandsAt s w.at (90 ∷ [])
     → NameOpened s (Stands s (reverse w.waiting.list.items)) w.text.list.items (w.at + 1) a.state
@@ -61,6 +63,7 @@ name-opens s w a letter =
         around = in_types (w.at + 1) (tree_of v);
         inner = items.inner;
         outside = refl;
+        scoped = λ o. absurd (omega (arith, o));
         awaits = items.awaits;
         onward = λ l there then_ last. (
           a.os,
@@ -141,7 +144,7 @@ source-within s old start new name from a letter same_text same_candidates same_
       from_is = from_is ∙ ap (λ v. length v.list.items) same_text;
       prints = as-name own (source_text name) false (source-prints false name filled);
       no_return = refl;
-      goes = subst (λ v. ItemsGoOn s (TypeWithin s (Stands s (reverse v.list.items)) front) (λ l. encoding_of (tree own false) l) [] new.at a.state)
+      goes = subst (λ v. ItemsGoOn s nowhere (TypeWithin s (Stands s (reverse v.list.items)) front) (λ l. encoding_of (tree own false) l) [] new.at a.state)
           (sym (reads.waiting ∙ same_waiting))
           (e.onward (tree own false) new.at a.state
           (named_.bare new.at a.state (expects-empty s Kind.MaybeArguments (after own false here) named_.inner new.at a.state named_.awaits refl)));
@@ -178,8 +181,8 @@ name-within s old st t is_const candidates n no_return here is_name =
 parameter-expected : (s : List ℕ) (w : Direct) (st : State) (is_const : Bool) (from : ℕ) (rest : List Open) (front : List ℕ) (make : Term → Term)
     (ts : List Term) (name texts : List ℕ)
     → AreCandidates w.text.list.items w.candidates.list.items st.candidates → reverse w.waiting.list.items ≡ opens.Enclosing is_const from ∷ rest
-    → IsFunction is_const make ts name texts → from ≡ length front → w.text.list.items ≡ front ++ name ++ codes "(" ++ in_front_of_next ts texts
-    → ItemsGoOn s (TypeWithin s (Stands s rest) front) make ts w.at st → IsWriting s w steps.Type
+    → IsFunction [] nowhere is_const make ts name texts → from ≡ length front → w.text.list.items ≡ front ++ name ++ codes "(" ++ in_front_of_next ts texts
+    → ItemsGoOn s nowhere (TypeWithin s (Stands s rest) front) make ts w.at st → IsWriting s w steps.Type
 parameter-expected s w st is_const from rest front make ts name texts candidates open_is is_function from_is written p =
     let element = element-awaits s Kind.Items p.inner p.around w.at st tt p.awaits in
     let stands : Stands s (opens.Enclosing is_const from ∷ rest) element.inner w.text.list.items = (
@@ -191,12 +194,19 @@ parameter-expected s w st is_const from rest front make ts name texts candidates
       is_function,
       from_is,
       written,
-      λ t here now comes. parameter-goes_on s (TypeWithin s (Stands s rest) front) make ts w.at st p t here now (element.onward t here now comes),
+      λ t here now comes. parameter-goes_on s nowhere (TypeWithin s (Stands s rest) front) make ts w.at st p t here now (element.onward t here now comes),
     ) in
     record {
       state = st;
       candidates = candidates;
-      is_before = (element.inner, p.around, p.outside, inr (inl element.awaits), subst (λ os. Stands s os element.inner w.text.list.items) (sym open_is) stands);
+      is_before = (
+        element.inner,
+        p.around,
+        p.outside,
+        inr (inl element.awaits),
+        subst (λ os. Stands s os element.inner w.text.list.items) (sym open_is) stands,
+        subst (λ os. IsScoped p.around os) (sym open_is) (none-scoped p.around (opens.Enclosing is_const from ∷ rest) refl),
+      );
     }
 
 -- the first one comes next
@@ -209,17 +219,18 @@ first-within s w first last is_const from p one text candidates at waiting =
     subst (λ l. AreCandidates l.list.items last.candidates.list.items p.state.candidates) (sym text)
     (subst (λ l. AreCandidates first.text.list.items l.list.items p.state.candidates) (sym candidates) known) in
     let make : Term → Term = λ l. encoding_of p.v l in
-    let is_function : IsFunction is_const make [] p.name [] = record {
+    let is_function : IsFunction [] nowhere is_const make [] p.name [] = record {
       own = p.own;
       makes = encoding-plain p.v is_const p.own p.tree_is p.qualifiers_are p.mark_is p.no_return;
       prints = p.prints;
-      elements = none-print 0;
+      elements = none-print-in (types_of p.own) 6;
+      names = λ o. absurd (omega (arith, o));
     } in
     parameter-expected s last p.state is_const from (reverse w.waiting.list.items) p.front make [] p.name [] moved
     (ap reverse waiting ∙ reverse-last first.waiting.list.items (opens.Enclosing is_const from)
     ∙ ap (λ v. opens.Enclosing is_const from ∷ reverse v.list.items) one.waiting) is_function p.from_is
     (ap (λ l. l.list.items) text ∙ one.text ∙ ap (λ l. l ++ codes "(") p.written ∙ sym (append-nil (p.front ++ p.name ++ codes "(")))
-    (subst (λ n. ItemsGoOn s (TypeWithin s (Stands s (reverse w.waiting.list.items)) p.front) make [] n p.state) (sym (at ∙ one.at)) p.goes)
+    (subst (λ n. ItemsGoOn s nowhere (TypeWithin s (Stands s (reverse w.waiting.list.items)) p.front) make [] n p.state) (sym (at ∙ one.at)) p.goes)
 
 -- another one comes next
 pub next-within : (s : List ℕ) (w last : Direct) (is_const : Bool) (from : ℕ) → IsEnclosingParameterRead s w is_const from → Writes w last (codes ", ")
@@ -231,7 +242,7 @@ next-within s w last is_const from p one =
     (ap (λ l. reverse l.list.items) one.waiting ∙ p.open_is) p.is_function p.from_is
     (one.text ∙ ap (λ l. l ++ codes ", ") p.written ∙ append_assoc front p.texts (codes ", ")
     ∙ ap (λ l. front ++ l) (sym (next-written p.ts p.texts p.some)))
-    (subst (λ n. ItemsGoOn s (TypeWithin s (Stands s p.rest) p.front) p.make p.ts n p.state) (sym one.at) p.goes)
+    (subst (λ n. ItemsGoOn s nowhere (TypeWithin s (Stands s p.rest) p.front) p.make p.ts n p.state) (sym one.at) p.goes)
 
 -- one is read
 pub parameter-read-within : (s : List ℕ) (w : Direct) (is_const : Bool) (from : ℕ) → IsElementRead s w (opens.Enclosing is_const from)
@@ -258,7 +269,9 @@ parameter-read-within s w is_const from p =
         own = is_function.own;
         makes = is_function.makes;
         prints = is_function.prints;
-        elements = next-prints 0 ts texts p.own p.bytes is_function.elements (p.element 0);
+        elements = next-prints-in (types_of is_function.own) 6 ts texts p.own p.bytes is_function.elements
+            (element-in (types_of is_function.own) 6 p.own p.bytes (p.element 6));
+        names = is_function.names;
       };
       from_is = waits.6;
       written = p.written ∙ ap (λ l. l ++ p.bytes) waits.7 ∙ append_assoc (front ++ name ++ codes "(") (in_front_of_next ts texts) p.bytes;
@@ -316,7 +329,7 @@ void-within s w here new is_const from p stands text candidates waiting at one =
       encloses = subst (λ t. Encloses t (b ++ codes "()" ++ q)) (sym is)
           (function-encloses p.own (qualifiers is_const) any_value nil (b ++ codes "()" ++ q) shows);
       within = subst (λ v. TypeWithin s (Stands s (reverse v.list.items)) p.front e new.at p.state) (sym (one.waiting ∙ waiting))
-          (subst (λ n. TypeWithin s below p.front e n p.state) (sym (one.at ∙ at)) (void-read s (TypeWithin s below p.front) make w.at p.state p.goes stands));
+          (subst (λ n. TypeWithin s below p.front e n p.state) (sym (one.at ∙ at)) (void-read s nowhere (TypeWithin s below p.front) make w.at p.state p.goes stands));
     }
 
 -- a function with its parameters is read, unless they are a lone void
@@ -331,7 +344,7 @@ function-within s w last new is_const from p apart one text candidates at waits 
     let l = p.texts in
     let q = const_text is_const in
     let made = function f.own (qualifiers is_const) any_value absent (list_of p.ts) in
-    let is : e ≡ made = made-with is_const f.own p.make f.makes p.ts p.some (parameters-kept p.ts l f.elements apart) in
+    let is : e ≡ made = made-with is_const f.own p.make f.makes p.ts p.some (parameters-kept (types_of f.own) 6 p.ts l f.elements apart) in
     let below = Stands s p.rest in
     let within_ : TypeWithin s below p.front e w.at p.state = subst (λ u. TypeWithin s below p.front (p.make u) w.at p.state) (list-ends p.ts)
     (p.goes.onward nothing_there w.at p.state (expects-empty s Kind.Items p.goes.around p.goes.inner w.at p.state p.goes.awaits refl)) in
@@ -425,6 +438,7 @@ lambda-begun s old new from a short stands text candidates at waiting =
     let first = lambda-opens s entity.inner entity.around r.e (a.before + 1) r.state short entity.awaits
     (subst (λ k. StandsAt s k (85 ∷ 108 ∷ [])) a.at_is stands) in
     let rest = reverse old.waiting.list.items in
+    let opened_ = ap reverse waiting ∙ reverse-last old.waiting.list.items (opens.Lambda from) in
     let front_written : old.text.list.items ≡ r.front ++ r.bytes = sym (append-nil old.text.list.items) ∙ r.written in
     let written : new.text.list.items ≡ r.front ++ (r.bytes ++ lambda_front) ++ [] =
     text ∙ ap (λ l. l ++ lambda_front) front_written ∙ append_assoc r.front r.bytes lambda_front ∙ sym (append-nil (r.front ++ (r.bytes ++ lambda_front))) in
@@ -448,6 +462,7 @@ lambda-begun s old new from a short stands text candidates at waiting =
             around = g.around;
             inner = g.inner;
             outside = g.outside;
+            scoped = g.scoped;
             awaits = g.awaits;
             onward = λ l there then_ last. (
               w.0,
@@ -467,7 +482,8 @@ lambda-begun s old new from a short stands text candidates at waiting =
         first.around,
         first.outside,
         inr (inl (subst (λ k. Expects s Kind.Item first.around first.inner k r.state) (omega (arith, at, a.at_is)) first.awaits)),
-        subst (λ ws. Stands s ws first.inner new.text.list.items) (sym (ap reverse waiting ∙ reverse-last old.waiting.list.items (opens.Lambda from))) stands_,
+        subst (λ ws. Stands s ws first.inner new.text.list.items) (sym opened_) stands_,
+        subst (λ ws. IsScoped first.around ws) (sym opened_) (none-scoped first.around (opens.Lambda from ∷ rest) refl),
       );
     }
 
@@ -500,7 +516,8 @@ pub lambda-next : (s : List ℕ) (w last : Direct) (from : ℕ) → IsLambdaPara
 lambda-next s w last from p one =
     let led = p.front ++ (p.bytes ++ lambda_front) in
     let below = Stands s p.rest in
-    let goes = subst (λ n. ItemsGoOn s (LambdaWithin s below p.front p.e) (λ l. l) p.ts n p.state) (sym one.at) p.goes in
+    let opened_ = ap (λ l. reverse l.list.items) one.waiting ∙ p.open_is in
+    let goes = subst (λ n. ItemsGoOn s nowhere (LambdaWithin s below p.front p.e) (λ l. l) p.ts n p.state) (sym one.at) p.goes in
     let element = element-awaits s Kind.Items goes.inner goes.around last.at p.state tt goes.awaits in
     let stands_ : Stands s (opens.Lambda from ∷ p.rest) element.inner last.text.list.items = (
       p.front,
@@ -512,7 +529,7 @@ lambda-next s w last from p one =
       p.elements,
       p.from_is,
       one.text ∙ ap (λ l. l ++ codes ", ") p.written ∙ append_assoc led p.texts (codes ", ") ∙ ap (λ l. led ++ l) (sym (next-written p.ts p.texts p.some)),
-      λ t here now comes. parameter-goes_on s (LambdaWithin s below p.front p.e) (λ l. l) p.ts last.at p.state goes t here now (element.onward t here now comes),
+      λ t here now comes. parameter-goes_on s nowhere (LambdaWithin s below p.front p.e) (λ l. l) p.ts last.at p.state goes t here now (element.onward t here now comes),
     ) in
     record {
       state = p.state;
@@ -522,7 +539,8 @@ lambda-next s w last from p one =
         goes.around,
         goes.outside,
         inr (inl element.awaits),
-        subst (λ ws. Stands s ws element.inner last.text.list.items) (sym (ap (λ l. reverse l.list.items) one.waiting ∙ p.open_is)) stands_,
+        subst (λ ws. Stands s ws element.inner last.text.list.items) (sym opened_) stands_,
+        subst (λ ws. IsScoped goes.around ws) (sym opened_) (none-scoped goes.around (opens.Lambda from ∷ p.rest) refl),
       );
     }
 
@@ -558,7 +576,7 @@ lambda-done s w begun pushed numbered popped_ last new from p apart ends same_te
     let n = local_number (lambda_digits number) in
     let ends_with : LambdaWithin s below p.front p.e items w.at p.state = subst (λ u. LambdaWithin s below p.front p.e u w.at p.state) (list-ends p.ts)
     (p.goes.onward nothing_there w.at p.state (expects-empty s Kind.Items p.goes.around p.goes.inner w.at p.state p.goes.awaits refl)) in
-    let same : lambda items n ≡ lambda_with items number = ap (λ k. lambda k n) (sym (parameters-kept p.ts p.texts p.elements apart)) in
+    let same : lambda items n ≡ lambda_with items number = ap (λ k. lambda k n) (sym (parameters-kept closed 0 p.ts p.texts (all-in closed 0 p.ts p.texts p.elements) apart)) in
     let own = local_in p.e (lambda_with items number) digit in
     let bytes = p.bytes ++ codes "::" ++ (codes "{lambda(" ++ p.texts ++ codes ")#" ++ num ++ codes "}") in
     let shown : Prints own bytes false = subst (λ u. Prints (local_in p.e u digit) bytes false) same

@@ -8,11 +8,11 @@ use Rattle.std.proofs.Math.Seq.{drop-append_seam}
 use Rattle.cpp_grammar.specs.declared.kind.Kind.{Kind}
 use Rattle.cpp_grammar.specs.Term.{Term, any_value, symbol, function, nil, list, builtin, absent}
 use Rattle.cpp_grammar.specs.Grammar.{may_be_empty, among}
-use Rattle.cpp_grammar.specs.Parts.{encoding_text}
+use Rattle.cpp_grammar.specs.Parts.{encoding_text, types_of}
 use Rattle.cpp_grammar.specs.Between.{no_items}
 use Rattle.cpp_grammar.specs.Meaning.{encoding_of}
 use Rattle.cpp_grammar.specs.Values.{State, Value, nothing_there, tree, tree_of, qualifiers_of, ref_of}
-use Rattle.cpp_direct.specs.declared.open.Open.{Open}
+use Rattle.cpp_direct.specs.declared.open.Argument.{Argument}
 use Rattle.cpp_direct.specs.declared.open.Open.TheVariants as opens
 use Rattle.cpp_direct.specs.declared.open.Step.TheVariants as steps
 use Rattle.cpp_direct.specs.declared.direct.Direct.{Direct}
@@ -20,15 +20,16 @@ use Rattle.cpp_direct.specs.Bytes.{is_builtin, is_local}
 use Rattle.cpp_direct.specs.Holes.{StandsAt, ListGoesOn}
 use Rattle.cpp_direct.specs.HolesOfLists.{IsSuffix}
 use Rattle.cpp_direct.specs.Prints.{PrintsName, Shows, Encloses, list_of}
-use Rattle.cpp_direct.specs.Stands.{AreCandidates, AwaitsItems, Encoded, EndsBehind, EncodedBehind, IsWhole, IsWriting, IsFunction, ItemsGoOn, ParametersGoOn, Stands, qualifiers, list_with, in_front_of_next}
-use Rattle.cpp_direct.specs.Ways.{IsNameEnded, AwaitsParameters, IsParameterEnded, IsEncodingEnded, IsSymbolEnded, const_text}
+use Rattle.cpp_direct.specs.Stands.{AreCandidates, AwaitsItems, Encoded, EndsBehind, EncodedBehind, IsWhole, IsWriting, IsFunction, IsScope, IsScoped, ItemsGoOn, ParametersGoOn, Stands, nowhere, qualifiers, list_with, in_front_of_next}
+use Rattle.cpp_direct.specs.Ways.{AwaitsNextParameter, IsNameEnded, AwaitsParameters, IsParameterEnded, IsEncodingEnded, IsSymbolEnded, const_text}
 use Rattle.cpp_direct.specs.Written.{Writes, Cuts}
 use Rattle.cpp_direct.proofs.Kept.{candidates-written, reverse-last}
 use Rattle.cpp_direct.proofs.Moves.{expects-empty}
 use Rattle.cpp_direct.proofs.MovesOfLists.{element-awaits}
 use Rattle.cpp_direct.proofs.MovesOfTypes.{builtin-comes}
-use Rattle.cpp_direct.proofs.PrintedLists.{none-print}
+use Rattle.cpp_direct.proofs.PrintedLists.{none-print-in}
 use Rattle.cpp_direct.proofs.PrintedLocals.{object-enclosing, function-encloses}
+use Rattle.cpp_direct.proofs.Scopes.{function-stays, parameters-scoped}
 use Rattle.cpp_direct.proofs.PrintedSymbols.{function-shows, void-shows, object-encoded, encoding-plain, made-with, made-void, const-text, symbol-text, symbol-cost, suffix-text, suffix-cost, parameters-kept}
 
 -- ## The end
@@ -181,17 +182,19 @@ next-written [] l some = absurd (some refl)
 next-written (t ∷ ts) l some = refl
 
 -- a name is one where parameters go on behind none
-pub none-go_on : (s : List ℕ) (lead : List ℕ) (v : Value) (at : ℕ) (st : State) → AwaitsItems s lead v at st
-    → ParametersGoOn s lead (λ l. encoding_of v l) [] at st
-none-go_on s lead v at st p = record { around = p.around; inner = p.inner; outside = p.outside; awaits = p.awaits; onward = p.onward }
+pub none-go_on : (s : List ℕ) (argument : Argument) (lead : List ℕ) (v : Value) (at : ℕ) (st : State) (p : AwaitsItems s lead v at st)
+    → (argument.from ≤ argument.to → IsScope argument.is_pack p.around) → ParametersGoOn s argument lead (λ l. encoding_of v l) [] at st
+none-go_on s argument lead v at st p scoped =
+    record { around = p.around; inner = p.inner; outside = p.outside; scoped = scoped; awaits = p.awaits; onward = p.onward }
 
 -- a parameter is expected
-pub parameter-goes_on : (s : List ℕ) (becomes : Term → (at : ℕ) → State → Type 0) (make : Term → Term) (ts : List Term) (at : ℕ) (st : State)
-    (p : ItemsGoOn s becomes make ts at st) (t : Term) (here : ℕ) (now : State)
-    → ListGoesOn s Kind.Items p.inner p.around t here now → ItemsGoOn s becomes make (ts ++ t ∷ []) here now
+pub parameter-goes_on : (s : List ℕ) (argument : Argument) (becomes : Term → (at : ℕ) → State → Type 0) (make : Term → Term) (ts : List Term) (at : ℕ) (st : State)
+    (p : ItemsGoOn s argument becomes make ts at st) (t : Term) (here : ℕ) (now : State)
+    → ListGoesOn s Kind.Items p.inner p.around t here now → ItemsGoOn s argument becomes make (ts ++ t ∷ []) here now
 unfolding no_items tree_of
-parameter-goes_on s becomes make ts at st p t here now goes = record {
+parameter-goes_on s argument becomes make ts at st p t here now goes = record {
   around = p.around;
+  scoped = p.scoped;
   inner = goes.inner;
   outside = p.outside;
   awaits = goes.awaits;
@@ -200,35 +203,40 @@ parameter-goes_on s becomes make ts at st p t here now goes = record {
 }
 
 -- a parameter comes next
-pub parameter-expected : (s : List ℕ) (w : Direct) (st : State) (is_const : Bool) (start : ℕ) (rest : List Open) (aside lead : List ℕ)
-    (make : Term → Term) (ts : List Term) (name texts : List ℕ)
-    → AreCandidates w.text.list.items w.candidates.list.items st.candidates → reverse w.waiting.list.items ≡ opens.Parameters is_const start ∷ rest
-    → IsFunction is_const make ts name texts → start ≡ length aside
-    → w.text.list.items ≡ aside ++ lead ++ name ++ codes "(" ++ in_front_of_next ts texts
-    → ParametersGoOn s lead make ts w.at st → IsWriting s w steps.Type
-parameter-expected s w st is_const start rest aside lead make ts name texts candidates open_is is_function start_is written p =
-    let element = element-awaits s Kind.Items p.inner p.around w.at st tt p.awaits in
-    let stands : Stands s (opens.Parameters is_const start ∷ rest) element.inner w.text.list.items = (
-      aside,
-      lead,
-      make,
-      ts,
-      name,
-      texts,
-      is_function,
-      start_is,
-      written,
-      λ t here now comes. parameter-goes_on s (λ e there then_. EncodedBehind s lead e there) make ts w.at st p t here now (element.onward t here now comes),
+pub parameter-expected : (s : List ℕ) (w : Direct) (is_const : Bool) (start : ℕ) (argument : Argument) → AwaitsNextParameter s w is_const start argument
+    → IsWriting s w steps.Type
+parameter-expected s w is_const start argument a =
+    let p = a.goes in
+    let element = element-awaits s Kind.Items p.inner p.around w.at a.state tt p.awaits in
+    let stands : Stands s (opens.Parameters is_const start argument ∷ a.rest) element.inner w.text.list.items = (
+      a.aside,
+      a.lead,
+      a.make,
+      a.ts,
+      a.name,
+      a.texts,
+      a.is_function,
+      a.start_is,
+      a.written,
+      λ t here now comes. parameter-goes_on s argument (λ e there then_. EncodedBehind s a.lead e there) a.make a.ts w.at a.state p t here now
+          (element.onward t here now comes),
     ) in
     record {
-      state = st;
-      candidates = candidates;
-      is_before = (element.inner, p.around, p.outside, inr (inl element.awaits), subst (λ os. Stands s os element.inner w.text.list.items) (sym open_is) stands);
+      state = a.state;
+      candidates = a.candidates;
+      is_before = (
+        element.inner,
+        p.around,
+        p.outside,
+        inr (inl element.awaits),
+        subst (λ os. Stands s os element.inner w.text.list.items) (sym a.open_is) stands,
+        subst (λ os. IsScoped p.around os) (sym a.open_is) (parameters-scoped p.around is_const start argument a.rest p.scoped),
+      );
     }
 
 -- the name of a function is read that has no return type
 pub parameters-begin : (s : List ℕ) (w : Direct) (is_const is_instance : Bool) (from : ℕ) → IsNameEnded s w is_const is_instance from → is_instance ≡ false
-    → AwaitsParameters s w is_const 0
+    → AwaitsParameters s w is_const 0 nowhere
 parameters-begin s w is_const is_instance from p plain = record {
   state = p.state;
   candidates = p.candidates;
@@ -240,39 +248,67 @@ parameters-begin s w is_const is_instance from p plain = record {
     own = p.own;
     makes = encoding-plain p.v is_const p.own p.tree_is p.qualifiers_are p.mark_is (p.no_return plain);
     prints = p.prints;
-    elements = none-print 0;
+    elements = none-print-in (types_of p.own) 6;
+    names = λ o. absurd (omega (arith, o));
   };
   start_is = refl;
   written = p.written;
-  goes = none-go_on s p.lead p.v w.at p.state p.awaits;
+  goes = none-go_on s nowhere p.lead p.v w.at p.state p.awaits (λ o. absurd (omega (arith, o)));
 }
 
 -- the first parameter comes next
-pub first-expected : (s : List ℕ) (w first last : Direct) (is_const : Bool) (start : ℕ) → AwaitsParameters s w is_const start → Writes w first (codes "(")
+pub first-expected : (s : List ℕ) (w first last : Direct) (is_const : Bool) (start : ℕ) (argument : Argument)
+    → AwaitsParameters s w is_const start argument → Writes w first (codes "(")
     → last.text ≡ first.text → last.candidates ≡ first.candidates → last.at ≡ first.at
-    → last.waiting.list.items ≡ first.waiting.list.items ++ opens.Parameters is_const start ∷ []
-    → IsWriting s last steps.Type
-first-expected s w first last is_const start p one text candidates at waiting =
+    → last.waiting.list.items ≡ first.waiting.list.items ++ opens.Parameters is_const start argument ∷ []
+    → AwaitsNextParameter s last is_const start argument
+first-expected s w first last is_const start argument p one text candidates at waiting =
     let known = candidates-written w first (codes "(") p.state.candidates one p.candidates in
     let moved : AreCandidates last.text.list.items last.candidates.list.items p.state.candidates =
     subst (λ l. AreCandidates l.list.items last.candidates.list.items p.state.candidates) (sym text)
     (subst (λ l. AreCandidates first.text.list.items l.list.items p.state.candidates) (sym candidates) known) in
-    parameter-expected s last p.state is_const start (reverse first.waiting.list.items) p.aside p.lead p.make [] p.name [] moved
-    (ap reverse waiting ∙ reverse-last first.waiting.list.items (opens.Parameters is_const start)) p.is_function p.start_is
-    (ap (λ l. l.list.items) text ∙ one.text ∙ ap (λ l. l ++ codes "(") p.written ∙ sym (append-nil (p.aside ++ p.lead ++ p.name ++ codes "(")))
-    (subst (λ n. ParametersGoOn s p.lead p.make [] n p.state) (sym (at ∙ one.at)) p.goes)
+    let grown : last.text.list.items ≡ w.text.list.items ++ codes "(" = ap (λ l. l.list.items) text ∙ one.text in
+    record {
+      state = p.state;
+      candidates = moved;
+      rest = reverse first.waiting.list.items;
+      open_is = ap reverse waiting ∙ reverse-last first.waiting.list.items (opens.Parameters is_const start argument);
+      make = p.make;
+      ts = [];
+      aside = p.aside;
+      lead = p.lead;
+      name = p.name;
+      texts = [];
+      is_function = subst (λ l. IsFunction l argument is_const p.make [] p.name []) (sym grown)
+          (function-stays w.text.list.items (codes "(") argument is_const p.make [] p.name [] p.is_function);
+      start_is = p.start_is;
+      written = grown ∙ ap (λ l. l ++ codes "(") p.written ∙ sym (append-nil (p.aside ++ p.lead ++ p.name ++ codes "("));
+      goes = subst (λ n. ParametersGoOn s argument p.lead p.make [] n p.state) (sym (at ∙ one.at)) p.goes;
+    }
 
 -- another parameter comes next
-pub next-expected : (s : List ℕ) (w last : Direct) (is_const : Bool) (start : ℕ) → IsParameterEnded s w is_const start → Writes w last (codes ", ")
-    → IsWriting s last steps.Type
-next-expected s w last is_const start p one =
+pub next-expected : (s : List ℕ) (w last : Direct) (is_const : Bool) (start : ℕ) (argument : Argument) → IsParameterEnded s w is_const start argument → Writes w last (codes ", ")
+    → AwaitsNextParameter s last is_const start argument
+next-expected s w last is_const start argument p one =
     let front = p.aside ++ p.lead ++ p.name ++ codes "(" in
-    parameter-expected s last p.state is_const start p.rest p.aside p.lead p.make p.ts p.name p.texts
-    (candidates-written w last (codes ", ") p.state.candidates one p.candidates)
-    (ap (λ l. reverse l.list.items) one.waiting ∙ p.open_is) p.is_function p.start_is
-    (one.text ∙ ap (λ l. l ++ codes ", ") p.written ∙ append_assoc front p.texts (codes ", ")
-    ∙ ap (λ l. front ++ l) (sym (next-written p.ts p.texts p.some)))
-    (subst (λ n. ParametersGoOn s p.lead p.make p.ts n p.state) (sym one.at) p.goes)
+    record {
+      state = p.state;
+      candidates = candidates-written w last (codes ", ") p.state.candidates one p.candidates;
+      rest = p.rest;
+      open_is = ap (λ l. reverse l.list.items) one.waiting ∙ p.open_is;
+      make = p.make;
+      ts = p.ts;
+      aside = p.aside;
+      lead = p.lead;
+      name = p.name;
+      texts = p.texts;
+      is_function = subst (λ l. IsFunction l argument is_const p.make p.ts p.name p.texts) (sym one.text)
+          (function-stays w.text.list.items (codes ", ") argument is_const p.make p.ts p.name p.texts p.is_function);
+      start_is = p.start_is;
+      written = one.text ∙ ap (λ l. l ++ codes ", ") p.written ∙ append_assoc front p.texts (codes ", ")
+          ∙ ap (λ l. front ++ l) (sym (next-written p.ts p.texts p.some));
+      goes = subst (λ n. ParametersGoOn s argument p.lead p.make p.ts n p.state) (sym one.at) p.goes;
+    }
 
 -- ## What stands in front of an encoding's text
 
@@ -305,10 +341,10 @@ plain-text false = const-text false
 -- ## The end of an encoding
 
 -- a lone void is read
-pub void-read : (s : List ℕ) (becomes : Term → (at : ℕ) → State → Type 0) (make : Term → Term) (at : ℕ) (st : State) → ItemsGoOn s becomes make [] at st
-    → StandsAt s at (118 ∷ []) → becomes (make (list_of (builtin (118 ∷ []) ∷ []))) (at + 1) st
+pub void-read : (s : List ℕ) (argument : Argument) (becomes : Term → (at : ℕ) → State → Type 0) (make : Term → Term) (at : ℕ) (st : State)
+    → ItemsGoOn s argument becomes make [] at st → StandsAt s at (118 ∷ []) → becomes (make (list_of (builtin (118 ∷ []) ∷ []))) (at + 1) st
 unfolding no_items may_be_empty tree_of is_builtin among
-void-read s becomes make at st p stands =
+void-read s argument becomes make at st p stands =
     let t = builtin (118 ∷ []) in
     let element = element-awaits s Kind.Items p.inner p.around at st tt p.awaits in
     let goes = element.onward t (at + 1) st (builtin-comes s Kind.Item p.around element.inner at st 118 tt refl element.awaits stands) in
@@ -316,18 +352,19 @@ void-read s becomes make at st p stands =
     (goes.passes nothing_there (at + 1) st (expects-empty s Kind.Items p.around goes.inner (at + 1) st goes.awaits refl))
 
 -- a name with a lone void is an encoding
-pub void-ended : (s : List ℕ) (w first here last new : Direct) (is_const : Bool) (start : ℕ) → AwaitsParameters s w is_const start
+pub void-ended : (s : List ℕ) (w first here last new : Direct) (is_const : Bool) (start : ℕ) (argument : Argument) → AwaitsParameters s w is_const start argument
     → StandsAt s w.at (118 ∷ [])
     → Writes w first (codes "(") → here.text ≡ first.text → here.candidates ≡ first.candidates → here.at ≡ first.at + 1
     → Writes here last (codes ")") → Cuts last new start → IsEncodingEnded s new is_const
-void-ended s w first here last new is_const start p stands one text candidates at two cuts =
+void-ended s w first here last new is_const start argument p stands one text candidates at two cuts =
     let f = p.is_function in
     let b = p.name in
     let q = const_text is_const in
     let e = p.make (list_of (builtin (118 ∷ []) ∷ [])) in
     let made = function f.own (qualifiers is_const) any_value absent nil in
     let is : e ≡ made = made-void is_const f.own p.make f.makes in
-    let behind : EncodedBehind s p.lead e (w.at + 1) = void-read s (λ u there then_. EncodedBehind s p.lead u there) p.make w.at p.state p.goes stands in
+    let behind : EncodedBehind s p.lead e (w.at + 1) =
+    void-read s argument (λ u there then_. EncodedBehind s p.lead u there) p.make w.at p.state p.goes stands in
     let written : last.text.list.items ≡ p.aside ++ p.lead ++ b ++ codes "()" =
     two.text ∙ ap (λ l. l.list.items ++ codes ")") text ∙ ap (λ l. l ++ codes ")") one.text ∙ append_assoc w.text.list.items (codes "(") (codes ")")
     ∙ ap (λ l. l ++ codes "()") p.written in
@@ -354,17 +391,17 @@ void-ended s w first here last new is_const start p stands one text candidates a
     }
 
 -- a function with its parameters is an encoding, unless they are a lone void
-pub function-ended : (s : List ℕ) (w last new : Direct) (is_const : Bool) (start : ℕ) (p : IsParameterEnded s w is_const start)
+pub function-ended : (s : List ℕ) (w last new : Direct) (is_const : Bool) (start : ℕ) (argument : Argument) (p : IsParameterEnded s w is_const start argument)
     → p.texts ≢ codes "void" → Writes w last (codes ")") → Cuts last new start → IsEncodingEnded s new is_const
 unfolding no_items may_be_empty
-function-ended s w last new is_const start p apart one cuts =
+function-ended s w last new is_const start argument p apart one cuts =
     let f = p.is_function in
     let e = p.make (list_of p.ts) in
     let b = p.name in
     let l = p.texts in
     let q = const_text is_const in
     let made = function f.own (qualifiers is_const) any_value absent (list_of p.ts) in
-    let is : e ≡ made = made-with is_const f.own p.make f.makes p.ts p.some (parameters-kept p.ts l f.elements apart) in
+    let is : e ≡ made = made-with is_const f.own p.make f.makes p.ts p.some (parameters-kept (types_of f.own) 6 p.ts l f.elements apart) in
     let behind : EncodedBehind s p.lead e w.at = subst (λ u. EncodedBehind s p.lead (p.make u) w.at) (list-ends p.ts)
     (p.goes.onward nothing_there w.at p.state (expects-empty s Kind.Items p.goes.around p.goes.inner w.at p.state p.goes.awaits refl)) in
     let left_over : new.text.list.items ≡ p.lead ++ b ++ codes "(" ++ l ++ codes ")" =

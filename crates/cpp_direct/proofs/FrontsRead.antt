@@ -8,18 +8,22 @@ use Rattle.cpp_grammar.specs.Between.{no_items}
 use Rattle.cpp_grammar.specs.Meaning.{parameters, encoding_of}
 use Rattle.cpp_grammar.specs.Values.{Value}
 use Rattle.cpp_direct.specs.declared.open.Open.TheVariants as opens
+use Rattle.cpp_direct.specs.declared.open.Argument.{Argument}
+use Rattle.cpp_grammar.specs.Parts.{types_of}
+use Rattle.cpp_grammar.specs.Scope.{arguments_of}
 use Rattle.cpp_direct.specs.declared.open.Step.TheVariants as steps
 use Rattle.cpp_direct.specs.declared.direct.Direct.{Direct}
 use Rattle.cpp_direct.specs.Bytes.{is_local}
 use Rattle.cpp_direct.specs.Holes.{Expects}
-use Rattle.cpp_direct.specs.Prints.{Prints, PrintsName, Shows}
-use Rattle.cpp_direct.specs.Stands.{AreCandidates, EncodedBehind, IsWriting, IsInstance, ParametersGoOn, Stands, qualifiers, plain_encoding}
+use Rattle.cpp_direct.specs.Prints.{Prints, PrintsName, PrintsIn, Shows}
+use Rattle.cpp_direct.specs.Stands.{AreCandidates, EncodedBehind, IsArgument, IsScoped, IsWriting, IsInstance, ParametersGoOn, Stands, qualifiers, plain_encoding}
 use Rattle.cpp_direct.specs.Ways.{IsNameEnded, IsFrontRead, AwaitsParameters}
 use Rattle.cpp_direct.specs.Written.{Writes}
 use Rattle.cpp_direct.proofs.Ending.{none-go_on, parameter-goes_on}
 use Rattle.cpp_direct.proofs.Kept.{candidates-written, reverse-last}
 use Rattle.cpp_direct.proofs.MovesOfLists.{element-awaits}
-use Rattle.cpp_direct.proofs.PrintedLists.{none-print}
+use Rattle.cpp_direct.proofs.PrintedLists.{none-print-in}
+use Rattle.cpp_direct.proofs.Scopes.{argument-stays, front-scoped}
 use Rattle.cpp_direct.proofs.PrintedSymbols.{encoding-returned, front-shows}
 
 no-text : (l : List ℕ) (from : ℕ) → from ≡ length l → from ≡ 0 → l ≡ []
@@ -29,28 +33,34 @@ no-text (b ∷ bs) from is none = absurd (omega (arith, is, none))
 -- the return type of a function is expected behind its name
 pub front-begins : (s : List ℕ) (w new : Direct) (is_const : Bool) (from start : ℕ) → IsNameEnded s w is_const true from → from ≡ 0 → is_local s ≡ false
     → start ≡ length w.text.list.items → new.text ≡ w.text → new.candidates ≡ w.candidates → new.at ≡ w.at
-    → new.waiting.list.items ≡ w.waiting.list.items ++ opens.Front is_const start ∷ [] → IsWriting s new steps.Type
+    → new.waiting.list.items ≡ w.waiting.list.items ++ opens.Front is_const start w.argument ∷ [] → IsWriting s new steps.Type
 front-begins s w new is_const from start p none apart start_is text candidates at waiting =
     let lead_is : p.lead ≡ [] = no-text p.lead from p.from_is none in
     let named : w.text.list.items ≡ p.name = p.written ∙ ap (λ l. l ++ p.name) lead_is in
-    let instance_ : IsInstance is_const p.v w.text.list.items = record {
+    let instance_ : IsInstance w.argument is_const p.v w.text.list.items = record {
       own = p.own;
       tree_is = p.tree_is;
       qualifiers_are = p.qualifiers_are;
       mark_is = p.mark_is;
       prints = subst (λ l. PrintsName p.own l) (sym named) p.prints;
       returns = p.returns refl;
+      names = p.names refl;
     } in
-    let goes : ParametersGoOn s [] (λ l. encoding_of p.v l) [] w.at p.state =
-    subst (λ l. ParametersGoOn s l (λ i. encoding_of p.v i) [] w.at p.state) lead_is (none-go_on s p.lead p.v w.at p.state p.awaits) in
+    let goes : ParametersGoOn s w.argument [] (λ l. encoding_of p.v l) [] w.at p.state =
+    subst (λ l. ParametersGoOn s w.argument l (λ i. encoding_of p.v i) [] w.at p.state) lead_is
+    (none-go_on s w.argument p.lead p.v w.at p.state p.awaits (λ o. record {
+      own = (p.names refl o).own;
+      scope_is = p.awaits.scope_is ∙ ap arguments_of p.tree_is ∙ (p.names refl o).alone;
+      no_pack = (p.names refl o).prints.no_pack;
+    })) in
     let element = element-awaits s Kind.Items goes.inner goes.around w.at p.state tt goes.awaits in
-    let stands : Stands s (opens.Front is_const start ∷ reverse w.waiting.list.items) element.inner w.text.list.items = (
+    let stands : Stands s (opens.Front is_const start w.argument ∷ reverse w.waiting.list.items) element.inner w.text.list.items = (
       p.v,
       instance_,
       apart,
       start_is,
-      λ t here now comes. parameter-goes_on s (λ e there then_. EncodedBehind s [] e there) (λ l. encoding_of p.v l) [] w.at p.state goes t here now
-          (element.onward t here now comes),
+      λ t here now comes. parameter-goes_on s w.argument (λ e there then_. EncodedBehind s [] e there) (λ l. encoding_of p.v l) [] w.at p.state goes
+          t here now (element.onward t here now comes),
     ) in
     record {
       state = p.state;
@@ -63,15 +73,17 @@ front-begins s w new is_const from start p none apart start_is text candidates a
         inr (inl (subst (λ n. Expects s Kind.Item goes.around element.inner n p.state) (sym at) element.awaits)),
         subst (λ v. Stands s (reverse new.waiting.list.items) element.inner v.list.items) (sym text)
             (subst (λ ws. Stands s ws element.inner w.text.list.items)
-            (sym (ap reverse waiting ∙ reverse-last w.waiting.list.items (opens.Front is_const start))) stands),
+            (sym (ap reverse waiting ∙ reverse-last w.waiting.list.items (opens.Front is_const start w.argument))) stands),
+        subst (λ ws. IsScoped goes.around ws) (sym (ap reverse waiting ∙ reverse-last w.waiting.list.items (opens.Front is_const start w.argument)))
+            (front-scoped goes.around is_const start w.argument (reverse w.waiting.list.items) goes.scoped),
       );
     }
 
 -- a function's return type stands in front of what it shows without one
-turned : (s : List ℕ) (is_const : Bool) (v : Value) (name : List ℕ) (is : IsInstance is_const v name) (r : Term) (b : List ℕ) (is_reference : Bool)
-    → Prints r b is_reference → (items : Term) (at : ℕ) → is_local s ≡ false → EncodedBehind s [] (encoding_of v (list r items)) at
+turned : (s : List ℕ) (argument : Argument) (is_const : Bool) (v : Value) (name : List ℕ) (is : IsInstance argument is_const v name) (r : Term) (b : List ℕ)
+    (is_reference : Bool) → PrintsIn (types_of is.own) 2 r b is_reference → (items : Term) (at : ℕ) → is_local s ≡ false → EncodedBehind s [] (encoding_of v (list r items)) at
     → EncodedBehind s (b ++ codes " ") (plain_encoding is_const is.own items) at
-turned s is_const v name is r b is_reference prints items at apart p = record {
+turned s argument is_const v name is r b is_reference prints items at apart p = record {
   whole = λ e. let w = p.whole e in record {
     made = w.made;
     encoded = w.encoded;
@@ -84,16 +96,17 @@ turned s is_const v name is r b is_reference prints items at apart p = record {
 }
 
 -- the return type is read, and behind it the name is written once more
-pub front-turned : (s : List ℕ) (w here first last : Direct) (is_const : Bool) (start : ℕ) → IsFrontRead s w is_const start
+pub front-turned : (s : List ℕ) (w here first last : Direct) (is_const : Bool) (start : ℕ) (argument : Argument) → IsFrontRead s w is_const start argument
     → here.text ≡ w.text → here.candidates ≡ w.candidates → here.at ≡ w.at → Writes here first (codes " ")
-    → Writes first last (take (start - 0) (drop 0 first.text.list.items)) → AwaitsParameters s last is_const start
-front-turned s w here first last is_const start p text candidates at one two =
+    → Writes first last (take (start - 0) (drop 0 first.text.list.items)) → AwaitsParameters s last is_const start argument
+front-turned s w here first last is_const start argument p text candidates at one two =
     let is = p.is_instance in
     let lead = p.bytes ++ codes " " in
     let front : first.text.list.items ≡ p.name ++ lead =
     one.text ∙ ap (λ v. v.list.items ++ codes " ") text ∙ ap (λ l. l ++ codes " ") p.written ∙ append_assoc p.name p.bytes (codes " ") in
     let again : take (start - 0) (drop 0 first.text.list.items) ≡ p.name =
     ap (λ n. take n first.text.list.items) (omega (arith, p.start_is)) ∙ ap (λ l. take (length p.name) l) front ∙ take-append_seam p.name lead in
+    let written : last.text.list.items ≡ p.name ++ lead ++ p.name = two.text ∙ ap (λ l. first.text.list.items ++ l) again ∙ ap (λ l. l ++ p.name) front in
     let known : AreCandidates here.text.list.items here.candidates.list.items p.state.candidates =
     subst (λ v. AreCandidates v.list.items here.candidates.list.items p.state.candidates) (sym text)
     (subst (λ v. AreCandidates w.text.list.items v.list.items p.state.candidates) (sym candidates) p.candidates) in
@@ -105,15 +118,23 @@ front-turned s w here first last is_const start p text candidates at one two =
       aside = p.name;
       lead = lead;
       name = p.name;
-      is_function = record { own = is.own; makes = λ t rest. refl; prints = is.prints; elements = none-print 0 };
+      is_function = record {
+        own = is.own;
+        makes = λ t rest. refl;
+        prints = is.prints;
+        elements = none-print-in (types_of is.own) 6;
+        names = λ o. subst (λ l. IsArgument l argument is.own) (sym written)
+            (argument-stays (p.name ++ lead) p.name argument is.own (argument-stays p.name lead argument is.own (is.names o)));
+      };
       start_is = p.start_is;
-      written = two.text ∙ ap (λ l. first.text.list.items ++ l) again ∙ ap (λ l. l ++ p.name) front;
+      written = written;
       goes = record {
         around = p.goes.around;
         inner = p.goes.inner;
         outside = p.goes.outside;
+        scoped = p.goes.scoped;
         awaits = subst (λ n. Expects s Kind.Items p.goes.around p.goes.inner n p.state) (sym (two.at ∙ one.at ∙ at)) p.goes.awaits;
-        onward = λ l there then_ comes. turned s is_const p.v p.name is p.returned p.bytes p.is_reference p.prints (no_items l) there p.apart
+        onward = λ l there then_ comes. turned s argument is_const p.v p.name is p.returned p.bytes p.is_reference p.prints (no_items l) there p.apart
             (p.goes.onward l there then_ comes);
       };
     }

@@ -4,14 +4,16 @@ use Rattle.cpp_grammar.specs.declared.kind.Kind.{Kind}
 use Rattle.cpp_grammar.specs.Values.{State, Around, outermost}
 use Rattle.cpp_direct.specs.declared.open.Open.{Open}
 use Rattle.cpp_direct.specs.declared.open.Open.TheVariants as opens
+use Rattle.cpp_direct.specs.declared.open.Argument.{Argument}
 use Rattle.cpp_direct.specs.declared.open.Step.TheVariants as steps
 use Rattle.cpp_direct.specs.declared.direct.Direct.{Direct}
 use Rattle.cpp_direct.specs.Holes.{Opened, StandsAt, Expects}
 use Rattle.cpp_direct.specs.HolesOfFunctions.{FunctionOpened}
 use Rattle.cpp_direct.specs.HolesOfTypes.{NoReference, IsQualifiable}
-use Rattle.cpp_direct.specs.Stands.{AreCandidates, TakesFunction, Stands, IsWriting}
+use Rattle.cpp_direct.specs.Stands.{IsScoped, AreCandidates, TakesFunction, Stands, IsWriting}
 use Rattle.cpp_direct.proofs.Kept.{reverse-last}
 use Rattle.cpp_direct.proofs.Listed.{last-found}
+use Rattle.cpp_direct.proofs.Scopes.{none-scoped}
 use Rattle.cpp_direct.proofs.MovesOfFunctions.{function-opens, pointed-function-opens}
 
 -- ## What waits
@@ -20,24 +22,27 @@ use Rattle.cpp_direct.proofs.MovesOfFunctions.{function-opens, pointed-function-
 pub takes-function : (o : Open) (rest : List Open) → ((x : ℕ) → o ≡ opens.Pointer x → ⊥) → ((x : ℕ) → o ≡ opens.Lvalue x → ⊥)
     → ((x : ℕ) → o ≡ opens.Rvalue x → ⊥) → ((x : ℕ) → o ≡ opens.Const x → ⊥) → (o ≡ opens.Enumerator → ⊥)
     → ((x : Bool) → o ≡ opens.Returned x → ⊥) → ((x : Bool) → o ≡ opens.Signature x → ⊥)
-    → ((x : Bool) (y : ℕ) → o ≡ opens.Front x y → ⊥) → ((x : ℕ) → o ≡ opens.Lambda x → ⊥) → TakesFunction (o ∷ rest)
-takes-function (opens.Pointer x) rest p l r c n f g k m = absurd (p x refl)
-takes-function (opens.Lvalue x) rest p l r c n f g k m = absurd (l x refl)
-takes-function (opens.Rvalue x) rest p l r c n f g k m = absurd (r x refl)
-takes-function (opens.Const x) rest p l r c n f g k m = absurd (c x refl)
-takes-function opens.Special rest p l r c n f g k m = tt
-takes-function (opens.Lambda x) rest p l r c n f g k m = absurd (m x refl)
-takes-function (opens.Enclosing x y) rest p l r c n f g k m = tt
-takes-function opens.Enumerator rest p l r c n f g k m = absurd (n refl)
-takes-function (opens.Returned x) rest p l r c n f g k m = absurd (f x refl)
-takes-function (opens.Signature x) rest p l r c n f g k m = absurd (g x refl)
-takes-function (opens.TypeArguments x) rest p l r c n f g k m = tt
-takes-function (opens.NestArguments x) rest p l r c n f g k m = tt
-takes-function (opens.FirstArguments x) rest p l r c n f g k m = tt
-takes-function (opens.NameArguments x) rest p l r c n f g k m = tt
-takes-function (opens.Parameters x y) rest p l r c n f g k m = tt
-takes-function (opens.Front x y) rest p l r c n f g k m = absurd (k x y refl)
-takes-function opens.Pack rest p l r c n f g k m = tt
+    → ((x : Bool) (y : ℕ) (z : Argument) → o ≡ opens.Front x y z → ⊥) → ((x : ℕ) → o ≡ opens.Argument x → ⊥)
+    → ((x : ℕ) → o ≡ opens.Lambda x → ⊥) → ((x : ℕ) → o ≡ opens.Element x → ⊥) → TakesFunction (o ∷ rest)
+takes-function (opens.Pointer x) rest p l r c n f g k a m e = absurd (p x refl)
+takes-function (opens.Lvalue x) rest p l r c n f g k a m e = absurd (l x refl)
+takes-function (opens.Rvalue x) rest p l r c n f g k a m e = absurd (r x refl)
+takes-function (opens.Const x) rest p l r c n f g k a m e = absurd (c x refl)
+takes-function opens.Special rest p l r c n f g k a m e = tt
+takes-function (opens.Lambda x) rest p l r c n f g k a m e = absurd (m x refl)
+takes-function (opens.Enclosing x y) rest p l r c n f g k a m e = tt
+takes-function opens.Enumerator rest p l r c n f g k a m e = absurd (n refl)
+takes-function (opens.Returned x) rest p l r c n f g k a m e = absurd (f x refl)
+takes-function (opens.Signature x) rest p l r c n f g k a m e = absurd (g x refl)
+takes-function (opens.TypeArguments x) rest p l r c n f g k a m e = tt
+takes-function (opens.NestArguments x) rest p l r c n f g k a m e = tt
+takes-function (opens.FirstArguments x) rest p l r c n f g k a m e = tt
+takes-function (opens.NameArguments x) rest p l r c n f g k a m e = tt
+takes-function (opens.Parameters x y w) rest p l r c n f g k a m e = tt
+takes-function (opens.Front x y w) rest p l r c n f g k a m e = absurd (k x y w refl)
+takes-function (opens.Argument x) rest p l r c n f g k a m e = absurd (a x refl)
+takes-function (opens.Element x) rest p l r c n f g k a m e = absurd (e x refl)
+takes-function opens.Pack rest p l r c n f g k a m e = tt
 
 -- ## The return type
 
@@ -80,6 +85,8 @@ function-begins s old new is_pointer o p letters found takes waits at text candi
                 (sym (ap reverse waits ∙ reverse-last old.waiting.list.items (opens.Returned is_pointer)))
                 (subst (λ v. Stands s (opens.Returned is_pointer ∷ reverse old.waiting.list.items) f.inner v.list.items) (sym text)
                 (os, around.encoding, f.onward, subst (λ l. TakesFunction l) (sym last.1) (takes last.0), p.is_before.4)),
+            subst (λ l. IsScoped around l) (sym (ap reverse waits ∙ reverse-last old.waiting.list.items (opens.Returned is_pointer)))
+                (none-scoped around (opens.Returned is_pointer ∷ reverse old.waiting.list.items) refl),
           );
         }
 

@@ -1,19 +1,24 @@
 -- A type was read, and is handed to what waits for it.
-use Rattle.std.proofs.Common.{◌≡◌, ℕ, ◌-◌, length, List, [], ◌∷◌, ◌++◌, reverse, slice_get, Bool, false, Some, refl, ap, sym, ◌∙◌, subst, codes, append_assoc}
+use Rattle.std.proofs.Common.{◌≡◌, ℕ, ◌-◌, length, List, [], ◌∷◌, ◌++◌, reverse, slice_get, Bool, true, false, Some, refl, ap, sym, ◌∙◌, subst, codes, append_assoc}
 use Rattle.std.proofs.lemmas.Bool.{false≢true}
 use Rattle.cpp_grammar.specs.Term.{Term, special}
+use Rattle.cpp_grammar.specs.Parts.{types_of}
+use Rattle.cpp_grammar.specs.Values.{State, tree}
 use Rattle.cpp_direct.specs.declared.open.Open.{Open}
 use Rattle.cpp_direct.specs.declared.open.Open.TheVariants as opens
+use Rattle.cpp_direct.specs.declared.open.Argument.{Argument}
 use Rattle.cpp_direct.specs.declared.open.Step.TheVariants as steps
 use Rattle.cpp_direct.specs.declared.direct.Direct.{Direct}
-use Rattle.cpp_direct.specs.Holes.{Opened}
-use Rattle.cpp_direct.specs.Prints.{Prints, Shows}
-use Rattle.cpp_direct.specs.Stands.{IsTemplate, IsWriting, Marks, AwaitsEnumerator, Belongs, Listing, of_template, of_pack, Stands, opening_text, extra_of, led_by, in_front_of_next}
+use Rattle.cpp_direct.specs.Holes.{Opened, Comes}
+use Rattle.cpp_direct.specs.Prints.{Prints, PrintsIn, IsElementIn, Shows}
+use Rattle.cpp_direct.specs.Stands.{AreCandidates, IsArgument, IsTemplate, IsWriting, Marks, AwaitsEnumerator, Belongs, Listing, of_template, of_pack, Stands, opening_text, extra_of, led_by, in_front_of_next}
 use Rattle.cpp_direct.specs.Ways.{AwaitsMark, AwaitsNumber, AwaitsSignature, IsElementRead, IsFrontRead, IsParameterEnded, IsReturned, IsSymbolEnded}
 use Rattle.cpp_direct.proofs.Listed.{TakesElements, last-found, list-waits, listing-at, some-elements}
-use Rattle.cpp_direct.proofs.PrintedLists.{next-prints, type-element}
+use Rattle.cpp_direct.proofs.PrintedLists.{element-in, next-prints, next-prints-in, type-element}
+use Rattle.cpp_direct.proofs.PrintedTypes.{prints-in}
 use Rattle.cpp_direct.proofs.PrintedSymbols.{special-shows}
 use Rattle.cpp_direct.proofs.Kept.{template-stays}
+use Rattle.cpp_direct.proofs.Scopes.{argument-stays}
 
 -- it is marked
 pub value-marked : (s : List ℕ) (w : Direct) (is_reference marked_reference : Bool) (entry : Open) (from : ℕ) (made : Term → Term) (mark : List ℕ)
@@ -71,10 +76,12 @@ value-element s w is_reference o p found =
     }
 
 -- a parameter was read
-pub parameter-read : (s : List ℕ) (w : Direct) (is_const : Bool) (start : ℕ) → IsElementRead s w (opens.Parameters is_const start)
-    → IsParameterEnded s w is_const start
-parameter-read s w is_const start p =
-    let waits = p.stands in
+pub parameter-got : (s : List ℕ) (w : Direct) (is_const : Bool) (start : ℕ) (argument : Argument) (st : State) (rest : List Open) (os : List Opened) (t : Term)
+    (front bytes : List ℕ) (waits : Stands s (opens.Parameters is_const start argument ∷ rest) os front)
+    → AreCandidates w.text.list.items w.candidates.list.items st.candidates → reverse w.waiting.list.items ≡ opens.Parameters is_const start argument ∷ rest
+    → w.text.list.items ≡ front ++ bytes → Comes s os (tree t true) w.at st → IsElementIn (types_of waits.6.own) 6 t bytes
+    → IsParameterEnded s w is_const start argument
+parameter-got s w is_const start argument st opened_ os t front bytes waits candidates open_is written comes element =
     let aside = waits.0 in
     let lead = waits.1 in
     let ts = waits.3 in
@@ -82,27 +89,35 @@ parameter-read s w is_const start p =
     let texts = waits.5 in
     let is_function = waits.6 in
     record {
-      state = p.state;
-      candidates = p.candidates;
-      rest = p.rest;
-      open_is = p.open_is;
+      state = st;
+      candidates = candidates;
+      rest = opened_;
+      open_is = open_is;
       make = waits.2;
-      ts = ts ++ p.own ∷ [];
-      some = some-elements ts p.own;
+      ts = ts ++ t ∷ [];
+      some = some-elements ts t;
       aside = aside;
       lead = lead;
       name = name;
-      texts = in_front_of_next ts texts ++ p.bytes;
+      texts = in_front_of_next ts texts ++ bytes;
       is_function = record {
         own = is_function.own;
         makes = is_function.makes;
         prints = is_function.prints;
-        elements = next-prints 0 ts texts p.own p.bytes is_function.elements (p.element 0);
+        elements = next-prints-in (types_of is_function.own) 6 ts texts t bytes is_function.elements element;
+        names = λ o. subst (λ l. IsArgument l argument is_function.own) (sym written)
+            (argument-stays front bytes argument is_function.own (is_function.names o));
       };
       start_is = waits.7;
-      written = p.written ∙ ap (λ l. l ++ p.bytes) waits.8 ∙ append_assoc (aside ++ lead ++ name ++ codes "(") (in_front_of_next ts texts) p.bytes;
-      goes = waits.9 p.own w.at p.state p.comes;
+      written = written ∙ ap (λ l. l ++ bytes) waits.8 ∙ append_assoc (aside ++ lead ++ name ++ codes "(") (in_front_of_next ts texts) bytes;
+      goes = waits.9 t w.at st comes;
     }
+
+pub parameter-read : (s : List ℕ) (w : Direct) (is_const : Bool) (start : ℕ) (argument : Argument) → IsElementRead s w (opens.Parameters is_const start argument)
+    → IsParameterEnded s w is_const start argument
+parameter-read s w is_const start argument p =
+    parameter-got s w is_const start argument p.state p.rest p.os p.own p.front p.bytes p.stands p.candidates p.open_is p.written p.comes
+    (element-in (types_of p.stands.6.own) 6 p.own p.bytes (p.element 6))
 
 -- what a special object is of was read
 pub special-read : (s : List ℕ) (w : Direct) → IsElementRead s w opens.Special → IsSymbolEnded s w
@@ -169,28 +184,31 @@ value-enumerator s w is_reference p found =
 
 -- what is none of those that wait for something else
 pub takes-elements : (o : Open) → ((x : ℕ) → o ≡ opens.Pointer x → ⊥) → ((x : ℕ) → o ≡ opens.Lvalue x → ⊥)
-    → ((x : ℕ) → o ≡ opens.Rvalue x → ⊥) → ((x : ℕ) → o ≡ opens.Const x → ⊥) → ((x : Bool) (y : ℕ) → o ≡ opens.Parameters x y → ⊥)
-    → ((x : Bool) (y : ℕ) → o ≡ opens.Front x y → ⊥)
+    → ((x : ℕ) → o ≡ opens.Rvalue x → ⊥) → ((x : ℕ) → o ≡ opens.Const x → ⊥) → ((x : Bool) (y : ℕ) (z : Argument) → o ≡ opens.Parameters x y z → ⊥)
+    → ((x : Bool) (y : ℕ) (z : Argument) → o ≡ opens.Front x y z → ⊥)
     → ((x : Bool) → o ≡ opens.Returned x → ⊥) → ((x : Bool) → o ≡ opens.Signature x → ⊥)
     → (o ≡ opens.Special → ⊥) → (o ≡ opens.Enumerator → ⊥) → ((x : Bool) (y : ℕ) → o ≡ opens.Enclosing x y → ⊥)
-    → ((x : ℕ) → o ≡ opens.Lambda x → ⊥) → TakesElements o
-takes-elements (opens.Pointer x) p l r c f k u g z n m q = absurd (p x refl)
-takes-elements (opens.Lvalue x) p l r c f k u g z n m q = absurd (l x refl)
-takes-elements (opens.Rvalue x) p l r c f k u g z n m q = absurd (r x refl)
-takes-elements (opens.Const x) p l r c f k u g z n m q = absurd (c x refl)
-takes-elements (opens.Parameters x y) p l r c f k u g z n m q = absurd (f x y refl)
-takes-elements (opens.Front x y) p l r c f k u g z n m q = absurd (k x y refl)
-takes-elements (opens.Returned x) p l r c f k u g z n m q = absurd (u x refl)
-takes-elements (opens.Signature x) p l r c f k u g z n m q = absurd (g x refl)
-takes-elements (opens.Enclosing x y) p l r c f k u g z n m q = absurd (m x y refl)
-takes-elements (opens.Lambda x) p l r c f k u g z n m q = absurd (q x refl)
-takes-elements opens.Special p l r c f k u g z n m q = absurd (z refl)
-takes-elements opens.Enumerator p l r c f k u g z n m q = absurd (n refl)
-takes-elements opens.Pack p l r c f k u g z n m q = tt
-takes-elements (opens.TypeArguments x) p l r c f k u g z n m q = tt
-takes-elements (opens.NestArguments x) p l r c f k u g z n m q = tt
-takes-elements (opens.FirstArguments x) p l r c f k u g z n m q = tt
-takes-elements (opens.NameArguments x) p l r c f k u g z n m q = tt
+    → ((x : ℕ) → o ≡ opens.Argument x → ⊥) → ((x : ℕ) → o ≡ opens.Lambda x → ⊥) → ((x : ℕ) → o ≡ opens.Element x → ⊥)
+    → TakesElements o
+takes-elements (opens.Pointer x) p l r c f k u g z n m a q e = absurd (p x refl)
+takes-elements (opens.Lvalue x) p l r c f k u g z n m a q e = absurd (l x refl)
+takes-elements (opens.Rvalue x) p l r c f k u g z n m a q e = absurd (r x refl)
+takes-elements (opens.Const x) p l r c f k u g z n m a q e = absurd (c x refl)
+takes-elements (opens.Parameters x y w) p l r c f k u g z n m a q e = absurd (f x y w refl)
+takes-elements (opens.Front x y w) p l r c f k u g z n m a q e = absurd (k x y w refl)
+takes-elements (opens.Argument x) p l r c f k u g z n m a q e = absurd (a x refl)
+takes-elements (opens.Returned x) p l r c f k u g z n m a q e = absurd (u x refl)
+takes-elements (opens.Signature x) p l r c f k u g z n m a q e = absurd (g x refl)
+takes-elements (opens.Enclosing x y) p l r c f k u g z n m a q e = absurd (m x y refl)
+takes-elements (opens.Lambda x) p l r c f k u g z n m a q e = absurd (q x refl)
+takes-elements (opens.Element x) p l r c f k u g z n m a q e = absurd (e x refl)
+takes-elements opens.Special p l r c f k u g z n m a q e = absurd (z refl)
+takes-elements opens.Enumerator p l r c f k u g z n m a q e = absurd (n refl)
+takes-elements opens.Pack p l r c f k u g z n m a q e = tt
+takes-elements (opens.TypeArguments x) p l r c f k u g z n m a q e = tt
+takes-elements (opens.NestArguments x) p l r c f k u g z n m a q e = tt
+takes-elements (opens.FirstArguments x) p l r c f k u g z n m a q e = tt
+takes-elements (opens.NameArguments x) p l r c f k u g z n m a q e = tt
 
 -- an element was read
 pub argument-read : (s : List ℕ) (w : Direct) (o : Open) → IsElementRead s w o → TakesElements o → IsWriting s w (steps.List false)
@@ -220,29 +238,35 @@ argument-read s w o p takes =
 -- ## Return types
 
 -- it is the return type of a function
-pub value-front : (s : List ℕ) (w : Direct) (is_reference is_const : Bool) (start : ℕ) → IsWriting s w (steps.Value is_reference)
-    → slice_get w.waiting.list.items (length w.waiting.list.items - 1) ≡ Some (opens.Front is_const start) → IsFrontRead s w is_const start
-value-front s w is_reference is_const start p found =
+pub front-got : (s : List ℕ) (w : Direct) (is_reference is_const : Bool) (start : ℕ) (argument : Argument) (st : State) (rest : List Open) (os : List Opened)
+    (t : Term) (front bytes : List ℕ) (waits : Stands s (opens.Front is_const start argument ∷ rest) os front)
+    → AreCandidates w.text.list.items w.candidates.list.items st.candidates → w.text.list.items ≡ front ++ bytes → Comes s os (tree t true) w.at st
+    → PrintsIn (types_of waits.1.own) 2 t bytes is_reference → IsFrontRead s w is_const start argument
+front-got s w is_reference is_const start argument st rest os t front bytes waits candidates written comes prints = record {
+  state = st;
+  candidates = candidates;
+  v = waits.0;
+  name = front;
+  is_instance = waits.1;
+  apart = waits.2;
+  start_is = waits.3;
+  returned = t;
+  bytes = bytes;
+  is_reference = is_reference;
+  prints = prints;
+  written = written;
+  goes = waits.4 t w.at st comes;
+}
+
+pub value-front : (s : List ℕ) (w : Direct) (is_reference is_const : Bool) (start : ℕ) (argument : Argument) → IsWriting s w (steps.Value is_reference)
+    → slice_get w.waiting.list.items (length w.waiting.list.items - 1) ≡ Some (opens.Front is_const start argument) → IsFrontRead s w is_const start argument
+value-front s w is_reference is_const start argument p found =
     let os = p.is_before.0 in
-    let t = p.is_before.1 in
     let front = p.is_before.2 in
-    let last = last-found w.waiting.list.items (opens.Front is_const start) found in
-    let waits : Stands s (opens.Front is_const start ∷ last.0) os front = subst (λ ws. Stands s ws os front) last.1 p.is_before.7 in
-    record {
-      state = p.state;
-      candidates = p.candidates;
-      v = waits.0;
-      name = front;
-      is_instance = waits.1;
-      apart = waits.2;
-      start_is = waits.3;
-      returned = t;
-      bytes = p.is_before.3;
-      is_reference = is_reference;
-      prints = p.is_before.5;
-      written = p.is_before.4;
-      goes = waits.4 t w.at p.state p.is_before.6;
-    }
+    let last = last-found w.waiting.list.items (opens.Front is_const start argument) found in
+    let waits : Stands s (opens.Front is_const start argument ∷ last.0) os front = subst (λ ws. Stands s ws os front) last.1 p.is_before.7 in
+    front-got s w is_reference is_const start argument p.state last.0 os p.is_before.1 front p.is_before.3 waits p.candidates p.is_before.4 p.is_before.6
+    (prints-in (types_of waits.1.own) 2 p.is_before.1 p.is_before.3 is_reference p.is_before.5)
 
 -- ## Function types
 

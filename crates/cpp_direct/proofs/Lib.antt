@@ -1,8 +1,11 @@
+pub mod Arguments
 pub mod Begins
+pub mod DependentsRead
 pub mod Elements
 mod EnclosingFunctions
 pub mod Ending
 pub mod Entities
+pub mod ExpansionsRead
 pub mod FoundTokens
 pub mod FrontsRead
 pub mod FunctionsRead
@@ -14,6 +17,7 @@ pub mod Literals
 pub mod Moves
 pub mod MovesOfComponents
 pub mod MovesOfEncodings
+pub mod MovesOfExpansions
 pub mod MovesOfFunctions
 pub mod MovesOfLists
 pub mod MovesOfLocals
@@ -24,6 +28,8 @@ pub mod NamePlaces
 pub mod NestComponents
 pub mod Nesting
 pub mod Operators
+pub mod PacksRead
+pub mod PrintedExpansions
 pub mod PrintedFunctions
 pub mod PrintedLetters
 pub mod PrintedLists
@@ -35,7 +41,8 @@ pub mod PrintedSymbols
 pub mod PrintedTypes
 pub mod PrintedValues
 mod PrintedWithin
+pub mod Scopes
 pub mod ShortNumbers
-mod Signatures
+pub mod Signatures
 pub mod TypesRead
 pub mod UnscopedNames

@@ -1,5 +1,5 @@
 -- A writer at the end of arguments or a pack, and between two elements.
-use Rattle.std.proofs.Common.{◌≡◌, ◌≢◌, inl, inr, ℕ, ◌+◌, ◌-◌, length, List, [], ◌∷◌, ◌++◌, reverse, slice_get, get_or, Bool, true, false, Some, refl, ap, sym, ◌∙◌, subst, arith, codes, append_assoc, append-nil}
+use Rattle.std.proofs.Common.{◌≡◌, ◌≢◌, inl, inr, ℕ, ◌+◌, ◌-◌, length, List, [], ◌∷◌, ◌++◌, reverse, slice_get, get_or, ◌≤◌, Bool, true, false, Some, None, refl, ap, sym, ◌∙◌, subst, arith, codes, append_assoc, append-nil}
 use Rattle.std.proofs.lemmas.Bool.{false≢true}
 use Rattle.std.proofs.lemmas.List.{length-append, reverse-reverse}
 use Rattle.std.proofs.lemmas.Option.{slice_get_within, get_or_from_slice_get}
@@ -17,8 +17,8 @@ use Rattle.cpp_direct.specs.declared.open.Step.TheVariants as steps
 use Rattle.cpp_direct.specs.declared.direct.Direct.{Direct}
 use Rattle.cpp_direct.specs.Holes.{Opened, Comes, Expects, IsListKind, ListGoesOn, StandsAt, AwaitsComponent, with_candidate}
 use Rattle.cpp_direct.specs.HolesOfLists.{IsArgumentKind}
-use Rattle.cpp_direct.specs.Prints.{PrintAll, list_of}
-use Rattle.cpp_direct.specs.Stands.{AreCandidates, IsListing, IsNest, IsTail, IsTemplate, IsWriting, Owns, Serves, ArgumentsGoOn, AwaitsElementOf, AwaitsEnumerator, Belongs, Closes, ElementsGoOn, EnumeratorGoesOn, GoesOn, Listing, of_template, of_pack, Stands, element_kind, extra_of, led_by, list_with, in_front_of_next}
+use Rattle.cpp_direct.specs.Prints.{Prints, PrintAll, list_of}
+use Rattle.cpp_direct.specs.Stands.{IsArgument, argument_of, AreCandidates, IsListing, IsNest, IsTail, IsTemplate, IsWriting, Owns, Serves, ArgumentsGoOn, AwaitsElementOf, AwaitsEnumerator, Belongs, Closes, ElementsGoOn, EnumeratorGoesOn, GoesOn, Listing, of_template, of_pack, Stands, element_kind, extra_of, led_by, list_with, in_front_of_next, nowhere, packed}
 use Rattle.cpp_direct.specs.Ways.{IsListEnded, AwaitsNextArgument, IsNameEnded}
 use Rattle.cpp_direct.specs.Written.{Writes, added}
 use Rattle.cpp_direct.proofs.Moves.{expects-empty, stands-split}
@@ -26,6 +26,7 @@ use Rattle.cpp_direct.proofs.MovesOfLists.{element-awaits, pack-opens}
 use Rattle.cpp_direct.proofs.PrintedLists.{list-with-none, next-prints, none-print, pack-element}
 use Rattle.cpp_direct.proofs.PrintedNames.{as-name}
 use Rattle.cpp_direct.proofs.PrintedNests.{instance-prints, instance-class}
+use Rattle.cpp_direct.proofs.Scopes.{none-scoped}
 use Rattle.cpp_direct.proofs.Kept.{candidates-stay, candidates-with, template-stays, reverse-last, last-reversed}
 
 -- ## What is open
@@ -66,7 +67,7 @@ pub some-elements : (ts : List Term) (t : Term) → ts ++ t ∷ [] ≢ []
 some-elements [] t e = cc e
 some-elements (u ∷ ts) t e = cc e
 
-list-kind : (l : Listing) → IsListKind (element_kind l)
+pub list-kind : (l : Listing) → IsListKind (element_kind l)
 list-kind of_template = tt
 list-kind (of_pack before written) = tt
 
@@ -132,6 +133,9 @@ pub record IsClosed (s : List ℕ) (w : Direct) (owner : Open) : Type 0 where
   pub elements : PrintAll 3 ts arguments
   pub written : w.text.list.items ≡ front ++ (name ++ codes "<" ++ arguments ++ codes ">")
   pub owns : Owns s owner (Stands s (reverse w.waiting.list.items)) front (instance template (list_with ts tail)) w.at state
+  pub alone : w.argument.from ≤ w.argument.to → (t : Term) × (list_with ts tail ≡ list (packed w.argument.is_pack t) nil)
+      × Prints t arguments w.argument.is_reference
+      × (w.argument.from ≡ length (front ++ name ++ codes "<")) × (w.argument.to ≡ length (front ++ name ++ codes "<") + length arguments)
 
 closing : (a b d : List ℕ) → (a ++ b ++ codes "<" ++ d) ++ codes ">" ≡ a ++ (b ++ codes "<" ++ d ++ codes ">")
 closing a b d =
@@ -139,7 +143,7 @@ closing a b d =
     ∙ append_assoc a (b ++ codes "<" ++ d) (codes ">")
 
 -- the last bracket is written, and what was opened last is taken away
-pub closes : (s : List ℕ) (old new : Direct) (owner : Open) → IsListEnded s old → new.text.list.items ≡ old.text.list.items ++ codes ">"
+pub closes : (s : List ℕ) (old new : Direct) (owner : Open) → IsListEnded s old new.argument → new.text.list.items ≡ old.text.list.items ++ codes ">"
     → new.candidates.list.items ≡ old.candidates.list.items → new.at ≡ old.at → old.waiting.list.items ≡ new.waiting.list.items ++ owner ∷ [] → IsClosed s new owner
 closes s old new owner p text candidates at opened =
     let last = opened-last old.waiting.list.items new.waiting.list.items owner p.owner p.rest p.open_is opened in
@@ -164,16 +168,37 @@ closes s old new owner p text candidates at opened =
       owns = subst (λ n. Owns s owner (Stands s (reverse new.waiting.list.items)) p.front made n p.state) (sym at)
           (subst (λ r. Owns s owner (Stands s r) p.front made old.at p.state) last.1
           (subst (λ o. Owns s o (Stands s p.rest) p.front made old.at p.state) last.0 p.owns));
+      alone = p.alone;
     }
 
 -- the same by what was written and taken away
-pub closed-by : (s : List ℕ) (old mid new : Direct) (x owner : Open) → IsListEnded s old → Writes old mid (codes ">")
+pub closed-by : (s : List ℕ) (old mid new : Direct) (x owner : Open) → IsListEnded s old new.argument → Writes old mid (codes ">")
     → new.text ≡ mid.text → new.candidates ≡ mid.candidates → new.at ≡ mid.at → mid.waiting.list.items ≡ new.waiting.list.items ++ x ∷ [] → x ≡ owner
     → IsClosed s new owner
 closed-by s old mid new x owner p writes text candidates at items is =
     closes s old new owner p (subst (λ v. v.list.items ≡ old.text.list.items ++ codes ">") (sym text) writes.text)
     (subst (λ v. v.list.items ≡ old.candidates.list.items) (sym (candidates ∙ writes.candidates)) refl) (at ∙ writes.at)
     (subst (λ v. v.list.items ≡ new.waiting.list.items ++ owner ∷ []) writes.waiting (items ∙ ap (λ o. new.waiting.list.items ++ o ∷ []) is))
+
+-- where they are one alone, it is the argument of what they make
+closed-argument : (s : List ℕ) (w : Direct) (owner : Open) (p : IsClosed s w owner) → w.argument.from ≤ w.argument.to
+    → IsArgument w.text.list.items w.argument (instance p.template (list_with p.ts p.tail))
+unfolding arguments_of
+closed-argument s w owner p ordered =
+    let alone = p.alone ordered in
+    record {
+      bytes = p.arguments;
+      placed = record {
+        front = p.front ++ p.name ++ codes "<";
+        back = codes ">";
+        written = p.written ∙ sym (closing p.front p.name p.arguments);
+        from_is = alone.3;
+        to_is = alone.4;
+      };
+      own = alone.0;
+      alone = ap (λ l. Some l) alone.1;
+      prints = alone.2;
+    }
 
 -- the arguments of a type
 pub type-closed : (s : List ℕ) (w new : Direct) (from : ℕ) → IsClosed s w (opens.TypeArguments from)
@@ -250,7 +275,8 @@ nest-closed s w nest p =
           serves = p.owns.3;
         },
         (λ h. structor-returns p.template (list_with p.ts p.tail) (p.is_template.1 h)),
-        λ h. instance-returns p.template (list_with p.ts p.tail) (p.is_template.2 h),
+        (λ h. instance-returns p.template (list_with p.ts p.tail) (p.is_template.2 h)),
+        λ h. closed-argument s w (opens.NestArguments nest) p,
       );
     }
 
@@ -306,6 +332,7 @@ name-closed s w from p =
       prints = as-name t bytes false (instance-prints p.template p.name p.is_template.1 p.ts p.tail p.arguments p.is_tail p.elements);
       no_return = λ h. absurd (false≢true (sym h));
       returns = λ h. instance-returns p.template (list_with p.ts p.tail) p.is_template.2;
+      names = λ h. closed-argument s w (opens.NameArguments from) p;
       awaits = p.owns;
     }
 
@@ -314,7 +341,7 @@ name-closed s w from p =
 -- an E ends the arguments
 pub list-ends : (s : List ℕ) (w : Direct) (first : Bool) (owner : Open) → IsWriting s w (steps.List first) → StandsAt s w.at (69 ∷ [])
     → slice_get w.waiting.list.items (length w.waiting.list.items - 1) ≡ Some owner → (owner ≡ opens.Pack → ⊥)
-    → IsListEnded s (record w { at = w.at + 1 })
+    → IsListEnded s (record w { at = w.at + 1 }) nowhere
 unfolding no_items may_be_empty
 list-ends s w first owner p stands found other = go p.is_before.0.listing refl
   where
@@ -324,7 +351,7 @@ list-ends s w first owner p stands found other = go p.is_before.0.listing refl
     last : (rest : List Open) × (reverse w.waiting.list.items ≡ owner ∷ rest)
     last = last-found w.waiting.list.items owner found
 
-    go : (l : Listing) → p.is_before.0.listing ≡ l → IsListEnded s (record w { at = w.at + 1 })
+    go : (l : Listing) → p.is_before.0.listing ≡ l → IsListEnded s (record w { at = w.at + 1 }) nowhere
     go (of_pack before written) is = absurd (packed (subst (λ l. Belongs l (reverse w.waiting.list.items) p.is_before.0.owner p.is_before.0.rest) is p.is_before.0.belongs).0)
       where
         packed : reverse w.waiting.list.items ≡ opens.Pack ∷ p.is_before.0.owner ∷ p.is_before.0.rest → ⊥
@@ -350,6 +377,7 @@ list-ends s w first owner p stands found other = go p.is_before.0.listing refl
           is_template = place.is_template;
           elements = subst (λ l. PrintAll (extra_of l) ts texts) is p.is_before.3;
           written = subst (λ l. w.text.list.items ≡ led_by l place.front place.name ++ texts) is p.is_before.4;
+          alone = λ o. absurd (omega (arith, o));
           owns = goes.4 nothing_there w.at p.state (expects-empty s Kind.ArgumentList goes.0 goes.1 w.at p.state goes.3 refl) stands;
         }
 
@@ -357,14 +385,14 @@ list-ends s w first owner p stands found other = go p.is_before.0.listing refl
 pub empty-pack-ends : (s : List ℕ) (w : Direct) (first : Bool) (owner : Open) → IsWriting s w (steps.List first)
     → StandsAt s w.at (74 ∷ 69 ∷ 69 ∷ [])
     → slice_get w.waiting.list.items (length w.waiting.list.items - 1) ≡ Some owner → (owner ≡ opens.Pack → ⊥)
-    → IsListEnded s (record w { at = w.at + 3 })
+    → IsListEnded s (record w { at = w.at + 3 }) nowhere
 unfolding no_items may_be_empty tree_of
 empty-pack-ends s w first owner p stands found other = go p.is_before.0.listing refl
   where
     last : (rest : List Open) × (reverse w.waiting.list.items ≡ owner ∷ rest)
     last = last-found w.waiting.list.items owner found
 
-    go : (l : Listing) → p.is_before.0.listing ≡ l → IsListEnded s (record w { at = w.at + 3 })
+    go : (l : Listing) → p.is_before.0.listing ≡ l → IsListEnded s (record w { at = w.at + 3 }) nowhere
     go (of_pack before written) is =
         absurd (other (cc (sym last.1
         ∙ (subst (λ l. Belongs l (reverse w.waiting.list.items) p.is_before.0.owner p.is_before.0.rest) is p.is_before.0.belongs).0)))
@@ -396,6 +424,7 @@ empty-pack-ends s w first owner p stands found other = go p.is_before.0.listing 
           is_template = place.is_template;
           elements = subst (λ l. PrintAll (extra_of l) ts texts) is p.is_before.3;
           written = subst (λ l. w.text.list.items ≡ led_by l place.front place.name ++ texts) is p.is_before.4;
+          alone = λ o. absurd (omega (arith, o));
           owns = subst (λ k. Owns s place.owner (Stands s place.rest) place.front (instance place.template (list_with ts (list (pack nil) nil))) k p.state)
               (omega arith)
               (subst (λ l. Owns s place.owner (Stands s place.rest) place.front (instance place.template l) (w.at + 1 + 1 + 1) p.state)
@@ -595,6 +624,22 @@ argument-stands s (opens.FirstArguments nest) rest os text takes p = p
 argument-stands s (opens.NameArguments from) rest os text takes p = p
 argument-stands s _ rest os text takes p = absurd takes
 
+-- in arguments and packs no parameter of a template is named
+takes-none : (o : Open) (rest : List Open) → TakesArguments o → argument_of (o ∷ rest) ≡ None
+takes-none (opens.TypeArguments from) rest takes = refl
+takes-none (opens.NestArguments nest) rest takes = refl
+takes-none (opens.FirstArguments nest) rest takes = refl
+takes-none (opens.NameArguments from) rest takes = refl
+takes-none _ rest takes = absurd takes
+
+list-none : (opened : List Open) (text : List ℕ) (p : IsListing opened text) → argument_of opened ≡ None
+list-none opened text p = go p.listing refl
+  where
+    go : (l : Listing) → p.listing ≡ l → argument_of opened ≡ None
+    go of_template is = ap argument_of (subst (λ l. Belongs l opened p.owner p.rest) is p.belongs)
+        ∙ takes-none p.owner p.rest (template-takes p.owner p.front p.template p.name text p.is_template)
+    go (of_pack before written) is = ap argument_of (subst (λ l. Belongs l opened p.owner p.rest) is p.belongs).0
+
 -- it stands open so
 list-stands : (s : List ℕ) (opened : List Open) (os : List Opened) (text : List ℕ) → ListWaits s opened os text → Stands s opened os text
 list-stands s opened os text w = go w.place.listing refl
@@ -705,6 +750,7 @@ type-expected s w a =
               element-goes-on s kind (λ l there later. Closes s p.listing p.owner (Stands s p.rest) p.front p.template l there later)
               a.ts t w.at here a.state now a.goes (element.onward t here now comes);
         }),
+        none-scoped a.goes.0 (reverse w.waiting.list.items) (list-none (reverse w.waiting.list.items) w.text.list.items p),
       );
     }
 

@@ -25,7 +25,7 @@ use Rattle.sym_direct.specs.Holes as direct
 use Rattle.sym_direct.proofs.Moves as moves
 use Rattle.cpp_direct.specs.HolesOfLocals.{discriminator_value, IsDiscriminatorAt, IsLambdaDigit, IsPieceAt, LocalOpened, LocalTypeOpened, GuardOpened, lambda_digits, lambda_ending, lambda_with}
 use Rattle.cpp_direct.specs.Bytes.{short_numbers}
-use Rattle.cpp_direct.specs.Stands.{ItemsGoOn}
+use Rattle.cpp_direct.specs.Stands.{ItemsGoOn, nowhere}
 use Rattle.cpp_direct.proofs.ShortNumbers.{lambda-begins}
 use Rattle.cpp_direct.specs.HolesOfTypes.{IsNamedKind}
 use Rattle.cpp_direct.proofs.Moves.{stands-split, comes-moved, kind-at, reads-rule, joins, none-left, opens, opens-where, opens-chain, needs-next, ends, expects-empty, expects-byte, expects-name, expects-number}
@@ -291,7 +291,7 @@ pub record LambdaOpened (s : List ℕ) (os : List Opened) (e : Term) (at : ℕ) 
   pub outside : around.prefix ≡ outermost
   pub inner : List Opened
   pub awaits : Expects s Kind.Item around inner at st
-  pub onward : (t : Term) (at : ℕ) (st : State) → Comes s inner (tree t true) at st → ItemsGoOn s (LambdaEnds s os e) (λ l. l) (t ∷ []) at st
+  pub onward : (t : Term) (at : ℕ) (st : State) → Comes s inner (tree t true) at st → ItemsGoOn s nowhere (LambdaEnds s os e) (λ l. l) (t ∷ []) at st
 
 -- a lambda begins in a symbol without long numbers
 pub lambda-opens : (s : List ℕ) (os : List Opened) (around : Around) (e : Term) (at : ℕ) (st : State) → short_numbers 0 s ≡ true
@@ -324,6 +324,7 @@ lambda-opens s os around e at st short expects stands =
         around = c;
         inner = opened lambda_rule (tree t true ∷ []) rest ∷ above;
         outside = refl;
+        scoped = λ o. absurd (omega (arith, o));
         awaits = needs-next s q (108 ∷ []) (at + 1) here st (tree t true ∷ []) items rest above there now c (tree t true ∷ []) now refl comes;
         onward = λ l to then_ last number end is ending ends_.
             let two = tree t true ∷ l ∷ [] in

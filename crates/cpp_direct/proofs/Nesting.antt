@@ -24,7 +24,7 @@ use Rattle.cpp_direct.specs.declared.direct.Direct.{Direct}
 use Rattle.cpp_direct.specs.Holes.{Opened, Comes, StandsAt, IsNameAt, IsSeqAt, SamePasses, NestGoesOn, AwaitsComponent, with_candidate, unless_listed}
 use Rattle.cpp_direct.specs.HolesOfNests.{IsRest}
 use Rattle.cpp_direct.specs.Prints.{Prints, NamesClass}
-use Rattle.cpp_direct.specs.Stands.{AreCandidates, IsNest, IsNesting, IsTemplate, ArgumentsGoOn, Serves, Stands, IsWriting, qualifiers}
+use Rattle.cpp_direct.specs.Stands.{IsArgument, AreCandidates, IsNest, IsNesting, IsTemplate, ArgumentsGoOn, Serves, Stands, IsWriting, qualifiers}
 use Rattle.cpp_direct.specs.Ways.{AwaitsNest, IsNestNamed, IsNameEnded, IsOperatorRead}
 use Rattle.cpp_direct.specs.Written.{Reads, added, added_unless}
 use Rattle.cpp_direct.proofs.Kept.{arguments-begun, candidates-stay, candidates-with, candidates-unless, candidate-found, piece-found, nest-stays, reverse-last}
@@ -99,6 +99,7 @@ named-goes-on s w n = record {
       serves = n.serves;
     },
     (λ e. n.no_return),
+    (λ e. absurd (false≢true (sym n.no_instance ∙ e))),
     (λ e. absurd (false≢true (sym n.no_instance ∙ e))),
   );
 }
@@ -234,10 +235,11 @@ type-ended s old new st t candidates n here is_type keeps =
 pub name-comes : (s : List ℕ) (old : Direct) (st : State) (t : Term) (is_const : Bool)
     → AreCandidates old.text.list.items old.candidates.list.items st.candidates → IsNesting s Kind.NestTail old t st
     → (old.nest.is_instance ≡ false → has_return_type t ≡ false) → (old.nest.is_instance ≡ true → has_return_type t ≡ true)
+    → (old.nest.is_instance ≡ true → old.argument.from ≤ old.argument.to → IsArgument old.text.list.items old.argument t)
     → StandsAt s old.at (69 ∷ [])
     → old.nest.purpose ≡ purposes.Name is_const → IsNameEnded s (record old { at = old.at + 1 }) is_const old.nest.is_instance old.nest.from
 unfolding tree_of qualifiers_of ref_of
-name-comes s old st t is_const candidates n no_return returns here is_name =
+name-comes s old st t is_const candidates n no_return returns names here is_name =
     let serves = subst (λ p. Serves s p (Stands s (reverse old.waiting.list.items)) n.outer n.front) is_name n.serves in
     record {
       state = st;
@@ -254,6 +256,7 @@ name-comes s old st t is_const candidates n no_return returns here is_name =
       prints = as-name t n.bytes false n.is_nest.prints;
       no_return = no_return;
       returns = returns;
+      names = names;
       awaits = serves t old.nest.is_listed (old.at + 1) st (nest-comes s old st t n here);
     }
 

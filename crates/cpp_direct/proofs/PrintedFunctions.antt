@@ -3,14 +3,14 @@ use Rattle.std.proofs.Common.{◌≡◌, ◌≢◌, refl, ap, sym, ◌∙◌, �
 use Rattle.sym_print.specs.Unshared.{text_of, cost_of}
 use Rattle.cpp_grammar.specs.Term.{Term, any_value, pointer, function_type, builtin, nil}
 use Rattle.cpp_grammar.specs.Scope.{is_open, pack_length, first_of}
-use Rattle.cpp_grammar.specs.Items.{left, right, first, Context, head, head_with, is_funarr, is_empty}
+use Rattle.cpp_grammar.specs.Items.{closed, left, right, first, Context, head, head_with, is_funarr, is_empty}
 use Rattle.cpp_grammar.specs.Meaning.{is_void, is_nil, parameters}
 use Rattle.cpp_grammar.specs.Parts.{as_item, says, text_part, list_part, left_parts, right_parts, function_right, marked_parts, closing_right, ref_text, parts_in, not_empty}
 use Rattle.cpp_direct.specs.Prints.{in_form, Prints, IsElement, PrintAll, list_of}
 use Rattle.cpp_direct.specs.HolesOfFunctions.{plain_function, pointed}
 use Rattle.cpp_direct.specs.Stands.{list_with, opening_text}
 use Rattle.cpp_direct.proofs.PrintedParts.{printed_by, text_by, cost_by, text_append, cost_append}
-use Rattle.cpp_direct.proofs.PrintedLists.{list-with-none, list-text, list-cost, list-closed, list-packless, none-print}
+use Rattle.cpp_direct.proofs.PrintedLists.{all-in, list-with-none, list-text, list-cost, list-closed, list-packless, none-print}
 use Rattle.cpp_direct.proofs.PrintedSymbols.{parameters-kept}
 
 -- ## What a function type prints at the left and at the right
@@ -134,7 +134,7 @@ pub function-element : (extra : ℕ) (is_pointer : Bool) (r : Term) (b : List �
     → IsElement extra (pointed is_pointer (plain_function r (list_with ts nil))) (b ++ opening_text is_pointer ++ l ++ codes ")")
 function-element extra is_pointer r b is_reference ts l p all apart =
     subst (λ items. IsElement extra (pointed is_pointer (plain r items)) (b ++ opening_text is_pointer ++ l ++ codes ")"))
-    (sym (ap parameters (list-with-none ts) ∙ parameters-kept ts l all apart))
+    (sym (ap parameters (list-with-none ts) ∙ parameters-kept closed 0 ts l (all-in closed 0 ts l all) apart))
     (plain-element extra is_pointer r b is_reference ts l p all)
 
 -- With a lone void it prints no parameters.

@@ -6,7 +6,7 @@ use Rattle.cpp_grammar.specs.Scope.{is_open, pack_length, first_of}
 use Rattle.cpp_grammar.specs.Items.{left, right, first, more, Context, is_empty}
 use Rattle.cpp_grammar.specs.Meaning.{is_void}
 use Rattle.cpp_grammar.specs.Parts.{as_item, says, list_part, first_parts, more_parts, left_parts, right_parts, parts_in, not_empty}
-use Rattle.cpp_direct.specs.Prints.{in_form, Prints, IsElement, list_of, joined, PrintEach, PrintAll}
+use Rattle.cpp_direct.specs.Prints.{in_form, Prints, IsElement, list_of, joined, IsElementIn, PrintEachBy, PrintAllBy, PrintEach, PrintAll, PrintEachIn, PrintAllIn}
 use Rattle.cpp_direct.specs.Stands.{IsTail, list_with, in_front_of_next}
 use Rattle.cpp_direct.proofs.PrintedParts.{printed_by, text_by, cost_by}
 
@@ -74,21 +74,25 @@ ends-list tail (inr is) = let l = list (pack nil) nil in subst (EndsList 1) (sym
   packless = λ scope. refl;
 })
 
-more-text : (c : Context) (extra : ℕ) (ts : List Term) (tail : Term) (texts : List (List ℕ)) (most : ℕ) → EndsList most tail → PrintEach extra ts texts
+-- an element anywhere is one in a context
+pub element-in : (c : Context) (extra : ℕ) (t : Term) (b : List ℕ) → IsElement extra t b → IsElementIn c extra t b
+element-in c extra t b p = record { both_texts = p.both_texts c; cost = p.cost c; filled = p.filled c; void = p.void }
+
+more-text : (c : Context) (extra : ℕ) (ts : List Term) (tail : Term) (texts : List (List ℕ)) (most : ℕ) → EndsList most tail → PrintEachIn c extra ts texts
     → text_of (printed_by (list_part more c (list_with ts tail))) ≡ further texts
 unfolding list_part parts_in not_empty
 more-text c extra [] tail [] most ends each = ends.more_text c
 more-text c extra (t ∷ ts) tail (b ∷ bs) most ends each =
     append-nil (text_of (in_form more c (list t (list_with ts tail))))
     ∙ text_by more c (list t (list_with ts tail)) (says ", " ∷ as_item left c t ∷ as_item right c t ∷ list_part more c (list_with ts tail))
-    (more-is c t (list_with ts tail) (each.0.filled c))
+    (more-is c t (list_with ts tail) (each.0.filled))
     ∙ ap (λ s. codes ", " ++ s) (element-text (text_of (in_form left c t)) (text_of (in_form right c t))
     (text_of (printed_by (list_part more c (list_with ts tail)))) b (further bs)
-    (each.0.both_texts c) (more-text c extra ts tail bs most ends each.1))
+    (each.0.both_texts) (more-text c extra ts tail bs most ends each.1))
 more-text c extra [] tail (b ∷ bs) most ends each = elim each [ ]
 more-text c extra (t ∷ ts) tail [] most ends each = elim each [ ]
 
-more-cost : (c : Context) (extra : ℕ) (ts : List Term) (tail : Term) (texts : List (List ℕ)) (most : ℕ) → extra ≤ 3 → EndsList most tail → PrintEach extra ts texts
+more-cost : (c : Context) (extra : ℕ) (ts : List Term) (tail : Term) (texts : List (List ℕ)) (most : ℕ) → extra ≤ 6 → EndsList most tail → PrintEachIn c extra ts texts
     → cost_of (printed_by (list_part more c (list_with ts tail))) ≤ 1 + most + 4 * length (further texts)
 unfolding list_part parts_in not_empty
 more-cost c extra [] tail [] most few ends each = omega (arith, ends.more_cost c)
@@ -97,30 +101,30 @@ more-cost c extra (t ∷ ts) tail (b ∷ bs) most few ends each =
       arith,
       more-cost c extra ts tail bs most few ends each.1,
       few,
-      each.0.cost c,
+      each.0.cost,
       length-append b (further bs),
       length-append (codes ", ") (b ++ further bs),
       cost_by more c (list t (list_with ts tail)) (says ", " ∷ as_item left c t ∷ as_item right c t ∷ list_part more c (list_with ts tail))
-          (more-is c t (list_with ts tail) (each.0.filled c)),
+          (more-is c t (list_with ts tail) (each.0.filled)),
     )
 more-cost c extra [] tail (b ∷ bs) most few ends each = elim each [ ]
 more-cost c extra (t ∷ ts) tail [] most few ends each = elim each [ ]
 
-first-text : (c : Context) (extra : ℕ) (ts : List Term) (tail : Term) (texts : List (List ℕ)) (most : ℕ) → EndsList most tail → PrintEach extra ts texts
+first-text : (c : Context) (extra : ℕ) (ts : List Term) (tail : Term) (texts : List (List ℕ)) (most : ℕ) → EndsList most tail → PrintEachIn c extra ts texts
     → text_of (printed_by (list_part first c (list_with ts tail))) ≡ joined texts
 unfolding list_part parts_in not_empty
 first-text c extra [] tail [] most ends each = ends.first_text c
 first-text c extra (t ∷ ts) tail (b ∷ bs) most ends each =
     append-nil (text_of (in_form first c (list t (list_with ts tail))))
     ∙ text_by first c (list t (list_with ts tail)) (as_item left c t ∷ as_item right c t ∷ list_part more c (list_with ts tail))
-    (first-is c t (list_with ts tail) (each.0.filled c))
+    (first-is c t (list_with ts tail) (each.0.filled))
     ∙ element-text (text_of (in_form left c t)) (text_of (in_form right c t)) (text_of (printed_by (list_part more c (list_with ts tail)))) b (further bs)
-    (each.0.both_texts c) (more-text c extra ts tail bs most ends each.1)
+    (each.0.both_texts) (more-text c extra ts tail bs most ends each.1)
     ∙ sym (joined-further b bs)
 first-text c extra [] tail (b ∷ bs) most ends each = elim each [ ]
 first-text c extra (t ∷ ts) tail [] most ends each = elim each [ ]
 
-first-cost : (c : Context) (extra : ℕ) (ts : List Term) (tail : Term) (texts : List (List ℕ)) (most : ℕ) → extra ≤ 3 → EndsList most tail → PrintEach extra ts texts
+first-cost : (c : Context) (extra : ℕ) (ts : List Term) (tail : Term) (texts : List (List ℕ)) (most : ℕ) → extra ≤ 6 → EndsList most tail → PrintEachIn c extra ts texts
     → cost_of (printed_by (list_part first c (list_with ts tail))) ≤ 1 + most + extra + 4 * length (joined texts)
 unfolding list_part parts_in not_empty
 first-cost c extra [] tail [] most few ends each = omega (arith, ends.first_cost c)
@@ -129,11 +133,11 @@ first-cost c extra (t ∷ ts) tail (b ∷ bs) most few ends each =
       arith,
       more-cost c extra ts tail bs most few ends each.1,
       few,
-      each.0.cost c,
+      each.0.cost,
       ap length (joined-further b bs),
       length-append b (further bs),
       cost_by first c (list t (list_with ts tail)) (as_item left c t ∷ as_item right c t ∷ list_part more c (list_with ts tail))
-          (first-is c t (list_with ts tail) (each.0.filled c)),
+          (first-is c t (list_with ts tail) (each.0.filled)),
     )
 first-cost c extra [] tail (b ∷ bs) most few ends each = elim each [ ]
 first-cost c extra (t ∷ ts) tail [] most few ends each = elim each [ ]
@@ -142,27 +146,48 @@ pub list-with-none : (ts : List Term) → list_with ts nil ≡ list_of ts
 list-with-none [] = refl
 list-with-none (t ∷ ts) = ap (λ r. list t r) (list-with-none ts)
 
+-- What prints anywhere prints in a context.
+each-in : (c : Context) (extra : ℕ) (ts : List Term) (texts : List (List ℕ)) → PrintEach extra ts texts → PrintEachIn c extra ts texts
+each-in c extra [] [] each = tt
+each-in c extra (t ∷ ts) (b ∷ bs) each = (element-in c extra t b each.0, each-in c extra ts bs each.1)
+each-in c extra [] (b ∷ bs) each = elim each [ ]
+each-in c extra (t ∷ ts) [] each = elim each [ ]
+
+pub all-in : (c : Context) (extra : ℕ) (ts : List Term) (l : List ℕ) → PrintAll extra ts l → PrintAllIn c extra ts l
+all-in c extra ts l all = (all.0, each-in c extra ts all.0 all.1, all.2)
+
 -- What a list prints whose last elements may be nothing,
 pub list-text-before : (c : Context) (extra : ℕ) (ts : List Term) (tail : Term) (l : List ℕ) → IsTail tail → PrintAll extra ts l
     → text_of (printed_by (list_part first c (list_with ts tail))) ≡ l
-list-text-before c extra ts tail l is all = first-text c extra ts tail all.0 1 (ends-list tail is) all.1 ∙ all.2
+list-text-before c extra ts tail l is all = first-text c extra ts tail all.0 1 (ends-list tail is) (each-in c extra ts all.0 all.1) ∙ all.2
 
 -- at a cost that its text bounds
-pub list-cost-before : (c : Context) (extra : ℕ) (ts : List Term) (tail : Term) (l : List ℕ) → extra ≤ 3 → IsTail tail → PrintAll extra ts l
+pub list-cost-before : (c : Context) (extra : ℕ) (ts : List Term) (tail : Term) (l : List ℕ) → extra ≤ 6 → IsTail tail → PrintAll extra ts l
     → cost_of (printed_by (list_part first c (list_with ts tail))) ≤ 2 + extra + 4 * length l
-list-cost-before c extra ts tail l few is all = omega (arith, first-cost c extra ts tail all.0 1 few (ends-list tail is) all.1, ap length all.2)
+list-cost-before c extra ts tail l few is all =
+    omega (arith, first-cost c extra ts tail all.0 1 few (ends-list tail is) (each-in c extra ts all.0 all.1), ap length all.2)
+
+-- What a list prints in a context,
+pub list-text-in : (c : Context) (extra : ℕ) (ts : List Term) (l : List ℕ) → PrintAllIn c extra ts l
+    → text_of (printed_by (list_part first c (list_of ts))) ≡ l
+list-text-in c extra ts l all =
+    subst (λ k. text_of (printed_by (list_part first c k)) ≡ l) (list-with-none ts) (first-text c extra ts nil all.0 0 ends-bare all.1 ∙ all.2)
+
+-- at a cost that its text bounds
+pub list-cost-in : (c : Context) (extra : ℕ) (ts : List Term) (l : List ℕ) → extra ≤ 6 → PrintAllIn c extra ts l
+    → cost_of (printed_by (list_part first c (list_of ts))) ≤ 1 + extra + 4 * length l
+list-cost-in c extra ts l few all =
+    subst (λ k. cost_of (printed_by (list_part first c k)) ≤ 1 + extra + 4 * length l) (list-with-none ts)
+    (omega (arith, first-cost c extra ts nil all.0 0 few ends-bare all.1, ap length all.2))
 
 -- What a list prints,
 pub list-text : (c : Context) (extra : ℕ) (ts : List Term) (l : List ℕ) → PrintAll extra ts l → text_of (printed_by (list_part first c (list_of ts))) ≡ l
-list-text c extra ts l all =
-    subst (λ k. text_of (printed_by (list_part first c k)) ≡ l) (list-with-none ts) (list-text-before c extra ts nil l (inl refl) all)
+list-text c extra ts l all = list-text-in c extra ts l (all-in c extra ts l all)
 
 -- at a cost that its text bounds
-pub list-cost : (c : Context) (extra : ℕ) (ts : List Term) (l : List ℕ) → extra ≤ 3 → PrintAll extra ts l
+pub list-cost : (c : Context) (extra : ℕ) (ts : List Term) (l : List ℕ) → extra ≤ 6 → PrintAll extra ts l
     → cost_of (printed_by (list_part first c (list_of ts))) ≤ 1 + extra + 4 * length l
-list-cost c extra ts l few all =
-    subst (λ k. cost_of (printed_by (list_part first c k)) ≤ 1 + extra + 4 * length l) (list-with-none ts)
-    (omega (arith, first-cost c extra ts nil all.0 0 few ends-bare all.1, ap length all.2))
+list-cost c extra ts l few all = list-cost-in c extra ts l few (all-in c extra ts l all)
 
 -- ## What else is known of a list
 
@@ -232,16 +257,19 @@ pack-element (t ∷ ts) l some all = let p = pack (list_of (t ∷ ts)) in record
 pub none-print : (extra : ℕ) → PrintAll extra [] []
 none-print extra = ([], tt, refl)
 
--- One prints itself.
-one-prints : (extra : ℕ) (t : Term) (b : List ℕ) → IsElement extra t b → PrintAll extra (t ∷ []) b
-one-prints extra t b p = (b ∷ [], (p, tt), refl)
+pub none-print-in : (c : Context) (extra : ℕ) → PrintAllIn c extra [] []
+none-print-in c extra = ([], tt, refl)
 
-each-append : (extra : ℕ) (ts : List Term) (texts : List (List ℕ)) (t : Term) (b : List ℕ) → PrintEach extra ts texts → IsElement extra t b
-    → PrintEach extra (ts ++ t ∷ []) (texts ++ b ∷ [])
-each-append extra [] [] t b each p = (p, tt)
-each-append extra (u ∷ ts) (c ∷ bs) t b each p = (each.0, each-append extra ts bs t b each.1 p)
-each-append extra [] (c ∷ bs) t b each p = elim each [ ]
-each-append extra (u ∷ ts) [] t b each p = elim each [ ]
+-- One prints itself.
+one-prints : (by : Term → List ℕ → Type 0) (t : Term) (b : List ℕ) → by t b → PrintAllBy by (t ∷ []) b
+one-prints by t b p = (b ∷ [], (p, tt), refl)
+
+each-append : (by : Term → List ℕ → Type 0) (ts : List Term) (texts : List (List ℕ)) (t : Term) (b : List ℕ) → PrintEachBy by ts texts → by t b
+    → PrintEachBy by (ts ++ t ∷ []) (texts ++ b ∷ [])
+each-append by [] [] t b each p = (p, tt)
+each-append by (u ∷ ts) (c ∷ bs) t b each p = (each.0, each-append by ts bs t b each.1 p)
+each-append by [] (c ∷ bs) t b each p = elim each [ ]
+each-append by (u ∷ ts) [] t b each p = elim each [ ]
 
 joined-append : (c : List ℕ) (texts : List (List ℕ)) (b : List ℕ) → joined ((c ∷ texts) ++ b ∷ []) ≡ joined (c ∷ texts) ++ codes ", " ++ b
 joined-append c [] b = refl
@@ -250,21 +278,30 @@ joined-append c (d ∷ texts) b =
     ∙ sym (append_assoc (c ++ codes ", ") (joined (d ∷ texts)) (codes ", " ++ b))
     ∙ sym (append_assoc (c ++ codes ", " ++ joined (d ∷ texts)) (codes ", ") b)
 
-another-prints : (extra : ℕ) (u : Term) (ts : List Term) (l : List ℕ) (t : Term) (b : List ℕ) → PrintAll extra (u ∷ ts) l → IsElement extra t b
-    → PrintAll extra ((u ∷ ts) ++ t ∷ []) (l ++ codes ", " ++ b)
-another-prints extra u ts l t b all p = go all.0 all.1 all.2
+another-prints : (by : Term → List ℕ → Type 0) (u : Term) (ts : List Term) (l : List ℕ) (t : Term) (b : List ℕ) → PrintAllBy by (u ∷ ts) l → by t b
+    → PrintAllBy by ((u ∷ ts) ++ t ∷ []) (l ++ codes ", " ++ b)
+another-prints by u ts l t b all p = go all.0 all.1 all.2
   where
-    go : (texts : List (List ℕ)) → PrintEach extra (u ∷ ts) texts → joined texts ≡ l → PrintAll extra ((u ∷ ts) ++ t ∷ []) (l ++ codes ", " ++ b)
+    go : (texts : List (List ℕ)) → PrintEachBy by (u ∷ ts) texts → joined texts ≡ l → PrintAllBy by ((u ∷ ts) ++ t ∷ []) (l ++ codes ", " ++ b)
     go [] each is = elim each [ ]
     go (c ∷ texts) each is =
-        ((c ∷ texts) ++ b ∷ [], each-append extra (u ∷ ts) (c ∷ texts) t b each p, joined-append c texts b ∙ ap (λ s. s ++ codes ", " ++ b) is)
+        ((c ∷ texts) ++ b ∷ [], each-append by (u ∷ ts) (c ∷ texts) t b each p, joined-append c texts b ∙ ap (λ s. s ++ codes ", " ++ b) is)
 
--- One more prints behind those before it.
+next-prints-by : (by : Term → List ℕ → Type 0) (ts : List Term) (l : List ℕ) (t : Term) (b : List ℕ) → PrintAllBy by ts l → by t b
+    → PrintAllBy by (ts ++ t ∷ []) (in_front_of_next ts l ++ b)
+next-prints-by by [] l t b all p = go all.0 all.1 all.2
+  where
+    go : (texts : List (List ℕ)) → PrintEachBy by [] texts → joined texts ≡ l → PrintAllBy by (t ∷ []) (l ++ b)
+    go [] each is = subst (λ m. PrintAllBy by (t ∷ []) (m ++ b)) is (one-prints by t b p)
+    go (c ∷ texts) each is = absurd each
+next-prints-by by (u ∷ ts) l t b all p = another-prints by u ts l t b all p
+
+-- One more prints behind those before it,
 pub next-prints : (extra : ℕ) (ts : List Term) (l : List ℕ) (t : Term) (b : List ℕ) → PrintAll extra ts l → IsElement extra t b
     → PrintAll extra (ts ++ t ∷ []) (in_front_of_next ts l ++ b)
-next-prints extra [] l t b all p = go all.0 all.1 all.2
-  where
-    go : (texts : List (List ℕ)) → PrintEach extra [] texts → joined texts ≡ l → PrintAll extra (t ∷ []) (l ++ b)
-    go [] each is = subst (λ m. PrintAll extra (t ∷ []) (m ++ b)) is (one-prints extra t b p)
-    go (c ∷ texts) each is = absurd each
-next-prints extra (u ∷ ts) l t b all p = another-prints extra u ts l t b all p
+next-prints extra ts l t b all p = next-prints-by (IsElement extra) ts l t b all p
+
+-- also in a context.
+pub next-prints-in : (c : Context) (extra : ℕ) (ts : List Term) (l : List ℕ) (t : Term) (b : List ℕ) → PrintAllIn c extra ts l → IsElementIn c extra t b
+    → PrintAllIn c extra (ts ++ t ∷ []) (in_front_of_next ts l ++ b)
+next-prints-in c extra ts l t b all p = next-prints-by (IsElementIn c extra) ts l t b all p

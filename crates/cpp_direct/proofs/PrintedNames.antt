@@ -5,7 +5,7 @@ use Rattle.sym_print.specs.declared.detail.Detail.TheVariants.{Full}
 use Rattle.sym_print.specs.Unfold.{text}
 use Rattle.sym_print.specs.Unshared.{text_of, cost_of}
 use Rattle.cpp_grammar.specs.Term.{Term, alone, in_std, abbreviation, source, operator, builtin}
-use Rattle.cpp_grammar.specs.Scope.{is_open, pack_length}
+use Rattle.cpp_grammar.specs.Scope.{is_open, pack_length, length_if_pack}
 use Rattle.cpp_grammar.specs.References.{is_function_type}
 use Rattle.cpp_grammar.specs.Texts.{look_up, abbreviation_texts, builtin_texts, operator_texts, same_bytes}
 use Rattle.cpp_grammar.specs.Items.{left, right, base, piece, Context, head_with, head, is_reference, is_funarr, is_empty}
@@ -47,7 +47,7 @@ builtin-ends letter e =
 
 -- A source name prints itself.
 pub source-prints : (internal : Bool) (name : List ℕ) → name ≢ [] → Prints (alone (source internal name)) (source_text name) false
-unfolding parts_in left_parts right_parts piece_parts not_empty head head_with is_reference is_funarr is_empty is_open pack_length is_function_type
+unfolding parts_in left_parts right_parts piece_parts not_empty head head_with is_reference is_funarr is_empty is_open pack_length is_function_type length_if_pack
     prefix_item last_piece opening_text is_void is_plain_integer
 source-prints internal name filled = let t = alone (source internal name) in record {
   left_text = λ c. text_by left c t (text (source_text name) ∷ []) refl ∙ text_alone (source_text name);
@@ -65,6 +65,8 @@ source-prints internal name filled = let t = alone (source internal name) in rec
   is_closed = refl;
   packless = λ scope. refl;
   no_function = refl;
+  no_pack = refl;
+  reference_cost = λ e. cc e;
   as_prefix = λ c. refl;
   opening = refl;
   void = λ e. cc e;
@@ -135,7 +137,7 @@ std-cost c internal name =
 
 -- A source name in std prints so.
 pub std-prints : (internal : Bool) (name : List ℕ) → name ≢ [] → Prints (in_std (source internal name)) (codes "std::" ++ source_text name) false
-unfolding parts_in left_parts right_parts not_empty head head_with is_reference is_funarr is_empty is_open pack_length is_function_type prefix_item
+unfolding parts_in left_parts right_parts not_empty head head_with is_reference is_funarr is_empty is_open pack_length is_function_type length_if_pack prefix_item
     last_piece opening_text is_void is_plain_integer
 std-prints internal name filled = let t = in_std (source internal name) in record {
   left_text = λ c. std-left c internal name;
@@ -153,6 +155,8 @@ std-prints internal name filled = let t = in_std (source internal name) in recor
   is_closed = refl;
   packless = λ scope. refl;
   no_function = refl;
+  no_pack = refl;
+  reference_cost = λ e. cc e;
   as_prefix = λ c. refl;
   opening = refl;
   void = λ e. cc e;
@@ -175,7 +179,7 @@ operator-names a b = let t = alone (operator a b) in let x = operator_text a b i
 
 -- It prints so, unless a blank stands between it and arguments.
 pub operator-prints : (a b : ℕ) → is_angle a b ≡ false → Prints (alone (operator a b)) (operator_text a b) false
-unfolding parts_in right_parts not_empty head head_with is_reference is_funarr is_empty is_open pack_length is_function_type
+unfolding parts_in right_parts not_empty head head_with is_reference is_funarr is_empty is_open pack_length is_function_type length_if_pack
     prefix_item last_piece opening_text is_void is_plain_integer
 operator-prints a b plain = let t = alone (operator a b) in let n = operator-names a b in record {
   left_text = n.left_text;
@@ -187,6 +191,8 @@ operator-prints a b plain = let t = alone (operator a b) in let n = operator-nam
   is_closed = refl;
   packless = λ scope. refl;
   no_function = refl;
+  no_pack = refl;
+  reference_cost = λ e. cc e;
   as_prefix = λ c. refl;
   opening = rw plain refl;
   void = λ e. cc e;
@@ -214,7 +220,7 @@ std-operator-names a b =
     }
 
 pub std-operator-prints : (a b : ℕ) → is_angle a b ≡ false → Prints (in_std (operator a b)) (codes "std::" ++ operator_text a b) false
-unfolding parts_in right_parts not_empty head head_with is_reference is_funarr is_empty is_open pack_length is_function_type
+unfolding parts_in right_parts not_empty head head_with is_reference is_funarr is_empty is_open pack_length is_function_type length_if_pack
     prefix_item last_piece opening_text is_void is_plain_integer
 std-operator-prints a b plain = let t = in_std (operator a b) in let n = std-operator-names a b in record {
   left_text = n.left_text;
@@ -226,6 +232,8 @@ std-operator-prints a b plain = let t = in_std (operator a b) in let n = std-ope
   is_closed = refl;
   packless = λ scope. refl;
   no_function = refl;
+  no_pack = refl;
+  reference_cost = λ e. cc e;
   as_prefix = λ c. refl;
   opening = rw plain refl;
   void = λ e. cc e;
@@ -252,7 +260,7 @@ std-class internal name filled = let t = in_std (source internal name) in record
 -- An abbreviation prints its text.
 pub abbreviation-prints : (letter : ℕ) → look_up (letter ∷ []) abbreviation_texts ≢ []
     → Prints (abbreviation letter) (look_up (letter ∷ []) abbreviation_texts) false
-unfolding parts_in left_parts right_parts not_empty head head_with is_reference is_funarr is_empty is_open pack_length is_function_type prefix_item
+unfolding parts_in left_parts right_parts not_empty head head_with is_reference is_funarr is_empty is_open pack_length is_function_type length_if_pack prefix_item
     last_piece opening_text is_void is_plain_integer
 abbreviation-prints letter filled = let t = abbreviation letter in let b = look_up (letter ∷ []) abbreviation_texts in record {
   left_text = λ c. text_by left c t (text b ∷ []) refl ∙ text_alone b;
@@ -264,6 +272,8 @@ abbreviation-prints letter filled = let t = abbreviation letter in let b = look_
   is_closed = refl;
   packless = λ scope. refl;
   no_function = refl;
+  no_pack = refl;
+  reference_cost = λ e. cc e;
   as_prefix = λ c. refl;
   opening = refl;
   void = λ e. cc e;
@@ -277,7 +287,7 @@ void-text letter same = subst (λ l. look_up (l ∷ []) builtin_texts ≡ codes 
 -- A builtin type prints its text.
 pub builtin-prints : (letter : ℕ) → look_up (letter ∷ []) builtin_texts ≢ []
     → Prints (builtin (letter ∷ [])) (look_up (letter ∷ []) builtin_texts) false
-unfolding parts_in left_parts right_parts not_empty head head_with is_reference is_funarr is_empty is_open pack_length is_function_type prefix_item
+unfolding parts_in left_parts right_parts not_empty head head_with is_reference is_funarr is_empty is_open pack_length is_function_type length_if_pack prefix_item
     last_piece opening_text is_void is_plain_integer
 builtin-prints letter filled = let t = builtin (letter ∷ []) in let b = look_up (letter ∷ []) builtin_texts in record {
   left_text = λ c. text_by left c t (text b ∷ []) refl ∙ text_alone b;
@@ -289,6 +299,8 @@ builtin-prints letter filled = let t = builtin (letter ∷ []) in let b = look_u
   is_closed = refl;
   packless = λ scope. refl;
   no_function = refl;
+  no_pack = refl;
+  reference_cost = λ e. cc e;
   as_prefix = λ c. refl;
   opening = refl;
   void = λ e. void-text letter (eqb-true letter 118 e);
@@ -298,7 +310,7 @@ builtin-prints letter filled = let t = builtin (letter ∷ []) in let b = look_u
 -- So does one with a code of two letters.
 pub builtin-with-d-prints : (letter : ℕ) → look_up (68 ∷ letter ∷ []) builtin_texts ≢ []
     → Prints (builtin (68 ∷ letter ∷ [])) (look_up (68 ∷ letter ∷ []) builtin_texts) false
-unfolding parts_in left_parts right_parts not_empty head head_with is_reference is_funarr is_empty is_open pack_length is_function_type prefix_item
+unfolding parts_in left_parts right_parts not_empty head head_with is_reference is_funarr is_empty is_open pack_length is_function_type length_if_pack prefix_item
     last_piece opening_text is_void is_plain_integer
 builtin-with-d-prints letter filled = let t = builtin (68 ∷ letter ∷ []) in let b = look_up (68 ∷ letter ∷ []) builtin_texts in record {
   left_text = λ c. text_by left c t (text b ∷ []) refl ∙ text_alone b;
@@ -310,6 +322,8 @@ builtin-with-d-prints letter filled = let t = builtin (68 ∷ letter ∷ []) in 
   is_closed = refl;
   packless = λ scope. refl;
   no_function = refl;
+  no_pack = refl;
+  reference_cost = λ e. cc e;
   as_prefix = λ c. refl;
   opening = refl;
   void = λ e. cc e;

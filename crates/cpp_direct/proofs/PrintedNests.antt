@@ -3,7 +3,7 @@ use Rattle.std.proofs.Common.{◌≡◌, ◌≢◌, refl, ap, sym, ◌∙◌, �
 use Rattle.sym_print.specs.Unfold.{text}
 use Rattle.sym_print.specs.Unshared.{text_of, cost_of}
 use Rattle.cpp_grammar.specs.Term.{Term, within, instance, source, operator, constructor, destructor}
-use Rattle.cpp_grammar.specs.Scope.{is_open, pack_length, first_of, is_structor}
+use Rattle.cpp_grammar.specs.Scope.{is_open, pack_length, length_if_pack, first_of, is_structor}
 use Rattle.cpp_grammar.specs.References.{is_function_type}
 use Rattle.cpp_grammar.specs.Texts.{look_up, operator_texts}
 use Rattle.cpp_grammar.specs.Items.{left, right, base, piece, first, Context, head_with, head, is_reference, is_funarr, is_empty}
@@ -112,7 +112,7 @@ within-names t b prints p x is = let w = within t p in record {
 -- A piece in a class or a namespace prints both.
 pub within-prints : (t : Term) (b : List ℕ) → Prints t b false → (p : Term) (x : List ℕ) → IsPiece p x → opening_text p ≡ codes "<"
     → Prints (within t p) (b ++ codes "::" ++ x) false
-unfolding parts_in left_parts right_parts not_empty head head_with is_reference is_funarr is_empty is_open pack_length first_of is_function_type
+unfolding parts_in left_parts right_parts not_empty head head_with is_reference is_funarr is_empty is_open pack_length first_of is_function_type length_if_pack
     prefix_item last_piece is_void is_plain_integer
 within-prints t b prints p x is opening = let w = within t p in let n = within-names t b prints p x is in record {
   left_text = n.left_text;
@@ -124,6 +124,8 @@ within-prints t b prints p x is opening = let w = within t p in let n = within-n
   is_closed = rw (prints.is_closed, is.is_closed) refl;
   packless = λ scope. rw (prints.packless scope, is.packless scope) refl;
   no_function = refl;
+  no_pack = refl;
+  reference_cost = λ e. cc e;
   as_prefix = λ c. refl;
   opening = opening;
   void = λ e. cc e;
@@ -155,7 +157,7 @@ within-class t b prints p x is = let w = within t p in record {
 pub constructor-prints : (t : Term) (b class : List ℕ) → Prints t b false → NamesClass t class → (digit : ℕ)
     → Prints (within t (constructor digit)) (b ++ codes "::" ++ class) false
 unfolding parts_in left_parts right_parts within_parts not_empty head head_with is_reference is_funarr is_empty is_open pack_length first_of
-    is_function_type prefix_item last_piece opening_text is_void is_plain_integer
+    is_function_type length_if_pack prefix_item last_piece opening_text is_void is_plain_integer
 constructor-prints t b class p n digit = let w = within t (constructor digit) in record {
   left_text = λ c. text_by left c w (as_item left c t ∷ says "::" ∷ as_item base c t ∷ []) refl
       ∙ joins (text_of (in_form left c t)) (codes "::") (text_of (in_form base c t)) b class (p.left_text c) (n.base_text c);
@@ -175,6 +177,8 @@ constructor-prints t b class p n digit = let w = within t (constructor digit) in
   is_closed = rw p.is_closed refl;
   packless = λ scope. rw (p.packless scope) refl;
   no_function = refl;
+  no_pack = refl;
+  reference_cost = λ e. cc e;
   as_prefix = λ c. refl;
   opening = refl;
   void = λ e. cc e;
@@ -185,7 +189,7 @@ constructor-prints t b class p n digit = let w = within t (constructor digit) in
 pub destructor-prints : (t : Term) (b class : List ℕ) → Prints t b false → NamesClass t class → (digit : ℕ)
     → Prints (within t (destructor digit)) (b ++ codes "::~" ++ class) false
 unfolding parts_in left_parts right_parts within_parts not_empty head head_with is_reference is_funarr is_empty is_open pack_length first_of
-    is_function_type prefix_item last_piece opening_text is_void is_plain_integer
+    is_function_type length_if_pack prefix_item last_piece opening_text is_void is_plain_integer
 destructor-prints t b class p n digit = let w = within t (destructor digit) in record {
   left_text = λ c. text_by left c w (as_item left c t ∷ says "::~" ∷ as_item base c t ∷ []) refl
       ∙ joins (text_of (in_form left c t)) (codes "::~") (text_of (in_form base c t)) b class (p.left_text c) (n.base_text c);
@@ -205,6 +209,8 @@ destructor-prints t b class p n digit = let w = within t (destructor digit) in r
   is_closed = rw p.is_closed refl;
   packless = λ scope. rw (p.packless scope) refl;
   no_function = refl;
+  no_pack = refl;
+  reference_cost = λ e. cc e;
   as_prefix = λ c. refl;
   opening = refl;
   void = λ e. cc e;
@@ -245,7 +251,7 @@ instance-cost t b p ts tail l is all c =
 -- A name with arguments prints them in brackets.
 pub instance-prints : (t : Term) (b : List ℕ) → Prints t b false → (ts : List Term) (tail : Term) (l : List ℕ) → IsTail tail → PrintAll 3 ts l
     → Prints (instance t (list_with ts tail)) (b ++ codes "<" ++ l ++ codes ">") false
-unfolding parts_in right_parts not_empty head head_with is_reference is_funarr is_empty is_open pack_length first_of is_function_type prefix_item
+unfolding parts_in right_parts not_empty head head_with is_reference is_funarr is_empty is_open pack_length first_of is_function_type length_if_pack prefix_item
     last_piece opening_text is_void is_plain_integer
 instance-prints t b p ts tail l is all = let i = instance t (list_with ts tail) in record {
   left_text = instance-text t b p ts tail l is all;
@@ -265,6 +271,8 @@ instance-prints t b p ts tail l is all = let i = instance t (list_with ts tail) 
   is_closed = rw (p.is_closed, list-closed 3 ts tail l is all) refl;
   packless = λ scope. rw (p.packless scope, list-packless scope 3 ts tail l is all) refl;
   no_function = refl;
+  no_pack = refl;
+  reference_cost = λ e. cc e;
   as_prefix = λ c. refl;
   opening = refl;
   void = λ e. cc e;

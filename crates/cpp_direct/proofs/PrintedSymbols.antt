@@ -6,15 +6,15 @@ use Rattle.sym_print.specs.Unshared.{text_of, cost_of}
 use Rattle.cpp_grammar.specs.Term.{Qualifiers, RefQualifier, any_value, non_virtual, by_table, Thunk, adjusting, covariant, Term, symbol, function, object, special, thunk, builtin, nil, list, absent}
 use Rattle.cpp_grammar.specs.Scope.{has_return_type}
 use Rattle.cpp_grammar.specs.Texts.{look_up, special_texts}
-use Rattle.cpp_grammar.specs.Items.{root, full, left, right, first, closed}
+use Rattle.cpp_grammar.specs.Items.{root, full, left, right, first, Context, closed}
 use Rattle.cpp_grammar.specs.Values.{Value, tree_of, qualifiers_of, ref_of}
 use Rattle.cpp_grammar.specs.Meaning.{is_void, is_nil, parameters, encoding_of}
 use Rattle.cpp_grammar.specs.Parts.{as_item, says, text_part, list_part, types_of, qualifier_text, ref_text, encoding_text, function_bare, function_full, thunk_text, full_parts, left_parts, root_parts, parts_in, not_empty}
 use Rattle.cpp_grammar.specs.Answer.{shown, root_item}
-use Rattle.cpp_direct.specs.Prints.{in_form, Prints, PrintsName, IsElement, Shows, list_of, joined, PrintEach, PrintAll}
+use Rattle.cpp_direct.specs.Prints.{in_form, Prints, PrintsName, PrintsIn, IsElement, Shows, list_of, joined, PrintEachIn, PrintAllIn}
 use Rattle.cpp_direct.specs.Stands.{qualifiers, plain_encoding}
 use Rattle.cpp_direct.proofs.PrintedParts.{printed_by, text_by, cost_by, text_first, cost_first, text_append, cost_append, part-text, part-cost, length-filled}
-use Rattle.cpp_direct.proofs.PrintedLists.{list-text, list-cost, none-print}
+use Rattle.cpp_direct.proofs.PrintedLists.{list-text-in, list-cost-in, none-print-in}
 
 -- ## Functions
 
@@ -23,7 +23,7 @@ signed_text x y z b l q e f g =
     rw (e, f, g) (ap (λ s. s ++ (codes ")" ++ q)) (sym (append_assoc b (codes "(") l)) ∙ sym (append_assoc (b ++ codes "(" ++ l) (codes ")") q))
 
 -- A function that has no return type prints its name, its parameters and its qualifiers.
-pub function-shows : (name : Term) (b : List ℕ) → PrintsName name b → (ts : List Term) (l : List ℕ) → PrintAll 0 ts l
+pub function-shows : (name : Term) (b : List ℕ) → PrintsName name b → (ts : List Term) (l : List ℕ) → PrintAllIn (types_of name) 6 ts l
     → (q : Qualifiers) (ref : RefQualifier)
     → Shows (function name q ref absent (list_of ts)) (b ++ codes "(" ++ l ++ codes ")" ++ encoding_text q ref)
 unfolding parts_in full_parts function_full function_bare not_empty
@@ -36,11 +36,11 @@ function-shows name b p ts l all q ref =
       shown_text = text_by full closed f (front ++ behind) refl ∙ text_append front behind
           ∙ signed_text (text_of (in_form left closed name)) (text_of (printed_by (list_part first c (list_of ts))))
           (text_of (printed_by (text_part (encoding_text q ref)))) b l (encoding_text q ref) (p.left_text closed)
-          (list-text c 0 ts l all) (part-text (encoding_text q ref));
+          (list-text-in c 6 ts l all) (part-text (encoding_text q ref));
       shown_cost = omega (
         arith,
         p.cost closed,
-        list-cost c 0 ts l (omega arith) all,
+        list-cost-in c 6 ts l (omega arith) all,
         cost_by full closed f (front ++ behind) refl,
         cost_append front behind,
         part-cost (encoding_text q ref),
@@ -52,11 +52,11 @@ function-shows name b p ts l all q ref =
     }
 
 -- what prints something is there
-not-absent : (t : Term) (b : List ℕ) (r : Bool) → Prints t b r → t ≡ absent → ⊥
+not-absent : (c : Context) (t : Term) (b : List ℕ) (r : Bool) → PrintsIn c 2 t b r → t ≡ absent → ⊥
 unfolding parts_in left_parts not_empty
-not-absent t b r p e =
-    let none : b ≡ [] = sym (p.left_text closed) ∙ ap (λ u. text_of (in_form left closed u)) e ∙ text_by left closed absent [] refl in
-    omega (arith, p.cost closed, ap length none)
+not-absent c t b r p e =
+    let none : b ≡ [] = sym p.left_text ∙ ap (λ u. text_of (in_form left c u)) e ∙ text_by left c absent [] refl in
+    omega (arith, p.cost, ap length none)
 
 returned_parts : (name : Term) (q : Qualifiers) (ref : RefQualifier) (r items : Term) → (r ≡ absent → ⊥)
     → parts_in Full closed full (function name q ref r items)
@@ -70,7 +70,7 @@ fronted_text x y z b l e f g = rw (e, f, g) (append-nil (b ++ codes " " ++ l))
 
 -- A function that has a return type prints it in front of what it prints without.
 pub front-shows : (name : Term) (q : Qualifiers) (ref : RefQualifier) (items : Term) (l : List ℕ) → Shows (function name q ref absent items) l
-    → (r : Term) (b : List ℕ) (is_reference : Bool) → Prints r b is_reference → Shows (function name q ref r items) (b ++ codes " " ++ l)
+    → (r : Term) (b : List ℕ) (is_reference : Bool) → PrintsIn (types_of name) 2 r b is_reference → Shows (function name q ref r items) (b ++ codes " " ++ l)
 unfolding parts_in full_parts function_full not_empty
 front-shows name q ref items l shows r b is_reference p =
     let c = types_of name in
@@ -79,15 +79,15 @@ front-shows name q ref items l shows r b is_reference p =
     let front = as_item left c r ∷ says " " ∷ [] in
     let middle = function_bare true name q ref items in
     let behind = as_item right c r ∷ [] in
-    let is = returned_parts name q ref r items (not-absent r b is_reference p) in
+    let is = returned_parts name q ref r items (not-absent c r b is_reference p) in
     record {
       shown_text = text_by full closed f (front ++ middle ++ behind) is ∙ text_append (front ++ middle) behind
           ∙ ap (λ x. x ++ text_of (printed_by behind)) (text_append front middle)
-          ∙ fronted_text (text_of (in_form left c r)) (text_of (printed_by middle)) (text_of (in_form right c r)) b l (p.left_text c)
-          (sym (text_by full closed plain middle refl) ∙ shows.shown_text) (p.right_text c);
+          ∙ fronted_text (text_of (in_form left c r)) (text_of (printed_by middle)) (text_of (in_form right c r)) b l p.left_text
+          (sym (text_by full closed plain middle refl) ∙ shows.shown_text) p.right_text;
       shown_cost = omega (
         arith,
-        p.cost c,
+        p.cost,
         shows.shown_cost,
         cost_by full closed f (front ++ middle ++ behind) is,
         cost_by full closed plain middle refl,
@@ -177,16 +177,16 @@ parameters-same element rest apart = go (is_void element) (is_nil rest) refl ref
     go false b e f = refl
 
 -- elements that don't print the word void alone are the parameters
-pub parameters-kept : (ts : List Term) (l : List ℕ) → PrintAll 0 ts l → l ≢ codes "void" → parameters (list_of ts) ≡ list_of ts
+pub parameters-kept : (c : Context) (extra : ℕ) (ts : List Term) (l : List ℕ) → PrintAllIn c extra ts l → l ≢ codes "void" → parameters (list_of ts) ≡ list_of ts
 unfolding parameters is_nil
-parameters-kept [] l all apart = refl
-parameters-kept (t ∷ u ∷ ts) l all apart = parameters-same t (list_of (u ∷ ts)) (λ e f. cc f)
-parameters-kept (t ∷ []) l all apart = parameters-same t nil (λ e f. go all.0 all.1 all.2 e)
+parameters-kept c extra [] l all apart = refl
+parameters-kept c extra (t ∷ u ∷ ts) l all apart = parameters-same t (list_of (u ∷ ts)) (λ e f. cc f)
+parameters-kept c extra (t ∷ []) l all apart = parameters-same t nil (λ e f. go all.0 all.1 all.2 e)
   where
-    go : (texts : List (List ℕ)) → PrintEach 0 (t ∷ []) texts → joined texts ≡ l → is_void t ≡ true → ⊥
+    go : (texts : List (List ℕ)) → PrintEachIn c extra (t ∷ []) texts → joined texts ≡ l → is_void t ≡ true → ⊥
     go [] each is e = elim each [ ]
     go (b ∷ []) each is e = apart (sym is ∙ each.0.void e)
-    go (b ∷ c ∷ bs) each is e = elim each.1 [ ]
+    go (b ∷ d ∷ bs) each is e = elim each.1 [ ]
 
 plain-items : (v : Value) → has_return_type (tree_of v) ≡ false → (t rest : Term)
     → encoding_of v (list t rest) ≡ function (tree_of v) (qualifiers_of v) (ref_of v) absent (parameters (list t rest))
@@ -233,7 +233,7 @@ none_bracketed b q = ap (λ s. s ++ codes ")" ++ q) (append-nil (b ++ codes "(")
 pub void-shows : (name : Term) (b : List ℕ) → PrintsName name b → (q : Qualifiers) (ref : RefQualifier)
     → Shows (function name q ref absent nil) (b ++ codes "()" ++ encoding_text q ref)
 void-shows name b p q ref =
-    subst (λ l. Shows (function name q ref absent nil) l) (none_bracketed b (encoding_text q ref)) (function-shows name b p [] [] (none-print 0) q ref)
+    subst (λ l. Shows (function name q ref absent nil) l) (none_bracketed b (encoding_text q ref)) (function-shows name b p [] [] (none-print-in (types_of name) 6) q ref)
 
 -- Without items it shows the name.
 pub object-encoded : (v : Value) (b : List ℕ) → PrintsName (tree_of v) b

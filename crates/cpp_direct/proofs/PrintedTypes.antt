@@ -1,14 +1,15 @@
 -- Types that are made of another type: pointers, references and constant types.
-use Rattle.std.proofs.Common.{◌≡◌, refl, ap, ◌∙◌, ℕ, List, [], ◌∷◌, ◌++◌, Bool, true, false, arith, codes, length-append}
 use Prim.Native.String.{String}
-use Rattle.cpp_grammar.specs.Term.{Qualifiers, Term, function_type, pointer, lvalue, rvalue, qualified}
-use Rattle.cpp_grammar.specs.Scope.{is_open, pack_length}
-use Rattle.cpp_grammar.specs.References.{is_function_type}
-use Rattle.cpp_grammar.specs.Items.{Form, left, right, low, Context, Head, lref, collapsed, head_with, head, is_reference, is_funarr, is_empty}
+use Rattle.cpp_direct.proofs.PrintedParts.{text_by, cost_by}
+use Rattle.cpp_direct.specs.Prints.{Prints, PrintsIn, EndsAsInteger, in_form, PrintsBehind, IsElementIn}
+use Rattle.cpp_grammar.specs.Items.{closed, Form, left, right, low, Context, Head, lref, collapsed, head_with, head, is_reference, is_funarr, is_empty, argument, head_closed}
 use Rattle.cpp_grammar.specs.Meaning.{is_void}
 use Rattle.cpp_grammar.specs.Parts.{as_item, says, text_part, qualifier_text, prefix_item, last_piece, opening_text, marked_parts, reference_parts, qualified_left, qualified_right, closing_right, left_parts, right_parts, parts_in, not_empty, is_plain_integer}
-use Rattle.cpp_direct.specs.Prints.{Prints}
-use Rattle.cpp_direct.proofs.PrintedParts.{text_by, cost_by}
+use Rattle.cpp_grammar.specs.References.{is_function_type}
+use Rattle.cpp_grammar.specs.Scope.{is_open, pack_length, length_if_pack}
+use Rattle.cpp_grammar.specs.Term.{Qualifiers, Term, function_type, pointer, lvalue, rvalue, qualified, parameter}
+use Rattle.std.proofs.Common.{◌≡◌, refl, ap, ◌∙◌, ℕ, ◌+◌, ◌*◌, ◌≤◌, List, [], ◌∷◌, ◌++◌, length, Bool, true, false, None, arith, codes, length-append, sym, subst, append-nil, append_assoc}
+use Rattle.sym_print.specs.Unshared.{text_of, cost_of}
 
 marked : (c : Context) (t : Term) (mark : String) → is_funarr (head c t) ≡ false → marked_parts c t mark ≡ as_item left c t ∷ says mark ∷ []
 unfolding marked_parts
@@ -23,59 +24,111 @@ closing : (c : Context) (t : Term) → is_funarr (head c t) ≡ false → closin
 unfolding closing_right
 closing c t e = rw (e, closing_right) refl
 
--- A pointer prints its type and a star.
-pub pointer-prints : (t : Term) (b : List ℕ) (r : Bool) → Prints t b r → Prints (pointer t) (b ++ codes "*") false
-unfolding parts_in left_parts right_parts not_empty head head_with is_reference is_funarr is_empty is_open pack_length is_function_type prefix_item
-    last_piece opening_text is_void is_plain_integer
-pointer-prints t b r p = record {
-  left_text = λ c. text_by left c (pointer t) (as_item left c t ∷ says "*" ∷ []) (marked c t "*" (p.is_funarr_head c))
-      ∙ ap (λ s. s ++ codes "*") (p.left_text c);
-  right_text = λ c. text_by right c (pointer t) (as_item right c t ∷ []) (closing c t (p.is_funarr_head c)) ∙ ap (λ s. s ++ []) (p.right_text c);
-  cost = λ c. omega (
-    arith,
-    p.cost c,
-    length-append b (codes "*"),
-    cost_by left c (pointer t) (as_item left c t ∷ says "*" ∷ []) (marked c t "*" (p.is_funarr_head c)),
-    cost_by right c (pointer t) (as_item right c t ∷ []) (closing c t (p.is_funarr_head c)),
-  );
-  is_reference_head = λ c. refl;
-  is_funarr_head = λ c. refl;
-  filled = λ c. refl;
-  is_closed = p.is_closed;
-  packless = p.packless;
-  no_function = refl;
-  as_prefix = λ c. refl;
-  opening = refl;
-  void = λ e. cc e;
-  integer = λ e. cc e;
+-- What prints anywhere prints in a context.
+pub prints-in : (c : Context) (extra : ℕ) (t : Term) (b : List ℕ) (r : Bool) → Prints t b r → PrintsIn c extra t b r
+prints-in c extra t b r p = record {
+  left_text = p.left_text c;
+  right_text = p.right_text c;
+  cost = omega (arith, p.cost c);
+  is_reference_head = p.is_reference_head c;
+  is_funarr_head = p.is_funarr_head c;
+  filled = p.filled c;
+  no_function = p.no_function;
+  void = p.void;
 }
 
--- An lvalue reference prints its type, which is no reference, and its mark.
-pub lvalue-prints : (t : Term) (b : List ℕ) → Prints t b false → Prints (lvalue t) (b ++ codes "&") true
-unfolding parts_in left_parts right_parts not_empty head head_with is_reference is_funarr is_empty is_open pack_length is_function_type prefix_item
-    last_piece opening_text is_void is_plain_integer
-lvalue-prints t b p = record {
-  left_text = λ c. text_by left c (lvalue t) (as_item left c t ∷ says "&" ∷ []) (reference c low t "&" (p.is_reference_head c) (p.is_funarr_head c))
-      ∙ ap (λ s. s ++ codes "&") (p.left_text c);
-  right_text = λ c. text_by right c (lvalue t) (as_item right c t ∷ []) (closing c t (p.is_funarr_head c)) ∙ ap (λ s. s ++ []) (p.right_text c);
-  cost = λ c. omega (
-    arith,
-    p.cost c,
-    length-append b (codes "&"),
-    cost_by left c (lvalue t) (as_item left c t ∷ says "&" ∷ []) (reference c low t "&" (p.is_reference_head c) (p.is_funarr_head c)),
-    cost_by right c (lvalue t) (as_item right c t ∷ []) (closing c t (p.is_funarr_head c)),
-  );
-  is_reference_head = λ c. refl;
-  is_funarr_head = λ c. refl;
-  filled = λ c. refl;
-  is_closed = p.is_closed;
-  packless = p.packless;
-  no_function = refl;
-  as_prefix = λ c. refl;
-  opening = refl;
-  void = λ e. cc e;
-  integer = λ e. cc e;
+-- What prints in each context prints anywhere, if it is closed and names no packs.
+made-prints : (t : Term) (b : List ℕ) (r : Bool) → ((c : Context) → PrintsIn c 0 t b r) → is_open t ≡ false → ((scope : Term) → pack_length scope t ≡ None)
+    → length_if_pack t ≡ None → ((c : Context) → prefix_item c t ≡ as_item left c t) → opening_text (last_piece t) ≡ codes "<"
+    → (is_plain_integer t ≡ true → EndsAsInteger b)
+    → (r ≡ true → (c : Context) → 2 + cost_of (in_form left c t) + cost_of (in_form right c t) ≤ 4 * length b) → Prints t b r
+made-prints t b r h is_closed packless no_pack as_prefix opening integer reference_cost = record {
+  left_text = λ c. (h c).left_text;
+  right_text = λ c. (h c).right_text;
+  cost = λ c. omega (arith, (h c).cost);
+  is_reference_head = λ c. (h c).is_reference_head;
+  is_funarr_head = λ c. (h c).is_funarr_head;
+  filled = λ c. (h c).filled;
+  is_closed = is_closed;
+  packless = packless;
+  no_function = (h closed).no_function;
+  no_pack = no_pack;
+  reference_cost = reference_cost;
+  as_prefix = as_prefix;
+  opening = opening;
+  void = (h closed).void;
+  integer = integer;
 }
+
+-- A pointer prints its type and a star.
+pub pointer-in : (c : Context) (extra : ℕ) (t : Term) (b : List ℕ) (r : Bool) → PrintsIn c extra t b r → PrintsIn c extra (pointer t) (b ++ codes "*") false
+unfolding parts_in left_parts right_parts not_empty head head_with is_reference is_funarr is_empty is_function_type is_void
+pointer-in c extra t b r p = record {
+  left_text = text_by left c (pointer t) (as_item left c t ∷ says "*" ∷ []) (marked c t "*" p.is_funarr_head) ∙ ap (λ s. s ++ codes "*") p.left_text;
+  right_text = text_by right c (pointer t) (as_item right c t ∷ []) (closing c t p.is_funarr_head) ∙ ap (λ s. s ++ []) p.right_text;
+  cost = omega (
+    arith,
+    p.cost,
+    length-append b (codes "*"),
+    cost_by left c (pointer t) (as_item left c t ∷ says "*" ∷ []) (marked c t "*" p.is_funarr_head),
+    cost_by right c (pointer t) (as_item right c t ∷ []) (closing c t p.is_funarr_head),
+  );
+  is_reference_head = refl;
+  is_funarr_head = refl;
+  filled = refl;
+  no_function = refl;
+  void = λ e. cc e;
+}
+
+-- It does so anywhere.
+pub pointer-prints : (t : Term) (b : List ℕ) (r : Bool) → Prints t b r → Prints (pointer t) (b ++ codes "*") false
+unfolding is_open pack_length length_if_pack prefix_item last_piece opening_text is_plain_integer
+pointer-prints t b r p =
+    made-prints (pointer t) (b ++ codes "*") false (λ c. pointer-in c 0 t b r (prints-in c 0 t b r p)) p.is_closed p.packless refl (λ c. refl) refl (λ e. cc e)
+    (λ e. cc e)
+
+-- An lvalue reference costs one less than its text allows.
+lvalue-cost : (c : Context) (t : Term) (b : List ℕ) → Prints t b false
+    → 2 + cost_of (in_form left c (lvalue t)) + cost_of (in_form right c (lvalue t)) ≤ 4 * length (b ++ codes "&")
+unfolding parts_in left_parts right_parts not_empty
+lvalue-cost c t b p =
+    omega (
+      arith,
+      p.cost c,
+      length-append b (codes "&"),
+      cost_by left c (lvalue t) (as_item left c t ∷ says "&" ∷ []) (reference c low t "&" (p.is_reference_head c) (p.is_funarr_head c)),
+      cost_by right c (lvalue t) (as_item right c t ∷ []) (closing c t (p.is_funarr_head c)),
+    )
+
+-- An lvalue reference prints its type, which is no reference, and its mark.
+pub lvalue-in : (c : Context) (extra : ℕ) (t : Term) (b : List ℕ) → PrintsIn c extra t b false → PrintsIn c extra (lvalue t) (b ++ codes "&") true
+unfolding parts_in left_parts right_parts not_empty head head_with is_reference is_funarr is_empty is_function_type is_void
+lvalue-in c extra t b p =
+    let ps = as_item left c t ∷ says "&" ∷ [] in
+    let is = reference c low t "&" p.is_reference_head p.is_funarr_head in
+    record {
+      left_text = text_by left c (lvalue t) ps is ∙ ap (λ s. s ++ codes "&") p.left_text;
+      right_text = text_by right c (lvalue t) (as_item right c t ∷ []) (closing c t p.is_funarr_head) ∙ ap (λ s. s ++ []) p.right_text;
+      cost = omega (
+        arith,
+        p.cost,
+        length-append b (codes "&"),
+        cost_by left c (lvalue t) ps is,
+        cost_by right c (lvalue t) (as_item right c t ∷ []) (closing c t p.is_funarr_head),
+      );
+      is_reference_head = refl;
+      is_funarr_head = refl;
+      filled = refl;
+      no_function = refl;
+      void = λ e. cc e;
+    }
+
+-- It does so anywhere.
+pub lvalue-prints : (t : Term) (b : List ℕ) → Prints t b false → Prints (lvalue t) (b ++ codes "&") true
+unfolding is_open pack_length length_if_pack prefix_item last_piece opening_text is_plain_integer
+lvalue-prints t b p =
+    made-prints (lvalue t) (b ++ codes "&") true (λ c. lvalue-in c 0 t b (prints-in c 0 t b false p)) p.is_closed p.packless refl (λ c. refl) refl (λ e. cc e)
+    (λ e c. lvalue-cost c t b p)
 
 collapsed-refers : (h : Head) → is_reference (collapsed h) ≡ true
 unfolding is_reference collapsed
@@ -87,33 +140,48 @@ unfolding is_funarr collapsed
 collapsed-no_function lref = refl
 collapsed-no_function _ = refl
 
--- An rvalue reference does as well.
+-- An rvalue reference costs so much less, too,
+rvalue-cost : (c : Context) (t : Term) (b : List ℕ) → Prints t b false
+    → 2 + cost_of (in_form left c (rvalue t)) + cost_of (in_form right c (rvalue t)) ≤ 4 * length (b ++ codes "&&")
+unfolding parts_in left_parts right_parts not_empty
+rvalue-cost c t b p =
+    omega (
+      arith,
+      p.cost c,
+      length-append b (codes "&&"),
+      cost_by left c (rvalue t) (as_item left c t ∷ says "&&" ∷ []) (reference c left t "&&" (p.is_reference_head c) (p.is_funarr_head c)),
+      cost_by right c (rvalue t) (as_item right c t ∷ []) (closing c t (p.is_funarr_head c)),
+    )
+
+-- and prints its type and its mark.
+pub rvalue-in : (c : Context) (extra : ℕ) (t : Term) (b : List ℕ) → PrintsIn c extra t b false → PrintsIn c extra (rvalue t) (b ++ codes "&&") true
+unfolding parts_in left_parts right_parts not_empty head head_with is_empty is_function_type is_void
+rvalue-in c extra t b p =
+    let ps = as_item left c t ∷ says "&&" ∷ [] in
+    let is = reference c left t "&&" p.is_reference_head p.is_funarr_head in
+    record {
+      left_text = text_by left c (rvalue t) ps is ∙ ap (λ s. s ++ codes "&&") p.left_text;
+      right_text = text_by right c (rvalue t) (as_item right c t ∷ []) (closing c t p.is_funarr_head) ∙ ap (λ s. s ++ []) p.right_text;
+      cost = omega (
+        arith,
+        p.cost,
+        length-append b (codes "&&"),
+        cost_by left c (rvalue t) ps is,
+        cost_by right c (rvalue t) (as_item right c t ∷ []) (closing c t p.is_funarr_head),
+      );
+      is_reference_head = collapsed-refers (head c t);
+      is_funarr_head = collapsed-no_function (head c t);
+      filled = refl;
+      no_function = refl;
+      void = λ e. cc e;
+    }
+
+-- It does so anywhere.
 pub rvalue-prints : (t : Term) (b : List ℕ) → Prints t b false → Prints (rvalue t) (b ++ codes "&&") true
-unfolding parts_in left_parts right_parts not_empty head head_with is_empty is_open pack_length is_function_type prefix_item last_piece
-    opening_text is_void is_plain_integer
-rvalue-prints t b p = record {
-  left_text = λ c. text_by left c (rvalue t) (as_item left c t ∷ says "&&" ∷ [])
-      (reference c left t "&&" (p.is_reference_head c) (p.is_funarr_head c))
-      ∙ ap (λ s. s ++ codes "&&") (p.left_text c);
-  right_text = λ c. text_by right c (rvalue t) (as_item right c t ∷ []) (closing c t (p.is_funarr_head c)) ∙ ap (λ s. s ++ []) (p.right_text c);
-  cost = λ c. omega (
-    arith,
-    p.cost c,
-    length-append b (codes "&&"),
-    cost_by left c (rvalue t) (as_item left c t ∷ says "&&" ∷ []) (reference c left t "&&" (p.is_reference_head c) (p.is_funarr_head c)),
-    cost_by right c (rvalue t) (as_item right c t ∷ []) (closing c t (p.is_funarr_head c)),
-  );
-  is_reference_head = λ c. collapsed-refers (head c t);
-  is_funarr_head = λ c. collapsed-no_function (head c t);
-  filled = λ c. refl;
-  is_closed = p.is_closed;
-  packless = p.packless;
-  no_function = refl;
-  as_prefix = λ c. refl;
-  opening = refl;
-  void = λ e. cc e;
-  integer = λ e. cc e;
-}
+unfolding is_open pack_length length_if_pack prefix_item last_piece opening_text is_plain_integer
+rvalue-prints t b p =
+    made-prints (rvalue t) (b ++ codes "&&") true (λ c. rvalue-in c 0 t b (prints-in c 0 t b false p)) p.is_closed p.packless refl (λ c. refl) refl (λ e. cc e)
+    (λ e c. rvalue-cost c t b p)
 
 -- the qualifiers of a type that is declared const
 abbrev pub constant : Qualifiers
@@ -121,40 +189,118 @@ constant = record { restrict = false; volatile = false; const = true }
 
 qualified_left-is : (c : Context) (t : Term) → is_function_type t ≡ false → is_reference (head c t) ≡ false → is_funarr (head c t) ≡ false
     → qualified_left c constant t ≡ as_item left c t ∷ says " const" ∷ []
-unfolding qualified_left is_function_type text_part qualifier_text
+unfolding qualified_left is_function_type length_if_pack text_part qualifier_text
 qualified_left-is c (function_type linkage noexcept ref returned parameters) e f g = cc e
 qualified_left-is c t e f g = rw (f, g, qualified_left) refl
 
 qualified_right-is : (c : Context) (t : Term) → is_function_type t ≡ false → qualified_right c constant t ≡ as_item right c t ∷ []
-unfolding qualified_right is_function_type
+unfolding qualified_right is_function_type length_if_pack
 qualified_right-is c (function_type linkage noexcept ref returned parameters) e = cc e
 qualified_right-is c t e = refl
 
 -- A constant type, which is no reference, prints the word behind it.
+pub const-in : (c : Context) (extra : ℕ) (t : Term) (b : List ℕ) → PrintsIn c extra t b false → PrintsIn c extra (qualified constant t) (b ++ codes " const") false
+unfolding parts_in left_parts right_parts not_empty head head_with is_empty is_function_type is_void
+const-in c extra t b p =
+    let ps = as_item left c t ∷ says " const" ∷ [] in
+    let is = qualified_left-is c t p.no_function p.is_reference_head p.is_funarr_head in
+    record {
+      left_text = text_by left c (qualified constant t) ps is ∙ ap (λ s. s ++ codes " const") p.left_text;
+      right_text = text_by right c (qualified constant t) (as_item right c t ∷ []) (qualified_right-is c t p.no_function) ∙ ap (λ s. s ++ []) p.right_text;
+      cost = omega (
+        arith,
+        p.cost,
+        length-append b (codes " const"),
+        cost_by left c (qualified constant t) ps is,
+        cost_by right c (qualified constant t) (as_item right c t ∷ []) (qualified_right-is c t p.no_function),
+      );
+      is_reference_head = p.is_reference_head;
+      is_funarr_head = p.is_funarr_head;
+      filled = refl;
+      no_function = refl;
+      void = λ e. cc e;
+    }
+
+-- It does so anywhere.
 pub const-prints : (t : Term) (b : List ℕ) → Prints t b false → Prints (qualified constant t) (b ++ codes " const") false
-unfolding parts_in left_parts right_parts not_empty head head_with is_empty is_open pack_length is_function_type prefix_item last_piece
-    opening_text is_void is_plain_integer
-const-prints t b p = record {
-  left_text = λ c. text_by left c (qualified constant t) (as_item left c t ∷ says " const" ∷ [])
-      (qualified_left-is c t p.no_function (p.is_reference_head c) (p.is_funarr_head c)) ∙ ap (λ s. s ++ codes " const") (p.left_text c);
-  right_text = λ c. text_by right c (qualified constant t) (as_item right c t ∷ []) (qualified_right-is c t p.no_function)
-      ∙ ap (λ s. s ++ []) (p.right_text c);
-  cost = λ c. omega (
-    arith,
-    p.cost c,
-    length-append b (codes " const"),
-    cost_by left c (qualified constant t) (as_item left c t ∷ says " const" ∷ [])
-        (qualified_left-is c t p.no_function (p.is_reference_head c) (p.is_funarr_head c)),
-    cost_by right c (qualified constant t) (as_item right c t ∷ []) (qualified_right-is c t p.no_function),
-  );
-  is_reference_head = λ c. p.is_reference_head c;
-  is_funarr_head = λ c. p.is_funarr_head c;
-  filled = λ c. refl;
-  is_closed = p.is_closed;
-  packless = p.packless;
-  no_function = refl;
-  as_prefix = λ c. refl;
-  opening = refl;
-  void = λ e. cc e;
-  integer = λ e. cc e;
+unfolding is_open pack_length length_if_pack prefix_item last_piece opening_text is_plain_integer
+const-prints t b p =
+    made-prints (qualified constant t) (b ++ codes " const") false (λ c. const-in c 0 t b (prints-in c 0 t b false p)) p.is_closed p.packless refl (λ c. refl) refl (λ e. cc e)
+    (λ e. cc e)
+
+-- ## Types that name the argument of a function's template
+
+-- What prints in a context prints so as an element.
+pub type-element-in : (c : Context) (t : Term) (b : List ℕ) (r : Bool) → PrintsIn c 2 t b r → IsElementIn c 6 t b
+type-element-in c t b r p = record {
+  both_texts = rw (p.left_text, p.right_text) (append-nil b);
+  cost = omega (arith, p.cost);
+  filled = p.filled;
+  void = p.void;
 }
+
+-- A parameter prints the argument that it names.
+pub parameter-in : (c : Context) (b : List ℕ) (r : Bool) → Prints (argument c 0) b r → PrintsIn c 2 (parameter 0) b r
+unfolding parts_in left_parts right_parts not_empty head head_closed head_with argument is_reference is_funarr is_empty is_function_type is_void
+parameter-in c b r p =
+    let t = parameter 0 in
+    let a = argument c 0 in
+    record {
+      left_text = text_by left c t (as_item left closed a ∷ []) refl ∙ append-nil (text_of (in_form left closed a)) ∙ p.left_text closed;
+      right_text = text_by right c t (as_item right closed a ∷ []) refl ∙ append-nil (text_of (in_form right closed a)) ∙ p.right_text closed;
+      cost = omega (
+        arith,
+        p.cost closed,
+        cost_by left c t (as_item left closed a ∷ []) refl,
+        cost_by right c t (as_item right closed a ∷ []) refl,
+      );
+      is_reference_head = p.is_reference_head closed;
+      is_funarr_head = p.is_funarr_head closed;
+      filled = refl;
+      no_function = refl;
+      void = λ e. cc e;
+    }
+
+pub parameter-prints : PrintsBehind (parameter 0) [] false
+parameter-prints c b p = subst (λ l. PrintsIn c 2 (parameter 0) l false) (sym (append-nil b)) (parameter-in c b false p)
+
+-- An rvalue reference to a reference prints what this does.
+pub rvalue-again : (c : Context) (b : List ℕ) → Prints (argument c 0) b true → PrintsIn c 3 (rvalue (parameter 0)) b true
+unfolding parts_in left_parts right_parts not_empty head head_closed head_with argument is_empty is_function_type is_void reference_parts closing_right
+rvalue-again c b p =
+    let u = parameter 0 in
+    let a = argument c 0 in
+    let inner = parameter-in c b true p in
+    let ps = as_item left c u ∷ [] in
+    let is : reference_parts c left u "&&" ≡ ps = rw (p.is_reference_head closed, reference_parts) refl in
+    record {
+      left_text = text_by left c (rvalue u) ps is ∙ append-nil (text_of (in_form left c u)) ∙ inner.left_text;
+      right_text = text_by right c (rvalue u) (as_item right c u ∷ []) (closing c u inner.is_funarr_head) ∙ append-nil (text_of (in_form right c u)) ∙ inner.right_text;
+      cost = omega (
+        arith,
+        p.reference_cost refl closed,
+        cost_by left c u (as_item left closed a ∷ []) refl,
+        cost_by right c u (as_item right closed a ∷ []) refl,
+        cost_by left c (rvalue u) ps is,
+        cost_by right c (rvalue u) (as_item right c u ∷ []) (closing c u inner.is_funarr_head),
+      );
+      is_reference_head = collapsed-refers (head c u);
+      is_funarr_head = collapsed-no_function (head c u);
+      filled = refl;
+      no_function = refl;
+      void = λ e. cc e;
+    }
+
+-- With a mark behind it a type that names the argument prints that too.
+pub pointer-behind : (t : Term) (m : List ℕ) (r : Bool) → PrintsBehind t m r → PrintsBehind (pointer t) (m ++ codes "*") false
+pointer-behind t m r h c b p = subst (λ l. PrintsIn c 2 (pointer t) l false) (append_assoc b m (codes "*")) (pointer-in c 2 t (b ++ m) r (h c b p))
+
+pub lvalue-behind : (t : Term) (m : List ℕ) → PrintsBehind t m false → PrintsBehind (lvalue t) (m ++ codes "&") true
+lvalue-behind t m h c b p = subst (λ l. PrintsIn c 2 (lvalue t) l true) (append_assoc b m (codes "&")) (lvalue-in c 2 t (b ++ m) (h c b p))
+
+pub rvalue-behind : (t : Term) (m : List ℕ) → PrintsBehind t m false → PrintsBehind (rvalue t) (m ++ codes "&&") true
+rvalue-behind t m h c b p = subst (λ l. PrintsIn c 2 (rvalue t) l true) (append_assoc b m (codes "&&")) (rvalue-in c 2 t (b ++ m) (h c b p))
+
+pub const-behind : (t : Term) (m : List ℕ) → PrintsBehind t m false → PrintsBehind (qualified constant t) (m ++ codes " const") false
+const-behind t m h c b p =
+    subst (λ l. PrintsIn c 2 (qualified constant t) l false) (append_assoc b m (codes " const")) (const-in c 2 t (b ++ m) (h c b p))

@@ -3,7 +3,7 @@ use Rattle.std.proofs.Common.{◌≡◌, ◌≢◌, refl, ap, sym, ◌∙◌, �
 use Rattle.sym_print.specs.Unfold.{PartOf, text}
 use Rattle.sym_print.specs.Unshared.{text_of, cost_of}
 use Rattle.cpp_grammar.specs.Term.{Signed, Term, builtin, integer, boolean}
-use Rattle.cpp_grammar.specs.Scope.{is_open, pack_length}
+use Rattle.cpp_grammar.specs.Scope.{is_open, pack_length, length_if_pack}
 use Rattle.cpp_grammar.specs.References.{is_function_type}
 use Rattle.cpp_grammar.specs.Texts.{look_up, builtin_texts, literal_endings}
 use Rattle.cpp_grammar.specs.Items.{left, right, Context, Item, head_with, head, is_reference, is_funarr, is_empty}
@@ -20,7 +20,7 @@ boolean-filled false = omega arith
 
 -- A boolean prints its word.
 pub boolean-prints : (b : Bool) → Prints (boolean b) (cond b (codes "true") (codes "false")) false
-unfolding parts_in left_parts right_parts not_empty head head_with is_reference is_funarr is_empty is_open pack_length is_function_type prefix_item
+unfolding parts_in left_parts right_parts not_empty head head_with is_reference is_funarr is_empty is_open pack_length is_function_type length_if_pack prefix_item
     last_piece opening_text is_void is_plain_integer
 boolean-prints b = let t = boolean b in let w : List ℕ = cond b (codes "true") (codes "false") in record {
   left_text = λ c. text_by left c t (text w ∷ []) refl ∙ text_alone w;
@@ -32,6 +32,8 @@ boolean-prints b = let t = boolean b in let w : List ℕ = cond b (codes "true")
   is_closed = refl;
   packless = λ scope. refl;
   no_function = refl;
+  no_pack = refl;
+  reference_cost = λ e. cc e;
   as_prefix = λ c. refl;
   opening = refl;
   void = λ e. cc e;
@@ -86,7 +88,7 @@ three x y z s d e f g h = rw (f, g, h) (sym (append_assoc s d e))
 pub plain-integer-prints : (letter : ℕ) → is_plain_integer (builtin (letter ∷ [])) ≡ true → (n : Signed) → n.digits ≢ []
     → Prints (integer (builtin (letter ∷ [])) n) (sign_text n ++ n.digits ++ look_up (letter ∷ []) literal_endings) false
 unfolding parts_in left_parts right_parts builtin_code not_empty head head_with is_reference is_funarr is_empty is_open pack_length
-    is_function_type prefix_item last_piece opening_text is_void is_plain_integer
+    is_function_type length_if_pack prefix_item last_piece opening_text is_void is_plain_integer
 plain-integer-prints letter plain n filled =
     let t = builtin (letter ∷ []) in
     let i = integer t n in
@@ -115,6 +117,8 @@ plain-integer-prints letter plain n filled =
       is_closed = refl;
       packless = λ scope. refl;
       no_function = refl;
+      no_pack = refl;
+      reference_cost = λ e. cc e;
       as_prefix = λ c. refl;
       opening = refl;
       void = λ e. cc e;
@@ -128,7 +132,7 @@ cast_text x r y z b s d e f g h = rw (e, f, g, h) (ap (λ u. u ++ s ++ d) (sym (
 -- An integer of another type prints its type in front.
 pub enumerator-prints : (t : Term) (b : List ℕ) (r : Bool) → Prints t b r → is_plain_integer t ≡ false → (n : Signed) → n.digits ≢ []
     → Prints (integer t n) (codes "(" ++ b ++ codes ")" ++ sign_text n ++ n.digits) false
-unfolding parts_in left_parts right_parts not_empty head head_with is_reference is_funarr is_empty is_open pack_length is_function_type prefix_item
+unfolding parts_in left_parts right_parts not_empty head head_with is_reference is_funarr is_empty is_open pack_length is_function_type length_if_pack prefix_item
     last_piece opening_text is_void is_plain_integer
 enumerator-prints t b r p cast n filled =
     let i = integer t n in
@@ -161,6 +165,8 @@ enumerator-prints t b r p cast n filled =
       is_closed = p.is_closed;
       packless = λ scope. p.packless scope;
       no_function = refl;
+      no_pack = refl;
+      reference_cost = λ e. cc e;
       as_prefix = λ c. refl;
       opening = refl;
       void = λ e. cc e;

@@ -4,7 +4,7 @@ use Rattle.std.specs.Prelude.{decimal}
 use Rattle.sym_print.specs.Unfold.{text}
 use Rattle.sym_print.specs.Unshared.{text_of, cost_of}
 use Rattle.cpp_grammar.specs.Term.{Term, within, lambda, nil}
-use Rattle.cpp_grammar.specs.Scope.{is_open, pack_length, first_of}
+use Rattle.cpp_grammar.specs.Scope.{is_open, pack_length, length_if_pack, first_of}
 use Rattle.cpp_grammar.specs.References.{is_function_type}
 use Rattle.cpp_grammar.specs.Items.{bare, left, right, piece, first, Context, closed, head_with, head, is_reference, is_funarr, is_empty}
 use Rattle.cpp_grammar.specs.Meaning.{is_void}
@@ -116,7 +116,7 @@ within-cost c e b h p n q =
 -- A type in a function prints the function and its own name.
 pub local-prints : (e : Term) (b : List ℕ) → Encloses e b → (p : Term) (n : List ℕ) → PrintsPiece p n → (digit : Option ℕ)
     → Prints (local_in e p digit) (b ++ codes "::" ++ n) false
-unfolding parts_in left_parts right_parts not_empty head head_with is_reference is_funarr is_empty is_open pack_length first_of is_function_type
+unfolding parts_in left_parts right_parts not_empty head head_with is_reference is_funarr is_empty is_open pack_length length_if_pack first_of is_function_type
     prefix_item last_piece is_void is_plain_integer
 local-prints e b h p n q digit = let t = local_in e p digit in record {
   left_text = λ c. text_by left c t (as_item left c (within e p) ∷ []) refl ∙ append-nil (text_of (in_form left c (within e p)))
@@ -138,6 +138,8 @@ local-prints e b h p n q digit = let t = local_in e p digit in record {
   is_closed = rw (h.is_closed, q.is_closed) refl;
   packless = λ scope. rw (h.packless scope, q.packless scope) refl;
   no_function = refl;
+  no_pack = refl;
+  reference_cost = λ e. cc e;
   as_prefix = λ c. refl;
   opening = q.opening;
   void = λ e. cc e;

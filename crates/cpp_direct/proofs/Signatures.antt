@@ -6,11 +6,12 @@ use Rattle.std.proofs.lemmas.Bool.{false≢true}
 use Rattle.cpp_grammar.specs.Grammar.{among}
 use Rattle.cpp_grammar.specs.Term.{Term, builtin, nil, list, pointer}
 use Rattle.cpp_grammar.specs.Values as values
-use Rattle.cpp_grammar.specs.Values.{State, tree}
+use Rattle.cpp_grammar.specs.Values.{Around, State, tree}
 use Rattle.cpp_grammar.specs.declared.kind.Kind.{Kind}
 use Rattle.cpp_direct.specs.declared.open.Candidate.{Candidate}
 use Rattle.cpp_direct.specs.declared.open.Open.{Open}
 use Rattle.cpp_direct.specs.declared.open.Open.TheVariants as opens
+use Rattle.cpp_direct.specs.declared.open.Argument.{Argument}
 use Rattle.cpp_direct.specs.declared.open.Step.{Step}
 use Rattle.cpp_direct.specs.declared.open.Step.TheVariants as steps
 use Rattle.cpp_direct.specs.declared.direct.Direct.{Direct}
@@ -19,7 +20,7 @@ use Rattle.cpp_direct.specs.Holes.{Opened, StandsAt, Comes, Expects, with_candid
 use Rattle.cpp_direct.specs.HolesOfFunctions.{SignatureGoesOn, plain_function, pointed, with_pointed, reference, reference_letter}
 use Rattle.cpp_direct.specs.HolesOfTypes.{NoReference}
 use Rattle.cpp_direct.specs.Prints.{PrintEach, PrintAll, joined}
-use Rattle.cpp_direct.specs.Stands.{AreCandidates, IsWriting, Marks, Stands, TakesFunction, opening_text, list_with, in_front_of_next}
+use Rattle.cpp_direct.specs.Stands.{IsScoped, AreCandidates, IsWriting, Marks, Stands, TakesFunction, opening_text, list_with, in_front_of_next}
 use Rattle.cpp_direct.specs.Ways.{AwaitsParameter, AwaitsSignature, IsElementRead, IsFunctionRead, IsReturned}
 use Rattle.cpp_direct.specs.Written.{Writes, hidden, with_hidden}
 use Rattle.cpp_direct.proofs.Ending.{no-void, next-written}
@@ -30,6 +31,7 @@ use Rattle.cpp_direct.proofs.MovesOfFunctions.{parameter-opens, reference-opens,
 use Rattle.cpp_direct.proofs.MovesOfTypes.{builtin-comes}
 use Rattle.cpp_direct.proofs.PrintedFunctions.{function-element, void-function-element}
 use Rattle.cpp_direct.proofs.PrintedLists.{none-print}
+use Rattle.cpp_direct.proofs.Scopes.{none-scoped}
 use Rattle.cpp_direct.proofs.TypesRead.{by-step, given, popped}
 
 -- ## Behind the return type
@@ -177,6 +179,7 @@ parameter-comes s w is_pointer a none =
         p.outside,
         inr (inr (p.awaits, none)),
         subst (λ ws. Stands s ws p.inner w.text.list.items) (sym a.open_is) (signature-stands s w is_pointer a p.inner p.onward),
+        subst (λ ws. IsScoped p.around ws) (sym a.open_is) (none-scoped p.around (opens.Signature is_pointer ∷ a.rest) refl),
       );
     }
 
@@ -197,6 +200,12 @@ reference-stands : (s : List ℕ) (is_lvalue : Bool) (rest : List Open) (os : Li
     → Marks s (Stands s rest) os text from (reference is_lvalue) → Stands s (reference_entry is_lvalue from ∷ rest) os text
 reference-stands s true rest os text from marks = marks
 reference-stands s false rest os text from marks = marks
+
+-- no parameter of a template is named there
+reference-scoped : (around : Around) (is_lvalue : Bool) (from : ℕ) (is_pointer : Bool) (rest : List Open)
+    → IsScoped around (reference_entry is_lvalue from ∷ opens.Signature is_pointer ∷ rest)
+reference-scoped around true from is_pointer rest = none-scoped around (opens.Lvalue from ∷ opens.Signature is_pointer ∷ rest) refl
+reference-scoped around false from is_pointer rest = none-scoped around (opens.Rvalue from ∷ opens.Signature is_pointer ∷ rest) refl
 
 -- a parameter comes that is a reference
 pub reference-comes : (s : List ℕ) (old new : Direct) (o : Option Step) (is_pointer is_lvalue : Bool) (from : ℕ) → AwaitsParameter s old is_pointer
@@ -227,6 +236,7 @@ reference-comes s old new o is_pointer is_lvalue from a begins stands is waits a
                 (subst (λ ws. Stands s ws p.inner old.text.list.items) (sym turned)
                 (reference-stands s is_lvalue (opens.Signature is_pointer ∷ a.rest) p.inner old.text.list.items from
                 (p.whole, p.around.encoding, begins, p.passes, whole))),
+            subst (λ ws. IsScoped p.around ws) (sym turned) (reference-scoped p.around is_lvalue from is_pointer a.rest),
           );
         }
 
@@ -316,11 +326,11 @@ void-closed s old new is_pointer a stands text candidates waits at =
 -- ## Handed on
 
 -- one more candidate of which nothing is known
-one-hidden : (text : List ℕ) (ks : List Candidate) (cs : List values.Candidate) (c : values.Candidate) → AreCandidates text ks cs
+pub one-hidden : (text : List ℕ) (ks : List Candidate) (cs : List values.Candidate) (c : values.Candidate) → AreCandidates text ks cs
     → AreCandidates text (ks ++ hidden ∷ []) (cs ++ c ∷ [])
 one-hidden text ks cs c p = candidates-more text ks cs hidden c p (λ ordered. absurd (omega (arith, ordered)))
 
-hidden-candidates : (w : Direct) (is_pointer : Bool) (text : List ℕ) (e : ℕ) (t : Term) (st : State) → AreCandidates text w.candidates.list.items st.candidates
+pub hidden-candidates : (w : Direct) (is_pointer : Bool) (text : List ℕ) (e : ℕ) (t : Term) (st : State) → AreCandidates text w.candidates.list.items st.candidates
     → AreCandidates text (with_hidden w is_pointer) (with_pointed is_pointer e t st).candidates
 hidden-candidates w true text e t st p =
     one-hidden text (w.candidates.list.items ++ hidden ∷ []) (with_candidate e t st).candidates (record { tree = pointer t; encoding = e })
@@ -366,18 +376,19 @@ function-handed s old new is_pointer o p text candidates waits at found =
     }
 
 -- what takes a function type, and isn't parameters or a special object, takes elements
-pub takes-as-element : (o : Open) (rest ws : List Open) → ws ≡ o ∷ rest → TakesFunction ws → ((x : Bool) (y : ℕ) → o ≡ opens.Parameters x y → ⊥)
+pub takes-as-element : (o : Open) (rest ws : List Open) → ws ≡ o ∷ rest → TakesFunction ws
+    → ((x : Bool) (y : ℕ) (z : Argument) → o ≡ opens.Parameters x y z → ⊥)
     → (o ≡ opens.Special → ⊥) → ((x : Bool) (y : ℕ) → o ≡ opens.Enclosing x y → ⊥) → TakesElements o
 takes-as-element o rest ws is takes apart no_special within = go o (subst TakesFunction is takes) apart no_special within
   where
-    go : (o : Open) → TakesFunction (o ∷ rest) → ((x : Bool) (y : ℕ) → o ≡ opens.Parameters x y → ⊥) → (o ≡ opens.Special → ⊥)
+    go : (o : Open) → TakesFunction (o ∷ rest) → ((x : Bool) (y : ℕ) (z : Argument) → o ≡ opens.Parameters x y z → ⊥) → (o ≡ opens.Special → ⊥)
         → ((x : Bool) (y : ℕ) → o ≡ opens.Enclosing x y → ⊥) → TakesElements o
     go (opens.TypeArguments from) takes apart z m = tt
     go (opens.NestArguments nest) takes apart z m = tt
     go (opens.FirstArguments nest) takes apart z m = tt
     go (opens.NameArguments from) takes apart z m = tt
     go opens.Pack takes apart z m = tt
-    go (opens.Parameters x y) takes apart z m = absurd (apart x y refl)
+    go (opens.Parameters x y w) takes apart z m = absurd (apart x y w refl)
     go opens.Special takes apart z m = absurd (z refl)
     go (opens.Enclosing x y) takes apart z m = absurd (m x y refl)
     go _ takes apart z m = absurd takes

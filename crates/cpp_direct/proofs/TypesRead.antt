@@ -26,7 +26,7 @@ use Rattle.cpp_direct.specs.declared.direct.Direct.{Direct}
 use Rattle.cpp_direct.specs.Holes.{StandsAt, Comes, Expects, IsReferable, IsNameAt, IsSeqAt, TypeNamed, with_candidate, unless_listed}
 use Rattle.cpp_direct.specs.HolesOfTypes.{NoReference, IsQualifiable, TypeOpens}
 use Rattle.cpp_direct.specs.Prints.{Prints}
-use Rattle.cpp_direct.specs.Stands.{AreCandidates, Marks, Stands, IsWriting}
+use Rattle.cpp_direct.specs.Stands.{IsScoped, AreCandidates, Marks, Stands, IsWriting}
 use Rattle.cpp_direct.specs.Ways.{AwaitsType, AwaitsNamedType, AwaitsNest, IsTypeNamed, AwaitsMark}
 use Rattle.cpp_direct.specs.Written.{Reads, added, added_unless}
 use Rattle.cpp_direct.proofs.Kept.{arguments-begun, piece-found, candidates-stay, candidates-added, candidates-read, candidate-found, reverse-last, last-reversed}
@@ -253,6 +253,7 @@ awaits-type s w true p = record {
   referable = inl tt;
   awaits = p.is_before.3;
   stands = p.is_before.4;
+  scoped = p.is_before.5;
 }
 awaits-type s w false p = go p.is_before.3
   where
@@ -269,6 +270,7 @@ awaits-type s w false p = go p.is_before.3
       referable = inl tt;
       awaits = awaits;
       stands = p.is_before.4;
+      scoped = p.is_before.5;
     }
     go (inr (inl awaits)) = record {
       state = p.state;
@@ -281,6 +283,7 @@ awaits-type s w false p = go p.is_before.3
       referable = inl tt;
       awaits = awaits;
       stands = p.is_before.4;
+      scoped = p.is_before.5;
     }
     go (inr (inr awaits)) = record {
       state = p.state;
@@ -293,6 +296,7 @@ awaits-type s w false p = go p.is_before.3
       referable = inr awaits.1;
       awaits = awaits.0;
       stands = p.is_before.4;
+      scoped = p.is_before.5;
     }
 
 -- a builtin type is read
@@ -485,9 +489,10 @@ substitution-named s old new from digits k a stands is ordered found text candid
 pub type-opened : (s : List ℕ) (old new : Direct) (o : Option Step) (entry : Open) (from : ℕ) (made : Term → Term) (a : AwaitsType s old)
     (t : TypeOpens s Kind.Type a.os a.around made (old.at + 1) a.state) → from ≡ length old.text.list.items
     → (Marks s (Stands s (reverse old.waiting.list.items)) t.inner old.text.list.items from made → Stands s (entry ∷ reverse old.waiting.list.items) t.inner old.text.list.items)
+    → IsScoped a.around (entry ∷ reverse old.waiting.list.items)
     → IfSome o (λ next. next ≡ steps.Type) → OnSome o (new.waiting.list.items ≡ old.waiting.list.items ++ entry ∷ []) → OnSome o (new.at ≡ old.at + 1)
     → new.text ≡ old.text → new.candidates ≡ old.candidates → IfSome o (IsWriting s new)
-type-opened s old new o entry from made a t begins stands is waits at text candidates = by-step o steps.Type (IsWriting s new) is (λ e.
+type-opened s old new o entry from made a t begins stands scoped is waits at text candidates = by-step o steps.Type (IsWriting s new) is (λ e.
     record {
       state = a.state;
       candidates = subst (λ v. AreCandidates new.text.list.items v.list.items a.state.candidates) (sym candidates)
@@ -501,6 +506,7 @@ type-opened s old new o entry from made a t begins stands is waits at text candi
             (sym (ap reverse (given _ o steps.Type e waits) ∙ reverse-last old.waiting.list.items entry))
             (subst (λ v. Stands s (entry ∷ reverse old.waiting.list.items) t.inner v.list.items) (sym text)
             (stands (a.os, a.around.encoding, begins, t.passes, a.stands))),
+        subst (λ l. IsScoped a.around l) (sym (ap reverse (given _ o steps.Type e waits) ∙ reverse-last old.waiting.list.items entry)) scoped,
       );
     })
 
@@ -510,7 +516,7 @@ pub pointer-opened : (s : List ℕ) (old new : Direct) (o : Option Step) (from :
     → OnSome o (new.at ≡ old.at + 1) → new.text ≡ old.text → new.candidates ≡ old.candidates → IfSome o (IsWriting s new)
 pointer-opened s old new o from a begins stands is waits at text candidates =
     type-opened s old new o (opens.Pointer from) from pointer a (pointer-opens s a.kind a.around a.os old.at a.state a.typed a.awaits stands) begins
-    (λ m. m) is waits at text candidates
+    (λ m. m) a.scoped is waits at text candidates
 
 -- behind an R
 pub lvalue-opened : (s : List ℕ) (old new : Direct) (o : Option Step) (from : ℕ) → AwaitsType s old → from ≡ length old.text.list.items
@@ -523,7 +529,7 @@ lvalue-opened s old new o from a begins stands is waits at text candidates =
     go (inr none) = absurd (none.0 stands)
     go (inl referable) =
         type-opened s old new o (opens.Lvalue from) from lvalue a (lvalue-opens s a.kind a.around a.os old.at a.state referable a.awaits stands) begins
-        (λ m. m) is waits at text candidates
+        (λ m. m) a.scoped is waits at text candidates
 
 -- and behind an O
 pub rvalue-opened : (s : List ℕ) (old new : Direct) (o : Option Step) (from : ℕ) → AwaitsType s old → from ≡ length old.text.list.items
@@ -536,7 +542,7 @@ rvalue-opened s old new o from a begins stands is waits at text candidates =
     go (inr none) = absurd (none.1 stands)
     go (inl referable) =
         type-opened s old new o (opens.Rvalue from) from rvalue a (rvalue-opens s a.kind a.around a.os old.at a.state referable a.awaits stands) begins
-        (λ m. m) is waits at text candidates
+        (λ m. m) a.scoped is waits at text candidates
 
 -- a plain type is expected, where one with a qualifier may be
 plain-opened : (s : List ℕ) (old new : Direct) (o : Option Step) (from : ℕ) (a : AwaitsType s old) → IsQualifiable a.kind
@@ -560,6 +566,8 @@ plain-opened s old new o from a may begins stands is waits at text candidates =
             (sym (ap reverse (given _ o steps.Plain e waits) ∙ reverse-last old.waiting.list.items (opens.Const from)))
             (subst (λ v. Stands s (opens.Const from ∷ reverse old.waiting.list.items) t.inner v.list.items) (sym text)
             (a.os, a.around.encoding, begins, t.passes, a.stands)),
+        subst (λ l. IsScoped a.around l) (sym (ap reverse (given _ o steps.Plain e waits) ∙ reverse-last old.waiting.list.items (opens.Const from)))
+            a.scoped,
       );
     })
 
@@ -584,6 +592,7 @@ const-opened s old new o from false p plain begins stands is waits at text candi
       referable = inl tt;
       awaits = awaits;
       stands = p.is_before.4;
+      scoped = p.is_before.5;
     }) tt begins stands is waits at text candidates
     go (inr (inl awaits)) = plain-opened s old new o from (record {
       state = p.state;
@@ -596,6 +605,7 @@ const-opened s old new o from false p plain begins stands is waits at text candi
       referable = inl tt;
       awaits = awaits;
       stands = p.is_before.4;
+      scoped = p.is_before.5;
     }) tt begins stands is waits at text candidates
     go (inr (inr awaits)) = plain-opened s old new o from (record {
       state = p.state;
@@ -608,6 +618,7 @@ const-opened s old new o from false p plain begins stands is waits at text candi
       referable = inr awaits.1;
       awaits = awaits.0;
       stands = p.is_before.4;
+      scoped = p.is_before.5;
     }) tt begins stands is waits at text candidates
 
 -- a nested name is expected behind an N

@@ -175,6 +175,7 @@ unscoped-bare s w from takes p = record {
   from_is = p.from_is;
   no_return = λ e. p.no_return;
   returns = λ e. absurd (false≢true e);
+  names = λ e. absurd (false≢true e);
   awaits = p.has.bare w.at p.state
       (expects-empty s Kind.MaybeArguments (after p.own false (in_name p.encoding)) p.has.inner w.at p.state p.has.awaits refl);
 }

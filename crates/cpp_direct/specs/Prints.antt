@@ -3,9 +3,9 @@ use Rattle.std.specs.Prelude.{◌≡◌, ℕ, ◌+◌, ◌*◌, ◌≤◌, List,
 use Rattle.sym_print.specs.declared.detail.Detail.TheVariants.{Full}
 use Rattle.sym_print.specs.Unshared.{Unshared, text_of, cost_of}
 use Rattle.cpp_grammar.specs.Term.{Signed, Term, nil, list}
-use Rattle.cpp_grammar.specs.Scope.{is_open, pack_length}
+use Rattle.cpp_grammar.specs.Scope.{is_open, pack_length, length_if_pack}
 use Rattle.cpp_grammar.specs.References.{is_function_type}
-use Rattle.cpp_grammar.specs.Items.{Form, full, bare, left, right, base, piece, Context, closed, head, is_reference, is_funarr, is_empty}
+use Rattle.cpp_grammar.specs.Items.{Form, full, bare, left, right, base, piece, Context, closed, head, is_reference, is_funarr, is_empty, argument}
 use Rattle.cpp_grammar.specs.Meaning.{is_void}
 use Rattle.cpp_grammar.specs.Parts.{as_item, says, prefix_item, within_parts, last_piece, opening_text, is_plain_integer}
 use Rattle.cpp_grammar.specs.Answer.{shown}
@@ -29,6 +29,8 @@ pub record Prints (t : Term) (bytes : List ℕ) (reference : Bool) : Type 0 wher
   pub is_closed : is_open t ≡ false
   pub packless : (scope : Term) → pack_length scope t ≡ None
   pub no_function : is_function_type t ≡ false
+  pub no_pack : length_if_pack t ≡ None
+  pub reference_cost : reference ≡ true → (context : Context) → 2 + cost_of (in_form left context t) + cost_of (in_form right context t) ≤ 4 * length bytes
   pub as_prefix : (context : Context) → prefix_item context t ≡ as_item left context t
   pub opening : opening_text (last_piece t) ≡ codes "<"
   pub void : is_void t ≡ true → bytes ≡ codes "void"
@@ -38,6 +40,27 @@ pub record Prints (t : Term) (bytes : List ℕ) (reference : Bool) : Type 0 wher
 pub record PrintsName (t : Term) (bytes : List ℕ) : Type 0 where
   pub left_text : (context : Context) → text_of (in_form left context t) ≡ bytes
   pub cost : (context : Context) → 1 + cost_of (in_form left context t) + cost_of (in_form right context t) ≤ 4 * length bytes
+
+-- A tree with this text in a context. It may cost so much more than one that has this text wherever it stands.
+pub record PrintsIn (context : Context) (extra : ℕ) (t : Term) (bytes : List ℕ) (reference : Bool) : Type 0 where
+  pub left_text : text_of (in_form left context t) ≡ bytes
+  pub right_text : text_of (in_form right context t) ≡ []
+  pub cost : 1 + cost_of (in_form left context t) + cost_of (in_form right context t) ≤ extra + 4 * length bytes
+  pub is_reference_head : is_reference (head context t) ≡ reference
+  pub is_funarr_head : is_funarr (head context t) ≡ false
+  pub filled : is_empty context t ≡ false
+  pub no_function : is_function_type t ≡ false
+  pub void : is_void t ≡ true → bytes ≡ codes "void"
+
+-- A tree that names the first argument of its scope: wherever that is a type with a text, and no reference, it prints this behind it.
+abbrev pub PrintsBehind : Term → (marks : List ℕ) → (reference : Bool) → Type 0
+PrintsBehind t marks reference =
+    (context : Context) (bytes : List ℕ) → Prints (argument context 0) bytes false → PrintsIn context 2 t (bytes ++ marks) reference
+
+-- what an rvalue reference to a type has behind its text, if it is no reference
+abbrev pub forwarded : (reference : Bool) → List ℕ
+forwarded true = []
+forwarded false = codes "&&"
 
 -- A tree whose class is named so where it stands in front of a constructor or a destructor.
 pub record NamesClass (t : Term) (class : List ℕ) : Type 0 where
@@ -94,12 +117,32 @@ pub record IsElement (extra : ℕ) (t : Term) (bytes : List ℕ) : Type 0 where
   pub packless : (scope : Term) → pack_length scope t ≡ None
   pub void : is_void t ≡ true → bytes ≡ codes "void"
 
--- each tree prints its text
-abbrev pub PrintEach : (extra : ℕ) → List Term → List (List ℕ) → Type 0
-PrintEach extra [] [] = Unit {0}
-PrintEach extra (t ∷ ts) (b ∷ bs) = IsElement extra t b × PrintEach extra ts bs
-PrintEach extra _ _ = ⊥
+-- The same in a context.
+pub record IsElementIn (context : Context) (extra : ℕ) (t : Term) (bytes : List ℕ) : Type 0 where
+  pub both_texts : text_of (in_form left context t) ++ text_of (in_form right context t) ≡ bytes
+  pub cost : 1 + cost_of (in_form left context t) + cost_of (in_form right context t) ≤ extra + 4 * length bytes
+  pub filled : is_empty context t ≡ false
+  pub void : is_void t ≡ true → bytes ≡ codes "void"
+
+-- Each tree prints its text, in this sense.
+abbrev pub PrintEachBy : (by : Term → List ℕ → Type 0) → List Term → List (List ℕ) → Type 0
+PrintEachBy by [] [] = Unit {0}
+PrintEachBy by (t ∷ ts) (b ∷ bs) = by t b × PrintEachBy by ts bs
+PrintEachBy by _ _ = ⊥
 
 -- these elements print so
+abbrev pub PrintAllBy : (by : Term → List ℕ → Type 0) → List Term → (bytes : List ℕ) → Type 0
+PrintAllBy by ts bytes = (texts : List (List ℕ)) × PrintEachBy by ts texts × (joined texts ≡ bytes)
+
+abbrev pub PrintEach : (extra : ℕ) → List Term → List (List ℕ) → Type 0
+PrintEach extra ts texts = PrintEachBy (IsElement extra) ts texts
+
 abbrev pub PrintAll : (extra : ℕ) → List Term → (bytes : List ℕ) → Type 0
-PrintAll extra ts bytes = (texts : List (List ℕ)) × PrintEach extra ts texts × (joined texts ≡ bytes)
+PrintAll extra ts bytes = PrintAllBy (IsElement extra) ts bytes
+
+-- the same in a context
+abbrev pub PrintEachIn : Context → (extra : ℕ) → List Term → List (List ℕ) → Type 0
+PrintEachIn context extra ts texts = PrintEachBy (IsElementIn context extra) ts texts
+
+abbrev pub PrintAllIn : Context → (extra : ℕ) → List Term → (bytes : List ℕ) → Type 0
+PrintAllIn context extra ts bytes = PrintAllBy (IsElementIn context extra) ts bytes

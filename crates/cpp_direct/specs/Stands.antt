@@ -1,5 +1,5 @@
 -- What a writer's lists say while a symbol is read: what is open waits for what comes next, and what was written is its text.
-use Rattle.std.specs.Prelude.{◌≡◌, ◌≢◌, ◌⊎◌, ℕ, ◌+◌, ◌*◌, ◌≤◌, List, [], ◌∷◌, ◌++◌, length, reverse, Bool, true, false, Option, Ok, codes}
+use Rattle.std.specs.Prelude.{◌≡◌, ◌≢◌, ◌⊎◌, ℕ, ◌+◌, ◌*◌, ◌≤◌, List, [], ◌∷◌, ◌++◌, length, reverse, Bool, true, false, Option, Some, None, Ok, codes}
 use Rattle.sym_print.specs.declared.detail.Detail.TheVariants.{Full}
 use Rattle.sym_print.specs.Unshared.{text_of, cost_of}
 use Rattle.sym_demangle.specs.Mangled.{StandsFor}
@@ -9,7 +9,7 @@ use Rattle.cpp_grammar.specs.Answer.{shown, root_item}
 use Rattle.cpp_grammar.specs.Term.{Term, Qualifiers, any_value, symbol, function, special, pointer, lvalue, rvalue, qualified, instance, integer, pack, nil, list, absent}
 use Rattle.cpp_grammar.specs.Parts.{source_text}
 use Rattle.cpp_grammar.specs.Texts.{look_up, special_texts}
-use Rattle.cpp_grammar.specs.Scope.{has_return_type, is_structor}
+use Rattle.cpp_grammar.specs.Scope.{has_return_type, is_structor, arguments_of, length_if_pack}
 use Rattle.cpp_grammar.specs.References.{is_function_type}
 use Rattle.cpp_grammar.specs.Values as values
 use Rattle.cpp_grammar.specs.Values.{State, Around, Value, tree, named, outermost, tree_of, qualifiers_of, ref_of, signed_digits}
@@ -20,6 +20,7 @@ use Rattle.cpp_direct.specs.declared.open.Nest.{Nest}
 use Rattle.cpp_direct.specs.declared.open.Purpose.{Purpose}
 use Rattle.cpp_direct.specs.declared.open.Purpose.TheVariants as purposes
 use Rattle.cpp_direct.specs.declared.open.Open.{Open}
+use Rattle.cpp_direct.specs.declared.open.Argument.{Argument}
 use Rattle.cpp_direct.specs.declared.open.Open.TheVariants as opens
 use Rattle.cpp_direct.specs.declared.open.Step.{Step}
 use Rattle.cpp_direct.specs.declared.open.Step.TheVariants as steps
@@ -30,7 +31,8 @@ use Rattle.cpp_direct.specs.HolesOfFunctions.{SignatureGoesOn, plain_function}
 use Rattle.cpp_direct.specs.HolesOfTypes.{NoReference}
 use Rattle.cpp_direct.specs.HolesOfLists.{IsSuffix, IsDigitsAt, minus_sign}
 use Rattle.cpp_direct.specs.HolesOfLocals.{EntityOpened, IsDiscriminatorAt, IsEntityAt, IsLambdaDigit, lambda_ending, lambda_with, local_in}
-use Rattle.cpp_direct.specs.Prints.{Prints, PrintsName, Shows, Encloses, NamesClass, PrintAll}
+use Rattle.cpp_direct.specs.Prints.{Prints, PrintsName, Shows, Encloses, NamesClass, PrintAll, PrintsBehind, PrintAllIn}
+use Rattle.cpp_grammar.specs.Parts.{types_of}
 
 -- ## Candidates
 
@@ -49,6 +51,57 @@ abbrev pub AreCandidates : (text : List ℕ) → List Candidate → List values.
 AreCandidates text [] [] = Unit {0}
 AreCandidates text (k ∷ ks) (c ∷ cs) = (k.from ≤ k.to → IsCandidate text k c) × AreCandidates text ks cs
 AreCandidates text _ _ = ⊥
+
+-- ## Arguments of templates
+
+-- this text stands at a place
+pub record IsPlaced (text : List ℕ) (p : Argument) (bytes : List ℕ) : Type 0 where
+  pub front : List ℕ
+  pub back : List ℕ
+  pub written : text ≡ front ++ bytes ++ back
+  pub from_is : p.from ≡ length front
+  pub to_is : p.to ≡ length front + length bytes
+
+-- what stands nowhere
+abbrev pub nowhere : Argument
+nowhere = record { from = 1; to = 0; is_pack = false; is_reference = false }
+
+-- an argument: a type, or a pack of it alone
+abbrev pub packed : (is_pack : Bool) → (own : Term) → Term
+packed false own = own
+packed true own = pack (list own nil)
+
+-- The arguments of a name are one alone, which stands at a place.
+pub record IsArgument (text : List ℕ) (p : Argument) (name : Term) : Type 0 where
+  pub bytes : List ℕ
+  pub placed : IsPlaced text p bytes
+  pub own : Term
+  pub alone : arguments_of name ≡ Some (list (packed p.is_pack own) nil)
+  pub prints : Prints own bytes p.is_reference
+
+-- a parameter may name that argument here
+pub record IsScope (is_pack : Bool) (around : Around) : Type 0 where
+  pub own : Term
+  pub scope_is : around.scope ≡ Some (list (packed is_pack own) nil)
+  pub no_pack : length_if_pack own ≡ None
+
+-- where the argument stands that a type names, or one that is marked
+abbrev pub argument_of : List Open → Option Argument
+argument_of (opens.Pointer from ∷ rest) = argument_of rest
+argument_of (opens.Lvalue from ∷ rest) = argument_of rest
+argument_of (opens.Rvalue from ∷ rest) = argument_of rest
+argument_of (opens.Const from ∷ rest) = argument_of rest
+argument_of (opens.Front is_const start argument ∷ rest) = Some argument
+argument_of (opens.Parameters is_const start argument ∷ rest) = Some argument
+argument_of _ = None
+
+-- if there is one, a parameter may name it
+abbrev pub IsScoped : Around → List Open → Type 0
+IsScoped around open_ = (p : Argument) → argument_of open_ ≡ Some p → p.from ≤ p.to → IsScope p.is_pack around
+
+-- it is a type, and no reference
+abbrev pub IsPlain : Argument → Type 0
+IsPlain p = (p.from ≤ p.to) × (p.is_pack ≡ false) × (p.is_reference ≡ false)
 
 -- ## The end
 
@@ -82,6 +135,7 @@ pub record AwaitsItems (s : List ℕ) (lead : List ℕ) (v : Value) (at : ℕ) (
   pub around : Around
   pub inner : List Opened
   pub outside : around.prefix ≡ outermost
+  pub scope_is : around.scope ≡ arguments_of (tree_of v)
   pub awaits : Expects s Kind.Items around inner at st
   pub onward : (l : Value) (at : ℕ) (st : State) → Comes s inner l at st → EncodedBehind s lead (encoding_of v (no_items l)) at
 
@@ -127,37 +181,41 @@ abbrev pub in_front_of_next : List Term → List ℕ → List ℕ
 in_front_of_next [] l = l
 in_front_of_next (t ∷ ts) l = l ++ codes ", "
 
--- Parameters go on behind these. All of them make an encoding, of which something becomes.
-pub record ItemsGoOn (s : List ℕ) (becomes : Term → (at : ℕ) → State → Type 0) (make : Term → Term) (ts : List Term) (at : ℕ) (st : State) : Type 0 where
+-- Parameters go on behind these. All of them make an encoding, of which something becomes. They may name an argument at a place.
+pub record ItemsGoOn (s : List ℕ) (argument : Argument) (becomes : Term → (at : ℕ) → State → Type 0) (make : Term → Term) (ts : List Term) (at : ℕ) (st : State) : Type 0 where
   pub around : Around
   pub inner : List Opened
   pub outside : around.prefix ≡ outermost
+  pub scoped : argument.from ≤ argument.to → IsScope argument.is_pack around
   pub awaits : Expects s Kind.Items around inner at st
   pub onward : (l : Value) (at : ℕ) (st : State) → Comes s inner l at st → becomes (make (list_with ts (no_items l))) at st
 
 -- They are those of an encoding behind a text.
-abbrev pub ParametersGoOn : (s : List ℕ) → (lead : List ℕ) → (make : Term → Term) → (ts : List Term) → (at : ℕ) → State → Type 0
-ParametersGoOn s lead make ts at st = ItemsGoOn s (λ e here now. EncodedBehind s lead e here) make ts at st
+abbrev pub ParametersGoOn : (s : List ℕ) → (argument : Argument) → (lead : List ℕ) → (make : Term → Term) → (ts : List Term) → (at : ℕ) → State → Type 0
+ParametersGoOn s argument lead make ts at st = ItemsGoOn s argument (λ e here now. EncodedBehind s lead e here) make ts at st
 
 -- a function of this name and these items, without a return type
 abbrev pub plain_encoding : (is_const : Bool) → (own : Term) → (items : Term) → Term
 plain_encoding is_const own items = function own (qualifiers is_const) any_value absent (parameters items)
 
--- A function's name and the parameters so far, with their texts. All parameters make a function that has no return type.
-pub record IsFunction (is_const : Bool) (make : Term → Term) (ts : List Term) (name texts : List ℕ) : Type 0 where
+-- A function's name and the parameters so far, with their texts. All parameters make a function that has no return type. The argument
+-- of its template stands at a place, or it isn't known.
+pub record IsFunction (text : List ℕ) (argument : Argument) (is_const : Bool) (make : Term → Term) (ts : List Term) (name texts : List ℕ) : Type 0 where
   pub own : Term
   pub makes : (t rest : Term) → make (list t rest) ≡ plain_encoding is_const own (list t rest)
   pub prints : PrintsName own name
-  pub elements : PrintAll 0 ts texts
+  pub elements : PrintAllIn (types_of own) 6 ts texts
+  pub names : argument.from ≤ argument.to → IsArgument text argument own
 
--- the name of a function that has a return type, and its text
-pub record IsInstance (is_const : Bool) (v : Value) (name : List ℕ) : Type 0 where
+-- the name of a function that has a return type, and its text, and where the argument of its template stands
+pub record IsInstance (argument : Argument) (is_const : Bool) (v : Value) (name : List ℕ) : Type 0 where
   pub own : Term
   pub tree_is : tree_of v ≡ own
   pub qualifiers_are : qualifiers_of v ≡ qualifiers is_const
   pub mark_is : ref_of v ≡ any_value
   pub prints : PrintsName own name
   pub returns : has_return_type own ≡ true
+  pub names : argument.from ≤ argument.to → IsArgument name argument own
 
 -- ## What is open
 
@@ -196,7 +254,7 @@ Serves s (purposes.Name is_const) below os front =
     (t : Term) (listed : Bool) (at : ℕ) (st : State) → Comes s os (tree t listed) at st → AwaitsItems s front (named t (qualifiers is_const) any_value) at st
 Serves s (purposes.Enclosing is_const) below os front =
     (t : Term) (listed : Bool) (at : ℕ) (st : State) → Comes s os (tree t listed) at st
-    → ItemsGoOn s (TypeWithin s below front) (λ l. encoding_of (named t (qualifiers is_const) any_value) l) [] at st
+    → ItemsGoOn s nowhere (TypeWithin s below front) (λ l. encoding_of (named t (qualifiers is_const) any_value) l) [] at st
 
 -- An instance is read, behind this text: what becomes of it.
 abbrev pub Owns : (s : List ℕ) → Open → Below → (front : List ℕ) → Term → (at : ℕ) → State → Type 0
@@ -314,7 +372,7 @@ TakesFunction (opens.NestArguments nest ∷ rest) = Unit {0}
 TakesFunction (opens.FirstArguments nest ∷ rest) = Unit {0}
 TakesFunction (opens.NameArguments from ∷ rest) = Unit {0}
 TakesFunction (opens.Pack ∷ rest) = Unit {0}
-TakesFunction (opens.Parameters is_const start ∷ rest) = Unit {0}
+TakesFunction (opens.Parameters is_const start argument ∷ rest) = Unit {0}
 TakesFunction (opens.Special ∷ rest) = Unit {0}
 TakesFunction (opens.Enclosing is_const from ∷ rest) = Unit {0}
 TakesFunction _ = ⊥
@@ -326,25 +384,25 @@ Stands s (opens.Pointer from ∷ rest) os text = Marks s (Stands s rest) os text
 Stands s (opens.Lvalue from ∷ rest) os text = Marks s (Stands s rest) os text from lvalue
 Stands s (opens.Rvalue from ∷ rest) os text = Marks s (Stands s rest) os text from rvalue
 Stands s (opens.Const from ∷ rest) os text = Marks s (Stands s rest) os text from (qualified (qualifiers true))
-Stands s (opens.Front is_const start ∷ rest) os text =
-    (v : Value) × IsInstance is_const v text × (is_local s ≡ false) × (start ≡ length text)
-    × ((t : Term) (at : ℕ) (st : State) → Comes s os (tree t true) at st → ParametersGoOn s [] (encoding_of v) (t ∷ []) at st)
-Stands s (opens.Parameters is_const start ∷ rest) os text =
+Stands s (opens.Front is_const start argument ∷ rest) os text =
+    (v : Value) × IsInstance argument is_const v text × (is_local s ≡ false) × (start ≡ length text)
+    × ((t : Term) (at : ℕ) (st : State) → Comes s os (tree t true) at st → ParametersGoOn s argument [] (encoding_of v) (t ∷ []) at st)
+Stands s (opens.Parameters is_const start argument ∷ rest) os text =
     (aside : List ℕ) × (lead : List ℕ) × (make : Term → Term) × (ts : List Term) × (name : List ℕ) × (texts : List ℕ)
-    × IsFunction is_const make ts name texts × (start ≡ length aside)
+    × IsFunction text argument is_const make ts name texts × (start ≡ length aside)
     × (text ≡ aside ++ lead ++ name ++ codes "(" ++ in_front_of_next ts texts)
-    × ((t : Term) (at : ℕ) (st : State) → Comes s os (tree t true) at st → ParametersGoOn s lead make (ts ++ t ∷ []) at st)
+    × ((t : Term) (at : ℕ) (st : State) → Comes s os (tree t true) at st → ParametersGoOn s argument lead make (ts ++ t ∷ []) at st)
 Stands s (opens.Enclosing is_const from ∷ rest) os text =
     (front : List ℕ) × (make : Term → Term) × (ts : List Term) × (name : List ℕ) × (texts : List ℕ)
-    × IsFunction is_const make ts name texts × (from ≡ length front) × (text ≡ front ++ name ++ codes "(" ++ in_front_of_next ts texts)
+    × IsFunction [] nowhere is_const make ts name texts × (from ≡ length front) × (text ≡ front ++ name ++ codes "(" ++ in_front_of_next ts texts)
     × ((t : Term) (at : ℕ) (st : State) → Comes s os (tree t true) at st
-    → ItemsGoOn s (TypeWithin s (Stands s rest) front) make (ts ++ t ∷ []) at st)
+    → ItemsGoOn s nowhere (TypeWithin s (Stands s rest) front) make (ts ++ t ∷ []) at st)
 Stands s (opens.Lambda from ∷ rest) os text =
     (front : List ℕ) × (e : Term) × (bytes : List ℕ) × (ts : List Term) × (texts : List ℕ)
     × Encloses e bytes × PrintAll 0 ts texts × (from ≡ length front)
     × (text ≡ front ++ (bytes ++ codes "::{lambda(") ++ in_front_of_next ts texts)
     × ((t : Term) (at : ℕ) (st : State) → Comes s os (tree t true) at st
-    → ItemsGoOn s (LambdaWithin s (Stands s rest) front e) (λ l. l) (ts ++ t ∷ []) at st)
+    → ItemsGoOn s nowhere (LambdaWithin s (Stands s rest) front e) (λ l. l) (ts ++ t ∷ []) at st)
 Stands s (opens.Returned is_pointer ∷ rest) os text =
     (outer : List Opened) × (e : ℕ)
     × ((r : Term) (at : ℕ) (st : State) → Comes s os (tree r true) at st → SignatureGoesOn s outer e is_pointer (λ l. plain_function r l) at st)
@@ -359,6 +417,18 @@ Stands s (opens.Signature is_pointer ∷ rest) os text =
 Stands s (opens.Special ∷ rest) os text =
     (letter : ℕ) × (text ≡ look_up (letter ∷ []) special_texts) × (text ≢ [])
     × ((t : Term) (at : ℕ) (st : State) → Comes s os (tree t true) at st → Encoded s (special letter t) at)
+Stands s (opens.Argument from ∷ []) os text = ⊥
+Stands s (opens.Argument from ∷ owner ∷ rest) os text =
+    (front : List ℕ) × (template : Term) × (name : List ℕ) × IsTemplate owner front template name text
+    × (text ≡ front ++ name ++ codes "<") × (from ≡ length text)
+    × ((t : Term) (at : ℕ) (st : State) → Comes s os (tree t true) at st
+    → ArgumentsGoOn s owner (Stands s rest) front template (t ∷ []) at st)
+Stands s (opens.Element from ∷ opens.Pack ∷ owner ∷ rest) os text =
+    (front : List ℕ) × (template : Term) × (name : List ℕ) × IsTemplate owner front template name text
+    × (text ≡ front ++ name ++ codes "<") × (from ≡ length text)
+    × ((t : Term) (at : ℕ) (st : State) → Comes s os (tree t true) at st
+    → GoesOn s (of_pack [] []) owner (Stands s rest) front template (t ∷ []) at st)
+Stands s (opens.Element from ∷ rest) os text = ⊥
 Stands s (opens.Enumerator ∷ []) os text = ⊥
 Stands s (opens.Enumerator ∷ opens.Pack ∷ []) os text = ⊥
 Stands s (opens.Enumerator ∷ opens.Pack ∷ owner ∷ rest) os text =
@@ -388,12 +458,19 @@ IsBefore s w st steps.Type =
     (os : List Opened) × (around : Around) × (around.prefix ≡ outermost)
     × (Expects s Kind.Type around os w.at st ⊎ Expects s Kind.Item around os w.at st
     ⊎ (Expects s Kind.ItemButRef around os w.at st × NoReference s w.at)) × Stands s (reverse w.waiting.list.items) os w.text.list.items
+    × IsScoped around (reverse w.waiting.list.items)
 IsBefore s w st steps.Plain =
     (os : List Opened) × (around : Around) × (around.prefix ≡ outermost)
     × Expects s Kind.Plain around os w.at st × Stands s (reverse w.waiting.list.items) os w.text.list.items
+    × IsScoped around (reverse w.waiting.list.items)
 IsBefore s w st (steps.Value is_reference) =
     (os : List Opened) × (t : Term) × (front : List ℕ) × (bytes : List ℕ)
     × (w.text.list.items ≡ front ++ bytes) × Prints t bytes is_reference
+    × Comes s os (tree t true) w.at st × Stands s (reverse w.waiting.list.items) os front
+IsBefore s w st (steps.Dependent is_reference) =
+    (os : List Opened) × (t : Term) × (front : List ℕ) × (bytes : List ℕ) × (marks : List ℕ) × (p : Argument)
+    × (w.text.list.items ≡ front ++ bytes ++ marks) × PrintsBehind t marks is_reference
+    × (argument_of (reverse w.waiting.list.items) ≡ Some p) × IsPlain p × IsPlaced front p bytes
     × Comes s os (tree t true) w.at st × Stands s (reverse w.waiting.list.items) os front
 IsBefore s w st (steps.List is_first) =
     (place : IsListing (reverse w.waiting.list.items) w.text.list.items) × (ts : List Term) × (elements : List ℕ)
@@ -405,6 +482,7 @@ IsBefore s w st steps.Rest = (t : Term) × IsNesting s Kind.NestRest w t st
 IsBefore s w st steps.Tail =
     (t : Term) × IsNesting s Kind.NestTail w t st × (w.nest.is_instance ≡ false → has_return_type t ≡ false)
     × (w.nest.is_instance ≡ true → has_return_type t ≡ true)
+    × (w.nest.is_instance ≡ true → w.argument.from ≤ w.argument.to → IsArgument w.text.list.items w.argument t)
 IsBefore s w st steps.Component =
     (t : Term) × (front : List ℕ) × (bytes : List ℕ) × (around : Around) × (outer : List Opened)
     × (w.text.list.items ≡ front ++ bytes) × IsNest front bytes w.text.list.items w.nest t × AwaitsComponent s outer around t w.at st × Serves s w.nest.purpose (Stands s (reverse w.waiting.list.items)) outer front

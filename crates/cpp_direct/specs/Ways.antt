@@ -1,23 +1,24 @@
 -- Where a writer is between two of its functions, within a step.
-use Rattle.std.specs.Prelude.{◌≡◌, ◌≢◌, ◌⊎◌, ℕ, ◌+◌, List, [], ◌∷◌, ◌++◌, length, reverse, Bool, true, false, cond, codes}
+use Rattle.std.specs.Prelude.{◌≡◌, ◌≢◌, ◌⊎◌, ℕ, ◌+◌, List, [], ◌∷◌, ◌++◌, length, reverse, ◌≤◌, Bool, true, false, cond, Some, codes}
 use Rattle.cpp_grammar.specs.declared.kind.Kind.{Kind}
-use Rattle.cpp_grammar.specs.Term.{Term, Signed, any_value, instance, builtin}
+use Rattle.cpp_grammar.specs.Term.{Term, Signed, any_value, instance, builtin, list, nil}
 use Rattle.cpp_grammar.specs.Texts.{look_up, builtin_texts, literal_endings}
-use Rattle.cpp_grammar.specs.Parts.{is_plain_integer}
+use Rattle.cpp_grammar.specs.Parts.{is_plain_integer, types_of}
 use Rattle.cpp_grammar.specs.Scope.{has_return_type, is_structor}
 use Rattle.cpp_grammar.specs.Between.{after, in_name}
 use Rattle.cpp_grammar.specs.Meaning.{encoding_of}
 use Rattle.cpp_grammar.specs.Values.{State, Around, Value, nothing_there, tree, outermost, tree_of, qualifiers_of, ref_of}
 use Rattle.cpp_direct.specs.declared.open.Purpose.{Purpose}
 use Rattle.cpp_direct.specs.declared.open.Open.{Open}
+use Rattle.cpp_direct.specs.declared.open.Argument.{Argument}
 use Rattle.cpp_direct.specs.declared.open.Open.TheVariants as opens
 use Rattle.cpp_direct.specs.declared.direct.Direct.{Direct}
 use Rattle.cpp_direct.specs.Bytes.{is_local}
 use Rattle.cpp_direct.specs.Holes.{Opened, StandsAt, Comes, Expects, IsReferable, IsTyped, TypeNamed, NestNamed, with_candidate}
 use Rattle.cpp_direct.specs.HolesOfFunctions.{SignatureGoesOn, plain_function, pointed, with_pointed}
 use Rattle.cpp_direct.specs.HolesOfTypes.{IsNamedKind, NoReference, TreeOpens}
-use Rattle.cpp_direct.specs.Prints.{Prints, PrintsName, IsElement, PrintAll, Shows, Encloses, sign_text}
-use Rattle.cpp_direct.specs.Stands.{AreCandidates, AwaitsItems, Encoded, EncodedBehind, IsFunction, IsInstance, IsListing, IsNest, IsTail, IsTemplate, GoesOn, EnumeratorGoesOn, ItemsGoOn, LambdaWithin, Owns, ParametersGoOn, Serves, Stands, TypeWithin, TakesFunction, opening_text, qualifiers, extra_of, led_by, list_with, in_front_of_next}
+use Rattle.cpp_direct.specs.Prints.{Prints, PrintsName, IsElement, PrintAll, Shows, Encloses, sign_text, PrintsIn, PrintsBehind}
+use Rattle.cpp_direct.specs.Stands.{AreCandidates, AwaitsItems, Encoded, EncodedBehind, IsFunction, IsInstance, IsListing, IsNest, IsTail, IsTemplate, GoesOn, EnumeratorGoesOn, ItemsGoOn, LambdaWithin, Owns, ParametersGoOn, Serves, Stands, TypeWithin, TakesFunction, opening_text, qualifiers, extra_of, led_by, list_with, in_front_of_next, IsPlaced, IsArgument, IsScoped, argument_of, nowhere, packed, of_pack, IsPlain, ArgumentsGoOn}
 
 -- what stands behind the parameters of a member function
 abbrev pub const_text : (is_const : Bool) → List ℕ
@@ -81,6 +82,7 @@ pub record AwaitsType (s : List ℕ) (w : Direct) : Type 0 where
   pub os : List Opened
   pub awaits : Expects s kind around os w.at state
   pub stands : Stands s (reverse w.waiting.list.items) os w.text.list.items
+  pub scoped : IsScoped around (reverse w.waiting.list.items)
 
 -- a type is expected that is a name
 pub record AwaitsNamedType (s : List ℕ) (w : Direct) : Type 0 where
@@ -128,6 +130,64 @@ pub record AwaitsMark (s : List ℕ) (w : Direct) (mark : List ℕ) (from : ℕ)
   pub from_is : from ≡ length front
   pub prints : Prints made (bytes ++ mark) is_reference
   pub stands : Stands s rest outer front
+
+-- A type that names the argument of the function's template was read, and what waits for it marks it. It was written, but for its mark.
+pub record AwaitsDependentMark (s : List ℕ) (w : Direct) (mark : List ℕ) (is_reference : Bool) : Type 0 where
+  pub state : State
+  pub candidates : AreCandidates w.text.list.items w.candidates.list.items state.candidates
+  pub entry : Open
+  pub rest : List Open
+  pub open_is : reverse w.waiting.list.items ≡ entry ∷ rest
+  pub outer : List Opened
+  pub encoding : ℕ
+  pub made : Term
+  pub comes : Comes s outer (tree made true) w.at (with_candidate encoding made state)
+  pub front : List ℕ
+  pub bytes : List ℕ
+  pub marks : List ℕ
+  pub written : w.text.list.items ≡ front ++ bytes ++ marks
+  pub prints : PrintsBehind made (marks ++ mark) is_reference
+  pub argument : Argument
+  pub found : argument_of rest ≡ Some argument
+  pub plain : IsPlain argument
+  pub placed : IsPlaced front argument bytes
+  pub stands : Stands s rest outer front
+
+-- The first argument of a name was read, which is a type.
+pub record IsArgumentRead (s : List ℕ) (w : Direct) (from : ℕ) (is_reference : Bool) : Type 0 where
+  pub state : State
+  pub candidates : AreCandidates w.text.list.items w.candidates.list.items state.candidates
+  pub owner : Open
+  pub rest : List Open
+  pub open_is : reverse w.waiting.list.items ≡ opens.Argument from ∷ owner ∷ rest
+  pub front : List ℕ
+  pub template : Term
+  pub name : List ℕ
+  pub t : Term
+  pub bytes : List ℕ
+  pub is_template : IsTemplate owner front template name w.text.list.items
+  pub written : w.text.list.items ≡ front ++ name ++ codes "<" ++ bytes
+  pub from_is : from ≡ length (front ++ name ++ codes "<")
+  pub prints : Prints t bytes is_reference
+  pub goes : ArgumentsGoOn s owner (Stands s rest) front template (t ∷ []) w.at state
+
+-- The first element of a pack was read, which is the first argument of a name.
+pub record IsPackElementRead (s : List ℕ) (w : Direct) (from : ℕ) (is_reference : Bool) : Type 0 where
+  pub state : State
+  pub candidates : AreCandidates w.text.list.items w.candidates.list.items state.candidates
+  pub owner : Open
+  pub rest : List Open
+  pub open_is : reverse w.waiting.list.items ≡ opens.Element from ∷ opens.Pack ∷ owner ∷ rest
+  pub front : List ℕ
+  pub template : Term
+  pub name : List ℕ
+  pub t : Term
+  pub bytes : List ℕ
+  pub is_template : IsTemplate owner front template name w.text.list.items
+  pub written : w.text.list.items ≡ front ++ name ++ codes "<" ++ bytes
+  pub from_is : from ≡ length (front ++ name ++ codes "<")
+  pub prints : Prints t bytes is_reference
+  pub goes : GoesOn s (of_pack [] []) owner (Stands s rest) front template (t ∷ []) w.at state
 
 -- the first piece of a nested name is expected
 pub record AwaitsNest (s : List ℕ) (w : Direct) (purpose : Purpose) : Type 0 where
@@ -197,8 +257,9 @@ pub record AwaitsClass (s : List ℕ) (w : Direct) : Type 0 where
   pub structor : is_structor own ≡ true
   pub serves : Serves s w.nest.purpose (Stands s (reverse w.waiting.list.items)) outer front
 
--- The arguments of what was opened last are read and their E, but for their last bracket.
-pub record IsListEnded (s : List ℕ) (w : Direct) : Type 0 where
+-- The arguments of what was opened last are read and their E, but for their last bracket. Where a place is given they are one type
+-- alone, or a pack of one, which stands there.
+pub record IsListEnded (s : List ℕ) (w : Direct) (argument : Argument) : Type 0 where
   pub state : State
   pub candidates : AreCandidates w.text.list.items w.candidates.list.items state.candidates
   pub owner : Open
@@ -215,6 +276,8 @@ pub record IsListEnded (s : List ℕ) (w : Direct) : Type 0 where
   pub elements : PrintAll 3 ts arguments
   pub written : w.text.list.items ≡ front ++ name ++ codes "<" ++ arguments
   pub owns : Owns s owner (Stands s rest) front (instance template (list_with ts tail)) w.at state
+  pub alone : argument.from ≤ argument.to → (t : Term) × (list_with ts tail ≡ list (packed argument.is_pack t) nil) × Prints t arguments argument.is_reference
+      × (argument.from ≡ length (front ++ name ++ codes "<")) × (argument.to ≡ length (front ++ name ++ codes "<") + length arguments)
 
 -- An element is expected, and the comma before it is written.
 pub record AwaitsNextArgument (s : List ℕ) (w : Direct) : Type 0 where
@@ -260,43 +323,61 @@ pub record IsNameEnded (s : List ℕ) (w : Direct) (is_const is_instance : Bool)
   pub prints : PrintsName own name
   pub no_return : is_instance ≡ false → has_return_type own ≡ false
   pub returns : is_instance ≡ true → has_return_type own ≡ true
+  pub names : is_instance ≡ true → w.argument.from ≤ w.argument.to → IsArgument w.text.list.items w.argument own
   pub awaits : AwaitsItems s lead v w.at state
 
 -- The return type of a function was read, and stands behind the function's name.
-pub record IsFrontRead (s : List ℕ) (w : Direct) (is_const : Bool) (start : ℕ) : Type 0 where
+pub record IsFrontRead (s : List ℕ) (w : Direct) (is_const : Bool) (start : ℕ) (argument : Argument) : Type 0 where
   pub state : State
   pub candidates : AreCandidates w.text.list.items w.candidates.list.items state.candidates
   pub v : Value
   pub name : List ℕ
-  pub is_instance : IsInstance is_const v name
+  pub is_instance : IsInstance argument is_const v name
   pub apart : is_local s ≡ false
   pub start_is : start ≡ length name
   pub returned : Term
   pub bytes : List ℕ
   pub is_reference : Bool
-  pub prints : Prints returned bytes is_reference
+  pub prints : PrintsIn (types_of is_instance.own) 2 returned bytes is_reference
   pub written : w.text.list.items ≡ name ++ bytes
-  pub goes : ParametersGoOn s [] (encoding_of v) (returned ∷ []) w.at state
+  pub goes : ParametersGoOn s argument [] (encoding_of v) (returned ∷ []) w.at state
 
 -- A function's name was read and written, and what stands in front of it. Its parameters are expected.
-pub record AwaitsParameters (s : List ℕ) (w : Direct) (is_const : Bool) (start : ℕ) : Type 0 where
+pub record AwaitsParameters (s : List ℕ) (w : Direct) (is_const : Bool) (start : ℕ) (argument : Argument) : Type 0 where
   pub state : State
   pub candidates : AreCandidates w.text.list.items w.candidates.list.items state.candidates
   pub make : Term → Term
   pub aside : List ℕ
   pub lead : List ℕ
   pub name : List ℕ
-  pub is_function : IsFunction is_const make [] name []
+  pub is_function : IsFunction w.text.list.items argument is_const make [] name []
   pub start_is : start ≡ length aside
   pub written : w.text.list.items ≡ aside ++ lead ++ name
-  pub goes : ParametersGoOn s lead make [] w.at state
+  pub goes : ParametersGoOn s argument lead make [] w.at state
 
--- A parameter of a function was read.
-pub record IsParameterEnded (s : List ℕ) (w : Direct) (is_const : Bool) (start : ℕ) : Type 0 where
+-- A parameter of a function is expected.
+pub record AwaitsNextParameter (s : List ℕ) (w : Direct) (is_const : Bool) (start : ℕ) (argument : Argument) : Type 0 where
   pub state : State
   pub candidates : AreCandidates w.text.list.items w.candidates.list.items state.candidates
   pub rest : List Open
-  pub open_is : reverse w.waiting.list.items ≡ opens.Parameters is_const start ∷ rest
+  pub open_is : reverse w.waiting.list.items ≡ opens.Parameters is_const start argument ∷ rest
+  pub make : Term → Term
+  pub ts : List Term
+  pub aside : List ℕ
+  pub lead : List ℕ
+  pub name : List ℕ
+  pub texts : List ℕ
+  pub is_function : IsFunction w.text.list.items argument is_const make ts name texts
+  pub start_is : start ≡ length aside
+  pub written : w.text.list.items ≡ aside ++ lead ++ name ++ codes "(" ++ in_front_of_next ts texts
+  pub goes : ParametersGoOn s argument lead make ts w.at state
+
+-- A parameter of a function was read.
+pub record IsParameterEnded (s : List ℕ) (w : Direct) (is_const : Bool) (start : ℕ) (argument : Argument) : Type 0 where
+  pub state : State
+  pub candidates : AreCandidates w.text.list.items w.candidates.list.items state.candidates
+  pub rest : List Open
+  pub open_is : reverse w.waiting.list.items ≡ opens.Parameters is_const start argument ∷ rest
   pub make : Term → Term
   pub ts : List Term
   pub some : ts ≢ []
@@ -304,10 +385,10 @@ pub record IsParameterEnded (s : List ℕ) (w : Direct) (is_const : Bool) (start
   pub lead : List ℕ
   pub name : List ℕ
   pub texts : List ℕ
-  pub is_function : IsFunction is_const make ts name texts
+  pub is_function : IsFunction w.text.list.items argument is_const make ts name texts
   pub start_is : start ≡ length aside
   pub written : w.text.list.items ≡ aside ++ lead ++ name ++ codes "(" ++ texts
-  pub goes : ParametersGoOn s lead make ts w.at state
+  pub goes : ParametersGoOn s argument lead make ts w.at state
 
 -- An encoding was read and written behind a text, but for its qualifier.
 pub record IsEncodingEnded (s : List ℕ) (w : Direct) (is_const : Bool) : Type 0 where
@@ -357,7 +438,7 @@ pub record IsEnclosingNamed (s : List ℕ) (w : Direct) (is_const : Bool) (from 
   pub from_is : from ≡ length front
   pub prints : PrintsName own name
   pub no_return : has_return_type own ≡ false
-  pub goes : ItemsGoOn s (TypeWithin s (Stands s (reverse w.waiting.list.items)) front) (λ l. encoding_of v l) [] w.at state
+  pub goes : ItemsGoOn s nowhere (TypeWithin s (Stands s (reverse w.waiting.list.items)) front) (λ l. encoding_of v l) [] w.at state
 
 -- A parameter of such a function was read.
 pub record IsEnclosingParameterRead (s : List ℕ) (w : Direct) (is_const : Bool) (from : ℕ) : Type 0 where
@@ -371,10 +452,10 @@ pub record IsEnclosingParameterRead (s : List ℕ) (w : Direct) (is_const : Bool
   pub front : List ℕ
   pub name : List ℕ
   pub texts : List ℕ
-  pub is_function : IsFunction is_const make ts name texts
+  pub is_function : IsFunction [] nowhere is_const make ts name texts
   pub from_is : from ≡ length front
   pub written : w.text.list.items ≡ front ++ name ++ codes "(" ++ texts
-  pub goes : ItemsGoOn s (TypeWithin s (Stands s rest) front) make ts w.at state
+  pub goes : ItemsGoOn s nowhere (TypeWithin s (Stands s rest) front) make ts w.at state
 
 -- Such a function was read and written from a place on, but for its qualifier.
 pub record IsEnclosingRead (s : List ℕ) (w : Direct) (is_const : Bool) (from : ℕ) : Type 0 where
@@ -411,7 +492,7 @@ pub record IsLambdaParameterRead (s : List ℕ) (w : Direct) (from : ℕ) : Type
   pub elements : PrintAll 0 ts texts
   pub from_is : from ≡ length front
   pub written : w.text.list.items ≡ front ++ (bytes ++ codes "::{lambda(") ++ texts
-  pub goes : ItemsGoOn s (LambdaWithin s (Stands s rest) front e) (λ l. l) ts w.at state
+  pub goes : ItemsGoOn s nowhere (LambdaWithin s (Stands s rest) front e) (λ l. l) ts w.at state
 
 -- ## Function types
 

@@ -1,6 +1,6 @@
 // The lists of a writer.
 
-use crate::open::{Candidate, Nest, Open};
+use crate::open::{Argument, Candidate, Nest, Open};
 use sym_direct::Bounded;
 
 /// The lists with which texts are written, one after the other.
@@ -10,6 +10,8 @@ pub struct Direct {
     pub(crate) candidates: Bounded<Candidate>,
     pub(crate) waiting: Bounded<Open>,
     pub(crate) nest: Nest,
+    /// the argument of the name that was read last, if it has one alone, and this is a type or a pack of one, and no function type
+    pub(crate) argument: Argument,
     pub(crate) at: usize,
     pub(crate) rounds: usize,
 }

@@ -30,6 +30,8 @@ impl Direct {
             | Open::Enumerator
             | Open::Lambda { .. }
             | Open::Front { .. }
+            | Open::Argument { .. }
+            | Open::Element { .. }
             | Open::Returned { .. }
             | Open::Signature { .. } => return None,
             _ => {}
@@ -124,7 +126,11 @@ impl Direct {
         self.add_hidden(is_pointer)?;
         let _open = self.waiting.pop();
         match *self.waiting.as_slice().last()? {
-            Open::Parameters { is_const, start } => self.parameter_ended(s, is_const, start),
+            Open::Parameters {
+                is_const,
+                start,
+                argument,
+            } => self.parameter_ended(s, is_const, start, argument),
             Open::Enclosing { is_const, from } => self.enclosing_parameter(s, is_const, from),
             Open::Special => self.finish(s),
             _ => Some(Step::List { is_first: false }),

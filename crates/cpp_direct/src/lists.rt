@@ -17,7 +17,8 @@ ghost use Rattle.cpp_direct.specs.Written.{Reads};
 
 use crate::direct::Direct;
 use crate::letters::is_integer_letter;
-use crate::open::{Nest, Open, Step};
+use crate::open::{Argument, Nest, Open, Step};
+use crate::symbols::NOWHERE;
 use crate::tokens::byte_at;
 use sym_core::{NumberKind, find_number};
 
@@ -81,6 +82,9 @@ impl Direct {
             if behind == b'E' {
                 return self.empty_pack(s, is_first);
             }
+            if is_first {
+                return self.first_pack(s);
+            }
         }
         if !is_first {
             self.push_pair(b',', b' ')?;
@@ -88,13 +92,18 @@ impl Direct {
         match byte {
             b'L' => self.literal(s),
             b'J' => self.begin_pack(s),
-            _ => Some(Step::Type),
+            _ => {
+                if is_first {
+                    return self.first_type(s);
+                }
+                Some(Step::Type)
+            }
         }
     }
 
     // <template-arg> ::= J <template-arg>* E
     #[inline(always)]
-    fn begin_pack(&mut self, s: &[u8]) -> Option<Step>
+    pub(crate) fn begin_pack(&mut self, s: &[u8]) -> Option<Step>
         requires letter { StandsAt s.now self.old.at (74 ∷ []) }
         requires awaits { AwaitsNextArgument s.now self.old }
         ensures { IfSome result (IsWriting s.now self.new) }
@@ -121,7 +130,7 @@ impl Direct {
         self.at = self.at.checked_add(1)?;
         match *self.waiting.as_slice().last()? {
             Open::Pack => None,
-            _ => self.close_list(s),
+            _ => self.close_list(s, NOWHERE),
         }
     }
 
@@ -143,17 +152,18 @@ impl Direct {
                 let _open = self.waiting.pop();
                 Some(Step::List { is_first: false })
             }
-            _ => self.close_list(s),
+            _ => self.close_list(s, NOWHERE),
         }
     }
 
-    /// Ends arguments.
-    fn close_list(&mut self, s: &[u8]) -> Option<Step>
+    /// Ends arguments. Where they are one alone, a type or a pack of one, its text may stand at a place.
+    pub(crate) fn close_list(&mut self, s: &[u8], argument: Argument) -> Option<Step>
         requires fits { IsReadable s.now }
-        requires ended { IsListEnded s.now self.old }
+        requires ended { IsListEnded s.now self.old argument }
         ensures { IfSome result (IsWriting s.now self.new) }
     {
         self.push_byte(b'>')?;
+        self.argument = argument;
         match self.waiting.pop()? {
             Open::TypeArguments { from } => {
                 self.add_candidate(from, false)?;

@@ -8,6 +8,16 @@ pub struct Candidate {
     pub is_reference: bool,
 }
 
+/// The one argument of a name, a type or a pack of one type, and where its text stands in what is written. One that ends before it
+/// begins is nowhere.
+#[derive(Clone, Copy)]
+pub struct Argument {
+    pub from: usize,
+    pub to: usize,
+    pub is_pack: bool,
+    pub is_reference: bool,
+}
+
 /// What a nested name is read as.
 #[derive(Clone, Copy)]
 pub enum Purpose {
@@ -37,34 +47,75 @@ pub struct Nest {
 /// What waits for the type that is being read.
 #[derive(Clone, Copy)]
 pub enum Open {
-    Pointer { from: usize },
-    Lvalue { from: usize },
-    Rvalue { from: usize },
-    Const { from: usize },
+    Pointer {
+        from: usize,
+    },
+    Lvalue {
+        from: usize,
+    },
+    Rvalue {
+        from: usize,
+    },
+    Const {
+        from: usize,
+    },
     /// the arguments of a type
-    TypeArguments { from: usize },
+    TypeArguments {
+        from: usize,
+    },
     /// the arguments of a component, or of a name in std, in a nested name
-    NestArguments { nest: Nest },
+    NestArguments {
+        nest: Nest,
+    },
     /// the arguments of a nested name's first piece, behind which a component stands
-    FirstArguments { nest: Nest },
+    FirstArguments {
+        nest: Nest,
+    },
     /// the arguments of a name of an encoding
-    NameArguments { from: usize },
+    NameArguments {
+        from: usize,
+    },
     /// the return type of a function, which is written behind its name; what was written up to this place is no part of the text
-    Front { is_const: bool, start: usize },
+    Front {
+        is_const: bool,
+        start: usize,
+        argument: Argument,
+    },
     /// the parameters of a function, whose text begins at this place
-    Parameters { is_const: bool, start: usize },
+    Parameters {
+        is_const: bool,
+        start: usize,
+        argument: Argument,
+    },
     /// the parameters of a function in which a type stands; the type's text begins at this place, with the function's
-    Enclosing { is_const: bool, from: usize },
+    Enclosing {
+        is_const: bool,
+        from: usize,
+    },
     /// the parameters of a lambda that stands in a function, whose text begins at this place
-    Lambda { from: usize },
+    Lambda {
+        from: usize,
+    },
     /// the name of a special symbol
     Special,
     /// the return type of a function type that is an element or a parameter, by itself or behind a pointer
-    Returned { is_pointer: bool },
+    Returned {
+        is_pointer: bool,
+    },
     /// its parameters
-    Signature { is_pointer: bool },
+    Signature {
+        is_pointer: bool,
+    },
+    /// the first argument of a name, whose text begins at this place: an element of what was opened before
+    Argument {
+        from: usize,
+    },
     /// the elements of a pack, an argument of what was opened before
     Pack,
+    /// the first element of a pack that is the first argument of a name, whose text begins at this place
+    Element {
+        from: usize,
+    },
     /// the number of an enumerator, an element of what was opened before
     Enumerator,
 }
@@ -78,6 +129,8 @@ pub enum Step {
     Plain,
     /// a type was read
     Value { is_reference: bool },
+    /// a type was read that names the argument of the function's template
+    Dependent { is_reference: bool },
     /// an argument or an element of a pack, or the end of either
     List { is_first: bool },
     /// a component, or the arguments of the first piece of a nested name

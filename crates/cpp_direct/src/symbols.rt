@@ -12,7 +12,7 @@ ghost use Rattle.cpp_direct.specs.Ways.{IsFresh, AwaitsEncoding, IsNameEnded, Is
 
 use crate::direct::Direct;
 use crate::names::are_name_bytes;
-use crate::open::{Nest, Open, Purpose, Step};
+use crate::open::{Argument, Nest, Open, Purpose, Step};
 use crate::tokens::{byte_at, is_local, is_suffix, may_end};
 use std::alloc::Global;
 use sym_direct::Bounded;
@@ -40,6 +40,14 @@ const NO_NEST: Nest = Nest {
     is_instance: false,
 };
 
+/// No argument that is known.
+pub const NOWHERE: Argument = Argument {
+    from: 1,
+    to: 0,
+    is_pack: false,
+    is_reference: false,
+};
+
 impl Direct {
     /// Lists that have no memory yet.
     pub fn new(alloc: Global) -> Direct {
@@ -48,6 +56,7 @@ impl Direct {
             candidates: Bounded::new(alloc),
             waiting: Bounded::new(alloc),
             nest: NO_NEST,
+            argument: NOWHERE,
             at: 0,
             rounds: 0,
         }
@@ -155,6 +164,7 @@ impl Direct {
             Step::Type => self.type_at(s, false),
             Step::Plain => self.type_at(s, true),
             Step::Value { is_reference } => self.pass(s, is_reference),
+            Step::Dependent { is_reference } => self.pass_dependent(s, is_reference),
             Step::List { is_first } => self.list_at(s, is_first),
             Step::Rest => self.rest_at(s),
             Step::Tail => self.tail_at(s),
@@ -259,7 +269,7 @@ impl Direct {
         if is_instance {
             return self.begin_front(s, is_const, from);
         }
-        self.begin_parameters(s, is_const, 0)
+        self.begin_parameters(s, is_const, 0, NOWHERE)
     }
 
     /// The return type of a function is expected, which stands in front of its name in the text. It is written behind the name, and
@@ -276,16 +286,27 @@ impl Direct {
             return None;
         }
         let start = self.text.len();
-        self.waiting.push(Open::Front { is_const, start })?;
+        let argument = self.argument;
+        self.waiting.push(Open::Front {
+            is_const,
+            start,
+            argument,
+        })?;
         Some(Step::Type)
     }
 
     /// The return type of a function is read: its parameters follow.
     // <bare-function-type> ::= <return type> <parameter type>+
     #[inline(never)]
-    pub(crate) fn front_ended(&mut self, s: &[u8], is_const: bool, start: usize) -> Option<Step>
+    pub(crate) fn front_ended(
+        &mut self,
+        s: &[u8],
+        is_const: bool,
+        start: usize,
+        argument: Argument,
+    ) -> Option<Step>
         requires fits { IsReadable s.now }
-        requires ended { IsFrontRead s.now self.old is_const start }
+        requires ended { IsFrontRead s.now self.old is_const start argument }
         ensures { IfSome result (IsWriting s.now self.new) }
     {
         if may_end(byte_at(s, self.at)) {
@@ -294,15 +315,21 @@ impl Direct {
         let _open = self.waiting.pop();
         self.push_byte(b' ')?;
         self.repeat(0, start)?;
-        self.begin_parameters(s, is_const, start)
+        self.begin_parameters(s, is_const, start, argument)
     }
 
     /// Reads the parameters of a function up to the first type in them. Its text begins at a place.
     // <bare-function-type> ::= <parameter type>+ | v
     #[inline(always)]
-    fn begin_parameters(&mut self, s: &[u8], is_const: bool, start: usize) -> Option<Step>
+    fn begin_parameters(
+        &mut self,
+        s: &[u8],
+        is_const: bool,
+        start: usize,
+        argument: Argument,
+    ) -> Option<Step>
         requires fits { IsReadable s.now }
-        requires awaits { AwaitsParameters s.now self.old is_const start }
+        requires awaits { AwaitsParameters s.now self.old is_const start argument }
         ensures { IfSome result (IsWriting s.now self.new) }
     {
         let byte = byte_at(s, self.at);
@@ -314,21 +341,48 @@ impl Direct {
             self.cut(start)?;
             return self.end(s, is_const);
         }
-        self.waiting.push(Open::Parameters { is_const, start })?;
-        Some(Step::Type)
+        self.waiting.push(Open::Parameters {
+            is_const,
+            start,
+            argument,
+        })?;
+        self.next_parameter(s, is_const, start, argument)
     }
 
     /// A parameter is read: another one follows, or the end of the encoding.
-    pub(crate) fn parameter_ended(&mut self, s: &[u8], is_const: bool, start: usize) -> Option<Step>
+    pub(crate) fn parameter_ended(
+        &mut self,
+        s: &[u8],
+        is_const: bool,
+        start: usize,
+        argument: Argument,
+    ) -> Option<Step>
         requires fits { IsReadable s.now }
-        requires ended { IsParameterEnded s.now self.old is_const start }
+        requires ended { IsParameterEnded s.now self.old is_const start argument }
         ensures { IfSome result (IsWriting s.now self.new) }
     {
         let byte = byte_at(s, self.at);
         if !may_end(byte) {
             self.push_pair(b',', b' ')?;
-            return Some(Step::Type);
+            return self.next_parameter(s, is_const, start, argument);
         }
+        self.close_parameters(s, is_const, start, argument)
+    }
+
+    /// The end of an encoding is reached behind a parameter.
+    // <bare-function-type> ::= <parameter type>+
+    #[inline(always)]
+    pub(crate) fn close_parameters(
+        &mut self,
+        s: &[u8],
+        is_const: bool,
+        start: usize,
+        _argument: Argument,
+    ) -> Option<Step>
+        requires fits { FitsSymbol s.now }
+        requires ended { IsParameterEnded s.now self.old is_const start _argument }
+        ensures { IfSome result (IsWriting s.now self.new) }
+    {
         // a lone void is no parameter
         if self.text.as_slice().ends_with(b"(void") {
             return None;

@@ -45,6 +45,7 @@ impl Direct {
             }
             b'N' | b'S' | b'Z' | b'1'..=b'9' => self.named_type(s),
             b'D' => self.builtin_with_d(s),
+            b'T' => self.template_parameter(s),
             letter => self.builtin(s, letter),
         }
     }
@@ -184,14 +185,24 @@ impl Direct {
                 }
                 self.mark(s, b" const", from, false)
             }
-            Open::Parameters { is_const, start } => self.parameter_ended(s, is_const, start),
-            Open::Front { is_const, start } => self.front_ended(s, is_const, start),
+            Open::Parameters {
+                is_const,
+                start,
+                argument,
+            } => self.parameter_ended(s, is_const, start, argument),
+            Open::Front {
+                is_const,
+                start,
+                argument,
+            } => self.front_ended(s, is_const, start, argument),
             Open::Returned { is_pointer } => self.returned(s, is_pointer),
             Open::Signature { is_pointer } => self.parameter_at(s, is_pointer, false),
             Open::Enclosing { is_const, from } => self.enclosing_parameter(s, is_const, from),
             Open::Lambda { from } => self.lambda_parameter(s, from),
             Open::Special => self.finish(s),
             Open::Enumerator => self.enumerator(s),
+            Open::Argument { from } => self.argument_ended(s, from, is_reference),
+            Open::Element { from } => self.element_ended(s, from, is_reference),
             _ => Some(Step::List { is_first: false }),
         }
     }

@@ -15,6 +15,7 @@ returns c =
     function-begins c.args.s.now old _ c.args.is_pointer last c.requires.writing c.requires.letters
     (waits-last _ _ _ _ c.as_slice.ensures c.in_ok-last.ensures.value refl)
     (λ rest. takes-function last rest c.in_default.not-Pointer c.in_default.not-Lvalue c.in_default.not-Rvalue c.in_default.not-Const
-    c.in_default.not-Enumerator c.in_default.not-Returned c.in_default.not-Signature c.in_default.not-Front c.in_default.not-Lambda)
+    c.in_default.not-Enumerator c.in_default.not-Returned c.in_default.not-Signature c.in_default.not-Front c.in_default.not-Argument
+    c.in_default.not-Lambda c.in_default.not-Element)
     c.in_ok-push.ensures.items
     (c.in_ok-self.ensures.1 ∙ ap (λ n. old.at + n) size) refl refl

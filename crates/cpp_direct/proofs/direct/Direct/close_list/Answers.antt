@@ -11,6 +11,7 @@ name_ended-requires-clause-ended c =
       candidates = c.push_byte.new.self.candidates;
       waiting = c.pop.new.self;
       nest = c.push_byte.new.self.nest;
+      argument = c.args.argument;
       at = c.push_byte.new.self.at;
       rounds = c.push_byte.new.self.rounds;
     } in
@@ -25,6 +26,7 @@ returns-in_ok-add_candidate-in-TypeArguments c =
       candidates = c.push_byte.new.self.candidates;
       waiting = c.pop.new.self;
       nest = c.push_byte.new.self.nest;
+      argument = c.args.argument;
       at = c.push_byte.new.self.at;
       rounds = c.push_byte.new.self.rounds;
     } in
@@ -40,6 +42,7 @@ returns-in-NestArguments c =
       candidates = c.push_byte.new.self.candidates;
       waiting = c.pop.new.self;
       nest = c.push_byte.new.self.nest;
+      argument = c.args.argument;
       at = c.push_byte.new.self.at;
       rounds = c.push_byte.new.self.rounds;
     } in
@@ -54,6 +57,7 @@ returns-in_ok-add_candidate-in-FirstArguments c =
       candidates = c.push_byte.new.self.candidates;
       waiting = c.pop.new.self;
       nest = c.push_byte.new.self.nest;
+      argument = c.args.argument;
       at = c.push_byte.new.self.at;
       rounds = c.push_byte.new.self.rounds;
     } in

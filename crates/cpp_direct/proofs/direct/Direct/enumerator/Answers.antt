@@ -15,6 +15,7 @@ returns c =
       candidates = old.candidates;
       waiting = c.pop-open.new.self;
       nest = old.nest;
+      argument = old.argument;
       at = old.at;
       rounds = old.rounds;
     } in

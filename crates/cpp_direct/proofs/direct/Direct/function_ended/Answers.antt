@@ -11,8 +11,8 @@ parameter_ended-requires-clause-ended c =
     let s = c.args.s.now in
     let w = c.args.self.now in
     let p = c.requires.ended in
-    parameter-read s _ c.in-Parameters.is_const c.in-Parameters.start
-    (function-handed s w _ c.args.is_pointer (opens.Parameters c.in-Parameters.is_const c.in-Parameters.start) p
+    parameter-read s _ c.in-Parameters.is_const c.in-Parameters.start c.in-Parameters.argument
+    (function-handed s w _ c.args.is_pointer (opens.Parameters c.in-Parameters.is_const c.in-Parameters.start c.in-Parameters.argument) p
     (ap (λ t. t.list.items) c.add_hidden.ensures.text ∙ c.in_ok-push_byte.ensures.text)
     (c.in_ok-add_hidden.ensures.candidates ∙ hidden-behind w c.push_byte.new.self c.args.is_pointer c.in_ok-push_byte.ensures.candidates)
     (still-popped s w c.add_hidden.new.self c.args.is_pointer p c.pop-open.new.self.list.items _ (c.add_hidden.ensures.open ∙ c.in_ok-push_byte.ensures.waiting) refl c.pop-open.ensures.rest)

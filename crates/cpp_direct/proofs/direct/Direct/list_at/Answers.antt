@@ -1,4 +1,7 @@
-use Rattle.std.proofs.Common.{◌∷◌, [], arith, subst}
+use Rattle.std.proofs.Common.{◌∷◌, [], true, sym, ◌∙◌, arith, subst}
+use Rattle.std.proofs.lemmas.Bool.{false≢true}
+use Rattle.cpp_direct.specs.declared.open.Step.TheVariants as steps
+use Rattle.cpp_direct.specs.Stands.{IsWriting}
 use Rattle.cpp_direct.specs.Holes.{StandsAt}
 use Rattle.cpp_direct.proofs.Moves.{stands-join}
 use Rattle.cpp_direct.proofs.Listed.{another-expected, first-expected, type-expected}
@@ -33,11 +36,22 @@ begin_pack-requires-clause-awaits c = elim c.if-not-is_first.branch [
       first-expected c.args.s.now c.args.self.now c.if-not-is_first.self c.args.is_first c.requires.writing w.if-not-is_first.false w.self-is
 ]
 
-pub returns-in_default : goal.returns-in_default
-returns-in_default c = type-expected c.args.s.now c.if-not-is_first.self (elim c.if-not-is_first.branch [
+pub returns-else-is_first-2 : goal.returns-else-is_first-2
+returns-else-is_first-2 c = type-expected c.args.s.now c.if-not-is_first.self (elim c.if-not-is_first.branch [
   | then-not-is_first+in_ok-push_pair w ↦
       another-expected c.args.s.now c.args.self.now w.push_pair.new.self c.if-not-is_first.self c.args.is_first c.requires.writing w.if-not-is_first.true
       w.in_ok-push_pair.ensures w.self-is
   | else-not-is_first w ↦
       first-expected c.args.s.now c.args.self.now c.if-not-is_first.self c.args.is_first c.requires.writing w.if-not-is_first.false w.self-is
 ])
+
+pub first_type-requires-clause-writing : goal.first_type-requires-clause-writing
+first_type-requires-clause-writing c = elim c.if-not-is_first.branch [
+  | then-not-is_first+in_ok-push_pair w ↦ absurd (false≢true (sym w.if-not-is_first.true ∙ c.if-is_first-2.true))
+  | else-not-is_first w ↦
+      subst (λ d. IsWriting c.args.s.now d (steps.List true)) (sym w.self-is)
+      (subst (λ f. IsWriting c.args.s.now c.args.self.now (steps.List f)) c.if-is_first-2.true c.requires.writing)
+]
+
+pub first_pack-requires-clause-writing : goal.first_pack-requires-clause-writing
+first_pack-requires-clause-writing c = subst (λ f. IsWriting c.args.s.now c.args.self.now (steps.List f)) c.if-is_first.true c.requires.writing

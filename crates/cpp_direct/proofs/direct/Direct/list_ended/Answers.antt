@@ -4,13 +4,14 @@ use Rattle.cpp_direct.specs.declared.open.Open.TheVariants as opens
 use Rattle.cpp_direct.specs.declared.open.Step.TheVariants as steps
 use Rattle.cpp_direct.specs.Stands.{IsWriting}
 use Rattle.cpp_direct.specs.Ways.{IsListEnded}
+use Rattle.cpp_direct.specs.Stands.{nowhere}
 use Rattle.cpp_direct.proofs.Listed.{waits-last, list-ends, pack-ends}
 use Rattle.cpp_direct.proofs.TypesRead.{popped}
 use Rattle.cpp_direct.proofs.direct.Direct.list_ended.Goals as goal
 
 pub close_list-requires-clause-ended : goal.close_list-requires-clause-ended
 close_list-requires-clause-ended c =
-    subst (λ n. IsListEnded c.args.s.now (record c.args.self.now { at = n })) (sym c.in_ok-self.ensures.1)
+    subst (λ n. IsListEnded c.args.s.now (record c.args.self.now { at = n }) nowhere) (sym c.in_ok-self.ensures.1)
     (list-ends c.args.s.now c.args.self.now c.args.is_first c.in_ok-last.field-0.now c.requires.writing c.requires.letter
     (waits-last _ _ _ _ c.as_slice.ensures c.in_ok-last.ensures.value refl) c.in_default.not-Pack)
 
@@ -22,6 +23,7 @@ returns-else-is_first c =
       candidates = old.candidates;
       waiting = c.pop-open.new.self;
       nest = old.nest;
+      argument = old.argument;
       at = c.in_ok-self.field-0;
       rounds = old.rounds;
     } in

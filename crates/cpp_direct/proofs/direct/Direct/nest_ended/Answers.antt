@@ -10,7 +10,7 @@ name_ended-requires-clause-ended c =
     let writing = c.requires.writing in
     let before = writing.is_before in
     subst (λ n. IsNameEnded c.args.s.now (record old { at = n }) c.in-Name.is_const old.nest.is_instance old.nest.from) (sym c.in_ok-self.ensures.1)
-    (name-comes c.args.s.now old writing.state before.0 c.in-Name.is_const writing.candidates before.1 before.2 before.3 c.requires.end c.in-Name.is)
+    (name-comes c.args.s.now old writing.state before.0 c.in-Name.is_const writing.candidates before.1 before.2 before.3 before.4 c.requires.end c.in-Name.is)
 
 pub enclosing_named-requires-clause-named : goal.enclosing_named-requires-clause-named
 enclosing_named-requires-clause-named c =

@@ -7,6 +7,8 @@ use Rattle.cpp_direct.proofs.PrintedTypes.{pointer-prints, lvalue-prints, rvalue
 use Rattle.cpp_direct.proofs.Listed.{waits-last}
 use Rattle.cpp_direct.proofs.Handed.{value-element, value-marked, value-front, value-returned, value-signature, value-enumerator, argument-read, parameter-read, special-read, takes-elements}
 use Rattle.cpp_direct.proofs.EnclosingFunctions.{lambda-parameter-read, parameter-read-within}
+use Rattle.cpp_direct.proofs.Arguments.{value-argument}
+use Rattle.cpp_direct.proofs.PacksRead.{value-in-pack}
 use Rattle.cpp_direct.proofs.direct.Direct.pass.Goals as goal
 
 pub mark-requires : goal.mark-requires
@@ -36,13 +38,13 @@ mark-requires-in-Const c =
 
 pub parameter_ended-requires-clause-ended : goal.parameter_ended-requires-clause-ended
 parameter_ended-requires-clause-ended c =
-    parameter-read c.args.s.now c.args.self.now c.in-Parameters.is_const c.in-Parameters.start
-    (value-element c.args.s.now c.args.self.now c.args.is_reference (opens.Parameters c.in-Parameters.is_const c.in-Parameters.start) c.requires.writing
+    parameter-read c.args.s.now c.args.self.now c.in-Parameters.is_const c.in-Parameters.start c.in-Parameters.argument
+    (value-element c.args.s.now c.args.self.now c.args.is_reference (opens.Parameters c.in-Parameters.is_const c.in-Parameters.start c.in-Parameters.argument) c.requires.writing
     (waits-last _ _ _ _ c.as_slice.ensures c.in_ok-from.ensures.value c.in-Parameters.is))
 
 pub front_ended-requires-clause-ended : goal.front_ended-requires-clause-ended
 front_ended-requires-clause-ended c =
-    value-front c.args.s.now c.args.self.now c.args.is_reference c.in-Front.is_const c.in-Front.start
+    value-front c.args.s.now c.args.self.now c.args.is_reference c.in-Front.is_const c.in-Front.start c.in-Front.argument
     c.requires.writing (waits-last _ _ _ _ c.as_slice.ensures c.in_ok-from.ensures.value c.in-Front.is)
 
 pub returned-requires-clause-returned : goal.returned-requires-clause-returned
@@ -85,5 +87,15 @@ returns-in_default c =
     (value-element c.args.s.now c.args.self.now c.args.is_reference o c.requires.writing
     (waits-last _ _ _ _ c.as_slice.ensures c.in_ok-from.ensures.value refl))
     (takes-elements o c.in_default.not-Pointer c.in_default.not-Lvalue c.in_default.not-Rvalue c.in_default.not-Const
-    c.in_default.not-Parameters c.in_default.not-Front c.in_default.not-Returned c.in_default.not-Signature c.in_default.not-Special c.in_default.not-Enumerator c.in_default.not-Enclosing
-    c.in_default.not-Lambda)
+    c.in_default.not-Parameters c.in_default.not-Front c.in_default.not-Returned c.in_default.not-Signature c.in_default.not-Special c.in_default.not-Enumerator
+    c.in_default.not-Enclosing c.in_default.not-Argument c.in_default.not-Lambda c.in_default.not-Element)
+
+pub argument_ended-requires-clause-read : goal.argument_ended-requires-clause-read
+argument_ended-requires-clause-read c =
+    value-argument c.args.s.now c.args.self.now c.args.is_reference c.in-Argument.from
+    c.requires.writing (waits-last _ _ _ _ c.as_slice.ensures c.in_ok-from.ensures.value c.in-Argument.is)
+
+pub element_ended-requires-clause-read : goal.element_ended-requires-clause-read
+element_ended-requires-clause-read c =
+    value-in-pack c.args.s.now c.args.self.now c.args.is_reference c.in-Element.from
+    c.requires.writing (waits-last _ _ _ _ c.as_slice.ensures c.in_ok-from.ensures.value c.in-Element.is)

@@ -53,3 +53,6 @@ returns-else-is_plain-2 c =
     c.requires.writing c.if-is_plain-2.false c.len-from.ensures
     (there c.args.s.now c.args.self.now.at c.byte_at.result 75 c.in-75.is (omega arith) c.byte_at.ensures)
     called.step called.open called.at called.text called.candidates
+
+pub template_parameter-requires-clause-awaits : goal.template_parameter-requires-clause-awaits
+template_parameter-requires-clause-awaits c = awaits-type c.args.s.now c.args.self.now c.args.is_plain c.requires.writing
