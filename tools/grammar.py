@@ -79,8 +79,9 @@ def build(extended=True, widened=False):
          narrow(chain("NestAbbreviated", "Abbreviation", "NestRest")), wide(chain("NestTemplate", "Abbreviation", "NestRestOrEnd")))
     kind("NestRest", eats("I", "NestArguments", "ArgumentList", "'E'", "Component", "NestTail"), chain("NestNext", "Component", "NestTail"))
     kind("NestTail", eats("E", "NestEnd"), chain("NestNext", "Component", "NestTail"))
-    kind("Component", eats("C", "Constructor", "ConstructorDigit", "MaybeArguments"), eats("D", "Destructor", "DestructorDigit", "MaybeArguments"),
-         L_NAME, U_NAME, OP_NAME, S_NAME)
+    component = [eats("C", "Constructor", "ConstructorDigit", "MaybeArguments"), eats("D", "Destructor", "DestructorDigit", "MaybeArguments"),
+                 L_NAME, U_NAME, OP_NAME, S_NAME]
+    kind("Component", *component, wide(chain("Holder", "HolderMark", "HeldComponent")))
     kind("ConstructorDigit", MARK("123"), wide(MARK("45")))
     kind("DestructorDigit", MARK("012"), wide(MARK("45")))
     kind("Abbreviation", eats(ABBREVIATED, "Abbreviation"), chain("Substitution", SEQ36))
@@ -100,7 +101,8 @@ def build(extended=True, widened=False):
     after_d = [eats(builtins(True), "BuiltinWithD")]
     if extended:
         after_d += [eats("v", "Vector", DIGITS, "'_'", "Type"), eats("o", "NoexceptFunction", "'F'", "MaybeCLinkage", "Type", "FunctionRest")]
-    kind("AfterD", *after_d, wide(eats("".join(code[1] for code, text in words.WIDE_BUILTINS), "BuiltinWithD")))
+    kind("AfterD", *after_d, wide(eats("".join(code[1] for code, text in words.WIDE_BUILTINS), "BuiltinWithD")),
+         wide(eats("F", "SizedFloat", DIGITS, "FloatEnd")))
     if extended:
         P["ItemIsType"] = (False, ["AfterD"])
     NAMED = [eats("P", "Pointer", "Type"), eats("M", "MemberPointer", "Type", "Type"), eats("T", "Parameter", DECIMAL, "MaybeArguments"),
@@ -135,6 +137,9 @@ def build(extended=True, widened=False):
         kind("OperatorAfter" + a.upper(), *rules)
     # the wide grammar's own kinds and productions stand last, so that the numbers of the others are those of the ABI's grammar
     kind("NestRestOrEnd", eats("I", "NestInstance", "ArgumentList", "'E'", "NestTail"), chain("NestNext", "Component", "NestTail"))
+    kind("HolderMark", MARK("M"))
+    kind("HeldComponent", *component)
+    kind("FloatEnd", MARK("_bx"))
     shared = {p for k, (e, rules) in K.items() for cls, p in rules if (k, cls, p) not in MARKED}
     for p in [p for (k, cls, p), mark in MARKED.items() if mark == "wide" and p not in shared]: P[p] = P.pop(p)
 

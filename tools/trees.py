@@ -173,6 +173,9 @@ def by_each(function, lemma, before, others, names):
 
 INSIDE_OF_FUNCTION = """
     Shut (Inside name x ⊎ (ItselfOr returned (Inside returned x) x ⊎ Inside parameters x)) x"""
+# the arguments that are prefixes
+PREFIXES = (("within", "prefix"), ("holder", "name"))
+
 def is_itself(tree, name, sort):
     """whether a subtree may be a component itself: lists and pieces are none"""
     return sort != PIECE and name not in ("entity", "arguments", "parameters", "elements", "rest")
@@ -182,7 +185,7 @@ def inside_shut():
     def right(tree, name, closed, fact):
         below = f"inside-shut {name} x {closed}"
         if not is_itself(tree, name, dict(tree[1:])[name]): return f"{below} {fact}"
-        lemma = "prefix-shut" if name == "prefix" else "unqualified-shut" if tree[0] == "qualified" else "itself-shut"
+        lemma = "prefix-shut" if (tree[0], name) in PREFIXES else "unqualified-shut" if tree[0] == "qualified" else "itself-shut"
         return f"{lemma} {name} x (Inside {name} x) {closed} ({below}) {fact}"
     lines = []
     for tree in named(PRESSED):
@@ -214,7 +217,7 @@ def inside():
             itself = f"ItselfOr {name} (Inside {name} x) x"
             if tree[0] in ("special", "construction"): parts.append(itself)
             elif sort in (OWN, OUTSIDE): parts.append(f"Shut (Inside {name} x) x")
-            elif tree[0] == "within" and name == "prefix": parts.append("PrefixOr prefix (Inside prefix x) x")
+            elif (tree[0], name) in PREFIXES: parts.append(f"PrefixOr {name} (Inside {name} x) x")
             elif tree[0] == "qualified": parts.append(f"UnqualifiedOr {name} (Inside {name} x) x")
             else: parts.append(itself if is_itself(tree, name, sort) else f"Inside {name} x")
         if tree[0] in ("special", "construction"): return f"Shut ({' ⊎ '.join(parts)}) x"
@@ -376,7 +379,7 @@ def either(parts): return " || ".join(parts)
 def first_of(parts): return parts[0] if len(parts) == 1 else applied("first_of", [f"({p})" for p in parts])
 
 # nodes of which something is noted, by their arguments: numbers of nodes are i and j here
-NOTED = ["nil", "alone", "in_std", "within", "instance", "local", "parameter", "pointer", "lvalue", "rvalue", "array", "member_pointer", "function_type", "qualified",
+NOTED = ["nil", "alone", "in_std", "within", "instance", "local", "holder", "parameter", "pointer", "lvalue", "rvalue", "array", "member_pointer", "function_type", "qualified",
          "vector", "complex", "expansion", "integer", "pack", "list"]
 SORTS = {PIECE: ("p", "Piece"), BYTES: ("d", "Span"), NUMBER: ("k", "ℕ"), MARK: ("m", "Mark"), QUALIFIERS: ("q", "Qualifiers"), SIGNED: ("v", "Signed"), DISCRIMINATOR: ("d", "Option Span")}
 def noted_nodes():
@@ -465,7 +468,7 @@ def declarations():
     yield "cpp_press_laws/proofs/Components/Growing.antt", "size", fold("size", [], lambda parts: f"suc ({' + '.join(parts)})", "1", trees=named(PRESSED))
     yield "cpp_press_laws/specs/Apart.antt", "IsNeverReferred", never_referred()
     yield "cpp_press/specs/Weight.antt", "weight", fold("weight", [], summed("12"), "12", trees=named(PRESSED))
-    nowhere = {"symbol": None, "construction": None, "absent": None, ("order", "function"): ["name", "returned", "parameters", "q", "ref"]}
+    nowhere = {"symbol": None, "construction": None, "holder": None, "sized_float": None, "absent": None, ("order", "function"): ["name", "returned", "parameters", "q", "ref"]}
     yield "cpp_press_laws/proofs/Components/FewComponents.antt", "counts", by_each("counts", "few", [], nowhere, {"local": "local-name", "address_of": "address"})
     yield "cpp_press_laws/proofs/EveryWay/Law.antt", "reads", by_each("reads", "reads", ["c"], {**nowhere, ("before", "function"): ["c"]}, {"address_of": "address"})
     yield "cpp_press_laws/proofs/Fits/Packs.antt", "closed-packs", closed_packs()

@@ -171,6 +171,9 @@ PLAIN_TEXTS = [
     ("MINUS", "-"),
     ("CONSTRUCTION", "construction vtable for "),
     ("IN", "-in-"),
+    ("FLOAT", "_Float"),
+    ("WIDER", "x"),
+    ("BRAIN_FLOAT", "std::bfloat16_t"),
 ]
 
 # before how many of its parts nothing is done in a production: before all where it isn't named here
@@ -180,7 +183,7 @@ QUIET = {
     "LocalName": 1, "LocalType": 1, "InternalName": 1, "SourceName": 1, "LocalTypeName": 1, "OperatorName": 1, "Constructor": 1,
     "Destructor": 1, "StdName": 1, "AbbreviatedName": 1, "NestStd": 1, "NestAbbreviated": 1, "NestTemplate": 1, "NestParameter": 1,
     "NestInternal": 1, "NestSource": 1, "NestLocalType": 1, "PackArgument": 1, "Parameter": 1, "TypeWithS": 1, "LvalueItem": 1,
-    "RvalueItem": 1, "IntegerLiteral": 1,
+    "RvalueItem": 1, "IntegerLiteral": 1, "Holder": 1,
 }
 
 # the productions in which parts without a row may stand between those with one
@@ -208,20 +211,21 @@ MADE_BEFORE = {
     "LvalueItem": [0, 1],
     "RvalueItem": [0, 1],
     "PackArgument": [0, 1],
+    "Holder": [0, 1],
 }
 MADE_AT_END = {p: 1 for p in """InternalName LocalTypeName SourceName OperatorName Symbol Guard Encoding SpecialType NonVirtualThunk VirtualThunk
     CovariantThunk LocalName StdName AbbreviatedName Constructor Destructor Abbreviation StringLiteral Lambda RestrictType
     VolatileType ConstType ReferenceType Expansion BuiltinWithD Vector NoexceptFunction Pointer MemberPointer Parameter
     TypeWithS LocalType Builtin Vendor Array Function Complex StdType RestItem LvalueItem RvalueItem Items PackArgument
     LiteralArgument AddressArgument TypeArgument LiteralElement AddressElement TypeElement Address EncodingLiteral
-    BoolLiteral IntegerLiteral NullLiteral SpecialName ConstructionVtable""".split()}
+    BoolLiteral IntegerLiteral NullLiteral SpecialName ConstructionVtable SizedFloat""".split()}
 MADE_AT_END["CharLiteral"] = 2
 
 # the productions that may leave a tree that is no candidate yet
 LEAVES = """NestWithS NestParameter NestInternal NestLocalType NestSource NestStd NestAbbreviated NestTemplate NestArguments NestInstance
     NestNext NestEnd
     Abbreviation Substitution NestedType Expansion ItemIsType BuiltinWithD Vector NoexceptFunction Pointer MemberPointer
-    Parameter TypeWithS LocalType Builtin Vendor Array Function Complex StdType AbbreviatedType""".split()
+    Parameter TypeWithS LocalType Builtin Vendor Array Function Complex StdType AbbreviatedType SizedFloat""".split()
 
 # ## The trees
 
@@ -243,6 +247,7 @@ TREES = [
     ("within", ("prefix", TREE), ("p", PIECE)),
     ("instance", ("template", TREE), ("arguments", TREE)),
     ("local", ("encoding", OUTSIDE), ("entity", TREE), ("discriminator", DISCRIMINATOR)),
+    ("holder", ("name", TREE)),
     ("abbreviation", ("letter", NUMBER)),
     ("parameter", ("k", NUMBER)),
     ("source", ("internal", TRUTH), ("bytes", BYTES)),
@@ -254,6 +259,7 @@ TREES = [
     ("unnamed", ("number", NUMBER)),
     ("string_literal",),
     ("builtin", ("code", BYTES)),
+    ("sized_float", ("digits", BYTES), ("end", NUMBER)),
     ("vendor", ("bytes", BYTES)),
     ("pointer", ("t", TREE)),
     ("lvalue", ("t", TREE)),

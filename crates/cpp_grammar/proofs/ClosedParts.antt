@@ -3,7 +3,7 @@ use Rattle.std.proofs.Common.{◌≡◌, refl, subst, ℕ, List, [], ◌∷◌, 
 use Rattle.std.proofs.lemmas.Bool.{true≢false}
 use Rattle.sym_link.specs.Reading.{Next}
 use Rattle.cpp_grammar.specs.declared.production.Production.{Production}
-use Rattle.cpp_grammar.specs.Term.{Term, in_std, instance, parameter, lvalue, rvalue, pack, source, constructor, destructor}
+use Rattle.cpp_grammar.specs.Term.{Term, in_std, instance, holder, parameter, lvalue, rvalue, pack, source, constructor, destructor}
 use Rattle.cpp_grammar.specs.Scope.{is_open}
 use Rattle.cpp_grammar.specs.Values.{State, Around, prefix_tree, Value, tree, tree_of, piece_of, is_listed, letter_of, text_of}
 use Rattle.cpp_grammar.specs.References.{appended, with_type, with_prefix, parameter_named}
@@ -127,6 +127,10 @@ between_goes Production.NestNext around place [] state n at stays pre all e =
     (fits_after around (prefix_tree around.prefix) true (good_prefix (Bare around) around.prefix pre)) e
 between_goes Production.NestNext around place (v ∷ []) state n at stays pre all e =
     goes around at state (v ∷ []) (after (tree_of v) false around) state n all (grows_same around at state state refl) (fits_after around (tree_of v) false (good_tree _ v all.0)) e
+between_goes Production.Holder around place (v ∷ []) state n at stays pre all e =
+    let g = good_prefix (Bare around) around.prefix pre in
+    let held : Good (Bare around) (holder (prefix_tree around.prefix)) = record { closed = g.closed; scopes = g.scopes } in
+    named_goes around at state (holder (prefix_tree around.prefix)) true [] state n held tt (grows_same around at state state refl) e
 between_goes Production.Arguments around place [] state n at stays pre all e = goes around at state [] (inside around) (with_prefix around state) n tt (with_prefix_grows around at state pre) (fits_inside around) e
 between_goes Production.PackArgument around place (v ∷ []) state n at stays pre all e =
     let g = good_no_items (Bare around) v (good_tree _ v all.0) in

@@ -228,6 +228,7 @@ meaning_good s Production.NestTemplate byte around vs pre all name = good_held s
 meaning_good s Production.NestArguments byte around vs pre all name = good_held s vs 3 all
 meaning_good s Production.NestInstance byte around vs pre all name = good_held s vs 2 all
 meaning_good s Production.NestNext byte around vs pre all name = good_held s vs 1 all
+meaning_good s Production.Holder byte around vs pre all name = good_held s vs 1 all
 meaning_good s Production.NestEnd byte around vs pre all name = good_prefix s around.prefix pre
 meaning_good s Production.StringLiteral byte around vs pre all name = good_extended s around.prefix string_literal pre (record { closed = λ h. refl; scopes = tt })
 meaning_good s Production.NestedType byte around vs pre all name = good_held s vs 0 all

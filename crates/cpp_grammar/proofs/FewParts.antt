@@ -1,14 +1,14 @@
 -- Each item has at most eight parts.
-use Rattle.std.specs.Prelude.{ℕ, zero, suc, ◌+◌, ◌≤◌, length, List, [], ◌∷◌, ◌++◌, Bool, true, false, cond, Option, Some, None, codes, decimal}
+use Rattle.std.specs.Prelude.{ℕ, zero, suc, ◌+◌, ◌≤◌, length, List, [], ◌∷◌, ◌++◌, Bool, true, false, cond, nat_eq, Option, Some, None, codes, decimal}
 use Prim.Native.String.{String}
 use Rattle.std.proofs.Common.{arith}
 use Rattle.std.proofs.lemmas.List.{length-append}
 use Rattle.sym_print.specs.declared.detail.Detail.{Detail}
 use Rattle.sym_print.specs.Details.{has_arguments, has_parameters}
 use Rattle.sym_print.specs.Unfold.{PartOf, text, sub}
-use Rattle.cpp_grammar.specs.Term.{Qualifiers, RefQualifier, Signed, Term, symbol, function, object, of_name, alone, in_std, within, instance, local, abbreviation, parameter, source, constructor, destructor, lambda, pointer, lvalue, rvalue, array, member_pointer, function_type, qualified, expansion, integer, pack, nil, list, absent}
+use Rattle.cpp_grammar.specs.Term.{Qualifiers, RefQualifier, Signed, Term, symbol, function, object, of_name, alone, in_std, within, instance, local, holder, abbreviation, parameter, source, constructor, destructor, lambda, sized_float, pointer, lvalue, rvalue, array, member_pointer, function_type, qualified, expansion, integer, pack, nil, list, absent}
 use Rattle.cpp_grammar.specs.Items.{Form, root, full, bare, left, right, low, base, piece, first, more, expand, Context, Item, closed, head, is_reference, is_funarr, packs_of, is_empty}
-use Rattle.cpp_grammar.specs.Parts.{as_item, says, text_part, list_part, piece_parts, within_parts, last_piece, opening_text, instance_parts, marked_parts, reference_parts, qualified_left, blank_last, qualifier_text, expansion_parts, sign_part, is_plain_integer, integer_parts, builtin_code, member_parts, array_left, left_parts, low_parts, function_right, ref_text, closing_right, qualified_right, right_parts, base_within, base_parts, types_of, encoding_text, function_bare, function_full, full_parts, bare_parts, root_parts, first_parts, more_parts, at_index, is_below, comma_before, expand_rest, expand_parts, parts_in, not_empty, parts}
+use Rattle.cpp_grammar.specs.Parts.{as_item, says, text_part, list_part, piece_parts, within_parts, last_piece, opening_text, instance_parts, marked_parts, reference_parts, qualified_left, blank_last, qualifier_text, expansion_parts, sign_part, is_plain_integer, integer_parts, builtin_code, member_parts, array_left, float_parts, left_parts, low_parts, function_right, ref_text, closing_right, qualified_right, right_parts, base_within, base_parts, types_of, encoding_text, function_bare, function_full, full_parts, bare_parts, root_parts, first_parts, more_parts, at_index, is_below, comma_before, expand_rest, expand_parts, parts_in, not_empty, parts}
 use Rattle.cpp_grammar.specs.Texts.{look_up, literal_endings}
 
 -- at most so many parts
@@ -102,6 +102,10 @@ array_few : (c : Context) (t : Term) → HasFew 2 (array_left c t)
 unfolding array_left
 array_few c t = choice_few 2 (is_funarr (head c t)) _ _ (omega arith) (omega arith)
 
+float_few : (digits : List ℕ) (end : ℕ) → HasFew 3 (float_parts digits end)
+unfolding float_parts
+float_few digits end = choice_few 3 (nat_eq end 98) _ _ (omega arith) (choice_few 3 (nat_eq end 120) _ _ (omega arith) (omega arith))
+
 left_few : (d : Detail) (c : Context) (t : Term) → HasFew 6 (left_parts d c t)
 unfolding left_parts
 left_few d c (alone p) = omega (arith, piece_few c p)
@@ -117,6 +121,7 @@ left_few d c (qualified q t) = omega (arith, qualified_few c q t)
 left_few d c (expansion t) = omega (arith, expansion_few c t (packs_of c t))
 left_few d c (pack elements) = omega (arith, list_few first c elements)
 left_few d c (integer t n) = omega (arith, integer_few c t n)
+left_few d c (sized_float digits end) = omega (arith, float_few digits end)
 left_few d c _ = omega arith
 
 low_few : (d : Detail) (c : Context) (t : Term) → HasFew 6 (low_parts d c t)
@@ -167,6 +172,7 @@ base_few d c (in_std p) = omega (arith, piece_few c p)
 base_few d c (within prefix p) = omega (arith, base_within_few c prefix p)
 base_few d c (instance t arguments) = omega arith
 base_few d c (local encoding entity discriminator) = omega arith
+base_few d c (holder name) = omega arith
 base_few d c (abbreviation letter) = omega arith
 base_few d c (parameter k) = omega arith
 base_few d c t = left_few d c t

@@ -1,15 +1,15 @@
 -- The parts of an item have smaller ranks than the item.
-use Rattle.std.specs.Prelude.{◌≡◌, refl, ℕ, zero, suc, ◌+◌, ◌-◌, ◌<◌, ◌≤◌, List, [], ◌∷◌, ◌++◌, Bool, true, false, cond, Option, Some, None, codes}
+use Rattle.std.specs.Prelude.{◌≡◌, refl, ℕ, zero, suc, ◌+◌, ◌-◌, ◌<◌, ◌≤◌, List, [], ◌∷◌, ◌++◌, Bool, true, false, cond, nat_eq, Option, Some, None, codes}
 use Prim.Native.String.{String}
 use Rattle.std.proofs.Common.{arith}
 use Rattle.std.proofs.lemmas.Bool.{false≢true, ltb-true}
 use Rattle.sym_print.specs.declared.detail.Detail.{Detail}
 use Rattle.sym_print.specs.Details.{has_arguments, has_parameters}
 use Rattle.sym_print.specs.Unfold.{PartOf, text, sub, RanksBelow}
-use Rattle.cpp_grammar.specs.Term.{Qualifiers, RefQualifier, Signed, Term, symbol, function, object, special, thunk, of_name, construction, alone, in_std, within, instance, local, abbreviation, parameter, source, constructor, destructor, lambda, pointer, lvalue, rvalue, array, member_pointer, function_type, qualified, vector, complex, expansion, integer, pack, nil, list, absent}
+use Rattle.cpp_grammar.specs.Term.{Qualifiers, RefQualifier, Signed, Term, symbol, function, object, special, thunk, of_name, construction, alone, in_std, within, instance, local, holder, abbreviation, parameter, source, constructor, destructor, lambda, sized_float, pointer, lvalue, rvalue, array, member_pointer, function_type, qualified, vector, complex, expansion, integer, pack, nil, list, absent}
 use Rattle.cpp_grammar.specs.Scope.{element, arguments_of, pack_length}
 use Rattle.cpp_grammar.specs.Items.{Form, root, full, bare, left, right, low, base, piece, first, more, expand, Context, Item, indexed, argument, head, is_reference, is_funarr, packs_of, is_empty}
-use Rattle.cpp_grammar.specs.Parts.{as_item, says, text_part, list_part, piece_parts, prefix_item, within_parts, instance_parts, marked_parts, reference_parts, qualified_left, blank_last, qualifier_text, expansion_parts, sign_part, is_plain_integer, integer_parts, builtin_code, member_parts, array_left, left_parts, low_parts, function_right, ref_text, closing_right, qualified_right, right_parts, base_within, base_parts, types_of, encoding_text, function_bare, function_full, full_parts, bare_parts, root_parts, first_parts, more_parts, at_index, is_below, comma_before, expand_rest, expand_parts, parts_in, not_empty, parts}
+use Rattle.cpp_grammar.specs.Parts.{as_item, says, text_part, list_part, piece_parts, prefix_item, within_parts, instance_parts, marked_parts, reference_parts, qualified_left, blank_last, qualifier_text, expansion_parts, sign_part, is_plain_integer, integer_parts, builtin_code, member_parts, array_left, float_parts, left_parts, low_parts, function_right, ref_text, closing_right, qualified_right, right_parts, base_within, base_parts, types_of, encoding_text, function_bare, function_full, full_parts, bare_parts, root_parts, first_parts, more_parts, at_index, is_below, comma_before, expand_rest, expand_parts, parts_in, not_empty, parts}
 use Rattle.cpp_grammar.specs.Ranks.{or_none, pack_count, weight, scope_weight, weight_in, rank_in, rank}
 use Rattle.cpp_grammar.specs.Texts.{look_up, literal_endings}
 
@@ -60,6 +60,7 @@ weight_grows a b scope (in_std p) h = omega (arith, weight_grows a b scope p h)
 weight_grows a b scope (within prefix p) h = omega (arith, weight_grows a b scope prefix h, weight_grows a b scope p h)
 weight_grows a b scope (instance template arguments) h = omega (arith, weight_grows a b scope template h, weight_grows a b scope arguments h)
 weight_grows a b scope (local encoding entity discriminator) h = omega (arith, weight_grows a b scope entity h)
+weight_grows a b scope (holder name) h = omega (arith, weight_grows a b scope name h)
 weight_grows a b scope (lambda parameters number) h = omega (arith, weight_grows a b scope parameters h)
 weight_grows a b scope (pointer t) h = omega (arith, weight_grows a b scope t h)
 weight_grows a b scope (lvalue t) h = omega (arith, weight_grows a b scope t h)
@@ -113,6 +114,7 @@ piece_falls r c _ h = tt
 prefix_falls : (r : ℕ) (c : Context) (t : Term) → Below r c t → RanksBelow rank r (prefix_item c t ∷ [])
 unfolding prefix_item rank rank_in weight_in weight
 prefix_falls r c (function name q ref returned parameters) h = (h, tt)
+prefix_falls r c (holder name) h = (omega (arith, h), tt)
 prefix_falls r c _ h = (h, tt)
 
 within_falls : (r : ℕ) (c : Context) (prefix p : Term) → Below r c prefix → Below r c p → RanksBelow rank r (within_parts c prefix p)
@@ -169,11 +171,16 @@ array_falls : (r : ℕ) (c : Context) (t : Term) → Below r c t → RanksBelow 
 unfolding array_left rank rank_in
 array_falls r c t h = falls_choice r (is_funarr (head c t)) _ _ (h, tt) (h, tt)
 
+float_falls : (r : ℕ) (digits : List ℕ) (end : ℕ) → RanksBelow rank r (float_parts digits end)
+unfolding float_parts
+float_falls r digits end = falls_choice r (nat_eq end 98) _ _ tt (falls_choice r (nat_eq end 120) _ _ tt tt)
+
 left_falls : (d : Detail) (c : Context) (t : Term) → RanksBelow rank (weight_in c t) (left_parts d c t)
 unfolding left_parts rank rank_in weight_in weight scope_weight
 left_falls d c (alone p) = piece_falls _ c p (omega arith)
 left_falls d c (within prefix p) = within_falls _ c prefix p (omega arith) (omega arith)
 left_falls d c (instance t arguments) = instance_falls _ (has_arguments d) c t arguments (omega arith) (omega arith)
+left_falls d c (sized_float digits end) = float_falls _ digits end
 left_falls d c (parameter k) = (argument_weight c.scope c.index k, tt)
 left_falls d c (pointer t) = marked_falls _ c t "*" (omega arith)
 left_falls d c (lvalue t) = low_reference_falls _ c t "&" (omega arith)
@@ -237,6 +244,7 @@ base_falls d c (in_std p) = piece_falls _ c p (omega arith)
 base_falls d c (within prefix p) = base_within_falls _ c prefix p (omega arith) (omega arith)
 base_falls d c (instance t arguments) = (omega arith, tt)
 base_falls d c (local encoding entity discriminator) = (omega arith, tt)
+base_falls d c (holder name) = (omega arith, tt)
 base_falls d c (abbreviation letter) = tt
 base_falls d c (parameter k) = (argument_weight c.scope c.index k, tt)
 base_falls d c t = left_falls d c t

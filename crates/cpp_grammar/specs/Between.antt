@@ -7,7 +7,7 @@ use Rattle.sym_core.specs.declared.NumberKind.TheVariants.{Decimal}
 use Rattle.sym_core.specs.Value.{counted_value}
 use Rattle.sym_link.specs.Reading.{Next, ◌>>=◌}
 use Rattle.cpp_grammar.specs.declared.production.Production.{Production}
-use Rattle.cpp_grammar.specs.Term.{Term, alone, within, in_std, instance, parameter, lvalue, rvalue, pack, source, constructor, destructor, nil}
+use Rattle.cpp_grammar.specs.Term.{Term, alone, within, in_std, instance, holder, parameter, lvalue, rvalue, pack, source, constructor, destructor, nil}
 use Rattle.cpp_grammar.specs.Scope.{arguments_of}
 use Rattle.cpp_grammar.specs.Values.{State, Prefix, outermost, behind, Around, prefix_tree, Value, nothing_there, tree, tree_of, piece_of, is_listed, is_there, letter_of, text_of}
 use Rattle.cpp_grammar.specs.References.{appended, with_type, with_prefix, parameter_named}
@@ -110,6 +110,8 @@ between Production.NestInstance around place [] state = next [] (inside around) 
 between Production.NestInstance around place (arguments ∷ e ∷ []) state = named_so_far around (instance (prefix_tree around.prefix) (no_items arguments)) (e ∷ []) state
 between Production.NestNext around place [] state = next [] (after (prefix_tree around.prefix) true around) (with_prefix around state)
 between Production.NestNext around place (component ∷ []) state = next (component ∷ []) (after (tree_of component) false around) state
+-- what holds a component is its prefix, and never a candidate
+between Production.Holder around place (v ∷ []) state = listed_so_far around (holder (prefix_tree around.prefix)) [] state
 -- arguments; the template name before them is a candidate
 between Production.Arguments around place [] state = next [] (inside around) (with_prefix around state)
 between Production.PackArgument around place (elements ∷ []) state = next (tree (pack (no_items elements)) true ∷ []) around state

@@ -3,10 +3,10 @@ use Rattle.std.specs.Prelude.{ℕ}
 
 -- how many kinds there are, and how many productions
 abbrev pub KIND_COUNT : ℕ
-KIND_COUNT = 67
+KIND_COUNT = 70
 
 abbrev pub PRODUCTION_COUNT : ℕ
-PRODUCTION_COUNT = 116
+PRODUCTION_COUNT = 118
 
 abbrev pub SYMBOL : ℕ
 SYMBOL = 0
@@ -208,3 +208,12 @@ OPERATOR_AFTER_G = 65
 
 abbrev pub NEST_REST_OR_END : ℕ
 NEST_REST_OR_END = 66
+
+abbrev pub HOLDER_MARK : ℕ
+HOLDER_MARK = 67
+
+abbrev pub HELD_COMPONENT : ℕ
+HELD_COMPONENT = 68
+
+abbrev pub FLOAT_END : ℕ
+FLOAT_END = 69

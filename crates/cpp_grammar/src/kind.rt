@@ -73,6 +73,9 @@ pub enum Kind {
     OperatorAfterI,
     OperatorAfterG,
     NestRestOrEnd,
+    HolderMark,
+    HeldComponent,
+    FloatEnd,
 }
 
 /// The kind with a number.
@@ -148,6 +151,9 @@ pub fn kind_of(number: u16) -> Option<Kind>
         64 => Some(Kind::OperatorAfterI),
         65 => Some(Kind::OperatorAfterG),
         66 => Some(Kind::NestRestOrEnd),
+        67 => Some(Kind::HolderMark),
+        68 => Some(Kind::HeldComponent),
+        69 => Some(Kind::FloatEnd),
         _ => None,
     }
 }

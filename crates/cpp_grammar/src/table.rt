@@ -143,6 +143,12 @@ const OPERATOR_AFTER_G: Sym = Sym::Kind(65);
 
 const NEST_REST_OR_END: Sym = Sym::Kind(66);
 
+const HOLDER_MARK: Sym = Sym::Kind(67);
+
+const HELD_COMPONENT: Sym = Sym::Kind(68);
+
+const FLOAT_END: Sym = Sym::Kind(69);
+
 const NAME: Sym = Sym::Name;
 
 const DECIMAL: Sym = Sym::Number(NumberKind::Decimal);
@@ -155,7 +161,7 @@ const DIGITS: Sym = Sym::Number(NumberKind::Digits);
 pub const FIRST_LETTER: u8 = b'!';
 
 // For each kind a row: for each byte from `$` to `z` the letter of the production that the kind takes there.
-static LETTERS: [[u8; 87]; 67] = [
+static LETTERS: [[u8; 87]; 70] = [
     // $%&'()*+,-./0123456789:;<=>?@ABCDEFGHIJKLMNOPQRSTUVWXYZ[\]^_`abcdefghijklmnopqrstuvwxyz
     *b"                                                           *                           ", // Symbol
     *b"          +                                                                            ", // MaybeSuffix
@@ -224,6 +230,9 @@ static LETTERS: [[u8; 87]; 67] = [
     *b"                                                                                    !  ", // OperatorAfterI
     *b"                                                                 !              !      ", // OperatorAfterG
     *b"            EEEEEEEEEE         EE    \x91  E        E           E EEE E E  EEEEE EE       ", // NestRestOrEnd
+    *b"                                         !                                             ", // HolderMark
+    *b"            $$$$$$$$$$         GH       \"        #           % %%% % %  %%%%% %%       ", // HeldComponent
+    *b"                                                           !  !                     !  ", // FloatEnd
 ];
 
 /// A rule without its number and its symbols.
@@ -253,7 +262,7 @@ macro_rules! chains {
 }
 
 // The rules of the productions, in the order of their numbers.
-pub static HEADS: [Head; 116] = [
+pub static HEADS: [Head; 118] = [
     takes!(0), // ! Mark
     takes!(2), // \" InternalName
     takes!(2), // # LocalTypeName
@@ -370,10 +379,12 @@ pub static HEADS: [Head; 116] = [
     takes!(1), // \x92 SpecialName
     takes!(4), // \x93 ConstructionVtable
     chains!(2), // \x94 NestTemplate
+    chains!(2), // \x95 Holder
+    takes!(2), // \x96 SizedFloat
 ];
 
 // The symbols of the rules, in the same order.
-pub static SYMBOLS: [Sym; 702] = symbols_listed! {
+pub static SYMBOLS: [Sym; 714] = symbols_listed! {
     [NONE, NONE, NONE, NONE, NONE], // ! Mark
     [NAME, MAYBE_ARGUMENTS, NONE, NONE, NONE], // \" InternalName
     [ANONYMOUS, MAYBE_ARGUMENTS, NONE, NONE, NONE], // # LocalTypeName
@@ -490,13 +501,15 @@ pub static SYMBOLS: [Sym; 702] = symbols_listed! {
     [COMPLETE_NAME, NONE, NONE, NONE, NONE], // \x92 SpecialName
     [TYPE, DIGITS, Sym::Byte(b'_'), TYPE, NONE], // \x93 ConstructionVtable
     [ABBREVIATION, NEST_REST_OR_END, NONE, NONE, NONE], // \x94 NestTemplate
+    [HOLDER_MARK, HELD_COMPONENT, NONE, NONE, NONE], // \x95 Holder
+    [DIGITS, FLOAT_END, NONE, NONE, NONE], // \x96 SizedFloat
 };
 
 /// The number of the rule that a kind takes at a byte, if it takes one.
 #[inline]
 fn number(kind: u16, byte: u8) -> Option<usize>
     requires { kind < abi.kinds }
-    ensures few { IfSome result (λ number. number < 116) }
+    ensures few { IfSome result (λ number. number < 118) }
     ensures rule { (head : Head) → MatchOption result (abi.rule kind byte ≡ None) (λ number. abi.rule kind byte ≡ Some (listed_rule head number)) }
 {
     match letter_in(&LETTERS[kind as usize], byte) {

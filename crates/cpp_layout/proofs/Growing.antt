@@ -1,6 +1,6 @@
 -- Lists of parts that grow.
-use Rattle.std.proofs.Common.{Bool, true, false, not, if◌then◌else◌, Option, None, ◌≡◌, ℕ, ◌-◌, ◌<◌, ◌≤◌, List, [], ◌∷◌, ◌++◌, length, take, drop, refl, ap, subst, ◌∙◌, arith, append-nil}
-use Rattle.std.proofs.lemmas.Bool.{ne_eqb}
+use Rattle.std.proofs.Common.{Bool, true, false, not, if◌then◌else◌, nat_eq, Option, None, ◌≡◌, ℕ, ◌-◌, ◌<◌, ◌≤◌, List, [], ◌∷◌, ◌++◌, length, take, drop, refl, ap, subst, ◌∙◌, arith, append-nil}
+use Rattle.std.proofs.lemmas.Bool.{eq-eqb, ne_eqb}
 use Rattle.std.proofs.lemmas.List.{length-take, length-drop}
 use Rattle.sym_core.specs.declared.Span.{Span}
 use Rattle.sym_print.specs.declared.layout.Part.{Part}
@@ -15,13 +15,13 @@ use Rattle.sym_print.specs.Held.{Held, with_part}
 use Rattle.sym_print.proofs.Stacking.{stacked-nothing, stacked-text, stacked-item}
 use Rattle.cpp_grammar.specs.Items as heads
 use Rattle.cpp_term.specs.Items as items
-use Rattle.cpp_term.specs.Parts.{not_empty, list_part, text_part, as_item, member_parts, array_left, closing_right, left_parts, right_parts, first_parts, more_parts, expand_parts, parts_in}
+use Rattle.cpp_term.specs.Parts.{not_empty, list_part, text_part, as_item, member_parts, array_left, float_parts, closing_right, left_parts, right_parts, first_parts, more_parts, expand_parts, parts_in}
 use Rattle.cpp_term.specs.Term as term
 use Rattle.cpp_term.specs.Term.{Term}
 use Rattle.cpp_layout.specs.declared.context.Context.{Context}
 use Rattle.cpp_tree.specs.Nodes.{trees, tree_at, bytes_at, IsWithin}
 use Rattle.cpp_layout.specs.Texts.{fixed_text}
-use Rattle.cpp_layout.specs.declared.texts.TheConstants.{BLANK, COLONS_STAR, COMMA, LEFT, LEFT_BRACKET, RIGHT, RIGHT_BRACKET, VECTOR}
+use Rattle.cpp_layout.specs.declared.texts.TheConstants.{BLANK, BRAIN_FLOAT, COLONS_STAR, COMMA, FLOAT, LEFT, LEFT_BRACKET, RIGHT, RIGHT_BRACKET, VECTOR, WIDER}
 use Rattle.cpp_layout.specs.Layout.{ReadSymbol, table_of, tree_in, form_of, context_of, text_if, marked, referred, item_in, MayCome, IsOwn, unshared_of, bytes_of_part, shown, Shows}
 
 abbrev Others : Type 0
@@ -156,6 +156,19 @@ module _ (c : items.Context) (t : Term) where
   pub array-right : (digits : List ℕ) → text (fixed_text LEFT_BRACKET) ∷ (text_part digits ++ (text (fixed_text RIGHT_BRACKET) ∷ as_item heads.right c t ∷ [])) ≡ right_parts c (term.array digits t)
   unfolding right_parts
   array-right digits = refl
+
+-- the text of a float of so many bits
+pub float-brain : (digits : List ℕ) (end : ℕ) → end ≡ 98 → text (fixed_text BRAIN_FLOAT) ∷ [] ≡ float_parts digits end
+unfolding float_parts
+float-brain digits end is = rw (float_parts, eq-eqb end 98 is) refl
+
+pub float-sized : (digits : List ℕ) (end : ℕ) → (end ≡ 98 → ⊥) → text (fixed_text FLOAT) ∷ text digits ∷ text_if (nat_eq end 120) (fixed_text WIDER) [] ≡ float_parts digits end
+unfolding float_parts
+float-sized digits end other = go (nat_eq end 120) refl
+  where
+    go : (b : Bool) → nat_eq end 120 ≡ b → text (fixed_text FLOAT) ∷ text digits ∷ text_if b (fixed_text WIDER) [] ≡ float_parts digits end
+    go true is = rw (float_parts, ne_eqb end 98 other, is) refl
+    go false is = rw (float_parts, ne_eqb end 98 other, is) refl
 
 pub parameter-same : (ts : List Term) (form node : ℕ) (d : Detail) (index : Option ℕ) (a : Term) → form < 6 → tree_at ts node ≡ items.indexed index a
     → sub (item_in ts node form 0 (record { index = None; detail = d })) ∷ [] ≡ as_item (form_of form 0) items.closed (items.argument (record { index = index }) a) ∷ []

@@ -14,7 +14,7 @@ use Rattle.cpp_term.specs.Parts.{as_item, list_part, piece_parts, prefix_item, w
 use Rattle.cpp_tree.specs.declared.node.Piece.{Piece}
 use Rattle.cpp_tree.specs.declared.node.Node.{Node}
 use Rattle.cpp_tree.specs.declared.node.Thunk.{Thunk}
-use Rattle.cpp_tree.specs.Nodes.{tree_of, piece_of}
+use Rattle.cpp_tree.specs.Nodes.{tree_at, tree_of, piece_of}
 use Rattle.cpp_layout.specs.Texts.{fixed_text}
 use Rattle.cpp_layout.specs.declared.texts.TheConstants.{ANONYMOUS, BLANK_LESS, BRACE, COLONS, GREATER, LAMBDA, LESS, LITERAL, RIGHT_NUMBER, UNNAMED}
 use Rattle.cpp_tree.specs.Nodes.{is_encoding}
@@ -132,18 +132,23 @@ prefix-encoding s us ts c n t is e = subst (λ u. as_item heads.bare items.close
     by (Node.Construction a g b) e = refl
     by _ e = cc e
 
-pub prefix-other : (s : List ℕ) (us : List Thunk) (ts : List Term) (c : items.Context) (n : Node) (t : Term) → t ≡ tree_of s us ts n → is_encoding n ≡ false → as_item heads.left c t ≡ prefix_item c t
+pub prefix-other : (s : List ℕ) (us : List Thunk) (ts : List Term) (c : items.Context) (n : Node) (t : Term) → t ≡ tree_of s us ts n → is_encoding n ≡ false → ((a : ℕ) → n ≡ Node.Holder a → ⊥) → as_item heads.left c t ≡ prefix_item c t
 unfolding tree_of prefix_item is_encoding
-prefix-other s us ts c n t is e = subst (λ u. as_item heads.left c u ≡ prefix_item c u) (sym is) (by n e)
+prefix-other s us ts c n t is e other = subst (λ u. as_item heads.left c u ≡ prefix_item c u) (sym is) (by n e other)
   where
-    by : (n : Node) → is_encoding n ≡ false → as_item heads.left c (tree_of s us ts n) ≡ prefix_item c (tree_of s us ts n)
-    by (Node.Function a q m b d) e = cc e
-    by (Node.Object a q m) e = cc e
-    by (Node.Special k a) e = cc e
-    by (Node.Thunk k a) e = cc e
-    by (Node.OfName k a q m) e = cc e
-    by (Node.Construction a g b) e = cc e
-    by _ e = refl
+    by : (n : Node) → is_encoding n ≡ false → ((a : ℕ) → n ≡ Node.Holder a → ⊥) → as_item heads.left c (tree_of s us ts n) ≡ prefix_item c (tree_of s us ts n)
+    by (Node.Function a q m b d) e other = cc e
+    by (Node.Object a q m) e other = cc e
+    by (Node.Special k a) e other = cc e
+    by (Node.Thunk k a) e other = cc e
+    by (Node.OfName k a q m) e other = cc e
+    by (Node.Construction a g b) e other = cc e
+    by (Node.Holder a) e other = absurd (other a refl)
+    by _ e other = refl
+
+pub prefix-held : (s : List ℕ) (us : List Thunk) (ts : List Term) (c : items.Context) (n : Node) (t : Term) (a : ℕ) → t ≡ tree_of s us ts n → n ≡ Node.Holder a → as_item heads.left c (tree_at ts a) ≡ prefix_item c t
+unfolding tree_of prefix_item
+prefix-held s us ts c n t a is held = ap (λ m. prefix_item c (tree_of s us ts m)) (sym held) ∙ ap (λ u. prefix_item c u) (sym is)
 
 pub within-other : (s : List ℕ) (ts : List Term) (c : items.Context) (prefix t : Term) (p : Piece) → t ≡ piece_of s ts p → ((d : ℕ) → p ≡ Piece.Constructor d → ⊥) → ((d : ℕ) → p ≡ Piece.Destructor d → ⊥)
     → prefix_item c prefix ∷ text (fixed_text COLONS) ∷ as_item heads.piece c t ∷ [] ≡ within_parts c prefix (piece_of s ts p)

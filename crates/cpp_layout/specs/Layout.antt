@@ -138,6 +138,7 @@ IsNoName (Node.InStd p) = ⊥
 IsNoName (Node.Within prefix p) = ⊥
 IsNoName (Node.Instance template arguments) = ⊥
 IsNoName (Node.Local e entity d) = ⊥
+IsNoName (Node.Holder a) = ⊥
 IsNoName (Node.Abbreviation code) = ⊥
 IsNoName (Node.Parameter k a) = ⊥
 IsNoName _ = Unit {0}
@@ -149,6 +150,7 @@ IsNoType (Node.InStd p) = ⊥
 IsNoType (Node.Within prefix p) = ⊥
 IsNoType (Node.Instance template arguments) = ⊥
 IsNoType (Node.Local e entity d) = ⊥
+IsNoType (Node.Holder a) = ⊥
 IsNoType (Node.Abbreviation code) = ⊥
 IsNoType (Node.Parameter k a) = ⊥
 IsNoType (Node.Builtin code) = ⊥
@@ -163,6 +165,7 @@ IsNoType (Node.MemberPointer class t) = ⊥
 IsNoType (Node.Qualified q t) = ⊥
 IsNoType (Node.Vector digits t) = ⊥
 IsNoType (Node.Complex t) = ⊥
+IsNoType (Node.SizedFloat digits end) = ⊥
 IsNoType _ = Unit {0}
 
 -- ## A symbol as a layout

@@ -42,7 +42,10 @@ plain_texts =
     codes "(anonymous namespace)" ∷
     codes "-" ∷
     codes "construction vtable for " ∷
-    codes "-in-" ∷ []
+    codes "-in-" ∷
+    codes "_Float" ∷
+    codes "x" ∷
+    codes "std::bfloat16_t" ∷ []
 
 -- what stands behind a function's parameters
 abbrev pub suffix_texts : List (List ℕ)

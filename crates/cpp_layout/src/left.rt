@@ -116,6 +116,7 @@ impl Symbol {
             }
             Node::Vector { digits, element } => self.fill_vector(parts, digits, element, ctx),
             Node::Complex(ty) => self.fill_left_text(parts, ty, texts::COMPLEX, ctx),
+            Node::SizedFloat { digits, end } => self.fill_float(parts, digits, end, ctx),
             _ => self.fill_left_argument(parts, number, node, ctx),
         }
     }
@@ -139,6 +140,7 @@ impl Symbol {
                 arguments,
             } => self.fill_instance(parts, template, arguments, ctx),
             Node::Local { entity, .. } => self.push_item(parts, entity, form::LEFT, 0, ctx),
+            Node::Holder(name) => self.push_item(parts, name, form::LEFT, 0, ctx),
             Node::Abbreviation(letter) => self.push_some(parts, abbreviation(letter)),
             Node::Parameter { argument, .. } => {
                 self.fill_parameter(parts, argument, form::LEFT, ctx);
@@ -191,6 +193,7 @@ impl Symbol {
             Node::Within { prefix, piece } => self.fill_base_within(parts, prefix, piece, ctx),
             Node::Instance { template, .. } => self.push_item(parts, template, form::BASE, 0, ctx),
             Node::Local { entity, .. } => self.push_item(parts, entity, form::BASE, 0, ctx),
+            Node::Holder(name) => self.push_item(parts, name, form::BASE, 0, ctx),
             Node::Abbreviation(letter) => self.push_some(parts, last_of_abbreviation(letter)),
             Node::Parameter { argument, .. } => {
                 self.fill_parameter(parts, argument, form::BASE, ctx);

@@ -194,7 +194,8 @@ impl Symbol {
         }
     }
 
-    /// Adds a prefix: a name, or the encoding around a local entity, which is shown without its return type.
+    /// Adds a prefix: a name, what holds a piece in its initializer, which is shown as its name, or the encoding around a local
+    /// entity, which is shown without its return type.
     #[inline(always)]
     fn push_prefix<S: PartList<Context>>(&self, parts: &mut S, prefix: u32, ctx: Context)
         requires room { 0 < S.room parts.old }
@@ -204,14 +205,18 @@ impl Symbol {
             → Shows self.now ctx.detail below (S.held parts.new) (prefix_item (context_of ctx) (tree_at (trees (table_of self.now)) prefix) ∷ others) }
         ensures room { S.room parts.new + 1 ≡ S.room parts.old }
     {
-        if self.stored(prefix).is_encoding() {
+        let stored = self.stored(prefix);
+        if stored.is_encoding() {
             let closed = Context {
                 index: None,
                 detail: ctx.detail,
             };
             self.push_item(parts, prefix, form::BARE, 0, closed);
-        } else {
-            self.push_item(parts, prefix, form::LEFT, 0, ctx);
+            return;
+        }
+        match stored {
+            Node::Holder(name) => self.push_item(parts, name, form::LEFT, 0, ctx),
+            _ => self.push_item(parts, prefix, form::LEFT, 0, ctx),
         }
     }
 

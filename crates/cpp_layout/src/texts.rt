@@ -82,83 +82,89 @@ pub const CONSTRUCTION: u16 = 37;
 
 pub const IN: u16 = 38;
 
+pub const FLOAT: u16 = 39;
+
+pub const WIDER: u16 = 40;
+
+pub const BRAIN_FLOAT: u16 = 41;
+
 /// Where the texts behind a function's parameters begin.
-pub const SUFFIX: u16 = 39;
+pub const SUFFIX: u16 = 42;
 
 /// No text.
-pub const NONE: u16 = 39;
+pub const NONE: u16 = 42;
 
 /// Where the builtin types begin.
-pub const BUILTIN: u16 = 87;
+pub const BUILTIN: u16 = 90;
 
 /// Where the names of operators begin.
-pub const OPERATOR: u16 = 118;
+pub const OPERATOR: u16 = 121;
 
 /// How many operators there are.
 pub const OPERATORS: u16 = 48;
 
 /// Where the abbreviations begin, and their names without `std::`.
-pub const ABBREVIATION: u16 = 166;
+pub const ABBREVIATION: u16 = 169;
 
-pub const LAST_OF_ABBREVIATION: u16 = 172;
+pub const LAST_OF_ABBREVIATION: u16 = 175;
 
 /// Where the special names begin.
-pub const SPECIAL: u16 = 178;
+pub const SPECIAL: u16 = 181;
 
 /// Where the special names of names begin.
-pub const NAMED_SPECIAL: u16 = 182;
+pub const NAMED_SPECIAL: u16 = 185;
 
 /// Where the endings of integer literals begin.
-pub const ENDING: u16 = 185;
+pub const ENDING: u16 = 188;
 
 /// Where the qualifiers begin whose blank stands behind them, but for those of no qualifier.
-pub const BLANKED: u16 = 189;
+pub const BLANKED: u16 = 192;
 
 /// The name of an operator that has no code.
-pub const OPERATOR_ALONE: u16 = 197;
+pub const OPERATOR_ALONE: u16 = 200;
 
 /// How many texts there are.
-pub const COUNT: u16 = 198;
+pub const COUNT: u16 = 201;
 
 /// A text behind the operators: an abbreviation, a special name, an ending, a qualifier.
 #[tactic(auto, unfolding(crate::specs::Texts::fixed_text, cpp_grammar::specs::Texts::builtin_texts, cpp_grammar::specs::Texts::operator_texts, cpp_grammar::specs::Texts::abbreviation_texts, cpp_grammar::specs::Texts::special_texts, cpp_grammar::specs::Texts::named_special_texts, cpp_grammar::specs::Texts::literal_endings))]
 #[inline(always)]
 fn remaining_text(number: u16) -> &'static [u8]
-    requires { 166 ≤ number }
+    requires { 169 ≤ number }
     ensures { result.now ≡ fixed_text number }
 {
     match number {
-        166 => b"std::allocator",
-        167 => b"std::basic_string",
-        168 => b"std::string",
-        169 => b"std::istream",
-        170 => b"std::ostream",
-        171 => b"std::iostream",
-        172 => b"allocator",
-        173 => b"basic_string",
-        174 => b"string",
-        175 => b"istream",
-        176 => b"ostream",
-        177 => b"iostream",
-        178 => b"vtable for ",
-        179 => b"VTT for ",
-        180 => b"typeinfo for ",
-        181 => b"typeinfo name for ",
-        182 => b"guard variable for ",
-        183 => b"thread-local initialization routine for ",
-        184 => b"thread-local wrapper routine for ",
-        185 => b"u",
-        186 => b"l",
-        187 => b"ul",
-        188 => b"ll",
-        189 => b"ull",
-        190 => b"restrict ",
-        191 => b"volatile ",
-        192 => b"volatile restrict ",
-        193 => b"const ",
-        194 => b"const restrict ",
-        195 => b"const volatile ",
-        196 => b"const volatile restrict ",
+        169 => b"std::allocator",
+        170 => b"std::basic_string",
+        171 => b"std::string",
+        172 => b"std::istream",
+        173 => b"std::ostream",
+        174 => b"std::iostream",
+        175 => b"allocator",
+        176 => b"basic_string",
+        177 => b"string",
+        178 => b"istream",
+        179 => b"ostream",
+        180 => b"iostream",
+        181 => b"vtable for ",
+        182 => b"VTT for ",
+        183 => b"typeinfo for ",
+        184 => b"typeinfo name for ",
+        185 => b"guard variable for ",
+        186 => b"thread-local initialization routine for ",
+        187 => b"thread-local wrapper routine for ",
+        188 => b"u",
+        189 => b"l",
+        190 => b"ul",
+        191 => b"ll",
+        192 => b"ull",
+        193 => b"restrict ",
+        194 => b"volatile ",
+        195 => b"volatile restrict ",
+        196 => b"const ",
+        197 => b"const restrict ",
+        198 => b"const volatile ",
+        199 => b"const volatile restrict ",
         OPERATOR_ALONE => b"operator",
         _ => b"",
     }
@@ -168,58 +174,58 @@ fn remaining_text(number: u16) -> &'static [u8]
 #[tactic(auto, unfolding(crate::specs::Texts::fixed_text, cpp_grammar::specs::Texts::builtin_texts, cpp_grammar::specs::Texts::operator_texts))]
 #[inline(always)]
 fn operator_text(number: u16) -> &'static [u8]
-    requires { 118 ≤ number }
+    requires { 121 ≤ number }
     ensures { result.now ≡ fixed_text number }
 {
     match number {
-        118 => b"operator new",
-        119 => b"operator new[]",
-        120 => b"operator delete",
-        121 => b"operator delete[]",
-        122 => b"operator co_await",
-        123 => b"operator+",
-        124 => b"operator-",
-        125 => b"operator&",
-        126 => b"operator*",
-        127 => b"operator~",
-        128 => b"operator+",
-        129 => b"operator-",
-        130 => b"operator*",
-        131 => b"operator/",
-        132 => b"operator%",
-        133 => b"operator&",
-        134 => b"operator^",
-        135 => b"operator=",
-        136 => b"operator+=",
-        137 => b"operator-=",
-        138 => b"operator*=",
-        139 => b"operator/=",
-        140 => b"operator%=",
-        141 => b"operator&=",
-        142 => b"operator|=",
-        143 => b"operator^=",
-        144 => b"operator<<",
-        145 => b"operator>>",
-        146 => b"operator<<=",
-        147 => b"operator>>=",
-        148 => b"operator==",
-        149 => b"operator!=",
-        150 => b"operator<",
-        151 => b"operator>",
-        152 => b"operator<=",
-        153 => b"operator>=",
-        154 => b"operator<=>",
-        155 => b"operator!",
-        156 => b"operator&&",
-        157 => b"operator||",
-        158 => b"operator++",
-        159 => b"operator--",
-        160 => b"operator,",
-        161 => b"operator->*",
-        162 => b"operator->",
-        163 => b"operator()",
-        164 => b"operator[]",
-        165 => b"operator|",
+        121 => b"operator new",
+        122 => b"operator new[]",
+        123 => b"operator delete",
+        124 => b"operator delete[]",
+        125 => b"operator co_await",
+        126 => b"operator+",
+        127 => b"operator-",
+        128 => b"operator&",
+        129 => b"operator*",
+        130 => b"operator~",
+        131 => b"operator+",
+        132 => b"operator-",
+        133 => b"operator*",
+        134 => b"operator/",
+        135 => b"operator%",
+        136 => b"operator&",
+        137 => b"operator^",
+        138 => b"operator=",
+        139 => b"operator+=",
+        140 => b"operator-=",
+        141 => b"operator*=",
+        142 => b"operator/=",
+        143 => b"operator%=",
+        144 => b"operator&=",
+        145 => b"operator|=",
+        146 => b"operator^=",
+        147 => b"operator<<",
+        148 => b"operator>>",
+        149 => b"operator<<=",
+        150 => b"operator>>=",
+        151 => b"operator==",
+        152 => b"operator!=",
+        153 => b"operator<",
+        154 => b"operator>",
+        155 => b"operator<=",
+        156 => b"operator>=",
+        157 => b"operator<=>",
+        158 => b"operator!",
+        159 => b"operator&&",
+        160 => b"operator||",
+        161 => b"operator++",
+        162 => b"operator--",
+        163 => b"operator,",
+        164 => b"operator->*",
+        165 => b"operator->",
+        166 => b"operator()",
+        167 => b"operator[]",
+        168 => b"operator|",
         _ => remaining_text(number),
     }
 }
@@ -228,41 +234,41 @@ fn operator_text(number: u16) -> &'static [u8]
 #[tactic(auto, unfolding(crate::specs::Texts::fixed_text, cpp_grammar::specs::Texts::builtin_texts))]
 #[inline(always)]
 fn builtin_text(number: u16) -> &'static [u8]
-    requires { 87 ≤ number }
+    requires { 90 ≤ number }
     ensures { result.now ≡ fixed_text number }
 {
     match number {
-        87 => b"void",
-        88 => b"wchar_t",
-        89 => b"bool",
-        90 => b"char",
-        91 => b"signed char",
-        92 => b"unsigned char",
-        93 => b"short",
-        94 => b"unsigned short",
-        95 => b"int",
-        96 => b"unsigned int",
-        97 => b"long",
-        98 => b"unsigned long",
-        99 => b"long long",
-        100 => b"unsigned long long",
-        101 => b"__int128",
-        102 => b"unsigned __int128",
-        103 => b"float",
-        104 => b"double",
-        105 => b"long double",
-        106 => b"__float128",
-        107 => b"...",
-        108 => b"char32_t",
-        109 => b"char16_t",
-        110 => b"char8_t",
-        111 => b"auto",
-        112 => b"decltype(auto)",
-        113 => b"std::nullptr_t",
-        114 => b"decimal64",
-        115 => b"decimal128",
-        116 => b"decimal32",
-        117 => b"half",
+        90 => b"void",
+        91 => b"wchar_t",
+        92 => b"bool",
+        93 => b"char",
+        94 => b"signed char",
+        95 => b"unsigned char",
+        96 => b"short",
+        97 => b"unsigned short",
+        98 => b"int",
+        99 => b"unsigned int",
+        100 => b"long",
+        101 => b"unsigned long",
+        102 => b"long long",
+        103 => b"unsigned long long",
+        104 => b"__int128",
+        105 => b"unsigned __int128",
+        106 => b"float",
+        107 => b"double",
+        108 => b"long double",
+        109 => b"__float128",
+        110 => b"...",
+        111 => b"char32_t",
+        112 => b"char16_t",
+        113 => b"char8_t",
+        114 => b"auto",
+        115 => b"decltype(auto)",
+        116 => b"std::nullptr_t",
+        117 => b"decimal64",
+        118 => b"decimal128",
+        119 => b"decimal32",
+        120 => b"half",
         _ => operator_text(number),
     }
 }
@@ -271,58 +277,58 @@ fn builtin_text(number: u16) -> &'static [u8]
 #[tactic(auto, unfolding(crate::specs::Texts::fixed_text))]
 #[inline(always)]
 fn suffix_text(number: u16) -> &'static [u8]
-    requires { 39 ≤ number }
+    requires { 42 ≤ number }
     ensures { result.now ≡ fixed_text number }
 {
     match number {
         NONE => b"",
-        40 => b" restrict",
-        41 => b" volatile",
-        42 => b" volatile restrict",
-        43 => b" const",
-        44 => b" const restrict",
-        45 => b" const volatile",
-        46 => b" const volatile restrict",
-        47 => b" &",
-        48 => b" restrict &",
-        49 => b" volatile &",
-        50 => b" volatile restrict &",
-        51 => b" const &",
-        52 => b" const restrict &",
-        53 => b" const volatile &",
-        54 => b" const volatile restrict &",
-        55 => b" &&",
-        56 => b" restrict &&",
-        57 => b" volatile &&",
-        58 => b" volatile restrict &&",
-        59 => b" const &&",
-        60 => b" const restrict &&",
-        61 => b" const volatile &&",
-        62 => b" const volatile restrict &&",
-        63 => b" noexcept",
-        64 => b" restrict noexcept",
-        65 => b" volatile noexcept",
-        66 => b" volatile restrict noexcept",
-        67 => b" const noexcept",
-        68 => b" const restrict noexcept",
-        69 => b" const volatile noexcept",
-        70 => b" const volatile restrict noexcept",
-        71 => b" & noexcept",
-        72 => b" restrict & noexcept",
-        73 => b" volatile & noexcept",
-        74 => b" volatile restrict & noexcept",
-        75 => b" const & noexcept",
-        76 => b" const restrict & noexcept",
-        77 => b" const volatile & noexcept",
-        78 => b" const volatile restrict & noexcept",
-        79 => b" && noexcept",
-        80 => b" restrict && noexcept",
-        81 => b" volatile && noexcept",
-        82 => b" volatile restrict && noexcept",
-        83 => b" const && noexcept",
-        84 => b" const restrict && noexcept",
-        85 => b" const volatile && noexcept",
-        86 => b" const volatile restrict && noexcept",
+        43 => b" restrict",
+        44 => b" volatile",
+        45 => b" volatile restrict",
+        46 => b" const",
+        47 => b" const restrict",
+        48 => b" const volatile",
+        49 => b" const volatile restrict",
+        50 => b" &",
+        51 => b" restrict &",
+        52 => b" volatile &",
+        53 => b" volatile restrict &",
+        54 => b" const &",
+        55 => b" const restrict &",
+        56 => b" const volatile &",
+        57 => b" const volatile restrict &",
+        58 => b" &&",
+        59 => b" restrict &&",
+        60 => b" volatile &&",
+        61 => b" volatile restrict &&",
+        62 => b" const &&",
+        63 => b" const restrict &&",
+        64 => b" const volatile &&",
+        65 => b" const volatile restrict &&",
+        66 => b" noexcept",
+        67 => b" restrict noexcept",
+        68 => b" volatile noexcept",
+        69 => b" volatile restrict noexcept",
+        70 => b" const noexcept",
+        71 => b" const restrict noexcept",
+        72 => b" const volatile noexcept",
+        73 => b" const volatile restrict noexcept",
+        74 => b" & noexcept",
+        75 => b" restrict & noexcept",
+        76 => b" volatile & noexcept",
+        77 => b" volatile restrict & noexcept",
+        78 => b" const & noexcept",
+        79 => b" const restrict & noexcept",
+        80 => b" const volatile & noexcept",
+        81 => b" const volatile restrict & noexcept",
+        82 => b" && noexcept",
+        83 => b" restrict && noexcept",
+        84 => b" volatile && noexcept",
+        85 => b" volatile restrict && noexcept",
+        86 => b" const && noexcept",
+        87 => b" const restrict && noexcept",
+        88 => b" const volatile && noexcept",
+        89 => b" const volatile restrict && noexcept",
         _ => builtin_text(number),
     }
 }
@@ -373,6 +379,9 @@ pub fn fixed_text(number: u16) -> &'static [u8]
         MINUS => b"-",
         CONSTRUCTION => b"construction vtable for ",
         IN => b"-in-",
+        FLOAT => b"_Float",
+        WIDER => b"x",
+        BRAIN_FLOAT => b"std::bfloat16_t",
         _ => suffix_text(number),
     }
 }

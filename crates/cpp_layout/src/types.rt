@@ -5,7 +5,7 @@ ghost use Rattle.std.specs.Prelude.{◌+◌, ◌<◌, ◌≤◌, ◌∷◌, [], 
 ghost use Rattle.sym_print.specs.Unfold.{text, sub};
 ghost use Rattle.cpp_grammar.specs.Items as heads;
 ghost use Rattle.cpp_term.specs.Items as items;
-ghost use Rattle.cpp_term.specs.Parts.{as_item, reference_parts, array_left, member_parts, closing_right, left_parts, right_parts};
+ghost use Rattle.cpp_term.specs.Parts.{as_item, reference_parts, array_left, float_parts, member_parts, closing_right, left_parts, right_parts};
 ghost use Rattle.cpp_term.specs.Term as term;
 ghost use Rattle.cpp_tree.specs.Nodes.{tree_at, trees, IsTable, bytes_at, IsWithin};
 ghost use Rattle.cpp_layout.specs.Texts.{fixed_text};
@@ -168,6 +168,29 @@ impl Symbol {
         self.push_bytes(parts, digits);
         self.push_text(parts, texts::VECTOR);
         self.push_item(parts, element, form::LEFT, 0, ctx);
+    }
+
+    /// The left parts of a floating type of so many bits.
+    // <builtin-type> ::= DF <number> _ | DF <number> x | DF <number> b
+    pub(crate) fn fill_float<S: PartList<Context>>(
+        &self,
+        parts: &mut S,
+        digits: Span,
+        end: u8,
+        ctx: Context,
+    )
+        requires digits { IsWithin digits self.now.bytes }
+        requires room { 8 ≤ S.room parts.old }
+        ensures shows { Shows self.now ctx.detail (S.held parts.old) (S.held parts.new) (float_parts (bytes_at self.now.bytes digits) end) }
+        ensures few { S.room parts.old ≤ S.room parts.new + 8 }
+    {
+        if end == b'b' {
+            self.push_text(parts, texts::BRAIN_FLOAT);
+        } else {
+            self.push_text_if(parts, end == b'x', texts::WIDER);
+            self.push_bytes(parts, digits);
+            self.push_text(parts, texts::FLOAT);
+        }
     }
 
     /// The right parts of a pointer or a reference, whose left ones opened a bracket before a function or an array.

@@ -29,6 +29,7 @@ any_byte s Production.OperatorPiece b c around place began vs state chain = refl
 any_byte s Production.NestSource b c around place began vs state chain = refl
 any_byte s Production.NestAbbreviated b c around place began vs state chain = refl
 any_byte s Production.NestTemplate b c around place began vs state chain = refl
+any_byte s Production.Holder b c around place began vs state chain = refl
 any_byte s Production.NestNext b c around place began vs state chain = refl
 any_byte s Production.Substitution b c around place began vs state chain = refl
 any_byte s Production.PlainType b c around place began vs state chain = refl

@@ -9,10 +9,10 @@ use Rattle.sym_shape.specs.declared.rule.Sym.TheVariants.{Kind as OfKind, Name, 
 use Rattle.sym_link.specs.Reading.{Found, Next}
 use Rattle.sym_link.specs.Unfold.{found}
 use Rattle.cpp_grammar.specs.declared.production.Production.{Production}
-use Rattle.cpp_grammar.specs.KindNumbers.{INTEGER, UNQUALIFIED, NEST, NEST_AFTER_S, NEST_REST, NEST_REST_OR_END, NEST_TAIL, COMPONENT, CONSTRUCTOR_DIGIT, DESTRUCTOR_DIGIT, ABBREVIATION, ANONYMOUS, ITEM_AFTER_D, AFTER_D, SOLID, TYPE_AFTER_S, MAYBE_ARGUMENTS, ARGUMENTS, ARGUMENT_LIST, LITERAL_TYPE, OPERATOR}
+use Rattle.cpp_grammar.specs.KindNumbers.{INTEGER, UNQUALIFIED, NEST, NEST_AFTER_S, NEST_REST, NEST_REST_OR_END, NEST_TAIL, COMPONENT, HOLDER_MARK, HELD_COMPONENT, CONSTRUCTOR_DIGIT, DESTRUCTOR_DIGIT, ABBREVIATION, ANONYMOUS, ITEM_AFTER_D, AFTER_D, SOLID, TYPE_AFTER_S, MAYBE_ARGUMENTS, ARGUMENTS, ARGUMENT_LIST, LITERAL_TYPE, OPERATOR}
 use Rattle.cpp_grammar.specs.Grammar.{parts_of, number_of_kind}
 use Rattle.cpp_grammar.proofs.ClosedStates.{ok_same}
-use Rattle.cpp_term.specs.Term.{Term, source, constructor, destructor, in_std, instance, pack, lvalue, rvalue}
+use Rattle.cpp_term.specs.Term.{Term, source, constructor, destructor, in_std, instance, holder, pack, lvalue, rvalue}
 use Rattle.cpp_term.specs.Values.{State, Around, prefix_tree, prefix_listed, Value, tree, tree_of, piece_of, letter_of, text_of, is_listed, is_there, part}
 use Rattle.cpp_term.specs.References.{appended, with_type, with_unqualified, with_prefix}
 use Rattle.cpp_term.specs.Between.{Going, in_name, in_types, in_signature, under_expansion, after, inside, extended, applied, no_items, named_so_far, listed_so_far, piece_so_far, index_of, between}
@@ -290,6 +290,25 @@ nest-next around place = λ state next e. came (going [] (after (prefix_tree aro
         (rest-step Production.NestNext around place 18 0 1 state (v ∷ []) (tree_of v) false state (λ a w. refl) (λ w. refl) (omega arith)
         (λ w. same-closes Production.NestNext around place (v ∷ w ∷ []) w (λ u. refl) (λ byte began last. refl)))
 
+-- what holds the component is no candidate; the component is one that is made
+holder-component : (around : Around) (place : ℕ) → Flow Production.Holder around place (OfKind HOLDER_MARK ∷ OfKind HELD_COMPONENT ∷ []) [] 0
+unfolding pending pending_around goes_on is_arguments is_component becomes_candidate between listed_so_far makes_before made_before makes_at_end made_at_end part leaves makes_name meaning close behind
+holder-component around place = λ state next e. came (going [] around state) next e
+    (quiet (going [] around state) (omega arith) (λ v. refl) held)
+  where
+    held : (v : Value) → Flow Production.Holder around place (OfKind HELD_COMPONENT ∷ []) (v ∷ []) 0
+    held v = λ state next e. (
+        let t : Term = holder (prefix_tree around.prefix) in
+        came (going (tree t true ∷ []) (after t true around) state) next e (record {
+          over = 0;
+          few = omega arith;
+          later = λ w. record {
+            now = 1;
+            few = omega arith;
+            goes = λ byte began last one g. ended Production.Holder 0 1 last (found w last) one g (omega arith);
+          };
+        }))
+
 nest-arguments : (around : Around) (place : ℕ)
     → Flow Production.NestArguments around place (OfKind ARGUMENT_LIST ∷ Byte 69 ∷ OfKind COMPONENT ∷ OfKind NEST_TAIL ∷ []) [] (unlisted_around around)
 unfolding pending pending_around goes_on is_arguments is_component becomes_candidate between listed_so_far makes_before made_before part leaves makes_name may_leave meaning close behind
@@ -488,6 +507,7 @@ flows Production.NestTemplate around place = nest-template around place
 flows Production.NestParameter around place = nest-parameter around place
 flows Production.NestStd around place = nest-std around place
 flows Production.NestNext around place = nest-next around place
+flows Production.Holder around place = holder-component around place
 flows Production.NestArguments around place = nest-arguments around place
 flows Production.NestInstance around place = nest-instance around place
 flows Production.NestEnd around place = nest-end around place

@@ -36,6 +36,7 @@ quiet_parts Production.TypeWithS = 1
 quiet_parts Production.LvalueItem = 1
 quiet_parts Production.RvalueItem = 1
 quiet_parts Production.IntegerLiteral = 1
+quiet_parts Production.Holder = 1
 quiet_parts _ = 5
 
 -- parts without a row may stand between those with one

@@ -121,6 +121,8 @@ impl Linked {
             Production::NestTemplate => Meant::Given(self.given(symbol, parts, 1)),
             // <nested-name> ::= N [<CV-qualifiers>] [<ref-qualifier>] <template-prefix> <template-args> E, or <prefix> likewise
             Production::NestInstance => Meant::Given(self.given(symbol, parts, 2)),
+            // <prefix> ::= <data-member-prefix> <unqualified-name>, with <data-member-prefix> ::= <prefix> M
+            Production::Holder => Meant::Given(self.given(symbol, parts, 1)),
             // <discriminator> ::= _ <digit> | __ <number> _
             Production::Discriminator => Meant::Given(self.given(symbol, parts, 0)),
             // <template-arg> ::= <type>
@@ -233,6 +235,14 @@ impl Linked {
             Production::Expansion => made(Node::Expansion(self.tree(symbol, parts, 0)), false),
             // <builtin-type> ::= Di | Ds | Du | Da | Dc | Dn | Dd | De | Df | Dh
             Production::BuiltinWithD => made(Node::BuiltinWithD(byte), true),
+            // <builtin-type> ::= DF <number> _ | DF <number> x | DF <number> b
+            Production::SizedFloat => made(
+                Node::SizedFloat {
+                    digits: normal(symbol, self.text(symbol, parts, 0)),
+                    end: self.letter(symbol, parts, 1),
+                },
+                true,
+            ),
             // <builtin-type> ::= u <source-name>
             Production::Vendor => made(Node::Vendor(self.text(symbol, parts, 0)), false),
             // <type> ::= C <type>

@@ -404,6 +404,13 @@ impl Linked {
                 kept.prefix(),
                 Piece::Destructor(letter_of(first)),
             )),
+            Production::Holder => Step::Made {
+                node: Node::Holder(self.prefix_node(symbol, kept)),
+                listed: true,
+                is_name: true,
+                is_candidate: false,
+                packs: self.packs,
+            },
             Production::StdName => self.named(Node::InStd(self.piece_in(symbol, first))),
             Production::NestStd => self.named(Node::InStd(self.piece_in(symbol, first))),
             Production::AbbreviatedName => Step::Named {

@@ -3,7 +3,7 @@ use Rattle.std.proofs.Common.{◌≡◌, ℕ, ◌-◌, List, [], ◌∷◌, ◌+
 use Rattle.std.specs.Prelude.{codes, cond}
 use Rattle.sym_spell.specs.Pressing.{◌and◌, text, nothing}
 use Rattle.sym_spell.proofs.Spellings.{and-assoc, nothing-and}
-use Rattle.cpp_grammar.specs.Term.{Qualifiers, RefQualifier, any_value, lvalue_only, rvalue_only, Term, symbol, function, object, special, thunk, of_name, construction, alone, in_std, within, instance, local, abbreviation, parameter, source, operator, literal_operator, constructor, destructor, lambda, unnamed, string_literal, builtin, vendor, pointer, lvalue, rvalue, array, member_pointer, function_type, qualified, vector, complex, expansion, integer, boolean, null_pointer, encoding_literal, address_of, pack, nil, list}
+use Rattle.cpp_grammar.specs.Term.{Qualifiers, RefQualifier, any_value, lvalue_only, rvalue_only, Term, symbol, function, object, special, thunk, of_name, construction, alone, in_std, within, instance, local, holder, abbreviation, parameter, source, operator, literal_operator, constructor, destructor, lambda, unnamed, string_literal, builtin, sized_float, vendor, pointer, lvalue, rvalue, array, member_pointer, function_type, qualified, vector, complex, expansion, integer, boolean, null_pointer, encoding_literal, address_of, pack, nil, list}
 use Rattle.cpp_grammar.specs.Values.{Candidate}
 use Rattle.cpp_tree.specs.Nodes.{qualifiers_of, mark_of}
 use Rattle.cpp_press_laws.specs.Texts.{counted, ordinal, signed_text, qualifier_letters, mark_letter, name_letters, special_code, thunk_text, discriminator_text}
@@ -11,7 +11,7 @@ use Rattle.cpp_press_laws.specs.Components.{Spelling, first_equal, component, sp
 use Rattle.cpp_press_laws.specs.Pressing.{ways_of, no_ways, type_ways, name_ways, piece_ways, argument_ways, encoding_ways, begun, function_text, in_N_and_E, with_letters, local_text, entity_text, is_operator, is_one_piece}
 use Rattle.cpp_press.specs.declared.task.Way.{Way}
 use Rattle.cpp_press.specs.Tasks.{◌onto◌, written, in_way, in_name, before, bracketed, ending}
-use Rattle.cpp_press.specs.Spelled.{piece_onto, in_std_onto, within_onto, nested_onto, arguments_onto, between_onto, prefix_onto, plain_name_onto, lettered_onto, local_onto, has_letters, is_name, name_onto, compound_onto, class_onto, type_onto, argument_onto, more_parameters_onto, parameters_onto, elements_onto, encoding_onto, spelled_onto, is_component, is_function_type, is_compared}
+use Rattle.cpp_press.specs.Spelled.{piece_onto, in_std_onto, within_onto, nested_onto, arguments_onto, between_onto, prefix_onto, plain_name_onto, lettered_onto, local_onto, has_letters, is_name, is_prefix, name_onto, compound_onto, class_onto, type_onto, argument_onto, more_parameters_onto, parameters_onto, elements_onto, encoding_onto, spelled_onto, is_component, is_function_type, is_compared}
 
 pub under : (f : Spelling) {g h : Spelling} → ◌≡◌ {A = Spelling} g h → ◌≡◌ {A = Spelling} (f and g) (f and h)
 under f same = ap {A = Spelling} {B = Spelling} (λ (x : Spelling). f and x) same
@@ -161,23 +161,28 @@ argument-rest n (integer t value) r is = three (text (codes "L")) (ways_of n t).
 argument-rest n (encoding_literal e) r is = three (text (codes "L_Z")) (ways_of n e).as_encoding (text (codes "E")) r
 argument-rest n (address_of e) r is = three (text (codes "XadL_Z")) (ways_of n e).as_encoding (text (codes "EE")) r
 argument-rest n (pack elements) r is = three (text (codes "J")) (ways_of n elements).as_elements (text (codes "E")) r
+argument-rest n (sized_float digits end) r is = three (text (codes "DF")) (text digits) (text (end ∷ [])) r
 argument-rest n _ r is = first_of (cc, search (nothing-and r))
 
 pub type-rest : (n : ℕ) (t : Term) (r : Spelling) → is_component t ≡ false → ◌≡◌ {A = Spelling} (in_way n Way.Type t and r) (type_onto n t r)
 unfolding ways_of no_ways type_ways name_ways piece_ways argument_ways encoding_ways type_onto class_onto compound_onto is_component ◌onto◌ written in_way
 type-rest n (builtin code) r is = refl
+type-rest n (sized_float digits end) r is = three (text (codes "DF")) (text digits) (text (end ∷ [])) r
 type-rest n _ r is = first_of (cc, search (nothing-and r))
 
 pub qualified-rest : (n : ℕ) (t : Term) (r : Spelling) → cond (is_function_type t) false (is_component t) ≡ false → ◌≡◌ {A = Spelling} (in_way n Way.UnderQualifiers t and r) (type_onto n t r)
 unfolding ways_of no_ways type_ways name_ways piece_ways argument_ways encoding_ways function_text type_onto class_onto compound_onto is_component is_function_type ◌onto◌ written in_way
 qualified-rest n (function_type y e ref t p) r is =
     four (text (cond e (codes "Do") [] ++ codes "F" ++ cond y (codes "Y") [])) (ways_of n t).as_type (ways_of n p).as_parameters (text (mark_letter ref ++ codes "E")) r
+qualified-rest n (sized_float digits end) r is = three (text (codes "DF")) (text digits) (text (end ∷ [])) r
 qualified-rest n _ r is = first_of (cc, search (nothing-and r))
 
 pub prefix-rest : (n : ℕ) (t : Term) (r : Spelling) → is_component t ≡ false
-    → ◌≡◌ {A = Spelling} (in_way n Way.Prefix t and r) (elim (is_name t) as (λ _. Spelling) [ true ↦ prefix_onto n t r | false ↦ type_onto n t r ])
-unfolding ways_of no_ways type_ways name_ways piece_ways argument_ways encoding_ways prefix_onto type_onto class_onto compound_onto is_component is_name ◌onto◌ written in_way
+    → ◌≡◌ {A = Spelling} (in_way n Way.Prefix t and r) (elim (is_prefix t) as (λ _. Spelling) [ true ↦ prefix_onto n t r | false ↦ type_onto n t r ])
+unfolding ways_of no_ways type_ways name_ways piece_ways argument_ways encoding_ways prefix_onto type_onto class_onto compound_onto is_component is_name is_prefix ◌onto◌ written in_way
 prefix-rest n (builtin code) r is = refl
+prefix-rest n (holder name) r is = two (ways_of n name).as_prefix (text (codes "M")) r
+prefix-rest n (sized_float digits end) r is = three (text (codes "DF")) (text digits) (text (end ∷ [])) r
 prefix-rest n _ r is = first_of (cc, search (nothing-and r))
 
 pub more-is : (n : ℕ) (t : Term) (r : Spelling) → ◌≡◌ {A = Spelling} (in_way n Way.MoreParameters t and r) (more_parameters_onto n t r)
@@ -303,8 +308,8 @@ argument-content-is n (alone p) e is = content-is n (alone p) e is
 argument-content-is n t e is = first_of (cc, search (content-is n t e is))
 
 prefix-content-is : (n : ℕ) (t : Term) (e : Spelling) → is_component t ≡ true
-    → ◌≡◌ {A = Spelling} (prefix_content n t and e) (elim (is_name t) as (λ _. Spelling) [ true ↦ prefix_onto n t e | false ↦ type_onto n t e ])
-unfolding prefix_content content is_component is_name prefix_onto between_onto ◌onto◌ in_way
+    → ◌≡◌ {A = Spelling} (prefix_content n t and e) (elim (is_prefix t) as (λ _. Spelling) [ true ↦ prefix_onto n t e | false ↦ type_onto n t e ])
+unfolding prefix_content content is_component is_name is_prefix prefix_onto between_onto ◌onto◌ in_way
 prefix-content-is n (alone p) e is = piece-is n p e
 prefix-content-is n (in_std p) e is = in-std-is n p e
 prefix-content-is n (within prefix p) e is = within-is n prefix p e
@@ -329,7 +334,7 @@ fresh-tree n p Way.Type t r cs is none = fresh-way n t (in_way n Way.Type t) (co
 fresh-tree n p Way.UnderQualifiers t r cs is none =
     fresh-way n t (in_way n Way.UnderQualifiers t) (content n t) r (type_onto n t (ended n t and r)) p cs (under-is n t is) (content-is n t (ended n t and r) (under-component t is)) none
 fresh-tree n p Way.Prefix t r cs is none =
-    fresh-way n t (in_way n Way.Prefix t) (prefix_content n t) r (elim (is_name t) as (λ _. Spelling) [ true ↦ prefix_onto n t (ended n t and r) | false ↦ type_onto n t (ended n t and r) ]) p cs
+    fresh-way n t (in_way n Way.Prefix t) (prefix_content n t) r (elim (is_prefix t) as (λ _. Spelling) [ true ↦ prefix_onto n t (ended n t and r) | false ↦ type_onto n t (ended n t and r) ]) p cs
     (prefixed-is n t is) (prefix-content-is n t (ended n t and r) is) none
 fresh-tree n p Way.Argument t r cs is none =
     fresh-way n t (in_way n Way.Argument t) (content n t) r (argument_onto n t (ended n t and r)) p cs (argued-is n t is) (argument-content-is n t (ended n t and r) is) none

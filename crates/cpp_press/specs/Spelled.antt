@@ -1,7 +1,7 @@
 -- Trees that are spelled out, each onto what stands behind it.
 use Rattle.std.specs.Prelude.{ℕ, ◌-◌, List, [], ◌∷◌, ◌++◌, Bool, true, false, cond, ◌&&◌, ◌||◌, codes, Option}
 use Prim.Native.String.{String}
-use Rattle.cpp_grammar.specs.Term.{Qualifiers, RefQualifier, any_value, Term, symbol, function, object, special, thunk, of_name, construction, alone, in_std, within, instance, local, abbreviation, parameter, source, operator, literal_operator, constructor, destructor, lambda, unnamed, string_literal, builtin, vendor, pointer, lvalue, rvalue, array, member_pointer, function_type, qualified, vector, complex, expansion, integer, boolean, null_pointer, encoding_literal, address_of, pack, nil, list}
+use Rattle.cpp_grammar.specs.Term.{Qualifiers, RefQualifier, any_value, Term, symbol, function, object, special, thunk, of_name, construction, alone, in_std, within, instance, local, holder, abbreviation, parameter, source, operator, literal_operator, constructor, destructor, lambda, unnamed, string_literal, builtin, sized_float, vendor, pointer, lvalue, rvalue, array, member_pointer, function_type, qualified, vector, complex, expansion, integer, boolean, null_pointer, encoding_literal, address_of, pack, nil, list}
 use Rattle.cpp_press_laws.specs.Texts.{counted, ordinal, signed_text, qualifier_letters, mark_letter, name_letters, special_code, thunk_text, discriminator_text}
 use Rattle.cpp_press_laws.specs.Components.{Spelling}
 use Rattle.cpp_press_laws.specs.Pressing.{is_operator, is_encoding, is_one_piece}
@@ -46,6 +46,7 @@ between_onto n _ rest = rest
 
 unfoldable pub prefix_onto : (n : ℕ) → Term → Spelling → Spelling
 prefix_onto n (instance template arguments) rest = in_way n Way.Prefix template onto arguments_onto n arguments rest
+prefix_onto n (holder name) rest = in_way n Way.Prefix name onto fixed "M" onto rest
 prefix_onto n t rest = between_onto n t rest
 
 unfoldable pub plain_name_onto : (n : ℕ) → Term → Spelling → Spelling
@@ -81,6 +82,11 @@ is_name (in_std p) = true
 is_name (within prefix p) = true
 is_name (instance template arguments) = true
 is_name _ = false
+
+-- a prefix that is no type of another sort
+unfoldable pub is_prefix : Term → Bool
+is_prefix (holder name) = true
+is_prefix t = is_name t
 
 -- an encoding's own name
 unfoldable pub name_onto : (n : ℕ) → Qualifiers → RefQualifier → Term → Spelling → Spelling
@@ -120,6 +126,7 @@ unfoldable pub type_onto : (n : ℕ) → Term → Spelling → Spelling
 type_onto n (builtin code) rest = written code onto rest
 type_onto n (abbreviation letter) rest = written (codes "S" ++ letter ∷ []) onto rest
 type_onto n (parameter k) rest = written (codes "T" ++ ordinal k) onto rest
+type_onto n (sized_float digits end) rest = fixed "DF" onto written digits onto written (end ∷ []) onto rest
 type_onto n (vendor name) rest = written (codes "u" ++ counted name) onto rest
 type_onto n t rest = class_onto n t rest
 
@@ -161,7 +168,7 @@ encoding_onto n _ rest = rest
 abbrev pub spelled_onto : (n here : ℕ) → Way → Term → Spelling → Spelling
 spelled_onto n here Way.Type t rest = type_onto n t rest
 spelled_onto n here Way.UnderQualifiers t rest = type_onto n t rest
-spelled_onto n here Way.Prefix t rest = elim (is_name t) [ true ↦ prefix_onto n t rest | false ↦ type_onto n t rest ]
+spelled_onto n here Way.Prefix t rest = elim (is_prefix t) [ true ↦ prefix_onto n t rest | false ↦ type_onto n t rest ]
 spelled_onto n here Way.Between t rest = between_onto n t rest
 spelled_onto n here Way.Encoding t rest = encoding_onto here t rest
 spelled_onto n here (Way.Name q m) t rest = name_onto n (qualifiers_of q) (mark_of m) t rest

@@ -10,7 +10,7 @@ ghost use Rattle.cpp_layout.specs.Layout.{ReadSymbol, table_of};
 ghost use Rattle.cpp_press.specs.Bytes.{text_bytes, IsThere};
 ghost use Rattle.cpp_press.specs.Weight.{weight};
 ghost use Rattle.cpp_press.specs.Tasks.{◌onto◌, written, in_way, plain_at, node_tree, piece_tree, IsMade, IsPieceMade, press_tasks, AreTasks, tasks_weight};
-ghost use Rattle.cpp_press.specs.Spelled.{piece_onto, in_std_onto, within_onto, nested_onto, between_onto, prefix_onto, has_letters, plain_name_onto, lettered_onto, local_onto, is_name, name_onto, is_piece_behind};
+ghost use Rattle.cpp_press.specs.Spelled.{piece_onto, in_std_onto, within_onto, nested_onto, between_onto, prefix_onto, has_letters, plain_name_onto, lettered_onto, local_onto, is_name, is_prefix, name_onto, is_piece_behind};
 
 use crate::task::{
     Task, Way, then_arguments, then_ended, then_fixed, then_template, then_text, then_tree,
@@ -247,6 +247,11 @@ pub fn then_prefix(
             then_arguments(symbol, arguments, encoding, tasks)?;
             then_tree(symbol, template, Way::Prefix, encoding, tasks)?;
         }
+        // <data-member-prefix> ::= <prefix> M
+        Node::Holder(name) => {
+            then_fixed(symbol, b"M", tasks)?;
+            then_tree(symbol, name, Way::Prefix, encoding, tasks)?;
+        }
         _ => then_between(symbol, node, encoding, tasks)?,
     }
     Ok(())
@@ -364,6 +369,17 @@ pub fn is_name(node: Node) -> bool
         Node::Within { .. } => true,
         Node::Instance { .. } => true,
         _ => false,
+    }
+}
+
+/// Whether a node is a prefix that is no type of another sort.
+#[tactic(auto, unfolding(crate::specs::Spelled::is_prefix, cpp_term::specs::Erased::erase, cpp_tree::specs::Nodes::tree_of))]
+pub fn is_prefix(node: Node) -> bool
+    ensures { (y : ReadSymbol) → result ≡ is_prefix (node_tree y node) }
+{
+    match node {
+        Node::Holder(_) => true,
+        _ => is_name(node),
     }
 }
 

@@ -12,7 +12,7 @@ ghost use Rattle.cpp_press.specs.Tasks.{◌onto◌, written, in_way, plain_at, n
 ghost use Rattle.cpp_press.specs.Spelled.{compound_onto, class_onto, type_onto, argument_onto, more_parameters_onto, parameters_onto, elements_onto, encoding_onto, spelled_onto, is_component, is_function_type, is_compared};
 
 use crate::names::{
-    is_name, is_operator, then_between, then_in_std, then_local, then_name, then_nested,
+    is_operator, is_prefix, then_between, then_in_std, then_local, then_name, then_nested,
     then_piece, then_prefix,
 };
 use crate::task::{Task, Way, then_fixed, then_template, then_text, then_tree};
@@ -247,6 +247,11 @@ fn then_type(
             tasks,
         )?,
         Node::Vendor(name) => then_text(symbol, Text::Counted(b"u", name), tasks)?,
+        Node::SizedFloat { digits, end } => {
+            then_text(symbol, Text::Letter(end), tasks)?;
+            then_text(symbol, Text::Suffix(digits), tasks)?;
+            then_fixed(symbol, b"DF", tasks)?;
+        }
         _ => then_class(symbol, node, encoding, tasks)?,
     }
     Ok(())
@@ -462,7 +467,7 @@ pub fn then_spelled(
         Way::Type => then_type(symbol, is, encoding, tasks)?,
         Way::UnderQualifiers => then_type(symbol, is, encoding, tasks)?,
         Way::Prefix => {
-            if is_name(is) {
+            if is_prefix(is) {
                 then_prefix(symbol, is, encoding, tasks)?;
             } else {
                 then_type(symbol, is, encoding, tasks)?;

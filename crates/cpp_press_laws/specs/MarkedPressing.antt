@@ -3,7 +3,7 @@
 use Rattle.std.specs.Prelude.{ℕ, ◌-◌, List, [], ◌∷◌, ◌++◌, Bool, true, false, cond, ◌&&◌, codes, Option}
 use Prim.Native.String.{String}
 use Rattle.sym_spell.specs.Pressing.{◌and◌, text, nothing}
-use Rattle.cpp_grammar.specs.Term.{RefQualifier, Term, symbol, function, object, special, thunk, of_name, construction, alone, in_std, within, instance, local, abbreviation, parameter, source, operator, literal_operator, constructor, destructor, lambda, unnamed, string_literal, builtin, vendor, pointer, lvalue, rvalue, array, member_pointer, function_type, qualified, vector, complex, expansion, integer, boolean, null_pointer, encoding_literal, address_of, pack, nil, list, absent}
+use Rattle.cpp_grammar.specs.Term.{RefQualifier, Term, symbol, function, object, special, thunk, of_name, construction, alone, in_std, within, instance, local, holder, abbreviation, parameter, source, operator, literal_operator, constructor, destructor, lambda, unnamed, string_literal, builtin, sized_float, vendor, pointer, lvalue, rvalue, array, member_pointer, function_type, qualified, vector, complex, expansion, integer, boolean, null_pointer, encoding_literal, address_of, pack, nil, list, absent}
 use Rattle.cpp_press_laws.specs.Texts.{counted, ordinal, signed_text, qualifier_letters, mark_letter, name_letters, special_code, thunk_text, discriminator_text}
 use Rattle.cpp_press_laws.specs.MarkedComponents.{compared, not_compared, Spelling, referred, component}
 use Rattle.cpp_press_laws.specs.Pressing.{is_operator, is_one_piece}
@@ -148,6 +148,7 @@ ways_of n (instance template arguments) =
 ways_of n (local e entity discriminator) =
     let spelling = local_text (ways_of n e).as_encoding entity (ways_of n entity).between_N_and_E discriminator in
     record (type_ways (component n (local e entity discriminator) (spelling []))) { as_name = spelling }
+ways_of n (holder name) = record no_ways { as_prefix = (ways_of n name).as_prefix and says "M" }
 ways_of n (abbreviation l) = type_ways (text (codes "S" ++ l ∷ []))
 ways_of n (parameter k) = type_ways (component n (parameter k) (text (codes "T" ++ ordinal k)))
 ways_of n (source internal name) = piece_ways (text (cond internal (codes "L") [] ++ counted name))
@@ -159,6 +160,7 @@ ways_of n (lambda parameters k) = piece_ways (says "Ul" and (ways_of n parameter
 ways_of n (unnamed k) = piece_ways (text (codes "Ut" ++ ordinal (k - 1)))
 ways_of n string_literal = piece_ways (says "s")
 ways_of n (builtin code) = type_ways (text code)
+ways_of n (sized_float digits end) = type_ways (says "DF" and text digits and text (end ∷ []))
 ways_of n (vendor name) = type_ways (component n (vendor name) (text (codes "u" ++ counted name)))
 ways_of n (pointer type) = type_ways (component n (pointer type) (says "P" and (ways_of n type).as_type))
 ways_of n (lvalue type) = type_ways (component n (lvalue type) (says "R" and (ways_of n type).as_type))

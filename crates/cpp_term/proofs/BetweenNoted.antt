@@ -4,7 +4,7 @@ use Rattle.sym_core.specs.declared.NumberKind.TheVariants.{Decimal, Seq36}
 use Rattle.sym_core.specs.Value.{counted_value}
 use Rattle.sym_link.specs.Reading.{Next}
 use Rattle.cpp_grammar.specs.declared.production.Production.{Production}
-use Rattle.cpp_grammar.specs.Term.{Term, in_std, instance, parameter, lvalue, rvalue, source, constructor, destructor}
+use Rattle.cpp_grammar.specs.Term.{Term, in_std, instance, holder, parameter, lvalue, rvalue, source, constructor, destructor}
 use Rattle.cpp_grammar.specs.Values as leaf_
 use Rattle.cpp_grammar.specs.Values.{Around, Prefix, prefix_tree, Value, State, tree_of, piece_of, is_listed, text_of, letter_of, part}
 use Rattle.cpp_grammar.specs.References.{appended, with_type, with_unqualified, with_prefix, substituted, parameter_named}
@@ -143,6 +143,8 @@ between_noted Production.NestInstance around place (v ∷ w ∷ []) x y stays pa
 between_noted Production.NestNext around place [] x y stays packs =
     after_goes around x (with_prefix around x) y _ leaf_.nothing_there (prefix_tree around.prefix) _ true [] (prefix_tree_noted (noted_scope around.scope) around.prefix) (prefix_moves around x y packs)
 between_noted Production.NestNext around place (v ∷ []) x y stays packs = after_goes around x x y y v (tree_of v) _ false (v ∷ []) (tree_noted (noted_scope around.scope) v) (moves_none around x x y y refl refl packs)
+between_noted Production.Holder around place (v ∷ []) x y stays packs =
+    named_goes around x x y y (holder (prefix_tree around.prefix)) _ true [] [] (ap term_.holder (prefix_tree_noted (noted_scope around.scope) around.prefix)) refl (moves_none around x x y y refl refl packs)
 between_noted Production.Arguments around place [] x y stays packs = inside_goes around x y packs
 between_noted Production.PackArgument around place (v ∷ []) x y stays packs = record {
   values = ap (λ t. value_.tree (term_.pack t) true ∷ []) (items_noted (noted_scope around.scope) v);

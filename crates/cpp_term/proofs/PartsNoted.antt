@@ -1,10 +1,10 @@
 -- The parts of an annotated item are those of the item.
-use Rattle.std.proofs.Common.{◌≡◌, refl, ap, sym, ◌∙◌, ℕ, zero, suc, ◌+◌, List, [], ◌∷◌, ◌++◌, Bool, true, false, cond, Option, Some, None, codes}
+use Rattle.std.proofs.Common.{◌≡◌, refl, ap, sym, ◌∙◌, ℕ, zero, suc, ◌+◌, List, [], ◌∷◌, ◌++◌, Bool, true, false, cond, nat_eq, Option, Some, None, codes}
 use Prim.Native.String.{String}
 use Rattle.sym_print.specs.declared.detail.Detail.{Detail}
 use Rattle.sym_print.specs.Details.{has_arguments, has_parameters}
 use Rattle.sym_print.specs.Unfold.{PartOf, text, sub}
-use Rattle.cpp_grammar.specs.Term.{Qualifiers, RefQualifier, Signed, Term, symbol, function, object, of_name, alone, in_std, within, instance, local, abbreviation, parameter, source, operator, constructor, destructor, lambda, builtin, pointer, lvalue, rvalue, array, member_pointer, function_type, qualified, expansion, integer, pack, nil, list, absent}
+use Rattle.cpp_grammar.specs.Term.{Qualifiers, RefQualifier, Signed, Term, symbol, function, object, of_name, alone, in_std, within, instance, local, holder, abbreviation, parameter, source, operator, constructor, destructor, lambda, builtin, sized_float, pointer, lvalue, rvalue, array, member_pointer, function_type, qualified, expansion, integer, pack, nil, list, absent}
 use Rattle.cpp_grammar.specs.Scope.{arguments_of}
 use Rattle.cpp_grammar.specs.Items.{Form, root, full, bare, left, right, low, base, piece, first, more, expand, Context, Item, closed, argument, head, is_reference, is_funarr, packs_of, is_empty}
 use Rattle.cpp_grammar.specs.Parts as leaf_
@@ -152,11 +152,22 @@ named_noted : (c : Context) (form : Form) (k : ℕ) → (part_.as_item form item
 unfolding noted_parts noted_part noted_item noted_context noted_scope
 named_noted c form k = ap (λ t. part_.as_item form item_.closed t ∷ []) (argument_noted c k)
 
+float_noted : (digits : List ℕ) (end : ℕ) → part_.float_parts digits end ≡ noted_parts (leaf_.float_parts digits end)
+unfolding part_.float_parts leaf_.float_parts noted_parts noted_part
+float_noted digits end = go (nat_eq end 98) (nat_eq end 120)
+  where
+    go : (b x : Bool) → elim b [ true ↦ part_.says "std::bfloat16_t" ∷ [] | false ↦ elim x [ true ↦ part_.says "_Float" ∷ text digits ∷ part_.says "x" ∷ [] | false ↦ part_.says "_Float" ∷ text digits ∷ [] ] ]
+        ≡ noted_parts (elim b [ true ↦ leaf_.says "std::bfloat16_t" ∷ [] | false ↦ elim x [ true ↦ leaf_.says "_Float" ∷ text digits ∷ leaf_.says "x" ∷ [] | false ↦ leaf_.says "_Float" ∷ text digits ∷ [] ] ])
+    go true x = refl
+    go false true = refl
+    go false false = refl
+
 left_noted : (d : Detail) (c : Context) (t : Term) → part_.left_parts d (noted_context c) (annotate (at c) t) ≡ noted_parts (leaf_.left_parts d c t)
 unfolding part_.left_parts leaf_.left_parts annotate noted_parts noted_part noted_item noted_context noted_scope
 left_noted d c (alone p) = piece_noted c p
 left_noted d c (within prefix p) = within_noted c prefix p
 left_noted d c (instance template arguments) = instance_noted (has_arguments d) c template arguments
+left_noted d c (sized_float digits end) = float_noted digits end
 left_noted d c (parameter k) = named_noted c left k
 left_noted d c (pointer t) = marked_noted c t "*"
 left_noted d c (lvalue t) = reference_noted c low t "&"
@@ -224,6 +235,7 @@ base_noted d c (in_std p) = piece_noted c p
 base_noted d c (within prefix p) = base_within_noted c prefix p
 base_noted d c (instance template arguments) = refl
 base_noted d c (local encoding entity discriminator) = refl
+base_noted d c (holder name) = refl
 base_noted d c (abbreviation letter) = refl
 base_noted d c (parameter k) = named_noted c base k
 base_noted d c t = left_noted d c t

@@ -1,5 +1,5 @@
 -- The parts of an item have smaller ranks than the item.
-use Rattle.std.specs.Prelude.{◌≡◌, refl, ℕ, zero, suc, ◌+◌, ◌-◌, ◌<◌, ◌≤◌, List, [], ◌∷◌, ◌++◌, Bool, true, false, cond, Option, Some, None, codes}
+use Rattle.std.specs.Prelude.{◌≡◌, refl, ℕ, zero, suc, ◌+◌, ◌-◌, ◌<◌, ◌≤◌, List, [], ◌∷◌, ◌++◌, Bool, true, false, cond, nat_eq, Option, Some, None, codes}
 use Prim.Native.String.{String}
 use Rattle.std.proofs.Common.{arith}
 use Rattle.std.proofs.lemmas.Bool.{false≢true, ltb-true}
@@ -7,12 +7,12 @@ use Rattle.sym_print.specs.declared.detail.Detail.{Detail}
 use Rattle.sym_print.specs.Details.{has_arguments, has_parameters}
 use Rattle.sym_print.specs.Unfold.{PartOf, text, sub, RanksBelow}
 use Rattle.cpp_grammar.specs.Term.{Qualifiers, RefQualifier, Signed}
-use Rattle.cpp_term.specs.Term.{Term, symbol, function, object, special, thunk, of_name, construction, alone, in_std, within, instance, local, abbreviation, parameter, source, constructor, destructor, lambda, pointer, lvalue, rvalue, array, member_pointer, function_type, qualified, expansion, integer, pack, nil, list, absent}
+use Rattle.cpp_term.specs.Term.{Term, symbol, function, object, special, thunk, of_name, construction, alone, in_std, within, instance, local, holder, abbreviation, parameter, source, constructor, destructor, lambda, pointer, lvalue, rvalue, array, member_pointer, function_type, qualified, expansion, integer, pack, nil, list, absent, sized_float}
 use Rattle.cpp_term.specs.Scope.{element, pack_length}
 use Rattle.cpp_grammar.specs.Items.{Form, root, full, bare, left, right, low, base, piece, first, more, expand, is_reference, is_funarr}
 use Rattle.cpp_term.specs.Items.{Context, Item, indexed, argument, head, packs_of, is_empty}
 use Rattle.cpp_grammar.specs.Parts.{blank_last, qualifier_text, ref_text, encoding_text, is_below}
-use Rattle.cpp_term.specs.Parts.{as_item, says, text_part, list_part, piece_parts, prefix_item, within_parts, instance_parts, marked_parts, reference_parts, qualified_left, expansion_parts, sign_part, is_plain_integer, integer_parts, builtin_code, member_parts, array_left, left_parts, low_parts, function_right, closing_right, qualified_right, right_parts, base_within, base_parts, types_of, function_bare, function_full, full_parts, bare_parts, root_parts, first_parts, more_parts, at_index, comma_before, expand_rest, expand_parts, parts_in, not_empty, parts}
+use Rattle.cpp_term.specs.Parts.{as_item, says, text_part, list_part, piece_parts, prefix_item, within_parts, instance_parts, marked_parts, reference_parts, qualified_left, expansion_parts, sign_part, is_plain_integer, integer_parts, builtin_code, member_parts, array_left, float_parts, left_parts, low_parts, function_right, closing_right, qualified_right, right_parts, base_within, base_parts, types_of, function_bare, function_full, full_parts, bare_parts, root_parts, first_parts, more_parts, at_index, comma_before, expand_rest, expand_parts, parts_in, not_empty, parts}
 use Rattle.cpp_grammar.specs.Ranks.{or_none}
 use Rattle.cpp_term.specs.Ranks.{pack_count, weight, weight_in, rank_in, rank}
 use Rattle.cpp_grammar.specs.Texts.{look_up, literal_endings}
@@ -86,6 +86,7 @@ piece_falls r c _ h = tt
 prefix_falls : (r : ℕ) (c : Context) (t : Term) → Below r c t → RanksBelow rank r (prefix_item c t ∷ [])
 unfolding prefix_item rank rank_in weight_in weight
 prefix_falls r c (function name q ref returned parameters) h = (h, tt)
+prefix_falls r c (holder name) h = (omega (arith, h), tt)
 prefix_falls r c _ h = (h, tt)
 
 within_falls : (r : ℕ) (c : Context) (prefix p : Term) → Below r c prefix → Below r c p → RanksBelow rank r (within_parts c prefix p)
@@ -142,11 +143,16 @@ array_falls : (r : ℕ) (c : Context) (t : Term) → Below r c t → RanksBelow 
 unfolding array_left rank rank_in
 array_falls r c t h = falls_choice r (is_funarr (head c t)) _ _ (h, tt) (h, tt)
 
+float_falls : (r : ℕ) (digits : List ℕ) (end : ℕ) → RanksBelow rank r (float_parts digits end)
+unfolding float_parts
+float_falls r digits end = falls_choice r (nat_eq end 98) _ _ tt (falls_choice r (nat_eq end 120) _ _ tt tt)
+
 left_falls : (d : Detail) (c : Context) (t : Term) → RanksBelow rank (weight_in c t) (left_parts d c t)
 unfolding left_parts rank rank_in weight_in weight
 left_falls d c (alone p) = piece_falls _ c p (omega arith)
 left_falls d c (within prefix p) = within_falls _ c prefix p (omega arith) (omega arith)
 left_falls d c (instance t arguments) = instance_falls _ (has_arguments d) c t arguments (omega arith) (omega arith)
+left_falls d c (sized_float digits end) = float_falls _ digits end
 left_falls d c (parameter k a) = (argument_weight c a, tt)
 left_falls d c (pointer t) = marked_falls _ c t "*" (omega arith)
 left_falls d c (lvalue t) = low_reference_falls _ c t "&" (omega arith)
@@ -210,6 +216,7 @@ base_falls d c (in_std p) = piece_falls _ c p (omega arith)
 base_falls d c (within prefix p) = base_within_falls _ c prefix p (omega arith) (omega arith)
 base_falls d c (instance t arguments) = (omega arith, tt)
 base_falls d c (local encoding entity discriminator) = (omega arith, tt)
+base_falls d c (holder name) = (omega arith, tt)
 base_falls d c (abbreviation letter) = tt
 base_falls d c (parameter k a) = (argument_weight c a, tt)
 base_falls d c t = left_falls d c t

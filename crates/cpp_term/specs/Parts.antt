@@ -5,7 +5,7 @@ use Rattle.sym_print.specs.declared.detail.Detail.{Detail}
 use Rattle.sym_print.specs.Details.{has_arguments, has_parameters}
 use Rattle.sym_print.specs.Unfold.{PartOf, text, sub}
 use Rattle.cpp_grammar.specs.Texts.{same_bytes, look_up, builtin_texts, operator_texts, abbreviation_texts, special_texts, named_special_texts, literal_endings}
-use Rattle.cpp_term.specs.Term.{Term, symbol, function, object, special, thunk, of_name, construction, alone, in_std, within, instance, local, abbreviation, parameter, source, operator, literal_operator, constructor, destructor, lambda, unnamed, string_literal, builtin, vendor, pointer, lvalue, rvalue, array, member_pointer, function_type, qualified, vector, complex, expansion, integer, boolean, null_pointer, encoding_literal, address_of, pack, nil, list, absent}
+use Rattle.cpp_term.specs.Term.{Term, symbol, function, object, special, thunk, of_name, construction, alone, in_std, within, instance, local, holder, abbreviation, parameter, source, operator, literal_operator, constructor, destructor, lambda, unnamed, string_literal, builtin, sized_float, vendor, pointer, lvalue, rvalue, array, member_pointer, function_type, qualified, vector, complex, expansion, integer, boolean, null_pointer, encoding_literal, address_of, pack, nil, list, absent}
 use Rattle.cpp_grammar.specs.Term.{Qualifiers, RefQualifier, Signed}
 use Rattle.cpp_term.specs.Items.{Context, Item, closed, argument, head, packs_of, is_empty}
 use Rattle.cpp_grammar.specs.Items.{Form, root, full, bare, left, right, low, base, piece, first, more, expand, is_reference, is_funarr}
@@ -46,6 +46,7 @@ prefix_item context (special letter t) = as_item bare closed (special letter t)
 prefix_item context (thunk kind e) = as_item bare closed (thunk kind e)
 prefix_item context (of_name letter name q r) = as_item bare closed (of_name letter name q r)
 prefix_item context (construction derived digits parent) = as_item bare closed (construction derived digits parent)
+prefix_item context (holder name) = as_item left context name
 prefix_item context t = as_item left context t
 
 unfoldable pub within_parts : Context → Term → Term → List (PartOf Item)
@@ -129,15 +130,23 @@ array_left context t = elim (is_funarr (head context t)) [
   | false ↦ as_item left context t ∷ says " " ∷ []
 ]
 
+unfoldable pub float_parts : (digits : List ℕ) → (end : ℕ) → List (PartOf Item)
+float_parts digits end = elim (nat_eq end 98) [
+  | true ↦ says "std::bfloat16_t" ∷ []
+  | false ↦ elim (nat_eq end 120) [ true ↦ says "_Float" ∷ text digits ∷ says "x" ∷ [] | false ↦ says "_Float" ∷ text digits ∷ [] ]
+]
+
 unfoldable pub left_parts : Detail → Context → Term → List (PartOf Item)
 left_parts d context (alone p) = piece_parts context p
 left_parts d context (in_std p) = says "std::" ∷ as_item piece context p ∷ []
 left_parts d context (within prefix p) = within_parts context prefix p
 left_parts d context (instance template arguments) = instance_parts (has_arguments d) context template arguments
 left_parts d context (local encoding entity discriminator) = as_item left context entity ∷ []
+left_parts d context (holder name) = as_item left context name ∷ []
 left_parts d context (abbreviation letter) = text (look_up (letter ∷ []) abbreviation_texts) ∷ []
 left_parts d context (parameter k a) = as_item left closed (argument context a) ∷ []
 left_parts d context (builtin code) = text (look_up code builtin_texts) ∷ []
+left_parts d context (sized_float digits end) = float_parts digits end
 left_parts d context (vendor name) = text (source_text name) ∷ []
 left_parts d context (pointer t) = marked_parts context t "*"
 left_parts d context (lvalue t) = reference_parts context low t "&"
@@ -206,6 +215,7 @@ base_parts d context (in_std p) = piece_parts context p
 base_parts d context (within prefix p) = base_within context prefix p
 base_parts d context (instance template arguments) = as_item base context template ∷ []
 base_parts d context (local encoding entity discriminator) = as_item base context entity ∷ []
+base_parts d context (holder name) = as_item base context name ∷ []
 base_parts d context (abbreviation letter) = text (drop 5 (look_up (letter ∷ []) abbreviation_texts)) ∷ []
 base_parts d context (parameter k a) = as_item base closed (argument context a) ∷ []
 base_parts d context t = left_parts d context t

@@ -19,6 +19,8 @@ pub data Term : Type 0 where
   within : (prefix piece : Term) → Term
   instance : (template arguments : Term) → Term
   local : (encoding entity : Term) → (discriminator : Option (List ℕ)) → Term
+  -- a data member or a variable, of what stands in its initializer
+  holder : (name : Term) → Term
   abbreviation : (letter : ℕ) → Term
   -- a parameter by its number, and the argument that it names
   parameter : (number : ℕ) → (argument : Term) → Term
@@ -33,6 +35,8 @@ pub data Term : Type 0 where
   string_literal : Term
   -- types
   builtin : (code : List ℕ) → Term
+  -- a floating type of so many bits, and the byte behind their digits
+  sized_float : (digits : List ℕ) → (end : ℕ) → Term
   vendor : (bytes : List ℕ) → Term
   pointer : Term → Term
   lvalue : Term → Term

@@ -61,10 +61,12 @@ module _ (s : List ℕ) (us : List Thunk) (ts : List Term) (t : Term) (i : ℕ) 
   node-stays (Node.Within prefix p) b = rw (early prefix b.0, piece-stays p b.1) refl
   node-stays (Node.Instance template arguments) b = rw (early template b.0, early arguments b.1) refl
   node-stays (Node.Local e entity d) b = rw (early e b.0, early entity b.1) refl
+  node-stays (Node.Holder name) b = rw (early name b) refl
   node-stays (Node.Abbreviation letter) b = refl
   node-stays (Node.Parameter k a) b = rw (early a b) refl
   node-stays (Node.Builtin letter) b = refl
   node-stays (Node.BuiltinWithD letter) b = refl
+  node-stays (Node.SizedFloat digits end) b = refl
   node-stays (Node.Vendor bytes) b = refl
   node-stays (Node.Pointer x) b = rw (early x b) refl
   node-stays (Node.Lvalue x) b = rw (early x b) refl

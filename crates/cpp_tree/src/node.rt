@@ -143,6 +143,7 @@ pub enum Node {
         entity: u32,
         discriminator: Option<Span>,
     },
+    Holder(u32),
     Abbreviation(u8),
     Parameter {
         number: u32,
@@ -150,6 +151,10 @@ pub enum Node {
     },
     Builtin(u8),
     BuiltinWithD(u8),
+    SizedFloat {
+        digits: Span,
+        end: u8,
+    },
     Vendor(Span),
     Pointer(u32),
     Lvalue(u32),

@@ -361,6 +361,7 @@ impl Nodes {
                 arguments,
             } => self.noted_instance(node, template, arguments),
             Node::Local { entity, .. } => self.noted_local(node, entity),
+            Node::Holder(name) => self.noted_type(node, name, Words::Plain),
             Node::Parameter { argument, .. } => self.noted_parameter(symbol, node, argument),
             Node::Pointer(ty) => self.noted_type(node, ty, Words::Plain),
             Node::Lvalue(ty) => self.noted_type(node, ty, Words::Lvalue),

@@ -208,3 +208,11 @@ pub const OF_NAME: u16 = 64;
 /// The virtual table of a base class while an object of a class derived from it is constructed. Texts: the digits of the base
 /// class' offset. Parts: the derived class and the base class. Symbols of the wide grammar alone have it.
 pub const CONSTRUCTION: u16 = 65;
+
+/// A data member or a variable, as the prefix of what stands in its initializer. Parts: its name. Symbols of the wide grammar alone
+/// have it.
+pub const HOLDER: u16 = 66;
+
+/// A floating type of so many bits. Numbers: the byte behind their digits, `_`, `x` or `b`. Texts: the digits. Symbols of the wide
+/// grammar alone have it.
+pub const SIZED_FLOAT: u16 = 67;

@@ -12,11 +12,11 @@ use crate::node::{Adjustment, Mark, Piece, Qualifiers, Signed, Thunk, bit};
 use crate::tree_production::{
     ABBREVIATION, ABSENT, ADDRESS_OF, ARRAY, BOOLEAN, BUILTIN, BUILTIN_WITH_D, COMPLEX,
     CONSTRUCTION, CONSTRUCTOR, COVARIANT_THUNK, DESTRUCTOR, ENCODING_LITERAL, EXPANSION, FUNCTION,
-    FUNCTION_TYPE, GUARD, INSTANCE, INTEGER, LAMBDA, LIST, LITERAL_OPERATOR, LOCAL, LVALUE,
+    FUNCTION_TYPE, GUARD, HOLDER, INSTANCE, INTEGER, LAMBDA, LIST, LITERAL_OPERATOR, LOCAL, LVALUE,
     MEMBER_POINTER, NESTED_CONSTRUCTOR, NESTED_DESTRUCTOR, NESTED_LAMBDA, NESTED_LITERAL_OPERATOR,
     NESTED_NO_PIECE, NESTED_OPERATOR, NESTED_SOURCE, NESTED_STRING_LITERAL, NESTED_UNNAMED, NIL,
     NO_PIECE, NULL_POINTER, NUMBERED_LOCAL, OBJECT, OF_NAME, OPERATOR, PACK, PARAMETER, POINTER,
-    QUALIFIED, RVALUE, SOURCE, SPECIAL, STD_CONSTRUCTOR, STD_DESTRUCTOR, STD_LAMBDA,
+    QUALIFIED, RVALUE, SIZED_FLOAT, SOURCE, SPECIAL, STD_CONSTRUCTOR, STD_DESTRUCTOR, STD_LAMBDA,
     STD_LITERAL_OPERATOR, STD_NO_PIECE, STD_OPERATOR, STD_SOURCE, STD_STRING_LITERAL, STD_UNNAMED,
     STRING_LITERAL, SYMBOL, TABLE_THUNK, THUNK, UNNAMED, VECTOR, VENDOR, WIDE_THUNK,
 };
@@ -353,10 +353,14 @@ pub fn view_of(symbol: &[u8], nodes: &Nodes, node: node::Node) -> NodeView
             entity,
             discriminator,
         } => view_of_local(symbol, nodes, encoding, entity, discriminator),
+        node::Node::Holder(name) => one(HOLDER, none, NO_TEXT, name),
         node::Node::Abbreviation(letter) => leaf(ABBREVIATION, letter as u64),
         node::Node::Parameter { number, .. } => leaf(PARAMETER, number as u64),
         node::Node::Builtin(letter) => leaf(BUILTIN, letter as u64),
         node::Node::BuiltinWithD(letter) => leaf(BUILTIN_WITH_D, letter as u64),
+        node::Node::SizedFloat { digits, end } => {
+            seen(SIZED_FLOAT, [end as u64, 0], [digits, NO_TEXT], 0, [0; 3])
+        }
         node::Node::Vendor(name) => seen(VENDOR, none, [name, NO_TEXT], 0, [0; 3]),
         node::Node::Pointer(ty) => one(POINTER, none, NO_TEXT, ty),
         node::Node::Lvalue(ty) => one(LVALUE, none, NO_TEXT, ty),

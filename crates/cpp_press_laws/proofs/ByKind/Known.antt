@@ -278,6 +278,7 @@ lambdas-go Production.NestArguments around place (v ∷ w ∷ []) state n bare e
 lambdas-go Production.NestArguments around place (v ∷ w ∷ x ∷ []) state n bare e = bare-next _ _ state n bare e
 lambdas-go Production.NestInstance around place [] state n bare e = bare-next (inside around) [] (with_prefix around state) n bare e
 lambdas-go Production.NestInstance around place (v ∷ w ∷ []) state n bare e = bare-next _ _ state n bare e
+lambdas-go Production.Holder around place (v ∷ []) state n bare e = bare-next _ _ state n bare e
 lambdas-go Production.NestNext around place [] state n bare e = bare-next _ _ _ n bare e
 lambdas-go Production.NestNext around place (v ∷ []) state n bare e = bare-next _ _ state n bare e
 lambdas-go Production.Arguments around place [] state n bare e = bare-next (inside around) [] (with_prefix around state) n bare e

@@ -156,6 +156,7 @@ between-outside Production.NestArguments around place (v ∷ w ∷ x ∷ []) sta
 between-outside Production.NestInstance around place [] state next no_ outside e =
     goes state _ _ (with_prefix around state) next outside (prefix-kept around state) e
 between-outside Production.NestInstance around place (v ∷ w ∷ []) state next no_ outside e = goes state _ _ state next outside refl e
+between-outside Production.Holder around place (v ∷ []) state next no_ outside e = goes state _ _ state next outside refl e
 between-outside Production.NestNext around place [] state next no_ outside e =
     goes state _ _ (with_prefix around state) next outside (prefix-kept around state) e
 between-outside Production.NestNext around place (v ∷ []) state next no_ outside e = goes state _ _ state next outside refl e

@@ -161,8 +161,11 @@ kind-branch Kind.OperatorAfterL = operator-after-l-branch
 kind-branch Kind.OperatorAfterS = operator-after-s-branch
 kind-branch Kind.OperatorAfterI = operator-after-i-branch
 kind-branch Kind.OperatorAfterG = operator-after-g-branch
--- no tree of a symbol has a part of this kind
+-- no tree of a symbol has a part of these kinds
 kind-branch Kind.NestRestOrEnd = λ rule taken parts all around at old v new front is e outer. tt
+kind-branch Kind.HolderMark = λ rule taken parts all around at old v new front is e outer. tt
+kind-branch Kind.HeldComponent = λ rule taken parts all around at old v new front is e outer. tt
+kind-branch Kind.FloatEnd = λ rule taken parts all around at old v new front is e outer. tt
 
 branch-read : (rule : Rule) (taken : List ℕ) (parts : Forest) → AllOf ShapeRead parts → ShapeRead (branch rule taken parts)
 branch-read rule taken parts all kind around at old v new front is e = kind-branch kind rule taken parts all around at old v new front is e

@@ -2,7 +2,7 @@
 use Rattle.std.proofs.Common.{◌≡◌, ℕ, suc, ◌+◌, ◌-◌, ◌<◌, inl, inr, List, [], ◌∷◌, ◌++◌, Option, Bool, true, false, refl, arith}
 use Rattle.std.specs.Prelude.{cond, ◌&&◌, codes}
 use Rattle.sym_spell.specs.Pressing.{◌and◌, text}
-use Rattle.cpp_grammar.specs.Term.{RefQualifier, Term, symbol, function, object, special, thunk, of_name, construction, alone, in_std, within, instance, local, abbreviation, parameter, source, operator, literal_operator, constructor, destructor, lambda, unnamed, string_literal, builtin, vendor, pointer, lvalue, rvalue, array, member_pointer, function_type, qualified, vector, complex, expansion, integer, boolean, null_pointer, encoding_literal, address_of, pack, nil, list, absent}
+use Rattle.cpp_grammar.specs.Term.{RefQualifier, Term, symbol, function, object, special, thunk, of_name, construction, alone, in_std, within, instance, local, holder, abbreviation, parameter, source, operator, literal_operator, constructor, destructor, lambda, unnamed, string_literal, builtin, sized_float, vendor, pointer, lvalue, rvalue, array, member_pointer, function_type, qualified, vector, complex, expansion, integer, boolean, null_pointer, encoding_literal, address_of, pack, nil, list, absent}
 use Rattle.cpp_press_laws.specs.Texts.{counted, ordinal, signed_text, qualifier_letters, mark_letter, name_letters, special_code, thunk_text, discriminator_text}
 use Rattle.cpp_press_laws.specs.Components.{Spelling, component}
 use Rattle.cpp_press_laws.specs.Pressing.{Ways, no_ways, type_ways, function_text, in_N_and_E, with_letters, name_ways, template_before, is_operator, is_one_piece, entity_text, local_text, begun, encoding_ways, piece_ways, argument_ways, ways_of, pressed}
@@ -74,6 +74,24 @@ piece-ways-grow whole t one = record {
   as_prefix = nothing-grows;
   between_N_and_E = λ never. nothing-grows;
   as_piece = one;
+  as_encoding = nothing-grows;
+  as_name = λ letters never. nothing-grows;
+  before = λ in_type arguments behind m low more. more;
+  as_argument = nothing-grows;
+  as_parameters = nothing-grows;
+  as_more_parameters = nothing-grows;
+  as_elements = nothing-grows;
+}
+
+prefix-ways-grow : (whole t : Term) {spelling : marks.Spelling} {plain : Spelling} → Grows whole (suc (size t)) spelling plain
+    → WaysGrow whole t (record marked.no_ways { as_prefix = spelling }) (record no_ways { as_prefix = plain })
+unfolding marked.no_ways no_ways
+prefix-ways-grow whole t one = record {
+  as_type = nothing-grows;
+  under_qualifiers = nothing-grows;
+  as_prefix = one;
+  between_N_and_E = λ never. nothing-grows;
+  as_piece = nothing-grows;
   as_encoding = nothing-grows;
   as_name = λ letters never. nothing-grows;
   before = λ in_type arguments behind m low more. more;
@@ -355,6 +373,8 @@ ways-grow whole (local e entity discriminator) in_whole n =
     let b = ways-grow whole entity (λ x is. in_whole x (inr (inr is))) n in
     local-ways-grow whole n (local e entity discriminator) _ _ (λ letters. local-grows entity discriminator letters
     (more-grows a.as_encoding (omega arith)) (more-grows (b.between_N_and_E (λ x is. in_whole x (inl is))) (omega arith)))
+ways-grow whole (holder name) in_whole n =
+    prefix-ways-grow whole (holder name) (back (more-grows (ways-grow whole name in_whole n).as_prefix (omega arith)) (codes "M"))
 ways-grow whole (abbreviation l) in_whole n = type-ways-grow whole (abbreviation l) (text-grows (codes "S" ++ l ∷ []))
 ways-grow whole (parameter k) in_whole n = typed whole n (parameter k) (text-grows (codes "T" ++ ordinal k))
 ways-grow whole (source internal name) in_whole n =
@@ -369,6 +389,8 @@ ways-grow whole (lambda parameters k) in_whole n =
 ways-grow whole (unnamed k) in_whole n = piece-ways-grow whole (unnamed k) (text-grows (codes "Ut" ++ ordinal (k - 1)))
 ways-grow whole string_literal in_whole n = piece-ways-grow whole string_literal (text-grows (codes "s"))
 ways-grow whole (builtin code) in_whole n = type-ways-grow whole (builtin code) (text-grows code)
+ways-grow whole (sized_float digits end) in_whole n =
+    type-ways-grow whole (sized_float digits end) (front (codes "DF") (front digits (text-grows (end ∷ []))))
 ways-grow whole (vendor name) in_whole n = typed whole n (vendor name) (text-grows (codes "u" ++ counted name))
 ways-grow whole (pointer type) in_whole n = typed whole n (pointer type) (front (codes "P") (ways-grow whole type in_whole n).as_type)
 ways-grow whole (lvalue type) in_whole n = typed whole n (lvalue type) (front (codes "R") (ways-grow whole type in_whole n).as_type)

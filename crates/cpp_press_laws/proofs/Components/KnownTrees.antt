@@ -3,7 +3,7 @@
 use Rattle.std.proofs.Common.{◌≡◌, ℕ, ◌-◌, ◌<◌, ◌⊎◌, inl, inr, length, List, [], ◌∷◌, ◌++◌, Option, Bool, true, false, refl, arith}
 use Rattle.std.specs.Prelude.{◌&&◌, codes, cond}
 use Rattle.sym_spell.specs.Pressing.{◌and◌, text, nothing}
-use Rattle.cpp_grammar.specs.Term.{Term, symbol, function, object, special, thunk, of_name, construction, alone, in_std, within, instance, local, abbreviation, parameter, source, operator, literal_operator, constructor, destructor, lambda, unnamed, string_literal, builtin, vendor, pointer, lvalue, rvalue, array, member_pointer, function_type, qualified, vector, complex, expansion, integer, boolean, null_pointer, encoding_literal, address_of, pack, nil, list, absent, adjusting, covariant, Thunk}
+use Rattle.cpp_grammar.specs.Term.{Term, symbol, function, object, special, thunk, of_name, construction, alone, in_std, within, instance, local, holder, abbreviation, parameter, source, operator, literal_operator, constructor, destructor, lambda, unnamed, string_literal, builtin, sized_float, vendor, pointer, lvalue, rvalue, array, member_pointer, function_type, qualified, vector, complex, expansion, integer, boolean, null_pointer, encoding_literal, address_of, pack, nil, list, absent, adjusting, covariant, Thunk}
 use Rattle.cpp_grammar.specs.Scope.{is_open}
 use Rattle.cpp_press_laws.specs.Texts.{ordinal, signed_text, qualifier_letters, mark_letter, name_letters, special_code, thunk_text, discriminator_text}
 use Rattle.cpp_press_laws.specs.Components.{Spelling, ended, component}
@@ -102,6 +102,25 @@ piece-ways-keep open_ n R t spelling one = record {
   as_prefix = λ h. nothing-keeps open_ n R;
   between_N_and_E = λ h. nothing-keeps open_ n R;
   as_piece = one;
+  as_encoding = λ h. keeps-behind open_ n R nothing (nothing-keeps open_ n R);
+  as_name = λ h letters. nothing-keeps open_ n R;
+  before = λ h in_type arguments more. more;
+  as_argument = λ h. nothing-keeps open_ n R;
+  as_parameters = λ h. nothing-keeps open_ n R;
+  as_more_parameters = λ h. nothing-keeps open_ n R;
+  as_elements = λ h. nothing-keeps open_ n R;
+}
+
+prefix-ways-keep : (open_ : Type 0) (n : ℕ) (R : Term → Type 0) (t : Term) (spelling : Spelling) → (In (Prefixing t) R
+    → KeepsTo open_ n R spelling)
+    → WaysKeep open_ n R t (record no_ways { as_prefix = spelling })
+unfolding no_ways
+prefix-ways-keep open_ n R t spelling one = record {
+  as_type = λ h. nothing-keeps open_ n R;
+  under_qualifiers = λ h. nothing-keeps open_ n R;
+  as_prefix = one;
+  between_N_and_E = λ h. nothing-keeps open_ n R;
+  as_piece = λ h. nothing-keeps open_ n R;
   as_encoding = λ h. keeps-behind open_ n R nothing (nothing-keeps open_ n R);
   as_name = λ h letters. nothing-keeps open_ n R;
   before = λ h in_type arguments more. more;
@@ -408,6 +427,9 @@ keeps (local e entity discriminator) open_ n R =
     (local_text (ways_of n e).as_encoding entity (ways_of n entity).between_N_and_E discriminator) (λ x w. w) (λ x w. w)
     (λ h letters. local-keeps open_ n R (ways_of n e).as_encoding entity (ways_of n entity).between_N_and_E discriminator letters
     ((keeps e open_ n R).as_encoding (λ x s. h x (inl s))) ((keeps entity open_ n R).between_N_and_E (λ x i. h x (inr i))))
+keeps (holder name) open_ n R =
+    prefix-ways-keep open_ n R (holder name) _ (λ h.
+    and-keeps open_ n R (ways_of n name).as_prefix (text (codes "M")) ((keeps name open_ n R).as_prefix (λ x w. h x (inr w))) (text-keeps open_ n R (codes "M")))
 keeps (abbreviation l) open_ n R = type-ways-keep open_ n R (abbreviation l) _ (λ x w. w) (λ x w. w) (λ h. text-keeps open_ n R
     (codes "S" ++ l ∷ []))
 keeps (parameter k) open_ n R = typed-keep open_ n R (parameter k) _ (λ x w. w) (λ x w. w) (λ h. text-keeps open_ n R
@@ -424,6 +446,10 @@ keeps (lambda parameters k) open_ n R =
 keeps (unnamed k) open_ n R = piece-ways-keep open_ n R (unnamed k) _ (λ h. text-keeps open_ n R _)
 keeps string_literal open_ n R = piece-ways-keep open_ n R string_literal _ (λ h. text-keeps open_ n R _)
 keeps (builtin code) open_ n R = type-ways-keep open_ n R (builtin code) _ (λ x w. w) (λ x w. w) (λ h. text-keeps open_ n R code)
+keeps (sized_float digits end) open_ n R =
+    type-ways-keep open_ n R (sized_float digits end) _ (λ x w. w) (λ x w. w) (λ h.
+    behind-text-keeps open_ n R (codes "DF") (text digits and text (end ∷ []))
+    (behind-text-keeps open_ n R digits (text (end ∷ [])) (text-keeps open_ n R (end ∷ []))))
 keeps (vendor name) open_ n R = typed-keep open_ n R (vendor name) _ (λ x w. w) (λ x w. w) (λ h. text-keeps open_ n R _)
 keeps (pointer type) open_ n R =
     typed-keep open_ n R (pointer type) _ (λ x w. w) (λ x w. w)
