@@ -376,7 +376,7 @@ def either(parts): return " || ".join(parts)
 def first_of(parts): return parts[0] if len(parts) == 1 else applied("first_of", [f"({p})" for p in parts])
 
 # nodes of which something is noted, by their arguments: numbers of nodes are i and j here
-NOTED = ["nil", "alone", "in_std", "within", "instance", "local", "parameter", "pointer", "lvalue", "rvalue", "array", "member_pointer", "function_type", "qualified",
+NOTED = ["nil", "alone", "in_std", "within", "instance", "local", "tagged", "parameter", "pointer", "lvalue", "rvalue", "array", "member_pointer", "function_type", "qualified",
          "vector", "complex", "expansion", "integer", "pack", "list"]
 SORTS = {PIECE: ("p", "Piece"), BYTES: ("d", "Span"), NUMBER: ("k", "ℕ"), MARK: ("m", "Mark"), QUALIFIERS: ("q", "Qualifiers"), SIGNED: ("v", "Signed"), DISCRIMINATOR: ("d", "Option Span")}
 def noted_nodes():

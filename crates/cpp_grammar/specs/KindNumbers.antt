@@ -3,10 +3,10 @@ use Rattle.std.specs.Prelude.{ℕ}
 
 -- how many kinds there are, and how many productions
 abbrev pub KIND_COUNT : ℕ
-KIND_COUNT = 67
+KIND_COUNT = 69
 
 abbrev pub PRODUCTION_COUNT : ℕ
-PRODUCTION_COUNT = 116
+PRODUCTION_COUNT = 118
 
 abbrev pub SYMBOL : ℕ
 SYMBOL = 0
@@ -208,3 +208,9 @@ OPERATOR_AFTER_G = 65
 
 abbrev pub NEST_REST_OR_END : ℕ
 NEST_REST_OR_END = 66
+
+abbrev pub ARGUMENTS_ALONE : ℕ
+ARGUMENTS_ALONE = 67
+
+abbrev pub NEST_REST_ALONE : ℕ
+NEST_REST_ALONE = 68

@@ -73,6 +73,8 @@ pub enum Kind {
     OperatorAfterI,
     OperatorAfterG,
     NestRestOrEnd,
+    ArgumentsAlone,
+    NestRestAlone,
 }
 
 /// The kind with a number.
@@ -148,6 +150,8 @@ pub fn kind_of(number: u16) -> Option<Kind>
         64 => Some(Kind::OperatorAfterI),
         65 => Some(Kind::OperatorAfterG),
         66 => Some(Kind::NestRestOrEnd),
+        67 => Some(Kind::ArgumentsAlone),
+        68 => Some(Kind::NestRestAlone),
         _ => None,
     }
 }
@@ -171,6 +175,7 @@ pub fn may_be_empty(kind: Kind) -> bool
         Kind::ArgumentList => true,
         Kind::PackList => true,
         Kind::MaybeZero => true,
+        Kind::ArgumentsAlone => true,
         _ => false,
     }
 }

@@ -119,4 +119,6 @@ pub enum Production {
     SpecialName,
     ConstructionVtable,
     NestTemplate,
+    NestTag,
+    Tag,
 }

@@ -143,6 +143,10 @@ const OPERATOR_AFTER_G: Sym = Sym::Kind(65);
 
 const NEST_REST_OR_END: Sym = Sym::Kind(66);
 
+const ARGUMENTS_ALONE: Sym = Sym::Kind(67);
+
+const NEST_REST_ALONE: Sym = Sym::Kind(68);
+
 const NAME: Sym = Sym::Name;
 
 const DECIMAL: Sym = Sym::Number(NumberKind::Decimal);
@@ -155,7 +159,7 @@ const DIGITS: Sym = Sym::Number(NumberKind::Digits);
 pub const FIRST_LETTER: u8 = b'!';
 
 // For each kind a row: for each byte from `$` to `z` the letter of the production that the kind takes there.
-static LETTERS: [[u8; 87]; 67] = [
+static LETTERS: [[u8; 87]; 69] = [
     // $%&'()*+,-./0123456789:;<=>?@ABCDEFGHIJKLMNOPQRSTUVWXYZ[\]^_`abcdefghijklmnopqrstuvwxyz
     *b"                                                           *                           ", // Symbol
     *b"          +                                                                            ", // MaybeSuffix
@@ -224,6 +228,8 @@ static LETTERS: [[u8; 87]; 67] = [
     *b"                                                                                    !  ", // OperatorAfterI
     *b"                                                                 !              !      ", // OperatorAfterG
     *b"            EEEEEEEEEE         EE    \x91  E        E           E EEE E E  EEEEE EE       ", // NestRestOrEnd
+    *b"                                     t                                                 ", // ArgumentsAlone
+    *b"            EEEEEEEEEE         EE    D  E        E           E EEE E E  EEEEE EE       ", // NestRestAlone
 ];
 
 /// A rule without its number and its symbols.
@@ -253,7 +259,7 @@ macro_rules! chains {
 }
 
 // The rules of the productions, in the order of their numbers.
-pub static HEADS: [Head; 116] = [
+pub static HEADS: [Head; 118] = [
     takes!(0), // ! Mark
     takes!(2), // \" InternalName
     takes!(2), // # LocalTypeName
@@ -370,10 +376,12 @@ pub static HEADS: [Head; 116] = [
     takes!(1), // \x92 SpecialName
     takes!(4), // \x93 ConstructionVtable
     chains!(2), // \x94 NestTemplate
+    takes!(2), // \x95 NestTag
+    takes!(2), // \x96 Tag
 ];
 
 // The symbols of the rules, in the same order.
-pub static SYMBOLS: [Sym; 702] = symbols_listed! {
+pub static SYMBOLS: [Sym; 714] = symbols_listed! {
     [NONE, NONE, NONE, NONE, NONE], // ! Mark
     [NAME, MAYBE_ARGUMENTS, NONE, NONE, NONE], // \" InternalName
     [ANONYMOUS, MAYBE_ARGUMENTS, NONE, NONE, NONE], // # LocalTypeName
@@ -403,12 +411,12 @@ pub static SYMBOLS: [Sym; 702] = symbols_listed! {
     [ABBREVIATION, ARGUMENTS, NONE, NONE, NONE], // ; AbbreviatedName
     [OPERATOR, NONE, NONE, NONE, NONE], // < OperatorPiece
     [NEST_AFTER_S, NONE, NONE, NONE, NONE], // = NestWithS
-    [DECIMAL, NEST_REST, NONE, NONE, NONE], // > NestParameter
+    [DECIMAL, NEST_REST_ALONE, NONE, NONE, NONE], // > NestParameter
     [NAME, NEST_REST, NONE, NONE, NONE], // ? NestInternal
     [ANONYMOUS, NEST_REST, NONE, NONE, NONE], // @ NestLocalType
     [NAME, NEST_REST, NONE, NONE, NONE], // A NestSource
     [UNQUALIFIED, MAYBE_ARGUMENTS, NEST_TAIL, NONE, NONE], // B NestStd
-    [ABBREVIATION, NEST_REST, NONE, NONE, NONE], // C NestAbbreviated
+    [ABBREVIATION, NEST_REST_ALONE, NONE, NONE, NONE], // C NestAbbreviated
     [ARGUMENT_LIST, Sym::Byte(b'E'), COMPONENT, NEST_TAIL, NONE], // D NestArguments
     [COMPONENT, NEST_TAIL, NONE, NONE, NONE], // E NestNext
     [NONE, NONE, NONE, NONE, NONE], // F NestEnd
@@ -439,8 +447,8 @@ pub static SYMBOLS: [Sym; 702] = symbols_listed! {
     [Sym::Byte(b'F'), MAYBE_C_LINKAGE, TYPE, FUNCTION_REST, NONE], // _ NoexceptFunction
     [TYPE, NONE, NONE, NONE, NONE], // ` Pointer
     [TYPE, TYPE, NONE, NONE, NONE], // a MemberPointer
-    [DECIMAL, MAYBE_ARGUMENTS, NONE, NONE, NONE], // b Parameter
-    [TYPE_AFTER_S, MAYBE_ARGUMENTS, NONE, NONE, NONE], // c TypeWithS
+    [DECIMAL, ARGUMENTS_ALONE, NONE, NONE, NONE], // b Parameter
+    [TYPE_AFTER_S, ARGUMENTS_ALONE, NONE, NONE, NONE], // c TypeWithS
     [ENCODING, Sym::Byte(b'E'), TYPE_ENTITY, MAYBE_DISCRIMINATOR, NONE], // d LocalType
     [NONE, NONE, NONE, NONE, NONE], // e Builtin
     [NAME, NONE, NONE, NONE, NONE], // f Vendor
@@ -490,13 +498,15 @@ pub static SYMBOLS: [Sym; 702] = symbols_listed! {
     [COMPLETE_NAME, NONE, NONE, NONE, NONE], // \x92 SpecialName
     [TYPE, DIGITS, Sym::Byte(b'_'), TYPE, NONE], // \x93 ConstructionVtable
     [ABBREVIATION, NEST_REST_OR_END, NONE, NONE, NONE], // \x94 NestTemplate
+    [NAME, NEST_REST, NONE, NONE, NONE], // \x95 NestTag
+    [NAME, MAYBE_ARGUMENTS, NONE, NONE, NONE], // \x96 Tag
 };
 
 /// The number of the rule that a kind takes at a byte, if it takes one.
 #[inline]
 fn number(kind: u16, byte: u8) -> Option<usize>
     requires { kind < abi.kinds }
-    ensures few { IfSome result (λ number. number < 116) }
+    ensures few { IfSome result (λ number. number < 118) }
     ensures rule { (head : Head) → MatchOption result (abi.rule kind byte ≡ None) (λ number. abi.rule kind byte ≡ Some (listed_rule head number)) }
 {
     match letter_in(&LETTERS[kind as usize], byte) {

@@ -42,7 +42,8 @@ plain_texts =
     codes "(anonymous namespace)" ∷
     codes "-" ∷
     codes "construction vtable for " ∷
-    codes "-in-" ∷ []
+    codes "-in-" ∷
+    codes "[abi:" ∷ []
 
 -- what stands behind a function's parameters
 abbrev pub suffix_texts : List (List ℕ)

@@ -82,83 +82,85 @@ pub const CONSTRUCTION: u16 = 37;
 
 pub const IN: u16 = 38;
 
+pub const TAG: u16 = 39;
+
 /// Where the texts behind a function's parameters begin.
-pub const SUFFIX: u16 = 39;
+pub const SUFFIX: u16 = 40;
 
 /// No text.
-pub const NONE: u16 = 39;
+pub const NONE: u16 = 40;
 
 /// Where the builtin types begin.
-pub const BUILTIN: u16 = 87;
+pub const BUILTIN: u16 = 88;
 
 /// Where the names of operators begin.
-pub const OPERATOR: u16 = 118;
+pub const OPERATOR: u16 = 119;
 
 /// How many operators there are.
 pub const OPERATORS: u16 = 48;
 
 /// Where the abbreviations begin, and their names without `std::`.
-pub const ABBREVIATION: u16 = 166;
+pub const ABBREVIATION: u16 = 167;
 
-pub const LAST_OF_ABBREVIATION: u16 = 172;
+pub const LAST_OF_ABBREVIATION: u16 = 173;
 
 /// Where the special names begin.
-pub const SPECIAL: u16 = 178;
+pub const SPECIAL: u16 = 179;
 
 /// Where the special names of names begin.
-pub const NAMED_SPECIAL: u16 = 182;
+pub const NAMED_SPECIAL: u16 = 183;
 
 /// Where the endings of integer literals begin.
-pub const ENDING: u16 = 185;
+pub const ENDING: u16 = 186;
 
 /// Where the qualifiers begin whose blank stands behind them, but for those of no qualifier.
-pub const BLANKED: u16 = 189;
+pub const BLANKED: u16 = 190;
 
 /// The name of an operator that has no code.
-pub const OPERATOR_ALONE: u16 = 197;
+pub const OPERATOR_ALONE: u16 = 198;
 
 /// How many texts there are.
-pub const COUNT: u16 = 198;
+pub const COUNT: u16 = 199;
 
 /// A text behind the operators: an abbreviation, a special name, an ending, a qualifier.
 #[tactic(auto, unfolding(crate::specs::Texts::fixed_text, cpp_grammar::specs::Texts::builtin_texts, cpp_grammar::specs::Texts::operator_texts, cpp_grammar::specs::Texts::abbreviation_texts, cpp_grammar::specs::Texts::special_texts, cpp_grammar::specs::Texts::named_special_texts, cpp_grammar::specs::Texts::literal_endings))]
 #[inline(always)]
 fn remaining_text(number: u16) -> &'static [u8]
-    requires { 166 ≤ number }
+    requires { 167 ≤ number }
     ensures { result.now ≡ fixed_text number }
 {
     match number {
-        166 => b"std::allocator",
-        167 => b"std::basic_string",
-        168 => b"std::string",
-        169 => b"std::istream",
-        170 => b"std::ostream",
-        171 => b"std::iostream",
-        172 => b"allocator",
-        173 => b"basic_string",
-        174 => b"string",
-        175 => b"istream",
-        176 => b"ostream",
-        177 => b"iostream",
-        178 => b"vtable for ",
-        179 => b"VTT for ",
-        180 => b"typeinfo for ",
-        181 => b"typeinfo name for ",
-        182 => b"guard variable for ",
-        183 => b"thread-local initialization routine for ",
-        184 => b"thread-local wrapper routine for ",
-        185 => b"u",
-        186 => b"l",
-        187 => b"ul",
-        188 => b"ll",
-        189 => b"ull",
-        190 => b"restrict ",
-        191 => b"volatile ",
-        192 => b"volatile restrict ",
-        193 => b"const ",
-        194 => b"const restrict ",
-        195 => b"const volatile ",
-        196 => b"const volatile restrict ",
+        167 => b"std::allocator",
+        168 => b"std::basic_string",
+        169 => b"std::string",
+        170 => b"std::istream",
+        171 => b"std::ostream",
+        172 => b"std::iostream",
+        173 => b"allocator",
+        174 => b"basic_string",
+        175 => b"string",
+        176 => b"istream",
+        177 => b"ostream",
+        178 => b"iostream",
+        179 => b"vtable for ",
+        180 => b"VTT for ",
+        181 => b"typeinfo for ",
+        182 => b"typeinfo name for ",
+        183 => b"guard variable for ",
+        184 => b"thread-local initialization routine for ",
+        185 => b"thread-local wrapper routine for ",
+        186 => b"u",
+        187 => b"l",
+        188 => b"ul",
+        189 => b"ll",
+        190 => b"ull",
+        191 => b"restrict ",
+        192 => b"volatile ",
+        193 => b"volatile restrict ",
+        194 => b"const ",
+        195 => b"const restrict ",
+        196 => b"const volatile ",
+        197 => b"const volatile restrict ",
         OPERATOR_ALONE => b"operator",
         _ => b"",
     }
@@ -168,58 +170,58 @@ fn remaining_text(number: u16) -> &'static [u8]
 #[tactic(auto, unfolding(crate::specs::Texts::fixed_text, cpp_grammar::specs::Texts::builtin_texts, cpp_grammar::specs::Texts::operator_texts))]
 #[inline(always)]
 fn operator_text(number: u16) -> &'static [u8]
-    requires { 118 ≤ number }
+    requires { 119 ≤ number }
     ensures { result.now ≡ fixed_text number }
 {
     match number {
-        118 => b"operator new",
-        119 => b"operator new[]",
-        120 => b"operator delete",
-        121 => b"operator delete[]",
-        122 => b"operator co_await",
-        123 => b"operator+",
-        124 => b"operator-",
-        125 => b"operator&",
-        126 => b"operator*",
-        127 => b"operator~",
-        128 => b"operator+",
-        129 => b"operator-",
-        130 => b"operator*",
-        131 => b"operator/",
-        132 => b"operator%",
-        133 => b"operator&",
-        134 => b"operator^",
-        135 => b"operator=",
-        136 => b"operator+=",
-        137 => b"operator-=",
-        138 => b"operator*=",
-        139 => b"operator/=",
-        140 => b"operator%=",
-        141 => b"operator&=",
-        142 => b"operator|=",
-        143 => b"operator^=",
-        144 => b"operator<<",
-        145 => b"operator>>",
-        146 => b"operator<<=",
-        147 => b"operator>>=",
-        148 => b"operator==",
-        149 => b"operator!=",
-        150 => b"operator<",
-        151 => b"operator>",
-        152 => b"operator<=",
-        153 => b"operator>=",
-        154 => b"operator<=>",
-        155 => b"operator!",
-        156 => b"operator&&",
-        157 => b"operator||",
-        158 => b"operator++",
-        159 => b"operator--",
-        160 => b"operator,",
-        161 => b"operator->*",
-        162 => b"operator->",
-        163 => b"operator()",
-        164 => b"operator[]",
-        165 => b"operator|",
+        119 => b"operator new",
+        120 => b"operator new[]",
+        121 => b"operator delete",
+        122 => b"operator delete[]",
+        123 => b"operator co_await",
+        124 => b"operator+",
+        125 => b"operator-",
+        126 => b"operator&",
+        127 => b"operator*",
+        128 => b"operator~",
+        129 => b"operator+",
+        130 => b"operator-",
+        131 => b"operator*",
+        132 => b"operator/",
+        133 => b"operator%",
+        134 => b"operator&",
+        135 => b"operator^",
+        136 => b"operator=",
+        137 => b"operator+=",
+        138 => b"operator-=",
+        139 => b"operator*=",
+        140 => b"operator/=",
+        141 => b"operator%=",
+        142 => b"operator&=",
+        143 => b"operator|=",
+        144 => b"operator^=",
+        145 => b"operator<<",
+        146 => b"operator>>",
+        147 => b"operator<<=",
+        148 => b"operator>>=",
+        149 => b"operator==",
+        150 => b"operator!=",
+        151 => b"operator<",
+        152 => b"operator>",
+        153 => b"operator<=",
+        154 => b"operator>=",
+        155 => b"operator<=>",
+        156 => b"operator!",
+        157 => b"operator&&",
+        158 => b"operator||",
+        159 => b"operator++",
+        160 => b"operator--",
+        161 => b"operator,",
+        162 => b"operator->*",
+        163 => b"operator->",
+        164 => b"operator()",
+        165 => b"operator[]",
+        166 => b"operator|",
         _ => remaining_text(number),
     }
 }
@@ -228,41 +230,41 @@ fn operator_text(number: u16) -> &'static [u8]
 #[tactic(auto, unfolding(crate::specs::Texts::fixed_text, cpp_grammar::specs::Texts::builtin_texts))]
 #[inline(always)]
 fn builtin_text(number: u16) -> &'static [u8]
-    requires { 87 ≤ number }
+    requires { 88 ≤ number }
     ensures { result.now ≡ fixed_text number }
 {
     match number {
-        87 => b"void",
-        88 => b"wchar_t",
-        89 => b"bool",
-        90 => b"char",
-        91 => b"signed char",
-        92 => b"unsigned char",
-        93 => b"short",
-        94 => b"unsigned short",
-        95 => b"int",
-        96 => b"unsigned int",
-        97 => b"long",
-        98 => b"unsigned long",
-        99 => b"long long",
-        100 => b"unsigned long long",
-        101 => b"__int128",
-        102 => b"unsigned __int128",
-        103 => b"float",
-        104 => b"double",
-        105 => b"long double",
-        106 => b"__float128",
-        107 => b"...",
-        108 => b"char32_t",
-        109 => b"char16_t",
-        110 => b"char8_t",
-        111 => b"auto",
-        112 => b"decltype(auto)",
-        113 => b"std::nullptr_t",
-        114 => b"decimal64",
-        115 => b"decimal128",
-        116 => b"decimal32",
-        117 => b"half",
+        88 => b"void",
+        89 => b"wchar_t",
+        90 => b"bool",
+        91 => b"char",
+        92 => b"signed char",
+        93 => b"unsigned char",
+        94 => b"short",
+        95 => b"unsigned short",
+        96 => b"int",
+        97 => b"unsigned int",
+        98 => b"long",
+        99 => b"unsigned long",
+        100 => b"long long",
+        101 => b"unsigned long long",
+        102 => b"__int128",
+        103 => b"unsigned __int128",
+        104 => b"float",
+        105 => b"double",
+        106 => b"long double",
+        107 => b"__float128",
+        108 => b"...",
+        109 => b"char32_t",
+        110 => b"char16_t",
+        111 => b"char8_t",
+        112 => b"auto",
+        113 => b"decltype(auto)",
+        114 => b"std::nullptr_t",
+        115 => b"decimal64",
+        116 => b"decimal128",
+        117 => b"decimal32",
+        118 => b"half",
         _ => operator_text(number),
     }
 }
@@ -271,58 +273,58 @@ fn builtin_text(number: u16) -> &'static [u8]
 #[tactic(auto, unfolding(crate::specs::Texts::fixed_text))]
 #[inline(always)]
 fn suffix_text(number: u16) -> &'static [u8]
-    requires { 39 ≤ number }
+    requires { 40 ≤ number }
     ensures { result.now ≡ fixed_text number }
 {
     match number {
         NONE => b"",
-        40 => b" restrict",
-        41 => b" volatile",
-        42 => b" volatile restrict",
-        43 => b" const",
-        44 => b" const restrict",
-        45 => b" const volatile",
-        46 => b" const volatile restrict",
-        47 => b" &",
-        48 => b" restrict &",
-        49 => b" volatile &",
-        50 => b" volatile restrict &",
-        51 => b" const &",
-        52 => b" const restrict &",
-        53 => b" const volatile &",
-        54 => b" const volatile restrict &",
-        55 => b" &&",
-        56 => b" restrict &&",
-        57 => b" volatile &&",
-        58 => b" volatile restrict &&",
-        59 => b" const &&",
-        60 => b" const restrict &&",
-        61 => b" const volatile &&",
-        62 => b" const volatile restrict &&",
-        63 => b" noexcept",
-        64 => b" restrict noexcept",
-        65 => b" volatile noexcept",
-        66 => b" volatile restrict noexcept",
-        67 => b" const noexcept",
-        68 => b" const restrict noexcept",
-        69 => b" const volatile noexcept",
-        70 => b" const volatile restrict noexcept",
-        71 => b" & noexcept",
-        72 => b" restrict & noexcept",
-        73 => b" volatile & noexcept",
-        74 => b" volatile restrict & noexcept",
-        75 => b" const & noexcept",
-        76 => b" const restrict & noexcept",
-        77 => b" const volatile & noexcept",
-        78 => b" const volatile restrict & noexcept",
-        79 => b" && noexcept",
-        80 => b" restrict && noexcept",
-        81 => b" volatile && noexcept",
-        82 => b" volatile restrict && noexcept",
-        83 => b" const && noexcept",
-        84 => b" const restrict && noexcept",
-        85 => b" const volatile && noexcept",
-        86 => b" const volatile restrict && noexcept",
+        41 => b" restrict",
+        42 => b" volatile",
+        43 => b" volatile restrict",
+        44 => b" const",
+        45 => b" const restrict",
+        46 => b" const volatile",
+        47 => b" const volatile restrict",
+        48 => b" &",
+        49 => b" restrict &",
+        50 => b" volatile &",
+        51 => b" volatile restrict &",
+        52 => b" const &",
+        53 => b" const restrict &",
+        54 => b" const volatile &",
+        55 => b" const volatile restrict &",
+        56 => b" &&",
+        57 => b" restrict &&",
+        58 => b" volatile &&",
+        59 => b" volatile restrict &&",
+        60 => b" const &&",
+        61 => b" const restrict &&",
+        62 => b" const volatile &&",
+        63 => b" const volatile restrict &&",
+        64 => b" noexcept",
+        65 => b" restrict noexcept",
+        66 => b" volatile noexcept",
+        67 => b" volatile restrict noexcept",
+        68 => b" const noexcept",
+        69 => b" const restrict noexcept",
+        70 => b" const volatile noexcept",
+        71 => b" const volatile restrict noexcept",
+        72 => b" & noexcept",
+        73 => b" restrict & noexcept",
+        74 => b" volatile & noexcept",
+        75 => b" volatile restrict & noexcept",
+        76 => b" const & noexcept",
+        77 => b" const restrict & noexcept",
+        78 => b" const volatile & noexcept",
+        79 => b" const volatile restrict & noexcept",
+        80 => b" && noexcept",
+        81 => b" restrict && noexcept",
+        82 => b" volatile && noexcept",
+        83 => b" volatile restrict && noexcept",
+        84 => b" const && noexcept",
+        85 => b" const restrict && noexcept",
+        86 => b" const volatile && noexcept",
+        87 => b" const volatile restrict && noexcept",
         _ => builtin_text(number),
     }
 }
@@ -373,6 +375,7 @@ pub fn fixed_text(number: u16) -> &'static [u8]
         MINUS => b"-",
         CONSTRUCTION => b"construction vtable for ",
         IN => b"-in-",
+        TAG => b"[abi:",
         _ => suffix_text(number),
     }
 }

@@ -79,6 +79,7 @@ may_leave Production.NestTemplate = true
 may_leave Production.NestArguments = true
 may_leave Production.NestInstance = true
 may_leave Production.NestNext = true
+may_leave Production.NestTag = true
 may_leave Production.NestEnd = true
 may_leave Production.Abbreviation = true
 may_leave Production.Substitution = true

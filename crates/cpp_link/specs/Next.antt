@@ -14,9 +14,9 @@ over byte held = elim (nat_eq held byte) [ true ↦ byte + 1 | false ↦ held ]
 unfoldable pub is_mark : ℕ → Bool
 is_mark rule = nat_eq rule (number_of Production.Mark)
 
--- a list of arguments
+-- a list of arguments, or a tag, behind which they may stand
 unfoldable pub is_list : ℕ → Bool
-is_list rule = nat_eq rule (number_of Production.Arguments)
+is_list rule = nat_eq rule (number_of Production.Arguments) || nat_eq rule (number_of Production.Tag)
 
 -- one of some arguments, of which none is a list by itself
 unfoldable pub is_argument : ℕ → Bool

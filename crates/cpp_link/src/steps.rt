@@ -197,6 +197,15 @@ impl Linked {
         }
     }
 
+    /// Whether a name is that of a constructor or a destructor.
+    fn is_structor(&self, symbol: &[u8], name: u32) -> bool
+        requires table { IsTable (over symbol.now self.now.nodes) }
+        requires name { name < length self.now.nodes.nodes }
+        ensures { result ≡ is_structor (tree_at (trees_in symbol.now self.now.nodes) name) }
+    {
+        self.nodes.node(symbol, name).is_structor()
+    }
+
     /// What is done before the first part.
     #[tactic(auto, unfolding(cpp_term::specs::Between::between, cpp_term::specs::Between::in_name, cpp_term::specs::Between::in_types, cpp_term::specs::Between::in_signature, cpp_term::specs::Between::under_expansion, cpp_term::specs::Between::after, cpp_term::specs::Between::inside, cpp_term::specs::Between::applied, cpp_term::specs::Between::piece_so_far, cpp_term::specs::Between::named_so_far, cpp_term::specs::Between::listed_so_far, cpp_term::specs::Values::tree_of, crate::specs::Parts::around_of, crate::specs::Parts::prefix_of, cpp_tree::specs::Nodes::arguments_are, cpp_tree::specs::Nodes::tree_of, cpp_tree::specs::Nodes::piece_of, crate::specs::Reads::goes_on, crate::specs::Reads::behind_first, crate::specs::Reads::named_if, crate::specs::Reads::appended_if, crate::specs::Reads::with_candidate, crate::specs::NodeCount::makes_before, crate::specs::Owed::made_before, crate::specs::NodeCount::std_before, crate::specs::NodeCount::one_if_there, crate::specs::NodeCount::pack_before))]
     #[inline(always)]
@@ -299,6 +308,53 @@ impl Linked {
                 is_candidate: false,
                 packs: self.packs,
             },
+        }
+    }
+
+    /// The name so far is made with one more tag.
+    #[tactic(auto, unfolding(cpp_term::specs::Between::tag_so_far, cpp_term::specs::Between::named_so_far, cpp_term::specs::Between::with_tag, cpp_tree::specs::Nodes::tree_of, crate::specs::Reads::goes_on, crate::specs::Reads::behind_first, crate::specs::Reads::named_if, crate::specs::Reads::appended_if))]
+    fn tag(&self, symbol: &[u8], kept: Kept, tag: Span) -> Step
+        requires table { IsTable (over symbol.now self.now.nodes) }
+        requires kept { IsKeptThere (length self.now.nodes.nodes) kept }
+        requires tag { IsWithin tag symbol.now }
+        ensures is { (v : values.Value) (cs : List values.Candidate) → tag_so_far (around_of (trees_in symbol.now self.now.nodes) kept) (bytes_at symbol.now tag) (record { candidates = cs; packs = self.now.packs }) ≡ goes_on symbol.now self.now.nodes kept (v ∷ []) cs self.now.packs result }
+        ensures there { IsStepThere symbol.now (length self.now.nodes.thunks) (length self.now.nodes.nodes) result }
+        ensures makes { nodes_of_step result ≡ 1 }
+    {
+        let name = self.prefix_node(symbol, kept);
+        self.named(Node::Tagged {
+            of_structor: self.is_structor(symbol, name),
+            name,
+            tag,
+        })
+    }
+
+    /// What is done behind a name in std and what may stand behind it: its arguments, or itself with tags.
+    #[tactic(auto, unfolding(cpp_term::specs::Between::named_so_far, cpp_term::specs::Between::applied, cpp_term::specs::Values::tree_of, cpp_term::specs::Values::is_there, cpp_tree::specs::Nodes::tree_of, crate::specs::Parts::value_of, crate::specs::Reads::goes_on, crate::specs::Reads::behind_first, crate::specs::Reads::named_if, crate::specs::Reads::appended_if, crate::specs::NodeCount::one_if_arguments, crate::specs::NodeCount::one_if_there))]
+    fn std_name(&self, symbol: &[u8], name: u32, behind: Part) -> Step
+        requires table { IsTable (over symbol.now self.now.nodes) }
+        requires name { name < length self.now.nodes.nodes }
+        requires behind { IsThere symbol.now (length self.now.nodes.nodes) behind }
+        ensures is { (kept : Kept) (v : values.Value) (cs : List values.Candidate) → named_so_far (around_of (trees_in symbol.now self.now.nodes) kept) (applied (tree_at (trees_in symbol.now self.now.nodes) name) (value_in symbol.now self.now.nodes behind)) (value_in symbol.now self.now.nodes behind ∷ []) (record { candidates = cs; packs = self.now.packs })
+            ≡ goes_on symbol.now self.now.nodes kept (v ∷ value_in symbol.now self.now.nodes behind ∷ []) cs self.now.packs result }
+        ensures there { IsStepThere symbol.now (length self.now.nodes.thunks) (length self.now.nodes.nodes) result }
+        ensures makes { nodes_of_step result ≡ one_if_arguments (value_in symbol.now self.now.nodes behind) }
+    {
+        match behind {
+            Part::Nothing => Step::Named {
+                node: name,
+                listed: false,
+                is_name: true,
+            },
+            Part::Named { node, .. } => Step::Named {
+                node,
+                listed: false,
+                is_name: true,
+            },
+            _ => self.named(Node::Instance {
+                template: name,
+                arguments: self.node(symbol, behind),
+            }),
         }
     }
 
@@ -421,6 +477,8 @@ impl Linked {
                 listed: true,
                 is_name: true,
             },
+            Production::NestTag => self.tag(symbol, kept, self.text_in(symbol, first)),
+            Production::Tag => self.tag(symbol, kept, self.text_in(symbol, first)),
             Production::NestNext => self.go(self.behind_name(
                 kept,
                 self.node(symbol, first),
@@ -498,19 +556,7 @@ impl Linked {
                 true,
             )),
             Production::NestStd => {
-                let name = self.node(symbol, first);
-                if is_there(second) {
-                    let arguments = self.node(symbol, second);
-                    return self.named(Node::Instance {
-                        template: name,
-                        arguments,
-                    });
-                }
-                Step::Named {
-                    node: name,
-                    listed: false,
-                    is_name: true,
-                }
+                self.std_name(symbol, self.node(symbol, first), second)
             }
             Production::NestArguments => {
                 let template = self.prefix_node(symbol, kept);

@@ -3,7 +3,7 @@
 use cpp_grammar::production::Production;
 
 /// The productions.
-pub(crate) const PRODUCTIONS: [Production; 116] = [
+pub(crate) const PRODUCTIONS: [Production; 118] = [
     Production::Mark,
     Production::InternalName,
     Production::LocalTypeName,
@@ -120,10 +120,12 @@ pub(crate) const PRODUCTIONS: [Production; 116] = [
     Production::SpecialName,
     Production::ConstructionVtable,
     Production::NestTemplate,
+    Production::NestTag,
+    Production::Tag,
 ];
 
 /// How many parts each has.
-pub(crate) const PART_COUNTS: [u8; 116] = [
+pub(crate) const PART_COUNTS: [u8; 118] = [
     0, // Mark
     2, // InternalName
     2, // LocalTypeName
@@ -240,10 +242,12 @@ pub(crate) const PART_COUNTS: [u8; 116] = [
     1, // SpecialName
     4, // ConstructionVtable
     2, // NestTemplate
+    2, // NestTag
+    2, // Tag
 ];
 
 /// Whether parts without a row may stand between those of each.
-pub(crate) const SKIPS_PARTS: [bool; 116] = [
+pub(crate) const SKIPS_PARTS: [bool; 118] = [
     false, // Mark
     false, // InternalName
     false, // LocalTypeName
@@ -360,10 +364,12 @@ pub(crate) const SKIPS_PARTS: [bool; 116] = [
     false, // SpecialName
     true, // ConstructionVtable
     false, // NestTemplate
+    false, // NestTag
+    false, // Tag
 ];
 
 /// Before how many of its parts nothing is done in each: before none, the first, or all, which are five at most.
-pub(crate) const QUIET_PARTS: [u8; 116] = [
+pub(crate) const QUIET_PARTS: [u8; 118] = [
     5, // Mark
     1, // InternalName
     1, // LocalTypeName
@@ -480,4 +486,6 @@ pub(crate) const QUIET_PARTS: [u8; 116] = [
     5, // SpecialName
     5, // ConstructionVtable
     1, // NestTemplate
+    1, // NestTag
+    1, // Tag
 ];

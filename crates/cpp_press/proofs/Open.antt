@@ -13,6 +13,7 @@ open-erased (in_std p) = open-erased p
 open-erased (within prefix p) = rw (open-erased prefix, open-erased p) refl
 open-erased (instance template arguments) = rw (open-erased template, open-erased arguments) refl
 open-erased (local encoding entity discriminator) = open-erased entity
+open-erased (tagged of_structor name tag) = open-erased name
 open-erased (parameter k argument) = refl
 open-erased (lambda parameters number) = open-erased parameters
 open-erased (pointer t) = open-erased t

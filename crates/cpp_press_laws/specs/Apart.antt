@@ -37,6 +37,7 @@ IsNeverReferred own (in_std p) = IsNeverReferred own p
 IsNeverReferred own (within prefix p) = IsNeverReferred own prefix ⊎ IsNeverReferred own p
 IsNeverReferred own (instance template arguments) = IsNeverReferred own template ⊎ IsNeverReferred own arguments
 IsNeverReferred own (local e entity discriminator) = IsTemplateOf own entity ⊎ (IsNeverReferred own e ⊎ IsNeverReferred own entity)
+IsNeverReferred own (tagged of_structor name tag) = IsNeverReferred own name
 IsNeverReferred own (lambda parameters k) = IsNeverReferred own parameters
 IsNeverReferred own (pointer type) = IsNeverReferred own type
 IsNeverReferred own (lvalue type) = IsNeverReferred own type

@@ -49,6 +49,7 @@ same_tree (in_std a0) (in_std b0) = same_tree a0 b0
 same_tree (within a0 a1) (within b0 b1) = same_tree a0 b0 && same_tree a1 b1
 same_tree (instance a0 a1) (instance b0 b1) = same_tree a0 b0 && same_tree a1 b1
 same_tree (local a0 a1 a2) (local b0 b1 b2) = same_tree a0 b0 && same_tree a1 b1 && same_discriminator a2 b2
+same_tree (tagged a0 a1 a2) (tagged b0 b1 b2) = same_truth a0 b0 && same_tree a1 b1 && same_bytes a2 b2
 same_tree (abbreviation a0) (abbreviation b0) = nat_eq a0 b0
 same_tree (parameter a0) (parameter b0) = nat_eq a0 b0
 same_tree (source a0 a1) (source b0 b1) = same_truth a0 b0 && same_bytes a1 b1

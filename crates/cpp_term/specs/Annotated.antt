@@ -30,6 +30,7 @@ annotate s (in_std p) = term_.in_std (annotate s p)
 annotate s (within prefix p) = term_.within (annotate s prefix) (annotate s p)
 annotate s (instance template arguments) = term_.instance (annotate s template) (annotate s arguments)
 annotate s (local encoding entity discriminator) = term_.local (annotate None encoding) (annotate s entity) discriminator
+annotate s (tagged of_structor name tag) = term_.tagged of_structor (annotate s name) tag
 annotate s (abbreviation letter) = term_.abbreviation letter
 annotate s (parameter k) = term_.parameter k (argument_in s k)
 annotate s (source internal bytes) = term_.source internal bytes

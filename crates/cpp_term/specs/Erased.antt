@@ -18,6 +18,7 @@ erase (in_std p) = term_.in_std (erase p)
 erase (within prefix p) = term_.within (erase prefix) (erase p)
 erase (instance template arguments) = term_.instance (erase template) (erase arguments)
 erase (local encoding entity discriminator) = term_.local (erase encoding) (erase entity) discriminator
+erase (tagged of_structor name tag) = term_.tagged of_structor (erase name) tag
 erase (abbreviation letter) = term_.abbreviation letter
 erase (parameter k argument) = term_.parameter k
 erase (source internal bytes) = term_.source internal bytes

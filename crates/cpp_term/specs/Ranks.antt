@@ -25,6 +25,7 @@ weight (in_std p) = 1 + weight p
 weight (within prefix p) = 1 + weight prefix + weight p
 weight (instance template arguments) = 1 + weight template + weight arguments
 weight (local encoding entity discriminator) = 1 + weight entity
+weight (tagged of_structor name tag) = 1 + weight name
 weight (parameter k argument) = 2 + weight argument
 weight (lambda parameters number) = 1 + weight parameters
 weight (pointer t) = 1 + weight t

@@ -19,6 +19,8 @@ pub data Term : Type 0 where
   within : (prefix piece : Term) → Term
   instance : (template arguments : Term) → Term
   local : (encoding entity : Term) → (discriminator : Option (List ℕ)) → Term
+  -- a name with one more tag, and whether it is that of a constructor or a destructor
+  tagged : (of_structor : Bool) → (name : Term) → (tag : List ℕ) → Term
   abbreviation : (letter : ℕ) → Term
   -- a parameter by its number, and the argument that it names
   parameter : (number : ℕ) → (argument : Term) → Term

@@ -208,3 +208,7 @@ pub const OF_NAME: u16 = 64;
 /// The virtual table of a base class while an object of a class derived from it is constructed. Texts: the digits of the base
 /// class' offset. Parts: the derived class and the base class. Symbols of the wide grammar alone have it.
 pub const CONSTRUCTION: u16 = 65;
+
+/// A name with a tag. Numbers: 1 where it is that of a constructor or a destructor. Texts: the tag. Parts: the name without it.
+/// Symbols of the wide grammar alone have it.
+pub const TAGGED: u16 = 66;

@@ -48,6 +48,7 @@ inside-shut (instance template arguments) x closed (inr i) =
     inside-shut arguments x (right-shut (is_open template) (is_open arguments) closed) i
 inside-shut (local e entity discriminator) x closed (inl s) = s.0
 inside-shut (local e entity discriminator) x closed (inr i) = inside-shut entity x closed i
+inside-shut (tagged of_structor name tag) x closed i = itself-shut name x (Inside name x) closed (inside-shut name x closed) i
 inside-shut (lambda parameters k) x closed i = inside-shut parameters x closed i
 inside-shut (pointer type) x closed i = itself-shut type x (Inside type x) closed (inside-shut type x closed) i
 inside-shut (lvalue type) x closed i = itself-shut type x (Inside type x) closed (inside-shut type x closed) i

@@ -684,6 +684,7 @@ counts (in_std p) = few-in-std p (counts p)
 counts (within prefix p) = few-within prefix p (counts prefix) (counts p)
 counts (instance template arguments) = few-instance template arguments (counts template) (counts arguments)
 counts (local e entity discriminator) = few-local-name e entity discriminator (counts e) (counts entity)
+counts (tagged of_structor name tag) = few-tagged of_structor name tag (counts name)
 counts (abbreviation l) = few-abbreviation l
 counts (parameter k) = few-parameter k
 counts (source internal name) = few-source internal name

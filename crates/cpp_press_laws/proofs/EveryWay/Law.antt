@@ -54,6 +54,7 @@ reads c (in_std p) = reads-in-std p (reads c p)
 reads c (within prefix p) = reads-within prefix p (reads c prefix) (reads c p)
 reads c (instance template arguments) = reads-instance template arguments (reads c template) (reads c arguments)
 reads c (local e entity discriminator) = reads-local e entity discriminator (reads c e) (reads c entity)
+reads c (tagged of_structor name tag) = reads-tagged of_structor name tag (reads c name)
 reads c (abbreviation l) = reads-abbreviation l
 reads c (parameter k) = reads-parameter k
 reads c (source internal name) = reads-source internal name

@@ -38,6 +38,7 @@ closed-packs scope (instance template arguments) closed =
     first-none (pack_length scope template) (pack_length scope arguments) (closed-packs scope template (left-shut (is_open template) (is_open arguments) closed))
     (closed-packs scope arguments (right-shut (is_open template) (is_open arguments) closed))
 closed-packs scope (local e entity discriminator) closed = closed-packs scope entity closed
+closed-packs scope (tagged of_structor name tag) closed = closed-packs scope name closed
 closed-packs scope (parameter k) closed = absurd (true≢false closed)
 closed-packs scope (lambda parameters k) closed = closed-packs scope parameters closed
 closed-packs scope (pointer type) closed = closed-packs scope type closed

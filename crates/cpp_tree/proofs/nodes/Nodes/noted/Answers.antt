@@ -13,6 +13,7 @@ returns-in_default c =
       not_within = c.in_default.not-Within;
       not_instance = c.in_default.not-Instance;
       not_local = c.in_default.not-Local;
+      not_tagged = c.in_default.not-Tagged;
       not_parameter = c.in_default.not-Parameter;
       not_pointer = c.in_default.not-Pointer;
       not_lvalue = c.in_default.not-Lvalue;
