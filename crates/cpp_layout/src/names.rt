@@ -10,7 +10,7 @@ ghost use Rattle.cpp_grammar.specs.Items.{left, base, piece};
 ghost use Rattle.cpp_grammar.specs.Parts.{begins_with, source_text};
 ghost use Rattle.cpp_term.specs.Term as term;
 ghost use Rattle.cpp_term.specs.Items as items;
-ghost use Rattle.cpp_term.specs.Parts.{as_item, piece_parts, prefix_item, within_parts, base_within, base_tagged_within, base_tagged, opening_text, last_piece, instance_parts};
+ghost use Rattle.cpp_term.specs.Parts.{as_item, piece_parts, prefix_item, within_parts, base_within, base_tagged, opening_text, last_piece, instance_parts};
 ghost use Rattle.cpp_tree.specs.Nodes.{tree_at, trees, piece_of, bytes_at, IsTable, IsWithin, IsPieceBelow};
 ghost use Rattle.cpp_layout.specs.Texts.{fixed_text};
 ghost use Rattle.cpp_layout.specs.declared.texts.TheConstants.{BLANK_LESS, COLONS, COUNT, LESS, RIGHT_BRACKET, TAG};
@@ -375,7 +375,7 @@ impl Symbol {
         requires piece { IsPieceBelow self.now.bytes (length self.now.table.nodes) piece }
         requires room { 8 ≤ S.room parts.old }
         ensures shows { (prefix : term.Term) → tree_at (trees (table_of self.now)) name ≡ term.within prefix (piece_of self.now.bytes (trees (table_of self.now)) piece)
-            → Shows self.now ctx.detail (S.held parts.old) (S.held parts.new) (base_tagged_within (context_of ctx) prefix (piece_of self.now.bytes (trees (table_of self.now)) piece)) }
+            → Shows self.now ctx.detail (S.held parts.old) (S.held parts.new) (base_tagged (context_of ctx) (tree_at (trees (table_of self.now)) name)) }
         ensures few { S.room parts.old ≤ S.room parts.new + 8 }
     {
         match piece {
