@@ -18,6 +18,7 @@ pub mod MovesOfFunctions
 pub mod MovesOfLists
 pub mod MovesOfLocals
 pub mod MovesOfNests
+pub mod Alone
 pub mod MovesOfTypes
 pub mod NamePlaces
 pub mod NestComponents

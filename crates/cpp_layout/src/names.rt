@@ -371,6 +371,7 @@ impl Symbol {
         piece: Piece,
         ctx: Context,
     )
+        requires table { IsTable (table_of self.now) }
         requires name { name < length self.now.table.nodes }
         requires piece { IsPieceBelow self.now.bytes (length self.now.table.nodes) piece }
         requires room { 8 ≤ S.room parts.old }

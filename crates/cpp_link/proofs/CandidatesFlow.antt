@@ -144,6 +144,16 @@ integer-literal around place = λ state next e. came (going [] around state) nex
   };
 })
 
+-- a name is a candidate behind it, or its arguments are one, or it is one already
+spent-behind : (a : Bool) (w : Value) → cond (a && not (is_there w)) 0 1 ≤ one_if_arguments w + behind_name (cond a 0 1) w
+unfolding is_there one_if_arguments one_if_there behind_name in_place
+spent-behind true nothing_there = omega arith
+spent-behind true (named t qualifiers ref) = omega arith
+spent-behind true _ = omega arith
+spent-behind false nothing_there = omega arith
+spent-behind false (named t qualifiers ref) = omega arith
+spent-behind false _ = omega arith
+
 -- a parameter is a candidate before its arguments
 parameter-type : (around : Around) (place : ℕ) → Flow Production.Parameter around place (Number Decimal ∷ OfKind ARGUMENTS_ALONE ∷ []) [] 0
 unfolding pending pending_around unlisted_around goes_on is_arguments is_component becomes_candidate after prefix_listed between makes_before made_before makes_at_end name_at_end part leaves makes_name may_leave unlisted is_listed meaning one_if_there close behind
@@ -153,13 +163,7 @@ parameter-type around place = λ state next e. came (going [] around state) next
     closes : (u w : Value) → Flow Production.Parameter around place [] (u ∷ w ∷ []) (behind_name 0 w)
     closes u w = λ byte began state one e.
         ended Production.Parameter (one_if_arguments w) (behind_name 0 w) state (found (tree (applied (tree_of u) w) (not (is_there w))) state) one e
-        (omega (arith, made w))
-      where
-        made : (w : Value) → cond (not (is_there w)) 0 1 ≤ one_if_arguments w + behind_name 0 w
-        unfolding is_there one_if_arguments behind_name in_place
-        made nothing_there = omega arith
-        made (named t qualifiers ref) = omega arith
-        made _ = omega arith
+        (omega (arith, spent-behind true w))
 
     begun : (v : Value) → Flow Production.Parameter around place (OfKind ARGUMENTS_ALONE ∷ []) (v ∷ []) 0
     begun v = λ state next e. (
@@ -180,22 +184,10 @@ with-s-type around place = λ state next e. came (going [] around state) next e 
   later = λ v. record { now = unlisted v; few = omega arith; goes = begun v };
 })
   where
-    spent : (a : Bool) (w : Value) → cond (a && not (is_there w)) 0 1 ≤ one_if_arguments w + behind_name (cond a 0 1) w
-    unfolding is_there one_if_arguments behind_name in_place
-    spent true nothing_there = omega arith
-    spent true (named t qualifiers ref) = omega arith
-    spent true _ = omega arith
-    spent false nothing_there = omega arith
-    spent false (named t qualifiers ref) = omega arith
-    spent false _ = omega arith
-
     closes : (v w : Value) → Flow Production.TypeWithS around place [] (v ∷ w ∷ []) (behind_name (unlisted v) w)
     closes v w = λ byte began state one e.
         ended Production.TypeWithS (one_if_arguments w) (behind_name (unlisted v) w) state
-        (found (tree (applied (tree_of v) w) (is_listed v && not (is_there w))) state) one e (omega (arith, made w))
-      where
-        made : (w : Value) → cond (is_listed v && not (is_there w)) 0 1 ≤ one_if_arguments w + behind_name (unlisted v) w
-        made w = spent (is_listed v) w
+        (found (tree (applied (tree_of v) w) (is_listed v && not (is_there w))) state) one e (omega (arith, spent-behind (is_listed v) w))
 
     begun : (v : Value) → Flow Production.TypeWithS around place (OfKind ARGUMENTS_ALONE ∷ []) (v ∷ []) (unlisted v)
     begun v = λ state next e. came (going (v ∷ []) (after (tree_of v) (is_listed v) around) state) next e (record {

@@ -67,6 +67,12 @@ picked-fits k (a ∷ rest) byte p e h = go (is_in a byte) e (λ i. picked-fits k
     go true i later = let same : a.production ≡ p = cc in sym (ap (fits k) same) ∙ both.0
     go false i later = later i
 
+place-small : (v : Value) → in_place v ≤ 1
+unfolding in_place
+place-small (named t qualifiers ref) = omega arith
+place-small nothing_there = omega arith
+place-small _ = omega arith
+
 -- what is pending behind a kind is left by its production
 pending-left : (k : ℕ) (p : Production) (v : Value) → fits k p ≡ true → (begins_arguments p ≡ true → in_place v ≡ 0) → pending (OfKind k) v ≤ leaves p v
 unfolding fits pending leaves unlisted
@@ -75,7 +81,7 @@ pending-left k p v h alone_ =
     let two = and_parts (not (becomes_candidate k) || (makes_name p || may_leave p)) _ one.1 in
     let three = and_parts (not (takes_name p) || goes_on k) _ two.1 in
     let four = and_parts (not (begins_arguments p) || is_arguments k) (not (is_arguments k) || (begins_arguments p || makes_name p)) three.1 in
-    go (is_component k) (becomes_candidate k) (is_arguments k) (makes_name p) (may_leave p) (begins_arguments p) (cond_small v) (place_small v) alone_ one.0 two.0 four.1
+    go (is_component k) (becomes_candidate k) (is_arguments k) (makes_name p) (may_leave p) (begins_arguments p) (cond_small v) (place-small v) alone_ one.0 two.0 four.1
   where
     cond_small : (v : Value) → unlisted v ≤ 1
     cond_small v = small (is_listed v)
@@ -83,12 +89,6 @@ pending-left k p v h alone_ =
         small : (b : Bool) → cond b 0 1 ≤ 1
         small true = omega arith
         small false = omega arith
-
-    place_small : (v : Value) → in_place v ≤ 1
-    unfolding in_place
-    place_small (named t qualifiers ref) = omega arith
-    place_small nothing_there = omega arith
-    place_small _ = omega arith
 
     go : (c b a m l g : Bool) → unlisted v ≤ 1 → in_place v ≤ 1 → (g ≡ true → in_place v ≡ 0) → not c || m ≡ true → not b || (m || l) ≡ true → not a || (g || m) ≡ true
         → cond c 1 (cond b (unlisted v) (cond a (in_place v) 0)) ≤ cond m 1 (cond l (unlisted v) 0)

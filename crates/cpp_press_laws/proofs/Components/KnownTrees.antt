@@ -3,7 +3,7 @@
 use Rattle.std.proofs.Common.{◌≡◌, ℕ, ◌-◌, ◌<◌, ◌⊎◌, inl, inr, length, List, [], ◌∷◌, ◌++◌, Option, Bool, true, false, refl, arith}
 use Rattle.std.specs.Prelude.{◌&&◌, codes, cond}
 use Rattle.sym_spell.specs.Pressing.{◌and◌, text, nothing}
-use Rattle.cpp_grammar.specs.Term.{Term, symbol, function, object, special, thunk, of_name, construction, alone, in_std, within, instance, local, abbreviation, parameter, source, operator, literal_operator, constructor, destructor, lambda, unnamed, string_literal, builtin, vendor, pointer, lvalue, rvalue, array, member_pointer, function_type, qualified, vector, complex, expansion, integer, boolean, null_pointer, encoding_literal, address_of, pack, nil, list, absent, adjusting, covariant, Thunk}
+use Rattle.cpp_grammar.specs.Term.{Term, symbol, function, object, special, thunk, of_name, construction, alone, in_std, within, instance, local, tagged, abbreviation, parameter, source, operator, literal_operator, constructor, destructor, lambda, unnamed, string_literal, builtin, vendor, pointer, lvalue, rvalue, array, member_pointer, function_type, qualified, vector, complex, expansion, integer, boolean, null_pointer, encoding_literal, address_of, pack, nil, list, absent, adjusting, covariant, Thunk}
 use Rattle.cpp_grammar.specs.Scope.{is_open}
 use Rattle.cpp_press_laws.specs.Texts.{ordinal, signed_text, qualifier_letters, mark_letter, name_letters, special_code, thunk_text, discriminator_text}
 use Rattle.cpp_press_laws.specs.Components.{Spelling, ended, component}
@@ -408,6 +408,9 @@ keeps (local e entity discriminator) open_ n R =
     (local_text (ways_of n e).as_encoding entity (ways_of n entity).between_N_and_E discriminator) (λ x w. w) (λ x w. w)
     (λ h letters. local-keeps open_ n R (ways_of n e).as_encoding entity (ways_of n entity).between_N_and_E discriminator letters
     ((keeps e open_ n R).as_encoding (λ x s. h x (inl s))) ((keeps entity open_ n R).between_N_and_E (λ x i. h x (inr i))))
+keeps (tagged of_structor name tag) open_ n R =
+    typed-keep open_ n R (tagged of_structor name tag) _ (λ x w. w) (λ x w. w)
+    (λ h. before-text-keeps open_ n R (ways_of n name).as_type (codes "B" ++ counted tag) ((keeps name open_ n R).as_type h))
 keeps (abbreviation l) open_ n R = type-ways-keep open_ n R (abbreviation l) _ (λ x w. w) (λ x w. w) (λ h. text-keeps open_ n R
     (codes "S" ++ l ∷ []))
 keeps (parameter k) open_ n R = typed-keep open_ n R (parameter k) _ (λ x w. w) (λ x w. w) (λ h. text-keeps open_ n R
