@@ -478,7 +478,11 @@ impl Linked {
                 listed: true,
                 is_name: true,
             },
-            Production::NestTag => self.named(self.tagged(symbol, kept, self.text_in(symbol, first))),
+            Production::NestTag => self.named(self.tagged(
+                symbol,
+                kept,
+                self.text_in(symbol, first),
+            )),
             Production::Tag => self.named(self.tagged(symbol, kept, self.text_in(symbol, first))),
             Production::NestNext => self.go(self.behind_name(
                 kept,
@@ -556,9 +560,7 @@ impl Linked {
                 self.node(symbol, first),
                 true,
             )),
-            Production::NestStd => {
-                self.std_name(symbol, self.node(symbol, first), second)
-            }
+            Production::NestStd => { self.std_name(symbol, self.node(symbol, first), second) }
             Production::NestArguments => {
                 let template = self.prefix_node(symbol, kept);
                 let arguments = self.list_in(symbol, first);
