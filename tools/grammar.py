@@ -73,11 +73,12 @@ def build(extended=True, widened=False):
     kind("MaybeRef", MARK("RO"), empty=True)
     kind("NameAfterS", eats("t", "StdName", "Unqualified", "MaybeArguments"), chain("AbbreviatedName", "Abbreviation", "Arguments"))
     kind("Unqualified", *BARE, chain("OperatorPiece", "Operator"))
-    kind("Nest", eats("S", "NestWithS", "NestAfterS"), eats("T", "NestParameter", DECIMAL, "NestRest"), eats("L", "NestInternal", NAME, "NestRest"),
+    kind("Nest", eats("S", "NestWithS", "NestAfterS"), eats("T", "NestParameter", DECIMAL, "NestRestAlone"), eats("L", "NestInternal", NAME, "NestRest"),
          eats("U", "NestLocalType", "Anonymous", "NestRest"), chain("NestSource", NAME, "NestRest"))
     kind("NestAfterS", eats("t", "NestStd", "Unqualified", "MaybeArguments", "NestTail"),
-         narrow(chain("NestAbbreviated", "Abbreviation", "NestRest")), wide(chain("NestTemplate", "Abbreviation", "NestRestOrEnd")))
-    kind("NestRest", eats("I", "NestArguments", "ArgumentList", "'E'", "Component", "NestTail"), chain("NestNext", "Component", "NestTail"))
+         narrow(chain("NestAbbreviated", "Abbreviation", "NestRestAlone")), wide(chain("NestTemplate", "Abbreviation", "NestRestOrEnd")))
+    NEST_REST = [eats("I", "NestArguments", "ArgumentList", "'E'", "Component", "NestTail"), chain("NestNext", "Component", "NestTail")]
+    kind("NestRest", *NEST_REST, wide(eats("B", "NestTag", NAME, "NestRest")))
     kind("NestTail", eats("E", "NestEnd"), chain("NestNext", "Component", "NestTail"))
     component = [eats("C", "Constructor", "ConstructorDigit", "MaybeArguments"), eats("D", "Destructor", "DestructorDigit", "MaybeArguments"),
                  L_NAME, U_NAME, OP_NAME, S_NAME]
@@ -105,8 +106,8 @@ def build(extended=True, widened=False):
          wide(eats("F", "SizedFloat", DIGITS, "FloatEnd")))
     if extended:
         P["ItemIsType"] = (False, ["AfterD"])
-    NAMED = [eats("P", "Pointer", "Type"), eats("M", "MemberPointer", "Type", "Type"), eats("T", "Parameter", DECIMAL, "MaybeArguments"),
-             eats("S", "TypeWithS", "TypeAfterS", "MaybeArguments"), eats("N", "NestedType", "Nest"),
+    NAMED = [eats("P", "Pointer", "Type"), eats("M", "MemberPointer", "Type", "Type"), eats("T", "Parameter", DECIMAL, "ArgumentsAlone"),
+             eats("S", "TypeWithS", "TypeAfterS", "ArgumentsAlone"), eats("N", "NestedType", "Nest"),
              eats("Z", "LocalType", "Encoding", "'E'", "TypeEntity", "MaybeDiscriminator"), U_NAME, S_NAME]
     kind("Solid", eats(builtins(False), "Builtin"), eats("u", "Vendor", NAME), eats("A", "Array", DECIMAL, "Type"),
          eats("F", "Function", "MaybeCLinkage", "Type", "FunctionRest"), *([eats("C", "Complex", "Type")] if extended else []), *NAMED)
@@ -117,8 +118,9 @@ def build(extended=True, widened=False):
     kind("AfterR", eats("E", "RefEnd"), chain("LvalueItem", "Type", "FunctionRest"))
     kind("AfterO", eats("E", "RefEnd"), chain("RvalueItem", "Type", "FunctionRest"))
     kind("Items", chain("Items", "Item", "Items"), empty=True)
-    kind("MaybeArguments", eats("I", "Arguments", "ArgumentList", "'E'"), empty=True)
-    kind("Arguments", eats("I", "Arguments", "ArgumentList", "'E'"))
+    ARGUMENTS = eats("I", "Arguments", "ArgumentList", "'E'")
+    kind("MaybeArguments", ARGUMENTS, wide(eats("B", "Tag", NAME, "MaybeArguments")), empty=True)
+    kind("Arguments", ARGUMENTS)
     kind("ArgumentList", eats("J", "PackArgument", "PackList", "'E'", "ArgumentList"), eats("L", "LiteralArgument", "Literal", "'E'", "ArgumentList"),
          eats("X", "AddressArgument", "'a'", "'d'", "Address", "ArgumentList"), chain("TypeArgument", "Item", "ArgumentList"), empty=True)
     kind("PackList", eats("L", "LiteralElement", "Literal", "'E'", "PackList"),
@@ -140,6 +142,9 @@ def build(extended=True, widened=False):
     kind("HolderMark", MARK("M"))
     kind("HeldComponent", *component)
     kind("FloatEnd", MARK("_bx"))
+    # behind a parameter and a substitution no tag may come: in the ABI's grammar these are as MaybeArguments and NestRest
+    kind("ArgumentsAlone", ARGUMENTS, empty=True)
+    kind("NestRestAlone", *NEST_REST)
     shared = {p for k, (e, rules) in K.items() for cls, p in rules if (k, cls, p) not in MARKED}
     for p in [p for (k, cls, p), mark in MARKED.items() if mark == "wide" and p not in shared]: P[p] = P.pop(p)
 

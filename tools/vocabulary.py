@@ -174,6 +174,7 @@ PLAIN_TEXTS = [
     ("FLOAT", "_Float"),
     ("WIDER", "x"),
     ("BRAIN_FLOAT", "std::bfloat16_t"),
+    ("TAG", "[abi:"),
 ]
 
 # before how many of its parts nothing is done in a production: before all where it isn't named here
@@ -183,7 +184,7 @@ QUIET = {
     "LocalName": 1, "LocalType": 1, "InternalName": 1, "SourceName": 1, "LocalTypeName": 1, "OperatorName": 1, "Constructor": 1,
     "Destructor": 1, "StdName": 1, "AbbreviatedName": 1, "NestStd": 1, "NestAbbreviated": 1, "NestTemplate": 1, "NestParameter": 1,
     "NestInternal": 1, "NestSource": 1, "NestLocalType": 1, "PackArgument": 1, "Parameter": 1, "TypeWithS": 1, "LvalueItem": 1,
-    "RvalueItem": 1, "IntegerLiteral": 1, "Holder": 1,
+    "RvalueItem": 1, "IntegerLiteral": 1, "Holder": 1, "NestTag": 1, "Tag": 1,
 }
 
 # the productions in which parts without a row may stand between those with one
@@ -212,18 +213,20 @@ MADE_BEFORE = {
     "RvalueItem": [0, 1],
     "PackArgument": [0, 1],
     "Holder": [0, 1],
+    "NestTag": [0, 1],
+    "Tag": [0, 1],
 }
 MADE_AT_END = {p: 1 for p in """InternalName LocalTypeName SourceName OperatorName Symbol Guard Encoding SpecialType NonVirtualThunk VirtualThunk
     CovariantThunk LocalName StdName AbbreviatedName Constructor Destructor Abbreviation StringLiteral Lambda RestrictType
     VolatileType ConstType ReferenceType Expansion BuiltinWithD Vector NoexceptFunction Pointer MemberPointer Parameter
     TypeWithS LocalType Builtin Vendor Array Function Complex StdType RestItem LvalueItem RvalueItem Items PackArgument
     LiteralArgument AddressArgument TypeArgument LiteralElement AddressElement TypeElement Address EncodingLiteral
-    BoolLiteral IntegerLiteral NullLiteral SpecialName ConstructionVtable SizedFloat""".split()}
+    BoolLiteral IntegerLiteral NullLiteral SpecialName ConstructionVtable SizedFloat Tag""".split()}
 MADE_AT_END["CharLiteral"] = 2
 
 # the productions that may leave a tree that is no candidate yet
 LEAVES = """NestWithS NestParameter NestInternal NestLocalType NestSource NestStd NestAbbreviated NestTemplate NestArguments NestInstance
-    NestNext NestEnd
+    NestNext NestTag NestEnd
     Abbreviation Substitution NestedType Expansion ItemIsType BuiltinWithD Vector NoexceptFunction Pointer MemberPointer
     Parameter TypeWithS LocalType Builtin Vendor Array Function Complex StdType AbbreviatedType SizedFloat""".split()
 
@@ -248,6 +251,7 @@ TREES = [
     ("instance", ("template", TREE), ("arguments", TREE)),
     ("local", ("encoding", OUTSIDE), ("entity", TREE), ("discriminator", DISCRIMINATOR)),
     ("holder", ("name", TREE)),
+    ("tagged", ("of_structor", TRUTH), ("name", TREE), ("tag", BYTES)),
     ("abbreviation", ("letter", NUMBER)),
     ("parameter", ("k", NUMBER)),
     ("source", ("internal", TRUTH), ("bytes", BYTES)),
@@ -286,7 +290,7 @@ WRAPPERS = [
     ("complex", "Complex", "C"),
 ]
 # those that are components, and may be referred to as types and prefixes: all types but builtin ones and abbreviations, and names
-COMPONENTS = """alone in_std within instance local parameter vendor pointer lvalue rvalue array member_pointer function_type qualified vector
+COMPONENTS = """alone in_std within instance local tagged parameter vendor pointer lvalue rvalue array member_pointer function_type qualified vector
     complex expansion""".split()
 
 # ## Rust v0 (RFC 2603)

@@ -22,6 +22,7 @@ pub mod MovesOfFunctions
 pub mod MovesOfLists
 pub mod MovesOfLocals
 pub mod MovesOfNests
+pub mod Alone
 pub mod MovesOfTypes
 mod MovesOfUnscoped
 pub mod NamePlaces

@@ -11,7 +11,7 @@ use Rattle.sym_link.specs.Reading.{Found, ◌>>=◌}
 use Rattle.sym_link.specs.Unfold.{found, standing}
 use Rattle.cpp_grammar.specs.declared.kind.Kind.{Kind}
 use Rattle.cpp_grammar.specs.declared.production.Production.{Production}
-use Rattle.cpp_grammar.specs.KindNumbers.{UNQUALIFIED, NEST_AFTER_S, NEST_REST, NEST_TAIL, ABBREVIATION, MAYBE_ARGUMENTS}
+use Rattle.cpp_grammar.specs.KindNumbers.{UNQUALIFIED, NEST_AFTER_S, NEST_REST, NEST_REST_ALONE, NEST_TAIL, ABBREVIATION, MAYBE_ARGUMENTS}
 use Rattle.cpp_grammar.specs.Grammar.{in_ranges, among, is_in, pick, alternatives, number_of_kind, choose, parts_of, is_chain}
 use Rattle.cpp_grammar.specs.Table.{rule_of}
 use Rattle.cpp_grammar.specs.Term.{Term, alone, in_std, abbreviation, source}
@@ -24,6 +24,7 @@ use Rattle.cpp_grammar.specs.Meaning.{meaning}
 use Rattle.cpp_grammar.specs.Unfolding as unfolding_
 use Rattle.cpp_grammar.specs.Unfolding.{opening, close, byte_of}
 use Rattle.cpp_direct.specs.Holes.{Opened, opened, StandsAt, Comes, Expects, IsNameAt, IsSeqAt, SamePasses, NestGoesOn, NestNamed}
+use Rattle.cpp_direct.proofs.Alone.{any-rest}
 use Rattle.cpp_direct.proofs.Moves.{stands-split, comes-moved, expects-name, expects-seq, first-of, first-of-chain, next-of, last-of, letter-comes}
 
 -- ## Productions
@@ -138,10 +139,11 @@ nest-known s os around at st t end expects here comes =
     let os1 : List Opened = opened (standing (rule_of Production.NestWithS) (83 ∷ []) at around st) [] [] ∷ os in
     record {
       inner = opened (standing (rule_of p) [] (at + 1) around st) (tree t true ∷ []) [] ∷ os1;
-      awaits = next-of s p [] (at + 1) around st [] (tree t true) (OfKind NEST_REST) [] os1 end st (after t true around) (tree t true ∷ []) st refl
-          (comes (opened (standing (rule_of p) [] (at + 1) around st) [] (OfKind NEST_REST ∷ []) ∷ os1)
-          (first-of-chain s Kind.NestAfterS p 97 around os1 (at + 1) st (OfKind ABBREVIATION) (OfKind NEST_REST ∷ []) around [] st refl (omega arith) refl (λ f. refl)
-          refl refl (behind-s s os around at st expects here)));
+      awaits = any-rest s (after t true around) (opened (standing (rule_of p) [] (at + 1) around st) (tree t true ∷ []) [] ∷ os1) end st
+          (next-of s p [] (at + 1) around st [] (tree t true) (OfKind NEST_REST_ALONE) [] os1 end st (after t true around) (tree t true ∷ []) st refl
+          (comes (opened (standing (rule_of p) [] (at + 1) around st) [] (OfKind NEST_REST_ALONE ∷ []) ∷ os1)
+          (first-of-chain s Kind.NestAfterS p 97 around os1 (at + 1) st (OfKind ABBREVIATION) (OfKind NEST_REST_ALONE ∷ []) around [] st refl (omega arith) refl (λ f. refl)
+          refl refl (behind-s s os around at st expects here))));
       passes = λ v to later given. s-passes s os around at st v to later
           (last-passes s p [] (at + 1) around st (tree t true ∷ []) os1 (λ w x. refl) v to later given);
     }

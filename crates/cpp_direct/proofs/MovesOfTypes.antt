@@ -9,7 +9,7 @@ use Rattle.sym_link.specs.Reading.{Found, ◌>>=◌}
 use Rattle.sym_link.specs.Unfold.{found, standing}
 use Rattle.cpp_grammar.specs.declared.kind.Kind.{Kind}
 use Rattle.cpp_grammar.specs.declared.production.Production.{Production}
-use Rattle.cpp_grammar.specs.KindNumbers.{NEST, ABBREVIATION, TYPE, PLAIN, ITEM_AFTER_D, AFTER_D, SOLID, TYPE_AFTER_S, SOURCE_OR_LOCAL, MAYBE_ARGUMENTS}
+use Rattle.cpp_grammar.specs.KindNumbers.{NEST, ABBREVIATION, TYPE, PLAIN, ITEM_AFTER_D, AFTER_D, SOLID, TYPE_AFTER_S, SOURCE_OR_LOCAL, MAYBE_ARGUMENTS, ARGUMENTS_ALONE}
 use Rattle.cpp_grammar.specs.Grammar.{in_ranges, among, is_in, pick, number_of_kind, alternatives, choose, parts_of, is_chain, number_of}
 use Rattle.cpp_grammar.specs.Table.{rule_of}
 use Rattle.cpp_grammar.specs.Term.{Term, alone, in_std, abbreviation, source, builtin, pointer, lvalue, rvalue, instance}
@@ -22,6 +22,7 @@ use Rattle.cpp_grammar.specs.Unfolding as unfolding_
 use Rattle.cpp_grammar.specs.Unfolding.{opening, close, byte_of}
 use Rattle.cpp_direct.specs.Bytes.{is_builtin, is_builtin_with_d, is_abbreviated}
 use Rattle.cpp_direct.specs.Letters.{builtin_letters, builtin_letters_with_d, abbreviation_letters}
+use Rattle.cpp_direct.proofs.Alone.{any-arguments}
 use Rattle.cpp_direct.proofs.LettersTested.{each_passes, tested, is_small, small, takes, taken}
 use Rattle.cpp_direct.specs.Holes.{Opened, opened, StandsAt, Comes, Expects, IsNameAt, IsSeqAt, IsReferable, IsTyped, TypeNamed, with_candidate, unless_listed}
 use Rattle.cpp_direct.specs.HolesOfTypes.{as_const, IsQualifiable, TypeOpens, TreePasses, TreeOpens, NameOpens, IsNamedKind}
@@ -352,13 +353,14 @@ unfolding choose alternatives pick is_in in_ranges among is_chain parts_of numbe
 name-with-s-opens s kind around os at st is_named solid stands =
     let rule = standing (rule_of Production.TypeWithS) (83 ∷ []) at around st in
     record {
-      inner = opened rule [] (OfKind MAYBE_ARGUMENTS ∷ []) ∷ solid.inner;
-      awaits = first-of s kind Production.TypeWithS 83 around solid.inner at st (OfKind TYPE_AFTER_S) (OfKind MAYBE_ARGUMENTS ∷ []) around [] st (s-taken kind is_named) (omega arith)
+      inner = opened rule [] (OfKind ARGUMENTS_ALONE ∷ []) ∷ solid.inner;
+      awaits = first-of s kind Production.TypeWithS 83 around solid.inner at st (OfKind TYPE_AFTER_S) (OfKind ARGUMENTS_ALONE ∷ []) around [] st (s-taken kind is_named) (omega arith)
           refl (λ f. refl) refl refl solid.awaits stands;
       named = λ t listed end now comes.
           named-so s around os (opened rule (tree t listed ∷ []) [] ∷ solid.inner) t listed end now solid.inner solid.passes
-          (next-of s Production.TypeWithS (83 ∷ []) at around st [] (tree t listed) (OfKind MAYBE_ARGUMENTS) [] solid.inner end now (after t listed around)
-          (tree t listed ∷ []) now refl comes)
+          (any-arguments s (after t listed around) (opened rule (tree t listed ∷ []) [] ∷ solid.inner) end now
+          (next-of s Production.TypeWithS (83 ∷ []) at around st [] (tree t listed) (OfKind ARGUMENTS_ALONE) [] solid.inner end now (after t listed around)
+          (tree t listed ∷ []) now refl comes))
           (λ later onward had. last-of s Production.TypeWithS (83 ∷ []) at around st (tree t listed ∷ []) nothing_there solid.inner later onward
           (tree t listed) onward (listed-kept t listed onward) had)
           (λ a later onward had. last-of s Production.TypeWithS (83 ∷ []) at around st (tree t listed ∷ []) (tree a true) solid.inner later onward

@@ -14,7 +14,7 @@ use Rattle.cpp_grammar.specs.Term.{Term, parameter}
 use Rattle.cpp_grammar.specs.Scope.{count, element, length_if_pack, is_open}
 use Rattle.cpp_grammar.specs.Values.{Candidate, State, Around, Value, tree, text_of, part, local_number}
 use Rattle.cpp_grammar.specs.References.{appended, with_packs, packs_in, substituted, parameter_named}
-use Rattle.cpp_grammar.specs.Between.{named_so_far, listed_so_far, piece_so_far, parameter_so_far, index_of, between}
+use Rattle.cpp_grammar.specs.Between.{named_so_far, listed_so_far, piece_so_far, tag_so_far, parameter_so_far, index_of, between}
 use Rattle.cpp_grammar.specs.Unfolding.{last_token, number_tested, opening, close, production_at, byte_of, cpp, first_around, first_state, first_tree, unfold_cpp}
 
 -- this is refused for a bad token alone
@@ -92,7 +92,7 @@ opening_bad Production.Unnamed parts place state = number_bad (place - 1) (last_
 opening_bad _ parts place state = tt
 
 between_bad : (p : Production) (around : Around) (place : ℕ) (vs : List Value) (state : State) → IsBad (between p around place vs state)
-unfolding between named_so_far listed_so_far piece_so_far
+unfolding between named_so_far listed_so_far piece_so_far tag_so_far
 between_bad Production.NestParameter around place (v ∷ []) state = parameter_bad around place (index_of v) [] state
 between_bad Production.Parameter around place (v ∷ []) state = parameter_bad around place (index_of v) [] state
 between_bad Production.Symbol around place [] state = tt

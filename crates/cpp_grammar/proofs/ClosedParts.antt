@@ -7,7 +7,7 @@ use Rattle.cpp_grammar.specs.Term.{Term, in_std, instance, holder, parameter, lv
 use Rattle.cpp_grammar.specs.Scope.{is_open}
 use Rattle.cpp_grammar.specs.Values.{State, Around, prefix_tree, Value, tree, tree_of, piece_of, is_listed, letter_of, text_of}
 use Rattle.cpp_grammar.specs.References.{appended, with_type, with_prefix, parameter_named}
-use Rattle.cpp_grammar.specs.Between.{in_signature, under_expansion, after, inside, extended, applied, no_items, Going, named_so_far, listed_so_far, piece_so_far, parameter_so_far, index_of, between}
+use Rattle.cpp_grammar.specs.Between.{in_signature, under_expansion, after, inside, extended, applied, no_items, Going, named_so_far, listed_so_far, piece_so_far, with_tag, tag_so_far, parameter_so_far, index_of, between}
 use Rattle.cpp_grammar.proofs.ClosedValues.{Good, AllGood, GoodPrefix, held, good_tree, good_piece, good_no_items, good_applied, good_instance, good_extended, good_prefix}
 use Rattle.cpp_grammar.proofs.ClosedStates.{Bare, Grows, grows_same, grows_one, with_prefix_grows, with_type_grows, parameter_good, parameter_grows, ok_same, behind_bind}
 
@@ -66,6 +66,12 @@ piece_goes : (around : Around) (at : ℕ) (state : State) (p : Term) (n : Next V
 unfolding piece_so_far named_so_far
 piece_goes around at state p n pre good e = named_goes around at state (extended around.prefix p) false [] state n (good_extended (Bare around) around.prefix p pre good) tt (grows_same around at state state refl) e
 
+tag_goes : (around : Around) (at : ℕ) (state : State) (tag : List ℕ) (n : Next Value State Around) → GoodPrefix (Bare around) around.prefix → tag_so_far around tag state ≡ Ok n → Goes around at state n
+unfolding tag_so_far with_tag named_so_far is_open
+tag_goes around at state tag n pre e =
+    let g = good_prefix (Bare around) around.prefix pre in
+    named_goes around at state (with_tag (prefix_tree around.prefix) tag) false [] state n (record { closed = g.closed; scopes = g.scopes }) tt (grows_same around at state state refl) e
+
 parameter_goes : (around : Around) (place at : ℕ) (state : State) (k : ℕ) (n : Next Value State Around) → parameter_so_far around place k [] state ≡ Ok n → Goes around at state n
 unfolding parameter_so_far listed_so_far
 parameter_goes around place at state k n e =
@@ -122,6 +128,8 @@ between_goes Production.NestInstance around place [] state n at stays pre all e 
 between_goes Production.NestInstance around place (v ∷ w ∷ []) state n at stays pre all e =
     named_goes around at state (instance (prefix_tree around.prefix) (no_items v)) false (w ∷ []) state n
     (good_instance (Bare around) _ _ (good_prefix (Bare around) around.prefix pre) (good_no_items (Bare around) v (good_tree _ v all.0))) all.1 (grows_same around at state state refl) e
+between_goes Production.NestTag around place (v ∷ []) state n at stays pre all e = tag_goes around at state (text_of v) n pre e
+between_goes Production.Tag around place (v ∷ []) state n at stays pre all e = tag_goes around at state (text_of v) n pre e
 between_goes Production.NestNext around place [] state n at stays pre all e =
     goes around at state [] (after (prefix_tree around.prefix) true around) (with_prefix around state) n tt (with_prefix_grows around at state pre)
     (fits_after around (prefix_tree around.prefix) true (good_prefix (Bare around) around.prefix pre)) e

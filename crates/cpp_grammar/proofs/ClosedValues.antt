@@ -94,6 +94,7 @@ pub good_applied : (s : Type 0) (t : Term) (v : Value) → Good s t → Good s (
 unfolding applied is_there tree_of
 good_applied s t nothing_there g h = g
 good_applied s t (letter b) g h = good_instance s t absent g h
+good_applied s t (named u qualifiers ref) g h = h
 good_applied s t v g h = good_instance s t (tree_of v) g h
 
 good_parameters : (s : Type 0) (t : Term) → Good s t → Good s (parameters t)
@@ -215,10 +216,12 @@ meaning_good s Production.Constructor byte around vs pre all name = good_name s 
 meaning_good s Production.Destructor byte around vs pre all name = good_name s vs all
 meaning_good s Production.StdName byte around vs pre all name = good_name s vs all
 meaning_good s Production.AbbreviatedName byte around vs pre all name = good_name s vs all
+meaning_good s Production.Tag byte around vs pre all name = good_name s vs all
 meaning_good s Production.LocalTypePiece byte around vs pre all name = good_held s vs 0 all
 meaning_good s Production.OperatorPiece byte around vs pre all name = good_held s vs 0 all
 meaning_good s Production.NestWithS byte around vs pre all name = good_held s vs 0 all
 meaning_good s Production.NestParameter byte around vs pre all name = good_held s vs 1 all
+meaning_good s Production.NestTag byte around vs pre all name = good_held s vs 1 all
 meaning_good s Production.NestInternal byte around vs pre all name = good_held s vs 1 all
 meaning_good s Production.NestLocalType byte around vs pre all name = good_held s vs 1 all
 meaning_good s Production.NestSource byte around vs pre all name = good_held s vs 1 all

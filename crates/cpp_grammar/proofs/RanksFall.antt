@@ -6,10 +6,10 @@ use Rattle.std.proofs.lemmas.Bool.{false≢true, ltb-true}
 use Rattle.sym_print.specs.declared.detail.Detail.{Detail}
 use Rattle.sym_print.specs.Details.{has_arguments, has_parameters}
 use Rattle.sym_print.specs.Unfold.{PartOf, text, sub, RanksBelow}
-use Rattle.cpp_grammar.specs.Term.{Qualifiers, RefQualifier, Signed, Term, symbol, function, object, special, thunk, of_name, construction, alone, in_std, within, instance, local, holder, abbreviation, parameter, source, constructor, destructor, lambda, sized_float, pointer, lvalue, rvalue, array, member_pointer, function_type, qualified, vector, complex, expansion, integer, pack, nil, list, absent}
+use Rattle.cpp_grammar.specs.Term.{Qualifiers, RefQualifier, Signed, Term, symbol, function, object, special, thunk, of_name, construction, alone, in_std, within, instance, local, holder, tagged, abbreviation, parameter, source, constructor, destructor, lambda, sized_float, pointer, lvalue, rvalue, array, member_pointer, function_type, qualified, vector, complex, expansion, integer, pack, nil, list, absent}
 use Rattle.cpp_grammar.specs.Scope.{element, arguments_of, pack_length}
 use Rattle.cpp_grammar.specs.Items.{Form, root, full, bare, left, right, low, base, piece, first, more, expand, Context, Item, indexed, argument, head, is_reference, is_funarr, packs_of, is_empty}
-use Rattle.cpp_grammar.specs.Parts.{as_item, says, text_part, list_part, piece_parts, prefix_item, within_parts, instance_parts, marked_parts, reference_parts, qualified_left, blank_last, qualifier_text, expansion_parts, sign_part, is_plain_integer, integer_parts, builtin_code, member_parts, array_left, float_parts, left_parts, low_parts, function_right, ref_text, closing_right, qualified_right, right_parts, base_within, base_parts, types_of, encoding_text, function_bare, function_full, full_parts, bare_parts, root_parts, first_parts, more_parts, at_index, is_below, comma_before, expand_rest, expand_parts, parts_in, not_empty, parts}
+use Rattle.cpp_grammar.specs.Parts.{as_item, says, text_part, list_part, piece_parts, prefix_item, within_parts, instance_parts, marked_parts, reference_parts, qualified_left, blank_last, qualifier_text, expansion_parts, sign_part, is_plain_integer, integer_parts, builtin_code, member_parts, array_left, float_parts, left_parts, low_parts, function_right, ref_text, closing_right, qualified_right, right_parts, base_within, base_tagged_within, base_tagged, base_parts, types_of, encoding_text, function_bare, function_full, full_parts, bare_parts, root_parts, first_parts, more_parts, at_index, is_below, comma_before, expand_rest, expand_parts, parts_in, not_empty, parts}
 use Rattle.cpp_grammar.specs.Ranks.{or_none, pack_count, weight, scope_weight, weight_in, rank_in, rank}
 use Rattle.cpp_grammar.specs.Texts.{look_up, literal_endings}
 
@@ -61,6 +61,7 @@ weight_grows a b scope (within prefix p) h = omega (arith, weight_grows a b scop
 weight_grows a b scope (instance template arguments) h = omega (arith, weight_grows a b scope template h, weight_grows a b scope arguments h)
 weight_grows a b scope (local encoding entity discriminator) h = omega (arith, weight_grows a b scope entity h)
 weight_grows a b scope (holder name) h = omega (arith, weight_grows a b scope name h)
+weight_grows a b scope (tagged of_structor name tag) h = omega (arith, weight_grows a b scope name h)
 weight_grows a b scope (lambda parameters number) h = omega (arith, weight_grows a b scope parameters h)
 weight_grows a b scope (pointer t) h = omega (arith, weight_grows a b scope t h)
 weight_grows a b scope (lvalue t) h = omega (arith, weight_grows a b scope t h)
@@ -237,6 +238,20 @@ base_within_falls r c prefix (constructor digit) h g = (h, tt)
 base_within_falls r c prefix (destructor digit) h g = (h, tt)
 base_within_falls r c prefix p h g = piece_falls r c p (omega arith)
 
+base_tagged_within_falls : (r : ℕ) (c : Context) (prefix p : Term) → Below r c (within prefix p) → RanksBelow rank r (base_tagged_within c prefix p)
+unfolding base_tagged_within rank rank_in weight_in weight
+base_tagged_within_falls r c prefix (constructor digit) h = (h, tt)
+base_tagged_within_falls r c prefix (destructor digit) h = (h, tt)
+base_tagged_within_falls r c prefix p h = piece_falls r c p (omega (arith, h))
+
+base_tagged_falls : (r : ℕ) (c : Context) (t : Term) → Below r c t → RanksBelow rank r (base_tagged c t)
+unfolding base_tagged rank rank_in weight_in weight
+base_tagged_falls r c (alone p) h = piece_falls r c p (omega (arith, h))
+base_tagged_falls r c (in_std p) h = piece_falls r c p (omega (arith, h))
+base_tagged_falls r c (within prefix p) h = base_tagged_within_falls r c prefix p h
+base_tagged_falls r c (symbol e suffix) h = (h, tt)
+base_tagged_falls r c _ h = (h, tt)
+
 base_falls : (d : Detail) (c : Context) (t : Term) → RanksBelow rank (weight_in c t) (base_parts d c t)
 unfolding base_parts rank rank_in weight_in weight scope_weight
 base_falls d c (alone p) = piece_falls _ c p (omega arith)
@@ -245,6 +260,7 @@ base_falls d c (within prefix p) = base_within_falls _ c prefix p (omega arith) 
 base_falls d c (instance t arguments) = (omega arith, tt)
 base_falls d c (local encoding entity discriminator) = (omega arith, tt)
 base_falls d c (holder name) = (omega arith, tt)
+base_falls d c (tagged of_structor name tag) = base_tagged_falls _ c name (omega arith)
 base_falls d c (abbreviation letter) = tt
 base_falls d c (parameter k) = (argument_weight c.scope c.index k, tt)
 base_falls d c t = left_falls d c t

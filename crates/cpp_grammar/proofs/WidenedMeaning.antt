@@ -11,7 +11,7 @@ use Rattle.sym_link.specs.Reading.{Found, Open, ◌>>=◌}
 use Rattle.sym_link.specs.Unfold.{found, alone, standing, unfold_tree, unfold_forest}
 use Rattle.sym_link.proofs.Steps.{bind_same}
 use Rattle.cpp_grammar.specs.declared.production.Production.{Production}
-use Rattle.cpp_grammar.specs.KindNumbers.{SYMBOL, NEST_REST}
+use Rattle.cpp_grammar.specs.KindNumbers.{SYMBOL, NEST_REST_ALONE}
 use Rattle.cpp_grammar.specs.Grammar.{productions, number_of, number_of_kind, parts_of}
 use Rattle.cpp_grammar.specs.Table.{rule_of, padded, wide, either}
 use Rattle.cpp_grammar.specs.Term.{instance}
@@ -117,7 +117,7 @@ next_same nothing trees taken = absurd trees
 next_same (grown c nothing) trees taken = absurd trees.1
 next_same (grown c (grown t (grown u f))) trees taken = absurd trees.1.1
 
-rest_same : (r : Tree) → IsTree wide (OfKind NEST_REST) r → (around : Around) (place : ℕ) (state : State) → unfold_tree cpp around place (rest_or_end r) state ≡ unfold_tree cpp around place r state
+rest_same : (r : Tree) → IsTree wide (OfKind NEST_REST_ALONE) r → (around : Around) (place : ℕ) (state : State) → unfold_tree cpp around place (rest_or_end r) state ≡ unfold_tree cpp around place r state
 unfolding rest_or_end
 rest_same (branch rule taken parts) is around place state = elim (rest_rule rule taken is.0) [
   | arguments_rule same own ↦ subst (λ r. unfold_tree cpp around place (rest_or_end (branch r taken parts)) state ≡ unfold_tree cpp around place (branch r taken parts) state) (sym same)
@@ -131,7 +131,7 @@ rest_same (fixed byte) is around place state = refl
 
 -- ## A nested name that begins with an abbreviation
 
-abbreviated_same : (a r : Tree) → IsTree wide (OfKind NEST_REST) r → (around : Around) (place : ℕ) (taken : List ℕ) (state : State) →
+abbreviated_same : (a r : Tree) → IsTree wide (OfKind NEST_REST_ALONE) r → (around : Around) (place : ℕ) (taken : List ℕ) (state : State) →
     unfold_tree cpp around place (branch (rule_of Production.NestTemplate) taken (grown a (grown (rest_or_end r) nothing))) state
     ≡ unfold_tree cpp around place (branch (rule_of Production.NestAbbreviated) taken (grown a (grown r nothing))) state
 unfolding cpp opening production_at productions rule_of number_of between listed_so_far after close unfolding_.behind meaning

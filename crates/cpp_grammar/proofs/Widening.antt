@@ -13,7 +13,7 @@ use Rattle.sym_shape.proofs.Firsts.{branch_first, branch_filled}
 use Rattle.sym_link.specs.Sound.{IsSound}
 use Rattle.cpp_grammar.specs.declared.kind.Kind.{Kind}
 use Rattle.cpp_grammar.specs.declared.production.Production.{Production}
-use Rattle.cpp_grammar.specs.KindNumbers.{NEST_AFTER_S, NEST_REST, NEST_TAIL, NEST_REST_OR_END}
+use Rattle.cpp_grammar.specs.KindNumbers.{NEST_AFTER_S, NEST_REST_ALONE, NEST_TAIL, NEST_REST_OR_END}
 use Rattle.cpp_grammar.specs.Grammar.{Alternative, in_ranges, among, is_in, pick, kinds, number_of, number_of_kind, parts_of, is_chain, may_be_empty}
 use Rattle.cpp_grammar.specs.Wide.{wide_alternatives, wide_choose}
 use Rattle.cpp_grammar.specs.Either.{either_alternatives, either_choose}
@@ -138,14 +138,14 @@ is_left false h = h
 takes_its : (rule own : Rule) (taken : List ℕ) (byte : ℕ) (eats : Bool) → rule ≡ own → own.eats ≡ eats → taken ≡ cond rule.eats (byte ∷ []) [] → taken ≡ cond eats (byte ∷ []) []
 takes_its rule own taken byte eats is same takes = takes ∙ ap (λ r. cond r.eats (byte ∷ []) []) is ∙ ap (λ e. cond e (byte ∷ []) []) same
 
-pub rest_rule : (rule : Rule) (taken : List ℕ) → TakesRule wide NEST_REST rule taken → RestRule rule taken
+pub rest_rule : (rule : Rule) (taken : List ℕ) → TakesRule wide NEST_REST_ALONE rule taken → RestRule rule taken
 unfolding wide_choose wide_alternatives is_in in_ranges among kinds rule_taken rule_of is_chain
-rest_rule rule taken takes = chosen (wide_choose Kind.NestRest takes.byte) refl (sym (wide_rule_at NEST_REST Kind.NestRest takes.byte refl) ∙ takes.found)
+rest_rule rule taken takes = chosen (wide_choose Kind.NestRestAlone takes.byte) refl (sym (wide_rule_at NEST_REST_ALONE Kind.NestRestAlone takes.byte refl) ∙ takes.found)
   where
     own : (p : Production) → ◌≡◌ {A = Option Rule} (Some (rule_of p)) (Some rule) → rule ≡ rule_of p
     own p h = cc
 
-    chosen : (o : Option Production) → wide_choose Kind.NestRest takes.byte ≡ o → rule_taken o ≡ Some rule → RestRule rule taken
+    chosen : (o : Option Production) → wide_choose Kind.NestRestAlone takes.byte ≡ o → rule_taken o ≡ Some rule → RestRule rule taken
     chosen None at h = let clash : ◌≡◌ {A = Option Rule} None (Some rule) = h in absurd cc
     chosen (Some p) at h = elim (pick_two _ _ takes.byte p at) [
       | inl both ↦ (
@@ -183,11 +183,11 @@ rest_next nothing trees = absurd trees
 rest_next (grown c nothing) trees = absurd trees.1
 rest_next (grown c (grown t (grown u f))) trees = absurd trees.1.1
 
-never_empty : wide.may_be_empty NEST_REST ≡ false
+never_empty : wide.may_be_empty NEST_REST_ALONE ≡ false
 unfolding wide wide_sheet sheet_with kinds may_be_empty
 never_empty = refl
 
-pub rest_tree : (r : Tree) → IsTree wide (OfKind NEST_REST) r → IsTree wide (OfKind NEST_REST_OR_END) (rest_or_end r)
+pub rest_tree : (r : Tree) → IsTree wide (OfKind NEST_REST_ALONE) r → IsTree wide (OfKind NEST_REST_OR_END) (rest_or_end r)
 rest_tree (branch rule taken parts) is = elim (rest_rule rule taken is.0) [
   | arguments_rule same own ↦ rw (same, own) (rest_arguments parts (subst (λ r. AreTrees wide (symbols_of r) parts) same is.1))
   | next_rule same own ↦ rw (same, own) (rest_next parts (subst (λ r. AreTrees wide (symbols_of r) parts) same is.1))

@@ -7,9 +7,9 @@ use Rattle.sym_core.specs.declared.NumberKind.TheVariants.{Decimal}
 use Rattle.sym_core.specs.Value.{counted_value}
 use Rattle.sym_link.specs.Reading.{Next, ◌>>=◌}
 use Rattle.cpp_grammar.specs.declared.production.Production.{Production}
-use Rattle.cpp_grammar.specs.Term.{Term, alone, within, in_std, instance, holder, parameter, lvalue, rvalue, pack, source, constructor, destructor, nil}
-use Rattle.cpp_grammar.specs.Scope.{arguments_of}
-use Rattle.cpp_grammar.specs.Values.{State, Prefix, outermost, behind, Around, prefix_tree, Value, nothing_there, tree, tree_of, piece_of, is_listed, is_there, letter_of, text_of}
+use Rattle.cpp_grammar.specs.Term.{Term, alone, within, in_std, instance, holder, tagged, parameter, lvalue, rvalue, pack, source, constructor, destructor, nil}
+use Rattle.cpp_grammar.specs.Scope.{arguments_of, is_structor}
+use Rattle.cpp_grammar.specs.Values.{State, Prefix, outermost, behind, Around, prefix_tree, Value, nothing_there, tree, named, tree_of, piece_of, is_listed, is_there, letter_of, text_of}
 use Rattle.cpp_grammar.specs.References.{appended, with_type, with_prefix, parameter_named}
 
 -- ## What surrounds a part
@@ -39,8 +39,14 @@ unfoldable pub extended : Prefix → Term → Term
 extended outermost piece = alone piece
 extended (behind t listed) piece = within t piece
 
--- a name, with arguments where there are some
+-- a name with one more tag
+unfoldable pub with_tag : Term → List ℕ → Term
+with_tag t tag = tagged (is_structor t) t tag
+
+-- A name, with arguments where there are some. A name that stands behind it is the same with tags, and perhaps arguments behind
+-- these: it stands in its place.
 unfoldable pub applied : Term → Value → Term
+applied t (named u qualifiers ref) = u
 applied t v = elim (is_there v) [ true ↦ instance t (tree_of v) | false ↦ t ]
 
 unfoldable pub no_items : Value → Term
@@ -65,6 +71,10 @@ listed_so_far around t vs state = next (tree t true ∷ vs) (after t true around
 -- a piece is added to the name so far
 unfoldable pub piece_so_far : Around → Term → List Value → State → Going
 piece_so_far around p vs state = named_so_far around (extended around.prefix p) vs state
+
+-- the name so far with one more tag
+unfoldable pub tag_so_far : Around → List ℕ → State → Going
+tag_so_far around tag state = named_so_far around (with_tag (prefix_tree around.prefix) tag) [] state
 
 -- a parameter is tested, and becomes a candidate, where its number ends
 unfoldable pub parameter_so_far : Around → (place : ℕ) → ℕ → List Value → State → Going
@@ -108,10 +118,13 @@ between Production.NestArguments around place (v ∷ e ∷ component ∷ []) sta
 -- the name may end behind these arguments, so it isn't a candidate yet
 between Production.NestInstance around place [] state = next [] (inside around) (with_prefix around state)
 between Production.NestInstance around place (arguments ∷ e ∷ []) state = named_so_far around (instance (prefix_tree around.prefix) (no_items arguments)) (e ∷ []) state
+between Production.NestTag around place (v ∷ []) state = tag_so_far around (text_of v) state
 between Production.NestNext around place [] state = next [] (after (prefix_tree around.prefix) true around) (with_prefix around state)
 between Production.NestNext around place (component ∷ []) state = next (component ∷ []) (after (tree_of component) false around) state
 -- what holds a component is its prefix, and never a candidate
 between Production.Holder around place (v ∷ []) state = listed_so_far around (holder (prefix_tree around.prefix)) [] state
+-- a name without its tags is no candidate
+between Production.Tag around place (v ∷ []) state = tag_so_far around (text_of v) state
 -- arguments; the template name before them is a candidate
 between Production.Arguments around place [] state = next [] (inside around) (with_prefix around state)
 between Production.PackArgument around place (elements ∷ []) state = next (tree (pack (no_items elements)) true ∷ []) around state

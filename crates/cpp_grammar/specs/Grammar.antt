@@ -110,6 +110,8 @@ number_of_kind Kind.NestRestOrEnd = 66
 number_of_kind Kind.HolderMark = 67
 number_of_kind Kind.HeldComponent = 68
 number_of_kind Kind.FloatEnd = 69
+number_of_kind Kind.ArgumentsAlone = 70
+number_of_kind Kind.NestRestAlone = 71
 
 -- a kind as a symbol of a rule
 abbrev part : Kind → Sym
@@ -187,6 +189,8 @@ alternatives Kind.NestRestOrEnd = on "I" Production.NestInstance ∷ on_ranges "
 alternatives Kind.HolderMark = on "M" Production.Mark ∷ []
 alternatives Kind.HeldComponent = on "C" Production.Constructor ∷ on "D" Production.Destructor ∷ on "L" Production.InternalName ∷ on "U" Production.LocalTypeName ∷ on_ranges "c-el-p" "agirs" Production.OperatorName ∷ on_ranges "0-9" "" Production.SourceName ∷ []
 alternatives Kind.FloatEnd = on "_bx" Production.Mark ∷ []
+alternatives Kind.ArgumentsAlone = on "I" Production.Arguments ∷ []
+alternatives Kind.NestRestAlone = on "I" Production.NestArguments ∷ on_ranges "0-9c-el-p" "CDLUagirs" Production.NestNext ∷ []
 
 -- the production that a kind takes at a byte
 unfoldable pub choose : Kind → ℕ → Option Production
@@ -223,12 +227,12 @@ parts_of Production.StdName = part Kind.Unqualified ∷ part Kind.MaybeArguments
 parts_of Production.AbbreviatedName = part Kind.Abbreviation ∷ part Kind.Arguments ∷ []
 parts_of Production.OperatorPiece = part Kind.Operator ∷ []
 parts_of Production.NestWithS = part Kind.NestAfterS ∷ []
-parts_of Production.NestParameter = Number Decimal ∷ part Kind.NestRest ∷ []
+parts_of Production.NestParameter = Number Decimal ∷ part Kind.NestRestAlone ∷ []
 parts_of Production.NestInternal = Name ∷ part Kind.NestRest ∷ []
 parts_of Production.NestLocalType = part Kind.Anonymous ∷ part Kind.NestRest ∷ []
 parts_of Production.NestSource = Name ∷ part Kind.NestRest ∷ []
 parts_of Production.NestStd = part Kind.Unqualified ∷ part Kind.MaybeArguments ∷ part Kind.NestTail ∷ []
-parts_of Production.NestAbbreviated = part Kind.Abbreviation ∷ part Kind.NestRest ∷ []
+parts_of Production.NestAbbreviated = part Kind.Abbreviation ∷ part Kind.NestRestAlone ∷ []
 parts_of Production.NestArguments = part Kind.ArgumentList ∷ Byte 69 ∷ part Kind.Component ∷ part Kind.NestTail ∷ []
 parts_of Production.NestNext = part Kind.Component ∷ part Kind.NestTail ∷ []
 parts_of Production.NestEnd = []
@@ -259,8 +263,8 @@ parts_of Production.Vector = Number Digits ∷ Byte 95 ∷ part Kind.Type ∷ []
 parts_of Production.NoexceptFunction = Byte 70 ∷ part Kind.MaybeCLinkage ∷ part Kind.Type ∷ part Kind.FunctionRest ∷ []
 parts_of Production.Pointer = part Kind.Type ∷ []
 parts_of Production.MemberPointer = part Kind.Type ∷ part Kind.Type ∷ []
-parts_of Production.Parameter = Number Decimal ∷ part Kind.MaybeArguments ∷ []
-parts_of Production.TypeWithS = part Kind.TypeAfterS ∷ part Kind.MaybeArguments ∷ []
+parts_of Production.Parameter = Number Decimal ∷ part Kind.ArgumentsAlone ∷ []
+parts_of Production.TypeWithS = part Kind.TypeAfterS ∷ part Kind.ArgumentsAlone ∷ []
 parts_of Production.LocalType = part Kind.Encoding ∷ Byte 69 ∷ part Kind.TypeEntity ∷ part Kind.MaybeDiscriminator ∷ []
 parts_of Production.Builtin = []
 parts_of Production.Vendor = Name ∷ []
@@ -310,8 +314,10 @@ parts_of Production.NestInstance = part Kind.ArgumentList ∷ Byte 69 ∷ part K
 parts_of Production.SpecialName = part Kind.CompleteName ∷ []
 parts_of Production.ConstructionVtable = part Kind.Type ∷ Number Digits ∷ Byte 95 ∷ part Kind.Type ∷ []
 parts_of Production.NestTemplate = part Kind.Abbreviation ∷ part Kind.NestRestOrEnd ∷ []
+parts_of Production.NestTag = Name ∷ part Kind.NestRest ∷ []
 parts_of Production.Holder = part Kind.HolderMark ∷ part Kind.HeldComponent ∷ []
 parts_of Production.SizedFloat = Number Digits ∷ part Kind.FloatEnd ∷ []
+parts_of Production.Tag = Name ∷ part Kind.MaybeArguments ∷ []
 
 -- the productions that take no byte of their own
 unfoldable pub is_chain : Production → Bool
@@ -356,15 +362,16 @@ may_be_empty Kind.MaybeArguments = true
 may_be_empty Kind.ArgumentList = true
 may_be_empty Kind.PackList = true
 may_be_empty Kind.MaybeZero = true
+may_be_empty Kind.ArgumentsAlone = true
 may_be_empty _ = false
 
 -- the kinds in the order of their numbers
 unfoldable pub kinds : List Kind
-kinds = Kind.Symbol ∷ Kind.MaybeSuffix ∷ Kind.SuffixFirst ∷ Kind.SuffixMore ∷ Kind.Encoding ∷ Kind.Special ∷ Kind.CallOffset ∷ Kind.Integer ∷ Kind.CompleteName ∷ Kind.MaybeRestrict ∷ Kind.MaybeVolatile ∷ Kind.MaybeConst ∷ Kind.MaybeRef ∷ Kind.NameAfterS ∷ Kind.Unqualified ∷ Kind.Nest ∷ Kind.NestAfterS ∷ Kind.NestRest ∷ Kind.NestTail ∷ Kind.Component ∷ Kind.ConstructorDigit ∷ Kind.DestructorDigit ∷ Kind.Abbreviation ∷ Kind.Entity ∷ Kind.TypeEntity ∷ Kind.MaybeDiscriminator ∷ Kind.DiscriminatorRest ∷ Kind.Anonymous ∷ Kind.Type ∷ Kind.Plain ∷ Kind.Item ∷ Kind.ItemButRef ∷ Kind.ItemAfterD ∷ Kind.AfterD ∷ Kind.Solid ∷ Kind.MaybeCLinkage ∷ Kind.TypeAfterS ∷ Kind.SourceOrLocal ∷ Kind.FunctionRest ∷ Kind.AfterR ∷ Kind.AfterO ∷ Kind.Items ∷ Kind.MaybeArguments ∷ Kind.Arguments ∷ Kind.ArgumentList ∷ Kind.PackList ∷ Kind.Address ∷ Kind.Literal ∷ Kind.Bit ∷ Kind.LiteralAfterD ∷ Kind.MaybeZero ∷ Kind.LiteralType ∷ Kind.Operator ∷ Kind.OperatorAfterN ∷ Kind.OperatorAfterD ∷ Kind.OperatorAfterA ∷ Kind.OperatorAfterP ∷ Kind.OperatorAfterC ∷ Kind.OperatorAfterM ∷ Kind.OperatorAfterR ∷ Kind.OperatorAfterO ∷ Kind.OperatorAfterE ∷ Kind.OperatorAfterL ∷ Kind.OperatorAfterS ∷ Kind.OperatorAfterI ∷ Kind.OperatorAfterG ∷ Kind.NestRestOrEnd ∷ Kind.HolderMark ∷ Kind.HeldComponent ∷ Kind.FloatEnd ∷ []
+kinds = Kind.Symbol ∷ Kind.MaybeSuffix ∷ Kind.SuffixFirst ∷ Kind.SuffixMore ∷ Kind.Encoding ∷ Kind.Special ∷ Kind.CallOffset ∷ Kind.Integer ∷ Kind.CompleteName ∷ Kind.MaybeRestrict ∷ Kind.MaybeVolatile ∷ Kind.MaybeConst ∷ Kind.MaybeRef ∷ Kind.NameAfterS ∷ Kind.Unqualified ∷ Kind.Nest ∷ Kind.NestAfterS ∷ Kind.NestRest ∷ Kind.NestTail ∷ Kind.Component ∷ Kind.ConstructorDigit ∷ Kind.DestructorDigit ∷ Kind.Abbreviation ∷ Kind.Entity ∷ Kind.TypeEntity ∷ Kind.MaybeDiscriminator ∷ Kind.DiscriminatorRest ∷ Kind.Anonymous ∷ Kind.Type ∷ Kind.Plain ∷ Kind.Item ∷ Kind.ItemButRef ∷ Kind.ItemAfterD ∷ Kind.AfterD ∷ Kind.Solid ∷ Kind.MaybeCLinkage ∷ Kind.TypeAfterS ∷ Kind.SourceOrLocal ∷ Kind.FunctionRest ∷ Kind.AfterR ∷ Kind.AfterO ∷ Kind.Items ∷ Kind.MaybeArguments ∷ Kind.Arguments ∷ Kind.ArgumentList ∷ Kind.PackList ∷ Kind.Address ∷ Kind.Literal ∷ Kind.Bit ∷ Kind.LiteralAfterD ∷ Kind.MaybeZero ∷ Kind.LiteralType ∷ Kind.Operator ∷ Kind.OperatorAfterN ∷ Kind.OperatorAfterD ∷ Kind.OperatorAfterA ∷ Kind.OperatorAfterP ∷ Kind.OperatorAfterC ∷ Kind.OperatorAfterM ∷ Kind.OperatorAfterR ∷ Kind.OperatorAfterO ∷ Kind.OperatorAfterE ∷ Kind.OperatorAfterL ∷ Kind.OperatorAfterS ∷ Kind.OperatorAfterI ∷ Kind.OperatorAfterG ∷ Kind.NestRestOrEnd ∷ Kind.HolderMark ∷ Kind.HeldComponent ∷ Kind.FloatEnd ∷ Kind.ArgumentsAlone ∷ Kind.NestRestAlone ∷ []
 
 -- the productions in the order of their numbers
 unfoldable pub productions : List Production
-productions = Production.Mark ∷ Production.InternalName ∷ Production.LocalTypeName ∷ Production.SourceName ∷ Production.OperatorName ∷ Production.InternalPiece ∷ Production.LocalTypePiece ∷ Production.SourcePiece ∷ Production.NestedName ∷ Production.Symbol ∷ Production.Suffix ∷ Production.SuffixByte ∷ Production.Special ∷ Production.Guard ∷ Production.Encoding ∷ Production.SpecialType ∷ Production.NonVirtualThunk ∷ Production.VirtualThunk ∷ Production.CovariantThunk ∷ Production.NonVirtualOffset ∷ Production.VirtualOffset ∷ Production.Negative ∷ Production.Positive ∷ Production.NameWithS ∷ Production.LocalName ∷ Production.StdName ∷ Production.AbbreviatedName ∷ Production.OperatorPiece ∷ Production.NestWithS ∷ Production.NestParameter ∷ Production.NestInternal ∷ Production.NestLocalType ∷ Production.NestSource ∷ Production.NestStd ∷ Production.NestAbbreviated ∷ Production.NestArguments ∷ Production.NestNext ∷ Production.NestEnd ∷ Production.Constructor ∷ Production.Destructor ∷ Production.Abbreviation ∷ Production.Substitution ∷ Production.StringLiteral ∷ Production.NestedType ∷ Production.Discriminator ∷ Production.OneDigit ∷ Production.ManyDigits ∷ Production.Lambda ∷ Production.Unnamed ∷ Production.RestrictType ∷ Production.VolatileType ∷ Production.ConstType ∷ Production.ReferenceType ∷ Production.PlainType ∷ Production.TypeWithD ∷ Production.PlainWithD ∷ Production.QualifiedPlain ∷ Production.ItemWithD ∷ Production.Expansion ∷ Production.ItemIsType ∷ Production.BuiltinWithD ∷ Production.Vector ∷ Production.NoexceptFunction ∷ Production.Pointer ∷ Production.MemberPointer ∷ Production.Parameter ∷ Production.TypeWithS ∷ Production.LocalType ∷ Production.Builtin ∷ Production.Vendor ∷ Production.Array ∷ Production.Function ∷ Production.Complex ∷ Production.StdType ∷ Production.AbbreviatedType ∷ Production.RestEnd ∷ Production.RestLvalue ∷ Production.RestRvalue ∷ Production.RestItem ∷ Production.RefEnd ∷ Production.LvalueItem ∷ Production.RvalueItem ∷ Production.Items ∷ Production.Arguments ∷ Production.PackArgument ∷ Production.LiteralArgument ∷ Production.AddressArgument ∷ Production.TypeArgument ∷ Production.LiteralElement ∷ Production.AddressElement ∷ Production.TypeElement ∷ Production.Address ∷ Production.EncodingLiteral ∷ Production.BoolLiteral ∷ Production.LiteralWithD ∷ Production.IntegerLiteral ∷ Production.NullLiteral ∷ Production.CharLiteral ∷ Production.OperatorN ∷ Production.OperatorD ∷ Production.OperatorA ∷ Production.OperatorP ∷ Production.OperatorC ∷ Production.OperatorM ∷ Production.OperatorR ∷ Production.OperatorO ∷ Production.OperatorE ∷ Production.OperatorL ∷ Production.OperatorS ∷ Production.OperatorI ∷ Production.OperatorG ∷ Production.LiteralOperator ∷ Production.NestInstance ∷ Production.SpecialName ∷ Production.ConstructionVtable ∷ Production.NestTemplate ∷ Production.Holder ∷ Production.SizedFloat ∷ []
+productions = Production.Mark ∷ Production.InternalName ∷ Production.LocalTypeName ∷ Production.SourceName ∷ Production.OperatorName ∷ Production.InternalPiece ∷ Production.LocalTypePiece ∷ Production.SourcePiece ∷ Production.NestedName ∷ Production.Symbol ∷ Production.Suffix ∷ Production.SuffixByte ∷ Production.Special ∷ Production.Guard ∷ Production.Encoding ∷ Production.SpecialType ∷ Production.NonVirtualThunk ∷ Production.VirtualThunk ∷ Production.CovariantThunk ∷ Production.NonVirtualOffset ∷ Production.VirtualOffset ∷ Production.Negative ∷ Production.Positive ∷ Production.NameWithS ∷ Production.LocalName ∷ Production.StdName ∷ Production.AbbreviatedName ∷ Production.OperatorPiece ∷ Production.NestWithS ∷ Production.NestParameter ∷ Production.NestInternal ∷ Production.NestLocalType ∷ Production.NestSource ∷ Production.NestStd ∷ Production.NestAbbreviated ∷ Production.NestArguments ∷ Production.NestNext ∷ Production.NestEnd ∷ Production.Constructor ∷ Production.Destructor ∷ Production.Abbreviation ∷ Production.Substitution ∷ Production.StringLiteral ∷ Production.NestedType ∷ Production.Discriminator ∷ Production.OneDigit ∷ Production.ManyDigits ∷ Production.Lambda ∷ Production.Unnamed ∷ Production.RestrictType ∷ Production.VolatileType ∷ Production.ConstType ∷ Production.ReferenceType ∷ Production.PlainType ∷ Production.TypeWithD ∷ Production.PlainWithD ∷ Production.QualifiedPlain ∷ Production.ItemWithD ∷ Production.Expansion ∷ Production.ItemIsType ∷ Production.BuiltinWithD ∷ Production.Vector ∷ Production.NoexceptFunction ∷ Production.Pointer ∷ Production.MemberPointer ∷ Production.Parameter ∷ Production.TypeWithS ∷ Production.LocalType ∷ Production.Builtin ∷ Production.Vendor ∷ Production.Array ∷ Production.Function ∷ Production.Complex ∷ Production.StdType ∷ Production.AbbreviatedType ∷ Production.RestEnd ∷ Production.RestLvalue ∷ Production.RestRvalue ∷ Production.RestItem ∷ Production.RefEnd ∷ Production.LvalueItem ∷ Production.RvalueItem ∷ Production.Items ∷ Production.Arguments ∷ Production.PackArgument ∷ Production.LiteralArgument ∷ Production.AddressArgument ∷ Production.TypeArgument ∷ Production.LiteralElement ∷ Production.AddressElement ∷ Production.TypeElement ∷ Production.Address ∷ Production.EncodingLiteral ∷ Production.BoolLiteral ∷ Production.LiteralWithD ∷ Production.IntegerLiteral ∷ Production.NullLiteral ∷ Production.CharLiteral ∷ Production.OperatorN ∷ Production.OperatorD ∷ Production.OperatorA ∷ Production.OperatorP ∷ Production.OperatorC ∷ Production.OperatorM ∷ Production.OperatorR ∷ Production.OperatorO ∷ Production.OperatorE ∷ Production.OperatorL ∷ Production.OperatorS ∷ Production.OperatorI ∷ Production.OperatorG ∷ Production.LiteralOperator ∷ Production.NestInstance ∷ Production.SpecialName ∷ Production.ConstructionVtable ∷ Production.NestTemplate ∷ Production.NestTag ∷ Production.Holder ∷ Production.SizedFloat ∷ Production.Tag ∷ []
 
 -- the numbers of the productions
 unfoldable pub number_of : Production → ℕ
@@ -484,5 +491,7 @@ number_of Production.NestInstance = 112
 number_of Production.SpecialName = 113
 number_of Production.ConstructionVtable = 114
 number_of Production.NestTemplate = 115
-number_of Production.Holder = 116
-number_of Production.SizedFloat = 117
+number_of Production.NestTag = 116
+number_of Production.Holder = 117
+number_of Production.SizedFloat = 118
+number_of Production.Tag = 119

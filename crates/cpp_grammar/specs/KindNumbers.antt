@@ -3,10 +3,10 @@ use Rattle.std.specs.Prelude.{ℕ}
 
 -- how many kinds there are, and how many productions
 abbrev pub KIND_COUNT : ℕ
-KIND_COUNT = 70
+KIND_COUNT = 72
 
 abbrev pub PRODUCTION_COUNT : ℕ
-PRODUCTION_COUNT = 118
+PRODUCTION_COUNT = 120
 
 abbrev pub SYMBOL : ℕ
 SYMBOL = 0
@@ -217,3 +217,9 @@ HELD_COMPONENT = 68
 
 abbrev pub FLOAT_END : ℕ
 FLOAT_END = 69
+
+abbrev pub ARGUMENTS_ALONE : ℕ
+ARGUMENTS_ALONE = 70
+
+abbrev pub NEST_REST_ALONE : ℕ
+NEST_REST_ALONE = 71

@@ -3,7 +3,7 @@ use Rattle.std.specs.Prelude.{ℕ, List, [], ◌∷◌, Bool, true, false, cond,
 use Rattle.cpp_grammar.specs.declared.production.Production.{Production}
 use Rattle.cpp_grammar.specs.Term.{RefQualifier, any_value, lvalue_only, rvalue_only, non_virtual, by_table, adjusting, covariant, Term, symbol, function, object, special, thunk, of_name, construction, in_std, local, abbreviation, source, operator, literal_operator, lambda, unnamed, string_literal, builtin, sized_float, vendor, pointer, lvalue, rvalue, array, member_pointer, function_type, qualified, vector, complex, expansion, integer, boolean, null_pointer, encoding_literal, address_of, nil, list, absent}
 use Rattle.cpp_grammar.specs.Scope.{has_return_type}
-use Rattle.cpp_grammar.specs.Values.{Around, prefix_tree, prefix_listed, Value, nothing_there, letter, text, signed, adjusted, tree, piece, named, signature, tree_of, piece_of, is_listed, qualifiers_of, ref_of, letter_of, is_there, mark_of, text_of, signed_of, adjustment_of, normal, signed_digits, local_number, part}
+use Rattle.cpp_grammar.specs.Values.{Around, prefix_tree, prefix_listed, Value, nothing_there, letter, text, signed, adjusted, tree, piece, named, signature, unqualified, tree_of, piece_of, is_listed, qualifiers_of, ref_of, letter_of, is_there, mark_of, text_of, signed_of, adjustment_of, normal, signed_digits, local_number, part}
 use Rattle.cpp_grammar.specs.Between.{extended, applied, no_items}
 
 -- a lone void is no parameters
@@ -92,12 +92,14 @@ meaning Production.Constructor byte around vs = tree (applied (tree_of (part vs 
 meaning Production.Destructor byte around vs = tree (applied (tree_of (part vs 0)) (part vs 1)) false
 meaning Production.StdName byte around vs = tree (applied (tree_of (part vs 0)) (part vs 1)) false
 meaning Production.AbbreviatedName byte around vs = tree (applied (tree_of (part vs 0)) (part vs 1)) false
+meaning Production.Tag byte around vs = named (applied (tree_of (part vs 0)) (part vs 1)) unqualified any_value
 meaning Production.InternalPiece byte around vs = piece (source true (text_of (part vs 0)))
 meaning Production.LocalTypePiece byte around vs = part vs 0
 meaning Production.SourcePiece byte around vs = piece (source false (text_of (part vs 0)))
 meaning Production.OperatorPiece byte around vs = part vs 0
 meaning Production.NestWithS byte around vs = part vs 0
 meaning Production.NestParameter byte around vs = part vs 1
+meaning Production.NestTag byte around vs = part vs 1
 meaning Production.NestInternal byte around vs = part vs 1
 meaning Production.NestLocalType byte around vs = part vs 1
 meaning Production.NestSource byte around vs = part vs 1

@@ -5,7 +5,7 @@ use Rattle.sym_print.specs.declared.detail.Detail.{Detail}
 use Rattle.sym_print.specs.Details.{has_arguments, has_parameters}
 use Rattle.sym_print.specs.Unfold.{PartOf, text, sub}
 use Rattle.cpp_grammar.specs.Texts.{same_bytes, look_up, builtin_texts, operator_texts, abbreviation_texts, special_texts, named_special_texts, literal_endings}
-use Rattle.cpp_grammar.specs.Term.{Qualifiers, RefQualifier, any_value, lvalue_only, rvalue_only, Signed, non_virtual, by_table, Thunk, adjusting, covariant, Term, symbol, function, object, special, thunk, of_name, construction, alone, in_std, within, instance, local, holder, abbreviation, parameter, source, operator, literal_operator, constructor, destructor, lambda, unnamed, string_literal, builtin, sized_float, vendor, pointer, lvalue, rvalue, array, member_pointer, function_type, qualified, vector, complex, expansion, integer, boolean, null_pointer, encoding_literal, address_of, pack, nil, list, absent}
+use Rattle.cpp_grammar.specs.Term.{Qualifiers, RefQualifier, any_value, lvalue_only, rvalue_only, Signed, non_virtual, by_table, Thunk, adjusting, covariant, Term, symbol, function, object, special, thunk, of_name, construction, alone, in_std, within, instance, local, holder, tagged, abbreviation, parameter, source, operator, literal_operator, constructor, destructor, lambda, unnamed, string_literal, builtin, sized_float, vendor, pointer, lvalue, rvalue, array, member_pointer, function_type, qualified, vector, complex, expansion, integer, boolean, null_pointer, encoding_literal, address_of, pack, nil, list, absent}
 use Rattle.cpp_grammar.specs.Scope.{arguments_of}
 use Rattle.cpp_grammar.specs.Items.{Form, root, full, bare, left, right, low, base, piece, first, more, expand, Context, Item, closed, argument, head, is_reference, is_funarr, packs_of, is_empty}
 
@@ -162,6 +162,7 @@ left_parts d context (within prefix p) = within_parts context prefix p
 left_parts d context (instance template arguments) = instance_parts (has_arguments d) context template arguments
 left_parts d context (local encoding entity discriminator) = as_item left context entity ∷ []
 left_parts d context (holder name) = as_item left context name ∷ []
+left_parts d context (tagged of_structor name tag) = as_item left context name ∷ says "[abi:" ∷ text tag ∷ says "]" ∷ []
 left_parts d context (abbreviation letter) = text (look_up (letter ∷ []) abbreviation_texts) ∷ []
 left_parts d context (parameter k) = as_item left closed (argument context k) ∷ []
 left_parts d context (builtin code) = text (look_up code builtin_texts) ∷ []
@@ -227,6 +228,19 @@ base_within context prefix (constructor digit) = as_item base context prefix ∷
 base_within context prefix (destructor digit) = as_item base context prefix ∷ []
 base_within context prefix p = piece_parts context p
 
+unfoldable pub base_tagged_within : Context → Term → Term → List (PartOf Item)
+base_tagged_within context prefix (constructor digit) = as_item base context (within prefix (constructor digit)) ∷ []
+base_tagged_within context prefix (destructor digit) = as_item base context (within prefix (destructor digit)) ∷ []
+base_tagged_within context prefix p = piece_parts context p
+
+-- The name of a class under a tag: its piece. Where another tag is under it, or where it is the name of a constructor itself, that
+-- is looked at in turn.
+unfoldable pub base_tagged : Context → (name : Term) → List (PartOf Item)
+base_tagged context (alone p) = piece_parts context p
+base_tagged context (in_std p) = piece_parts context p
+base_tagged context (within prefix p) = base_tagged_within context prefix p
+base_tagged context name = as_item base context name ∷ []
+
 -- the name of a constructor's class
 unfoldable pub base_parts : Detail → Context → Term → List (PartOf Item)
 base_parts d context (alone p) = piece_parts context p
@@ -235,6 +249,7 @@ base_parts d context (within prefix p) = base_within context prefix p
 base_parts d context (instance template arguments) = as_item base context template ∷ []
 base_parts d context (local encoding entity discriminator) = as_item base context entity ∷ []
 base_parts d context (holder name) = as_item base context name ∷ []
+base_parts d context (tagged of_structor name tag) = base_tagged context name
 base_parts d context (abbreviation letter) = text (drop 5 (look_up (letter ∷ []) abbreviation_texts)) ∷ []
 base_parts d context (parameter k) = as_item base closed (argument context k) ∷ []
 base_parts d context t = left_parts d context t

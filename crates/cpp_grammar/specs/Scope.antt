@@ -1,7 +1,7 @@
 -- What the trees of C++ symbols are like: their arguments, free parameters and packs.
 -- The scope of an encoding is the list of arguments that its own name ends in. It holds for the encoding's types alone.
 use Rattle.std.specs.Prelude.{ℕ, zero, suc, Bool, true, false, not, ◌||◌, Option, Some, None}
-use Rattle.cpp_grammar.specs.Term.{Term, alone, in_std, within, instance, local, holder, parameter, constructor, destructor, lambda, pointer, lvalue, rvalue, array, member_pointer, function_type, qualified, vector, complex, expansion, integer, pack, list, absent}
+use Rattle.cpp_grammar.specs.Term.{Term, alone, in_std, within, instance, local, holder, tagged, parameter, constructor, destructor, lambda, pointer, lvalue, rvalue, array, member_pointer, function_type, qualified, vector, complex, expansion, integer, pack, list, absent}
 
 -- the length of a list
 unfoldable pub count : Term → ℕ
@@ -26,10 +26,11 @@ before_arguments (instance template arguments) = template
 before_arguments (local encoding entity discriminator) = before_arguments entity
 before_arguments name = name
 
--- the name of a constructor or a destructor
+-- the name of a constructor or a destructor, with tags or without
 unfoldable pub is_structor : Term → Bool
 is_structor (within prefix (constructor digit)) = true
 is_structor (within prefix (destructor digit)) = true
+is_structor (tagged of_structor name tag) = of_structor
 is_structor _ = false
 
 -- A function's first item is its return type where its name ends in arguments, and what stands before them isn't a
@@ -47,6 +48,7 @@ is_open (within prefix piece) = is_open prefix || is_open piece
 is_open (instance template arguments) = is_open template || is_open arguments
 is_open (local encoding entity discriminator) = is_open entity
 is_open (holder name) = is_open name
+is_open (tagged of_structor name tag) = is_open name
 is_open (lambda parameters number) = is_open parameters
 is_open (pointer type) = is_open type
 is_open (lvalue type) = is_open type
@@ -81,6 +83,7 @@ pack_length scope (within prefix piece) = first_of (pack_length scope prefix) (p
 pack_length scope (instance template arguments) = first_of (pack_length scope template) (pack_length scope arguments)
 pack_length scope (local encoding entity discriminator) = pack_length scope entity
 pack_length scope (holder name) = pack_length scope name
+pack_length scope (tagged of_structor name tag) = pack_length scope name
 pack_length scope (lambda parameters number) = pack_length scope parameters
 pack_length scope (pointer type) = pack_length scope type
 pack_length scope (lvalue type) = pack_length scope type

@@ -30,7 +30,7 @@ wide_alternatives Kind.NameAfterS = on "t" Production.StdName ∷ on_ranges "0-9
 wide_alternatives Kind.Unqualified = on "L" Production.InternalPiece ∷ on "U" Production.LocalTypePiece ∷ on_ranges "0-9" "" Production.SourcePiece ∷ on_ranges "c-el-p" "agirs" Production.OperatorPiece ∷ []
 wide_alternatives Kind.Nest = on "S" Production.NestWithS ∷ on "T" Production.NestParameter ∷ on "L" Production.NestInternal ∷ on "U" Production.NestLocalType ∷ on_ranges "0-9" "" Production.NestSource ∷ []
 wide_alternatives Kind.NestAfterS = on "t" Production.NestStd ∷ on_ranges "0-9A-Z" "_abdios" Production.NestTemplate ∷ []
-wide_alternatives Kind.NestRest = on "I" Production.NestArguments ∷ on_ranges "0-9c-el-p" "CDLMUagirs" Production.NestNext ∷ []
+wide_alternatives Kind.NestRest = on "I" Production.NestArguments ∷ on_ranges "0-9c-el-p" "CDLMUagirs" Production.NestNext ∷ on "B" Production.NestTag ∷ []
 wide_alternatives Kind.NestTail = on "E" Production.NestEnd ∷ on_ranges "0-9c-el-p" "CDLMUagirs" Production.NestNext ∷ []
 wide_alternatives Kind.Component = on "C" Production.Constructor ∷ on "D" Production.Destructor ∷ on "L" Production.InternalName ∷ on "U" Production.LocalTypeName ∷ on_ranges "c-el-p" "agirs" Production.OperatorName ∷ on_ranges "0-9" "" Production.SourceName ∷ on "M" Production.Holder ∷ []
 wide_alternatives Kind.ConstructorDigit = on_ranges "1-3" "" Production.Mark ∷ on "45" Production.Mark ∷ []
@@ -55,7 +55,7 @@ wide_alternatives Kind.FunctionRest = on "E" Production.RestEnd ∷ on "R" Produ
 wide_alternatives Kind.AfterR = on "E" Production.RefEnd ∷ on_ranges "0-9M-PR-Va-jl-or-z" "ACDFKZ" Production.LvalueItem ∷ []
 wide_alternatives Kind.AfterO = on "E" Production.RefEnd ∷ on_ranges "0-9M-PR-Va-jl-or-z" "ACDFKZ" Production.RvalueItem ∷ []
 wide_alternatives Kind.Items = on_ranges "0-9M-PR-Va-jl-or-z" "ACDFKZ" Production.Items ∷ []
-wide_alternatives Kind.MaybeArguments = on "I" Production.Arguments ∷ []
+wide_alternatives Kind.MaybeArguments = on "I" Production.Arguments ∷ on "B" Production.Tag ∷ []
 wide_alternatives Kind.Arguments = on "I" Production.Arguments ∷ []
 wide_alternatives Kind.ArgumentList = on "J" Production.PackArgument ∷ on "L" Production.LiteralArgument ∷ on "X" Production.AddressArgument ∷ on_ranges "0-9M-PR-Va-jl-or-z" "ACDFKZ" Production.TypeArgument ∷ []
 wide_alternatives Kind.PackList = on "L" Production.LiteralElement ∷ on "X" Production.AddressElement ∷ on_ranges "0-9M-PR-Va-jl-or-z" "ACDFKZ" Production.TypeElement ∷ []
@@ -83,6 +83,8 @@ wide_alternatives Kind.NestRestOrEnd = on "I" Production.NestInstance ∷ on_ran
 wide_alternatives Kind.HolderMark = on "M" Production.Mark ∷ []
 wide_alternatives Kind.HeldComponent = on "C" Production.Constructor ∷ on "D" Production.Destructor ∷ on "L" Production.InternalName ∷ on "U" Production.LocalTypeName ∷ on_ranges "c-el-p" "agirs" Production.OperatorName ∷ on_ranges "0-9" "" Production.SourceName ∷ []
 wide_alternatives Kind.FloatEnd = on "_bx" Production.Mark ∷ []
+wide_alternatives Kind.ArgumentsAlone = on "I" Production.Arguments ∷ []
+wide_alternatives Kind.NestRestAlone = on "I" Production.NestArguments ∷ on_ranges "0-9c-el-p" "CDLMUagirs" Production.NestNext ∷ []
 
 -- the production that a kind takes at a byte
 unfoldable pub wide_choose : Kind → ℕ → Option Production

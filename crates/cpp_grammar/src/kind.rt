@@ -76,6 +76,8 @@ pub enum Kind {
     HolderMark,
     HeldComponent,
     FloatEnd,
+    ArgumentsAlone,
+    NestRestAlone,
 }
 
 /// The kind with a number.
@@ -154,6 +156,8 @@ pub fn kind_of(number: u16) -> Option<Kind>
         67 => Some(Kind::HolderMark),
         68 => Some(Kind::HeldComponent),
         69 => Some(Kind::FloatEnd),
+        70 => Some(Kind::ArgumentsAlone),
+        71 => Some(Kind::NestRestAlone),
         _ => None,
     }
 }
@@ -177,6 +181,7 @@ pub fn may_be_empty(kind: Kind) -> bool
         Kind::ArgumentList => true,
         Kind::PackList => true,
         Kind::MaybeZero => true,
+        Kind::ArgumentsAlone => true,
         _ => false,
     }
 }

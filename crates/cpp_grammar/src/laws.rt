@@ -9,6 +9,7 @@ ghost use Rattle.sym_shape.specs.Tree.{Tree, IsTree, AreRowsOf, IsFirstBad, IsWe
 ghost use Rattle.sym_shape.specs.declared.rule.Sym.TheVariants.{Kind};
 ghost use Rattle.sym_shape.specs.declared.rule.Row.{Row};
 ghost use Rattle.sym_demangle.specs.Mangled.{RefusesBadTokens, StandsFor, IsAnswer, answer};
+ghost use Rattle.cpp_grammar.specs.KindNumbers.{MAYBE_ARGUMENTS, ARGUMENTS_ALONE, NEST_REST, NEST_REST_ALONE};
 ghost use Rattle.cpp_grammar.specs.Mangled.{cpp_mangled, wide_mangled};
 ghost use Rattle.cpp_grammar.specs.Closed.{ScopesAreClosed};
 ghost use Rattle.cpp_grammar.specs.Items.{Item};
@@ -52,6 +53,15 @@ pub fn both_are_linked()
     ensures abi { GrowsInto abi either }
     ensures wide { GrowsInto wide either }
     ensures widened { (shape : Tree) → IsTree either (Kind 0) shape → IsTree wide (Kind 0) (widened shape) × (spell (widened shape) ≡ spell shape) × (unfold_cpp (widened shape) ≡ unfold_cpp shape) }
+{}
+
+/// The kinds of what comes behind a parameter or a substitution are apart from those of what comes behind other names since
+/// [`Wide`](crate::Wide) has no tags there. In [`Abi`](crate::Abi) they have the same trees.
+pub fn no_tags_in_abi()
+    ensures arguments { (shape : Tree) → IsTree abi (Kind MAYBE_ARGUMENTS) shape → IsTree abi (Kind ARGUMENTS_ALONE) shape }
+    ensures arguments_behind_names { (shape : Tree) → IsTree abi (Kind ARGUMENTS_ALONE) shape → IsTree abi (Kind MAYBE_ARGUMENTS) shape }
+    ensures rests { (shape : Tree) → IsTree abi (Kind NEST_REST) shape → IsTree abi (Kind NEST_REST_ALONE) shape }
+    ensures rests_behind_names { (shape : Tree) → IsTree abi (Kind NEST_REST_ALONE) shape → IsTree abi (Kind NEST_REST) shape }
 {}
 
 /// What a symbol that is well shaped in [`Abi`](crate::Abi) reads as, a refusal too, it reads as in [`Wide`](crate::Wide), and its

@@ -119,6 +119,8 @@ pub enum Production {
     SpecialName,
     ConstructionVtable,
     NestTemplate,
+    NestTag,
     Holder,
     SizedFloat,
+    Tag,
 }

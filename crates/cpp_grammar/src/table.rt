@@ -149,6 +149,10 @@ const HELD_COMPONENT: Sym = Sym::Kind(68);
 
 const FLOAT_END: Sym = Sym::Kind(69);
 
+const ARGUMENTS_ALONE: Sym = Sym::Kind(70);
+
+const NEST_REST_ALONE: Sym = Sym::Kind(71);
+
 const NAME: Sym = Sym::Name;
 
 const DECIMAL: Sym = Sym::Number(NumberKind::Decimal);
@@ -161,7 +165,7 @@ const DIGITS: Sym = Sym::Number(NumberKind::Digits);
 pub const FIRST_LETTER: u8 = b'!';
 
 // For each kind a row: for each byte from `$` to `z` the letter of the production that the kind takes there.
-static LETTERS: [[u8; 87]; 70] = [
+static LETTERS: [[u8; 87]; 72] = [
     // $%&'()*+,-./0123456789:;<=>?@ABCDEFGHIJKLMNOPQRSTUVWXYZ[\]^_`abcdefghijklmnopqrstuvwxyz
     *b"                                                           *                           ", // Symbol
     *b"          +                                                                            ", // MaybeSuffix
@@ -233,6 +237,8 @@ static LETTERS: [[u8; 87]; 70] = [
     *b"                                         !                                             ", // HolderMark
     *b"            $$$$$$$$$$         GH       \"        #           % %%% % %  %%%%% %%       ", // HeldComponent
     *b"                                                           !  !                     !  ", // FloatEnd
+    *b"                                     t                                                 ", // ArgumentsAlone
+    *b"            EEEEEEEEEE         EE    D  E        E           E EEE E E  EEEEE EE       ", // NestRestAlone
 ];
 
 /// A rule without its number and its symbols.
@@ -262,7 +268,7 @@ macro_rules! chains {
 }
 
 // The rules of the productions, in the order of their numbers.
-pub static HEADS: [Head; 118] = [
+pub static HEADS: [Head; 120] = [
     takes!(0), // ! Mark
     takes!(2), // \" InternalName
     takes!(2), // # LocalTypeName
@@ -379,12 +385,14 @@ pub static HEADS: [Head; 118] = [
     takes!(1), // \x92 SpecialName
     takes!(4), // \x93 ConstructionVtable
     chains!(2), // \x94 NestTemplate
-    chains!(2), // \x95 Holder
-    takes!(2), // \x96 SizedFloat
+    takes!(2), // \x95 NestTag
+    chains!(2), // \x96 Holder
+    takes!(2), // \x97 SizedFloat
+    takes!(2), // \x98 Tag
 ];
 
 // The symbols of the rules, in the same order.
-pub static SYMBOLS: [Sym; 714] = symbols_listed! {
+pub static SYMBOLS: [Sym; 726] = symbols_listed! {
     [NONE, NONE, NONE, NONE, NONE], // ! Mark
     [NAME, MAYBE_ARGUMENTS, NONE, NONE, NONE], // \" InternalName
     [ANONYMOUS, MAYBE_ARGUMENTS, NONE, NONE, NONE], // # LocalTypeName
@@ -414,12 +422,12 @@ pub static SYMBOLS: [Sym; 714] = symbols_listed! {
     [ABBREVIATION, ARGUMENTS, NONE, NONE, NONE], // ; AbbreviatedName
     [OPERATOR, NONE, NONE, NONE, NONE], // < OperatorPiece
     [NEST_AFTER_S, NONE, NONE, NONE, NONE], // = NestWithS
-    [DECIMAL, NEST_REST, NONE, NONE, NONE], // > NestParameter
+    [DECIMAL, NEST_REST_ALONE, NONE, NONE, NONE], // > NestParameter
     [NAME, NEST_REST, NONE, NONE, NONE], // ? NestInternal
     [ANONYMOUS, NEST_REST, NONE, NONE, NONE], // @ NestLocalType
     [NAME, NEST_REST, NONE, NONE, NONE], // A NestSource
     [UNQUALIFIED, MAYBE_ARGUMENTS, NEST_TAIL, NONE, NONE], // B NestStd
-    [ABBREVIATION, NEST_REST, NONE, NONE, NONE], // C NestAbbreviated
+    [ABBREVIATION, NEST_REST_ALONE, NONE, NONE, NONE], // C NestAbbreviated
     [ARGUMENT_LIST, Sym::Byte(b'E'), COMPONENT, NEST_TAIL, NONE], // D NestArguments
     [COMPONENT, NEST_TAIL, NONE, NONE, NONE], // E NestNext
     [NONE, NONE, NONE, NONE, NONE], // F NestEnd
@@ -450,8 +458,8 @@ pub static SYMBOLS: [Sym; 714] = symbols_listed! {
     [Sym::Byte(b'F'), MAYBE_C_LINKAGE, TYPE, FUNCTION_REST, NONE], // _ NoexceptFunction
     [TYPE, NONE, NONE, NONE, NONE], // ` Pointer
     [TYPE, TYPE, NONE, NONE, NONE], // a MemberPointer
-    [DECIMAL, MAYBE_ARGUMENTS, NONE, NONE, NONE], // b Parameter
-    [TYPE_AFTER_S, MAYBE_ARGUMENTS, NONE, NONE, NONE], // c TypeWithS
+    [DECIMAL, ARGUMENTS_ALONE, NONE, NONE, NONE], // b Parameter
+    [TYPE_AFTER_S, ARGUMENTS_ALONE, NONE, NONE, NONE], // c TypeWithS
     [ENCODING, Sym::Byte(b'E'), TYPE_ENTITY, MAYBE_DISCRIMINATOR, NONE], // d LocalType
     [NONE, NONE, NONE, NONE, NONE], // e Builtin
     [NAME, NONE, NONE, NONE, NONE], // f Vendor
@@ -501,15 +509,17 @@ pub static SYMBOLS: [Sym; 714] = symbols_listed! {
     [COMPLETE_NAME, NONE, NONE, NONE, NONE], // \x92 SpecialName
     [TYPE, DIGITS, Sym::Byte(b'_'), TYPE, NONE], // \x93 ConstructionVtable
     [ABBREVIATION, NEST_REST_OR_END, NONE, NONE, NONE], // \x94 NestTemplate
-    [HOLDER_MARK, HELD_COMPONENT, NONE, NONE, NONE], // \x95 Holder
-    [DIGITS, FLOAT_END, NONE, NONE, NONE], // \x96 SizedFloat
+    [NAME, NEST_REST, NONE, NONE, NONE], // \x95 NestTag
+    [HOLDER_MARK, HELD_COMPONENT, NONE, NONE, NONE], // \x96 Holder
+    [DIGITS, FLOAT_END, NONE, NONE, NONE], // \x97 SizedFloat
+    [NAME, MAYBE_ARGUMENTS, NONE, NONE, NONE], // \x98 Tag
 };
 
 /// The number of the rule that a kind takes at a byte, if it takes one.
 #[inline]
 fn number(kind: u16, byte: u8) -> Option<usize>
     requires { kind < abi.kinds }
-    ensures few { IfSome result (λ number. number < 118) }
+    ensures few { IfSome result (λ number. number < 120) }
     ensures rule { (head : Head) → MatchOption result (abi.rule kind byte ≡ None) (λ number. abi.rule kind byte ≡ Some (listed_rule head number)) }
 {
     match letter_in(&LETTERS[kind as usize], byte) {

@@ -21,7 +21,7 @@ use Rattle.cpp_term.specs.Term.{Term}
 use Rattle.cpp_layout.specs.declared.context.Context.{Context}
 use Rattle.cpp_tree.specs.Nodes.{trees, tree_at, bytes_at, IsWithin}
 use Rattle.cpp_layout.specs.Texts.{fixed_text}
-use Rattle.cpp_layout.specs.declared.texts.TheConstants.{BLANK, BRAIN_FLOAT, COLONS_STAR, COMMA, FLOAT, LEFT, LEFT_BRACKET, RIGHT, RIGHT_BRACKET, VECTOR, WIDER}
+use Rattle.cpp_layout.specs.declared.texts.TheConstants.{BLANK, BRAIN_FLOAT, COLONS_STAR, COMMA, FLOAT, LEFT, LEFT_BRACKET, RIGHT, RIGHT_BRACKET, VECTOR, WIDER, TAG}
 use Rattle.cpp_layout.specs.Layout.{ReadSymbol, table_of, tree_in, form_of, context_of, text_if, marked, referred, item_in, MayCome, IsOwn, unshared_of, bytes_of_part, shown, Shows}
 
 abbrev Others : Type 0
@@ -152,6 +152,10 @@ module _ (c : items.Context) (t : Term) where
   pub vector-whole : (d : Detail) (digits : List ℕ) → as_item heads.left c t ∷ text (fixed_text VECTOR) ∷ text digits ∷ text (fixed_text RIGHT) ∷ [] ≡ left_parts d c (term.vector digits t)
   unfolding left_parts
   vector-whole d digits = refl
+
+  pub tagged-whole : (d : Detail) (b : Bool) (tag : List ℕ) → as_item heads.left c t ∷ text (fixed_text TAG) ∷ text tag ∷ text (fixed_text RIGHT_BRACKET) ∷ [] ≡ left_parts d c (term.tagged b t tag)
+  unfolding left_parts
+  tagged-whole d b tag = refl
 
   pub array-right : (digits : List ℕ) → text (fixed_text LEFT_BRACKET) ∷ (text_part digits ++ (text (fixed_text RIGHT_BRACKET) ∷ as_item heads.right c t ∷ [])) ≡ right_parts c (term.array digits t)
   unfolding right_parts

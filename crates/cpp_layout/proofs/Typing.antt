@@ -148,16 +148,17 @@ boolean-whole false = refl
 -- ## What has no parts
 
 pub no-name : (n : Node) → ((p : Piece) → n ≡ Node.Alone p → ⊥) → ((p : Piece) → n ≡ Node.InStd p → ⊥) → ((a : ℕ) (p : Piece) → n ≡ Node.Within a p → ⊥) → ((a b : ℕ) → n ≡ Node.Instance a b → ⊥) → ((e a : ℕ) (d : Option Span) → n ≡ Node.Local e a d → ⊥)
-    → ((k : ℕ) → n ≡ Node.Abbreviation k → ⊥) → ((k a : ℕ) → n ≡ Node.Parameter k a → ⊥) → ((a : ℕ) → n ≡ Node.Holder a → ⊥) → IsNoName n
-no-name (Node.Alone p) h1 h2 h3 h4 h5 h6 h7 h8 = absurd (h1 p refl)
-no-name (Node.InStd p) h1 h2 h3 h4 h5 h6 h7 h8 = absurd (h2 p refl)
-no-name (Node.Within a p) h1 h2 h3 h4 h5 h6 h7 h8 = absurd (h3 a p refl)
-no-name (Node.Instance a b) h1 h2 h3 h4 h5 h6 h7 h8 = absurd (h4 a b refl)
-no-name (Node.Local e a d) h1 h2 h3 h4 h5 h6 h7 h8 = absurd (h5 e a d refl)
+    → ((b : Bool) (a : ℕ) (g : Span) → n ≡ Node.Tagged b a g → ⊥) → ((k : ℕ) → n ≡ Node.Abbreviation k → ⊥) → ((k a : ℕ) → n ≡ Node.Parameter k a → ⊥) → ((a : ℕ) → n ≡ Node.Holder a → ⊥) → IsNoName n
+no-name (Node.Alone p) h1 h2 h3 h4 h5 h0 h6 h7 h8 = absurd (h1 p refl)
+no-name (Node.InStd p) h1 h2 h3 h4 h5 h0 h6 h7 h8 = absurd (h2 p refl)
+no-name (Node.Within a p) h1 h2 h3 h4 h5 h0 h6 h7 h8 = absurd (h3 a p refl)
+no-name (Node.Instance a b) h1 h2 h3 h4 h5 h0 h6 h7 h8 = absurd (h4 a b refl)
+no-name (Node.Local e a d) h1 h2 h3 h4 h5 h0 h6 h7 h8 = absurd (h5 e a d refl)
 no-name (Node.Holder a) h1 h2 h3 h4 h5 h6 h7 h8 = absurd (h8 a refl)
-no-name (Node.Abbreviation k) h1 h2 h3 h4 h5 h6 h7 h8 = absurd (h6 k refl)
-no-name (Node.Parameter k a) h1 h2 h3 h4 h5 h6 h7 h8 = absurd (h7 k a refl)
-no-name _ h1 h2 h3 h4 h5 h6 h7 h8 = tt
+no-name (Node.Tagged b a g) h1 h2 h3 h4 h5 h0 h6 h7 = absurd (h0 b a g refl)
+no-name (Node.Abbreviation k) h1 h2 h3 h4 h5 h0 h6 h7 h8 = absurd (h6 k refl)
+no-name (Node.Parameter k a) h1 h2 h3 h4 h5 h0 h6 h7 h8 = absurd (h7 k a refl)
+no-name _ h1 h2 h3 h4 h5 h0 h6 h7 h8 = tt
 
 pub no-type : (n : Node) → IsNoName n → ((k : ℕ) → n ≡ Node.Builtin k → ⊥) → ((k : ℕ) → n ≡ Node.BuiltinWithD k → ⊥) → ((b : Span) → n ≡ Node.Vendor b → ⊥) → ((t : ℕ) → n ≡ Node.Pointer t → ⊥) → ((t : ℕ) → n ≡ Node.Lvalue t → ⊥) → ((t : ℕ) → n ≡ Node.Rvalue t → ⊥) → ((g : Span) (t : ℕ) → n ≡ Node.Array g t → ⊥)
     → ((l e : Bool) (m : Mark) (r p : ℕ) → n ≡ Node.FunctionType l e m r p → ⊥) → ((k t : ℕ) → n ≡ Node.MemberPointer k t → ⊥) → ((q : Qualifiers) (t : ℕ) → n ≡ Node.Qualified q t → ⊥) → ((g : Span) (t : ℕ) → n ≡ Node.Vector g t → ⊥) → ((t : ℕ) → n ≡ Node.Complex t → ⊥) → ((g : Span) (k : ℕ) → n ≡ Node.SizedFloat g k → ⊥) → IsNoType n
@@ -167,6 +168,7 @@ no-type (Node.Within a p) k h1 h0 h2 h3 h4 h5 h6 h7 h8 h9 h10 h11 h12 = elim k [
 no-type (Node.Instance a b) k h1 h0 h2 h3 h4 h5 h6 h7 h8 h9 h10 h11 h12 = elim k [ ]
 no-type (Node.Local e a d) k h1 h0 h2 h3 h4 h5 h6 h7 h8 h9 h10 h11 h12 = elim k [ ]
 no-type (Node.Holder a) k h1 h0 h2 h3 h4 h5 h6 h7 h8 h9 h10 h11 h12 = elim k [ ]
+no-type (Node.Tagged s a g) k h1 h0 h2 h3 h4 h5 h6 h7 h8 h9 h10 h11 = elim k [ ]
 no-type (Node.Abbreviation a) k h1 h0 h2 h3 h4 h5 h6 h7 h8 h9 h10 h11 h12 = elim k [ ]
 no-type (Node.Parameter a b) k h1 h0 h2 h3 h4 h5 h6 h7 h8 h9 h10 h11 h12 = elim k [ ]
 no-type (Node.Builtin a) k h1 h0 h2 h3 h4 h5 h6 h7 h8 h9 h10 h11 h12 = absurd (h1 a refl)
@@ -193,6 +195,7 @@ left-none s us ts d c (Node.Within a p) k h1 h2 h3 h4 h5 h6 h7 = elim k [ ]
 left-none s us ts d c (Node.Instance a b) k h1 h2 h3 h4 h5 h6 h7 = elim k [ ]
 left-none s us ts d c (Node.Local e a o) k h1 h2 h3 h4 h5 h6 h7 = elim k [ ]
 left-none s us ts d c (Node.Holder a) k h1 h2 h3 h4 h5 h6 h7 = elim k [ ]
+left-none s us ts d c (Node.Tagged b a g) k h1 h2 h3 h4 h5 h6 h7 = elim k [ ]
 left-none s us ts d c (Node.Abbreviation a) k h1 h2 h3 h4 h5 h6 h7 = elim k [ ]
 left-none s us ts d c (Node.Parameter a b) k h1 h2 h3 h4 h5 h6 h7 = elim k [ ]
 left-none s us ts d c (Node.Builtin a) k h1 h2 h3 h4 h5 h6 h7 = elim k [ ]
@@ -240,18 +243,19 @@ low-other s us ts d c n t is h1 h2 h3 h4 = ap (left_parts d c) is ∙ other n h1
     other _ h1 h2 h3 h4 = refl
 
 pub base-other-node : (s : List ℕ) (us : List Thunk) (ts : List Term) (d : Detail) (c : items.Context) (n : Node) (t : Term) → t ≡ tree_of s us ts n → ((p : Piece) → n ≡ Node.Alone p → ⊥) → ((p : Piece) → n ≡ Node.InStd p → ⊥) → ((a : ℕ) (p : Piece) → n ≡ Node.Within a p → ⊥)
-    → ((a b : ℕ) → n ≡ Node.Instance a b → ⊥) → ((e a : ℕ) (o : Option Span) → n ≡ Node.Local e a o → ⊥) → ((k : ℕ) → n ≡ Node.Abbreviation k → ⊥) → ((k a : ℕ) → n ≡ Node.Parameter k a → ⊥) → ((a : ℕ) → n ≡ Node.Holder a → ⊥) → left_parts d c t ≡ base_parts d c t
+    → ((a b : ℕ) → n ≡ Node.Instance a b → ⊥) → ((e a : ℕ) (o : Option Span) → n ≡ Node.Local e a o → ⊥) → ((b : Bool) (a : ℕ) (g : Span) → n ≡ Node.Tagged b a g → ⊥) → ((k : ℕ) → n ≡ Node.Abbreviation k → ⊥) → ((k a : ℕ) → n ≡ Node.Parameter k a → ⊥) → ((a : ℕ) → n ≡ Node.Holder a → ⊥) → left_parts d c t ≡ base_parts d c t
 unfolding tree_of base_parts
-base-other-node s us ts d c n t is h1 h2 h3 h4 h5 h6 h7 h8 = ap (left_parts d c) is ∙ other n h1 h2 h3 h4 h5 h6 h7 h8 ∙ ap (base_parts d c) (sym is)
+base-other-node s us ts d c n t is h1 h2 h3 h4 h5 h0 h6 h7 h8 = ap (left_parts d c) is ∙ other n h1 h2 h3 h4 h5 h0 h6 h7 h8 ∙ ap (base_parts d c) (sym is)
   where
     other : (n : Node) → ((p : Piece) → n ≡ Node.Alone p → ⊥) → ((p : Piece) → n ≡ Node.InStd p → ⊥) → ((a : ℕ) (p : Piece) → n ≡ Node.Within a p → ⊥)
-        → ((a b : ℕ) → n ≡ Node.Instance a b → ⊥) → ((e a : ℕ) (o : Option Span) → n ≡ Node.Local e a o → ⊥) → ((k : ℕ) → n ≡ Node.Abbreviation k → ⊥) → ((k a : ℕ) → n ≡ Node.Parameter k a → ⊥) → ((a : ℕ) → n ≡ Node.Holder a → ⊥) → left_parts d c (tree_of s us ts n) ≡ base_parts d c (tree_of s us ts n)
-    other (Node.Alone p) h1 h2 h3 h4 h5 h6 h7 h8 = absurd (h1 p refl)
-    other (Node.InStd p) h1 h2 h3 h4 h5 h6 h7 h8 = absurd (h2 p refl)
-    other (Node.Within a p) h1 h2 h3 h4 h5 h6 h7 h8 = absurd (h3 a p refl)
-    other (Node.Instance a b) h1 h2 h3 h4 h5 h6 h7 h8 = absurd (h4 a b refl)
-    other (Node.Local e a o) h1 h2 h3 h4 h5 h6 h7 h8 = absurd (h5 e a o refl)
+        → ((a b : ℕ) → n ≡ Node.Instance a b → ⊥) → ((e a : ℕ) (o : Option Span) → n ≡ Node.Local e a o → ⊥) → ((b : Bool) (a : ℕ) (g : Span) → n ≡ Node.Tagged b a g → ⊥) → ((k : ℕ) → n ≡ Node.Abbreviation k → ⊥) → ((k a : ℕ) → n ≡ Node.Parameter k a → ⊥) → ((a : ℕ) → n ≡ Node.Holder a → ⊥) → left_parts d c (tree_of s us ts n) ≡ base_parts d c (tree_of s us ts n)
+    other (Node.Alone p) h1 h2 h3 h4 h5 h0 h6 h7 h8 = absurd (h1 p refl)
+    other (Node.InStd p) h1 h2 h3 h4 h5 h0 h6 h7 h8 = absurd (h2 p refl)
+    other (Node.Within a p) h1 h2 h3 h4 h5 h0 h6 h7 h8 = absurd (h3 a p refl)
+    other (Node.Instance a b) h1 h2 h3 h4 h5 h0 h6 h7 h8 = absurd (h4 a b refl)
+    other (Node.Local e a o) h1 h2 h3 h4 h5 h0 h6 h7 h8 = absurd (h5 e a o refl)
     other (Node.Holder a) h1 h2 h3 h4 h5 h6 h7 h8 = absurd (h8 a refl)
-    other (Node.Abbreviation k) h1 h2 h3 h4 h5 h6 h7 h8 = absurd (h6 k refl)
-    other (Node.Parameter k a) h1 h2 h3 h4 h5 h6 h7 h8 = absurd (h7 k a refl)
-    other _ h1 h2 h3 h4 h5 h6 h7 h8 = refl
+    other (Node.Tagged b a g) h1 h2 h3 h4 h5 h0 h6 h7 = absurd (h0 b a g refl)
+    other (Node.Abbreviation k) h1 h2 h3 h4 h5 h0 h6 h7 h8 = absurd (h6 k refl)
+    other (Node.Parameter k a) h1 h2 h3 h4 h5 h0 h6 h7 h8 = absurd (h7 k a refl)
+    other _ h1 h2 h3 h4 h5 h0 h6 h7 h8 = refl

@@ -45,7 +45,8 @@ plain_texts =
     codes "-in-" ∷
     codes "_Float" ∷
     codes "x" ∷
-    codes "std::bfloat16_t" ∷ []
+    codes "std::bfloat16_t" ∷
+    codes "[abi:" ∷ []
 
 -- what stands behind a function's parameters
 abbrev pub suffix_texts : List (List ℕ)

@@ -141,6 +141,7 @@ impl Symbol {
             } => self.fill_instance(parts, template, arguments, ctx),
             Node::Local { entity, .. } => self.push_item(parts, entity, form::LEFT, 0, ctx),
             Node::Holder(name) => self.push_item(parts, name, form::LEFT, 0, ctx),
+            Node::Tagged { name, tag, .. } => self.fill_tagged(parts, name, tag, ctx),
             Node::Abbreviation(letter) => self.push_some(parts, abbreviation(letter)),
             Node::Parameter { argument, .. } => {
                 self.fill_parameter(parts, argument, form::LEFT, ctx);
@@ -194,6 +195,7 @@ impl Symbol {
             Node::Instance { template, .. } => self.push_item(parts, template, form::BASE, 0, ctx),
             Node::Local { entity, .. } => self.push_item(parts, entity, form::BASE, 0, ctx),
             Node::Holder(name) => self.push_item(parts, name, form::BASE, 0, ctx),
+            Node::Tagged { name, .. } => self.fill_base_tagged(parts, name, ctx),
             Node::Abbreviation(letter) => self.push_some(parts, last_of_abbreviation(letter)),
             Node::Parameter { argument, .. } => {
                 self.fill_parameter(parts, argument, form::BASE, ctx);

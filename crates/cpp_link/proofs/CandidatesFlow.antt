@@ -9,18 +9,18 @@ use Rattle.sym_shape.specs.declared.rule.Sym.TheVariants.{Kind as OfKind, Name, 
 use Rattle.sym_link.specs.Reading.{Found, Next}
 use Rattle.sym_link.specs.Unfold.{found}
 use Rattle.cpp_grammar.specs.declared.production.Production.{Production}
-use Rattle.cpp_grammar.specs.KindNumbers.{INTEGER, UNQUALIFIED, NEST, NEST_AFTER_S, NEST_REST, NEST_REST_OR_END, NEST_TAIL, COMPONENT, HOLDER_MARK, HELD_COMPONENT, CONSTRUCTOR_DIGIT, DESTRUCTOR_DIGIT, ABBREVIATION, ANONYMOUS, ITEM_AFTER_D, AFTER_D, SOLID, TYPE_AFTER_S, MAYBE_ARGUMENTS, ARGUMENTS, ARGUMENT_LIST, LITERAL_TYPE, OPERATOR}
+use Rattle.cpp_grammar.specs.KindNumbers.{INTEGER, UNQUALIFIED, NEST, NEST_AFTER_S, NEST_REST, NEST_REST_OR_END, NEST_REST_ALONE, ARGUMENTS_ALONE, NEST_TAIL, COMPONENT, HOLDER_MARK, HELD_COMPONENT, CONSTRUCTOR_DIGIT, DESTRUCTOR_DIGIT, ABBREVIATION, ANONYMOUS, ITEM_AFTER_D, AFTER_D, SOLID, TYPE_AFTER_S, MAYBE_ARGUMENTS, ARGUMENTS, ARGUMENT_LIST, LITERAL_TYPE, OPERATOR}
 use Rattle.cpp_grammar.specs.Grammar.{parts_of, number_of_kind}
 use Rattle.cpp_grammar.proofs.ClosedStates.{ok_same}
 use Rattle.cpp_term.specs.Term.{Term, source, constructor, destructor, in_std, instance, holder, pack, lvalue, rvalue}
-use Rattle.cpp_term.specs.Values.{State, Around, prefix_tree, prefix_listed, Value, tree, tree_of, piece_of, letter_of, text_of, is_listed, is_there, part}
+use Rattle.cpp_term.specs.Values.{State, Around, prefix_tree, prefix_listed, Value, nothing_there, tree, named, tree_of, piece_of, letter_of, text_of, is_listed, is_there, part}
 use Rattle.cpp_term.specs.References.{appended, with_type, with_unqualified, with_prefix}
-use Rattle.cpp_term.specs.Between.{Going, in_name, in_types, in_signature, under_expansion, after, inside, extended, applied, no_items, named_so_far, listed_so_far, piece_so_far, index_of, between}
+use Rattle.cpp_term.specs.Between.{Going, in_name, in_types, in_signature, under_expansion, after, inside, extended, applied, no_items, named_so_far, listed_so_far, piece_so_far, with_tag, tag_so_far, index_of, between}
 use Rattle.cpp_term.specs.Meaning.{meaning, function_of}
 use Rattle.cpp_term.specs.Unfolding.{behind, close}
 use Rattle.cpp_link.specs.Owed.{made_before, made_at_end}
-use Rattle.cpp_link.specs.NodeCount.{makes_before, makes_at_end, one_if_there, std_before, name_at_end}
-use Rattle.cpp_link.proofs.CandidatesFew.{unlisted, unlisted_around, is_component, becomes_candidate, goes_on, is_arguments, pending, pending_around, makes_name, may_leave, takes_name, begins_arguments, leaves, starts_with, Onward, Flow, going, appended-one, typed-one, unqualified-one, prefix-one, substituted-none, parameter-one, came, ended, quiet, takes_pending, take_nothing, plain-flow, kept, still, there-or-not, spent-or-not, name-flow, value-flow, same-closes, rest-step, nest-flow}
+use Rattle.cpp_link.specs.NodeCount.{makes_before, makes_at_end, one_if_there, one_if_arguments, std_before, name_at_end}
+use Rattle.cpp_link.proofs.CandidatesFew.{unlisted, unlisted_around, is_component, becomes_candidate, goes_on, is_arguments, in_place, behind_name, pending, pending_around, makes_name, may_leave, takes_name, begins_arguments, leaves, starts_with, Onward, Flow, going, appended-one, typed-one, unqualified-one, prefix-one, substituted-none, parameter-one, came, ended, quiet, takes_pending, take_nothing, plain-flow, kept, still, there-or-not, spent-or-not, name-flow, value-flow, same-closes, rest-step, nest-flow}
 
 -- ## Names
 
@@ -75,6 +75,13 @@ std-name around place =
     name-flow Production.StdName around place (OfKind UNQUALIFIED) (λ v. in_std (piece_of v)) (λ a v. refl) (λ state. refl)
     (λ v state. refl) (λ v. refl) (λ u w. refl) (λ v. omega arith) (λ byte began vs state one e. still
     (meaning Production.StdName byte around vs) state one e)
+
+tag-name : (around : Around) (place : ℕ) → Flow Production.Tag around place (Name ∷ OfKind MAYBE_ARGUMENTS ∷ []) [] 0
+unfolding pending_around between tag_so_far named_so_far makes_before made_before makes_at_end name_at_end part leaves makes_name close behind
+tag-name around place =
+    name-flow Production.Tag around place Name (λ v. with_tag (prefix_tree around.prefix) (text_of v)) (λ a v. refl) (λ state. refl)
+    (λ v state. refl) (λ v. refl) (λ u w. refl) (λ v. omega arith) (λ byte began vs state one e. still
+    (meaning Production.Tag byte around vs) state one e)
 
 abbreviated-name : (around : Around) (place : ℕ) → Flow Production.AbbreviatedName around place (OfKind ABBREVIATION ∷ OfKind ARGUMENTS ∷ []) [] 0
 unfolding pending pending_around unlisted_around goes_on is_arguments is_component becomes_candidate after prefix_listed between listed_so_far makes_before made_before makes_at_end name_at_end part leaves makes_name may_leave close behind
@@ -137,37 +144,39 @@ integer-literal around place = λ state next e. came (going [] around state) nex
   };
 })
 
+-- a name is a candidate behind it, or its arguments are one, or it is one already
+spent-behind : (a : Bool) (w : Value) → cond (a && not (is_there w)) 0 1 ≤ one_if_arguments w + behind_name (cond a 0 1) w
+unfolding is_there one_if_arguments one_if_there behind_name in_place
+spent-behind true nothing_there = omega arith
+spent-behind true (named t qualifiers ref) = omega arith
+spent-behind true _ = omega arith
+spent-behind false nothing_there = omega arith
+spent-behind false (named t qualifiers ref) = omega arith
+spent-behind false _ = omega arith
+
 -- a parameter is a candidate before its arguments
-parameter-type : (around : Around) (place : ℕ) → Flow Production.Parameter around place (Number Decimal ∷ OfKind MAYBE_ARGUMENTS ∷ []) [] 0
+parameter-type : (around : Around) (place : ℕ) → Flow Production.Parameter around place (Number Decimal ∷ OfKind ARGUMENTS_ALONE ∷ []) [] 0
 unfolding pending pending_around unlisted_around goes_on is_arguments is_component becomes_candidate after prefix_listed between makes_before made_before makes_at_end name_at_end part leaves makes_name may_leave unlisted is_listed meaning one_if_there close behind
 parameter-type around place = λ state next e. came (going [] around state) next e
     (quiet (going [] around state) (omega arith) (λ v. refl) begun)
   where
-    none : (b : Bool) → ◌≡◌ {A = ℕ} (cond b 0 0) 0
-    none true = refl
-    none false = refl
-
-    given : (b : Bool) → cond (not b) 0 1 ≤ cond b 1 0
-    given true = omega arith
-    given false = omega arith
-
-    closes : (u w : Value) → Flow Production.Parameter around place [] (u ∷ w ∷ []) 0
+    closes : (u w : Value) → Flow Production.Parameter around place [] (u ∷ w ∷ []) (behind_name 0 w)
     closes u w = λ byte began state one e.
-        ended Production.Parameter (one_if_there w) 0 state (found (tree (applied (tree_of u) w) (not (is_there w))) state) one e
-        (omega (arith, made w))
-      where
-        made : (w : Value) → cond (not (is_there w)) 0 1 ≤ one_if_there w
-        made w = given (is_there w)
+        ended Production.Parameter (one_if_arguments w) (behind_name 0 w) state (found (tree (applied (tree_of u) w) (not (is_there w))) state) one e
+        (omega (arith, spent-behind true w))
 
-    begun : (v : Value) → Flow Production.Parameter around place (OfKind MAYBE_ARGUMENTS ∷ []) (v ∷ []) 0
+    begun : (v : Value) → Flow Production.Parameter around place (OfKind ARGUMENTS_ALONE ∷ []) (v ∷ []) 0
     begun v = λ state next e. (
         let n = parameter-one around place (index_of v) [] state next e in
-        subst (Onward (OfKind MAYBE_ARGUMENTS) 1 0 state (Flow Production.Parameter around place [])) (sym n.is)
-        (quiet (going (tree n.own true ∷ []) (after n.own true around) n.mid) (omega (arith, n.one)) (λ w. none (is_there w))
-        (λ w. closes (tree n.own true) w)))
+        subst (Onward (OfKind ARGUMENTS_ALONE) 1 0 state (Flow Production.Parameter around place [])) (sym n.is)
+        (record {
+          over = 0;
+          few = omega (arith, n.one);
+          later = λ w. record { now = behind_name 0 w; few = spent-or-not 0 w; goes = closes (tree n.own true) w };
+        }))
 
 -- an abbreviation or what a reference names, or a name in std, before its arguments
-with-s-type : (around : Around) (place : ℕ) → Flow Production.TypeWithS around place (OfKind TYPE_AFTER_S ∷ OfKind MAYBE_ARGUMENTS ∷ []) [] 0
+with-s-type : (around : Around) (place : ℕ) → Flow Production.TypeWithS around place (OfKind TYPE_AFTER_S ∷ OfKind ARGUMENTS_ALONE ∷ []) [] 0
 unfolding pending pending_around unlisted_around goes_on is_arguments is_component becomes_candidate after prefix_listed between makes_before made_before makes_at_end name_at_end part leaves makes_name may_leave unlisted is_listed meaning one_if_there close behind
 with-s-type around place = λ state next e. came (going [] around state) next e (record {
   over = 0;
@@ -175,25 +184,16 @@ with-s-type around place = λ state next e. came (going [] around state) next e 
   later = λ v. record { now = unlisted v; few = omega arith; goes = begun v };
 })
   where
-    spent : (a b : Bool) → cond (a && not b) 0 1 ≤ cond b 1 0 + cond b 0 (cond a 0 1)
-    spent true true = omega arith
-    spent true false = omega arith
-    spent false true = omega arith
-    spent false false = omega arith
-
-    closes : (v w : Value) → Flow Production.TypeWithS around place [] (v ∷ w ∷ []) (cond (is_there w) 0 (unlisted v))
+    closes : (v w : Value) → Flow Production.TypeWithS around place [] (v ∷ w ∷ []) (behind_name (unlisted v) w)
     closes v w = λ byte began state one e.
-        ended Production.TypeWithS (one_if_there w) (cond (is_there w) 0 (unlisted v)) state
-        (found (tree (applied (tree_of v) w) (is_listed v && not (is_there w))) state) one e (omega (arith, made w))
-      where
-        made : (w : Value) → cond (is_listed v && not (is_there w)) 0 1 ≤ one_if_there w + cond (is_there w) 0 (unlisted v)
-        made w = spent (is_listed v) (is_there w)
+        ended Production.TypeWithS (one_if_arguments w) (behind_name (unlisted v) w) state
+        (found (tree (applied (tree_of v) w) (is_listed v && not (is_there w))) state) one e (omega (arith, spent-behind (is_listed v) w))
 
-    begun : (v : Value) → Flow Production.TypeWithS around place (OfKind MAYBE_ARGUMENTS ∷ []) (v ∷ []) (unlisted v)
+    begun : (v : Value) → Flow Production.TypeWithS around place (OfKind ARGUMENTS_ALONE ∷ []) (v ∷ []) (unlisted v)
     begun v = λ state next e. came (going (v ∷ []) (after (tree_of v) (is_listed v) around) state) next e (record {
       over = unlisted v;
       few = omega arith;
-      later = λ w. record { now = cond (is_there w) 0 (unlisted v); few = spent-or-not (unlisted v) (is_there w); goes = closes v w };
+      later = λ w. record { now = behind_name (unlisted v) w; few = spent-or-not (unlisted v) w; goes = closes v w };
     })
 
 -- ## Nested names
@@ -211,18 +211,24 @@ nest-source around place =
     nest-flow Production.NestSource around place Name (λ v. extended around.prefix (source false (text_of v))) (λ a v. refl) (λ state. refl)
     (λ v state. refl) (λ v. refl) (λ v. refl) (λ byte began state u w. refl)
 
+nest-tag : (around : Around) (place : ℕ) → Flow Production.NestTag around place (Name ∷ OfKind NEST_REST ∷ []) [] 0
+unfolding pending_around between tag_so_far named_so_far makes_before made_before part leaves makes_name may_leave meaning close behind
+nest-tag around place =
+    nest-flow Production.NestTag around place Name (λ v. with_tag (prefix_tree around.prefix) (text_of v)) (λ a v. refl) (λ state. refl)
+    (λ v state. refl) (λ v. refl) (λ v. refl) (λ byte began state u w. refl)
+
 nest-local-type : (around : Around) (place : ℕ) → Flow Production.NestLocalType around place (OfKind ANONYMOUS ∷ OfKind NEST_REST ∷ []) [] 0
 unfolding pending_around goes_on is_arguments between piece_so_far named_so_far makes_before made_before part leaves makes_name may_leave meaning close behind
 nest-local-type around place =
     nest-flow Production.NestLocalType around place (OfKind ANONYMOUS) (λ v. extended around.prefix (piece_of v)) (λ a v. refl) (λ state. refl)
     (λ v state. refl) (λ v. refl) (λ v. refl) (λ byte began state u w. refl)
 
-nest-abbreviated : (around : Around) (place : ℕ) → Flow Production.NestAbbreviated around place (OfKind ABBREVIATION ∷ OfKind NEST_REST ∷ []) [] 0
+nest-abbreviated : (around : Around) (place : ℕ) → Flow Production.NestAbbreviated around place (OfKind ABBREVIATION ∷ OfKind NEST_REST_ALONE ∷ []) [] 0
 unfolding pending pending_around goes_on is_arguments is_component becomes_candidate between listed_so_far makes_before made_before part leaves makes_name may_leave meaning close behind
 nest-abbreviated around place = λ state next e. came (going [] around state) next e
     (quiet (going [] around state) (omega arith) (λ v. refl) (λ v.
     λ later after_ f. came (going (tree (tree_of v) true ∷ []) (after (tree_of v) true around) later) after_ f
-    (rest-step Production.NestAbbreviated around place 17 0 0 later (tree (tree_of v) true ∷ []) (tree_of v) true later (λ a w. refl)
+    (rest-step Production.NestAbbreviated around place 68 0 0 later (tree (tree_of v) true ∷ []) (tree_of v) true later (λ a w. refl)
     (λ w. refl)
     (omega arith)
     (λ w. same-closes Production.NestAbbreviated around place (tree (tree_of v) true ∷ w ∷ []) w (λ u. refl) (λ byte began last. refl)))))
@@ -237,16 +243,16 @@ nest-template around place = λ state next e. came (going [] around state) next 
     (omega arith)
     (λ w. same-closes Production.NestTemplate around place (tree (tree_of v) true ∷ w ∷ []) w (λ u. refl) (λ byte began last. refl)))))
 
-nest-parameter : (around : Around) (place : ℕ) → Flow Production.NestParameter around place (Number Decimal ∷ OfKind NEST_REST ∷ []) [] 0
+nest-parameter : (around : Around) (place : ℕ) → Flow Production.NestParameter around place (Number Decimal ∷ OfKind NEST_REST_ALONE ∷ []) [] 0
 unfolding pending pending_around goes_on is_arguments is_component becomes_candidate between makes_before made_before part leaves makes_name may_leave meaning close behind
 nest-parameter around place = λ state next e. came (going [] around state) next e
     (quiet (going [] around state) (omega arith) (λ v. refl) begun)
   where
-    begun : (v : Value) → Flow Production.NestParameter around place (OfKind NEST_REST ∷ []) (v ∷ []) 0
+    begun : (v : Value) → Flow Production.NestParameter around place (OfKind NEST_REST_ALONE ∷ []) (v ∷ []) 0
     begun v = λ state next e. (
         let n = parameter-one around place (index_of v) [] state next e in
-        subst (Onward (OfKind NEST_REST) 1 0 state (Flow Production.NestParameter around place [])) (sym n.is)
-        (rest-step Production.NestParameter around place 17 1 0 state (tree n.own true ∷ []) n.own true n.mid (λ a w. refl) (λ w. refl)
+        subst (Onward (OfKind NEST_REST_ALONE) 1 0 state (Flow Production.NestParameter around place [])) (sym n.is)
+        (rest-step Production.NestParameter around place 68 1 0 state (tree n.own true ∷ []) n.own true n.mid (λ a w. refl) (λ w. refl)
         (omega (arith, n.one))
         (λ w. same-closes Production.NestParameter around place (tree n.own true ∷ w ∷ []) w (λ u. refl) (λ byte began last. refl))))
 
@@ -254,10 +260,10 @@ nest-std : (around : Around) (place : ℕ) → Flow Production.NestStd around pl
 unfolding pending pending_around unlisted_around goes_on is_arguments is_component becomes_candidate after prefix_listed between named_so_far makes_before std_before part leaves makes_name may_leave meaning close behind
 nest-std around place = λ state next e. came (going [] around state) next e (quiet (going [] around state) (omega arith) (λ v. refl) named)
   where
-    ends : (u w : Value) → Flow Production.NestStd around place (OfKind NEST_TAIL ∷ []) (u ∷ w ∷ []) (cond (is_there w) 0 1)
+    ends : (u w : Value) → Flow Production.NestStd around place (OfKind NEST_TAIL ∷ []) (u ∷ w ∷ []) (behind_name 1 w)
     ends u w = λ state next e. came (going (tree (applied (tree_of u) w) false ∷ w ∷ [])
         (after (applied (tree_of u) w) false around) state) next e
-        (rest-step Production.NestStd around place 18 (one_if_there w) (cond (is_there w) 0 1) state
+        (rest-step Production.NestStd around place 18 (one_if_arguments w) (behind_name 1 w) state
         (tree (applied (tree_of u) w) false ∷ w ∷ [])
         (applied (tree_of u) w) false state (λ a z. refl) (λ z. refl) (omega (arith, there-or-not w))
         (λ z. same-closes Production.NestStd around place (tree (applied (tree_of u) w) false ∷ w ∷ z ∷ []) z (λ v. refl)
@@ -269,8 +275,8 @@ nest-std around place = λ state next e. came (going [] around state) next e (qu
           over = 1;
           few = omega arith;
           later = λ w. record {
-            now = cond (is_there w) 0 1;
-            few = spent-or-not 1 (is_there w);
+            now = behind_name 1 w;
+            few = spent-or-not 1 w;
             goes = ends
                 (tree (in_std (piece_of v)) false) w;
           };
@@ -497,6 +503,8 @@ flows Production.QualifiedPlain around place =
 flows Production.PlainWithD around place = unqualified-type Production.PlainWithD around place AFTER_D (λ a v. refl) (λ v. refl)
     (λ state. refl) (λ v. refl) (λ byte began state v. refl)
 flows Production.IntegerLiteral around place = integer-literal around place
+flows Production.Tag around place = tag-name around place
+flows Production.NestTag around place = nest-tag around place
 flows Production.Parameter around place = parameter-type around place
 flows Production.TypeWithS around place = with-s-type around place
 flows Production.NestInternal around place = nest-internal around place

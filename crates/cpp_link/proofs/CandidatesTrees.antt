@@ -29,12 +29,12 @@ use Rattle.cpp_grammar.proofs.ClosedTrees.{at_number, its_symbols, same_rule, kn
 use Rattle.cpp_grammar.specs.Values as leaf_
 use Rattle.cpp_grammar.specs.Unfolding as unfolding_
 use Rattle.cpp_term.proofs.TreesNoted.{read_with_arguments}
-use Rattle.cpp_term.specs.Values.{State, Around, Value, nothing_there, text, is_listed, is_there}
+use Rattle.cpp_term.specs.Values.{State, Around, Value, nothing_there, named, text, is_listed, is_there}
 use Rattle.cpp_term.specs.Between.{between}
 use Rattle.cpp_term.specs.Meaning.{meaning}
 use Rattle.cpp_term.specs.Unfolding.{number_tested, opening, behind, close, cpp, first_around, first_state}
 use Rattle.cpp_link.specs.NodeCount.{makes_before, makes_at_end, cpp_makes, counted_nodes, nodes_of_shape}
-use Rattle.cpp_link.proofs.CandidatesFew.{unlisted, unlisted_around, is_component, becomes_candidate, goes_on, is_arguments, pending, pending_around, makes_name, may_leave, takes_name, begins_arguments, leaves, starts_with, Flow}
+use Rattle.cpp_link.proofs.CandidatesFew.{unlisted, unlisted_around, is_component, becomes_candidate, goes_on, is_arguments, in_place, pending, pending_around, makes_name, may_leave, takes_name, begins_arguments, leaves, starts_with, Flow}
 use Rattle.cpp_link.proofs.CandidatesFlow.{flows}
 
 -- ## Kinds and their productions
@@ -44,7 +44,7 @@ unfoldable fits : (k : ℕ) → Production → Bool
 fits k p =
     (not (is_component k) || makes_name p)
     && ((not (becomes_candidate k) || (makes_name p || may_leave p)) &&
-    ((not (takes_name p) || goes_on k) && (not (begins_arguments p) || is_arguments k)))
+    ((not (takes_name p) || goes_on k) && ((not (begins_arguments p) || is_arguments k) && (not (is_arguments k) || (begins_arguments p || makes_name p)))))
 
 unfoldable all_fit : (k : ℕ) → List Alternative → Bool
 all_fit k [] = true
@@ -67,13 +67,21 @@ picked-fits k (a ∷ rest) byte p e h = go (is_in a byte) e (λ i. picked-fits k
     go true i later = let same : a.production ≡ p = cc in sym (ap (fits k) same) ∙ both.0
     go false i later = later i
 
+place-small : (v : Value) → in_place v ≤ 1
+unfolding in_place
+place-small (named t qualifiers ref) = omega arith
+place-small nothing_there = omega arith
+place-small _ = omega arith
+
 -- what is pending behind a kind is left by its production
-pending-left : (k : ℕ) (p : Production) (v : Value) → fits k p ≡ true → pending (OfKind k) v ≤ leaves p v
+pending-left : (k : ℕ) (p : Production) (v : Value) → fits k p ≡ true → (begins_arguments p ≡ true → in_place v ≡ 0) → pending (OfKind k) v ≤ leaves p v
 unfolding fits pending leaves unlisted
-pending-left k p v h =
+pending-left k p v h alone_ =
     let one = and_parts (not (is_component k) || makes_name p) _ h in
     let two = and_parts (not (becomes_candidate k) || (makes_name p || may_leave p)) _ one.1 in
-    go (is_component k) (becomes_candidate k) (makes_name p) (may_leave p) (cond_small v) one.0 two.0
+    let three = and_parts (not (takes_name p) || goes_on k) _ two.1 in
+    let four = and_parts (not (begins_arguments p) || is_arguments k) (not (is_arguments k) || (begins_arguments p || makes_name p)) three.1 in
+    go (is_component k) (becomes_candidate k) (is_arguments k) (makes_name p) (may_leave p) (begins_arguments p) (cond_small v) (place-small v) alone_ one.0 two.0 four.1
   where
     cond_small : (v : Value) → unlisted v ≤ 1
     cond_small v = small (is_listed v)
@@ -82,14 +90,17 @@ pending-left k p v h =
         small true = omega arith
         small false = omega arith
 
-    go : (c b m l : Bool) → unlisted v ≤ 1 → not c || m ≡ true → not b || (m || l) ≡ true → cond c 1 (cond b (unlisted v) 0) ≤ cond m 1
-        (cond l (unlisted v) 0)
-    go true b true l few e f = omega arith
-    go true b false l few e f = absurd (false≢true e)
-    go false true true l few e f = few
-    go false true false true few e f = omega arith
-    go false true false false few e f = absurd (false≢true f)
-    go false false m l few e f = omega arith
+    go : (c b a m l g : Bool) → unlisted v ≤ 1 → in_place v ≤ 1 → (g ≡ true → in_place v ≡ 0) → not c || m ≡ true → not b || (m || l) ≡ true → not a || (g || m) ≡ true
+        → cond c 1 (cond b (unlisted v) (cond a (in_place v) 0)) ≤ cond m 1 (cond l (unlisted v) 0)
+    go true b a true l g few one plain e f h = omega arith
+    go true b a false l g few one plain e f h = absurd (false≢true e)
+    go false true a true l g few one plain e f h = few
+    go false true a false true g few one plain e f h = omega arith
+    go false true a false false g few one plain e f h = absurd (false≢true f)
+    go false false false m l g few one plain e f h = omega arith
+    go false false true true l g few one plain e f h = one
+    go false false true false l true few one plain e f h = omega (arith, plain refl)
+    go false false true false l false few one plain e f h = absurd (false≢true h)
 
 -- what a production begins with is pending in front of its kind
 pending-first : (k : ℕ) (p : Production) (around : Around) (v : Value) → fits k p ≡ true → (begins_arguments p ≡ true → is_there v ≡ true)
@@ -99,7 +110,8 @@ pending-first k p around v h there =
     let one = and_parts (not (is_component k) || makes_name p) _ h in
     let two = and_parts (not (becomes_candidate k) || (makes_name p || may_leave p)) _ one.1 in
     let three = and_parts (not (takes_name p) || goes_on k) _ two.1 in
-    go (takes_name p) (begins_arguments p) (goes_on k) (is_arguments k) (is_there v) there three.0 three.1
+    let four = and_parts (not (begins_arguments p) || is_arguments k) (not (is_arguments k) || (begins_arguments p || makes_name p)) three.1 in
+    go (takes_name p) (begins_arguments p) (goes_on k) (is_arguments k) (is_there v) there three.0 four.0
   where
     go : (t b g a w : Bool) → (b ≡ true → w ≡ true) → not t || g ≡ true → not b || a ≡ true
         → cond t (unlisted_around around) (cond b (unlisted_around around) 0)
@@ -122,6 +134,17 @@ arguments-there Production.Arguments byte around place began vs state one e h =
     (behind Production.Arguments byte around began vs state)) one e))
 arguments-there Production.Mark byte around place began vs state one e h = absurd (false≢true h)
 arguments-there _ byte around place began vs state one e h = absurd (false≢true h)
+
+-- and no name
+arguments-alone : (p : Production) (byte : ℕ) (around : Around) (place : ℕ) (began : State) (vs : List Value) (state : State)
+    (one : Found Value State)
+    → close p byte around place began vs state ≡ Ok one → begins_arguments p ≡ true → in_place one.value ≡ 0
+unfolding begins_arguments close meaning in_place
+arguments-alone Production.Arguments byte around place began vs state one e h =
+    ap (λ o. in_place o.value) (sym (ok_same (found (meaning Production.Arguments byte around vs)
+    (behind Production.Arguments byte around began vs state)) one e))
+arguments-alone Production.Mark byte around place began vs state one e h = absurd (false≢true h)
+arguments-alone _ byte around place began vs state one e h = absurd (false≢true h)
 
 -- the production of a rule that a kind takes
 record OfRule (k : ℕ) (rule : Rule) : Type 0 where
@@ -155,21 +178,25 @@ unfolding may_be_empty number_of_kind is_component becomes_candidate
 never-empty Kind.Symbol = refl
 never-empty _ = refl
 
-empty-leaves : (k : ℕ) (v : Value) → k < either.kinds → either.may_be_empty k ≡ true → pending (OfKind k) v ≡ 0
-unfolding pending
-empty-leaves k v lt may = go (slice_get kinds k) refl
+empty-leaves : (k : ℕ) → k < either.kinds → either.may_be_empty k ≡ true → pending (OfKind k) nothing_there ≡ 0
+unfolding pending in_place
+empty-leaves k lt may = go (slice_get kinds k) refl
   where
-    tested : (e c b : Bool) → e ≡ true → not e || not (c || b) ≡ true → cond c 1 (cond b (unlisted v) 0) ≡ 0
-    tested false c b is h = absurd (false≢true is)
-    tested true true b is h = absurd (false≢true h)
-    tested true false true is h = absurd (false≢true h)
-    tested true false false is h = refl
+    none : (a : Bool) → ◌≡◌ {A = ℕ} (cond a 0 0) 0
+    none true = refl
+    none false = refl
 
-    go : (o : Option Kind) → slice_get kinds k ≡ o → cond (is_component k) 1 (cond (becomes_candidate k) (unlisted v) 0) ≡ 0
+    tested : (e c b a : Bool) → e ≡ true → not e || not (c || b) ≡ true → cond c 1 (cond b (unlisted nothing_there) (cond a 0 0)) ≡ 0
+    tested false c b a is h = absurd (false≢true is)
+    tested true true b a is h = absurd (false≢true h)
+    tested true false true a is h = absurd (false≢true h)
+    tested true false false a is h = none a
+
+    go : (o : Option Kind) → slice_get kinds k ≡ o → cond (is_component k) 1 (cond (becomes_candidate k) (unlisted nothing_there) (cond (is_arguments k) 0 0)) ≡ 0
     go None none = absurd (is_either_kind k lt none)
     go (Some kind) at =
         let number : number_of_kind kind ≡ k = omega (arith, number_at 0 kinds k kind kinds_numbered at) in
-        tested (may_be_empty kind) (is_component k) (becomes_candidate k) (sym (either_empty_at k kind at) ∙ may)
+        tested (may_be_empty kind) (is_component k) (becomes_candidate k) (is_arguments k) (sym (either_empty_at k kind at) ∙ may)
         (ap (λ n. not (may_be_empty kind) || not (is_component n || becomes_candidate n)) (sym number) ∙ never-empty kind)
 
 -- ## Trees
@@ -300,7 +327,8 @@ branch-few rule taken parts all (OfKind k) around at old m r lt is e =
         arith,
         few,
         ends.few,
-        pending-left k p f.value.value t.fit,
+        pending-left k p f.value.value t.fit
+            (arguments-alone p (byte_of taken) around at old c.value.value c.value.state.state f.value closes),
         pending-first k p around f.value.value t.fit
             (arguments-there p (byte_of taken) around at old c.value.value c.value.state.state f.value closes),
         ap (λ q. makes_at_end q c.value.value) number,
@@ -318,7 +346,7 @@ leaf-few x around old m v r none e =
 
 empty-few : TreeFew empty
 unfolding cpp
-empty-few (OfKind k) around at old m r lt is e = leaf-few (OfKind k) around old m nothing_there r (empty-leaves k nothing_there lt is) e
+empty-few (OfKind k) around at old m r lt is e = leaf-few (OfKind k) around old m nothing_there r (empty-leaves k lt is) e
 empty-few Name around at old m r lt is e = absurd is
 empty-few (Number kind) around at old m r lt is e = absurd is
 empty-few (Byte b) around at old m r lt is e = absurd is

@@ -165,6 +165,10 @@ quiet_between Production.IntegerLiteral around place [] state less = refl
 quiet_between Production.IntegerLiteral around place (v ∷ vs) state less = absurd (not_first vs less)
 quiet_between Production.Holder around place [] state less = refl
 quiet_between Production.Holder around place (v ∷ vs) state less = absurd (not_first vs less)
+quiet_between Production.NestTag around place [] state less = refl
+quiet_between Production.NestTag around place (v ∷ vs) state less = absurd (not_first vs less)
+quiet_between Production.Tag around place [] state less = refl
+quiet_between Production.Tag around place (v ∷ vs) state less = absurd (not_first vs less)
 quiet_between _ around place vs state less = refl
 
 pub quiet_right : (s : List ℕ) (old : Linked) (frame : Frame Kept) (parts : List Part) (held : ℕ)

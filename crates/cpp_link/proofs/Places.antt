@@ -1,10 +1,15 @@
 -- Parts by their numbers.
-use Rattle.std.proofs.Common.{◌≡◌, refl, ap, arith, lit≤, ℕ, zero, suc, ◌<◌, ◌≤◌, true, false, List, [], ◌∷◌, length, get_or}
+use Rattle.std.proofs.Common.{◌≡◌, refl, ap, arith, lit≤, ℕ, zero, suc, ◌<◌, ◌≤◌, Bool, true, false, not, ◌&&◌, List, [], ◌∷◌, length, get_or}
 use Rattle.std.specs.Prelude.{nat_eq}
 use Rattle.std.proofs.lemmas.Bool.{false≢true, eqb-true, eqb-false}
-use Rattle.cpp_term.specs.Term.{Term}
-use Rattle.cpp_term.specs.Values.{Value, part, is_there}
+use Rattle.cpp_term.specs.Term.{Term, instance}
+use Rattle.cpp_term.specs.Between.{applied}
+use Rattle.cpp_term.specs.Values.{Value, tree, part, tree_of, is_there}
+use Rattle.cpp_tree.specs.Nodes.{tree_at}
+use Rattle.cpp_tree.specs.declared.node.Qualifiers.{Qualifiers}
+use Rattle.cpp_tree.specs.declared.node.Mark.{Mark}
 use Rattle.cpp_link.specs.declared.part.Part.{Part}
+use Rattle.cpp_link.specs.NodeCount.{one_if_there, one_if_arguments}
 use Rattle.cpp_link.specs.Closes.{name_closes}
 use Rattle.cpp_link.specs.Parts.{value_of, values_of, IsThere, AreThere}
 
@@ -79,3 +84,42 @@ there_closes s ts [] there = absurd (false≢true there)
 there_closes s ts (p ∷ []) there = absurd (false≢true there)
 there_closes s ts (p ∷ Part.Nothing ∷ ps) there = absurd (false≢true there)
 there_closes s ts (p ∷ q ∷ ps) there = lit≤ tt
+
+-- ## What stands behind a name
+
+-- neither nothing nor a name in its place: its arguments
+pub record AreArguments (s : List ℕ) (ts : List Term) (t : Term) (p : Part) : Type 0 where
+  pub instance_of : applied t (value_of s ts p) ≡ instance t (tree_of (value_of s ts p))
+  pub there : is_there (value_of s ts p) ≡ true
+  pub makes : one_if_arguments (value_of s ts p) ≡ 1
+
+pub are_arguments : (s : List ℕ) (ts : List Term) (t : Term) (p : Part) → (p ≡ Part.Nothing → ⊥) → ((n : ℕ) (q : Qualifiers) (m : Mark) → p ≡ Part.Named n q m → ⊥) → AreArguments s ts t p
+unfolding value_of applied is_there one_if_arguments one_if_there
+are_arguments s ts t Part.Nothing some other = absurd (some refl)
+are_arguments s ts t (Part.Named n q m) some other = absurd (other n q m refl)
+are_arguments s ts t p some other = record { instance_of = refl; there = refl; makes = refl }
+
+none-and : (b : Bool) → b && false ≡ false
+none-and true = refl
+none-and false = refl
+
+all-and : (b : Bool) → b && true ≡ b
+all-and true = refl
+all-and false = refl
+
+-- a name with nothing behind it
+pub nothing_behind : (s : List ℕ) (ts : List Term) (t : Term) (b : Bool)
+    → tree (applied t (value_of s ts Part.Nothing)) (b && not (is_there (value_of s ts Part.Nothing))) ≡ tree t b
+unfolding value_of applied is_there tree_of
+nothing_behind s ts t b = ap (λ c. tree t c) (all-and b)
+
+-- a name with one behind it that stands in its place
+pub name_behind : (s : List ℕ) (ts : List Term) (t : Term) (b : Bool) (n : ℕ) (q : Qualifiers) (m : Mark)
+    → tree (applied t (value_of s ts (Part.Named n q m))) (b && not (is_there (value_of s ts (Part.Named n q m)))) ≡ tree (tree_at ts n) false
+unfolding value_of applied is_there tree_of
+name_behind s ts t b n q m = ap (λ c. tree (tree_at ts n) c) (none-and b)
+
+-- a name with its arguments behind it
+pub arguments_behind : (s : List ℕ) (ts : List Term) (t : Term) (b : Bool) (p : Part) → AreArguments s ts t p
+    → tree (applied t (value_of s ts p)) (b && not (is_there (value_of s ts p))) ≡ tree (instance t (tree_of (value_of s ts p))) false
+arguments_behind s ts t b p a = rw a.instance_of (rw a.there (ap (λ c. tree (instance t (tree_of (value_of s ts p))) c) (none-and b)))

@@ -7,13 +7,15 @@ use Rattle.cpp_grammar.specs.Unfolding.{production_at}
 use Rattle.cpp_grammar.specs.Term.{Qualifiers, RefQualifier}
 use Rattle.cpp_term.specs.Term as term
 use Rattle.cpp_term.specs.Term.{Term, absent}
-use Rattle.cpp_term.specs.Scope.{has_return_type, length_if_pack, count}
+use Rattle.cpp_term.specs.Scope.{has_return_type, is_structor, length_if_pack, count}
 use Rattle.cpp_term.specs.Meaning.{is_void, is_nil, parameters, encoding_of}
 use Rattle.cpp_term.specs.References.{is_function_type}
 use Rattle.cpp_term.specs.Values.{Value, tree_of, qualifiers_of, ref_of}
 use Rattle.cpp_tree.specs.Nodes as nodes
 use Rattle.cpp_tree.specs.Nodes.{tree_at, IsBelow}
 use Rattle.cpp_tree.specs.declared.node.Node.{Node}
+use Rattle.cpp_tree.specs.declared.node.Piece.{Piece}
+use Rattle.cpp_tree.specs.Notes.{is_structor_node, is_structor_piece}
 use Rattle.cpp_tree.specs.declared.node.Thunk.{Thunk}
 use Rattle.cpp_link.specs.Reads.{void_node, nil_node, function_node, cell_of, elements_of, parameters_by, encoding_by}
 
@@ -69,6 +71,17 @@ pub function_is : (s : List ℕ) (us : List Thunk) (ts : List Term) (node : Node
 unfolding is_function_type nodes.tree_of function_node
 function_is s us ts Node.Absent = refl
 function_is s us ts _ = refl
+
+structor_piece : (s : List ℕ) (ts : List Term) (t : Term) (p : Piece) → is_structor (term.within t (nodes.piece_of s ts p)) ≡ is_structor_piece p
+unfolding is_structor nodes.piece_of is_structor_piece
+structor_piece s ts t (Piece.Constructor digit) = refl
+structor_piece s ts t (Piece.Destructor digit) = refl
+structor_piece s ts t _ = refl
+
+pub structor_is : (s : List ℕ) (us : List Thunk) (ts : List Term) (node : Node) → is_structor (nodes.tree_of s us ts node) ≡ is_structor_node node
+unfolding is_structor nodes.tree_of is_structor_node
+structor_is s us ts (Node.Within prefix p) = structor_piece s ts (tree_at ts prefix) p
+structor_is s us ts _ = refl
 
 -- ## Packs
 

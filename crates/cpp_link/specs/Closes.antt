@@ -23,6 +23,7 @@ pack_closes _ = 1
 unfoldable pub closes_of : Production → List Part → ℕ
 closes_of Production.InternalName parts = name_closes parts
 closes_of Production.SourceName parts = name_closes parts
+closes_of Production.Tag parts = name_closes parts
 closes_of Production.PackArgument parts = pack_closes parts
 closes_of p parts = owes_of p (length parts)
 
@@ -33,4 +34,5 @@ closes number parts = closes_of (production_at number) parts
 unfoldable pub ends_of : Production → List Part → ℕ
 ends_of Production.InternalName parts = name_closes parts
 ends_of Production.SourceName parts = name_closes parts
+ends_of Production.Tag parts = name_closes parts
 ends_of p parts = made_at_end p

@@ -68,6 +68,7 @@ pub closes_owed : (p : Production) (own : List Part) → closes_of p own ≤ owe
 unfolding closes_of made_at_end
 closes_owed Production.InternalName own = omega (arith, name_one own, end_owed Production.InternalName (length own))
 closes_owed Production.SourceName own = omega (arith, name_one own, end_owed Production.SourceName (length own))
+closes_owed Production.Tag own = omega (arith, name_one own, end_owed Production.Tag (length own))
 closes_owed Production.PackArgument own = pack_owed own
 closes_owed p own = same_le (owes_of p (length own))
 
@@ -75,6 +76,7 @@ pub ends_closes : (p : Production) (own : List Part) → ends_of p own ≤ close
 unfolding closes_of ends_of made_at_end pack_closes
 ends_closes Production.InternalName own = same_le (name_closes own)
 ends_closes Production.SourceName own = same_le (name_closes own)
+ends_closes Production.Tag own = same_le (name_closes own)
 ends_closes Production.PackArgument [] = omega arith
 ends_closes Production.PackArgument (elements ∷ []) = omega arith
 ends_closes Production.PackArgument (elements ∷ p ∷ own) = omega arith
@@ -104,6 +106,7 @@ pub closes_behind : (p : Production) (first part : Part) (rest : List Part) → 
 unfolding closes_of
 closes_behind Production.InternalName first part rest = name_behind first part rest
 closes_behind Production.SourceName first part rest = name_behind first part rest
+closes_behind Production.Tag first part rest = name_behind first part rest
 closes_behind Production.PackArgument first part rest = pack_behind first part rest
 closes_behind p first part rest = longer p (part ∷ rest) Part.Nothing
 
@@ -111,6 +114,7 @@ first_pushed : (p : Production) → closes_of p (Part.Nothing ∷ []) ≤ closes
 unfolding closes_of name_closes pack_closes pack_makes
 first_pushed Production.InternalName = omega arith
 first_pushed Production.SourceName = omega arith
+first_pushed Production.Tag = omega arith
 first_pushed Production.PackArgument = omega arith
 first_pushed p = quiet_owed p 0
 
@@ -147,5 +151,6 @@ pub closes_made : (p : Production) (first part : Part) (rest : List Part) → ge
 unfolding closes_of made_before
 closes_made Production.InternalName first part rest one makes = name_made first part rest one
 closes_made Production.SourceName first part rest one makes = name_made first part rest one
+closes_made Production.Tag first part rest one makes = name_made first part rest one
 closes_made Production.PackArgument first part rest one makes = pack_made first part rest one (makes refl)
 closes_made p first part rest one makes = made_longer p (part ∷ rest) one

@@ -1,5 +1,5 @@
 -- The number of the next part of a production that has a row.
-use Rattle.std.specs.Prelude.{ℕ, ◌+◌, Bool, true, false, ◌&&◌, nat_eq, nat_le, nat_lt}
+use Rattle.std.specs.Prelude.{ℕ, ◌+◌, Bool, true, false, ◌&&◌, ◌||◌, nat_eq, nat_le, nat_lt}
 use Rattle.cpp_grammar.specs.declared.production.Production.{Production}
 use Rattle.cpp_grammar.specs.Grammar.{number_of}
 
@@ -14,9 +14,9 @@ over byte held = elim (nat_eq held byte) [ true ↦ byte + 1 | false ↦ held ]
 unfoldable pub is_mark : ℕ → Bool
 is_mark rule = nat_eq rule (number_of Production.Mark)
 
--- a list of arguments
+-- a list of arguments, or a tag, behind which they may stand
 unfoldable pub is_list : ℕ → Bool
-is_list rule = nat_eq rule (number_of Production.Arguments)
+is_list rule = nat_eq rule (number_of Production.Arguments) || nat_eq rule (number_of Production.Tag)
 
 -- one of some arguments, of which none is a list by itself
 unfoldable pub is_argument : ℕ → Bool

@@ -8,7 +8,7 @@ use Rattle.sym_link.specs.Linking.{View}
 use Rattle.sym_link.specs.Tally.{Tally, tally, Makes, tallied, tallied_view}
 use Rattle.cpp_grammar.specs.declared.production.Production.{Production}
 use Rattle.cpp_grammar.specs.Unfolding.{production_at}
-use Rattle.cpp_term.specs.Values.{State, Value, Around, part, tree_of, is_there}
+use Rattle.cpp_term.specs.Values.{State, Value, named, Around, part, tree_of, is_there}
 use Rattle.cpp_term.specs.Between.{no_items}
 use Rattle.cpp_term.specs.Meaning.{is_void, is_nil}
 use Rattle.cpp_term.specs.Unfolding.{cpp, first_around, first_state}
@@ -24,10 +24,15 @@ use Rattle.cpp_link.specs.View.{cpp_view}
 unfoldable pub one_if_there : Value → ℕ
 one_if_there v = if is_there v then 1 else 0
 
+-- One node if there are arguments: a name with tags, which stands in the place of another, is made already.
+unfoldable pub one_if_arguments : Value → ℕ
+one_if_arguments (named t qualifiers ref) = 0
+one_if_arguments v = one_if_there v
+
 -- A name in std is made behind its piece, and once more behind its arguments, if it has some.
 unfoldable pub std_before : List Value → ℕ
 std_before (name ∷ []) = 1
-std_before (name ∷ arguments ∷ []) = one_if_there arguments
+std_before (name ∷ arguments ∷ []) = one_if_arguments arguments
 std_before _ = 0
 
 -- A pack is made of elements. That of none is one that each table begins with.
@@ -43,7 +48,7 @@ makes_before p known = get_or (made_before p) (length known) 0
 
 -- A name makes one node more where it has arguments, of which its second part is the list.
 unfoldable pub name_at_end : List Value → ℕ
-name_at_end known = one_if_there (part known 1)
+name_at_end known = one_if_arguments (part known 1)
 
 -- A lambda makes the list of its parameters, unless they are a lone void: the empty list is one that each table begins with.
 unfoldable pub lambda_at_end : List Value → ℕ
@@ -61,6 +66,7 @@ makes_at_end Production.Constructor known = name_at_end known
 makes_at_end Production.Destructor known = name_at_end known
 makes_at_end Production.Parameter known = name_at_end known
 makes_at_end Production.TypeWithS known = name_at_end known
+makes_at_end Production.Tag known = name_at_end known
 makes_at_end Production.Lambda known = lambda_at_end known
 makes_at_end p known = made_at_end p
 

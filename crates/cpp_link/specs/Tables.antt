@@ -37,6 +37,8 @@ quiet_parts Production.LvalueItem = 1
 quiet_parts Production.RvalueItem = 1
 quiet_parts Production.IntegerLiteral = 1
 quiet_parts Production.Holder = 1
+quiet_parts Production.NestTag = 1
+quiet_parts Production.Tag = 1
 quiet_parts _ = 5
 
 -- parts without a row may stand between those with one

@@ -40,12 +40,12 @@ fn is_mark(rule: u16) -> bool
     rule == Production::Mark as u16
 }
 
-/// Whether the rule is a list of arguments.
+/// Whether the rule is a list of arguments, or a tag, behind which they may stand.
 #[tactic(auto, unfolding(crate::specs::Next::is_list, cpp_grammar::specs::Grammar::number_of))]
 fn is_list(rule: u16) -> bool
     ensures { result ≡ is_list rule }
 {
-    rule == Production::Arguments as u16
+    rule == Production::Arguments as u16 || rule == Production::Tag as u16
 }
 
 /// Whether the rule begins with an argument.

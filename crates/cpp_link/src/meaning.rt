@@ -113,6 +113,10 @@ impl Linked {
             Production::NestInternal => Meant::Given(self.given(symbol, parts, 1)),
             // <prefix> ::= <prefix> <unnamed-type-name>
             Production::NestLocalType => Meant::Given(self.given(symbol, parts, 1)),
+            // <prefix> ::= <prefix> <abi-tags>
+            Production::NestTag => Meant::Given(self.given(symbol, parts, 1)),
+            // <unqualified-name> ::= <unqualified-name> <abi-tags>, perhaps with <template-args>
+            Production::Tag => self.in_place(symbol, parts),
             // <prefix> ::= St <unqualified-name>
             Production::NestStd => Meant::Given(self.given(symbol, parts, 2)),
             // <prefix> ::= <template-prefix> <template-args>

@@ -7,7 +7,8 @@ ghost use Rattle.cpp_term.specs.Values as values;
 ghost use Rattle.cpp_term.specs.Values.{tree_of, is_there, text_of, part, prefix_tree, prefix_listed};
 ghost use Rattle.cpp_term.specs.Between.{applied, no_items, extended};
 ghost use Rattle.cpp_term.specs.Meaning.{parameters, discriminator_of, reference_to, listed_value, signature_or, operator_or_literal};
-ghost use Rattle.cpp_grammar.specs.Values.{local_number};
+ghost use Rattle.cpp_grammar.specs.Term.{any_value};
+ghost use Rattle.cpp_grammar.specs.Values.{unqualified, local_number};
 ghost use Rattle.cpp_tree.specs.Nodes as nodes;
 ghost use Rattle.cpp_tree.specs.declared.node.Thunk as thunks;
 ghost use Rattle.cpp_tree.specs.Nodes.{over, IsTable, IsSpan, IsPieceBelow, IsBelow};
@@ -22,7 +23,7 @@ use crate::meaning::{made, tree};
 use crate::numbers::local_number;
 use crate::part::{Meant, Part, Prefix};
 use crate::values::part;
-use cpp_tree::node::{Mark, Node, Piece};
+use cpp_tree::node::{Mark, Node, Piece, Qualifiers};
 use cpp_tree::nodes::{ABSENT, NIL};
 use sym_core::Span;
 
@@ -73,7 +74,7 @@ impl Linked {
     }
 
     /// A name, with arguments where there are some.
-    #[tactic(auto, unfolding(cpp_term::specs::Between::applied, crate::specs::Parts::meant_value, crate::specs::Parts::value_of, cpp_tree::specs::Nodes::tree_of, crate::specs::Making::nodes_of_meant, crate::specs::NodeCount::name_at_end, crate::specs::NodeCount::one_if_there))]
+    #[tactic(auto, unfolding(cpp_term::specs::Between::applied, crate::specs::Parts::meant_value, crate::specs::Parts::value_of, cpp_tree::specs::Nodes::tree_of, crate::specs::Making::nodes_of_meant, crate::specs::NodeCount::name_at_end, crate::specs::NodeCount::one_if_arguments, crate::specs::NodeCount::one_if_there))]
     pub fn applied(&self, symbol: &[u8], parts: &[Part], listed: bool) -> Meant
         requires table { IsTable (over symbol.now self.now.nodes) }
         requires there { AreThere symbol.now (length self.now.nodes.nodes) parts.now }
@@ -84,17 +85,57 @@ impl Linked {
         ensures makes { nodes_of_meant result ≡ name_at_end (values_in symbol.now self.now.nodes parts.now) }
     {
         let name = self.tree(symbol, parts, 0);
-        if self.there(symbol, parts, 1) {
-            let arguments = self.tree(symbol, parts, 1);
-            return made(
+        let behind = self.given(symbol, parts, 1);
+        match behind {
+            Part::Nothing => tree(name, listed),
+            Part::Named { node, .. } => tree(node, false),
+            _ => made(
                 Node::Instance {
                     template: name,
-                    arguments,
+                    arguments: self.node(symbol, behind),
                 },
                 false,
-            );
+            ),
         }
-        tree(name, listed)
+    }
+
+    /// The same of a name with a tag, which stands in the place of the name without it.
+    #[tactic(auto, unfolding(cpp_term::specs::Between::applied, cpp_term::specs::Values::tree_of, cpp_term::specs::Values::is_there, crate::specs::Parts::meant_value, crate::specs::Parts::value_of, cpp_tree::specs::Nodes::tree_of, crate::specs::Making::nodes_of_meant, crate::specs::NodeCount::name_at_end, crate::specs::NodeCount::one_if_arguments, crate::specs::NodeCount::one_if_there))]
+    pub fn in_place(&self, symbol: &[u8], parts: &[Part]) -> Meant
+        requires table { IsTable (over symbol.now self.now.nodes) }
+        requires there { AreThere symbol.now (length self.now.nodes.nodes) parts.now }
+        ensures is { meant_value symbol.now self.now.nodes result ≡ values.named (applied (tree_of (part (values_in symbol.now self.now.nodes parts.now) 0)) (part (values_in symbol.now self.now.nodes parts.now) 1)) unqualified any_value }
+        ensures there { IsMeantThere symbol.now (length self.now.nodes.thunks) (length self.now.nodes.nodes) result }
+        ensures named { nodes_of_meant result ≤ name_closes parts.now }
+        ensures makes { nodes_of_meant result ≡ name_at_end (values_in symbol.now self.now.nodes parts.now) }
+    {
+        let qualifiers = Qualifiers {
+            restrict: false,
+            volatile: false,
+            const_: false,
+        };
+        let mark = Mark::Any;
+        let behind = self.given(symbol, parts, 1);
+        match behind {
+            Part::Nothing => Meant::Given(Part::Named {
+                node: self.tree(symbol, parts, 0),
+                qualifiers,
+                mark,
+            }),
+            Part::Named { node, .. } => Meant::Given(Part::Named {
+                node,
+                qualifiers,
+                mark,
+            }),
+            _ => Meant::Entity {
+                node: Node::Instance {
+                    template: self.tree(symbol, parts, 0),
+                    arguments: self.node(symbol, behind),
+                },
+                qualifiers,
+                mark,
+            },
+        }
     }
 
     /// What the end of a nested name stands for: the name so far.

@@ -7,22 +7,23 @@ ghost use Rattle.cpp_term.specs.Term as term;
 ghost use Rattle.cpp_grammar.specs.declared.production.Production.TheVariants as productions;
 ghost use Rattle.cpp_term.specs.Values as values;
 ghost use Rattle.cpp_term.specs.Values.{State, tree_of, piece_of, text_of, prefix_tree};
-ghost use Rattle.cpp_term.specs.Between.{between, no_items, in_signature, under_expansion, after, inside};
+ghost use Rattle.cpp_term.specs.Scope.{is_structor};
+ghost use Rattle.cpp_term.specs.Between.{between, no_items, in_signature, under_expansion, after, inside, applied, named_so_far, with_tag};
 ghost use Rattle.cpp_term.specs.References.{with_prefix, with_type};
 ghost use Rattle.cpp_tree.specs.Nodes as nodes;
-ghost use Rattle.cpp_tree.specs.Nodes.{over, tree_at, bytes_at, IsWithin, IsPieceBelow, arguments_are, IsArgumentsBelow, IsTable};
+ghost use Rattle.cpp_tree.specs.Nodes.{over, tree_at, bytes_at, IsWithin, IsPieceBelow, arguments_are, IsArgumentsBelow, IsBelow, IsTable};
 ghost use Rattle.cpp_link.specs.declared.part.Kept.{Kept};
 ghost use Rattle.cpp_link.specs.declared.part.Part.TheVariants as variants;
 ghost use Rattle.cpp_link.specs.declared.part.Step.{Step};
-ghost use Rattle.cpp_link.specs.Parts.{trees_in, value_in, values_in, prefix_of, name_of, around_of, IsThere, AreThere, IsPrefixThere, IsKeptThere, IsStepThere};
+ghost use Rattle.cpp_link.specs.Parts.{trees_in, tree_of_node, value_in, values_in, prefix_of, name_of, around_of, IsThere, AreThere, IsPrefixThere, IsKeptThere, IsStepThere};
 ghost use Rattle.cpp_link.specs.Reads.{with_candidate, goes_on};
 ghost use Rattle.cpp_link.specs.Stepping.{IsStepOf, nodes_of_step};
 ghost use Rattle.cpp_link.specs.Closes.{pack_makes};
-ghost use Rattle.cpp_link.specs.NodeCount.{makes_before};
+ghost use Rattle.cpp_link.specs.NodeCount.{makes_before, one_if_arguments};
 
 use crate::linked::Linked;
 use crate::part::{Kept, Naming, Part, Scope, Step};
-use crate::values::{is_listed, is_there, letter_of, list_of, node_of, piece_of, text_of};
+use crate::values::{is_listed, letter_of, list_of, node_of, piece_of, text_of};
 use cpp_grammar::production::Production;
 use cpp_tree::node::{Node, Piece};
 use cpp_tree::nodes::{ABSENT, NO_ELEMENTS};
@@ -197,6 +198,15 @@ impl Linked {
         }
     }
 
+    /// Whether a name is that of a constructor or a destructor.
+    fn is_structor(&self, symbol: &[u8], name: u32) -> bool
+        requires table { IsTable (over symbol.now self.now.nodes) }
+        requires name { name < length self.now.nodes.nodes }
+        ensures { result ≡ is_structor (tree_at (trees_in symbol.now self.now.nodes) name) }
+    {
+        self.nodes.node(symbol, name).is_structor()
+    }
+
     /// What is done before the first part.
     #[tactic(auto, unfolding(cpp_term::specs::Between::between, cpp_term::specs::Between::in_name, cpp_term::specs::Between::in_types, cpp_term::specs::Between::in_signature, cpp_term::specs::Between::under_expansion, cpp_term::specs::Between::after, cpp_term::specs::Between::inside, cpp_term::specs::Between::applied, cpp_term::specs::Between::piece_so_far, cpp_term::specs::Between::named_so_far, cpp_term::specs::Between::listed_so_far, cpp_term::specs::Values::tree_of, crate::specs::Parts::around_of, crate::specs::Parts::prefix_of, cpp_tree::specs::Nodes::arguments_are, cpp_tree::specs::Nodes::tree_of, cpp_tree::specs::Nodes::piece_of, crate::specs::Reads::goes_on, crate::specs::Reads::behind_first, crate::specs::Reads::named_if, crate::specs::Reads::appended_if, crate::specs::Reads::with_candidate, crate::specs::NodeCount::makes_before, crate::specs::Owed::made_before, crate::specs::NodeCount::std_before, crate::specs::NodeCount::one_if_there, crate::specs::NodeCount::pack_before))]
     #[inline(always)]
@@ -302,8 +312,55 @@ impl Linked {
         }
     }
 
+    /// The name so far with one more tag.
+    #[tactic(auto, unfolding(cpp_term::specs::Between::with_tag, cpp_tree::specs::Nodes::tree_of, cpp_tree::specs::Nodes::IsBelow))]
+    fn tagged(&self, symbol: &[u8], kept: Kept, tag: Span) -> Node
+        requires table { IsTable (over symbol.now self.now.nodes) }
+        requires kept { IsKeptThere (length self.now.nodes.nodes) kept }
+        requires tag { IsWithin tag symbol.now }
+        ensures is { tree_of_node symbol.now self.now.nodes result ≡ with_tag (prefix_tree (prefix_of (trees_in symbol.now self.now.nodes) (name_of kept))) (bytes_at symbol.now tag) }
+        ensures there { IsBelow symbol.now (length self.now.nodes.thunks) (length self.now.nodes.nodes) result }
+    {
+        let name = self.prefix_node(symbol, kept);
+        Node::Tagged {
+            of_structor: self.is_structor(symbol, name),
+            name,
+            tag,
+        }
+    }
+
+    /// What is done behind a name in std and what may stand behind it: its arguments, or itself with tags.
+    #[tactic(auto, unfolding(cpp_term::specs::Between::named_so_far, cpp_term::specs::Between::applied, cpp_term::specs::Values::tree_of, cpp_term::specs::Values::is_there, cpp_tree::specs::Nodes::tree_of, crate::specs::Parts::value_of, crate::specs::Reads::goes_on, crate::specs::Reads::behind_first, crate::specs::Reads::named_if, crate::specs::Reads::appended_if, crate::specs::Owed::made_before, crate::specs::NodeCount::one_if_arguments, crate::specs::NodeCount::one_if_there))]
+    fn std_name(&self, symbol: &[u8], name: u32, behind: Part) -> Step
+        requires table { IsTable (over symbol.now self.now.nodes) }
+        requires name { name < length self.now.nodes.nodes }
+        requires behind { IsThere symbol.now (length self.now.nodes.nodes) behind }
+        ensures is { (kept : Kept) (v : values.Value) (cs : List values.Candidate) → named_so_far (around_of (trees_in symbol.now self.now.nodes) kept) (applied (tree_at (trees_in symbol.now self.now.nodes) name) (value_in symbol.now self.now.nodes behind)) (value_in symbol.now self.now.nodes behind ∷ []) (record { candidates = cs; packs = self.now.packs })
+            ≡ goes_on symbol.now self.now.nodes kept (v ∷ value_in symbol.now self.now.nodes behind ∷ []) cs self.now.packs result }
+        ensures there { IsStepThere symbol.now (length self.now.nodes.thunks) (length self.now.nodes.nodes) result }
+        ensures of { IsStepOf productions.NestStd 2 result }
+        ensures makes { nodes_of_step result ≡ one_if_arguments (value_in symbol.now self.now.nodes behind) }
+    {
+        match behind {
+            Part::Nothing => Step::Named {
+                node: name,
+                listed: false,
+                is_name: true,
+            },
+            Part::Named { node, .. } => Step::Named {
+                node,
+                listed: false,
+                is_name: true,
+            },
+            _ => self.named(Node::Instance {
+                template: name,
+                arguments: self.node(symbol, behind),
+            }),
+        }
+    }
+
     /// What is done before the second part, of a production that is no parameter and no pack.
-    #[tactic(auto, unfolding(cpp_term::specs::Between::between, cpp_term::specs::Between::in_name, cpp_term::specs::Between::in_types, cpp_term::specs::Between::in_signature, cpp_term::specs::Between::under_expansion, cpp_term::specs::Between::after, cpp_term::specs::Between::inside, cpp_term::specs::Between::applied, cpp_term::specs::Between::piece_so_far, cpp_term::specs::Between::named_so_far, cpp_term::specs::Between::listed_so_far, cpp_term::specs::Values::tree_of, crate::specs::Parts::around_of, crate::specs::Parts::prefix_of, cpp_tree::specs::Nodes::arguments_are, cpp_tree::specs::Nodes::tree_of, cpp_tree::specs::Nodes::piece_of, crate::specs::Reads::goes_on, crate::specs::Reads::behind_first, crate::specs::Reads::named_if, crate::specs::Reads::appended_if, crate::specs::Reads::with_candidate, crate::specs::Owed::made_before, crate::specs::NodeCount::makes_before, crate::specs::Owed::made_before, crate::specs::NodeCount::std_before, crate::specs::NodeCount::one_if_there, crate::specs::NodeCount::pack_before))]
+    #[tactic(auto, unfolding(cpp_term::specs::Between::between, cpp_term::specs::Between::in_name, cpp_term::specs::Between::in_types, cpp_term::specs::Between::in_signature, cpp_term::specs::Between::under_expansion, cpp_term::specs::Between::after, cpp_term::specs::Between::inside, cpp_term::specs::Between::applied, cpp_term::specs::Between::piece_so_far, cpp_term::specs::Between::named_so_far, cpp_term::specs::Between::tag_so_far, cpp_term::specs::Between::listed_so_far, cpp_term::specs::Values::tree_of, crate::specs::Parts::around_of, crate::specs::Parts::prefix_of, cpp_tree::specs::Nodes::arguments_are, cpp_tree::specs::Nodes::tree_of, cpp_tree::specs::Nodes::piece_of, crate::specs::Reads::goes_on, crate::specs::Reads::behind_first, crate::specs::Reads::named_if, crate::specs::Reads::appended_if, crate::specs::Reads::with_candidate, crate::specs::Owed::made_before, crate::specs::NodeCount::makes_before, crate::specs::Owed::made_before, crate::specs::NodeCount::std_before, crate::specs::NodeCount::one_if_there, crate::specs::NodeCount::pack_before))]
     #[inline(always)]
     fn step_second(
         &self,
@@ -428,6 +485,12 @@ impl Linked {
                 listed: true,
                 is_name: true,
             },
+            Production::NestTag => self.named(self.tagged(
+                symbol,
+                kept,
+                self.text_in(symbol, first),
+            )),
+            Production::Tag => self.named(self.tagged(symbol, kept, self.text_in(symbol, first))),
             Production::NestNext => self.go(self.behind_name(
                 kept,
                 self.node(symbol, first),
@@ -504,21 +567,7 @@ impl Linked {
                 self.node(symbol, first),
                 true,
             )),
-            Production::NestStd => {
-                let name = self.node(symbol, first);
-                if is_there(second) {
-                    let arguments = self.node(symbol, second);
-                    return self.named(Node::Instance {
-                        template: name,
-                        arguments,
-                    });
-                }
-                Step::Named {
-                    node: name,
-                    listed: false,
-                    is_name: true,
-                }
-            }
+            Production::NestStd => { self.std_name(symbol, self.node(symbol, first), second) }
             Production::NestArguments => {
                 let template = self.prefix_node(symbol, kept);
                 let arguments = self.list_in(symbol, first);

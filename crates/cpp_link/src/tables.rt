@@ -3,7 +3,7 @@
 use cpp_grammar::production::Production;
 
 /// The productions.
-pub(crate) const PRODUCTIONS: [Production; 118] = [
+pub(crate) const PRODUCTIONS: [Production; 120] = [
     Production::Mark,
     Production::InternalName,
     Production::LocalTypeName,
@@ -120,12 +120,14 @@ pub(crate) const PRODUCTIONS: [Production; 118] = [
     Production::SpecialName,
     Production::ConstructionVtable,
     Production::NestTemplate,
+    Production::NestTag,
     Production::Holder,
     Production::SizedFloat,
+    Production::Tag,
 ];
 
 /// How many parts each has.
-pub(crate) const PART_COUNTS: [u8; 118] = [
+pub(crate) const PART_COUNTS: [u8; 120] = [
     0, // Mark
     2, // InternalName
     2, // LocalTypeName
@@ -242,12 +244,14 @@ pub(crate) const PART_COUNTS: [u8; 118] = [
     1, // SpecialName
     4, // ConstructionVtable
     2, // NestTemplate
+    2, // NestTag
     2, // Holder
     2, // SizedFloat
+    2, // Tag
 ];
 
 /// Whether parts without a row may stand between those of each.
-pub(crate) const SKIPS_PARTS: [bool; 118] = [
+pub(crate) const SKIPS_PARTS: [bool; 120] = [
     false, // Mark
     false, // InternalName
     false, // LocalTypeName
@@ -364,12 +368,14 @@ pub(crate) const SKIPS_PARTS: [bool; 118] = [
     false, // SpecialName
     true, // ConstructionVtable
     false, // NestTemplate
+    false, // NestTag
     false, // Holder
     false, // SizedFloat
+    false, // Tag
 ];
 
 /// Before how many of its parts nothing is done in each: before none, the first, or all, which are five at most.
-pub(crate) const QUIET_PARTS: [u8; 118] = [
+pub(crate) const QUIET_PARTS: [u8; 120] = [
     5, // Mark
     1, // InternalName
     1, // LocalTypeName
@@ -486,6 +492,8 @@ pub(crate) const QUIET_PARTS: [u8; 118] = [
     5, // SpecialName
     5, // ConstructionVtable
     1, // NestTemplate
+    1, // NestTag
     1, // Holder
     5, // SizedFloat
+    1, // Tag
 ];

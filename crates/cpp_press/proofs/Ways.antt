@@ -3,7 +3,7 @@ use Rattle.std.proofs.Common.{◌≡◌, ℕ, ◌-◌, List, [], ◌∷◌, ◌+
 use Rattle.std.specs.Prelude.{codes, cond}
 use Rattle.sym_spell.specs.Pressing.{◌and◌, text, nothing}
 use Rattle.sym_spell.proofs.Spellings.{and-assoc, nothing-and}
-use Rattle.cpp_grammar.specs.Term.{Qualifiers, RefQualifier, any_value, lvalue_only, rvalue_only, Term, symbol, function, object, special, thunk, of_name, construction, alone, in_std, within, instance, local, holder, abbreviation, parameter, source, operator, literal_operator, constructor, destructor, lambda, unnamed, string_literal, builtin, sized_float, vendor, pointer, lvalue, rvalue, array, member_pointer, function_type, qualified, vector, complex, expansion, integer, boolean, null_pointer, encoding_literal, address_of, pack, nil, list}
+use Rattle.cpp_grammar.specs.Term.{Qualifiers, RefQualifier, any_value, lvalue_only, rvalue_only, Term, symbol, function, object, special, thunk, of_name, construction, alone, in_std, within, instance, local, holder, tagged, abbreviation, parameter, source, operator, literal_operator, constructor, destructor, lambda, unnamed, string_literal, builtin, sized_float, vendor, pointer, lvalue, rvalue, array, member_pointer, function_type, qualified, vector, complex, expansion, integer, boolean, null_pointer, encoding_literal, address_of, pack, nil, list}
 use Rattle.cpp_grammar.specs.Values.{Candidate}
 use Rattle.cpp_tree.specs.Nodes.{qualifiers_of, mark_of}
 use Rattle.cpp_press_laws.specs.Texts.{counted, ordinal, signed_text, qualifier_letters, mark_letter, name_letters, special_code, thunk_text, discriminator_text}
@@ -233,6 +233,7 @@ content n (in_std p) = elim (is_operator p) [ true ↦ in_N_and_E [] (text (code
 content n (within prefix p) = in_N_and_E [] ((ways_of n prefix).as_prefix and (ways_of n p).as_piece)
 content n (instance t a) = before n true t a
 content n (local around entity d) = local_text (ways_of n around).as_encoding entity (ways_of n entity).between_N_and_E d []
+content n (tagged of_structor name tag) = (ways_of n name).as_type and text (codes "B" ++ counted tag)
 content n (parameter k) = text (codes "T" ++ ordinal k)
 content n (vendor name) = text (codes "u" ++ counted name)
 content n (pointer t) = text (codes "P") and (ways_of n t).as_type
@@ -254,6 +255,7 @@ content-is n (in_std p) e is = std-is n p e
 content-is n (within prefix p) e is = nested-is n prefix p e
 content-is n (instance t a) e is = refl
 content-is n (local around entity d) e is = local-is n around entity d [] e
+content-is n (tagged of_structor name tag) e is = two (ways_of n name).as_type (text (codes "B" ++ counted tag)) e
 content-is n (parameter k) e is = refl
 content-is n (vendor name) e is = refl
 content-is n (pointer t) e is = two (text (codes "P")) (ways_of n t).as_type e

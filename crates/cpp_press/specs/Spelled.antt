@@ -1,7 +1,7 @@
 -- Trees that are spelled out, each onto what stands behind it.
 use Rattle.std.specs.Prelude.{ℕ, ◌-◌, List, [], ◌∷◌, ◌++◌, Bool, true, false, cond, ◌&&◌, ◌||◌, codes, Option}
 use Prim.Native.String.{String}
-use Rattle.cpp_grammar.specs.Term.{Qualifiers, RefQualifier, any_value, Term, symbol, function, object, special, thunk, of_name, construction, alone, in_std, within, instance, local, holder, abbreviation, parameter, source, operator, literal_operator, constructor, destructor, lambda, unnamed, string_literal, builtin, sized_float, vendor, pointer, lvalue, rvalue, array, member_pointer, function_type, qualified, vector, complex, expansion, integer, boolean, null_pointer, encoding_literal, address_of, pack, nil, list}
+use Rattle.cpp_grammar.specs.Term.{Qualifiers, RefQualifier, any_value, Term, symbol, function, object, special, thunk, of_name, construction, alone, in_std, within, instance, local, holder, tagged, abbreviation, parameter, source, operator, literal_operator, constructor, destructor, lambda, unnamed, string_literal, builtin, sized_float, vendor, pointer, lvalue, rvalue, array, member_pointer, function_type, qualified, vector, complex, expansion, integer, boolean, null_pointer, encoding_literal, address_of, pack, nil, list}
 use Rattle.cpp_press_laws.specs.Texts.{counted, ordinal, signed_text, qualifier_letters, mark_letter, name_letters, special_code, thunk_text, discriminator_text}
 use Rattle.cpp_press_laws.specs.Components.{Spelling}
 use Rattle.cpp_press_laws.specs.Pressing.{is_operator, is_encoding, is_one_piece}
@@ -107,6 +107,7 @@ compound_onto n (complex t) rest = behind_onto n "C" t rest
 compound_onto n (expansion t) rest = behind_onto n "Dp" t rest
 compound_onto n (array digits t) rest = written (codes "A" ++ digits ++ codes "_") onto in_way n Way.Type t onto rest
 compound_onto n (vector digits t) rest = written (codes "Dv" ++ digits ++ codes "_") onto in_way n Way.Type t onto rest
+compound_onto n (tagged of_structor name tag) rest = in_way n Way.Type name onto written (codes "B" ++ counted tag) onto rest
 compound_onto n (member_pointer class member) rest = behind_onto n "M" class (in_way n Way.Type member onto rest)
 compound_onto n (qualified q t) rest = written (qualifier_letters q) onto in_way n Way.UnderQualifiers t onto rest
 compound_onto n (function_type c_linkage noexcept ref returned parameters) rest =
@@ -185,6 +186,7 @@ is_component (in_std p) = true
 is_component (within prefix p) = true
 is_component (instance template arguments) = true
 is_component (local around entity discriminator) = true
+is_component (tagged of_structor name tag) = true
 is_component (parameter k) = true
 is_component (vendor name) = true
 is_component (pointer t) = true

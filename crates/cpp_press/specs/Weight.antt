@@ -17,6 +17,7 @@ weight (within prefix p) = 12 + weight prefix + weight p
 weight (instance template arguments) = 12 + weight template + weight arguments
 weight (local e entity discriminator) = 12 + weight e + weight entity
 weight (holder name) = 12 + weight name
+weight (tagged of_structor name tag) = 12 + weight name
 weight (lambda parameters k) = 12 + weight parameters
 weight (pointer type) = 12 + weight type
 weight (lvalue type) = 12 + weight type

@@ -32,6 +32,7 @@ fn is_component(node: Node) -> bool
         Node::Within { .. } => true,
         Node::Instance { .. } => true,
         Node::Local { .. } => true,
+        Node::Tagged { .. } => true,
         Node::Parameter { .. } => true,
         Node::Vendor(_) => true,
         Node::Pointer(_) => true,
@@ -140,6 +141,10 @@ fn then_compound(
         Node::Vector { digits, element } => {
             then_tree(symbol, element, Way::Type, encoding, tasks)?;
             then_text(symbol, Text::Digits(b"Dv", digits), tasks)?;
+        }
+        Node::Tagged { name, tag, .. } => {
+            then_text(symbol, Text::Counted(b"B", tag), tasks)?;
+            then_tree(symbol, name, Way::Type, encoding, tasks)?;
         }
         Node::MemberPointer { class, member } => {
             then_tree(symbol, member, Way::Type, encoding, tasks)?;

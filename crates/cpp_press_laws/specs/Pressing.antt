@@ -3,7 +3,7 @@
 use Rattle.std.specs.Prelude.{ℕ, ◌-◌, List, [], ◌∷◌, ◌++◌, Bool, true, false, cond, ◌&&◌, codes, Option}
 use Prim.Native.String.{String}
 use Rattle.sym_spell.specs.Pressing.{◌and◌, text, nothing}
-use Rattle.cpp_grammar.specs.Term.{RefQualifier, Term, symbol, function, object, special, thunk, of_name, construction, alone, in_std, within, instance, local, holder, abbreviation, parameter, source, operator, literal_operator, constructor, destructor, lambda, unnamed, string_literal, builtin, sized_float, vendor, pointer, lvalue, rvalue, array, member_pointer, function_type, qualified, vector, complex, expansion, integer, boolean, null_pointer, encoding_literal, address_of, pack, nil, list, absent}
+use Rattle.cpp_grammar.specs.Term.{RefQualifier, Term, symbol, function, object, special, thunk, of_name, construction, alone, in_std, within, instance, local, holder, tagged, abbreviation, parameter, source, operator, literal_operator, constructor, destructor, lambda, unnamed, string_literal, builtin, sized_float, vendor, pointer, lvalue, rvalue, array, member_pointer, function_type, qualified, vector, complex, expansion, integer, boolean, null_pointer, encoding_literal, address_of, pack, nil, list, absent}
 use Rattle.cpp_press_laws.specs.Texts.{counted, ordinal, signed_text, qualifier_letters, mark_letter, name_letters, special_code, thunk_text, discriminator_text}
 use Rattle.cpp_press_laws.specs.Components.{Spelling, ended, referred, component}
 
@@ -169,6 +169,8 @@ ways_of n (local e entity discriminator) =
     let spelling = local_text (ways_of n e).as_encoding entity (ways_of n entity).between_N_and_E discriminator in
     record (type_ways (component n (local e entity discriminator) (spelling []))) { as_name = spelling }
 ways_of n (holder name) = record no_ways { as_prefix = (ways_of n name).as_prefix and says "M" }
+ways_of n (tagged of_structor name tag) =
+    type_ways (component n (tagged of_structor name tag) ((ways_of n name).as_type and text (codes "B" ++ counted tag)))
 ways_of n (abbreviation l) = type_ways (text (codes "S" ++ l ∷ []))
 ways_of n (parameter k) = type_ways (component n (parameter k) (text (codes "T" ++ ordinal k)))
 ways_of n (source internal name) = piece_ways (text (cond internal (codes "L") [] ++ counted name))

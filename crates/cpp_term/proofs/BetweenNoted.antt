@@ -8,7 +8,7 @@ use Rattle.cpp_grammar.specs.Term.{Term, in_std, instance, holder, parameter, lv
 use Rattle.cpp_grammar.specs.Values as leaf_
 use Rattle.cpp_grammar.specs.Values.{Around, Prefix, prefix_tree, Value, State, tree_of, piece_of, is_listed, text_of, letter_of, part}
 use Rattle.cpp_grammar.specs.References.{appended, with_type, with_unqualified, with_prefix, substituted, parameter_named}
-use Rattle.cpp_grammar.specs.Between.{in_signature, under_expansion, after, inside, extended, applied, no_items, named_so_far, listed_so_far, piece_so_far, parameter_so_far, index_of, between}
+use Rattle.cpp_grammar.specs.Between.{in_signature, under_expansion, after, inside, extended, applied, no_items, named_so_far, listed_so_far, piece_so_far, with_tag, tag_so_far, parameter_so_far, index_of, between}
 use Rattle.cpp_grammar.specs.Meaning.{meaning}
 use Rattle.cpp_grammar.specs.Unfolding as unfolding_
 use Rattle.cpp_grammar.specs.Unfolding.{close}
@@ -21,7 +21,7 @@ use Rattle.cpp_term.specs.Meaning as noted_
 use Rattle.cpp_term.specs.Unfolding as unfolded_
 use Rattle.cpp_term.specs.Annotated.{argument_in, annotate, noted_scope, noted_value, noted_values, noted_prefix, noted_around}
 use Rattle.cpp_term.proofs.Notes.{both}
-use Rattle.cpp_term.proofs.MeaningNoted.{part_noted, tree_noted, piece_noted, text_noted, letter_noted, listed_noted, items_noted, applied_noted, text_part_, extended_noted, prefix_tree_noted, Inside, meaning_noted}
+use Rattle.cpp_term.proofs.MeaningNoted.{structor_noted, part_noted, tree_noted, piece_noted, text_noted, letter_noted, listed_noted, items_noted, applied_noted, text_part_, extended_noted, prefix_tree_noted, Inside, meaning_noted}
 use Rattle.cpp_term.proofs.StatesNoted.{Alike, alike_bind, Same, Moves, moves_none, one_moves, type_moves, unqualified_moves, prefix_moves, Comes, get_noted, substituted_noted, parameter_noted}
 
 -- what stands inside has the same scope, or none
@@ -105,6 +105,18 @@ listed_goes around x y v packs = record {
   scope = inl (refl, refl);
 }
 
+tag_noted : (s : Option term_.Term) (t : Term) (u : term_.Term) (tag other : List ℕ) → u ≡ annotate s t → other ≡ tag → between_.with_tag u other ≡ annotate s (with_tag t tag)
+unfolding between_.with_tag with_tag annotate
+tag_noted s t u tag other is same = rw (is, same) (ap (λ b. term_.tagged b (annotate s t) tag) (structor_noted s t))
+
+tag_goes : (around : Around) (x : State) (y : value_.State) (v : Value) → y.packs ≡ x.packs →
+    Alike (Goes around x y) (tag_so_far around (text_of v) x) (between_.tag_so_far (noted_around around) (value_.text_of (noted_value (noted_scope around.scope) v)) y)
+unfolding tag_so_far between_.tag_so_far named_so_far between_.named_so_far noted_around noted_values
+tag_goes around x y v packs =
+    named_goes around x x y y (with_tag (prefix_tree around.prefix) (text_of v)) _ false [] []
+    (tag_noted (noted_scope around.scope) (prefix_tree around.prefix) _ (text_of v) _ (prefix_tree_noted (noted_scope around.scope) around.prefix) (text_noted (noted_scope around.scope) v))
+    refl (moves_none around x x y y refl refl packs)
+
 pub between_noted : (production : Production) (around : Around) (place : ℕ) (vs : List Value) (x : State) (y : value_.State) → StaysInside production → y.packs ≡ x.packs →
     Alike (Goes around x y) (between production around place vs x) (between_.between production (noted_around around) place (noted_values (noted_scope around.scope) vs) y)
 unfolding between between_.between noted_values noted_value named_so_far between_.named_so_far listed_so_far between_.listed_so_far annotate noted_around noted_prefix
@@ -140,6 +152,8 @@ between_noted Production.NestInstance around place [] x y stays packs = inside_g
 between_noted Production.NestInstance around place (v ∷ w ∷ []) x y stays packs =
     let e = both term_.instance (prefix_tree_noted (noted_scope around.scope) around.prefix) (items_noted (noted_scope around.scope) v) in
     named_goes around x x y y (instance (prefix_tree around.prefix) (no_items v)) _ false (w ∷ []) (noted_value (noted_scope around.scope) w ∷ []) e refl (moves_none around x x y y refl refl packs)
+between_noted Production.NestTag around place (v ∷ []) x y stays packs = tag_goes around x y v packs
+between_noted Production.Tag around place (v ∷ []) x y stays packs = tag_goes around x y v packs
 between_noted Production.NestNext around place [] x y stays packs =
     after_goes around x (with_prefix around x) y _ leaf_.nothing_there (prefix_tree around.prefix) _ true [] (prefix_tree_noted (noted_scope around.scope) around.prefix) (prefix_moves around x y packs)
 between_noted Production.NestNext around place (v ∷ []) x y stays packs = after_goes around x x y y v (tree_of v) _ false (v ∷ []) (tree_noted (noted_scope around.scope) v) (moves_none around x x y y refl refl packs)

@@ -14,7 +14,7 @@ use Rattle.sym_link.specs.Unfold.{found, alone, unfold_tree, unfold_forest}
 use Rattle.cpp_grammar.specs.declared.kind.Kind.{Kind}
 use Rattle.cpp_grammar.specs.declared.production.Production.{Production}
 use Rattle.cpp_grammar.specs.KindNumbers.{ENCODING, SPECIAL}
-use Rattle.cpp_grammar.specs.Grammar.{Alternative, is_in, pick, kinds, number_of, number_of_kind, parts_of}
+use Rattle.cpp_grammar.specs.Grammar.{Alternative, is_in, pick, kinds, number_of_kind, parts_of}
 use Rattle.cpp_grammar.specs.Either.{either_alternatives, either_choose}
 use Rattle.cpp_grammar.specs.Table.{either, rule_of, rule_taken}
 use Rattle.cpp_grammar.proofs.Widening.{either_sound}

@@ -1,10 +1,10 @@
 -- What productions stand for, annotated.
 use Rattle.std.proofs.Common.{◌≡◌, refl, ap, sym, ◌∙◌, ℕ, zero, suc, List, [], ◌∷◌, Bool, true, false, not, ◌&&◌, cond, nat_eq, Option, Some, None}
 use Rattle.cpp_grammar.specs.declared.production.Production.{Production}
-use Rattle.cpp_grammar.specs.Term.{RefQualifier, lvalue_only, rvalue_only, non_virtual, by_table, adjusting, covariant, Term, function, within, instance, local, constructor, destructor, string_literal, builtin, lvalue, rvalue, nil, list, absent}
+use Rattle.cpp_grammar.specs.Term.{RefQualifier, any_value, lvalue_only, rvalue_only, non_virtual, by_table, adjusting, covariant, Term, function, within, instance, local, tagged, constructor, destructor, string_literal, builtin, lvalue, rvalue, nil, list, absent}
 use Rattle.cpp_grammar.specs.Scope.{arguments_of, before_arguments, is_structor, has_return_type, is_open}
 use Rattle.cpp_grammar.specs.Values as leaf_
-use Rattle.cpp_grammar.specs.Values.{Around, Prefix, prefix_tree, prefix_listed, Value, tree_of, piece_of, is_listed, qualifiers_of, ref_of, letter_of, is_there, mark_of, text_of, signed_of, adjustment_of, normal, signed_digits, local_number, part}
+use Rattle.cpp_grammar.specs.Values.{Around, Prefix, prefix_tree, prefix_listed, Value, unqualified, tree_of, piece_of, is_listed, qualifiers_of, ref_of, letter_of, is_there, mark_of, text_of, signed_of, adjustment_of, normal, signed_digits, local_number, part}
 use Rattle.cpp_grammar.specs.Between as going_
 use Rattle.cpp_grammar.specs.Meaning as meaning_
 use Rattle.cpp_grammar.specs.Meaning.{meaning}
@@ -230,10 +230,11 @@ prefix_listed_noted s (leaf_.behind u listed) = refl
 
 -- ## Encodings
 
-structor_noted : (s : Option term_.Term) (t : Term) → scope_.is_structor (annotate s t) ≡ is_structor t
+pub structor_noted : (s : Option term_.Term) (t : Term) → scope_.is_structor (annotate s t) ≡ is_structor t
 unfolding scope_.is_structor is_structor annotate
 structor_noted s (within prefix (constructor digit)) = refl
 structor_noted s (within prefix (destructor digit)) = refl
+structor_noted s (tagged of_structor name tag) = refl
 structor_noted s _ = refl
 
 before_noted : (s : Option term_.Term) (t : Term) → scope_.is_structor (scope_.before_arguments (annotate s t)) ≡ is_structor (before_arguments t)
@@ -347,6 +348,8 @@ meaning_noted Production.OperatorName byte around vs h = ap (λ x. value_.tree x
 meaning_noted Production.Constructor byte around vs h = ap (λ x. value_.tree x false) (applied_part (noted_scope around.scope) vs 0 1)
 meaning_noted Production.Destructor byte around vs h = ap (λ x. value_.tree x false) (applied_part (noted_scope around.scope) vs 0 1)
 meaning_noted Production.StdName byte around vs h = ap (λ x. value_.tree x false) (applied_part (noted_scope around.scope) vs 0 1)
+meaning_noted Production.Tag byte around vs h = ap (λ x. value_.named x unqualified any_value) (applied_part (noted_scope around.scope) vs 0 1)
+meaning_noted Production.NestTag byte around vs h = part_noted (noted_scope around.scope) vs 1
 meaning_noted Production.AbbreviatedName byte around vs h = ap (λ x. value_.tree x false) (applied_part (noted_scope around.scope) vs 0 1)
 meaning_noted Production.InternalPiece byte around vs h = ap (λ x. value_.piece (term_.source true x)) (text_part_ (noted_scope around.scope) vs 0)
 meaning_noted Production.LocalTypePiece byte around vs h = part_noted (noted_scope around.scope) vs 0

@@ -4,7 +4,7 @@ use Prim.Native.String.{String}
 use Rattle.sym_print.specs.declared.detail.Detail.{Detail}
 use Rattle.sym_print.specs.Details.{has_arguments, has_parameters}
 use Rattle.sym_print.specs.Unfold.{PartOf, text, sub}
-use Rattle.cpp_grammar.specs.Term.{Qualifiers, RefQualifier, Signed, Term, symbol, function, object, of_name, alone, in_std, within, instance, local, holder, abbreviation, parameter, source, operator, constructor, destructor, lambda, builtin, sized_float, pointer, lvalue, rvalue, array, member_pointer, function_type, qualified, expansion, integer, pack, nil, list, absent}
+use Rattle.cpp_grammar.specs.Term.{Qualifiers, RefQualifier, Signed, Term, symbol, function, object, of_name, alone, in_std, within, instance, local, holder, tagged, abbreviation, parameter, source, operator, constructor, destructor, lambda, builtin, sized_float, pointer, lvalue, rvalue, array, member_pointer, function_type, qualified, expansion, integer, pack, nil, list, absent}
 use Rattle.cpp_grammar.specs.Scope.{arguments_of}
 use Rattle.cpp_grammar.specs.Items.{Form, root, full, bare, left, right, low, base, piece, first, more, expand, Context, Item, closed, argument, head, is_reference, is_funarr, packs_of, is_empty}
 use Rattle.cpp_grammar.specs.Parts as leaf_
@@ -228,6 +228,20 @@ base_within_noted c prefix (constructor digit) = refl
 base_within_noted c prefix (destructor digit) = refl
 base_within_noted c prefix p = piece_noted c p
 
+base_tagged_within_noted : (c : Context) (prefix p : Term) → part_.base_tagged_within (noted_context c) (annotate (at c) prefix) (annotate (at c) p) ≡ noted_parts (leaf_.base_tagged_within c prefix p)
+unfolding part_.base_tagged_within leaf_.base_tagged_within annotate noted_parts noted_part noted_item
+base_tagged_within_noted c prefix (constructor digit) = refl
+base_tagged_within_noted c prefix (destructor digit) = refl
+base_tagged_within_noted c prefix p = piece_noted c p
+
+base_tagged_noted : (c : Context) (t : Term) → part_.base_tagged (noted_context c) (annotate (at c) t) ≡ noted_parts (leaf_.base_tagged c t)
+unfolding part_.base_tagged leaf_.base_tagged annotate noted_parts noted_part noted_item
+base_tagged_noted c (alone p) = piece_noted c p
+base_tagged_noted c (in_std p) = piece_noted c p
+base_tagged_noted c (within prefix p) = base_tagged_within_noted c prefix p
+base_tagged_noted c (symbol e suffix) = refl
+base_tagged_noted c _ = refl
+
 base_noted : (d : Detail) (c : Context) (t : Term) → part_.base_parts d (noted_context c) (annotate (at c) t) ≡ noted_parts (leaf_.base_parts d c t)
 unfolding part_.base_parts leaf_.base_parts annotate noted_parts noted_part noted_item
 base_noted d c (alone p) = piece_noted c p
@@ -236,6 +250,7 @@ base_noted d c (within prefix p) = base_within_noted c prefix p
 base_noted d c (instance template arguments) = refl
 base_noted d c (local encoding entity discriminator) = refl
 base_noted d c (holder name) = refl
+base_noted d c (tagged of_structor name tag) = base_tagged_noted c name
 base_noted d c (abbreviation letter) = refl
 base_noted d c (parameter k) = named_noted c base k
 base_noted d c t = left_noted d c t

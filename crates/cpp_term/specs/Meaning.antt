@@ -5,7 +5,7 @@ use Rattle.cpp_term.specs.Term.{Term, symbol, function, object, special, thunk, 
 use Rattle.cpp_grammar.specs.Term.{RefQualifier, any_value, lvalue_only, rvalue_only, non_virtual, by_table, adjusting, covariant}
 use Rattle.cpp_term.specs.Scope.{has_return_type}
 use Rattle.cpp_term.specs.Values.{Around, prefix_tree, prefix_listed, Value, nothing_there, letter, text, signed, adjusted, tree, piece, named, signature, tree_of, piece_of, is_listed, qualifiers_of, ref_of, letter_of, is_there, mark_of, text_of, signed_of, adjustment_of, part}
-use Rattle.cpp_grammar.specs.Values.{normal, signed_digits, local_number}
+use Rattle.cpp_grammar.specs.Values.{unqualified, normal, signed_digits, local_number}
 use Rattle.cpp_term.specs.Between.{extended, applied, no_items}
 
 -- a lone void is no parameters
@@ -94,12 +94,14 @@ meaning Production.Constructor byte around vs = tree (applied (tree_of (part vs 
 meaning Production.Destructor byte around vs = tree (applied (tree_of (part vs 0)) (part vs 1)) false
 meaning Production.StdName byte around vs = tree (applied (tree_of (part vs 0)) (part vs 1)) false
 meaning Production.AbbreviatedName byte around vs = tree (applied (tree_of (part vs 0)) (part vs 1)) false
+meaning Production.Tag byte around vs = named (applied (tree_of (part vs 0)) (part vs 1)) unqualified any_value
 meaning Production.InternalPiece byte around vs = piece (source true (text_of (part vs 0)))
 meaning Production.LocalTypePiece byte around vs = part vs 0
 meaning Production.SourcePiece byte around vs = piece (source false (text_of (part vs 0)))
 meaning Production.OperatorPiece byte around vs = part vs 0
 meaning Production.NestWithS byte around vs = part vs 0
 meaning Production.NestParameter byte around vs = part vs 1
+meaning Production.NestTag byte around vs = part vs 1
 meaning Production.NestInternal byte around vs = part vs 1
 meaning Production.NestLocalType byte around vs = part vs 1
 meaning Production.NestSource byte around vs = part vs 1

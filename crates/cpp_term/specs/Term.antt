@@ -21,6 +21,8 @@ pub data Term : Type 0 where
   local : (encoding entity : Term) → (discriminator : Option (List ℕ)) → Term
   -- a data member or a variable, of what stands in its initializer
   holder : (name : Term) → Term
+  -- a name with one more tag, and whether it is that of a constructor or a destructor
+  tagged : (of_structor : Bool) → (name : Term) → (tag : List ℕ) → Term
   abbreviation : (letter : ℕ) → Term
   -- a parameter by its number, and the argument that it names
   parameter : (number : ℕ) → (argument : Term) → Term

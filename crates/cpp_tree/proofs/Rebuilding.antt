@@ -2,7 +2,7 @@
 use Rattle.std.proofs.Common.{◌≡◌, ℕ, suc, ◌+◌, ◌*◌, ◌<◌, List, [], ◌∷◌, length, slice_get, arith, Bool, true, false, Option, Some, None, refl, sym, ap, ◌∙◌}
 use Rattle.std.specs.Prelude.{◌==◌, if◌then◌else◌}
 use Rattle.std.proofs.lemmas.Bool.{eqb-true}
-use Rattle.cpp_grammar.specs.Term.{Qualifiers, RefQualifier, any_value, lvalue_only, rvalue_only, non_virtual, by_table, Thunk, adjusting, covariant, Term, function, object, thunk, of_name, alone, in_std, within, local, source, builtin, function_type, qualified, integer, boolean}
+use Rattle.cpp_grammar.specs.Term.{Qualifiers, RefQualifier, any_value, lvalue_only, rvalue_only, non_virtual, by_table, Thunk, adjusting, covariant, Term, function, object, thunk, of_name, alone, in_std, within, local, tagged, source, builtin, function_type, qualified, integer, boolean}
 use Rattle.cpp_tree.specs.declared.view.Node.{Node}
 use Rattle.cpp_tree.specs.declared.view.TheConstants.{ALONE, IN_STD, NESTED}
 use Rattle.cpp_tree.specs.declared.tree_production.TheConstants.{GUARD, OF_NAME, WIDE_THUNK, BUILTIN_WITH_D}
@@ -160,6 +160,7 @@ tree-made (object name q mark) = object-made name q mark
 tree-made (of_name letter name q mark) = named-made letter name q mark
 tree-made (function_type c n mark returned parameters) = type-made c n mark returned parameters
 tree-made (qualified q type) = ap (λ p. qualified p type) (qualifiers-back q)
+tree-made (tagged of_structor name tag) = ap (λ b. tagged b name tag) (bit-back of_structor)
 tree-made (integer type value) = ap (λ b. integer type (record { negative = b; digits = value.digits })) (bit-back value.negative)
 tree-made (boolean truth) = ap boolean (bit-back truth)
 tree-made _ = refl

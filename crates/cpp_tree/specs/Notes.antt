@@ -24,6 +24,7 @@ opens es (Node.Within prefix p) = open_at es prefix || piece_opens es p
 opens es (Node.Instance template arguments) = open_at es template || open_at es arguments
 opens es (Node.Local e entity d) = open_at es entity
 opens es (Node.Holder name) = open_at es name
+opens es (Node.Tagged of_structor name tag) = open_at es name
 opens es (Node.Parameter k a) = true
 opens es (Node.Pointer t) = open_at es t
 opens es (Node.Lvalue t) = open_at es t
@@ -98,6 +99,7 @@ packing es (Node.Within prefix p) = first_of (packs_at es prefix) (piece_packs e
 packing es (Node.Instance template arguments) = first_of (packs_at es template) (packs_at es arguments)
 packing es (Node.Local e entity d) = packs_at es entity
 packing es (Node.Holder name) = packs_at es name
+packing es (Node.Tagged of_structor name tag) = packs_at es name
 packing es (Node.Parameter k a) = argument_packs es (entry_at es a).node
 packing es (Node.Pointer t) = packs_at es t
 packing es (Node.Lvalue t) = packs_at es t
@@ -122,6 +124,7 @@ is_structor_piece _ = false
 
 unfoldable pub is_structor_node : Node → Bool
 is_structor_node (Node.Within prefix p) = is_structor_piece p
+is_structor_node (Node.Tagged of_structor name tag) = of_structor
 is_structor_node _ = false
 
 unfoldable pub returning : List Entry → Node → Bool

@@ -3,6 +3,7 @@
 ghost use Rattle.std.specs.Prelude.{◌≡◌, ◌≤◌};
 ghost use Rattle.cpp_tree.specs.Fields.{bit, mark_number, qualifiers_number};
 ghost use Rattle.cpp_tree.specs.Nodes.{qualifiers_of, mark_of, is_encoding};
+ghost use Rattle.cpp_tree.specs.Notes.{is_structor_node};
 
 use sym_core::Span;
 
@@ -144,6 +145,12 @@ pub enum Node {
         discriminator: Option<Span>,
     },
     Holder(u32),
+    /// A name with one tag more, and whether it is that of a constructor or a destructor.
+    Tagged {
+        of_structor: bool,
+        name: u32,
+        tag: Span,
+    },
     Abbreviation(u8),
     Parameter {
         number: u32,
@@ -216,6 +223,26 @@ impl Node {
             Node::Thunk { .. } => true,
             Node::OfName { .. } => true,
             Node::Construction { .. } => true,
+            _ => false,
+        }
+    }
+
+    /// Whether it is the name of a constructor or a destructor.
+    #[tactic(auto, unfolding(crate::specs::Notes::is_structor_node, crate::specs::Notes::is_structor_piece))]
+    #[inline(always)]
+    pub fn is_structor(self) -> bool
+        ensures { result ≡ is_structor_node self }
+    {
+        match self {
+            Node::Within {
+                piece: Piece::Constructor(_),
+                ..
+            } => true,
+            Node::Within {
+                piece: Piece::Destructor(_),
+                ..
+            } => true,
+            Node::Tagged { of_structor, .. } => of_structor,
             _ => false,
         }
     }

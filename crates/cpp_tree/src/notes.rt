@@ -57,20 +57,14 @@ fn of_name(words: Words) -> Words
 
 /// What two words tell of an instance of a template.
 #[inline(always)]
-#[tactic(auto, unfolding(crate::specs::Compact::class_kept, crate::specs::Compact::arguments_kept, crate::specs::Compact::returns_kept, crate::specs::Compact::count_kept, crate::specs::Compact::run_kept, crate::specs::Notes::is_structor_node, crate::specs::Notes::is_structor_piece))]
+#[tactic(auto, unfolding(crate::specs::Compact::class_kept, crate::specs::Compact::arguments_kept, crate::specs::Compact::returns_kept, crate::specs::Compact::count_kept, crate::specs::Compact::run_kept))]
 fn of_instance(template: Node) -> Words
     ensures { (n : Node) (packs : Option ℕ) (is_open : Bool) (first : ℕ) → kept n packs is_open false result first 0 ≡ with_arguments n packs is_open (Some first) (not (is_structor_node template)) }
 {
-    match template {
-        Node::Within {
-            piece: Piece::Constructor(_),
-            ..
-        } => Words::Arguments,
-        Node::Within {
-            piece: Piece::Destructor(_),
-            ..
-        } => Words::Arguments,
-        _ => Words::ReturningArguments,
+    if template.is_structor() {
+        Words::Arguments
+    } else {
+        Words::ReturningArguments
     }
 }
 
@@ -362,6 +356,7 @@ impl Nodes {
             } => self.noted_instance(node, template, arguments),
             Node::Local { entity, .. } => self.noted_local(node, entity),
             Node::Holder(name) => self.noted_type(node, name, Words::Plain),
+            Node::Tagged { name, .. } => self.noted_type(node, name, Words::Plain),
             Node::Parameter { argument, .. } => self.noted_parameter(symbol, node, argument),
             Node::Pointer(ty) => self.noted_type(node, ty, Words::Plain),
             Node::Lvalue(ty) => self.noted_type(node, ty, Words::Lvalue),

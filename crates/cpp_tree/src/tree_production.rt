@@ -216,3 +216,7 @@ pub const HOLDER: u16 = 66;
 /// A floating type of so many bits. Numbers: the byte behind their digits, `_`, `x` or `b`. Texts: the digits. Symbols of the wide
 /// grammar alone have it.
 pub const SIZED_FLOAT: u16 = 67;
+
+/// A name with a tag. Numbers: 1 where it is that of a constructor or a destructor. Texts: the tag. Parts: the name without it.
+/// Symbols of the wide grammar alone have it.
+pub const TAGGED: u16 = 66;

@@ -18,7 +18,7 @@ use crate::tree_production::{
     NO_PIECE, NULL_POINTER, NUMBERED_LOCAL, OBJECT, OF_NAME, OPERATOR, PACK, PARAMETER, POINTER,
     QUALIFIED, RVALUE, SIZED_FLOAT, SOURCE, SPECIAL, STD_CONSTRUCTOR, STD_DESTRUCTOR, STD_LAMBDA,
     STD_LITERAL_OPERATOR, STD_NO_PIECE, STD_OPERATOR, STD_SOURCE, STD_STRING_LITERAL, STD_UNNAMED,
-    STRING_LITERAL, SYMBOL, TABLE_THUNK, THUNK, UNNAMED, VECTOR, VENDOR, WIDE_THUNK,
+    STRING_LITERAL, SYMBOL, TABLE_THUNK, TAGGED, THUNK, UNNAMED, VECTOR, VENDOR, WIDE_THUNK,
 };
 use crate::{Nodes, node};
 use sym_core::Span;
@@ -354,6 +354,11 @@ pub fn view_of(symbol: &[u8], nodes: &Nodes, node: node::Node) -> NodeView
             discriminator,
         } => view_of_local(symbol, nodes, encoding, entity, discriminator),
         node::Node::Holder(name) => one(HOLDER, none, NO_TEXT, name),
+        node::Node::Tagged {
+            of_structor,
+            name,
+            tag,
+        } => one(TAGGED, [bit(of_structor) as u64, 0], tag, name),
         node::Node::Abbreviation(letter) => leaf(ABBREVIATION, letter as u64),
         node::Node::Parameter { number, .. } => leaf(PARAMETER, number as u64),
         node::Node::Builtin(letter) => leaf(BUILTIN, letter as u64),

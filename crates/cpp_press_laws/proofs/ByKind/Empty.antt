@@ -31,6 +31,7 @@ nothing-read Kind.MaybeDiscriminator may around state = (refl, tt)
 nothing-read Kind.MaybeCLinkage may around state = refl
 nothing-read Kind.Items may around state = λ outer. (tt, nil-fits around item_type state)
 nothing-read Kind.MaybeArguments may around state = inl (refl, refl)
+nothing-read Kind.ArgumentsAlone may around state = inl (refl, refl)
 nothing-read Kind.ArgumentList may around state = λ outer. no-arguments around false state
 nothing-read Kind.PackList may around state = λ outer. no-arguments around true state
 nothing-read Kind.MaybeZero may around state = refl

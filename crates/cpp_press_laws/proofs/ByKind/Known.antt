@@ -97,6 +97,9 @@ KindRead Kind.NestAfterS around v old new = BeginsName around → NestRead aroun
 KindRead Kind.NestRest around v old new =
     (outer : Around) (t : Term) (listed : Bool) (start : State) → around ≡ after t listed outer → SoFarFits outer t listed start old
     → NestRead outer v start new
+KindRead Kind.NestRestAlone around v old new =
+    (outer : Around) (t : Term) (listed : Bool) (start : State) → around ≡ after t listed outer → SoFarFits outer t listed start old
+    → NestRead outer v start new
 KindRead Kind.NestTail around v old new =
     (outer : Around) (t : Term) (start : State) → around ≡ after t false outer → NestFits outer t start old → NestRead outer v start new
 KindRead Kind.Component around v old new =
@@ -117,7 +120,8 @@ KindRead Kind.Anonymous around v old new =
 KindRead Kind.MaybeCLinkage around v old new = new ≡ old
 KindRead Kind.SourceOrLocal around v old new = (begins_name (piece_of v) ≡ true) × PieceFits around (piece_of v) old new
 KindRead Kind.MaybeArguments around v old new = KindFits Kind.MaybeArguments around v old new
-KindRead Kind.Arguments around v old new = (is_there v ≡ true) × KindFits Kind.Arguments around v old new
+KindRead Kind.ArgumentsAlone around v old new = KindFits Kind.MaybeArguments around v old new
+KindRead Kind.Arguments around v old new = (v ≡ tree (tree_of v) true) × KindFits Kind.Arguments around v old new
 KindRead Kind.Bit around v old new = new ≡ old
 KindRead Kind.MaybeZero around v old new = new ≡ old
 KindRead Kind.Operator around v old new = (names_function (piece_of v) ≡ true) × PieceFits around (piece_of v) old new

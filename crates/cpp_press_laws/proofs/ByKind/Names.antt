@@ -4,7 +4,7 @@ use Rattle.sym_shape.specs.declared.rule.Sym.TheVariants.{Kind as OfKind}
 use Rattle.sym_shape.specs.Tree.{spell}
 use Rattle.cpp_grammar.specs.declared.kind.Kind.{Kind}
 use Rattle.cpp_grammar.specs.declared.production.Production.{Production}
-use Rattle.cpp_grammar.specs.KindNumbers.{MAYBE_ARGUMENTS}
+use Rattle.cpp_grammar.specs.KindNumbers.{ARGUMENTS_ALONE}
 use Rattle.cpp_grammar.specs.Grammar.{alternatives, number_of_kind, parts_of}
 use Rattle.cpp_grammar.specs.Term.{Term, in_std, instance, parameter}
 use Rattle.cpp_grammar.specs.Values.{State, outermost, Around, prefix_tree, prefix_listed, Value, tree, tree_of, piece_of, is_listed, is_there, qualifiers_of, ref_of, part}
@@ -32,13 +32,13 @@ use Rattle.cpp_press_laws.proofs.ByKind.Nests.{parameter-goes}
 
 -- with their I and E
 arguments-come : (kind : Kind) (around : Around) (at : ℕ) (old : State) (v : Value) (new : State)
-    → OpenedRead kind around at old v new Production.Arguments → (is_there v ≡ true) × KindFits Kind.Arguments around v old new
-unfolding parts_of number_of_kind between inside is_there meaning part unfolding_.behind
+    → OpenedRead kind around at old v new Production.Arguments → (v ≡ tree (tree_of v) true) × KindFits Kind.Arguments around v old new
+unfolding parts_of number_of_kind between inside tree_of meaning part unfolding_.behind
 arguments-come kind around at old v new o =
     let a = o.goes tt in
     let b = a.onward in
     let byte : ℕ = byte_of o.taken in
-    comes-as (λ w s. (is_there w ≡ true) × KindFits Kind.Arguments around w old s) Production.Arguments tt byte around at old
+    comes-as (λ w s. (w ≡ tree (tree_of w) true) × KindFits Kind.Arguments around w old s) Production.Arguments tt byte around at old
     (a.value ∷ b.value ∷ []) b.after v new b.onward (
       refl,
       subst (λ s. KindFits Kind.Arguments around (tree (no_items a.value) true) old s) (sym b.read.0)
@@ -51,7 +51,7 @@ arguments-branch rule taken parts all around at old v new front is e =
     go (opened-read Kind.Arguments rule taken parts all around at old v new front is e)
   where
     go : OneOf (alternatives Kind.Arguments) (OpenedRead Kind.Arguments around at old v new)
-        → (is_there v ≡ true) × KindFits Kind.Arguments around v old new
+        → (v ≡ tree (tree_of v) true) × KindFits Kind.Arguments around v old new
     go (inl o) = arguments-come Kind.Arguments around at old v new o
     go (inr none) = absurd none
 
@@ -63,6 +63,16 @@ maybe-arguments-branch rule taken parts all around at old v new front is e =
     go : OneOf (alternatives Kind.MaybeArguments) (OpenedRead Kind.MaybeArguments around at old v new)
         → KindFits Kind.MaybeArguments around v old new
     go (inl o) = inr (arguments-come Kind.MaybeArguments around at old v new o)
+    go (inr none) = absurd none
+
+pub arguments-alone-branch : BranchRead Kind.ArgumentsAlone
+unfolding alternatives
+arguments-alone-branch rule taken parts all around at old v new front is e =
+    go (opened-read Kind.ArgumentsAlone rule taken parts all around at old v new front is e)
+  where
+    go : OneOf (alternatives Kind.ArgumentsAlone) (OpenedRead Kind.ArgumentsAlone around at old v new)
+        → KindFits Kind.MaybeArguments around v old new
+    go (inl o) = inr (arguments-come Kind.ArgumentsAlone around at old v new o)
     go (inr none) = absurd none
 
 -- ## Types behind an S
@@ -119,7 +129,7 @@ with-s-solid takes kind around at old v new front outer o =
     comes-as (λ w s. SolidFits takes around w old s) Production.TypeWithS tt byte around at old (a.value ∷ b.value ∷ []) b.after v new
     b.onward
     (type-with-s takes around byte old a.value b.value old a.after b.after (a.read Kind.TypeAfterS refl outer)
-    (b.read Kind.MaybeArguments refl))
+    (b.read Kind.ArgumentsAlone refl))
 
 pub parameter-solid : (takes : Slot → Bool) (kind : Kind) (around : Around) (at : ℕ) (old : State) (v : Value) (new : State)
     → InFront (OfKind (number_of_kind kind)) around at old → around.prefix ≡ outermost
@@ -128,13 +138,13 @@ unfolding parts_of number_of_kind between tree_of is_listed meaning part unfoldi
 parameter-solid takes kind around at old v new front outer o =
     let a = o.goes tt in
     let k : ℕ = index_of a.value in
-    parameter-goes around at k a.after (λ next. PartRead (OfKind MAYBE_ARGUMENTS) a.others (at + length o.taken + length (spell a.shape)) next
+    parameter-goes around at k a.after (λ next. PartRead (OfKind ARGUMENTS_ALONE) a.others (at + length o.taken + length (spell a.shape)) next
     (PartsRead Production.Parameter (byte_of o.taken) around at old v new [])) (SolidFits takes around v old new)
     (λ s named b. comes-as (λ w u. SolidFits takes around w old u) Production.Parameter tt (byte_of o.taken) around at old
     (tree (parameter k) true ∷ b.value ∷ []) b.after v new b.onward
     (name-type takes around (tree (parameter k) true) b.value old s b.after
     (parameter-name around k old s (subst (λ u. ParameterNamed around k u s) a.read.0 named) front.placed.lambda)
-    (b.read Kind.MaybeArguments refl)))
+    (b.read Kind.ArgumentsAlone refl)))
     a.onward
 
 pub nested-solid : (takes : Slot → Bool) (kind : Kind) (around : Around) (at : ℕ) (old : State) (v : Value) (new : State)
@@ -236,7 +246,7 @@ abbreviated-own around at old v new o =
     let b = a.onward in
     let behind_ = b.read Kind.Arguments refl in
     let whole : instance (tree_of a.value) (tree_of b.value) ≡ applied (tree_of a.value) b.value =
-    sym (ap (λ c. elim c as (λ _. Term) [ true ↦ instance (tree_of a.value) (tree_of b.value) | false ↦ tree_of a.value ]) behind_.0) in
+    sym (ap (λ w. applied (tree_of a.value) w) behind_.0) in
     comes-as (λ w s. OwnNameRead around w old s) Production.AbbreviatedName tt (byte_of o.taken) around at old
     (tree (tree_of a.value) true ∷ b.value ∷ []) b.after v new b.onward
     (subst (λ t. OwnNameRead around (tree t false) old b.after) whole

@@ -6,7 +6,7 @@ use Rattle.sym_shape.specs.Tree.{spell}
 use Rattle.sym_link.specs.Reading.{Next, ◌>>=◌}
 use Rattle.cpp_grammar.specs.declared.kind.Kind.{Kind}
 use Rattle.cpp_grammar.specs.declared.production.Production.{Production}
-use Rattle.cpp_grammar.specs.KindNumbers.{NEST_REST}
+use Rattle.cpp_grammar.specs.KindNumbers.{NEST_REST_ALONE}
 use Rattle.cpp_grammar.specs.Grammar.{alternatives, number_of_kind, parts_of}
 use Rattle.cpp_grammar.specs.Term.{Term, in_std, instance, parameter, source}
 use Rattle.cpp_grammar.specs.Values.{State, Around, prefix_tree, prefix_listed, Value, tree, tree_of, piece_of, text_of, part}
@@ -52,11 +52,11 @@ nest-next kind outer t listed start at old v new apart prefix o =
     (c.value ∷ d.value ∷ []) d.after v new d.onward two
 
 -- arguments, which end a prefix, and a further piece
-nest-arguments : (outer : Around) (t : Term) (listed : Bool) (start : State) (at : ℕ) (old : State) (v : Value) (new : State)
-    → SoFarFits outer t listed start old → OpenedRead Kind.NestRest (after t listed outer) at old v new Production.NestArguments
+nest-arguments : (kind : Kind) (outer : Around) (t : Term) (listed : Bool) (start : State) (at : ℕ) (old : State) (v : Value) (new : State)
+    → SoFarFits outer t listed start old → OpenedRead kind (after t listed outer) at old v new Production.NestArguments
     → NestRead outer v start new
 unfolding parts_of number_of_kind between listed_so_far after inside prefix_tree is_encoding meaning part unfolding_.behind
-nest-arguments outer t listed start at old v new so_far o =
+nest-arguments kind outer t listed start at old v new so_far o =
     let a = o.goes tt in
     let b = a.onward in
     let c = b.onward in
@@ -88,8 +88,19 @@ nest-rest-branch rule taken parts all around at old v new front is e outer t lis
     (opened-read Kind.NestRest rule taken parts all around at old v new front is e))
   where
     go : OneOf (alternatives Kind.NestRest) (OpenedRead Kind.NestRest (after t listed outer) at old v new) → NestRead outer v start new
-    go (inl o) = nest-arguments outer t listed start at old v new so_far o
+    go (inl o) = nest-arguments Kind.NestRest outer t listed start at old v new so_far o
     go (inr (inl o)) = nest-next Kind.NestRest outer t listed start at old v new so_far.apart so_far.prefix o
+    go (inr (inr none)) = absurd none
+
+pub nest-rest-alone-branch : BranchRead Kind.NestRestAlone
+unfolding alternatives
+nest-rest-alone-branch rule taken parts all around at old v new front is e outer t listed start same so_far =
+    go (subst (λ r. OneOf (alternatives Kind.NestRestAlone) (OpenedRead Kind.NestRestAlone r at old v new)) same
+    (opened-read Kind.NestRestAlone rule taken parts all around at old v new front is e))
+  where
+    go : OneOf (alternatives Kind.NestRestAlone) (OpenedRead Kind.NestRestAlone (after t listed outer) at old v new) → NestRead outer v start new
+    go (inl o) = nest-arguments Kind.NestRestAlone outer t listed start at old v new so_far o
+    go (inr (inl o)) = nest-next Kind.NestRestAlone outer t listed start at old v new so_far.apart so_far.prefix o
     go (inr (inr none)) = absurd none
 
 -- ## A piece behind a prefix
@@ -203,11 +214,11 @@ unfolding parts_of number_of_kind between parameter_so_far listed_so_far meaning
 nest-parameter around at old v new bare o =
     let a = o.goes tt in
     let k : ℕ = index_of a.value in
-    parameter-goes around at k a.after (λ next. PartRead (OfKind NEST_REST) a.others (at + length o.taken + length (spell a.shape)) next
+    parameter-goes around at k a.after (λ next. PartRead (OfKind NEST_REST_ALONE) a.others (at + length o.taken + length (spell a.shape)) next
     (PartsRead Production.NestParameter (byte_of o.taken) around at old v new [])) (NestRead around v old new)
     (λ s named b. comes-as (λ w u. NestRead around w old u) Production.NestParameter tt (byte_of o.taken) around at old
     (tree (parameter k) true ∷ b.value ∷ []) b.after v new b.onward
-    (b.read Kind.NestRest refl around (parameter k) true old refl
+    (b.read Kind.NestRestAlone refl around (parameter k) true old refl
     (parameter-so-far around k old s (subst (λ u. ParameterNamed around k u s) a.read.0 named) bare)))
     a.onward
 
@@ -249,7 +260,7 @@ nest-abbreviated around at old v new o =
     let b = a.onward in
     comes-as (λ w s. NestRead around w old s) Production.NestAbbreviated tt (byte_of o.taken) around at old
     (tree (tree_of a.value) true ∷ b.value ∷ []) b.after v new b.onward
-    (b.read Kind.NestRest refl around (tree_of a.value) true old refl
+    (b.read Kind.NestRestAlone refl around (tree_of a.value) true old refl
     (named-so-far around a.value old a.after (a.read Kind.Abbreviation refl)))
 
 pub nest-after-s-branch : BranchRead Kind.NestAfterS

@@ -19,8 +19,8 @@ use Rattle.cpp_press_laws.proofs.ByKind.Empty.{empty-read}
 use Rattle.cpp_press_laws.proofs.ByKind.Root.{read-fits}
 use Rattle.cpp_press_laws.proofs.ByKind.PieceKinds.{source-or-local-branch, unqualified-branch, operator-branch, anonymous-branch, integer-branch, call-offset-branch, discriminator-branch, discriminator-rest-branch, restrict-branch, volatile-branch, const-branch, ref-branch, c-linkage-branch, zero-branch, bit-branch, constructor-digit-branch, destructor-digit-branch, operator-after-n-branch, operator-after-d-branch, operator-after-a-branch, operator-after-p-branch, operator-after-c-branch, operator-after-m-branch, operator-after-r-branch, operator-after-o-branch, operator-after-e-branch, operator-after-s-branch, operator-after-i-branch, operator-after-g-branch, operator-after-l-branch}
 use Rattle.cpp_press_laws.proofs.ByKind.Arguments.{argument-list-branch, pack-list-branch, literal-branch, literal-after-d-branch, address-branch}
-use Rattle.cpp_press_laws.proofs.ByKind.Nests.{nest-branch, nest-after-s-branch, nest-rest-branch, nest-tail-branch, component-branch}
-use Rattle.cpp_press_laws.proofs.ByKind.Names.{arguments-branch, maybe-arguments-branch, type-after-s-branch, name-after-s-branch, with-s-solid, parameter-solid, nested-solid, source-solid, local-type-name-solid, source-own, internal-own, local-type-own, operator-own, with-s-own}
+use Rattle.cpp_press_laws.proofs.ByKind.Nests.{nest-branch, nest-after-s-branch, nest-rest-branch, nest-rest-alone-branch, nest-tail-branch, component-branch}
+use Rattle.cpp_press_laws.proofs.ByKind.Names.{arguments-branch, maybe-arguments-branch, arguments-alone-branch, type-after-s-branch, name-after-s-branch, with-s-solid, parameter-solid, nested-solid, source-solid, local-type-name-solid, source-own, internal-own, local-type-own, operator-own, with-s-own}
 use Rattle.cpp_press_laws.proofs.ByKind.Encodings.{encoding-branch, special-branch}
 use Rattle.cpp_press_laws.proofs.ByKind.Entities.{entity-branch, type-entity-branch, local-type-solid, local-name-read, nested-name-read}
 
@@ -113,6 +113,7 @@ kind-branch Kind.Unqualified = unqualified-branch
 kind-branch Kind.Nest = nest-branch
 kind-branch Kind.NestAfterS = nest-after-s-branch
 kind-branch Kind.NestRest = nest-rest-branch
+kind-branch Kind.NestRestAlone = nest-rest-alone-branch
 kind-branch Kind.NestTail = nest-tail-branch
 kind-branch Kind.Component = component-branch
 kind-branch Kind.ConstructorDigit = constructor-digit-branch
@@ -138,6 +139,7 @@ kind-branch Kind.AfterR = after-r-branch
 kind-branch Kind.AfterO = after-o-branch
 kind-branch Kind.Items = items-branch
 kind-branch Kind.MaybeArguments = maybe-arguments-branch
+kind-branch Kind.ArgumentsAlone = arguments-alone-branch
 kind-branch Kind.Arguments = arguments-branch
 kind-branch Kind.ArgumentList = argument-list-branch
 kind-branch Kind.PackList = pack-list-branch

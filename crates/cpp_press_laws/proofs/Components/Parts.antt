@@ -2,7 +2,7 @@
 use Rattle.std.proofs.Common.{◌≡◌, ℕ, ◌+◌, ◌⊎◌, inl, inr, List, [], ◌∷◌, ◌++◌, Option, Some, None, Bool, true, false, refl, sym, ◌∙◌}
 use Rattle.std.specs.Prelude.{not, ◌&&◌, ◌||◌, nat_eq}
 use Rattle.std.proofs.lemmas.Bool.{eq-eqb, eqb-true, and_parts, false≢true}
-use Rattle.cpp_grammar.specs.Term.{Term, symbol, function, object, special, thunk, of_name, construction, alone, in_std, within, instance, local, holder, parameter, lambda, vendor, pointer, lvalue, rvalue, array, member_pointer, function_type, qualified, vector, complex, expansion, integer, encoding_literal, address_of, pack, list}
+use Rattle.cpp_grammar.specs.Term.{Term, symbol, function, object, special, thunk, of_name, construction, alone, in_std, within, instance, local, holder, tagged, parameter, lambda, vendor, pointer, lvalue, rvalue, array, member_pointer, function_type, qualified, vector, complex, expansion, integer, encoding_literal, address_of, pack, list}
 use Rattle.cpp_grammar.specs.Scope.{is_open}
 use Rattle.cpp_grammar.specs.Values.{Candidate}
 use Rattle.cpp_press_laws.specs.Same.{same_tree}
@@ -18,6 +18,7 @@ IsComponent (in_std p) = Unit {0}
 IsComponent (within prefix p) = Unit {0}
 IsComponent (instance template arguments) = Unit {0}
 IsComponent (local e entity discriminator) = Unit {0}
+IsComponent (tagged of_structor name tag) = Unit {0}
 IsComponent (parameter k) = Unit {0}
 IsComponent (vendor name) = Unit {0}
 IsComponent (pointer type) = Unit {0}
@@ -71,6 +72,7 @@ Inside (within prefix p) x = PrefixOr prefix (Inside prefix x) x ⊎ Inside p x
 Inside (instance template arguments) x = ItselfOr template (Inside template x) x ⊎ Inside arguments x
 Inside (local e entity discriminator) x = Shut (Inside e x) x ⊎ Inside entity x
 Inside (holder name) x = PrefixOr name (Inside name x) x
+Inside (tagged of_structor name tag) x = ItselfOr name (Inside name x) x
 Inside (lambda parameters k) x = Inside parameters x
 Inside (pointer type) x = ItselfOr type (Inside type x) x
 Inside (lvalue type) x = ItselfOr type (Inside type x) x

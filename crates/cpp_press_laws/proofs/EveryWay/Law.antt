@@ -5,7 +5,7 @@ use Rattle.sym_link.specs.Reading.{◌>>=◌}
 use Rattle.sym_spell.specs.Pressing.{◌and◌, text}
 use Rattle.cpp_grammar.specs.KindNumbers.{SYMBOL}
 use Rattle.std.specs.Prelude.{codes}
-use Rattle.cpp_grammar.specs.Term.{Term, symbol, function, object, special, thunk, of_name, construction, alone, in_std, within, instance, local, holder, abbreviation, parameter, source, operator, literal_operator, constructor, destructor, lambda, unnamed, string_literal, builtin, sized_float, vendor, pointer, lvalue, rvalue, array, member_pointer, function_type, qualified, vector, complex, expansion, integer, boolean, null_pointer, encoding_literal, address_of, pack, nil, list, absent}
+use Rattle.cpp_grammar.specs.Term.{Term, symbol, function, object, special, thunk, of_name, construction, alone, in_std, within, instance, local, holder, tagged, abbreviation, parameter, source, operator, literal_operator, constructor, destructor, lambda, unnamed, string_literal, builtin, sized_float, vendor, pointer, lvalue, rvalue, array, member_pointer, function_type, qualified, vector, complex, expansion, integer, boolean, null_pointer, encoding_literal, address_of, pack, nil, list, absent}
 use Rattle.cpp_grammar.specs.Values as value
 use Rattle.cpp_grammar.specs.Values.{Candidate, Around, nothing_there, tree, tree_of, text_of}
 use Rattle.cpp_grammar.specs.Unfolding.{first_around, first_state, first_tree, unfold_cpp}
@@ -55,6 +55,7 @@ reads c (within prefix p) = reads-within prefix p (reads c prefix) (reads c p)
 reads c (instance template arguments) = reads-instance template arguments (reads c template) (reads c arguments)
 reads c (local e entity discriminator) = reads-local e entity discriminator (reads c e) (reads c entity)
 reads c (holder name) = reads-nowhere (holder name) _
+reads c (tagged of_structor name tag) = reads-nowhere (tagged of_structor name tag) _
 reads c (abbreviation l) = reads-abbreviation l
 reads c (parameter k) = reads-parameter k
 reads c (source internal name) = reads-source internal name

@@ -36,8 +36,7 @@ applied-as P around t v mid new bare more (inl none) =
     let same : applied t v ≡ t = ap (applied t) none.0 in
     subst (λ u. P u new) (sym same) (subst (P t) (sym none.1) bare)
 applied-as P around t v mid new bare more (inr there) =
-    let whole : applied t v ≡ instance t (tree_of v) =
-    ap (λ b. elim b as (λ _. Term) [ true ↦ instance t (tree_of v) | false ↦ t ]) there.0 in
+    let whole : applied t v ≡ instance t (tree_of v) = ap (applied t) there.0 in
     subst (λ u. P u new) (sym whole) (more there.1)
 
 -- a template name between N and E

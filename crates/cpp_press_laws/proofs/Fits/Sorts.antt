@@ -64,7 +64,7 @@ KindFits Kind.ArgumentList around v old new = ArgumentsFit around false (no_item
 KindFits Kind.PackList around v old new = ArgumentsFit around true (no_items v) old new
 KindFits Kind.Arguments around v old new = ArgumentsRead around v old new
 KindFits Kind.MaybeArguments around v old new =
-    ((v ≡ nothing_there) × (new ≡ old)) ⊎ ((is_there v ≡ true) × ArgumentsRead around v old new)
+    ((v ≡ nothing_there) × (new ≡ old)) ⊎ ((v ≡ tree (tree_of v) true) × ArgumentsRead around v old new)
 KindFits Kind.Literal around v old new = (in_pack : Bool) → ArgumentFits around in_pack (tree_of v) old new
 KindFits Kind.LiteralAfterD around v old new = (in_pack : Bool) → ArgumentFits around in_pack (tree_of v) old new
 KindFits Kind.Address around v old new = (in_pack : Bool) → ArgumentFits around in_pack (tree_of v) old new

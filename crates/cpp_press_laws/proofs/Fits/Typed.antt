@@ -80,8 +80,7 @@ name-type takes around v w old mid new name (inl (none, same)) =
     (subst (λ b. SolidFits takes around (tree (tree_of v) b) old new) (sym (and-true (is_listed v)))
     (subst (λ s. SolidFits takes around (tree (tree_of v) (is_listed v)) old s) (sym same) (with-slots takes around v old mid name.solid)))
 name-type takes around v w old mid new name (inr (there, other)) =
-    subst (λ b. SolidFits takes around (tree (elim b as (λ _. Term) [ true ↦ instance (tree_of v) (tree_of w) | false ↦ tree_of v ])
-    (is_listed v && not b)) old new) (sym there)
+    subst (λ u. SolidFits takes around (tree (applied (tree_of v) u) (is_listed v && not (is_there u))) old new) (sym there)
     (subst (λ b. SolidFits takes around (tree (instance (tree_of v) (tree_of w)) b) old new) (sym (and-false (is_listed v)))
     (instance-fits takes around (tree_of v) (tree_of w) old new (name.before (tree_of w) new other)))
 

@@ -5,7 +5,7 @@ use Rattle.sym_shape.specs.Tree.{TakesRule}
 use Rattle.sym_link.specs.Unfold.{found}
 use Rattle.cpp_grammar.specs.declared.kind.Kind.{Kind}
 use Rattle.cpp_grammar.specs.declared.production.Production.{Production}
-use Rattle.cpp_grammar.specs.KindNumbers.{COMPLETE_NAME, MAYBE_RESTRICT, MAYBE_VOLATILE, MAYBE_CONST, MAYBE_REF, NAME_AFTER_S, UNQUALIFIED, NEST, ABBREVIATION, TYPE_AFTER_S, SOURCE_OR_LOCAL, MAYBE_ARGUMENTS, ARGUMENTS, ARGUMENT_LIST}
+use Rattle.cpp_grammar.specs.KindNumbers.{COMPLETE_NAME, MAYBE_RESTRICT, MAYBE_VOLATILE, MAYBE_CONST, MAYBE_REF, NAME_AFTER_S, UNQUALIFIED, NEST, ABBREVIATION, TYPE_AFTER_S, SOURCE_OR_LOCAL, MAYBE_ARGUMENTS, ARGUMENTS_ALONE, ARGUMENTS, ARGUMENT_LIST}
 use Rattle.cpp_grammar.specs.Grammar.{in_ranges, among, is_in, pick, number_of_kind, alternatives, choose, kinds, parts_of, is_chain, may_be_empty}
 use Rattle.cpp_grammar.specs.Table.{abi, rule_of}
 use Rattle.cpp_grammar.specs.Term.{RefQualifier, any_value, lvalue_only, rvalue_only, Term, in_std, instance}
@@ -21,7 +21,7 @@ use Rattle.cpp_press_laws.proofs.ReadBack.Reading.{passes-by, row-last, takes-by
 use Rattle.cpp_press_laws.proofs.ReadBack.Types.{AreOnly, one-part, then-part, then-last, whole-same}
 use Rattle.cpp_press_laws.proofs.ReadBack.Functions.{mark_value, mark_bytes, mark-reads, maybe-mark-reads}
 use Rattle.cpp_press_laws.proofs.ReadBack.Arguments.{arguments-read}
-use Rattle.cpp_press_laws.proofs.ReadBack.Names.{name-with}
+use Rattle.cpp_press_laws.proofs.ReadBack.Names.{alone-arguments, name-with}
 
 -- ## Whole names
 
@@ -175,15 +175,16 @@ pub type-with-arguments : (k : ℕ) (around : Around) (allowed : Option ℕ) (t 
 unfolding parts_of number_of_kind between opening close unfolding_.behind meaning applied is_there is_listed tree_of part
 type-with-arguments k around allowed t items listed place cs first args takes one two =
     whole-same Production.TypeWithS k (83 ∷ []) around allowed place (tree t listed ∷ tree items true ∷ []) (tree (instance t items) false) cs
-    (OfKind TYPE_AFTER_S ∷ OfKind MAYBE_ARGUMENTS ∷ []) (written (first.bytes ++ args.bytes) args.components) takes refl
+    (OfKind TYPE_AFTER_S ∷ OfKind ARGUMENTS_ALONE ∷ []) (written (first.bytes ++ args.bytes) args.components) takes refl
     (λ f s. refl) (means listed)
-    (then-part Production.TypeWithS (83 ∷ []) around allowed place (OfKind TYPE_AFTER_S) (OfKind MAYBE_ARGUMENTS ∷ []) [] (tree t listed)
+    (then-part Production.TypeWithS (83 ∷ []) around allowed place (OfKind TYPE_AFTER_S) (OfKind ARGUMENTS_ALONE ∷ []) [] (tree t listed)
     (AreOnly (tree t listed ∷ tree items true ∷ [])) (place + 1) cs first args (λ s. refl) one
-    (row-last Production.TypeWithS (83 ∷ []) around (after t listed around) allowed allowed place (OfKind MAYBE_ARGUMENTS) (tree t listed ∷ [])
+    (row-last Production.TypeWithS (83 ∷ []) around (after t listed around) allowed allowed place (OfKind ARGUMENTS_ALONE) (tree t listed ∷ [])
     (tree t listed ∷ []) (Is (tree items true)) (AreOnly (tree t listed ∷ tree items true ∷ [])) (place + 1 + length first.bytes)
     first.components first.components args
     (passes-by Production.TypeWithS around allowed place (tree t listed ∷ []) first.components (after t listed around) (tree t listed ∷ [])
-    (λ s. refl)) two (λ v h. ap (λ x. tree t listed ∷ x ∷ []) h)))
+    (λ s. refl))
+    (alone-arguments (after t listed around) allowed (Is (tree items true)) (place + 1 + length first.bytes) first.components args two) (λ v h. ap (λ x. tree t listed ∷ x ∷ []) h)))
   where
     means : (b : Bool) (began s : State) → close Production.TypeWithS (byte_of (83 ∷ [])) around place began (tree t b ∷ tree items true ∷ []) s
         ≡ Ok (found (tree (instance t items) false) s)

@@ -10,7 +10,7 @@ use Rattle.sym_link.specs.Reading.{◌>>=◌}
 use Rattle.sym_link.specs.Unfold.{found}
 use Rattle.cpp_grammar.specs.declared.kind.Kind.{Kind}
 use Rattle.cpp_grammar.specs.declared.production.Production.{Production}
-use Rattle.cpp_grammar.specs.KindNumbers.{MAYBE_VOLATILE, MAYBE_CONST, TYPE, PLAIN, ITEM_BUT_REF, AFTER_D, SOLID, MAYBE_C_LINKAGE, FUNCTION_REST, AFTER_R, AFTER_O, MAYBE_ARGUMENTS}
+use Rattle.cpp_grammar.specs.KindNumbers.{MAYBE_VOLATILE, MAYBE_CONST, TYPE, PLAIN, ITEM_BUT_REF, AFTER_D, SOLID, MAYBE_C_LINKAGE, FUNCTION_REST, AFTER_R, AFTER_O, ARGUMENTS_ALONE}
 use Rattle.cpp_grammar.specs.Grammar.{in_ranges, among, is_in, pick, number_of_kind, alternatives, choose, kinds, parts_of, is_chain, may_be_empty}
 use Rattle.cpp_grammar.specs.Table.{abi, rule_of}
 use Rattle.cpp_grammar.specs.Term.{RefQualifier, any_value, lvalue_only, rvalue_only, Term, parameter, lvalue, rvalue, vector, function_type, qualified, nil, list}
@@ -89,16 +89,16 @@ parameter-solid kind around allowed k place cs is takes =
     same-written around allowed (OfKind kind) (Is (tree (parameter k) true)) place cs after_it (84 ∷ (digits.bytes ++ [])) (84 ∷ ordinal k)
     (ap (λ l. 84 ∷ l) (append-nil digits.bytes ∙ ordinal-spelled k))
     (whole-same Production.Parameter kind (84 ∷ []) around allowed place (tree (parameter k) true ∷ nothing_there ∷ []) (tree (parameter k) true)
-    cs (Number Decimal ∷ OfKind MAYBE_ARGUMENTS ∷ []) (written (digits.bytes ++ []) after_it)
+    cs (Number Decimal ∷ OfKind ARGUMENTS_ALONE ∷ []) (written (digits.bytes ++ []) after_it)
     takes refl (λ f s. refl) (λ began s. refl)
-    (then-part Production.Parameter (84 ∷ []) around allowed place (Number Decimal) (OfKind MAYBE_ARGUMENTS ∷ []) [] (value.text (ordinal_digits k))
+    (then-part Production.Parameter (84 ∷ []) around allowed place (Number Decimal) (OfKind ARGUMENTS_ALONE ∷ []) [] (value.text (ordinal_digits k))
     (AreOnly (tree (parameter k) true ∷ nothing_there ∷ [])) (place + 1) cs digits (written [] after_it)
     (λ s. refl) (number-reads around allowed Decimal (ordinal_token k) (place + 1) cs (ordinal-is-token k))
-    (row-last Production.Parameter (84 ∷ []) around inner allowed allowed place (OfKind MAYBE_ARGUMENTS) (value.text (ordinal_digits k) ∷ [])
+    (row-last Production.Parameter (84 ∷ []) around inner allowed allowed place (OfKind ARGUMENTS_ALONE) (value.text (ordinal_digits k) ∷ [])
     (tree (parameter k) true ∷ []) (Is nothing_there) (AreOnly (tree (parameter k) true ∷ nothing_there ∷ []))
     (place + 1 + length digits.bytes) cs after_it (written [] after_it)
     (parameter-passes Production.Parameter around allowed place k cs is (λ s. refl))
-    (empty-reads inner allowed MAYBE_ARGUMENTS Kind.MaybeArguments (place + 1 + length digits.bytes) after_it refl refl)
+    (empty-reads inner allowed ARGUMENTS_ALONE Kind.ArgumentsAlone (place + 1 + length digits.bytes) after_it refl refl)
     (λ v h. ap (λ x. tree (parameter k) true ∷ x ∷ []) h))))
 
 -- ## Marks

@@ -2,11 +2,11 @@
 use Rattle.std.proofs.Common.{◌≡◌, ℕ, ◌+◌, length, List, [], ◌∷◌, ◌++◌, Option, Bool, true, false, Ok, refl, ap, arith, sym, subst, append_assoc, length-append}
 use Rattle.sym_shape.specs.declared.rule.Sym.{Sym}
 use Rattle.sym_shape.specs.declared.rule.Sym.TheVariants.{Kind as OfKind, Name}
-use Rattle.sym_shape.specs.Tree.{Forest, TakesRule}
+use Rattle.sym_shape.specs.Tree.{Tree as Shape, Forest, TakesRule, IsTree}
 use Rattle.sym_link.specs.Unfold.{found}
 use Rattle.cpp_grammar.specs.declared.kind.Kind.{Kind}
 use Rattle.cpp_grammar.specs.declared.production.Production.{Production}
-use Rattle.cpp_grammar.specs.KindNumbers.{NEST, NEST_TAIL, COMPONENT, CONSTRUCTOR_DIGIT, DESTRUCTOR_DIGIT, ANONYMOUS, MAYBE_ARGUMENTS, ARGUMENT_LIST, OPERATOR}
+use Rattle.cpp_grammar.specs.KindNumbers.{NEST, NEST_TAIL, COMPONENT, CONSTRUCTOR_DIGIT, DESTRUCTOR_DIGIT, ANONYMOUS, MAYBE_ARGUMENTS, ARGUMENTS_ALONE, NEST_REST, NEST_REST_ALONE, ARGUMENT_LIST, OPERATOR}
 use Rattle.cpp_grammar.specs.Grammar.{in_ranges, among, is_in, pick, number_of_kind, alternatives, choose, kinds, parts_of, is_chain, may_be_empty}
 use Rattle.cpp_grammar.specs.Table.{abi, rule_of}
 use Rattle.cpp_grammar.specs.Term.{Term, source, constructor, destructor}
@@ -17,6 +17,7 @@ use Rattle.cpp_grammar.specs.Between.{Going, between, after, inside, extended, a
 use Rattle.cpp_grammar.specs.Meaning.{meaning}
 use Rattle.cpp_grammar.specs.Unfolding as unfolding_
 use Rattle.cpp_grammar.specs.Unfolding.{opening, close, byte_of}
+use Rattle.cpp_grammar.proofs.Alone.{arguments_alone, rest_alone}
 use Rattle.cpp_press_laws.specs.Texts.{counted}
 use Rattle.cpp_press_laws.specs.Spellable.{IsSpellableName}
 use Rattle.cpp_press_laws.specs.Subtrees.{Written, written, ReadsAt, Is}
@@ -57,6 +58,30 @@ pub no-arguments : (around : Around) (allowed : Option ℕ) (place : ℕ) (cs : 
     → ReadsAt around allowed (OfKind MAYBE_ARGUMENTS) (Is nothing_there) place cs (written [] cs)
 unfolding kinds may_be_empty
 no-arguments around allowed place cs = empty-reads around allowed MAYBE_ARGUMENTS Kind.MaybeArguments place cs refl refl
+
+-- what is read behind a name is read where no tags may come, too
+kind-reads : (around : Around) (allowed : Option ℕ) (x y : Sym) (Q : Value → Type 0) (place : ℕ) (cs : List Candidate) (w : Written)
+    → ((t : Shape) → IsTree abi x t → IsTree abi y t) → ReadsAt around allowed x Q place cs w → ReadsAt around allowed y Q place cs w
+kind-reads around allowed x y Q place cs w is one s same packs =
+    let r = one s same packs in record {
+      shape = r.shape;
+      spelled = r.spelled;
+      shaped = is r.shape r.shaped;
+      value = r.value;
+      good = r.good;
+      state = r.state;
+      unfolds = r.unfolds;
+      candidates = r.candidates;
+      packs = r.packs;
+    }
+
+pub alone-arguments : (around : Around) (allowed : Option ℕ) (Q : Value → Type 0) (place : ℕ) (cs : List Candidate) (w : Written)
+    → ReadsAt around allowed (OfKind MAYBE_ARGUMENTS) Q place cs w → ReadsAt around allowed (OfKind ARGUMENTS_ALONE) Q place cs w
+alone-arguments around allowed Q place cs w one = kind-reads around allowed (OfKind MAYBE_ARGUMENTS) (OfKind ARGUMENTS_ALONE) Q place cs w arguments_alone one
+
+pub alone-rest : (around : Around) (allowed : Option ℕ) (Q : Value → Type 0) (place : ℕ) (cs : List Candidate) (w : Written)
+    → ReadsAt around allowed (OfKind NEST_REST) Q place cs w → ReadsAt around allowed (OfKind NEST_REST_ALONE) Q place cs w
+alone-rest around allowed Q place cs w one = kind-reads around allowed (OfKind NEST_REST) (OfKind NEST_REST_ALONE) Q place cs w rest_alone one
 
 -- the name so far becomes a component in front of its arguments
 pub some-arguments : (around : Around) (allowed : Option ℕ) (t items : Term) (last : Value) (place : ℕ) (cs : List Candidate) (w : Written)

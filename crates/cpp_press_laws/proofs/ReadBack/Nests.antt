@@ -25,7 +25,7 @@ use Rattle.cpp_press_laws.proofs.ReadBack.Tokens.{name_token, name-spelled, name
 use Rattle.cpp_press_laws.proofs.ReadBack.Reading.{RowAt, PassesAt, passes-by, row-part, row-last, takes-byte, takes-none, fixed-reads, name-reads, number-reads}
 use Rattle.cpp_press_laws.proofs.ReadBack.Types.{AreOnly, same-written, one-part, more, then-part, whole-same}
 use Rattle.cpp_press_laws.proofs.ReadBack.Functions.{IsInScope, parameter-passes}
-use Rattle.cpp_press_laws.proofs.ReadBack.Names.{SoFar, Extends}
+use Rattle.cpp_press_laws.proofs.ReadBack.Names.{alone-rest, SoFar, Extends}
 
 -- ## The first part of a name
 
@@ -95,7 +95,7 @@ pub nest-parameter : (around : Around) (allowed : Option ℕ) (k place : ℕ) (c
     → SoFar around allowed (parameter k) true 17 place cs (written (84 ∷ ordinal k) (more around cs (parameter k)))
 unfolding choose alternatives pick is_in in_ranges among kinds is_chain parts_of number_of_kind between opening close unfolding_.behind meaning part
 nest-parameter around allowed k place cs is v rest second =
-    first-with Production.NestParameter 15 17 (84 ∷ []) around allowed place (Number Decimal) (value.text (ordinal_digits k)) (parameter k) true
+    first-with Production.NestParameter 15 68 (84 ∷ []) around allowed place (Number Decimal) (value.text (ordinal_digits k)) (parameter k) true
     v cs (more around cs (parameter k)) (written (ordinal k) cs) rest
     (takes-byte NEST Kind.Nest Production.NestParameter 84 refl refl (omega arith) refl) refl (λ s. refl)
     (parameter-passes Production.NestParameter around allowed place k cs is (λ s. refl))
@@ -103,7 +103,8 @@ nest-parameter around allowed k place cs is v rest second =
     (same-written around allowed (Number Decimal) (Is (value.text (ordinal_digits k))) (place + 1) cs cs
     (((ordinal_token k).before ++ ordinal_digits k) ++ (95 ∷ [])) (ordinal k) (ordinal-spelled k)
     (number-reads around allowed Decimal (ordinal_token k) (place + 1) cs (ordinal-is-token k)))
-    (subst (λ q. ReadsAt (after (parameter k) true around) allowed (OfKind NEST_REST) (Is v) q (more around cs (parameter k)) rest) (omega arith) second)
+    (alone-rest (after (parameter k) true around) allowed (Is v) _ (more around cs (parameter k)) rest
+    (subst (λ q. ReadsAt (after (parameter k) true around) allowed (OfKind NEST_REST) (Is v) q (more around cs (parameter k)) rest) (omega arith) second))
 
 -- an abbreviation or a reference behind an S
 pub nest-behind-s : (around : Around) (allowed : Option ℕ) (t : Term) (place : ℕ) (cs : List Candidate) (first : Written)
@@ -113,12 +114,13 @@ unfolding choose alternatives pick is_in in_ranges among kinds is_chain parts_of
 nest-behind-s around allowed t place cs first one v rest second =
     one-part Production.NestWithS 15 (83 ∷ []) around allowed place (OfKind NEST_AFTER_S) v v cs (written (first.bytes ++ rest.bytes) rest.components)
     (takes-byte NEST Kind.Nest Production.NestWithS 83 refl refl (omega arith) refl) refl (λ s. refl) (λ f s. refl) (λ began s. refl)
-    (first-with Production.NestAbbreviated 16 17 [] around allowed (place + 1) (OfKind ABBREVIATION) (tree t true) t true v cs first.components first rest
+    (first-with Production.NestAbbreviated 16 68 [] around allowed (place + 1) (OfKind ABBREVIATION) (tree t true) t true v cs first.components first rest
     (takes-none NEST_AFTER_S Kind.NestAfterS Production.NestAbbreviated 95 refl refl (omega arith) refl) refl (λ s. refl)
     (passes-by Production.NestAbbreviated around allowed (place + 1) (tree t true ∷ []) first.components (after t true around) (tree t true ∷ [])
     (λ s. refl))
     (λ f s. refl) (λ began s. refl) one
-    (subst (λ q. ReadsAt (after t true around) allowed (OfKind NEST_REST) (Is v) q first.components rest) (omega arith) second))
+    (alone-rest (after t true around) allowed (Is v) _ first.components rest
+    (subst (λ q. ReadsAt (after t true around) allowed (OfKind NEST_REST) (Is v) q first.components rest) (omega arith) second)))
 
 -- a piece in std, with or without arguments
 pub nest-std : (around : Around) (allowed : Option ℕ) (p : Term) (last : Value) (place : ℕ) (cs : List Candidate) (first args : Written)

@@ -7,7 +7,7 @@ use Rattle.sym_spell.specs.Pressing.{◌and◌, text}
 use Rattle.std.specs.Prelude.{codes}
 use Rattle.cpp_grammar.specs.declared.kind.Kind.{Kind}
 use Rattle.cpp_grammar.specs.declared.production.Production.{Production}
-use Rattle.cpp_grammar.specs.KindNumbers.{ABBREVIATION, SOLID, MAYBE_ARGUMENTS, ARGUMENTS, ARGUMENT_LIST, LITERAL_TYPE}
+use Rattle.cpp_grammar.specs.KindNumbers.{ABBREVIATION, SOLID, MAYBE_ARGUMENTS, ARGUMENTS_ALONE, ARGUMENTS, ARGUMENT_LIST, LITERAL_TYPE}
 use Rattle.cpp_grammar.specs.Grammar.{in_ranges, among, is_in, pick, number_of_kind, alternatives, choose, kinds, parts_of, is_chain}
 use Rattle.cpp_grammar.specs.Table.{abi, rule_of}
 use Rattle.cpp_grammar.specs.Term.{Term, instance, parameter}
@@ -95,6 +95,10 @@ takes-42 : TakesRule abi 42 (rule_of Production.Arguments) (73 ∷ [])
 unfolding choose alternatives pick is_in in_ranges among kinds is_chain
 takes-42 = takes-byte MAYBE_ARGUMENTS Kind.MaybeArguments Production.Arguments 73 refl refl (omega arith) refl
 
+takes-67 : TakesRule abi 67 (rule_of Production.Arguments) (73 ∷ [])
+unfolding choose alternatives pick is_in in_ranges among kinds is_chain
+takes-67 = takes-byte ARGUMENTS_ALONE Kind.ArgumentsAlone Production.Arguments 73 refl refl (omega arith) refl
+
 takes-43 : TakesRule abi 43 (rule_of Production.Arguments) (73 ∷ [])
 unfolding choose alternatives pick is_in in_ranges among kinds is_chain
 takes-43 = takes-byte ARGUMENTS Kind.Arguments Production.Arguments 73 refl refl (omega arith) refl
@@ -129,14 +133,14 @@ parameter-instanced kind around allowed k place cs is takes items last args are 
     same-written around allowed (OfKind kind) (Is (tree (instance (parameter k) items) false)) place cs args.components
     (84 ∷ (digits.bytes ++ behind.bytes)) (84 ∷ (ordinal k ++ behind.bytes)) (ap (λ l. 84 ∷ (l ++ behind.bytes)) (ordinal-spelled k))
     (whole-same Production.Parameter kind (84 ∷ []) around allowed place all (tree (instance (parameter k) items) false) cs
-    (Number Decimal ∷ OfKind MAYBE_ARGUMENTS ∷ []) (written (digits.bytes ++ behind.bytes) args.components) takes refl (λ f s. refl) (λ began s. refl)
-    (then-part Production.Parameter (84 ∷ []) around allowed place (Number Decimal) (OfKind MAYBE_ARGUMENTS ∷ []) [] (value.text (ordinal_digits k))
+    (Number Decimal ∷ OfKind ARGUMENTS_ALONE ∷ []) (written (digits.bytes ++ behind.bytes) args.components) takes refl (λ f s. refl) (λ began s. refl)
+    (then-part Production.Parameter (84 ∷ []) around allowed place (Number Decimal) (OfKind ARGUMENTS_ALONE ∷ []) [] (value.text (ordinal_digits k))
     (AreOnly all) (place + 1) cs digits behind (λ s. refl)
     (number-reads around allowed Decimal (ordinal_token k) (place + 1) cs (ordinal-is-token k))
-    (row-last Production.Parameter (84 ∷ []) around inner allowed allowed place (OfKind MAYBE_ARGUMENTS) (value.text (ordinal_digits k) ∷ [])
+    (row-last Production.Parameter (84 ∷ []) around inner allowed allowed place (OfKind ARGUMENTS_ALONE) (value.text (ordinal_digits k) ∷ [])
     (tree (parameter k) true ∷ []) (Is (tree items true)) (AreOnly all) (place + 1 + length digits.bytes) cs after_it behind
     (parameter-passes Production.Parameter around allowed place k cs is (λ s. refl))
-    (listed-arguments 42 around allowed (parameter k) items last (place + 1 + length digits.bytes) after_it args takes-42 are
+    (listed-arguments 67 around allowed (parameter k) items last (place + 1 + length digits.bytes) after_it args takes-67 are
     (subst (λ q. ReadsAt (inside around) allowed (OfKind ARGUMENT_LIST) (Is last) q after_it args) (omega (arith, ap length (ordinal-spelled k))) one))
     (λ v h. ap (λ x. tree (parameter k) true ∷ x ∷ []) h))))
 

@@ -9,7 +9,7 @@ use Rattle.sym_link.specs.Reading.{Found}
 use Rattle.sym_link.specs.Unfold.{found}
 use Rattle.cpp_grammar.specs.declared.kind.Kind.{Kind}
 use Rattle.cpp_grammar.specs.declared.production.Production.{Production}
-use Rattle.cpp_grammar.specs.KindNumbers.{ABBREVIATION, TYPE, PLAIN, ITEM, ITEM_BUT_REF, ITEM_AFTER_D, AFTER_D, SOLID, TYPE_AFTER_S, MAYBE_ARGUMENTS}
+use Rattle.cpp_grammar.specs.KindNumbers.{ABBREVIATION, TYPE, PLAIN, ITEM, ITEM_BUT_REF, ITEM_AFTER_D, AFTER_D, SOLID, TYPE_AFTER_S, ARGUMENTS_ALONE}
 use Rattle.cpp_grammar.specs.Grammar.{in_ranges, among, is_in, pick, number_of_kind, alternatives, choose, kinds, parts_of, is_chain, may_be_empty}
 use Rattle.cpp_grammar.specs.Table.{abi, rule_of}
 use Rattle.cpp_grammar.specs.Term.{Term}
@@ -269,18 +269,18 @@ solid-with-s k around allowed place t listed cs w takes one =
     same-written around allowed (OfKind k) (Is (tree t listed)) place cs w.components (83 ∷ (w.bytes ++ [])) (83 ∷ w.bytes)
     (ap (λ l. 83 ∷ l) (append-nil w.bytes))
     (production-reads Production.TypeWithS k (83 ∷ []) around allowed allowed place (AreOnly (tree t listed ∷ nothing_there ∷ []))
-    (Is (tree t listed)) cs w.components (OfKind TYPE_AFTER_S ∷ OfKind MAYBE_ARGUMENTS ∷ []) (written (w.bytes ++ []) w.components)
+    (Is (tree t listed)) cs w.components (OfKind TYPE_AFTER_S ∷ OfKind ARGUMENTS_ALONE ∷ []) (written (w.bytes ++ []) w.components)
     takes refl
-    (row-part Production.TypeWithS (83 ∷ []) around around allowed allowed place (OfKind TYPE_AFTER_S) (OfKind MAYBE_ARGUMENTS ∷ []) [] [] (Is (tree t listed))
+    (row-part Production.TypeWithS (83 ∷ []) around around allowed allowed place (OfKind TYPE_AFTER_S) (OfKind ARGUMENTS_ALONE ∷ []) [] [] (Is (tree t listed))
     (AreOnly (tree t listed ∷ nothing_there ∷ [])) (place + 1) cs cs w (written [] w.components)
     (passes-by Production.TypeWithS around allowed place [] cs around [] (λ s. refl)) one (λ packs h. h)
-    (λ v h. subst (λ x. RowAt Production.TypeWithS (83 ∷ []) around allowed place (OfKind MAYBE_ARGUMENTS ∷ []) (x ∷ [])
+    (λ v h. subst (λ x. RowAt Production.TypeWithS (83 ∷ []) around allowed place (OfKind ARGUMENTS_ALONE ∷ []) (x ∷ [])
     (AreOnly (tree t listed ∷ nothing_there ∷ [])) (place + 1 + length w.bytes) w.components (written [] w.components)) (sym h)
-    (row-last Production.TypeWithS (83 ∷ []) around (after t listed around) allowed allowed place (OfKind MAYBE_ARGUMENTS) (tree t listed ∷ [])
+    (row-last Production.TypeWithS (83 ∷ []) around (after t listed around) allowed allowed place (OfKind ARGUMENTS_ALONE) (tree t listed ∷ [])
     (tree t listed ∷ []) (Is nothing_there) (AreOnly (tree t listed ∷ nothing_there ∷ [])) (place + 1 + length w.bytes) w.components
     w.components (written [] w.components)
     (passes-by Production.TypeWithS around allowed place (tree t listed ∷ []) w.components (after t listed around) (tree t listed ∷ []) (λ s. refl))
-    (empty-reads (after t listed around) allowed MAYBE_ARGUMENTS Kind.MaybeArguments (place + 1 + length w.bytes) w.components refl refl)
+    (empty-reads (after t listed around) allowed ARGUMENTS_ALONE Kind.ArgumentsAlone (place + 1 + length w.bytes) w.components refl refl)
     (λ x i. ap (λ y. tree t listed ∷ y ∷ []) i))))
     (λ f s. refl)
     (closes-same Production.TypeWithS 83 around allowed place (AreOnly (tree t listed ∷ nothing_there ∷ [])) w.components (tree t listed)

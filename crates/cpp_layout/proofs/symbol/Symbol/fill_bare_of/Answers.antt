@@ -1,6 +1,6 @@
 use Rattle.std.proofs.Common.{ap, sym}
 use Rattle.cpp_layout.proofs.Functions.{bare-other}
-use Rattle.cpp_layout.proofs.Growing.{fills, starts}
+use Rattle.cpp_layout.proofs.Growing.{fills}
 use Rattle.cpp_term.specs.Parts.{bare_parts}
 use Rattle.cpp_tree.specs.Nodes.{tree_of}
 use Rattle.cpp_layout.proofs.symbol.Symbol.fill_bare_of.Goals as goal

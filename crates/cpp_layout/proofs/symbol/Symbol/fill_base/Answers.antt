@@ -31,6 +31,10 @@ pub returns-in-Holder-clause-shows : goal.returns-in-Holder-clause-shows
 unfolding tree_of base_parts
 returns-in-Holder-clause-shows g c = fills c.args.self.now c.args.ctx.detail _ _ _ (c.push_item-in-Holder.ensures.shows _ _ (starts c.args.self.now c.args.ctx.detail _)) (ap (λ t. base_parts c.args.ctx.detail (context_of c.args.ctx) t) (sym c.in-Holder.ensures.tree))
 
+pub returns-in-Tagged-clause-shows : goal.returns-in-Tagged-clause-shows
+unfolding tree_of base_parts
+returns-in-Tagged-clause-shows g c = fills c.args.self.now c.args.ctx.detail _ _ _ c.fill_base_tagged.ensures.shows (ap (λ t. base_parts c.args.ctx.detail (context_of c.args.ctx) t) (sym c.in-Tagged.ensures.tree))
+
 pub returns-in-Abbreviation-clause-shows : goal.returns-in-Abbreviation-clause-shows
 unfolding tree_of base_parts
 returns-in-Abbreviation-clause-shows g c = fills c.args.self.now c.args.ctx.detail _ _ _ (c.push_some.ensures.shows _ _ _ (starts c.args.self.now c.args.ctx.detail _)) (ap (λ t. text t ∷ []) c.last_of_abbreviation.ensures.text ∙ ap (λ t. base_parts c.args.ctx.detail (context_of c.args.ctx) t) (sym c.in-Abbreviation.ensures.tree))
@@ -40,4 +44,4 @@ unfolding tree_of base_parts
 returns-in-Parameter-clause-shows g c = fills c.args.self.now c.args.ctx.detail _ _ _ c.fill_parameter.ensures.shows (ap (λ t. base_parts c.args.ctx.detail (context_of c.args.ctx) t) (sym c.in-Parameter.ensures.tree))
 
 pub returns-in_default-clause-shows : goal.returns-in_default-clause-shows
-returns-in_default-clause-shows g c = fills c.args.self.now c.args.ctx.detail _ _ _ c.fill_as_left.ensures.shows (base-other-node _ _ _ c.args.ctx.detail (context_of c.args.ctx) c.stored.result _ c.stored.ensures.tree c.in_default.not-Alone c.in_default.not-InStd c.in_default.not-Within c.in_default.not-Instance c.in_default.not-Local c.in_default.not-Abbreviation c.in_default.not-Parameter c.in_default.not-Holder)
+returns-in_default-clause-shows g c = fills c.args.self.now c.args.ctx.detail _ _ _ c.fill_as_left.ensures.shows (base-other-node _ _ _ c.args.ctx.detail (context_of c.args.ctx) c.stored.result _ c.stored.ensures.tree c.in_default.not-Alone c.in_default.not-InStd c.in_default.not-Within c.in_default.not-Instance c.in_default.not-Local c.in_default.not-Tagged c.in_default.not-Abbreviation c.in_default.not-Parameter c.in_default.not-Holder)

@@ -1,5 +1,5 @@
 use Rattle.std.proofs.Common.{[], ap, sym, ◌∙◌, ◌∷◌}
-use Rattle.cpp_layout.proofs.Growing.{fills, starts}
+use Rattle.cpp_layout.proofs.Growing.{fills, starts, tagged-whole}
 use Rattle.cpp_layout.proofs.Typing.{no-name}
 use Rattle.cpp_layout.specs.Layout.{context_of, own_piece, table_of}
 use Rattle.cpp_layout.specs.Texts.{fixed_text}
@@ -38,6 +38,10 @@ pub returns-in-Holder-clause-shows : goal.returns-in-Holder-clause-shows
 unfolding tree_of left_parts
 returns-in-Holder-clause-shows g c = fills c.args.self.now c.args.ctx.detail _ _ _ (c.push_item-in-Holder.ensures.shows _ _ (starts c.args.self.now c.args.ctx.detail _)) (ap (λ n. left_parts c.args.ctx.detail (context_of c.args.ctx) (tree_of c.args.self.now.bytes c.args.self.now.table.thunks (trees (table_of c.args.self.now)) n)) (sym c.in-Holder.is) ∙ ap (λ t. left_parts c.args.ctx.detail (context_of c.args.ctx) t) (sym c.stored-stored.ensures.tree))
 
+pub returns-in-Tagged-clause-shows : goal.returns-in-Tagged-clause-shows
+unfolding tree_of
+returns-in-Tagged-clause-shows g c = fills c.args.self.now c.args.ctx.detail _ _ _ c.fill_tagged.ensures.shows (tagged-whole _ _ c.args.ctx.detail _ _ ∙ ap (λ n. left_parts c.args.ctx.detail (context_of c.args.ctx) (tree_of c.args.self.now.bytes c.args.self.now.table.thunks (trees (table_of c.args.self.now)) n)) (sym c.in-Tagged.is) ∙ ap (λ t. left_parts c.args.ctx.detail (context_of c.args.ctx) t) (sym c.stored-stored.ensures.tree))
+
 pub returns-in-Abbreviation-clause-shows : goal.returns-in-Abbreviation-clause-shows
 unfolding tree_of left_parts
 returns-in-Abbreviation-clause-shows g c = fills c.args.self.now c.args.ctx.detail _ _ _ (c.push_some.ensures.shows _ _ _ (starts c.args.self.now c.args.ctx.detail _)) (ap (λ t. text t ∷ []) c.abbreviation.ensures.text ∙ ap (λ n. left_parts c.args.ctx.detail (context_of c.args.ctx) (tree_of c.args.self.now.bytes c.args.self.now.table.thunks (trees (table_of c.args.self.now)) n)) (sym c.in-Abbreviation.is) ∙ ap (λ t. left_parts c.args.ctx.detail (context_of c.args.ctx) t) (sym c.stored-stored.ensures.tree))
@@ -47,7 +51,7 @@ unfolding tree_of left_parts
 returns-in-Parameter-clause-shows g c = fills c.args.self.now c.args.ctx.detail _ _ _ c.fill_parameter.ensures.shows (ap (λ n. left_parts c.args.ctx.detail (context_of c.args.ctx) (tree_of c.args.self.now.bytes c.args.self.now.table.thunks (trees (table_of c.args.self.now)) n)) (sym c.in-Parameter.is) ∙ ap (λ t. left_parts c.args.ctx.detail (context_of c.args.ctx) t) (sym c.stored-stored.ensures.tree))
 
 pub fill_left_type-requires-clause-kind : goal.fill_left_type-requires-clause-kind
-fill_left_type-requires-clause-kind g c = no-name c.stored-stored.result c.in_default.not-Alone c.in_default.not-InStd c.in_default.not-Within c.in_default.not-Instance c.in_default.not-Local c.in_default.not-Abbreviation c.in_default.not-Parameter c.in_default.not-Holder
+fill_left_type-requires-clause-kind g c = no-name c.stored-stored.result c.in_default.not-Alone c.in_default.not-InStd c.in_default.not-Within c.in_default.not-Instance c.in_default.not-Local c.in_default.not-Tagged c.in_default.not-Abbreviation c.in_default.not-Parameter c.in_default.not-Holder
 
 pub returns-in_default-clause-shows : goal.returns-in_default-clause-shows
 returns-in_default-clause-shows g c = fills c.args.self.now c.args.ctx.detail _ _ _ c.fill_left_type.ensures.shows (ap (λ t. left_parts c.args.ctx.detail (context_of c.args.ctx) t) (sym c.stored-stored.ensures.tree))

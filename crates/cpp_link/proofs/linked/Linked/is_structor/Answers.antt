@@ -1,0 +1,7 @@
+use Rattle.std.proofs.Common.{sym, ◌∙◌, ap}
+use Rattle.cpp_term.specs.Scope.{is_structor}
+use Rattle.cpp_link.proofs.Reading.{structor_is}
+use Rattle.cpp_link.proofs.linked.Linked.is_structor.Goals as goal
+
+pub returns : goal.returns
+returns c = c.is_structor.ensures ∙ sym (ap is_structor c.node.ensures.tree ∙ structor_is _ _ _ c.node.result)
