@@ -19,7 +19,7 @@ use Rattle.cpp_direct.specs.declared.open.Step.TheVariants as steps
 use Rattle.cpp_grammar.specs.Between.{Going, between, after, applied, listed_so_far, parameter_so_far, index_of}
 use Rattle.cpp_grammar.specs.Grammar.{in_ranges, among, is_in, pick, number_of_kind, alternatives, choose, parts_of, is_chain, may_be_empty}
 use Rattle.cpp_grammar.specs.Items.{argument, indexed}
-use Rattle.cpp_grammar.specs.KindNumbers.{MAYBE_ARGUMENTS}
+use Rattle.cpp_grammar.specs.KindNumbers.{ARGUMENTS_ALONE}
 use Rattle.cpp_grammar.specs.Meaning.{meaning}
 use Rattle.cpp_grammar.specs.Parts.{types_of}
 use Rattle.cpp_grammar.specs.References.{appended, is_function_type, with_packs, parameter_named}
@@ -67,15 +67,15 @@ first-parameter-comes s kind around os at st typed scope expects stands =
     let both = stands-split s at (84 ∷ []) (95 ∷ []) stands in
     let solid = solid-opens s kind around os at st typed expects in
     let rule = standing (rule_of p) (84 ∷ []) at around st in
-    let number = expects-number s Decimal around (opened rule [] (OfKind MAYBE_ARGUMENTS ∷ []) ∷ solid.inner) (at + 1) st first_token
-    (first-of s Kind.Solid p 84 around solid.inner at st (Number Decimal) (OfKind MAYBE_ARGUMENTS ∷ []) around [] st refl (omega arith) refl (λ f. refl)
+    let number = expects-number s Decimal around (opened rule [] (OfKind ARGUMENTS_ALONE ∷ []) ∷ solid.inner) (at + 1) st first_token
+    (first-of s Kind.Solid p 84 around solid.inner at st (Number Decimal) (OfKind ARGUMENTS_ALONE ∷ []) around [] st refl (omega arith) refl (λ f. refl)
     refl refl solid.awaits both.0) first-number both.1 in
-    let behind = next-of s p (84 ∷ []) at around st [] (values.text []) (OfKind MAYBE_ARGUMENTS) [] solid.inner (at + 1 + 1) st (after t true around) (v ∷ [])
+    let behind = next-of s p (84 ∷ []) at around st [] (values.text []) (OfKind ARGUMENTS_ALONE) [] solid.inner (at + 1 + 1) st (after t true around) (v ∷ [])
     later (parameter-tested around at st scope) number in
     subst (λ k. Comes s os v k later) (omega arith)
     (solid.passes t true (at + 1 + 1) later refl
     (last-of s p (84 ∷ []) at around st (v ∷ []) nothing_there solid.inner (at + 1 + 1) later v later refl
-    (expects-empty s Kind.MaybeArguments (after t true around) (opened rule (v ∷ []) [] ∷ solid.inner) (at + 1 + 1) later behind refl)))
+    (expects-empty s Kind.ArgumentsAlone (after t true around) (opened rule (v ∷ []) [] ∷ solid.inner) (at + 1 + 1) later behind refl)))
 
 -- ## The argument
 

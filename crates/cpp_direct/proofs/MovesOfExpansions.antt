@@ -7,7 +7,7 @@ use Rattle.cpp_grammar.specs.declared.kind.Kind.{Kind}
 use Rattle.cpp_grammar.specs.declared.production.Production.{Production}
 use Rattle.cpp_grammar.specs.Between.{Going, between, after, applied, under_expansion, listed_so_far, parameter_so_far, index_of}
 use Rattle.cpp_grammar.specs.Grammar.{in_ranges, among, is_in, pick, number_of_kind, alternatives, choose, parts_of, is_chain, may_be_empty}
-use Rattle.cpp_grammar.specs.KindNumbers.{ITEM_AFTER_D, MAYBE_ARGUMENTS, TYPE}
+use Rattle.cpp_grammar.specs.KindNumbers.{ITEM_AFTER_D, ARGUMENTS_ALONE, TYPE}
 use Rattle.cpp_grammar.specs.Meaning.{meaning, listed_value}
 use Rattle.cpp_grammar.specs.References.{appended, is_function_type, with_packs, with_type, parameter_named}
 use Rattle.cpp_grammar.specs.Scope.{element, count, length_if_pack}
@@ -56,15 +56,15 @@ pack-comes s around os at st scope expects stands =
     let both = stands-split s at (84 ∷ []) (95 ∷ []) stands in
     let solid = solid-opens s Kind.Type here os at (begun st) tt expects in
     let rule = standing (rule_of p) (84 ∷ []) at here (begun st) in
-    let number = expects-number s Decimal here (opened rule [] (OfKind MAYBE_ARGUMENTS ∷ []) ∷ solid.inner) (at + 1) (begun st) first_token
-    (first-of s Kind.Solid p 84 here solid.inner at (begun st) (Number Decimal) (OfKind MAYBE_ARGUMENTS ∷ []) here [] (begun st) refl (omega arith) refl (λ f. refl)
+    let number = expects-number s Decimal here (opened rule [] (OfKind ARGUMENTS_ALONE ∷ []) ∷ solid.inner) (at + 1) (begun st) first_token
+    (first-of s Kind.Solid p 84 here solid.inner at (begun st) (Number Decimal) (OfKind ARGUMENTS_ALONE ∷ []) here [] (begun st) refl (omega arith) refl (λ f. refl)
     refl refl solid.awaits both.0) first-number both.1 in
-    let behind = next-of s p (84 ∷ []) at here (begun st) [] (values.text []) (OfKind MAYBE_ARGUMENTS) [] solid.inner (at + 1 + 1) (begun st) (after t true here) (v ∷ [])
+    let behind = next-of s p (84 ∷ []) at here (begun st) [] (values.text []) (OfKind ARGUMENTS_ALONE) [] solid.inner (at + 1 + 1) (begun st) (after t true here) (v ∷ [])
     later (pack-tested around at st scope) number in
     subst (λ k. Comes s os v k later) (omega arith)
     (solid.passes t true (at + 1 + 1) later refl
     (last-of s p (84 ∷ []) at here (begun st) (v ∷ []) nothing_there solid.inner (at + 1 + 1) later v later refl
-    (expects-empty s Kind.MaybeArguments (after t true here) (opened rule (v ∷ []) [] ∷ solid.inner) (at + 1 + 1) later behind refl)))
+    (expects-empty s Kind.ArgumentsAlone (after t true here) (opened rule (v ∷ []) [] ∷ solid.inner) (at + 1 + 1) later behind refl)))
 
 -- the candidates behind it
 abbrev pub with_expansion : (encoding : ℕ) → State → State
