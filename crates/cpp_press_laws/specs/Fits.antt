@@ -371,8 +371,8 @@ fits_of (local e entity discriminator) =
     ((fits_of entity).as_entity role (after e true around) allowed) place cs
     × IsSpellableDiscriminator discriminator in
     record (type_fits (local e entity discriminator) (λ slot. spelled in_type)) { as_name = λ q ref. spelled (in_name_with q ref) }
--- tags are read by the wide grammar alone
-fits_of (tagged of_structor name tag) = fits_nowhere
+-- tags are read by the wide grammar alone, but a reference to a name that has one stands where another does
+fits_of (tagged of_structor name tag) = type_fits (tagged of_structor name tag) (λ slot. nowhere)
 fits_of (abbreviation l) =
     let lettered : Fitting = λ around allowed place cs. IsAbbreviation l in
     record fits_nowhere {

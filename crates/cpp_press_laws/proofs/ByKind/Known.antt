@@ -19,7 +19,7 @@ use Rattle.cpp_grammar.specs.Table.{abi}
 use Rattle.cpp_grammar.specs.Term.{Term, Thunk, special, thunk, parameter, literal_operator}
 use Rattle.cpp_grammar.specs.Values.{State, outermost, behind, Around, Value, nothing_there, letter, text, tree, piece, tree_of, piece_of, qualifiers_of, ref_of, letter_of, is_there, text_of, signed_of, adjustment_of}
 use Rattle.cpp_grammar.specs.References.{with_prefix, parameter_named}
-use Rattle.cpp_grammar.specs.Between.{in_name, in_types, in_signature, under_expansion, after, inside, Going, named_so_far, listed_so_far, piece_so_far, parameter_so_far, index_of, between}
+use Rattle.cpp_grammar.specs.Between.{in_name, in_types, in_signature, under_expansion, after, inside, Going, named_so_far, listed_so_far, piece_so_far, tag_so_far, parameter_so_far, index_of, between}
 use Rattle.cpp_grammar.specs.Meaning.{discriminator_of}
 use Rattle.cpp_grammar.specs.Unfolding.{cpp, opening, close, byte_of}
 use Rattle.cpp_grammar.proofs.ClosedValues.{AllGood, GoodPrefix, held}
@@ -251,7 +251,7 @@ bare-parameter around place k state n bare e =
 -- a lambda's signature has no scope, nor has what stands in one
 lambdas-go : (p : Production) (around : Around) (place : ℕ) (vs : List Value) (state : State) (n : Next Value State Around)
     → LambdasAreBare around → between p around place vs state ≡ Ok n → LambdasAreBare n.context
-unfolding between piece_so_far named_so_far listed_so_far after inside in_signature in_name in_types under_expansion
+unfolding between piece_so_far named_so_far listed_so_far tag_so_far after inside in_signature in_name in_types under_expansion
 lambdas-go Production.Encoding around place [] state n bare e = bare-next (in_name place) [] state n (λ is. absurd (false≢true is)) e
 lambdas-go Production.Encoding around place (v ∷ vs) state n bare e =
     bare-next (in_types place (tree_of v)) (v ∷ vs) state n (λ is. absurd (false≢true is)) e
@@ -283,6 +283,8 @@ lambdas-go Production.NestArguments around place (v ∷ w ∷ x ∷ []) state n 
 lambdas-go Production.NestInstance around place [] state n bare e = bare-next (inside around) [] (with_prefix around state) n bare e
 lambdas-go Production.NestInstance around place (v ∷ w ∷ []) state n bare e = bare-next _ _ state n bare e
 lambdas-go Production.Holder around place (v ∷ []) state n bare e = bare-next _ _ state n bare e
+lambdas-go Production.NestTag around place (v ∷ []) state n bare e = bare-next _ _ state n bare e
+lambdas-go Production.Tag around place (v ∷ []) state n bare e = bare-next _ _ state n bare e
 lambdas-go Production.NestNext around place [] state n bare e = bare-next _ _ _ n bare e
 lambdas-go Production.NestNext around place (v ∷ []) state n bare e = bare-next _ _ state n bare e
 lambdas-go Production.Arguments around place [] state n bare e = bare-next (inside around) [] (with_prefix around state) n bare e

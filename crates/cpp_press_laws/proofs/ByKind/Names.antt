@@ -240,7 +240,7 @@ std-name-own around at old v new o =
 
 abbreviated-own : (around : Around) (at : ℕ) (old : State) (v : Value) (new : State)
     → OpenedRead Kind.NameAfterS around at old v new Production.AbbreviatedName → OwnNameRead around v old new
-unfolding parts_of number_of_kind between listed_so_far applied tree_of qualifiers_of ref_of meaning part unfolding_.behind
+unfolding parts_of number_of_kind between listed_so_far applied is_there tree_of qualifiers_of ref_of meaning part unfolding_.behind
 abbreviated-own around at old v new o =
     let a = o.goes tt in
     let b = a.onward in

@@ -305,7 +305,8 @@ adds (in_std p) = in-std-add p (adds p)
 adds (within prefix p) = within-add prefix p (adds prefix) (adds p)
 adds (instance template arguments) = instance-add template arguments (adds template) (adds arguments)
 adds (local e entity discriminator) = local-add e entity discriminator (adds e) (adds entity)
-adds (tagged of_structor name tag) = nowhere-ways-add (tagged of_structor name tag) _
+adds (tagged of_structor name tag) = type-ways-add (tagged of_structor name tag) _ _ (λ x w. w)
+    (λ slot around allowed place cs fits complete. absurd fits)
 adds (abbreviation l) = abbreviation-add l
 adds (parameter k) = parameter-add k
 adds (source internal name) = leaf-piece-add (source internal name) _ _ (λ x i. i)

@@ -3,7 +3,7 @@ use Rattle.std.proofs.Common.{◌≡◌, ℕ, suc, ◌+◌, ◌<◌, ◌≤◌, 
 use Rattle.std.specs.Prelude.{cond, codes, ◌&&◌, ◌||◌, nat_lt, ◌/◌, ◌%◌}
 use Rattle.sym_spell.specs.Pressing.{◌and◌, text, nothing}
 use Rattle.sym_spell.specs.Digits.{digits_in, decimal_digit}
-use Rattle.cpp_grammar.specs.Term.{Qualifiers, Term, alone, in_std, within, instance, local, abbreviation, parameter, source, operator, literal_operator, constructor, destructor, lambda, unnamed, string_literal, builtin, vendor, pointer, lvalue, rvalue, array, member_pointer, function_type, qualified, vector, complex, expansion, integer, boolean, null_pointer, encoding_literal, address_of, pack, nil, list}
+use Rattle.cpp_grammar.specs.Term.{Qualifiers, Term, alone, in_std, within, instance, local, tagged, abbreviation, parameter, source, operator, literal_operator, constructor, destructor, lambda, unnamed, string_literal, builtin, vendor, pointer, lvalue, rvalue, array, member_pointer, function_type, qualified, vector, complex, expansion, integer, boolean, null_pointer, encoding_literal, address_of, pack, nil, list}
 use Rattle.cpp_grammar.specs.Scope.{count, arguments_of}
 use Rattle.cpp_grammar.specs.Values.{Candidate, Around}
 use Rattle.cpp_grammar.specs.Between.{after, inside}
@@ -268,6 +268,8 @@ argument-writes (instance t a) in_pack around allowed place cs h =
     ))
 argument-writes (local e entity d) in_pack around allowed place cs h =
     component-writes around.encoding (local e entity d) _ place cs (λ none. omega arith)
+argument-writes (tagged of_structor name tag) in_pack around allowed place cs h =
+    component-writes around.encoding (tagged of_structor name tag) _ place cs (λ none. absurd (h.1 none))
 argument-writes (abbreviation l) in_pack around allowed place cs h = omega arith
 argument-writes (parameter k) in_pack around allowed place cs h = component-writes around.encoding (parameter k) _ place cs
     (λ none. omega arith)

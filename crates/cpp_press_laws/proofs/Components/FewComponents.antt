@@ -22,7 +22,7 @@ use Rattle.cpp_press_laws.proofs.EveryWay.Within.{joined_spelling, joined_fits, 
 use Rattle.cpp_press_laws.proofs.EveryWay.Instances.{instance_joined, not-one-piece, one-piece-is, elements_of, instance_between}
 use Rattle.cpp_press_laws.proofs.Components.Counting.{marks-long}
 use Rattle.cpp_press_laws.specs.Fits.{SymbolFits, names_in, IsWithoutLetters, one_piece, names_type, Slot, any_type, bare_type, item_type, parameter_type, literal_type, Fitting, Role, in_type, in_name_with, letters_of, by_letters, either, Behind, behind_bytes, as_component, fits_nowhere, type_fits, fits_of}
-use Rattle.cpp_press_laws.proofs.Components.FewTrees.{few-and, few-component, few-behind, few-before, few-nested, ArgumentsFew, few-elements, few-made, few-referred, few-reference, LeadsFew, few-nowhere, few-encoding, Counts, few-pointer, few-lvalue, few-rvalue, few-complex, few-vendor, few-array, few-vector, few-expansion, few-qualified, few-member-pointer, few-source, few-operator, few-literal-operator, few-constructor, few-destructor, few-unnamed, few-string-literal, few-lambda, few-builtin, few-integer, few-boolean, few-null-pointer, few-encoding-literal, few-address, few-pack, few-nil, few-list, FewBy}
+use Rattle.cpp_press_laws.proofs.Components.FewTrees.{few-and, few-component, few-behind, few-before, few-nested, ArgumentsFew, few-elements, few-made, few-referred, few-reference, LeadsFew, few-nowhere, few-encoding, Counts, few-pointer, few-lvalue, few-rvalue, few-complex, few-vendor, few-tagged, few-array, few-vector, few-expansion, few-qualified, few-member-pointer, few-source, few-operator, few-literal-operator, few-constructor, few-destructor, few-unnamed, few-string-literal, few-lambda, few-builtin, few-integer, few-boolean, few-null-pointer, few-encoding-literal, few-address, few-pack, few-nil, few-list, FewBy}
 
 -- ## Names
 
@@ -685,7 +685,7 @@ counts (within prefix p) = few-within prefix p (counts prefix) (counts p)
 counts (instance template arguments) = few-instance template arguments (counts template) (counts arguments)
 counts (local e entity discriminator) = few-local-name e entity discriminator (counts e) (counts entity)
 counts (holder name) = few-nowhere (holder name) _
-counts (tagged of_structor name tag) = few-nowhere (tagged of_structor name tag) _
+counts (tagged of_structor name tag) = few-tagged of_structor name tag (counts name)
 counts (abbreviation l) = few-abbreviation l
 counts (parameter k) = few-parameter k
 counts (source internal name) = few-source internal name

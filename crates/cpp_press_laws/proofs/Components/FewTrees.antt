@@ -2,7 +2,7 @@
 use Rattle.std.proofs.Common.{◌≡◌, ℕ, ◌+◌, ◌-◌, ◌≤◌, length, List, [], ◌∷◌, ◌++◌, Option, Some, None, Bool, true, false, refl, arith, subst, length-append}
 use Rattle.std.specs.Prelude.{cond, codes}
 use Rattle.sym_spell.specs.Pressing.{◌and◌, text}
-use Rattle.cpp_grammar.specs.Term.{Qualifiers, RefQualifier, Signed, Term, source, operator, literal_operator, constructor, destructor, lambda, unnamed, string_literal, builtin, vendor, pointer, lvalue, rvalue, array, member_pointer, qualified, vector, complex, expansion, integer, boolean, null_pointer, encoding_literal, address_of, pack, nil, list}
+use Rattle.cpp_grammar.specs.Term.{Qualifiers, RefQualifier, Signed, Term, tagged, source, operator, literal_operator, constructor, destructor, lambda, unnamed, string_literal, builtin, vendor, pointer, lvalue, rvalue, array, member_pointer, qualified, vector, complex, expansion, integer, boolean, null_pointer, encoding_literal, address_of, pack, nil, list}
 use Rattle.cpp_grammar.specs.Values.{Candidate, Around}
 use Rattle.cpp_grammar.specs.Between.{in_signature, under_expansion}
 use Rattle.cpp_press_laws.specs.Texts.{counted, ordinal, signed_text, qualifier_letters, name_letters}
@@ -321,6 +321,13 @@ pub few-vendor : (name : List ℕ) → Counts (vendor name)
 unfolding ways_of fits_of
 few-vendor name =
     few-type (vendor name) (λ n. text (codes "u" ++ counted name)) _ (λ slot around allowed place cs h. omega arith)
+
+-- a name with a tag is referred to alone
+pub few-tagged : (of_structor : Bool) (name : Term) (tag : List ℕ) → Counts name → Counts (tagged of_structor name tag)
+unfolding ways_of fits_of
+few-tagged of_structor name tag r_name =
+    few-type (tagged of_structor name tag) (λ n. (ways_of n name).as_type and text (codes "B" ++ counted tag)) _
+    (λ slot around allowed place cs h. absurd h)
 
 pub few-array : (digits : List ℕ) (t : Term) → Counts t → Counts (array digits t)
 unfolding ways_of fits_of

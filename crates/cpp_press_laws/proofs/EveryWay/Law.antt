@@ -15,7 +15,7 @@ use Rattle.cpp_press_laws.specs.Subtrees.{Written, written, ReadsAt, Is, HasRoom
 use Rattle.cpp_press_laws.proofs.ReadBack.Symbols.{symbol-reads, no-suffix, suffix-reads}
 use Rattle.cpp_press_laws.proofs.ReadBack.Named.{PieceReads}
 use Rattle.cpp_press_laws.proofs.EveryWay.Every.{reads-nowhere, reads-piece}
-use Rattle.cpp_press_laws.proofs.EveryWay.Types.{Reading, reads-vendor, reads-pointer, reads-lvalue, reads-rvalue, reads-complex, reads-array, reads-vector, reads-expansion, reads-member-pointer, reads-qualified}
+use Rattle.cpp_press_laws.proofs.EveryWay.Types.{Reading, reads-tagged, reads-vendor, reads-pointer, reads-lvalue, reads-rvalue, reads-complex, reads-array, reads-vector, reads-expansion, reads-member-pointer, reads-qualified}
 use Rattle.cpp_press_laws.proofs.EveryWay.Names.{reads-alone}
 use Rattle.cpp_press_laws.proofs.EveryWay.Std.{reads-in-std}
 use Rattle.cpp_press_laws.proofs.EveryWay.Within.{reads-within}
@@ -55,7 +55,7 @@ reads c (within prefix p) = reads-within prefix p (reads c prefix) (reads c p)
 reads c (instance template arguments) = reads-instance template arguments (reads c template) (reads c arguments)
 reads c (local e entity discriminator) = reads-local e entity discriminator (reads c e) (reads c entity)
 reads c (holder name) = reads-nowhere (holder name) _
-reads c (tagged of_structor name tag) = reads-nowhere (tagged of_structor name tag) _
+reads c (tagged of_structor name tag) = reads-tagged of_structor name tag (reads c name)
 reads c (abbreviation l) = reads-abbreviation l
 reads c (parameter k) = reads-parameter k
 reads c (source internal name) = reads-source internal name

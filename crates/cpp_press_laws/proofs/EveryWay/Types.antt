@@ -9,7 +9,7 @@ use Rattle.cpp_grammar.specs.declared.production.Production.{Production}
 use Rattle.cpp_grammar.specs.KindNumbers.{TYPE, PLAIN, ITEM, ITEM_BUT_REF, ITEM_AFTER_D, AFTER_D, SOLID}
 use Rattle.cpp_grammar.specs.Grammar.{in_ranges, among, is_in, pick, number_of_kind, alternatives, choose, kinds, parts_of, is_chain}
 use Rattle.cpp_grammar.specs.Table.{abi, rule_of}
-use Rattle.cpp_grammar.specs.Term.{Qualifiers, Term, vendor, pointer, lvalue, rvalue, array, member_pointer, qualified, vector, complex, expansion}
+use Rattle.cpp_grammar.specs.Term.{Qualifiers, Term, tagged, vendor, pointer, lvalue, rvalue, array, member_pointer, qualified, vector, complex, expansion}
 use Rattle.cpp_grammar.specs.Values.{Candidate, Around, tree, tree_of, is_listed, part}
 use Rattle.cpp_grammar.specs.References.{is_function_type, with_type}
 use Rattle.cpp_grammar.specs.Between.{between, under_expansion}
@@ -228,6 +228,14 @@ reads-vendor name =
     (λ slot around allowed place cs small room h.
     solid-in-all slot around allowed (vendor name) place cs (written (117 ∷ counted name) cs) h.0 refl
     (vendor-solid around allowed name place cs h.1))
+
+-- a name with a tag is referred to alone
+pub reads-tagged : (of_structor : Bool) (name : Term) (tag : List ℕ) → Reading name → Reading (tagged of_structor name tag)
+unfolding ways_of fits_of is_function_type
+reads-tagged of_structor name tag r =
+    reads-type (tagged of_structor name tag) (λ n. (ways_of n name).as_type and text (codes "B" ++ counted tag)) _ refl
+    (λ n. keeps-and (ways_of n name).as_type (text (codes "B" ++ counted tag)) (keeps name n).as_type (keeps-text _))
+    (λ slot around allowed place cs small room h. absurd h)
 
 pub reads-pointer : (t : Term) → Reading t → Reading (pointer t)
 unfolding ways_of fits_of is_function_type

@@ -2,7 +2,7 @@
 use Rattle.std.proofs.Common.{◌≡◌, ℕ, ◌+◌, ◌<◌, inl, inr, length, List, [], ◌++◌, Option, None, Bool, true, false, refl, arith}
 use Rattle.std.specs.Prelude.{codes, cond}
 use Rattle.sym_spell.specs.Pressing.{◌and◌, text}
-use Rattle.cpp_grammar.specs.Term.{Signed, Term, symbol, alone, in_std, within, instance, local, abbreviation, parameter, builtin, vendor, pointer, lvalue, rvalue, array, member_pointer, function_type, qualified, vector, complex, expansion, integer, boolean, null_pointer, encoding_literal, address_of, pack, nil, list}
+use Rattle.cpp_grammar.specs.Term.{Signed, Term, symbol, alone, in_std, within, instance, local, tagged, abbreviation, parameter, builtin, vendor, pointer, lvalue, rvalue, array, member_pointer, function_type, qualified, vector, complex, expansion, integer, boolean, null_pointer, encoding_literal, address_of, pack, nil, list}
 use Rattle.cpp_grammar.specs.Scope.{is_open, pack_length}
 use Rattle.cpp_grammar.specs.Values.{Candidate, State, Around, Value, tree, tree_of, is_listed}
 use Rattle.cpp_grammar.specs.References.{is_function_type, with_type, with_unqualified}
@@ -41,6 +41,7 @@ type-argument (in_std p) around in_pack old new one = one
 type-argument (within prefix p) around in_pack old new one = one
 type-argument (instance template arguments) around in_pack old new one = one
 type-argument (local e entity discriminator) around in_pack old new one = one
+type-argument (tagged of_structor name tag) around in_pack old new one = one
 type-argument (abbreviation l) around in_pack old new one = one
 type-argument (parameter k) around in_pack old new one = one
 type-argument (builtin code) around in_pack old new one = one
