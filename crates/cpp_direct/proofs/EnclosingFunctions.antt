@@ -19,7 +19,7 @@ use Rattle.cpp_direct.specs.declared.open.Step.TheVariants as steps
 use Rattle.cpp_direct.specs.declared.direct.Direct.{Direct}
 use Rattle.cpp_direct.specs.Holes.{Opened, StandsAt, Comes, Expects, IsNameAt, with_candidate}
 use Rattle.cpp_direct.specs.HolesOfLists.{nest_marks}
-use Rattle.cpp_direct.specs.HolesOfLocals.{IsDiscriminatorAt, IsLambdaDigit, IsPieceAt, lambda_digits, lambda_ending, lambda_number, lambda_with, local_in}
+use Rattle.cpp_direct.specs.HolesOfLocals.{Discriminator, IsDiscriminatorAt, IsLambdaDigit, IsPieceAt, lambda_digits, lambda_ending, lambda_number, lambda_with, local_in}
 use Rattle.cpp_direct.specs.Bytes.{short_numbers}
 use Rattle.cpp_direct.specs.Prints.{Prints, PrintsName, PrintsPiece, Shows, Encloses, list_of}
 use Rattle.cpp_direct.specs.Stands.{AreCandidates, Below, IsFunction, IsNesting, IsWriting, ItemsGoOn, LambdaWithin, Serves, Stands, TypeWithin, in_front_of_next, qualifiers, IsScoped, nowhere}
@@ -564,7 +564,7 @@ pub lambda-done : (s : List ℕ) (w begun pushed numbered popped_ last new : Dir
     → Writes begun pushed (codes ")#") → (number : Option ℕ) → IsLambdaDigit number → StandsAt s pushed.at (lambda_digits number ++ 95 ∷ [])
     → numbered.at ≡ pushed.at + length (lambda_digits number ++ 95 ∷ []) → Reads pushed numbered (lambda_number number ++ codes "}")
     → popped_.text ≡ numbered.text → popped_.candidates ≡ numbered.candidates → popped_.at ≡ numbered.at → reverse popped_.waiting.list.items ≡ p.rest
-    → (digit : Option ℕ) → IsDiscriminatorAt s popped_.at digit last.at → Reads popped_ last []
+    → (digit : Discriminator) → IsDiscriminatorAt s popped_.at digit last.at → Reads popped_ last []
     → new.candidates.list.items ≡ added last from false → new.text ≡ last.text → new.waiting ≡ last.waiting → new.at ≡ last.at
     → IsWriting s new (steps.Value false)
 unfolding no_items may_be_empty
@@ -627,7 +627,7 @@ name-awaited s old n from a letter at_is = record { before = old.at; read = a; l
 -- its name and its discriminator are read
 pub type-within : (s : List ℕ) (old pushed read last new : Direct) (from : ℕ) → AwaitsTypeName s old from → Writes old pushed (codes "::")
     → (p : Term) (n : List ℕ) → IsPieceAt s pushed.at p read.at → PrintsPiece p n → Reads pushed read n
-    → (digit : Option ℕ) → IsDiscriminatorAt s read.at digit last.at → Reads read last []
+    → (digit : Discriminator) → IsDiscriminatorAt s read.at digit last.at → Reads read last []
     → new.candidates.list.items ≡ added last from false → new.text ≡ last.text → new.waiting ≡ last.waiting → new.at ≡ last.at
     → IsWriting s new (steps.Value false)
 type-within s old pushed read last new from awaits one p n is prints two digit told three candidates text waiting here =

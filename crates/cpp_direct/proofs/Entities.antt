@@ -1,5 +1,5 @@
 -- Local entities and their guard variables, from the beginning of the symbol to its end.
-use Rattle.std.proofs.Common.{◌≡◌, ◌≢◌, ◌≤◌, refl, ap, sym, ◌∙◌, subst, ℕ, ◌+◌, List, [], ◌∷◌, ◌++◌, Bool, true, Option, None, Some, arith, codes, append-nil, append_assoc}
+use Rattle.std.proofs.Common.{◌≡◌, ◌≢◌, ◌≤◌, refl, ap, sym, ◌∙◌, subst, ℕ, ◌+◌, List, [], ◌∷◌, ◌++◌, Bool, true, codes, append-nil, append_assoc}
 use Rattle.std.proofs.lemmas.Bool.{false≢true}
 use Rattle.cpp_grammar.specs.declared.kind.Kind.{Kind}
 use Rattle.cpp_grammar.specs.Grammar.{may_be_empty}
@@ -11,8 +11,8 @@ use Rattle.cpp_grammar.specs.Meaning.{encoding_of, discriminator_of}
 use Rattle.cpp_grammar.specs.Unfolding.{first_around, first_state}
 use Rattle.cpp_direct.specs.declared.direct.Direct.{Direct}
 use Rattle.cpp_direct.specs.Holes.{StandsAt, Comes, IsNameAt}
-use Rattle.cpp_direct.specs.HolesOfLists.{SymbolOpened, EncodingOpened}
-use Rattle.cpp_direct.specs.HolesOfLocals.{discriminator_value, IsDiscriminatorAt, IsEntityAt, entity_in, LocalOpened, GuardOpened}
+use Rattle.cpp_direct.specs.HolesOfLists.{SymbolOpened, EncodingOpened, IsDigitsAt}
+use Rattle.cpp_direct.specs.HolesOfLocals.{Discriminator, unnumbered, by_digit, by_digits, discriminator_value, IsDiscriminatorAt, IsEntityAt, entity_in, LocalOpened, GuardOpened}
 use Rattle.cpp_direct.specs.Prints.{Shows}
 use Rattle.cpp_direct.specs.Stands.{AreCandidates, EntityBehind}
 use Rattle.cpp_direct.specs.Ways.{IsFresh, AwaitsEncoding, IsSymbolEnded, AwaitsEntity}
@@ -21,7 +21,7 @@ use Rattle.cpp_direct.proofs.Begins.{encoded-whole, third-tells}
 use Rattle.cpp_direct.proofs.Ending.{behind-three}
 use Rattle.cpp_direct.proofs.FoundTokens.{reads-then, reads-of, reads-begun}
 use Rattle.cpp_direct.proofs.Kept.{candidates-read}
-use Rattle.cpp_direct.proofs.Moves.{stands-none, stands-join, expects-empty}
+use Rattle.cpp_direct.proofs.Moves.{stands-join, expects-empty}
 use Rattle.cpp_direct.proofs.MovesOfEncodings.{symbol-starts, encoding-opens}
 use Rattle.cpp_direct.proofs.MovesOfLocals.{local-opens, guard-opens}
 use Rattle.cpp_direct.proofs.PrintedLocals.{entity-shows, guard-shows}
@@ -103,7 +103,7 @@ guard-begins s old new fresh starts marks letter stands writes =
 -- an entity with its name and discriminator ends the symbol
 pub entity-ended : (s : List ℕ) (internal : Bool) (old pushed read last : Direct) → AwaitsEntity s old internal → Writes old pushed (codes "::")
     → (name : List ℕ) → IsNameAt s pushed.at name read.at → name ≢ [] → Reads pushed read (source_text name)
-    → (digit : Option ℕ) → IsDiscriminatorAt s read.at digit last.at → Reads read last [] → IsSymbolEnded s last
+    → (digit : Discriminator) → IsDiscriminatorAt s read.at digit last.at → Reads read last [] → IsSymbolEnded s last
 entity-ended s internal old pushed read last p one name is_name filled two digit told three =
     let e = p.ended in
     let n = source_text name in
@@ -131,11 +131,18 @@ entity-ended s internal old pushed read last p one name is_name filled two digit
 -- ## Discriminators
 
 -- no discriminator was read
-pub none-told : (s : List ℕ) (w : Direct) → (digit : Option ℕ) × IsDiscriminatorAt s w.at digit w.at × Reads w w []
-none-told s w = (None, record { is_digit = tt; stands = stands-none s w.at; ends = omega arith }, reads-begun w w refl refl refl refl refl)
+pub none-told : (s : List ℕ) (w : Direct) → (told : Discriminator) × IsDiscriminatorAt s w.at told w.at × Reads w w []
+none-told s w = (unnumbered, refl, reads-begun w w refl refl refl refl refl)
 
 -- a digit was read behind a _
 pub digit-told : (s : List ℕ) (old new : Direct) (digit : ℕ) → StandsAt s old.at (95 ∷ []) → StandsAt s (old.at + 1) (digit ∷ []) → 48 ≤ digit → digit ≤ 57
-    → new.at ≡ old.at + 2 → Reads old new [] → (told : Option ℕ) × IsDiscriminatorAt s old.at told new.at × Reads old new []
+    → new.at ≡ old.at + 2 → Reads old new [] → (told : Discriminator) × IsDiscriminatorAt s old.at told new.at × Reads old new []
 digit-told s old new digit line there low high at_is reads =
-    (Some digit, record { is_digit = (low, high); stands = stands-join s old.at (95 ∷ []) (digit ∷ []) line there; ends = at_is }, reads)
+    (by_digit digit, (low, high, stands-join s old.at (95 ∷ []) (digit ∷ []) line there, at_is), reads)
+
+-- digits were read behind two of them
+pub digits-told : (s : List ℕ) (old new : Direct) (digits : List ℕ) (middle : ℕ) → StandsAt s old.at (95 ∷ []) → StandsAt s (old.at + 1) (95 ∷ [])
+    → IsDigitsAt s (old.at + 2) digits middle → StandsAt s middle (95 ∷ []) → new.at ≡ middle + 1 → Reads old new []
+    → (told : Discriminator) × IsDiscriminatorAt s old.at told new.at × Reads old new []
+digits-told s old new digits middle line next is last at_is reads =
+    (by_digits digits, (middle, stands-join s old.at (95 ∷ []) (95 ∷ []) line next, is, last, at_is), reads)

@@ -1,10 +1,10 @@
 -- The moves in the names of local entities and in guard variables.
 use Rattle.std.proofs.Common.{◌≡◌, ℕ, ◌+◌, ◌-◌, ◌^◌, ◌<◌, ◌≤◌, Ok, Err, List, [], ◌∷◌, ◌++◌, length, Bool, true, false, cond, nat_lt, Option, None, Some, refl, ap, sym, subst, arith, append-nil}
 use Rattle.std.proofs.lemmas.Bool.{le-leb, lt-ltb}
-use Rattle.sym_core.specs.declared.NumberKind.TheVariants.{Decimal}
+use Rattle.sym_core.specs.declared.NumberKind.TheVariants.{Decimal, Digits}
 use Rattle.sym_core.specs.declared.refusal.Refusal.TheVariants.{BadValue}
 use Rattle.sym_core.specs.Number.{AreDigitsOf}
-use Rattle.sym_core.specs.Token.{Token}
+use Rattle.sym_core.specs.Token.{Token, bytes_of}
 use Rattle.sym_shape.specs.Tree.{empty, fixed, token}
 use Rattle.sym_shape.specs.declared.rule.Sym.TheVariants.{Kind as OfKind, Name, Number, Byte}
 use Rattle.sym_link.specs.Unfold.{standing}
@@ -13,17 +13,17 @@ use Rattle.cpp_grammar.specs.declared.production.Production.{Production}
 use Rattle.cpp_grammar.specs.Grammar.{in_ranges, among, is_in, pick, number_of_kind, alternatives, choose, parts_of, is_chain, may_be_empty}
 use Rattle.cpp_grammar.specs.Table.{rule_of, padded}
 use Rattle.cpp_grammar.specs.Term.{Term, source, within, lambda, builtin, nil, list}
-use Rattle.cpp_grammar.specs.Values.{State, Around, outermost, nothing_there, text, tree, piece, tree_of, text_of, piece_of, is_listed, qualifiers_of, ref_of, is_there, local_number, part}
+use Rattle.cpp_grammar.specs.Values.{State, Around, outermost, normal, nothing_there, text, tree, piece, tree_of, text_of, piece_of, is_listed, qualifiers_of, ref_of, is_there, local_number, part}
 use Rattle.cpp_grammar.specs.References.{with_type}
 use Rattle.cpp_grammar.specs.Between.{between, no_items, after, in_signature, in_name, extended, applied, piece_so_far, named_so_far}
 use Rattle.cpp_grammar.specs.Meaning.{meaning, parameters, is_void, is_nil, listed_value}
 use Rattle.cpp_grammar.specs.Unfolding as unfolding_
 use Rattle.cpp_grammar.specs.Unfolding.{cpp, opening, close, byte_of, last_token, number_tested}
 use Rattle.cpp_grammar.proofs.Choosing.{empty_at_kind}
-use Rattle.cpp_direct.specs.Holes.{cpp_language, Opened, opened, StandsAt, Comes, Expects, IsNameAt}
+use Rattle.cpp_direct.specs.Holes.{cpp_language, Opened, opened, StandsAt, Comes, Expects, ExpectsSym, IsNameAt}
 use Rattle.sym_direct.specs.Holes as direct
 use Rattle.sym_direct.proofs.Moves as moves
-use Rattle.cpp_direct.specs.HolesOfLocals.{discriminator_value, IsDiscriminatorAt, IsLambdaDigit, IsPieceAt, LocalOpened, LocalTypeOpened, GuardOpened, lambda_digits, lambda_ending, lambda_with}
+use Rattle.cpp_direct.specs.HolesOfLocals.{Discriminator, unnumbered, by_digit, by_digits, discriminator_value, IsDiscriminatorAt, IsLambdaDigit, IsPieceAt, LocalOpened, LocalTypeOpened, GuardOpened, lambda_digits, lambda_ending, lambda_with}
 use Rattle.cpp_direct.specs.Bytes.{short_numbers}
 use Rattle.cpp_direct.specs.Stands.{ItemsGoOn, nowhere}
 use Rattle.cpp_direct.proofs.ShortNumbers.{lambda-begins}
@@ -33,24 +33,49 @@ use Rattle.cpp_direct.proofs.Moves.{stands-split, comes-moved, kind-at, reads-ru
 -- ## Discriminators
 
 -- a discriminator is read, or none
-pub discriminator-comes : (s : List ℕ) (os : List Opened) (around : Around) (at : ℕ) (digit : Option ℕ) (end : ℕ) (st : State)
+pub discriminator-comes : (s : List ℕ) (os : List Opened) (around : Around) (at : ℕ) (digit : Discriminator) (end : ℕ) (st : State)
     → Expects s Kind.MaybeDiscriminator around os at st → IsDiscriminatorAt s at digit end → Comes s os (discriminator_value digit) end st
-unfolding choose alternatives pick is_in in_ranges among is_chain parts_of between opening close unfolding_.behind meaning part byte_of may_be_empty
-discriminator-comes s os around at None end st expects is =
-    comes-moved s os nothing_there at end st (omega (arith, is.ends)) (expects-empty s Kind.MaybeDiscriminator around os at st expects refl)
-discriminator-comes s os around at (Some digit) end st expects is =
+unfolding choose alternatives pick is_in in_ranges among is_chain parts_of between opening close unfolding_.behind meaning part byte_of text_of may_be_empty
+discriminator-comes s os around at unnumbered end st expects is =
+    comes-moved s os nothing_there at end st (sym is) (expects-empty s Kind.MaybeDiscriminator around os at st expects refl)
+discriminator-comes s os around at (by_digit digit) end st expects is =
     let p = Production.Discriminator in
     let q = Production.OneDigit in
     let rest = OfKind (number_of_kind Kind.DiscriminatorRest) in
-    let places = stands-split s at (95 ∷ []) (digit ∷ []) is.stands in
+    let places = stands-split s at (95 ∷ []) (digit ∷ []) is.2 in
     let above = opened (standing (rule_of p) (95 ∷ []) at around st) [] [] ∷ os in
-    let chosen : choose Kind.DiscriminatorRest digit ≡ Some q = rw (le-leb 48 digit is.is_digit.0, le-leb digit 57 is.is_digit.1) refl in
-    comes-moved s os (text (digit ∷ [])) (at + 1 + 1) end st (omega (arith, is.ends))
+    let chosen : choose Kind.DiscriminatorRest digit ≡ Some q = rw (le-leb 48 digit is.0, le-leb digit 57 is.1) refl in
+    comes-moved s os (text (digit ∷ [])) (at + 1 + 1) end st (omega (arith, is.3))
     (ends s p (95 ∷ []) at around st (text (digit ∷ []) ∷ []) os (at + 1 + 1) st _ st
     (ends s q (digit ∷ []) (at + 1) around st [] above (at + 1 + 1) st _ st
-    (opens s Kind.DiscriminatorRest q digit (digit ∷ []) around above (at + 1) st chosen (omega (arith, is.is_digit.1)) refl (λ f. refl)
+    (opens s Kind.DiscriminatorRest q digit (digit ∷ []) around above (at + 1) st chosen (omega (arith, is.1)) refl (λ f. refl)
     (needs-next s p (95 ∷ []) at around st [] rest [] os (at + 1) st around [] st refl
     (opens s Kind.MaybeDiscriminator p 95 (95 ∷ []) around os at st refl (omega arith) refl (λ f. refl) expects places.0)) places.1) refl) refl)
+discriminator-comes s os around at (by_digits digits) end st expects is =
+    let p = Production.Discriminator in
+    let q = Production.ManyDigits in
+    let rest = OfKind (number_of_kind Kind.DiscriminatorRest) in
+    let places = stands-split s at (95 ∷ []) (95 ∷ []) is.1 in
+    let d = is.2 in
+    let above = opened (standing (rule_of p) (95 ∷ []) at around st) [] [] ∷ os in
+    let rule = standing (rule_of q) (95 ∷ []) (at + 1) around st in
+    let first = opened rule [] (Byte 95 ∷ []) ∷ above in
+    let second = opened rule (text digits ∷ []) [] ∷ above in
+    let expected : ExpectsSym s (Number Digits) around first (at + 2) st =
+    subst (λ n. ExpectsSym s (Number Digits) around first n st) (omega arith)
+    (needs-next s q (95 ∷ []) (at + 1) around st [] (Number Digits) (Byte 95 ∷ []) above (at + 1 + 1) st around [] st refl
+    (opens s Kind.DiscriminatorRest q 95 (95 ∷ []) around above (at + 1) st refl (omega arith) refl (λ f. refl)
+    (needs-next s p (95 ∷ []) at around st [] rest [] os (at + 1) st around [] st refl
+    (opens s Kind.MaybeDiscriminator p 95 (95 ∷ []) around os at st refl (omega arith) refl (λ f. refl) expects places.0)) places.1)) in
+    let came : Comes s first (text digits) is.0 st =
+    subst (λ l. Comes s first (text l) is.0 st) d.own
+    (comes-moved s first (text d.token.own) (at + 2 + length (bytes_of d.token)) is.0 st (sym d.ends)
+    (expects-number s Digits around first (at + 2) st d.token expected d.is_number d.stands)) in
+    comes-moved s os (text (normal digits)) (is.0 + 1) end st (sym is.4)
+    (ends s p (95 ∷ []) at around st (text (normal digits) ∷ []) os (is.0 + 1) st _ st
+    (ends s q (95 ∷ []) (at + 1) around st (text digits ∷ nothing_there ∷ []) above (is.0 + 1) st _ st
+    (expects-byte s 95 around second is.0 st
+    (needs-next s q (95 ∷ []) (at + 1) around st (text digits ∷ []) (Byte 95) [] above is.0 st around (text digits ∷ []) st refl came) is.3) refl) refl)
 
 -- ## Entities
 

@@ -1,5 +1,5 @@
 -- Types that stand in functions, and their names.
-use Rattle.std.proofs.Common.{◌≡◌, refl, ap, sym, ◌∙◌, append_assoc, ℕ, ◌+◌, List, [], ◌∷◌, ◌++◌, length, false, Option, arith, codes, length-append, append-nil}
+use Rattle.std.proofs.Common.{◌≡◌, refl, ap, sym, ◌∙◌, append_assoc, ℕ, ◌+◌, List, [], ◌∷◌, ◌++◌, length, false, arith, codes, length-append, append-nil}
 use Rattle.std.specs.Prelude.{decimal}
 use Rattle.sym_print.specs.Unfold.{text}
 use Rattle.sym_print.specs.Unshared.{text_of, cost_of}
@@ -9,7 +9,7 @@ use Rattle.cpp_grammar.specs.References.{is_function_type}
 use Rattle.cpp_grammar.specs.Items.{bare, left, right, piece, first, Context, closed, head_with, head, is_reference, is_funarr, is_empty}
 use Rattle.cpp_grammar.specs.Meaning.{is_void}
 use Rattle.cpp_grammar.specs.Parts.{as_item, says, list_part, prefix_item, last_piece, opening_text, piece_parts, within_parts, left_parts, right_parts, parts_in, not_empty, is_plain_integer}
-use Rattle.cpp_direct.specs.HolesOfLocals.{local_in}
+use Rattle.cpp_direct.specs.HolesOfLocals.{Discriminator, local_in}
 use Rattle.cpp_direct.specs.Prints.{in_form, Prints, PrintsPiece, PrintAll, Encloses, list_of}
 use Rattle.cpp_direct.proofs.PrintedParts.{printed_by, text_by, cost_by, text_first, cost_first, text_append, cost_append}
 use Rattle.cpp_direct.proofs.PrintedFunctions.{closed-list, packless-list}
@@ -114,7 +114,7 @@ within-cost c e b h p n q =
     )
 
 -- A type in a function prints the function and its own name.
-pub local-prints : (e : Term) (b : List ℕ) → Encloses e b → (p : Term) (n : List ℕ) → PrintsPiece p n → (digit : Option ℕ)
+pub local-prints : (e : Term) (b : List ℕ) → Encloses e b → (p : Term) (n : List ℕ) → PrintsPiece p n → (digit : Discriminator)
     → Prints (local_in e p digit) (b ++ codes "::" ++ n) false
 unfolding parts_in left_parts right_parts not_empty head head_with is_reference is_funarr is_empty is_open pack_length length_if_pack first_of is_function_type
     prefix_item last_piece is_void is_plain_integer

@@ -1,34 +1,34 @@
 -- What is expected in the name of a local entity, and what comes of it.
-use Rattle.std.specs.Prelude.{◌≡◌, ◌≢◌, ℕ, ◌+◌, ◌≤◌, List, [], ◌∷◌, ◌++◌, length, Bool, true, false, cond, Option, Some, None}
+use Rattle.std.specs.Prelude.{◌≡◌, ◌≢◌, ℕ, ◌+◌, ◌≤◌, List, [], ◌∷◌, ◌++◌, Bool, true, false, cond, Option, Some, None}
 use Rattle.cpp_grammar.specs.declared.kind.Kind.{Kind}
 use Rattle.cpp_grammar.specs.Term.{Term, any_value, of_name, local, within, source, lambda}
-use Rattle.cpp_grammar.specs.Values.{State, Around, Value, local_number, nothing_there, text, tree, named, unqualified, tree_of, qualifiers_of, ref_of}
+use Rattle.cpp_grammar.specs.Values.{State, Around, Value, local_number, normal, nothing_there, text, tree, named, unqualified, tree_of, qualifiers_of, ref_of}
 use Rattle.cpp_grammar.specs.Between.{after, in_name}
 use Rattle.cpp_grammar.specs.Meaning.{discriminator_of, parameters}
 use Rattle.cpp_direct.specs.Holes.{Opened, StandsAt, Comes, Expects, IsNameAt}
+use Rattle.cpp_direct.specs.HolesOfLists.{IsDigitsAt}
 
--- the bytes of a discriminator of one digit, or of none
-abbrev pub discriminator_bytes : Option ℕ → List ℕ
-discriminator_bytes None = []
-discriminator_bytes (Some digit) = 95 ∷ digit ∷ []
+-- What stands behind the name of an entity: nothing, a digit behind a _, or digits behind two and in front of another one.
+pub data Discriminator : Type 0 where
+  unnumbered : Discriminator
+  by_digit : ℕ → Discriminator
+  by_digits : List ℕ → Discriminator
 
 -- what it stands for
-abbrev pub discriminator_value : Option ℕ → Value
-discriminator_value None = nothing_there
-discriminator_value (Some digit) = text (digit ∷ [])
+abbrev pub discriminator_value : Discriminator → Value
+discriminator_value unnumbered = nothing_there
+discriminator_value (by_digit digit) = text (digit ∷ [])
+discriminator_value (by_digits digits) = text (normal digits)
 
-abbrev pub IsDiscriminator : Option ℕ → Type 0
-IsDiscriminator None = Unit {0}
-IsDiscriminator (Some digit) = (48 ≤ digit) × (digit ≤ 57)
-
--- a discriminator stands at the place, or none, and this is the place behind it
-pub record IsDiscriminatorAt (s : List ℕ) (at : ℕ) (digit : Option ℕ) (end : ℕ) : Type 0 where
-  pub is_digit : IsDiscriminator digit
-  pub stands : StandsAt s at (discriminator_bytes digit)
-  pub ends : end ≡ at + length (discriminator_bytes digit)
+-- a discriminator stands at the place, and this is the place behind it
+abbrev pub IsDiscriminatorAt : (s : List ℕ) → (at : ℕ) → Discriminator → (end : ℕ) → Type 0
+IsDiscriminatorAt s at unnumbered end = end ≡ at
+IsDiscriminatorAt s at (by_digit digit) end = (48 ≤ digit) × (digit ≤ 57) × StandsAt s at (95 ∷ digit ∷ []) × (end ≡ at + 2)
+IsDiscriminatorAt s at (by_digits digits) end =
+    (middle : ℕ) × StandsAt s at (95 ∷ 95 ∷ []) × IsDigitsAt s (at + 2) digits middle × StandsAt s middle (95 ∷ []) × (end ≡ middle + 1)
 
 -- an entity stands at the place, behind an E, with this name and discriminator, and this is the place behind it
-pub record IsEntityAt (s : List ℕ) (at : ℕ) (internal : Bool) (name : List ℕ) (digit : Option ℕ) (end : ℕ) : Type 0 where
+pub record IsEntityAt (s : List ℕ) (at : ℕ) (internal : Bool) (name : List ℕ) (digit : Discriminator) (end : ℕ) : Type 0 where
   pub first : StandsAt s at (69 ∷ [])
   pub letter : internal ≡ true → StandsAt s (at + 1) (76 ∷ [])
   pub middle : ℕ
@@ -37,18 +37,18 @@ pub record IsEntityAt (s : List ℕ) (at : ℕ) (internal : Bool) (name : List �
   pub discriminator : IsDiscriminatorAt s middle digit end
 
 -- the entity with this piece as its name in an encoding
-abbrev pub local_in : (e : Term) → (piece : Term) → (digit : Option ℕ) → Term
+abbrev pub local_in : (e : Term) → (piece : Term) → (digit : Discriminator) → Term
 local_in e p digit = local e (within e p) (discriminator_of (discriminator_value digit))
 
 -- the one with this source name
-abbrev pub entity_in : (e : Term) → (internal : Bool) → (name : List ℕ) → (digit : Option ℕ) → Term
+abbrev pub entity_in : (e : Term) → (internal : Bool) → (name : List ℕ) → (digit : Discriminator) → Term
 entity_in e internal name digit = local_in e (source internal name) digit
 
 -- The encoding is expected in which an entity stands.
 pub record LocalOpened (s : List ℕ) (outer : List Opened) (around : Around) (at : ℕ) (st : State) : Type 0 where
   pub inner : List Opened
   pub awaits : Expects s Kind.Encoding around inner at st
-  pub onward : (e : Term) (at : ℕ) (st : State) → Comes s inner (tree e true) at st → (internal : Bool) (name : List ℕ) (digit : Option ℕ) (end : ℕ)
+  pub onward : (e : Term) (at : ℕ) (st : State) → Comes s inner (tree e true) at st → (internal : Bool) (name : List ℕ) (digit : Discriminator) (end : ℕ)
       → IsEntityAt s at internal name digit end → Comes s outer (named (entity_in e internal name digit) unqualified any_value) end st
 
 -- a piece stands at the place as the name of a type in an encoding, and this is the place behind it
@@ -62,7 +62,7 @@ pub record EntityOpened (s : List ℕ) (becomes : Term → (at : ℕ) → State 
   pub around : Around
   pub inner : List Opened
   pub awaits : Expects s Kind.TypeEntity (after e true around) inner at st
-  pub onward : (p : Term) (at : ℕ) (st : State) → Comes s inner (tree (within e p) false) at st → (digit : Option ℕ) (end : ℕ)
+  pub onward : (p : Term) (at : ℕ) (st : State) → Comes s inner (tree (within e p) false) at st → (digit : Discriminator) (end : ℕ)
       → IsDiscriminatorAt s at digit end → becomes (local_in e p digit) end st
 
 -- The encoding is expected in which a type stands.

@@ -30,7 +30,7 @@ use Rattle.cpp_direct.specs.Holes.{Opened, Comes, Expects, StandsAt, TypePasses,
 use Rattle.cpp_direct.specs.HolesOfFunctions.{SignatureGoesOn, plain_function}
 use Rattle.cpp_direct.specs.HolesOfTypes.{NoReference}
 use Rattle.cpp_direct.specs.HolesOfLists.{IsSuffix, IsDigitsAt, minus_sign}
-use Rattle.cpp_direct.specs.HolesOfLocals.{EntityOpened, IsDiscriminatorAt, IsEntityAt, IsLambdaDigit, lambda_ending, lambda_with, local_in}
+use Rattle.cpp_direct.specs.HolesOfLocals.{Discriminator, EntityOpened, IsDiscriminatorAt, IsEntityAt, IsLambdaDigit, lambda_ending, lambda_with, local_in}
 use Rattle.cpp_direct.specs.Prints.{Prints, PrintsName, Shows, Encloses, NamesClass, PrintAll, PrintsBehind, PrintAllIn}
 use Rattle.cpp_grammar.specs.Parts.{types_of}
 
@@ -127,7 +127,7 @@ pub record EntityBehind (s : List ℕ) (lead : List ℕ) (e : Term) (name : List
 -- An encoding with this tree ends at the place, behind a text. It ends the symbol, or a local entity stands behind it.
 pub record EncodedBehind (s : List ℕ) (lead : List ℕ) (e : Term) (at : ℕ) : Type 0 where
   pub whole : is_local s ≡ false → EndsBehind s lead e at
-  pub entity : is_local s ≡ true → (internal : Bool) (name : List ℕ) (digit : Option ℕ) (end : ℕ) → IsEntityAt s at internal name digit end
+  pub entity : is_local s ≡ true → (internal : Bool) (name : List ℕ) (digit : Discriminator) (end : ℕ) → IsEntityAt s at internal name digit end
       → EntityBehind s lead e name end
 
 -- the name of an encoding behind a text was read, and items may follow
@@ -238,7 +238,7 @@ TypeWithin s below front e at st =
 abbrev pub LambdaWithin : (s : List ℕ) → Below → (front : List ℕ) → (e : Term) → (items : Term) → (at : ℕ) → State → Type 0
 LambdaWithin s below front e items at st =
     (outer : List Opened) × (encoding : ℕ)
-    × ((number : Option ℕ) (middle : ℕ) (digit : Option ℕ) (end : ℕ) → IsLambdaDigit number → StandsAt s at (lambda_ending number)
+    × ((number : Option ℕ) (middle : ℕ) (digit : Discriminator) (end : ℕ) → IsLambdaDigit number → StandsAt s at (lambda_ending number)
     → middle ≡ at + length (lambda_ending number) → IsDiscriminatorAt s middle digit end
     → Comes s outer (tree (local_in e (lambda_with items number) digit) true) end (with_candidate encoding (local_in e (lambda_with items number) digit) st))
     × below outer front

@@ -1,11 +1,11 @@
 // Local entities: what has a name in the body of a function.
 
-ghost use Rattle.std.specs.Prelude.{◌≡◌, ◌∷◌, [], ℕ, Option, true, false};
+ghost use Rattle.std.specs.Prelude.{◌≡◌, ◌∷◌, [], ℕ, true, false};
 ghost use Rattle.std.specs.Option.{OnSome, IfSome};
 ghost use Rattle.cpp_direct.specs.Names.{IsReadable};
 ghost use Rattle.cpp_direct.specs.Bytes.{is_local};
 ghost use Rattle.cpp_direct.specs.Holes.{StandsAt};
-ghost use Rattle.cpp_direct.specs.HolesOfLocals.{IsDiscriminatorAt};
+ghost use Rattle.cpp_direct.specs.HolesOfLocals.{Discriminator, IsDiscriminatorAt};
 ghost use Rattle.cpp_direct.specs.Stands.{IsWriting};
 ghost use Rattle.cpp_direct.specs.Ways.{IsFresh, IsEncodingEnded, AwaitsEntity};
 ghost use Rattle.cpp_direct.specs.Written.{Reads};
@@ -78,16 +78,21 @@ impl Direct {
         self.finish(s)
     }
 
-    /// Reads a discriminator of one digit, if there is one. Nothing of it is written.
-    // <discriminator> ::= _ <non-negative number>
+    /// Reads a discriminator, if there is one. Nothing of it is written.
+    // <discriminator> ::= _ <non-negative number> | __ <non-negative number> _
     pub(crate) fn discriminator(&mut self, s: &[u8]) -> Option<()>
-        ensures { OnSome result ((digit : Option ℕ) × IsDiscriminatorAt s.now self.old.at digit self.new.at × Reads self.old self.new []) }
+        requires { IsReadable s.now }
+        ensures { OnSome result ((digit : Discriminator) × IsDiscriminatorAt s.now self.old.at digit self.new.at × Reads self.old self.new []) }
     {
         if byte_at(s, self.at) != b'_' {
             return Some(());
         }
         self.at = self.at.checked_add(1)?;
         let digit = byte_at(s, self.at);
+        if digit == b'_' {
+            self.at = self.at.checked_add(1)?;
+            return self.distance(s);
+        }
         if digit < b'0' || b'9' < digit {
             return None;
         }

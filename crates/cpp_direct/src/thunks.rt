@@ -63,9 +63,9 @@ impl Direct {
         self.distance(s)
     }
 
-    /// Reads the digits of an offset and the _ behind them.
+    /// Reads digits and the _ behind them, of which nothing is written.
     // <non-negative decimal integer>
-    fn distance(&mut self, s: &[u8]) -> Option<()>
+    pub(crate) fn distance(&mut self, s: &[u8]) -> Option<()>
         requires { IsReadable s.now }
         ensures { OnSome result ((digits : List ℕ) × (end : ℕ) × IsDigitsAt s.now self.old.at digits end × StandsAt s.now end (95 ∷ [])
             × (self.new.at ≡ end + 1) × Reads self.old self.new []) }
