@@ -139,12 +139,12 @@ def build(extended=True, widened=False):
         kind("OperatorAfter" + a.upper(), *rules)
     # the wide grammar's own kinds and productions stand last, so that the numbers of the others are those of the ABI's grammar
     kind("NestRestOrEnd", eats("I", "NestInstance", "ArgumentList", "'E'", "NestTail"), chain("NestNext", "Component", "NestTail"))
-    kind("HolderMark", MARK("M"))
-    kind("HeldComponent", *component)
-    kind("FloatEnd", MARK("_bx"))
     # behind a parameter and a substitution no tag may come: in the ABI's grammar these are as MaybeArguments and NestRest
     kind("ArgumentsAlone", ARGUMENTS, empty=True)
     kind("NestRestAlone", *NEST_REST)
+    kind("HolderMark", MARK("M"))
+    kind("HeldComponent", *component)
+    kind("FloatEnd", MARK("_bx"))
     shared = {p for k, (e, rules) in K.items() for cls, p in rules if (k, cls, p) not in MARKED}
     for p in [p for (k, cls, p), mark in MARKED.items() if mark == "wide" and p not in shared]: P[p] = P.pop(p)
 

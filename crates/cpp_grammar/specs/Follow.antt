@@ -71,11 +71,11 @@ after_ranges Kind.OperatorAfterS = codes ".-.0-9A-FI-IK-PR-VZ-Za-jl-pr-z"
 after_ranges Kind.OperatorAfterI = codes ".-.0-9A-FI-IK-PR-VZ-Za-jl-pr-z"
 after_ranges Kind.OperatorAfterG = codes ".-.0-9A-FI-IK-PR-VZ-Za-jl-pr-z"
 after_ranges Kind.NestRestOrEnd = codes ".-.0-9A-AC-FJ-PR-VX-XZ-Z_-_a-jl-or-z"
+after_ranges Kind.ArgumentsAlone = codes ".-.0-9A-AC-FJ-PR-VX-XZ-Za-jl-or-z"
+after_ranges Kind.NestRestAlone = codes ".-.0-9A-AC-FJ-PR-VX-XZ-Z_-_a-jl-or-z"
 after_ranges Kind.HolderMark = codes "0-9C-DL-LU-Ua-ac-eg-gi-il-pr-s"
 after_ranges Kind.HeldComponent = codes "0-9C-EL-MU-Ua-ac-eg-gi-il-pr-s"
 after_ranges Kind.FloatEnd = codes ".-.0-9A-AC-FJ-PR-VX-XZ-Za-jl-or-z"
-after_ranges Kind.ArgumentsAlone = codes ".-.0-9A-AC-FJ-PR-VX-XZ-Za-jl-or-z"
-after_ranges Kind.NestRestAlone = codes ".-.0-9A-AC-FJ-PR-VX-XZ-Z_-_a-jl-or-z"
 
 -- how many chains may stand on one another at the beginning of a kind
 unfoldable pub rank : Kind → ℕ
@@ -109,8 +109,8 @@ rank Kind.PackList = 3
 rank Kind.Literal = 2
 rank Kind.LiteralType = 1
 rank Kind.NestRestOrEnd = 2
-rank Kind.HeldComponent = 1
 rank Kind.NestRestAlone = 2
+rank Kind.HeldComponent = 1
 rank _ = 0
 
 -- how high the lowest tree of a kind is
@@ -169,8 +169,8 @@ height Kind.OperatorAfterS = 1
 height Kind.OperatorAfterI = 1
 height Kind.OperatorAfterG = 1
 height Kind.NestRestOrEnd = 2
+height Kind.NestRestAlone = 2
 height Kind.HolderMark = 1
 height Kind.HeldComponent = 1
 height Kind.FloatEnd = 1
-height Kind.NestRestAlone = 2
 height _ = 0

@@ -107,11 +107,11 @@ number_of_kind Kind.OperatorAfterS = 63
 number_of_kind Kind.OperatorAfterI = 64
 number_of_kind Kind.OperatorAfterG = 65
 number_of_kind Kind.NestRestOrEnd = 66
-number_of_kind Kind.HolderMark = 67
-number_of_kind Kind.HeldComponent = 68
-number_of_kind Kind.FloatEnd = 69
-number_of_kind Kind.ArgumentsAlone = 70
-number_of_kind Kind.NestRestAlone = 71
+number_of_kind Kind.ArgumentsAlone = 67
+number_of_kind Kind.NestRestAlone = 68
+number_of_kind Kind.HolderMark = 69
+number_of_kind Kind.HeldComponent = 70
+number_of_kind Kind.FloatEnd = 71
 
 -- a kind as a symbol of a rule
 abbrev part : Kind → Sym
@@ -186,11 +186,11 @@ alternatives Kind.OperatorAfterS = on "s" Production.Mark ∷ []
 alternatives Kind.OperatorAfterI = on "x" Production.Mark ∷ []
 alternatives Kind.OperatorAfterG = on "et" Production.Mark ∷ []
 alternatives Kind.NestRestOrEnd = on "I" Production.NestInstance ∷ on_ranges "0-9c-el-p" "CDLUagirs" Production.NestNext ∷ []
+alternatives Kind.ArgumentsAlone = on "I" Production.Arguments ∷ []
+alternatives Kind.NestRestAlone = on "I" Production.NestArguments ∷ on_ranges "0-9c-el-p" "CDLUagirs" Production.NestNext ∷ []
 alternatives Kind.HolderMark = on "M" Production.Mark ∷ []
 alternatives Kind.HeldComponent = on "C" Production.Constructor ∷ on "D" Production.Destructor ∷ on "L" Production.InternalName ∷ on "U" Production.LocalTypeName ∷ on_ranges "c-el-p" "agirs" Production.OperatorName ∷ on_ranges "0-9" "" Production.SourceName ∷ []
 alternatives Kind.FloatEnd = on "_bx" Production.Mark ∷ []
-alternatives Kind.ArgumentsAlone = on "I" Production.Arguments ∷ []
-alternatives Kind.NestRestAlone = on "I" Production.NestArguments ∷ on_ranges "0-9c-el-p" "CDLUagirs" Production.NestNext ∷ []
 
 -- the production that a kind takes at a byte
 unfoldable pub choose : Kind → ℕ → Option Production
@@ -367,7 +367,7 @@ may_be_empty _ = false
 
 -- the kinds in the order of their numbers
 unfoldable pub kinds : List Kind
-kinds = Kind.Symbol ∷ Kind.MaybeSuffix ∷ Kind.SuffixFirst ∷ Kind.SuffixMore ∷ Kind.Encoding ∷ Kind.Special ∷ Kind.CallOffset ∷ Kind.Integer ∷ Kind.CompleteName ∷ Kind.MaybeRestrict ∷ Kind.MaybeVolatile ∷ Kind.MaybeConst ∷ Kind.MaybeRef ∷ Kind.NameAfterS ∷ Kind.Unqualified ∷ Kind.Nest ∷ Kind.NestAfterS ∷ Kind.NestRest ∷ Kind.NestTail ∷ Kind.Component ∷ Kind.ConstructorDigit ∷ Kind.DestructorDigit ∷ Kind.Abbreviation ∷ Kind.Entity ∷ Kind.TypeEntity ∷ Kind.MaybeDiscriminator ∷ Kind.DiscriminatorRest ∷ Kind.Anonymous ∷ Kind.Type ∷ Kind.Plain ∷ Kind.Item ∷ Kind.ItemButRef ∷ Kind.ItemAfterD ∷ Kind.AfterD ∷ Kind.Solid ∷ Kind.MaybeCLinkage ∷ Kind.TypeAfterS ∷ Kind.SourceOrLocal ∷ Kind.FunctionRest ∷ Kind.AfterR ∷ Kind.AfterO ∷ Kind.Items ∷ Kind.MaybeArguments ∷ Kind.Arguments ∷ Kind.ArgumentList ∷ Kind.PackList ∷ Kind.Address ∷ Kind.Literal ∷ Kind.Bit ∷ Kind.LiteralAfterD ∷ Kind.MaybeZero ∷ Kind.LiteralType ∷ Kind.Operator ∷ Kind.OperatorAfterN ∷ Kind.OperatorAfterD ∷ Kind.OperatorAfterA ∷ Kind.OperatorAfterP ∷ Kind.OperatorAfterC ∷ Kind.OperatorAfterM ∷ Kind.OperatorAfterR ∷ Kind.OperatorAfterO ∷ Kind.OperatorAfterE ∷ Kind.OperatorAfterL ∷ Kind.OperatorAfterS ∷ Kind.OperatorAfterI ∷ Kind.OperatorAfterG ∷ Kind.NestRestOrEnd ∷ Kind.HolderMark ∷ Kind.HeldComponent ∷ Kind.FloatEnd ∷ Kind.ArgumentsAlone ∷ Kind.NestRestAlone ∷ []
+kinds = Kind.Symbol ∷ Kind.MaybeSuffix ∷ Kind.SuffixFirst ∷ Kind.SuffixMore ∷ Kind.Encoding ∷ Kind.Special ∷ Kind.CallOffset ∷ Kind.Integer ∷ Kind.CompleteName ∷ Kind.MaybeRestrict ∷ Kind.MaybeVolatile ∷ Kind.MaybeConst ∷ Kind.MaybeRef ∷ Kind.NameAfterS ∷ Kind.Unqualified ∷ Kind.Nest ∷ Kind.NestAfterS ∷ Kind.NestRest ∷ Kind.NestTail ∷ Kind.Component ∷ Kind.ConstructorDigit ∷ Kind.DestructorDigit ∷ Kind.Abbreviation ∷ Kind.Entity ∷ Kind.TypeEntity ∷ Kind.MaybeDiscriminator ∷ Kind.DiscriminatorRest ∷ Kind.Anonymous ∷ Kind.Type ∷ Kind.Plain ∷ Kind.Item ∷ Kind.ItemButRef ∷ Kind.ItemAfterD ∷ Kind.AfterD ∷ Kind.Solid ∷ Kind.MaybeCLinkage ∷ Kind.TypeAfterS ∷ Kind.SourceOrLocal ∷ Kind.FunctionRest ∷ Kind.AfterR ∷ Kind.AfterO ∷ Kind.Items ∷ Kind.MaybeArguments ∷ Kind.Arguments ∷ Kind.ArgumentList ∷ Kind.PackList ∷ Kind.Address ∷ Kind.Literal ∷ Kind.Bit ∷ Kind.LiteralAfterD ∷ Kind.MaybeZero ∷ Kind.LiteralType ∷ Kind.Operator ∷ Kind.OperatorAfterN ∷ Kind.OperatorAfterD ∷ Kind.OperatorAfterA ∷ Kind.OperatorAfterP ∷ Kind.OperatorAfterC ∷ Kind.OperatorAfterM ∷ Kind.OperatorAfterR ∷ Kind.OperatorAfterO ∷ Kind.OperatorAfterE ∷ Kind.OperatorAfterL ∷ Kind.OperatorAfterS ∷ Kind.OperatorAfterI ∷ Kind.OperatorAfterG ∷ Kind.NestRestOrEnd ∷ Kind.ArgumentsAlone ∷ Kind.NestRestAlone ∷ Kind.HolderMark ∷ Kind.HeldComponent ∷ Kind.FloatEnd ∷ []
 
 -- the productions in the order of their numbers
 unfoldable pub productions : List Production

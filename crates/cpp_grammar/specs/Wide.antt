@@ -80,11 +80,11 @@ wide_alternatives Kind.OperatorAfterS = on "s" Production.Mark ∷ []
 wide_alternatives Kind.OperatorAfterI = on "x" Production.Mark ∷ []
 wide_alternatives Kind.OperatorAfterG = on "et" Production.Mark ∷ []
 wide_alternatives Kind.NestRestOrEnd = on "I" Production.NestInstance ∷ on_ranges "0-9c-el-p" "CDLMUagirs" Production.NestNext ∷ []
+wide_alternatives Kind.ArgumentsAlone = on "I" Production.Arguments ∷ []
+wide_alternatives Kind.NestRestAlone = on "I" Production.NestArguments ∷ on_ranges "0-9c-el-p" "CDLMUagirs" Production.NestNext ∷ []
 wide_alternatives Kind.HolderMark = on "M" Production.Mark ∷ []
 wide_alternatives Kind.HeldComponent = on "C" Production.Constructor ∷ on "D" Production.Destructor ∷ on "L" Production.InternalName ∷ on "U" Production.LocalTypeName ∷ on_ranges "c-el-p" "agirs" Production.OperatorName ∷ on_ranges "0-9" "" Production.SourceName ∷ []
 wide_alternatives Kind.FloatEnd = on "_bx" Production.Mark ∷ []
-wide_alternatives Kind.ArgumentsAlone = on "I" Production.Arguments ∷ []
-wide_alternatives Kind.NestRestAlone = on "I" Production.NestArguments ∷ on_ranges "0-9c-el-p" "CDLMUagirs" Production.NestNext ∷ []
 
 -- the production that a kind takes at a byte
 unfoldable pub wide_choose : Kind → ℕ → Option Production

@@ -73,11 +73,11 @@ pub enum Kind {
     OperatorAfterI,
     OperatorAfterG,
     NestRestOrEnd,
+    ArgumentsAlone,
+    NestRestAlone,
     HolderMark,
     HeldComponent,
     FloatEnd,
-    ArgumentsAlone,
-    NestRestAlone,
 }
 
 /// The kind with a number.
@@ -153,11 +153,11 @@ pub fn kind_of(number: u16) -> Option<Kind>
         64 => Some(Kind::OperatorAfterI),
         65 => Some(Kind::OperatorAfterG),
         66 => Some(Kind::NestRestOrEnd),
-        67 => Some(Kind::HolderMark),
-        68 => Some(Kind::HeldComponent),
-        69 => Some(Kind::FloatEnd),
-        70 => Some(Kind::ArgumentsAlone),
-        71 => Some(Kind::NestRestAlone),
+        67 => Some(Kind::ArgumentsAlone),
+        68 => Some(Kind::NestRestAlone),
+        69 => Some(Kind::HolderMark),
+        70 => Some(Kind::HeldComponent),
+        71 => Some(Kind::FloatEnd),
         _ => None,
     }
 }

@@ -143,15 +143,15 @@ const OPERATOR_AFTER_G: Sym = Sym::Kind(65);
 
 const NEST_REST_OR_END: Sym = Sym::Kind(66);
 
-const HOLDER_MARK: Sym = Sym::Kind(67);
+const ARGUMENTS_ALONE: Sym = Sym::Kind(67);
 
-const HELD_COMPONENT: Sym = Sym::Kind(68);
+const NEST_REST_ALONE: Sym = Sym::Kind(68);
 
-const FLOAT_END: Sym = Sym::Kind(69);
+const HOLDER_MARK: Sym = Sym::Kind(69);
 
-const ARGUMENTS_ALONE: Sym = Sym::Kind(70);
+const HELD_COMPONENT: Sym = Sym::Kind(70);
 
-const NEST_REST_ALONE: Sym = Sym::Kind(71);
+const FLOAT_END: Sym = Sym::Kind(71);
 
 const NAME: Sym = Sym::Name;
 
@@ -234,11 +234,11 @@ static LETTERS: [[u8; 87]; 72] = [
     *b"                                                                                    !  ", // OperatorAfterI
     *b"                                                                 !              !      ", // OperatorAfterG
     *b"            EEEEEEEEEE         EE    \x91  E        E           E EEE E E  EEEEE EE       ", // NestRestOrEnd
+    *b"                                     t                                                 ", // ArgumentsAlone
+    *b"            EEEEEEEEEE         EE    D  E        E           E EEE E E  EEEEE EE       ", // NestRestAlone
     *b"                                         !                                             ", // HolderMark
     *b"            $$$$$$$$$$         GH       \"        #           % %%% % %  %%%%% %%       ", // HeldComponent
     *b"                                                           !  !                     !  ", // FloatEnd
-    *b"                                     t                                                 ", // ArgumentsAlone
-    *b"            EEEEEEEEEE         EE    D  E        E           E EEE E E  EEEEE EE       ", // NestRestAlone
 ];
 
 /// A rule without its number and its symbols.

@@ -77,11 +77,11 @@ static WIDE_LETTERS: [[u8; 87]; 72] = [
     *b"                                                                                    !  ", // OperatorAfterI
     *b"                                                                 !              !      ", // OperatorAfterG
     *b"            EEEEEEEEEE         EE    \x91  EE       E           E EEE E E  EEEEE EE       ", // NestRestOrEnd
+    *b"                                     t                                                 ", // ArgumentsAlone
+    *b"            EEEEEEEEEE         EE    D  EE       E           E EEE E E  EEEEE EE       ", // NestRestAlone
     *b"                                         !                                             ", // HolderMark
     *b"            $$$$$$$$$$         GH       \"        #           % %%% % %  %%%%% %%       ", // HeldComponent
     *b"                                                           !  !                     !  ", // FloatEnd
-    *b"                                     t                                                 ", // ArgumentsAlone
-    *b"            EEEEEEEEEE         EE    D  EE       E           E EEE E E  EEEEE EE       ", // NestRestAlone
 ];
 
 /// The number of the rule that a kind takes at a byte, if it takes one.

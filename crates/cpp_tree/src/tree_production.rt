@@ -219,4 +219,4 @@ pub const SIZED_FLOAT: u16 = 67;
 
 /// A name with a tag. Numbers: 1 where it is that of a constructor or a destructor. Texts: the tag. Parts: the name without it.
 /// Symbols of the wide grammar alone have it.
-pub const TAGGED: u16 = 66;
+pub const TAGGED: u16 = 68;
