@@ -168,25 +168,36 @@ ends-so text front last e =
     ap (λ n. pointwise nat_eq last (drop n text)) size ∙ ap (λ l. pointwise nat_eq last (drop (length front) l)) e
     ∙ ap (λ l. pointwise nat_eq last l) (drop-append_seam front last)
 
--- a type that stands at the end of a text that doesn't end as those of integers without a type do
-no-integer-type : (text front bytes : List ℕ) → text ≡ front ++ bytes → ends_with nat_eq text (codes "int") ≡ false
-    → ends_with nat_eq text (codes "long") ≡ false → EndsAsInteger bytes → ⊥
-no-integer-type text front bytes e int long ending = go ending.1
+-- A text ends in no type whose integers stand without it.
+pub record EndsOtherwise (text : List ℕ) : Type 0 where
+  pub int : ends_with nat_eq text (codes "(int") ≡ false
+  pub blank_int : ends_with nat_eq text (codes " int") ≡ false
+  pub long : ends_with nat_eq text (codes "(long") ≡ false
+  pub blank_long : ends_with nat_eq text (codes " long") ≡ false
+
+-- a type that stands behind a bracket at the end of one is none
+no-integer-type : (text front bytes : List ℕ) → text ≡ front ++ codes "(" ++ bytes → EndsOtherwise text → EndsAsInteger bytes → ⊥
+no-integer-type text front bytes e other ending = go ending.1
   where
-    go : (bytes ≡ ending.0 ++ codes "int") ⊎ (bytes ≡ ending.0 ++ codes "long") → ⊥
-    go (inl is) = false≢true (sym int ∙ ends-so text (front ++ ending.0) (codes "int")
-        (e ∙ ap (λ l. front ++ l) is ∙ sym (append_assoc front ending.0 (codes "int"))))
-    go (inr is) = false≢true (sym long ∙ ends-so text (front ++ ending.0) (codes "long")
-        (e ∙ ap (λ l. front ++ l) is ∙ sym (append_assoc front ending.0 (codes "long"))))
+    whole : (last : List ℕ) → bytes ≡ last → text ≡ front ++ (codes "(" ++ last)
+    whole last is = e ∙ ap (λ l. front ++ codes "(" ++ l) is ∙ append_assoc front (codes "(") last
+
+    behind : (last : List ℕ) → bytes ≡ ending.0 ++ last → text ≡ (front ++ codes "(" ++ ending.0) ++ last
+    behind last is = e ∙ ap (λ l. front ++ codes "(" ++ l) is ∙ sym (append_assoc (front ++ codes "(") ending.0 last)
+
+    go : (bytes ≡ codes "int") ⊎ (bytes ≡ ending.0 ++ codes " int") ⊎ (bytes ≡ codes "long") ⊎ (bytes ≡ ending.0 ++ codes " long") → ⊥
+    go (inl is) = false≢true (sym other.int ∙ ends-so text front (codes "(int") (whole (codes "int") is))
+    go (inr (inl is)) = false≢true (sym other.blank_int ∙ ends-so text (front ++ codes "(" ++ ending.0) (codes " int") (behind (codes " int") is))
+    go (inr (inr (inl is))) = false≢true (sym other.long ∙ ends-so text front (codes "(long") (whole (codes "long") is))
+    go (inr (inr (inr is))) = false≢true (sym other.blank_long ∙ ends-so text (front ++ codes "(" ++ ending.0) (codes " long") (behind (codes " long") is))
 
 -- the number of an enumerator was read behind its type, and an E
 pub enumerator-read : (s : List ℕ) (old begun pushed middle new : Direct) (a : AwaitsNumber s old)
-    → ends_with nat_eq old.text.list.items (codes "int") ≡ false → ends_with nat_eq old.text.list.items (codes "long") ≡ false
-    → begun.text ≡ old.text → begun.candidates ≡ old.candidates → begun.at ≡ old.at → reverse begun.waiting.list.items ≡ a.opened
+    → EndsOtherwise old.text.list.items → begun.text ≡ old.text → begun.candidates ≡ old.candidates → begun.at ≡ old.at → reverse begun.waiting.list.items ≡ a.opened
     → Writes begun pushed (codes ")") → (read : IsNumberRead s pushed middle)
     → StandsAt s middle.at (69 ∷ []) × (new.at ≡ middle.at + 1) × Reads middle new [] → IsWriting s new (steps.List false)
 unfolding signed_digits
-enumerator-read s old begun pushed middle new a int long text candidates at waits writes read ended =
+enumerator-read s old begun pushed middle new a other text candidates at waits writes read ended =
     let negative = read.0 in
     let ds = read.1 in
     let n = signed_digits negative ds in
@@ -203,7 +214,7 @@ enumerator-read s old begun pushed middle new a int long text candidates at wait
     ∙ append_assoc old.text.list.items (codes ")") (number_text n) in
     let filled : ds ≢ [] = λ none. absurd (omega (arith, read.3.is_number.digits.1, ap length read.3.own, ap (λ (l : List ℕ). length l) none)) in
     let prints = enumerator-prints a.type a.bytes a.is_reference a.prints (not-integer a.type a.bytes a.is_reference a.prints
-    (no-integer-type old.text.list.items (front ++ before ++ codes "(") a.bytes a.written int long)) n (normal-filled ds filled) in
+    (no-integer-type old.text.list.items (front ++ before) a.bytes a.written other)) n (normal-filled ds filled) in
     record {
       state = a.state;
       candidates = subst (λ v. AreCandidates new.text.list.items v.list.items a.state.candidates)

@@ -42,8 +42,8 @@ unfolding is_plain_integer look_up builtin_texts same_bytes
 builtin-ends letter e =
     let P : ℕ → Type 0 = λ c. EndsAsInteger (look_up (c ∷ []) builtin_texts) in
     at-letter P letter 121 _ (at-letter P letter 120 _ (at-letter P letter 109 _ (at-letter P letter 108 _ (at-letter P letter 106 _
-    (λ h. subst P (sym (eqb-true letter 105 h)) ([], inl refl)) (codes "unsigned ", inl refl)) ([], inr refl)) (codes "unsigned ", inr refl))
-    (codes "long ", inr refl)) (codes "unsigned long ", inr refl) e
+    (λ h. subst P (sym (eqb-true letter 105 h)) ([], inl refl)) (codes "unsigned", inr (inl refl))) ([], inr (inr (inl refl))))
+    (codes "unsigned", inr (inr (inr refl)))) (codes "long", inr (inr (inr refl)))) (codes "unsigned long", inr (inr (inr refl))) e
 
 -- A source name prints itself.
 pub source-prints : (internal : Bool) (name : List ℕ) → name ≢ [] → Prints (alone (source internal name)) (source_text name) false

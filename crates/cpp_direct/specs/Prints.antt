@@ -14,9 +14,10 @@ use Rattle.cpp_grammar.specs.Answer.{shown}
 abbrev pub in_form : Form → Context → Term → Unshared
 in_form form context t = shown Full (record { tree = t; form = form; context = context })
 
--- the name of a builtin type whose integers stand without it ends so
+-- the name of a builtin type whose integers stand without it is one of these words, or ends in one behind a blank
 abbrev pub EndsAsInteger : List ℕ → Type 0
-EndsAsInteger bytes = (front : List ℕ) × ((bytes ≡ front ++ codes "int") ⊎ (bytes ≡ front ++ codes "long"))
+EndsAsInteger bytes =
+    (front : List ℕ) × ((bytes ≡ codes "int") ⊎ (bytes ≡ front ++ codes " int") ⊎ (bytes ≡ codes "long") ⊎ (bytes ≡ front ++ codes " long"))
 
 -- A tree with this text. It is a type, or the name of something; whether it is a reference is known.
 pub record Prints (t : Term) (bytes : List ℕ) (reference : Bool) : Type 0 where

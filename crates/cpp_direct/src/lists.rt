@@ -224,10 +224,16 @@ impl Direct {
         ensures { IfSome result (IsWriting s.now self.new) }
     {
         // the integers of some builtin types stand without them
-        if self.text.as_slice().ends_with(b"int") {
+        if self.text.as_slice().ends_with(b"(int") {
             return None;
         }
-        if self.text.as_slice().ends_with(b"long") {
+        if self.text.as_slice().ends_with(b" int") {
+            return None;
+        }
+        if self.text.as_slice().ends_with(b"(long") {
+            return None;
+        }
+        if self.text.as_slice().ends_with(b" long") {
             return None;
         }
         let _open = self.waiting.pop();

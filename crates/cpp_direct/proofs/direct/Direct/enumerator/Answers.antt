@@ -20,8 +20,12 @@ returns c =
       rounds = old.rounds;
     } in
     enumerator-read c.args.s.now old w c.push.new.self c.number.new.self c.literal_ended.new.self a
-    (subst (λ l. ends_with nat_eq l (codes "int") ≡ false) c.as_slice.ensures (sym c.ends_with.ensures.value ∙ c.if-ends_with.false))
-    (subst (λ l. ends_with nat_eq l (codes "long") ≡ false) c.as_slice-2.ensures (sym c.ends_with-2.ensures.value ∙ c.if-ends_with-2.false))
+    (record {
+      int = subst (λ l. ends_with nat_eq l (codes "(int") ≡ false) c.as_slice.ensures (sym c.ends_with.ensures.value ∙ c.if-ends_with.false);
+      blank_int = subst (λ l. ends_with nat_eq l (codes " int") ≡ false) c.as_slice-2.ensures (sym c.ends_with-2.ensures.value ∙ c.if-ends_with-2.false);
+      long = subst (λ l. ends_with nat_eq l (codes "(long") ≡ false) c.as_slice-3.ensures (sym c.ends_with-3.ensures.value ∙ c.if-ends_with-3.false);
+      blank_long = subst (λ l. ends_with nat_eq l (codes " long") ≡ false) c.as_slice-4.ensures (sym c.ends_with-4.ensures.value ∙ c.if-ends_with-4.false);
+    })
     refl refl refl
     (popped old.waiting.list.items c.pop-open.new.self.list.items a.opened opens.Enumerator _ refl a.open_is c.pop-open.ensures.rest)
     c.in_ok-push.ensures c.in_ok-number.ensures c.in_ok-literal_ended.ensures
