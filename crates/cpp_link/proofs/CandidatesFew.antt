@@ -31,7 +31,7 @@ unlisted_around around = cond (prefix_listed around.prefix) 0 1
 
 -- components of nested names, and other kinds whose trees become candidates later, if they do
 unfoldable pub is_component : ℕ → Bool
-is_component k = nat_eq k 19 || nat_eq k 68
+is_component k = nat_eq k 19 || nat_eq k 70
 
 unfoldable pub becomes_candidate : ℕ → Bool
 becomes_candidate k =
