@@ -619,11 +619,6 @@ lambda-done s w begun pushed numbered popped_ last new from p apart ends same_te
 
 -- ## The type
 
--- its name is expected behind an E
-pub name-awaited : (s : List ℕ) (old : Direct) (n from : ℕ) → IsEnclosingRead s old false from → StandsAt s old.at (69 ∷ []) → n ≡ old.at + 1
-    → AwaitsTypeName s (record old { at = n }) from
-name-awaited s old n from a letter at_is = record { before = old.at; read = a; letter = letter; at_is = at_is }
-
 -- its name and its discriminator are read
 pub type-within : (s : List ℕ) (old pushed read last new : Direct) (from : ℕ) → AwaitsTypeName s old from → Writes old pushed (codes "::")
     → (p : Term) (n : List ℕ) → IsPieceAt s pushed.at p read.at → PrintsPiece p n → Reads pushed read n
