@@ -284,6 +284,7 @@ operator-ends s w is_const p here is_name =
       prints = p.prints;
       no_return = λ e. p.no_return;
       returns = λ e. absurd (false≢true e);
+      names = λ e. absurd (false≢true e);
       awaits = serves t false (w.at + 1) st
           (goes.passes (tree t false) (w.at + 1) st (nest-end s goes.inner p.around t false w.at st goes.awaits here));
     }

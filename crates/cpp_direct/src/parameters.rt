@@ -2,7 +2,7 @@
 
 ghost use Rattle.std.specs.Prelude.{◌≡◌, ◌≤◌, ◌+◌, ◌∷◌, [], reverse, true, false, Some};
 ghost use Rattle.std.specs.Option.{IfSome};
-ghost use Rattle.sym_core.specs.Number.{FitsSymbol};
+ghost use Rattle.cpp_direct.specs.Names.{IsReadable};
 ghost use Rattle.cpp_direct.specs.declared.open.Step.TheVariants as steps;
 ghost use Rattle.cpp_direct.specs.Holes.{StandsAt};
 ghost use Rattle.cpp_direct.specs.Stands.{IsWriting, argument_of};
@@ -60,7 +60,7 @@ impl Direct {
     // <template-args> ::= I <template-arg>* E
     #[inline(always)]
     pub(crate) fn first_type(&mut self, s: &[u8]) -> Option<Step>
-        requires fits { FitsSymbol s.now }
+        requires fits { IsReadable s.now }
         requires writing { IsWriting s.now self.old (steps.List true) }
         ensures { IfSome result (IsWriting s.now self.new) }
     {
@@ -84,7 +84,7 @@ impl Direct {
     // <template-arg> ::= J <template-arg>* E
     #[inline(never)]
     pub(crate) fn first_pack(&mut self, s: &[u8]) -> Option<Step>
-        requires fits { FitsSymbol s.now }
+        requires fits { IsReadable s.now }
         requires letter { StandsAt s.now self.old.at (74 ∷ []) }
         requires writing { IsWriting s.now self.old (steps.List true) }
         ensures { IfSome result (IsWriting s.now self.new) }
@@ -116,7 +116,7 @@ impl Direct {
         from: usize,
         is_reference: bool,
     ) -> Option<Step>
-        requires fits { FitsSymbol s.now }
+        requires fits { IsReadable s.now }
         requires read { IsPackElementRead s.now self.old from is_reference }
         ensures { IfSome result (IsWriting s.now self.new) }
     {
@@ -151,7 +151,7 @@ impl Direct {
         start: usize,
         argument: Argument,
     ) -> Option<Step>
-        requires fits { FitsSymbol s.now }
+        requires fits { IsReadable s.now }
         requires awaits { AwaitsNextParameter s.now self.old is_const start argument }
         ensures { IfSome result (IsWriting s.now self.new) }
     {
@@ -165,7 +165,7 @@ impl Direct {
     // <type> ::= Dp <type>
     #[inline(never)]
     fn expansion(&mut self, s: &[u8], is_const: bool, start: usize, pack: Argument) -> Option<Step>
-        requires fits { FitsSymbol s.now }
+        requires fits { IsReadable s.now }
         requires is_pack { pack.is_pack ≡ true }
         requires awaits { AwaitsNextParameter s.now self.old is_const start pack }
         ensures { IfSome result (IsWriting s.now self.new) }
@@ -194,7 +194,7 @@ impl Direct {
         from: usize,
         is_reference: bool,
     ) -> Option<Step>
-        requires fits { FitsSymbol s.now }
+        requires fits { IsReadable s.now }
         requires read { IsArgumentRead s.now self.old from is_reference }
         ensures { IfSome result (IsWriting s.now self.new) }
     {
@@ -241,7 +241,7 @@ impl Direct {
     // <template-param> ::= T_
     #[inline(never)]
     pub(crate) fn template_parameter(&mut self, s: &[u8]) -> Option<Step>
-        requires fits { FitsSymbol s.now }
+        requires fits { IsReadable s.now }
         requires letter { StandsAt s.now self.old.at (84 ∷ []) }
         requires awaits { AwaitsType s.now self.old }
         ensures { IfSome result (IsWriting s.now self.new) }
@@ -267,7 +267,7 @@ impl Direct {
     // <type> ::= P <type>
     #[inline(never)]
     pub(crate) fn pass_dependent(&mut self, s: &[u8], is_reference: bool) -> Option<Step>
-        requires fits { FitsSymbol s.now }
+        requires fits { IsReadable s.now }
         requires writing { IsWriting s.now self.old (steps.Dependent is_reference) }
         ensures { IfSome result (IsWriting s.now self.new) }
     {

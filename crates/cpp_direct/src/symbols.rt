@@ -379,7 +379,7 @@ impl Direct {
         start: usize,
         _argument: Argument,
     ) -> Option<Step>
-        requires fits { FitsSymbol s.now }
+        requires fits { IsReadable s.now }
         requires ended { IsParameterEnded s.now self.old is_const start _argument }
         ensures { IfSome result (IsWriting s.now self.new) }
     {
