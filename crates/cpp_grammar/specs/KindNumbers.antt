@@ -3,10 +3,10 @@ use Rattle.std.specs.Prelude.{ℕ}
 
 -- how many kinds there are, and how many productions
 abbrev pub KIND_COUNT : ℕ
-KIND_COUNT = 70
+KIND_COUNT = 72
 
 abbrev pub PRODUCTION_COUNT : ℕ
-PRODUCTION_COUNT = 118
+PRODUCTION_COUNT = 122
 
 abbrev pub SYMBOL : ℕ
 SYMBOL = 0
@@ -215,5 +215,11 @@ HOLDER_MARK = 67
 abbrev pub HELD_COMPONENT : ℕ
 HELD_COMPONENT = 68
 
+abbrev pub COMPONENT_AFTER_C : ℕ
+COMPONENT_AFTER_C = 69
+
+abbrev pub OTHER_OPERATOR : ℕ
+OTHER_OPERATOR = 70
+
 abbrev pub FLOAT_END : ℕ
-FLOAT_END = 69
+FLOAT_END = 71

@@ -75,6 +75,8 @@ pub enum Kind {
     NestRestOrEnd,
     HolderMark,
     HeldComponent,
+    ComponentAfterC,
+    OtherOperator,
     FloatEnd,
 }
 
@@ -153,7 +155,9 @@ pub fn kind_of(number: u16) -> Option<Kind>
         66 => Some(Kind::NestRestOrEnd),
         67 => Some(Kind::HolderMark),
         68 => Some(Kind::HeldComponent),
-        69 => Some(Kind::FloatEnd),
+        69 => Some(Kind::ComponentAfterC),
+        70 => Some(Kind::OtherOperator),
+        71 => Some(Kind::FloatEnd),
         _ => None,
     }
 }

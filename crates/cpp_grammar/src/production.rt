@@ -116,9 +116,13 @@ pub enum Production {
     OperatorG,
     LiteralOperator,
     NestInstance,
+    Conversion,
+    OperatorNameWithC,
     SpecialName,
     ConstructionVtable,
     NestTemplate,
+    ComponentWithC,
+    OtherOperatorName,
     Holder,
     SizedFloat,
 }

@@ -82,89 +82,91 @@ pub const CONSTRUCTION: u16 = 37;
 
 pub const IN: u16 = 38;
 
-pub const FLOAT: u16 = 39;
+pub const CONVERSION: u16 = 39;
 
-pub const WIDER: u16 = 40;
+pub const FLOAT: u16 = 40;
 
-pub const BRAIN_FLOAT: u16 = 41;
+pub const WIDER: u16 = 41;
+
+pub const BRAIN_FLOAT: u16 = 42;
 
 /// Where the texts behind a function's parameters begin.
-pub const SUFFIX: u16 = 42;
+pub const SUFFIX: u16 = 43;
 
 /// No text.
-pub const NONE: u16 = 42;
+pub const NONE: u16 = 43;
 
 /// Where the builtin types begin.
-pub const BUILTIN: u16 = 90;
+pub const BUILTIN: u16 = 91;
 
 /// Where the names of operators begin.
-pub const OPERATOR: u16 = 121;
+pub const OPERATOR: u16 = 122;
 
 /// How many operators there are.
 pub const OPERATORS: u16 = 48;
 
 /// Where the abbreviations begin, and their names without `std::`.
-pub const ABBREVIATION: u16 = 169;
+pub const ABBREVIATION: u16 = 170;
 
-pub const LAST_OF_ABBREVIATION: u16 = 175;
+pub const LAST_OF_ABBREVIATION: u16 = 176;
 
 /// Where the special names begin.
-pub const SPECIAL: u16 = 181;
+pub const SPECIAL: u16 = 182;
 
 /// Where the special names of names begin.
-pub const NAMED_SPECIAL: u16 = 185;
+pub const NAMED_SPECIAL: u16 = 186;
 
 /// Where the endings of integer literals begin.
-pub const ENDING: u16 = 188;
+pub const ENDING: u16 = 189;
 
 /// Where the qualifiers begin whose blank stands behind them, but for those of no qualifier.
-pub const BLANKED: u16 = 192;
+pub const BLANKED: u16 = 193;
 
 /// The name of an operator that has no code.
-pub const OPERATOR_ALONE: u16 = 200;
+pub const OPERATOR_ALONE: u16 = 201;
 
 /// How many texts there are.
-pub const COUNT: u16 = 201;
+pub const COUNT: u16 = 202;
 
 /// A text behind the operators: an abbreviation, a special name, an ending, a qualifier.
 #[tactic(auto, unfolding(crate::specs::Texts::fixed_text, cpp_grammar::specs::Texts::builtin_texts, cpp_grammar::specs::Texts::operator_texts, cpp_grammar::specs::Texts::abbreviation_texts, cpp_grammar::specs::Texts::special_texts, cpp_grammar::specs::Texts::named_special_texts, cpp_grammar::specs::Texts::literal_endings))]
 #[inline(always)]
 fn remaining_text(number: u16) -> &'static [u8]
-    requires { 169 ≤ number }
+    requires { 170 ≤ number }
     ensures { result.now ≡ fixed_text number }
 {
     match number {
-        169 => b"std::allocator",
-        170 => b"std::basic_string",
-        171 => b"std::string",
-        172 => b"std::istream",
-        173 => b"std::ostream",
-        174 => b"std::iostream",
-        175 => b"allocator",
-        176 => b"basic_string",
-        177 => b"string",
-        178 => b"istream",
-        179 => b"ostream",
-        180 => b"iostream",
-        181 => b"vtable for ",
-        182 => b"VTT for ",
-        183 => b"typeinfo for ",
-        184 => b"typeinfo name for ",
-        185 => b"guard variable for ",
-        186 => b"thread-local initialization routine for ",
-        187 => b"thread-local wrapper routine for ",
-        188 => b"u",
-        189 => b"l",
-        190 => b"ul",
-        191 => b"ll",
-        192 => b"ull",
-        193 => b"restrict ",
-        194 => b"volatile ",
-        195 => b"volatile restrict ",
-        196 => b"const ",
-        197 => b"const restrict ",
-        198 => b"const volatile ",
-        199 => b"const volatile restrict ",
+        170 => b"std::allocator",
+        171 => b"std::basic_string",
+        172 => b"std::string",
+        173 => b"std::istream",
+        174 => b"std::ostream",
+        175 => b"std::iostream",
+        176 => b"allocator",
+        177 => b"basic_string",
+        178 => b"string",
+        179 => b"istream",
+        180 => b"ostream",
+        181 => b"iostream",
+        182 => b"vtable for ",
+        183 => b"VTT for ",
+        184 => b"typeinfo for ",
+        185 => b"typeinfo name for ",
+        186 => b"guard variable for ",
+        187 => b"thread-local initialization routine for ",
+        188 => b"thread-local wrapper routine for ",
+        189 => b"u",
+        190 => b"l",
+        191 => b"ul",
+        192 => b"ll",
+        193 => b"ull",
+        194 => b"restrict ",
+        195 => b"volatile ",
+        196 => b"volatile restrict ",
+        197 => b"const ",
+        198 => b"const restrict ",
+        199 => b"const volatile ",
+        200 => b"const volatile restrict ",
         OPERATOR_ALONE => b"operator",
         _ => b"",
     }
@@ -174,58 +176,58 @@ fn remaining_text(number: u16) -> &'static [u8]
 #[tactic(auto, unfolding(crate::specs::Texts::fixed_text, cpp_grammar::specs::Texts::builtin_texts, cpp_grammar::specs::Texts::operator_texts))]
 #[inline(always)]
 fn operator_text(number: u16) -> &'static [u8]
-    requires { 121 ≤ number }
+    requires { 122 ≤ number }
     ensures { result.now ≡ fixed_text number }
 {
     match number {
-        121 => b"operator new",
-        122 => b"operator new[]",
-        123 => b"operator delete",
-        124 => b"operator delete[]",
-        125 => b"operator co_await",
-        126 => b"operator+",
-        127 => b"operator-",
-        128 => b"operator&",
-        129 => b"operator*",
-        130 => b"operator~",
-        131 => b"operator+",
-        132 => b"operator-",
-        133 => b"operator*",
-        134 => b"operator/",
-        135 => b"operator%",
-        136 => b"operator&",
-        137 => b"operator^",
-        138 => b"operator=",
-        139 => b"operator+=",
-        140 => b"operator-=",
-        141 => b"operator*=",
-        142 => b"operator/=",
-        143 => b"operator%=",
-        144 => b"operator&=",
-        145 => b"operator|=",
-        146 => b"operator^=",
-        147 => b"operator<<",
-        148 => b"operator>>",
-        149 => b"operator<<=",
-        150 => b"operator>>=",
-        151 => b"operator==",
-        152 => b"operator!=",
-        153 => b"operator<",
-        154 => b"operator>",
-        155 => b"operator<=",
-        156 => b"operator>=",
-        157 => b"operator<=>",
-        158 => b"operator!",
-        159 => b"operator&&",
-        160 => b"operator||",
-        161 => b"operator++",
-        162 => b"operator--",
-        163 => b"operator,",
-        164 => b"operator->*",
-        165 => b"operator->",
-        166 => b"operator()",
-        167 => b"operator[]",
-        168 => b"operator|",
+        122 => b"operator new",
+        123 => b"operator new[]",
+        124 => b"operator delete",
+        125 => b"operator delete[]",
+        126 => b"operator co_await",
+        127 => b"operator+",
+        128 => b"operator-",
+        129 => b"operator&",
+        130 => b"operator*",
+        131 => b"operator~",
+        132 => b"operator+",
+        133 => b"operator-",
+        134 => b"operator*",
+        135 => b"operator/",
+        136 => b"operator%",
+        137 => b"operator&",
+        138 => b"operator^",
+        139 => b"operator=",
+        140 => b"operator+=",
+        141 => b"operator-=",
+        142 => b"operator*=",
+        143 => b"operator/=",
+        144 => b"operator%=",
+        145 => b"operator&=",
+        146 => b"operator|=",
+        147 => b"operator^=",
+        148 => b"operator<<",
+        149 => b"operator>>",
+        150 => b"operator<<=",
+        151 => b"operator>>=",
+        152 => b"operator==",
+        153 => b"operator!=",
+        154 => b"operator<",
+        155 => b"operator>",
+        156 => b"operator<=",
+        157 => b"operator>=",
+        158 => b"operator<=>",
+        159 => b"operator!",
+        160 => b"operator&&",
+        161 => b"operator||",
+        162 => b"operator++",
+        163 => b"operator--",
+        164 => b"operator,",
+        165 => b"operator->*",
+        166 => b"operator->",
+        167 => b"operator()",
+        168 => b"operator[]",
+        169 => b"operator|",
         _ => remaining_text(number),
     }
 }
@@ -234,41 +236,41 @@ fn operator_text(number: u16) -> &'static [u8]
 #[tactic(auto, unfolding(crate::specs::Texts::fixed_text, cpp_grammar::specs::Texts::builtin_texts))]
 #[inline(always)]
 fn builtin_text(number: u16) -> &'static [u8]
-    requires { 90 ≤ number }
+    requires { 91 ≤ number }
     ensures { result.now ≡ fixed_text number }
 {
     match number {
-        90 => b"void",
-        91 => b"wchar_t",
-        92 => b"bool",
-        93 => b"char",
-        94 => b"signed char",
-        95 => b"unsigned char",
-        96 => b"short",
-        97 => b"unsigned short",
-        98 => b"int",
-        99 => b"unsigned int",
-        100 => b"long",
-        101 => b"unsigned long",
-        102 => b"long long",
-        103 => b"unsigned long long",
-        104 => b"__int128",
-        105 => b"unsigned __int128",
-        106 => b"float",
-        107 => b"double",
-        108 => b"long double",
-        109 => b"__float128",
-        110 => b"...",
-        111 => b"char32_t",
-        112 => b"char16_t",
-        113 => b"char8_t",
-        114 => b"auto",
-        115 => b"decltype(auto)",
-        116 => b"std::nullptr_t",
-        117 => b"decimal64",
-        118 => b"decimal128",
-        119 => b"decimal32",
-        120 => b"half",
+        91 => b"void",
+        92 => b"wchar_t",
+        93 => b"bool",
+        94 => b"char",
+        95 => b"signed char",
+        96 => b"unsigned char",
+        97 => b"short",
+        98 => b"unsigned short",
+        99 => b"int",
+        100 => b"unsigned int",
+        101 => b"long",
+        102 => b"unsigned long",
+        103 => b"long long",
+        104 => b"unsigned long long",
+        105 => b"__int128",
+        106 => b"unsigned __int128",
+        107 => b"float",
+        108 => b"double",
+        109 => b"long double",
+        110 => b"__float128",
+        111 => b"...",
+        112 => b"char32_t",
+        113 => b"char16_t",
+        114 => b"char8_t",
+        115 => b"auto",
+        116 => b"decltype(auto)",
+        117 => b"std::nullptr_t",
+        118 => b"decimal64",
+        119 => b"decimal128",
+        120 => b"decimal32",
+        121 => b"half",
         _ => operator_text(number),
     }
 }
@@ -277,58 +279,58 @@ fn builtin_text(number: u16) -> &'static [u8]
 #[tactic(auto, unfolding(crate::specs::Texts::fixed_text))]
 #[inline(always)]
 fn suffix_text(number: u16) -> &'static [u8]
-    requires { 42 ≤ number }
+    requires { 43 ≤ number }
     ensures { result.now ≡ fixed_text number }
 {
     match number {
         NONE => b"",
-        43 => b" restrict",
-        44 => b" volatile",
-        45 => b" volatile restrict",
-        46 => b" const",
-        47 => b" const restrict",
-        48 => b" const volatile",
-        49 => b" const volatile restrict",
-        50 => b" &",
-        51 => b" restrict &",
-        52 => b" volatile &",
-        53 => b" volatile restrict &",
-        54 => b" const &",
-        55 => b" const restrict &",
-        56 => b" const volatile &",
-        57 => b" const volatile restrict &",
-        58 => b" &&",
-        59 => b" restrict &&",
-        60 => b" volatile &&",
-        61 => b" volatile restrict &&",
-        62 => b" const &&",
-        63 => b" const restrict &&",
-        64 => b" const volatile &&",
-        65 => b" const volatile restrict &&",
-        66 => b" noexcept",
-        67 => b" restrict noexcept",
-        68 => b" volatile noexcept",
-        69 => b" volatile restrict noexcept",
-        70 => b" const noexcept",
-        71 => b" const restrict noexcept",
-        72 => b" const volatile noexcept",
-        73 => b" const volatile restrict noexcept",
-        74 => b" & noexcept",
-        75 => b" restrict & noexcept",
-        76 => b" volatile & noexcept",
-        77 => b" volatile restrict & noexcept",
-        78 => b" const & noexcept",
-        79 => b" const restrict & noexcept",
-        80 => b" const volatile & noexcept",
-        81 => b" const volatile restrict & noexcept",
-        82 => b" && noexcept",
-        83 => b" restrict && noexcept",
-        84 => b" volatile && noexcept",
-        85 => b" volatile restrict && noexcept",
-        86 => b" const && noexcept",
-        87 => b" const restrict && noexcept",
-        88 => b" const volatile && noexcept",
-        89 => b" const volatile restrict && noexcept",
+        44 => b" restrict",
+        45 => b" volatile",
+        46 => b" volatile restrict",
+        47 => b" const",
+        48 => b" const restrict",
+        49 => b" const volatile",
+        50 => b" const volatile restrict",
+        51 => b" &",
+        52 => b" restrict &",
+        53 => b" volatile &",
+        54 => b" volatile restrict &",
+        55 => b" const &",
+        56 => b" const restrict &",
+        57 => b" const volatile &",
+        58 => b" const volatile restrict &",
+        59 => b" &&",
+        60 => b" restrict &&",
+        61 => b" volatile &&",
+        62 => b" volatile restrict &&",
+        63 => b" const &&",
+        64 => b" const restrict &&",
+        65 => b" const volatile &&",
+        66 => b" const volatile restrict &&",
+        67 => b" noexcept",
+        68 => b" restrict noexcept",
+        69 => b" volatile noexcept",
+        70 => b" volatile restrict noexcept",
+        71 => b" const noexcept",
+        72 => b" const restrict noexcept",
+        73 => b" const volatile noexcept",
+        74 => b" const volatile restrict noexcept",
+        75 => b" & noexcept",
+        76 => b" restrict & noexcept",
+        77 => b" volatile & noexcept",
+        78 => b" volatile restrict & noexcept",
+        79 => b" const & noexcept",
+        80 => b" const restrict & noexcept",
+        81 => b" const volatile & noexcept",
+        82 => b" const volatile restrict & noexcept",
+        83 => b" && noexcept",
+        84 => b" restrict && noexcept",
+        85 => b" volatile && noexcept",
+        86 => b" volatile restrict && noexcept",
+        87 => b" const && noexcept",
+        88 => b" const restrict && noexcept",
+        89 => b" const volatile && noexcept",
+        90 => b" const volatile restrict && noexcept",
         _ => builtin_text(number),
     }
 }
@@ -379,6 +381,7 @@ pub fn fixed_text(number: u16) -> &'static [u8]
         MINUS => b"-",
         CONSTRUCTION => b"construction vtable for ",
         IN => b"-in-",
+        CONVERSION => b"operator ",
         FLOAT => b"_Float",
         WIDER => b"x",
         BRAIN_FLOAT => b"std::bfloat16_t",

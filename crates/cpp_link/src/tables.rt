@@ -3,7 +3,7 @@
 use cpp_grammar::production::Production;
 
 /// The productions.
-pub(crate) const PRODUCTIONS: [Production; 118] = [
+pub(crate) const PRODUCTIONS: [Production; 122] = [
     Production::Mark,
     Production::InternalName,
     Production::LocalTypeName,
@@ -117,15 +117,19 @@ pub(crate) const PRODUCTIONS: [Production; 118] = [
     Production::OperatorG,
     Production::LiteralOperator,
     Production::NestInstance,
+    Production::Conversion,
+    Production::OperatorNameWithC,
     Production::SpecialName,
     Production::ConstructionVtable,
     Production::NestTemplate,
+    Production::ComponentWithC,
+    Production::OtherOperatorName,
     Production::Holder,
     Production::SizedFloat,
 ];
 
 /// How many parts each has.
-pub(crate) const PART_COUNTS: [u8; 118] = [
+pub(crate) const PART_COUNTS: [u8; 122] = [
     0, // Mark
     2, // InternalName
     2, // LocalTypeName
@@ -239,15 +243,19 @@ pub(crate) const PART_COUNTS: [u8; 118] = [
     1, // OperatorG
     1, // LiteralOperator
     3, // NestInstance
+    1, // Conversion
+    2, // OperatorNameWithC
     1, // SpecialName
     4, // ConstructionVtable
     2, // NestTemplate
+    1, // ComponentWithC
+    2, // OtherOperatorName
     2, // Holder
     2, // SizedFloat
 ];
 
 /// Whether parts without a row may stand between those of each.
-pub(crate) const SKIPS_PARTS: [bool; 118] = [
+pub(crate) const SKIPS_PARTS: [bool; 122] = [
     false, // Mark
     false, // InternalName
     false, // LocalTypeName
@@ -361,15 +369,19 @@ pub(crate) const SKIPS_PARTS: [bool; 118] = [
     false, // OperatorG
     false, // LiteralOperator
     true, // NestInstance
+    false, // Conversion
+    false, // OperatorNameWithC
     false, // SpecialName
     true, // ConstructionVtable
     false, // NestTemplate
+    false, // ComponentWithC
+    false, // OtherOperatorName
     false, // Holder
     false, // SizedFloat
 ];
 
 /// Before how many of its parts nothing is done in each: before none, the first, or all, which are five at most.
-pub(crate) const QUIET_PARTS: [u8; 118] = [
+pub(crate) const QUIET_PARTS: [u8; 122] = [
     5, // Mark
     1, // InternalName
     1, // LocalTypeName
@@ -483,9 +495,13 @@ pub(crate) const QUIET_PARTS: [u8; 118] = [
     5, // OperatorG
     5, // LiteralOperator
     0, // NestInstance
+    0, // Conversion
+    1, // OperatorNameWithC
     5, // SpecialName
     5, // ConstructionVtable
     1, // NestTemplate
+    5, // ComponentWithC
+    1, // OtherOperatorName
     1, // Holder
     5, // SizedFloat
 ];

@@ -216,3 +216,12 @@ pub const HOLDER: u16 = 66;
 /// A floating type of so many bits. Numbers: the byte behind their digits, `_`, `x` or `b`. Texts: the digits. Symbols of the wide
 /// grammar alone have it.
 pub const SIZED_FLOAT: u16 = 67;
+
+/// A conversion to a type, in no scope. Parts: the type. Symbols of the wide grammar alone have it, and the next two.
+pub const CONVERSION: u16 = 68;
+
+/// As `CONVERSION`, in std.
+pub const STD_CONVERSION: u16 = 69;
+
+/// As `CONVERSION`, in a prefix: its type is the second part.
+pub const NESTED_CONVERSION: u16 = 70;
