@@ -77,7 +77,7 @@ def build(extended=True, widened=False):
          eats("U", "NestLocalType", "Anonymous", "NestRest"), chain("NestSource", NAME, "NestRest"))
     kind("NestAfterS", eats("t", "NestStd", "Unqualified", "MaybeArguments", "NestTail"),
          narrow(chain("NestAbbreviated", "Abbreviation", "NestRestAlone")), wide(chain("NestTemplate", "Abbreviation", "NestRestOrEnd")))
-    NEST_REST = [eats("I", "NestArguments", "ArgumentList", "'E'", "Component", "NestTail"), chain("NestNext", "Component", "NestTail")]
+    NEST_REST = [eats("I", "NestArguments", "ArgumentsFirst", "'E'", "Component", "NestTail"), chain("NestNext", "Component", "NestTail")]
     kind("NestRest", *NEST_REST, wide(eats("B", "NestTag", NAME, "NestRest")))
     kind("NestTail", eats("E", "NestEnd"), chain("NestNext", "Component", "NestTail"))
     component = [eats("C", "Constructor", "ConstructorDigit", "MaybeArguments"), eats("D", "Destructor", "DestructorDigit", "MaybeArguments"),
@@ -86,8 +86,10 @@ def build(extended=True, widened=False):
     kind("ConstructorDigit", MARK("123"), wide(MARK("45")))
     kind("DestructorDigit", MARK("012"), wide(MARK("45")))
     kind("Abbreviation", eats(ABBREVIATED, "Abbreviation"), chain("Substitution", SEQ36))
-    kind("Entity", eats("s", "StringLiteral"), NESTED, L_NAME, U_NAME, S_NAME)
-    kind("TypeEntity", eats("N", "NestedType", "Nest"), L_NAME, U_NAME, S_NAME)
+    plain_entity = [NESTED, L_NAME, U_NAME, S_NAME]
+    plain_type_entity = [eats("N", "NestedType", "Nest"), L_NAME, U_NAME, S_NAME]
+    kind("Entity", eats("s", "StringLiteral"), *plain_entity, wide(eats("d", "DefaultEntity", DECIMAL, "PlainEntity")))
+    kind("TypeEntity", *plain_type_entity, wide(eats("d", "DefaultTypeEntity", DECIMAL, "PlainTypeEntity")))
     kind("MaybeDiscriminator", eats("_", "Discriminator", "DiscriminatorRest"), empty=True)
     kind("DiscriminatorRest", eats(DIG, "OneDigit"), eats("_", "ManyDigits", DIGITS, "'_'"))
     kind("Anonymous", eats("l", "Lambda", "Item", "Items", "'E'", DECIMAL), eats("t", "Unnamed", DECIMAL))
@@ -118,11 +120,12 @@ def build(extended=True, widened=False):
     kind("AfterR", eats("E", "RefEnd"), chain("LvalueItem", "Type", "FunctionRest"))
     kind("AfterO", eats("E", "RefEnd"), chain("RvalueItem", "Type", "FunctionRest"))
     kind("Items", chain("Items", "Item", "Items"), empty=True)
-    ARGUMENTS = eats("I", "Arguments", "ArgumentList", "'E'")
+    ARGUMENTS = eats("I", "Arguments", "ArgumentsFirst", "'E'")
     kind("MaybeArguments", ARGUMENTS, wide(eats("B", "Tag", NAME, "MaybeArguments")), empty=True)
     kind("Arguments", ARGUMENTS)
-    kind("ArgumentList", eats("J", "PackArgument", "PackList", "'E'", "ArgumentList"), eats("L", "LiteralArgument", "Literal", "'E'", "ArgumentList"),
-         eats("X", "AddressArgument", "'a'", "'d'", "Address", "ArgumentList"), chain("TypeArgument", "Item", "ArgumentList"), empty=True)
+    arguments = [eats("J", "PackArgument", "PackList", "'E'", "ArgumentList"), eats("L", "LiteralArgument", "Literal", "'E'", "ArgumentList"),
+                 eats("X", "AddressArgument", "'a'", "'d'", "Address", "ArgumentList"), chain("TypeArgument", "Item", "ArgumentList")]
+    kind("ArgumentList", *arguments, empty=True)
     kind("PackList", eats("L", "LiteralElement", "Literal", "'E'", "PackList"),
          eats("X", "AddressElement", "'a'", "'d'", "Address", "PackList"), chain("TypeElement", "Item", "PackList"), empty=True)
     kind("Address", eats("L", "Address", "'_'", "'Z'", "Encoding", "'E'", "'E'"))
@@ -138,13 +141,17 @@ def build(extended=True, widened=False):
         if a == "l": rules.append(eats("i", "LiteralOperator", NAME))
         kind("OperatorAfter" + a.upper(), *rules)
     # the wide grammar's own kinds and productions stand last, so that the numbers of the others are those of the ABI's grammar
-    kind("NestRestOrEnd", eats("I", "NestInstance", "ArgumentList", "'E'", "NestTail"), chain("NestNext", "Component", "NestTail"))
+    kind("NestRestOrEnd", eats("I", "NestInstance", "ArgumentsFirst", "'E'", "NestTail"), chain("NestNext", "Component", "NestTail"))
     # behind a parameter and a substitution no tag may come: in the ABI's grammar these are as MaybeArguments and NestRest
     kind("ArgumentsAlone", ARGUMENTS, empty=True)
     kind("NestRestAlone", *NEST_REST)
     kind("HolderMark", MARK("M"))
     kind("HeldComponent", *component)
     kind("FloatEnd", MARK("_bx"))
+    # a pack begins with an I where it is the first argument alone: behind a name that I would begin the arguments of the name
+    kind("ArgumentsFirst", *arguments, wide(eats("I", "PackArgument", "PackList", "'E'", "ArgumentList")), empty=True)
+    kind("PlainEntity", *plain_entity)
+    kind("PlainTypeEntity", *plain_type_entity)
     shared = {p for k, (e, rules) in K.items() for cls, p in rules if (k, cls, p) not in MARKED}
     for p in [p for (k, cls, p), mark in MARKED.items() if mark == "wide" and p not in shared]: P[p] = P.pop(p)
 

@@ -221,7 +221,7 @@ MADE_AT_END = {p: 1 for p in """InternalName LocalTypeName SourceName OperatorNa
     VolatileType ConstType ReferenceType Expansion BuiltinWithD Vector NoexceptFunction Pointer MemberPointer Parameter
     TypeWithS LocalType Builtin Vendor Array Function Complex StdType RestItem LvalueItem RvalueItem Items PackArgument
     LiteralArgument AddressArgument TypeArgument LiteralElement AddressElement TypeElement Address EncodingLiteral
-    BoolLiteral IntegerLiteral NullLiteral SpecialName ConstructionVtable SizedFloat Tag""".split()}
+    BoolLiteral IntegerLiteral NullLiteral SpecialName ConstructionVtable SizedFloat Tag DefaultEntity DefaultTypeEntity""".split()}
 MADE_AT_END["CharLiteral"] = 2
 
 # the productions that may leave a tree that is no candidate yet
@@ -252,6 +252,7 @@ TREES = [
     ("local", ("encoding", OUTSIDE), ("entity", TREE), ("discriminator", DISCRIMINATOR)),
     ("holder", ("name", TREE)),
     ("tagged", ("of_structor", TRUTH), ("name", TREE), ("tag", BYTES)),
+    ("of_default", ("digits", BYTES), ("entity", TREE)),
     ("abbreviation", ("letter", NUMBER)),
     ("parameter", ("k", NUMBER)),
     ("source", ("internal", TRUTH), ("bytes", BYTES)),

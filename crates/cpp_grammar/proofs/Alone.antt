@@ -1,9 +1,10 @@
--- In the ABI's grammar there is no tag, so what stands behind a parameter or a substitution is what stands behind any other name.
+-- In the ABI's grammar there is no tag, so what stands behind a parameter or a substitution is what stands behind any other name. Nor does
+-- a pack begin with an I, so the arguments from the first on are as those behind it.
 use Rattle.std.proofs.Common.{◌≡◌, refl, sym, ◌∙◌, ℕ}
 use Rattle.sym_shape.specs.declared.rule.Sym.TheVariants.{Kind as OfKind}
 use Rattle.sym_shape.specs.Tree.{Tree, branch, empty, token, fixed, IsTree}
 use Rattle.cpp_grammar.specs.declared.kind.Kind.{Kind}
-use Rattle.cpp_grammar.specs.KindNumbers.{MAYBE_ARGUMENTS, ARGUMENTS_ALONE, NEST_REST, NEST_REST_ALONE}
+use Rattle.cpp_grammar.specs.KindNumbers.{MAYBE_ARGUMENTS, ARGUMENTS_ALONE, NEST_REST, NEST_REST_ALONE, ARGUMENT_LIST, ARGUMENTS_FIRST}
 use Rattle.cpp_grammar.specs.Grammar.{kinds, alternatives, choose, may_be_empty}
 use Rattle.cpp_grammar.specs.Table.{abi}
 use Rattle.cpp_grammar.proofs.Choosing.{rule_at_kind, empty_at_kind}
@@ -42,3 +43,17 @@ rest_alone t is = alike NEST_REST NEST_REST_ALONE same_rests rests_missing t is
 
 pub rest_any : (t : Tree) → IsTree abi (OfKind NEST_REST_ALONE) t → IsTree abi (OfKind NEST_REST) t
 rest_any t is = alike NEST_REST_ALONE NEST_REST (λ b. sym (same_rests b)) (sym rests_missing) t is
+
+same_lists : (byte : ℕ) → abi.rule ARGUMENT_LIST byte ≡ abi.rule ARGUMENTS_FIRST byte
+unfolding kinds choose alternatives
+same_lists byte = rule_at_kind ARGUMENT_LIST Kind.ArgumentList byte refl ∙ sym (rule_at_kind ARGUMENTS_FIRST Kind.ArgumentsFirst byte refl)
+
+lists_missing : abi.may_be_empty ARGUMENT_LIST ≡ abi.may_be_empty ARGUMENTS_FIRST
+unfolding kinds may_be_empty
+lists_missing = empty_at_kind ARGUMENT_LIST Kind.ArgumentList refl ∙ sym (empty_at_kind ARGUMENTS_FIRST Kind.ArgumentsFirst refl)
+
+pub list_first : (t : Tree) → IsTree abi (OfKind ARGUMENT_LIST) t → IsTree abi (OfKind ARGUMENTS_FIRST) t
+list_first t is = alike ARGUMENT_LIST ARGUMENTS_FIRST same_lists lists_missing t is
+
+pub list_any : (t : Tree) → IsTree abi (OfKind ARGUMENTS_FIRST) t → IsTree abi (OfKind ARGUMENT_LIST) t
+list_any t is = alike ARGUMENTS_FIRST ARGUMENT_LIST (λ b. sym (same_lists b)) (sym lists_missing) t is

@@ -2,12 +2,12 @@
 use Rattle.std.proofs.Common.{◌≡◌, refl, ℕ, zero, suc, List, [], ◌∷◌, Bool, true, false, ◌||◌, ◌&&◌, cond, nat_eq}
 use Rattle.std.proofs.lemmas.Bool.{true≢false}
 use Rattle.cpp_grammar.specs.declared.production.Production.{Production}
-use Rattle.cpp_grammar.specs.Term.{RefQualifier, lvalue_only, rvalue_only, Term, symbol, function, within, instance, local, string_literal, lvalue, rvalue, member_pointer, function_type, nil, list, absent}
+use Rattle.cpp_grammar.specs.Term.{RefQualifier, lvalue_only, rvalue_only, Term, symbol, function, within, instance, local, of_default, string_literal, lvalue, rvalue, member_pointer, function_type, nil, list, absent}
 use Rattle.cpp_grammar.specs.Scope.{arguments_of, is_open, has_return_type}
 use Rattle.cpp_grammar.specs.Closed.{HasNoneFree, ScopesAreClosed}
-use Rattle.cpp_grammar.specs.Values.{Around, Prefix, outermost, behind, prefix_tree, Value, nothing_there, letter, tree, piece, named, signature, tree_of, piece_of, qualifiers_of, ref_of, is_there, part}
+use Rattle.cpp_grammar.specs.Values.{Around, Prefix, outermost, behind, prefix_tree, Value, nothing_there, letter, tree, piece, named, signature, tree_of, text_of, piece_of, qualifiers_of, ref_of, is_there, part}
 use Rattle.cpp_grammar.specs.Between.{extended, applied, no_items}
-use Rattle.cpp_grammar.specs.Meaning.{is_void, is_nil, parameters, encoding_of, qualified_by, listed_value, function_of, with_item, reference_to, signature_or, operator_or_literal, meaning}
+use Rattle.cpp_grammar.specs.Meaning.{is_void, is_nil, parameters, encoding_of, default_entity, qualified_by, listed_value, function_of, with_item, reference_to, signature_or, operator_or_literal, meaning}
 
 -- the tree is closed under a condition, and so are the scopes in it
 pub record Good (s : Type 0) (t : Term) : Type 0 where
@@ -151,6 +151,7 @@ none_free : (t : Term) → is_open t ≡ false → HasNoneFree (arguments_of t)
 unfolding arguments_of is_open
 none_free (instance template arguments) h = or_right_no (is_open template) (is_open arguments) h
 none_free (local encoding entity discriminator) h = none_free entity h
+none_free (of_default digits entity) h = none_free entity h
 none_free (symbol e suffix) h = tt
 none_free _ h = tt
 
@@ -189,6 +190,10 @@ good_pair s vs j k all = good_list s _ _ (good_part s vs j all) (good_no_items s
 good_name : (s : Type 0) (vs : List Value) → AllGood s vs → Good s (applied (tree_of (part vs 0)) (part vs 1))
 good_name s vs all = good_applied s _ (part vs 1) (good_part s vs 0 all) (good_part s vs 1 all)
 
+good_default_entity : (s : Type 0) (vs : List Value) → AllGood s vs → Good s (held (default_entity (text_of (part vs 0)) (part vs 1)))
+unfolding default_entity held is_open
+good_default_entity s vs all = let g = good_part s vs 1 all in record { closed = g.closed; scopes = g.scopes }
+
 pub meaning_good : (s : Type 0) (production : Production) (byte : ℕ) (around : Around) (vs : List Value) → GoodPrefix s around.prefix → AllGood s vs → HasClosedName production vs →
     Good s (held (meaning production byte around vs))
 unfolding meaning held tree_of is_open listed_value qualified_by function_of with_item
@@ -208,6 +213,8 @@ meaning_good s Production.NestedName byte around vs pre all name = good_part s v
 meaning_good s Production.NameWithS byte around vs pre all name = good_held s vs 0 all
 meaning_good s Production.LocalName byte around vs pre all name =
     let e = good_part s vs 0 all in let g = good_part s vs 2 all in record { closed = g.closed; scopes = (e.scopes, g.scopes) }
+meaning_good s Production.DefaultEntity byte around vs pre all name = good_default_entity s vs all
+meaning_good s Production.DefaultTypeEntity byte around vs pre all name = good_default_entity s vs all
 meaning_good s Production.InternalName byte around vs pre all name = good_name s vs all
 meaning_good s Production.SourceName byte around vs pre all name = good_name s vs all
 meaning_good s Production.LocalTypeName byte around vs pre all name = good_name s vs all

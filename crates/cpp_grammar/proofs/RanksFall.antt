@@ -6,10 +6,10 @@ use Rattle.std.proofs.lemmas.Bool.{false≢true, ltb-true}
 use Rattle.sym_print.specs.declared.detail.Detail.{Detail}
 use Rattle.sym_print.specs.Details.{has_arguments, has_parameters}
 use Rattle.sym_print.specs.Unfold.{PartOf, text, sub, RanksBelow}
-use Rattle.cpp_grammar.specs.Term.{Qualifiers, RefQualifier, Signed, Term, symbol, function, object, special, thunk, of_name, construction, alone, in_std, within, instance, local, holder, tagged, abbreviation, parameter, source, constructor, destructor, lambda, sized_float, pointer, lvalue, rvalue, array, member_pointer, function_type, qualified, vector, complex, expansion, integer, pack, nil, list, absent}
+use Rattle.cpp_grammar.specs.Term.{Qualifiers, RefQualifier, Signed, Term, symbol, function, object, special, thunk, of_name, construction, alone, in_std, within, instance, local, holder, tagged, of_default, abbreviation, parameter, source, constructor, destructor, lambda, sized_float, pointer, lvalue, rvalue, array, member_pointer, function_type, qualified, vector, complex, expansion, integer, pack, nil, list, absent}
 use Rattle.cpp_grammar.specs.Scope.{element, arguments_of, pack_length}
 use Rattle.cpp_grammar.specs.Items.{Form, root, full, bare, left, right, low, base, piece, first, more, expand, Context, Item, indexed, argument, head, is_reference, is_funarr, packs_of, is_empty}
-use Rattle.cpp_grammar.specs.Parts.{as_item, says, text_part, list_part, piece_parts, prefix_item, within_parts, instance_parts, marked_parts, reference_parts, qualified_left, blank_last, qualifier_text, expansion_parts, sign_part, is_plain_integer, integer_parts, builtin_code, member_parts, array_left, float_parts, left_parts, low_parts, function_right, ref_text, closing_right, qualified_right, right_parts, base_within, base_tagged_within, base_tagged, base_parts, types_of, encoding_text, function_bare, function_full, full_parts, bare_parts, root_parts, first_parts, more_parts, at_index, is_below, comma_before, expand_rest, expand_parts, parts_in, not_empty, parts}
+use Rattle.cpp_grammar.specs.Parts.{as_item, says, text_part, list_part, piece_parts, prefix_item, within_parts, instance_parts, marked_parts, reference_parts, qualified_left, blank_last, qualifier_text, expansion_parts, sign_part, is_plain_integer, integer_parts, builtin_code, member_parts, array_left, entity_of, float_parts, left_parts, low_parts, function_right, ref_text, closing_right, qualified_right, right_parts, base_within, base_tagged_within, base_tagged, base_parts, types_of, encoding_text, function_bare, function_full, full_parts, bare_parts, root_parts, first_parts, more_parts, at_index, is_below, comma_before, expand_rest, expand_parts, parts_in, not_empty, parts}
 use Rattle.cpp_grammar.specs.Ranks.{or_none, pack_count, weight, scope_weight, weight_in, rank_in, rank}
 use Rattle.cpp_grammar.specs.Texts.{look_up, literal_endings}
 
@@ -62,6 +62,7 @@ weight_grows a b scope (instance template arguments) h = omega (arith, weight_gr
 weight_grows a b scope (local encoding entity discriminator) h = omega (arith, weight_grows a b scope entity h)
 weight_grows a b scope (holder name) h = omega (arith, weight_grows a b scope name h)
 weight_grows a b scope (tagged of_structor name tag) h = omega (arith, weight_grows a b scope name h)
+weight_grows a b scope (of_default digits entity) h = omega (arith, weight_grows a b scope entity h)
 weight_grows a b scope (lambda parameters number) h = omega (arith, weight_grows a b scope parameters h)
 weight_grows a b scope (pointer t) h = omega (arith, weight_grows a b scope t h)
 weight_grows a b scope (lvalue t) h = omega (arith, weight_grows a b scope t h)
@@ -99,6 +100,7 @@ arguments_weight : (name : Term) → scope_weight (arguments_of name) ≤ weight
 unfolding arguments_of scope_weight weight
 arguments_weight (instance template arguments) = omega arith
 arguments_weight (local encoding entity discriminator) = omega (arith, arguments_weight entity)
+arguments_weight (of_default digits entity) = omega (arith, arguments_weight entity)
 arguments_weight _ = omega arith
 
 -- ## Forms
@@ -176,6 +178,13 @@ float_falls : (r : ℕ) (digits : List ℕ) (end : ℕ) → RanksBelow rank r (f
 unfolding float_parts
 float_falls r digits end = falls_choice r (nat_eq end 98) _ _ tt (falls_choice r (nat_eq end 120) _ _ tt tt)
 
+-- the entity of a local name weighs no more than what it stands in
+entity_weight : (c : Context) (entity : Term) → weight_in c (entity_of entity) ≤ weight_in c entity
+unfolding entity_of weight_in weight
+entity_weight c (of_default digits entity) = omega arith
+entity_weight c (symbol e suffix) = omega arith
+entity_weight c _ = omega arith
+
 left_falls : (d : Detail) (c : Context) (t : Term) → RanksBelow rank (weight_in c t) (left_parts d c t)
 unfolding left_parts rank rank_in weight_in weight scope_weight
 left_falls d c (alone p) = piece_falls _ c p (omega arith)
@@ -191,6 +200,7 @@ left_falls d c (member_pointer class t) = member_falls _ c class t (omega arith)
 left_falls d c (qualified q t) = qualified_falls _ c q t (omega arith)
 left_falls d c (expansion t) = expansion_falls c t (packs_of c t)
 left_falls d c (pack elements) = falls_first _ c elements (omega arith)
+left_falls d c (local encoding entity discriminator) = (omega (arith, entity_weight c entity), tt)
 left_falls d c (integer t n) = integer_falls _ c t n (omega arith)
 left_falls d c _ = first_of (assumption tt, grind arith)
 
@@ -258,7 +268,7 @@ base_falls d c (alone p) = piece_falls _ c p (omega arith)
 base_falls d c (in_std p) = piece_falls _ c p (omega arith)
 base_falls d c (within prefix p) = base_within_falls _ c prefix p (omega arith) (omega arith)
 base_falls d c (instance t arguments) = (omega arith, tt)
-base_falls d c (local encoding entity discriminator) = (omega arith, tt)
+base_falls d c (local encoding entity discriminator) = (omega (arith, entity_weight c entity), tt)
 base_falls d c (holder name) = (omega arith, tt)
 base_falls d c (tagged of_structor name tag) = base_tagged_falls _ c name (omega arith)
 base_falls d c (abbreviation letter) = tt

@@ -26,4 +26,5 @@ alternatives_before Kind.AfterO = on "E" Production.RefEnd ∷ on_ranges "0-9M-P
 alternatives_before Kind.Items = on_ranges "0-9M-PR-Va-jl-or-z" "ADFKZ" Production.Items ∷ []
 alternatives_before Kind.ArgumentList = on "J" Production.PackArgument ∷ on "L" Production.LiteralArgument ∷ on "X" Production.AddressArgument ∷ on_ranges "0-9M-PR-Va-jl-or-z" "ADFKZ" Production.TypeArgument ∷ []
 alternatives_before Kind.PackList = on "L" Production.LiteralElement ∷ on "X" Production.AddressElement ∷ on_ranges "0-9M-PR-Va-jl-or-z" "ADFKZ" Production.TypeElement ∷ []
+alternatives_before Kind.ArgumentsFirst = on "J" Production.PackArgument ∷ on "L" Production.LiteralArgument ∷ on "X" Production.AddressArgument ∷ on_ranges "0-9M-PR-Va-jl-or-z" "ADFKZ" Production.TypeArgument ∷ []
 alternatives_before kind = alternatives kind

@@ -76,6 +76,9 @@ after_ranges Kind.NestRestAlone = codes ".-.0-9A-AC-FJ-PR-VX-XZ-Z_-_a-jl-or-z"
 after_ranges Kind.HolderMark = codes "0-9C-DL-LU-Ua-ac-eg-gi-il-pr-s"
 after_ranges Kind.HeldComponent = codes "0-9C-EL-MU-Ua-ac-eg-gi-il-pr-s"
 after_ranges Kind.FloatEnd = codes ".-.0-9A-AC-FJ-PR-VX-XZ-Za-jl-or-z"
+after_ranges Kind.ArgumentsFirst = codes "E-E"
+after_ranges Kind.PlainEntity = codes ".-.0-9A-AC-FK-KM-PR-VZ-Z_-_a-jl-or-z"
+after_ranges Kind.PlainTypeEntity = codes ".-.0-9A-AC-FJ-PR-VX-XZ-Z_-_a-jl-or-z"
 
 -- how many chains may stand on one another at the beginning of a kind
 unfoldable pub rank : Kind → ℕ
@@ -111,6 +114,9 @@ rank Kind.LiteralType = 1
 rank Kind.NestRestOrEnd = 2
 rank Kind.NestRestAlone = 2
 rank Kind.HeldComponent = 1
+rank Kind.ArgumentsFirst = 3
+rank Kind.PlainEntity = 1
+rank Kind.PlainTypeEntity = 1
 rank _ = 0
 
 -- how high the lowest tree of a kind is
@@ -173,4 +179,6 @@ height Kind.NestRestAlone = 2
 height Kind.HolderMark = 1
 height Kind.HeldComponent = 1
 height Kind.FloatEnd = 1
+height Kind.PlainEntity = 1
+height Kind.PlainTypeEntity = 1
 height _ = 0

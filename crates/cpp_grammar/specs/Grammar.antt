@@ -112,6 +112,9 @@ number_of_kind Kind.NestRestAlone = 68
 number_of_kind Kind.HolderMark = 69
 number_of_kind Kind.HeldComponent = 70
 number_of_kind Kind.FloatEnd = 71
+number_of_kind Kind.ArgumentsFirst = 72
+number_of_kind Kind.PlainEntity = 73
+number_of_kind Kind.PlainTypeEntity = 74
 
 -- a kind as a symbol of a rule
 abbrev part : Kind → Sym
@@ -191,6 +194,9 @@ alternatives Kind.NestRestAlone = on "I" Production.NestArguments ∷ on_ranges 
 alternatives Kind.HolderMark = on "M" Production.Mark ∷ []
 alternatives Kind.HeldComponent = on "C" Production.Constructor ∷ on "D" Production.Destructor ∷ on "L" Production.InternalName ∷ on "U" Production.LocalTypeName ∷ on_ranges "c-el-p" "agirs" Production.OperatorName ∷ on_ranges "0-9" "" Production.SourceName ∷ []
 alternatives Kind.FloatEnd = on "_bx" Production.Mark ∷ []
+alternatives Kind.ArgumentsFirst = on "J" Production.PackArgument ∷ on "L" Production.LiteralArgument ∷ on "X" Production.AddressArgument ∷ on_ranges "0-9M-PR-Va-jl-or-z" "ACDFKZ" Production.TypeArgument ∷ []
+alternatives Kind.PlainEntity = on "N" Production.NestedName ∷ on "L" Production.InternalName ∷ on "U" Production.LocalTypeName ∷ on_ranges "0-9" "" Production.SourceName ∷ []
+alternatives Kind.PlainTypeEntity = on "N" Production.NestedType ∷ on "L" Production.InternalName ∷ on "U" Production.LocalTypeName ∷ on_ranges "0-9" "" Production.SourceName ∷ []
 
 -- the production that a kind takes at a byte
 unfoldable pub choose : Kind → ℕ → Option Production
@@ -233,15 +239,15 @@ parts_of Production.NestLocalType = part Kind.Anonymous ∷ part Kind.NestRest �
 parts_of Production.NestSource = Name ∷ part Kind.NestRest ∷ []
 parts_of Production.NestStd = part Kind.Unqualified ∷ part Kind.MaybeArguments ∷ part Kind.NestTail ∷ []
 parts_of Production.NestAbbreviated = part Kind.Abbreviation ∷ part Kind.NestRestAlone ∷ []
-parts_of Production.NestArguments = part Kind.ArgumentList ∷ Byte 69 ∷ part Kind.Component ∷ part Kind.NestTail ∷ []
+parts_of Production.NestArguments = part Kind.ArgumentsFirst ∷ Byte 69 ∷ part Kind.Component ∷ part Kind.NestTail ∷ []
 parts_of Production.NestNext = part Kind.Component ∷ part Kind.NestTail ∷ []
 parts_of Production.NestEnd = []
 parts_of Production.Constructor = part Kind.ConstructorDigit ∷ part Kind.MaybeArguments ∷ []
 parts_of Production.Destructor = part Kind.DestructorDigit ∷ part Kind.MaybeArguments ∷ []
 parts_of Production.Abbreviation = []
 parts_of Production.Substitution = Number Seq36 ∷ []
-parts_of Production.StringLiteral = []
 parts_of Production.NestedType = part Kind.Nest ∷ []
+parts_of Production.StringLiteral = []
 parts_of Production.Discriminator = part Kind.DiscriminatorRest ∷ []
 parts_of Production.OneDigit = []
 parts_of Production.ManyDigits = Number Digits ∷ Byte 95 ∷ []
@@ -281,7 +287,7 @@ parts_of Production.RefEnd = []
 parts_of Production.LvalueItem = part Kind.Type ∷ part Kind.FunctionRest ∷ []
 parts_of Production.RvalueItem = part Kind.Type ∷ part Kind.FunctionRest ∷ []
 parts_of Production.Items = part Kind.Item ∷ part Kind.Items ∷ []
-parts_of Production.Arguments = part Kind.ArgumentList ∷ Byte 69 ∷ []
+parts_of Production.Arguments = part Kind.ArgumentsFirst ∷ Byte 69 ∷ []
 parts_of Production.PackArgument = part Kind.PackList ∷ Byte 69 ∷ part Kind.ArgumentList ∷ []
 parts_of Production.LiteralArgument = part Kind.Literal ∷ Byte 69 ∷ part Kind.ArgumentList ∷ []
 parts_of Production.AddressArgument = Byte 97 ∷ Byte 100 ∷ part Kind.Address ∷ part Kind.ArgumentList ∷ []
@@ -310,12 +316,14 @@ parts_of Production.OperatorS = part Kind.OperatorAfterS ∷ []
 parts_of Production.OperatorI = part Kind.OperatorAfterI ∷ []
 parts_of Production.OperatorG = part Kind.OperatorAfterG ∷ []
 parts_of Production.LiteralOperator = Name ∷ []
-parts_of Production.NestInstance = part Kind.ArgumentList ∷ Byte 69 ∷ part Kind.NestTail ∷ []
+parts_of Production.NestInstance = part Kind.ArgumentsFirst ∷ Byte 69 ∷ part Kind.NestTail ∷ []
 parts_of Production.SpecialName = part Kind.CompleteName ∷ []
 parts_of Production.ConstructionVtable = part Kind.Type ∷ Number Digits ∷ Byte 95 ∷ part Kind.Type ∷ []
 parts_of Production.NestTemplate = part Kind.Abbreviation ∷ part Kind.NestRestOrEnd ∷ []
 parts_of Production.NestTag = Name ∷ part Kind.NestRest ∷ []
 parts_of Production.Holder = part Kind.HolderMark ∷ part Kind.HeldComponent ∷ []
+parts_of Production.DefaultEntity = Number Decimal ∷ part Kind.PlainEntity ∷ []
+parts_of Production.DefaultTypeEntity = Number Decimal ∷ part Kind.PlainTypeEntity ∷ []
 parts_of Production.SizedFloat = Number Digits ∷ part Kind.FloatEnd ∷ []
 parts_of Production.Tag = Name ∷ part Kind.MaybeArguments ∷ []
 
@@ -363,15 +371,16 @@ may_be_empty Kind.ArgumentList = true
 may_be_empty Kind.PackList = true
 may_be_empty Kind.MaybeZero = true
 may_be_empty Kind.ArgumentsAlone = true
+may_be_empty Kind.ArgumentsFirst = true
 may_be_empty _ = false
 
 -- the kinds in the order of their numbers
 unfoldable pub kinds : List Kind
-kinds = Kind.Symbol ∷ Kind.MaybeSuffix ∷ Kind.SuffixFirst ∷ Kind.SuffixMore ∷ Kind.Encoding ∷ Kind.Special ∷ Kind.CallOffset ∷ Kind.Integer ∷ Kind.CompleteName ∷ Kind.MaybeRestrict ∷ Kind.MaybeVolatile ∷ Kind.MaybeConst ∷ Kind.MaybeRef ∷ Kind.NameAfterS ∷ Kind.Unqualified ∷ Kind.Nest ∷ Kind.NestAfterS ∷ Kind.NestRest ∷ Kind.NestTail ∷ Kind.Component ∷ Kind.ConstructorDigit ∷ Kind.DestructorDigit ∷ Kind.Abbreviation ∷ Kind.Entity ∷ Kind.TypeEntity ∷ Kind.MaybeDiscriminator ∷ Kind.DiscriminatorRest ∷ Kind.Anonymous ∷ Kind.Type ∷ Kind.Plain ∷ Kind.Item ∷ Kind.ItemButRef ∷ Kind.ItemAfterD ∷ Kind.AfterD ∷ Kind.Solid ∷ Kind.MaybeCLinkage ∷ Kind.TypeAfterS ∷ Kind.SourceOrLocal ∷ Kind.FunctionRest ∷ Kind.AfterR ∷ Kind.AfterO ∷ Kind.Items ∷ Kind.MaybeArguments ∷ Kind.Arguments ∷ Kind.ArgumentList ∷ Kind.PackList ∷ Kind.Address ∷ Kind.Literal ∷ Kind.Bit ∷ Kind.LiteralAfterD ∷ Kind.MaybeZero ∷ Kind.LiteralType ∷ Kind.Operator ∷ Kind.OperatorAfterN ∷ Kind.OperatorAfterD ∷ Kind.OperatorAfterA ∷ Kind.OperatorAfterP ∷ Kind.OperatorAfterC ∷ Kind.OperatorAfterM ∷ Kind.OperatorAfterR ∷ Kind.OperatorAfterO ∷ Kind.OperatorAfterE ∷ Kind.OperatorAfterL ∷ Kind.OperatorAfterS ∷ Kind.OperatorAfterI ∷ Kind.OperatorAfterG ∷ Kind.NestRestOrEnd ∷ Kind.ArgumentsAlone ∷ Kind.NestRestAlone ∷ Kind.HolderMark ∷ Kind.HeldComponent ∷ Kind.FloatEnd ∷ []
+kinds = Kind.Symbol ∷ Kind.MaybeSuffix ∷ Kind.SuffixFirst ∷ Kind.SuffixMore ∷ Kind.Encoding ∷ Kind.Special ∷ Kind.CallOffset ∷ Kind.Integer ∷ Kind.CompleteName ∷ Kind.MaybeRestrict ∷ Kind.MaybeVolatile ∷ Kind.MaybeConst ∷ Kind.MaybeRef ∷ Kind.NameAfterS ∷ Kind.Unqualified ∷ Kind.Nest ∷ Kind.NestAfterS ∷ Kind.NestRest ∷ Kind.NestTail ∷ Kind.Component ∷ Kind.ConstructorDigit ∷ Kind.DestructorDigit ∷ Kind.Abbreviation ∷ Kind.Entity ∷ Kind.TypeEntity ∷ Kind.MaybeDiscriminator ∷ Kind.DiscriminatorRest ∷ Kind.Anonymous ∷ Kind.Type ∷ Kind.Plain ∷ Kind.Item ∷ Kind.ItemButRef ∷ Kind.ItemAfterD ∷ Kind.AfterD ∷ Kind.Solid ∷ Kind.MaybeCLinkage ∷ Kind.TypeAfterS ∷ Kind.SourceOrLocal ∷ Kind.FunctionRest ∷ Kind.AfterR ∷ Kind.AfterO ∷ Kind.Items ∷ Kind.MaybeArguments ∷ Kind.Arguments ∷ Kind.ArgumentList ∷ Kind.PackList ∷ Kind.Address ∷ Kind.Literal ∷ Kind.Bit ∷ Kind.LiteralAfterD ∷ Kind.MaybeZero ∷ Kind.LiteralType ∷ Kind.Operator ∷ Kind.OperatorAfterN ∷ Kind.OperatorAfterD ∷ Kind.OperatorAfterA ∷ Kind.OperatorAfterP ∷ Kind.OperatorAfterC ∷ Kind.OperatorAfterM ∷ Kind.OperatorAfterR ∷ Kind.OperatorAfterO ∷ Kind.OperatorAfterE ∷ Kind.OperatorAfterL ∷ Kind.OperatorAfterS ∷ Kind.OperatorAfterI ∷ Kind.OperatorAfterG ∷ Kind.NestRestOrEnd ∷ Kind.ArgumentsAlone ∷ Kind.NestRestAlone ∷ Kind.HolderMark ∷ Kind.HeldComponent ∷ Kind.FloatEnd ∷ Kind.ArgumentsFirst ∷ Kind.PlainEntity ∷ Kind.PlainTypeEntity ∷ []
 
 -- the productions in the order of their numbers
 unfoldable pub productions : List Production
-productions = Production.Mark ∷ Production.InternalName ∷ Production.LocalTypeName ∷ Production.SourceName ∷ Production.OperatorName ∷ Production.InternalPiece ∷ Production.LocalTypePiece ∷ Production.SourcePiece ∷ Production.NestedName ∷ Production.Symbol ∷ Production.Suffix ∷ Production.SuffixByte ∷ Production.Special ∷ Production.Guard ∷ Production.Encoding ∷ Production.SpecialType ∷ Production.NonVirtualThunk ∷ Production.VirtualThunk ∷ Production.CovariantThunk ∷ Production.NonVirtualOffset ∷ Production.VirtualOffset ∷ Production.Negative ∷ Production.Positive ∷ Production.NameWithS ∷ Production.LocalName ∷ Production.StdName ∷ Production.AbbreviatedName ∷ Production.OperatorPiece ∷ Production.NestWithS ∷ Production.NestParameter ∷ Production.NestInternal ∷ Production.NestLocalType ∷ Production.NestSource ∷ Production.NestStd ∷ Production.NestAbbreviated ∷ Production.NestArguments ∷ Production.NestNext ∷ Production.NestEnd ∷ Production.Constructor ∷ Production.Destructor ∷ Production.Abbreviation ∷ Production.Substitution ∷ Production.StringLiteral ∷ Production.NestedType ∷ Production.Discriminator ∷ Production.OneDigit ∷ Production.ManyDigits ∷ Production.Lambda ∷ Production.Unnamed ∷ Production.RestrictType ∷ Production.VolatileType ∷ Production.ConstType ∷ Production.ReferenceType ∷ Production.PlainType ∷ Production.TypeWithD ∷ Production.PlainWithD ∷ Production.QualifiedPlain ∷ Production.ItemWithD ∷ Production.Expansion ∷ Production.ItemIsType ∷ Production.BuiltinWithD ∷ Production.Vector ∷ Production.NoexceptFunction ∷ Production.Pointer ∷ Production.MemberPointer ∷ Production.Parameter ∷ Production.TypeWithS ∷ Production.LocalType ∷ Production.Builtin ∷ Production.Vendor ∷ Production.Array ∷ Production.Function ∷ Production.Complex ∷ Production.StdType ∷ Production.AbbreviatedType ∷ Production.RestEnd ∷ Production.RestLvalue ∷ Production.RestRvalue ∷ Production.RestItem ∷ Production.RefEnd ∷ Production.LvalueItem ∷ Production.RvalueItem ∷ Production.Items ∷ Production.Arguments ∷ Production.PackArgument ∷ Production.LiteralArgument ∷ Production.AddressArgument ∷ Production.TypeArgument ∷ Production.LiteralElement ∷ Production.AddressElement ∷ Production.TypeElement ∷ Production.Address ∷ Production.EncodingLiteral ∷ Production.BoolLiteral ∷ Production.LiteralWithD ∷ Production.IntegerLiteral ∷ Production.NullLiteral ∷ Production.CharLiteral ∷ Production.OperatorN ∷ Production.OperatorD ∷ Production.OperatorA ∷ Production.OperatorP ∷ Production.OperatorC ∷ Production.OperatorM ∷ Production.OperatorR ∷ Production.OperatorO ∷ Production.OperatorE ∷ Production.OperatorL ∷ Production.OperatorS ∷ Production.OperatorI ∷ Production.OperatorG ∷ Production.LiteralOperator ∷ Production.NestInstance ∷ Production.SpecialName ∷ Production.ConstructionVtable ∷ Production.NestTemplate ∷ Production.NestTag ∷ Production.Holder ∷ Production.SizedFloat ∷ Production.Tag ∷ []
+productions = Production.Mark ∷ Production.InternalName ∷ Production.LocalTypeName ∷ Production.SourceName ∷ Production.OperatorName ∷ Production.InternalPiece ∷ Production.LocalTypePiece ∷ Production.SourcePiece ∷ Production.NestedName ∷ Production.Symbol ∷ Production.Suffix ∷ Production.SuffixByte ∷ Production.Special ∷ Production.Guard ∷ Production.Encoding ∷ Production.SpecialType ∷ Production.NonVirtualThunk ∷ Production.VirtualThunk ∷ Production.CovariantThunk ∷ Production.NonVirtualOffset ∷ Production.VirtualOffset ∷ Production.Negative ∷ Production.Positive ∷ Production.NameWithS ∷ Production.LocalName ∷ Production.StdName ∷ Production.AbbreviatedName ∷ Production.OperatorPiece ∷ Production.NestWithS ∷ Production.NestParameter ∷ Production.NestInternal ∷ Production.NestLocalType ∷ Production.NestSource ∷ Production.NestStd ∷ Production.NestAbbreviated ∷ Production.NestArguments ∷ Production.NestNext ∷ Production.NestEnd ∷ Production.Constructor ∷ Production.Destructor ∷ Production.Abbreviation ∷ Production.Substitution ∷ Production.NestedType ∷ Production.StringLiteral ∷ Production.Discriminator ∷ Production.OneDigit ∷ Production.ManyDigits ∷ Production.Lambda ∷ Production.Unnamed ∷ Production.RestrictType ∷ Production.VolatileType ∷ Production.ConstType ∷ Production.ReferenceType ∷ Production.PlainType ∷ Production.TypeWithD ∷ Production.PlainWithD ∷ Production.QualifiedPlain ∷ Production.ItemWithD ∷ Production.Expansion ∷ Production.ItemIsType ∷ Production.BuiltinWithD ∷ Production.Vector ∷ Production.NoexceptFunction ∷ Production.Pointer ∷ Production.MemberPointer ∷ Production.Parameter ∷ Production.TypeWithS ∷ Production.LocalType ∷ Production.Builtin ∷ Production.Vendor ∷ Production.Array ∷ Production.Function ∷ Production.Complex ∷ Production.StdType ∷ Production.AbbreviatedType ∷ Production.RestEnd ∷ Production.RestLvalue ∷ Production.RestRvalue ∷ Production.RestItem ∷ Production.RefEnd ∷ Production.LvalueItem ∷ Production.RvalueItem ∷ Production.Items ∷ Production.Arguments ∷ Production.PackArgument ∷ Production.LiteralArgument ∷ Production.AddressArgument ∷ Production.TypeArgument ∷ Production.LiteralElement ∷ Production.AddressElement ∷ Production.TypeElement ∷ Production.Address ∷ Production.EncodingLiteral ∷ Production.BoolLiteral ∷ Production.LiteralWithD ∷ Production.IntegerLiteral ∷ Production.NullLiteral ∷ Production.CharLiteral ∷ Production.OperatorN ∷ Production.OperatorD ∷ Production.OperatorA ∷ Production.OperatorP ∷ Production.OperatorC ∷ Production.OperatorM ∷ Production.OperatorR ∷ Production.OperatorO ∷ Production.OperatorE ∷ Production.OperatorL ∷ Production.OperatorS ∷ Production.OperatorI ∷ Production.OperatorG ∷ Production.LiteralOperator ∷ Production.NestInstance ∷ Production.SpecialName ∷ Production.ConstructionVtable ∷ Production.NestTemplate ∷ Production.NestTag ∷ Production.Holder ∷ Production.DefaultEntity ∷ Production.DefaultTypeEntity ∷ Production.SizedFloat ∷ Production.Tag ∷ []
 
 -- the numbers of the productions
 unfoldable pub number_of : Production → ℕ
@@ -417,8 +426,8 @@ number_of Production.Constructor = 38
 number_of Production.Destructor = 39
 number_of Production.Abbreviation = 40
 number_of Production.Substitution = 41
-number_of Production.StringLiteral = 42
-number_of Production.NestedType = 43
+number_of Production.NestedType = 42
+number_of Production.StringLiteral = 43
 number_of Production.Discriminator = 44
 number_of Production.OneDigit = 45
 number_of Production.ManyDigits = 46
@@ -493,5 +502,7 @@ number_of Production.ConstructionVtable = 114
 number_of Production.NestTemplate = 115
 number_of Production.NestTag = 116
 number_of Production.Holder = 117
-number_of Production.SizedFloat = 118
-number_of Production.Tag = 119
+number_of Production.DefaultEntity = 118
+number_of Production.DefaultTypeEntity = 119
+number_of Production.SizedFloat = 120
+number_of Production.Tag = 121

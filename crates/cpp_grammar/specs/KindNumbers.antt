@@ -3,10 +3,10 @@ use Rattle.std.specs.Prelude.{ℕ}
 
 -- how many kinds there are, and how many productions
 abbrev pub KIND_COUNT : ℕ
-KIND_COUNT = 72
+KIND_COUNT = 75
 
 abbrev pub PRODUCTION_COUNT : ℕ
-PRODUCTION_COUNT = 120
+PRODUCTION_COUNT = 122
 
 abbrev pub SYMBOL : ℕ
 SYMBOL = 0
@@ -223,3 +223,12 @@ HELD_COMPONENT = 70
 
 abbrev pub FLOAT_END : ℕ
 FLOAT_END = 71
+
+abbrev pub ARGUMENTS_FIRST : ℕ
+ARGUMENTS_FIRST = 72
+
+abbrev pub PLAIN_ENTITY : ℕ
+PLAIN_ENTITY = 73
+
+abbrev pub PLAIN_TYPE_ENTITY : ℕ
+PLAIN_TYPE_ENTITY = 74

@@ -1,7 +1,7 @@
 -- What a production stands for, given the values of its parts.
 use Rattle.std.specs.Prelude.{ℕ, List, [], ◌∷◌, Bool, true, false, cond, not, ◌&&◌, nat_eq, Option, Some, None}
 use Rattle.cpp_grammar.specs.declared.production.Production.{Production}
-use Rattle.cpp_grammar.specs.Term.{RefQualifier, any_value, lvalue_only, rvalue_only, non_virtual, by_table, adjusting, covariant, Term, symbol, function, object, special, thunk, of_name, construction, in_std, local, abbreviation, source, operator, literal_operator, lambda, unnamed, string_literal, builtin, sized_float, vendor, pointer, lvalue, rvalue, array, member_pointer, function_type, qualified, vector, complex, expansion, integer, boolean, null_pointer, encoding_literal, address_of, nil, list, absent}
+use Rattle.cpp_grammar.specs.Term.{RefQualifier, any_value, lvalue_only, rvalue_only, non_virtual, by_table, adjusting, covariant, Term, symbol, function, object, special, thunk, of_name, construction, in_std, local, of_default, abbreviation, source, operator, literal_operator, lambda, unnamed, string_literal, builtin, sized_float, vendor, pointer, lvalue, rvalue, array, member_pointer, function_type, qualified, vector, complex, expansion, integer, boolean, null_pointer, encoding_literal, address_of, nil, list, absent}
 use Rattle.cpp_grammar.specs.Scope.{has_return_type}
 use Rattle.cpp_grammar.specs.Values.{Around, prefix_tree, prefix_listed, Value, nothing_there, letter, text, signed, adjusted, tree, piece, named, signature, unqualified, tree_of, piece_of, is_listed, qualifiers_of, ref_of, letter_of, is_there, mark_of, text_of, signed_of, adjustment_of, normal, signed_digits, local_number, part}
 use Rattle.cpp_grammar.specs.Between.{extended, applied, no_items}
@@ -55,6 +55,10 @@ unfoldable pub signature_or : RefQualifier → Value → Value
 signature_or ref nothing_there = signature nil ref
 signature_or ref v = v
 
+-- an entity in a default argument, with the qualifiers that belong to the encoding
+unfoldable pub default_entity : (digits : List ℕ) → Value → Value
+default_entity digits entity = named (of_default (normal digits) (tree_of entity)) (qualifiers_of entity) (ref_of entity)
+
 -- the operator of two letters that begins with l, or a literal operator
 unfoldable pub operator_or_literal : ℕ → Value → Value
 operator_or_literal first (letter second) = piece (operator first second)
@@ -84,6 +88,8 @@ meaning Production.Positive byte around vs = signed (signed_digits false (text_o
 meaning Production.NestedName byte around vs = named (tree_of (part vs 4)) (record { restrict = is_there (part vs 0); volatile = is_there (part vs 1); const = is_there (part vs 2) }) (mark_of (part vs 3))
 meaning Production.NameWithS byte around vs = part vs 0
 meaning Production.LocalName byte around vs = let entity = part vs 2 in named (local (tree_of (part vs 0)) (tree_of entity) (discriminator_of (part vs 3))) (qualifiers_of entity) (ref_of entity)
+meaning Production.DefaultEntity byte around vs = default_entity (text_of (part vs 0)) (part vs 1)
+meaning Production.DefaultTypeEntity byte around vs = default_entity (text_of (part vs 0)) (part vs 1)
 meaning Production.InternalName byte around vs = tree (applied (tree_of (part vs 0)) (part vs 1)) false
 meaning Production.SourceName byte around vs = tree (applied (tree_of (part vs 0)) (part vs 1)) false
 meaning Production.LocalTypeName byte around vs = tree (applied (tree_of (part vs 0)) (part vs 1)) false

@@ -1,7 +1,7 @@
 -- What the trees of C++ symbols are like: their arguments, free parameters and packs.
 -- The scope of an encoding is the list of arguments that its own name ends in. It holds for the encoding's types alone.
 use Rattle.std.specs.Prelude.{ℕ, zero, suc, Bool, true, false, not, ◌||◌, Option, Some, None}
-use Rattle.cpp_grammar.specs.Term.{Term, alone, in_std, within, instance, local, holder, tagged, parameter, constructor, destructor, lambda, pointer, lvalue, rvalue, array, member_pointer, function_type, qualified, vector, complex, expansion, integer, pack, list, absent}
+use Rattle.cpp_grammar.specs.Term.{Term, alone, in_std, within, instance, local, holder, tagged, of_default, parameter, constructor, destructor, lambda, pointer, lvalue, rvalue, array, member_pointer, function_type, qualified, vector, complex, expansion, integer, pack, list, absent}
 
 -- the length of a list
 unfoldable pub count : Term → ℕ
@@ -18,12 +18,14 @@ element _ _ = absent
 unfoldable pub arguments_of : Term → Option Term
 arguments_of (instance template arguments) = Some arguments
 arguments_of (local encoding entity discriminator) = arguments_of entity
+arguments_of (of_default digits entity) = arguments_of entity
 arguments_of _ = None
 
 -- what stands before those arguments
 unfoldable pub before_arguments : Term → Term
 before_arguments (instance template arguments) = template
 before_arguments (local encoding entity discriminator) = before_arguments entity
+before_arguments (of_default digits entity) = before_arguments entity
 before_arguments name = name
 
 -- the name of a constructor or a destructor, with tags or without
@@ -49,6 +51,7 @@ is_open (instance template arguments) = is_open template || is_open arguments
 is_open (local encoding entity discriminator) = is_open entity
 is_open (holder name) = is_open name
 is_open (tagged of_structor name tag) = is_open name
+is_open (of_default digits entity) = is_open entity
 is_open (lambda parameters number) = is_open parameters
 is_open (pointer type) = is_open type
 is_open (lvalue type) = is_open type
@@ -84,6 +87,7 @@ pack_length scope (instance template arguments) = first_of (pack_length scope te
 pack_length scope (local encoding entity discriminator) = pack_length scope entity
 pack_length scope (holder name) = pack_length scope name
 pack_length scope (tagged of_structor name tag) = pack_length scope name
+pack_length scope (of_default digits entity) = pack_length scope entity
 pack_length scope (lambda parameters number) = pack_length scope parameters
 pack_length scope (pointer type) = pack_length scope type
 pack_length scope (lvalue type) = pack_length scope type

@@ -36,8 +36,8 @@ wide_alternatives Kind.Component = on "C" Production.Constructor ∷ on "D" Prod
 wide_alternatives Kind.ConstructorDigit = on_ranges "1-3" "" Production.Mark ∷ on "45" Production.Mark ∷ []
 wide_alternatives Kind.DestructorDigit = on_ranges "0-2" "" Production.Mark ∷ on "45" Production.Mark ∷ []
 wide_alternatives Kind.Abbreviation = on "abdios" Production.Abbreviation ∷ on_ranges "0-9A-Z" "_" Production.Substitution ∷ []
-wide_alternatives Kind.Entity = on "s" Production.StringLiteral ∷ on "N" Production.NestedName ∷ on "L" Production.InternalName ∷ on "U" Production.LocalTypeName ∷ on_ranges "0-9" "" Production.SourceName ∷ []
-wide_alternatives Kind.TypeEntity = on "N" Production.NestedType ∷ on "L" Production.InternalName ∷ on "U" Production.LocalTypeName ∷ on_ranges "0-9" "" Production.SourceName ∷ []
+wide_alternatives Kind.Entity = on "s" Production.StringLiteral ∷ on "N" Production.NestedName ∷ on "L" Production.InternalName ∷ on "U" Production.LocalTypeName ∷ on_ranges "0-9" "" Production.SourceName ∷ on "d" Production.DefaultEntity ∷ []
+wide_alternatives Kind.TypeEntity = on "N" Production.NestedType ∷ on "L" Production.InternalName ∷ on "U" Production.LocalTypeName ∷ on_ranges "0-9" "" Production.SourceName ∷ on "d" Production.DefaultTypeEntity ∷ []
 wide_alternatives Kind.MaybeDiscriminator = on "_" Production.Discriminator ∷ []
 wide_alternatives Kind.DiscriminatorRest = on_ranges "0-9" "" Production.OneDigit ∷ on "_" Production.ManyDigits ∷ []
 wide_alternatives Kind.Anonymous = on "l" Production.Lambda ∷ on "t" Production.Unnamed ∷ []
@@ -85,6 +85,9 @@ wide_alternatives Kind.NestRestAlone = on "I" Production.NestArguments ∷ on_ra
 wide_alternatives Kind.HolderMark = on "M" Production.Mark ∷ []
 wide_alternatives Kind.HeldComponent = on "C" Production.Constructor ∷ on "D" Production.Destructor ∷ on "L" Production.InternalName ∷ on "U" Production.LocalTypeName ∷ on_ranges "c-el-p" "agirs" Production.OperatorName ∷ on_ranges "0-9" "" Production.SourceName ∷ []
 wide_alternatives Kind.FloatEnd = on "_bx" Production.Mark ∷ []
+wide_alternatives Kind.ArgumentsFirst = on "J" Production.PackArgument ∷ on "L" Production.LiteralArgument ∷ on "X" Production.AddressArgument ∷ on_ranges "0-9M-PR-Va-jl-or-z" "ACDFKZ" Production.TypeArgument ∷ on "I" Production.PackArgument ∷ []
+wide_alternatives Kind.PlainEntity = on "N" Production.NestedName ∷ on "L" Production.InternalName ∷ on "U" Production.LocalTypeName ∷ on_ranges "0-9" "" Production.SourceName ∷ []
+wide_alternatives Kind.PlainTypeEntity = on "N" Production.NestedType ∷ on "L" Production.InternalName ∷ on "U" Production.LocalTypeName ∷ on_ranges "0-9" "" Production.SourceName ∷ []
 
 -- the production that a kind takes at a byte
 unfoldable pub wide_choose : Kind → ℕ → Option Production

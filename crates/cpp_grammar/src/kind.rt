@@ -78,6 +78,9 @@ pub enum Kind {
     HolderMark,
     HeldComponent,
     FloatEnd,
+    ArgumentsFirst,
+    PlainEntity,
+    PlainTypeEntity,
 }
 
 /// The kind with a number.
@@ -158,6 +161,9 @@ pub fn kind_of(number: u16) -> Option<Kind>
         69 => Some(Kind::HolderMark),
         70 => Some(Kind::HeldComponent),
         71 => Some(Kind::FloatEnd),
+        72 => Some(Kind::ArgumentsFirst),
+        73 => Some(Kind::PlainEntity),
+        74 => Some(Kind::PlainTypeEntity),
         _ => None,
     }
 }
@@ -182,6 +188,7 @@ pub fn may_be_empty(kind: Kind) -> bool
         Kind::PackList => true,
         Kind::MaybeZero => true,
         Kind::ArgumentsAlone => true,
+        Kind::ArgumentsFirst => true,
         _ => false,
     }
 }

@@ -9,7 +9,7 @@ ghost use Rattle.sym_shape.specs.Tree.{Tree, IsTree, AreRowsOf, IsFirstBad, IsWe
 ghost use Rattle.sym_shape.specs.declared.rule.Sym.TheVariants.{Kind};
 ghost use Rattle.sym_shape.specs.declared.rule.Row.{Row};
 ghost use Rattle.sym_demangle.specs.Mangled.{RefusesBadTokens, StandsFor, IsAnswer, answer};
-ghost use Rattle.cpp_grammar.specs.KindNumbers.{MAYBE_ARGUMENTS, ARGUMENTS_ALONE, NEST_REST, NEST_REST_ALONE};
+ghost use Rattle.cpp_grammar.specs.KindNumbers.{MAYBE_ARGUMENTS, ARGUMENTS_ALONE, NEST_REST, NEST_REST_ALONE, ARGUMENT_LIST, ARGUMENTS_FIRST};
 ghost use Rattle.cpp_grammar.specs.Mangled.{cpp_mangled, wide_mangled};
 ghost use Rattle.cpp_grammar.specs.Closed.{ScopesAreClosed};
 ghost use Rattle.cpp_grammar.specs.Items.{Item};
@@ -62,6 +62,13 @@ pub fn no_tags_in_abi()
     ensures arguments_behind_names { (shape : Tree) → IsTree abi (Kind ARGUMENTS_ALONE) shape → IsTree abi (Kind MAYBE_ARGUMENTS) shape }
     ensures rests { (shape : Tree) → IsTree abi (Kind NEST_REST) shape → IsTree abi (Kind NEST_REST_ALONE) shape }
     ensures rests_behind_names { (shape : Tree) → IsTree abi (Kind NEST_REST_ALONE) shape → IsTree abi (Kind NEST_REST) shape }
+{}
+
+/// The kind of a list of arguments from the first one on is apart from that of the others since in [`Wide`](crate::Wide) the first
+/// argument may be a pack that begins with an I. In [`Abi`](crate::Abi) they have the same trees.
+pub fn no_first_packs_in_abi()
+    ensures first { (shape : Tree) → IsTree abi (Kind ARGUMENT_LIST) shape → IsTree abi (Kind ARGUMENTS_FIRST) shape }
+    ensures others { (shape : Tree) → IsTree abi (Kind ARGUMENTS_FIRST) shape → IsTree abi (Kind ARGUMENT_LIST) shape }
 {}
 
 /// What a symbol that is well shaped in [`Abi`](crate::Abi) reads as, a refusal too, it reads as in [`Wide`](crate::Wide), and its

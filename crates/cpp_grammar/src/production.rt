@@ -45,8 +45,8 @@ pub enum Production {
     Destructor,
     Abbreviation,
     Substitution,
-    StringLiteral,
     NestedType,
+    StringLiteral,
     Discriminator,
     OneDigit,
     ManyDigits,
@@ -121,6 +121,8 @@ pub enum Production {
     NestTemplate,
     NestTag,
     Holder,
+    DefaultEntity,
+    DefaultTypeEntity,
     SizedFloat,
     Tag,
 }

@@ -153,6 +153,12 @@ const HELD_COMPONENT: Sym = Sym::Kind(70);
 
 const FLOAT_END: Sym = Sym::Kind(71);
 
+const ARGUMENTS_FIRST: Sym = Sym::Kind(72);
+
+const PLAIN_ENTITY: Sym = Sym::Kind(73);
+
+const PLAIN_TYPE_ENTITY: Sym = Sym::Kind(74);
+
 const NAME: Sym = Sym::Name;
 
 const DECIMAL: Sym = Sym::Number(NumberKind::Decimal);
@@ -165,7 +171,7 @@ const DIGITS: Sym = Sym::Number(NumberKind::Digits);
 pub const FIRST_LETTER: u8 = b'!';
 
 // For each kind a row: for each byte from `$` to `z` the letter of the production that the kind takes there.
-static LETTERS: [[u8; 87]; 72] = [
+static LETTERS: [[u8; 87]; 75] = [
     // $%&'()*+,-./0123456789:;<=>?@ABCDEFGHIJKLMNOPQRSTUVWXYZ[\]^_`abcdefghijklmnopqrstuvwxyz
     *b"                                                           *                           ", // Symbol
     *b"          +                                                                            ", // MaybeSuffix
@@ -190,8 +196,8 @@ static LETTERS: [[u8; 87]; 72] = [
     *b"             !!!                                                                       ", // ConstructorDigit
     *b"            !!!                                                                        ", // DestructorDigit
     *b"            JJJJJJJJJJ       JJJJJJJJJJJJJJJJJJJJJJJJJJ    J II I    I     I   I       ", // Abbreviation
-    *b"            $$$$$$$$$$                  \" )      #                             K       ", // Entity
-    *b"            $$$$$$$$$$                  \" L      #                                     ", // TypeEntity
+    *b"            $$$$$$$$$$                  \" )      #                             L       ", // Entity
+    *b"            $$$$$$$$$$                  \" K      #                                     ", // TypeEntity
     *b"                                                           M                           ", // MaybeDiscriminator
     *b"            NNNNNNNNNN                                     O                           ", // DiscriminatorRest
     *b"                                                                        P       Q      ", // Anonymous
@@ -201,7 +207,7 @@ static LETTERS: [[u8; 87]; 72] = [
     *b"            VVVVVVVVVV       V VZ V    T VV V  VVVS   V      VVVVVVVVVV VVVV  RVVVVVVVV", // ItemButRef
     *b"                                                             \\ \\     \\    \\\\[  \\ \\\\    ", // ItemAfterD
     *b"                                                             ] ]     ]    ]_   ] ]^    ", // AfterD
-    *b"            $$$$$$$$$$       g i  h      aL `  cb#    d      eeeeeeeeee eeee   eefeeeee", // Solid
+    *b"            $$$$$$$$$$       g i  h      aK `  cb#    d      eeeeeeeeee eeee   eefeeeee", // Solid
     *b"                                                     !                                 ", // MaybeCLinkage
     *b"            kkkkkkkkkk       kkkkkkkkkkkkkkkkkkkkkkkkkk    k kk k    k     k   kj      ", // TypeAfterS
     *b"            ((((((((((                  &        '                                     ", // SourceOrLocal
@@ -218,7 +224,7 @@ static LETTERS: [[u8; 87]; 72] = [
     *b"            !!                                                                         ", // Bit
     *b"                                                                     \x82    \x81    \x82 \x82     ", // LiteralAfterD
     *b"            !                                                                          ", // MaybeZero
-    *b"            $$$$$$$$$$                   aL `  cb#    d      e e    eee eeee   ee  eee ", // LiteralType
+    *b"            $$$$$$$$$$                   aK `  cb#    d      e e    eee eeee   ee  eee ", // LiteralType
     *b"                                                             \x85 \x87\x84\x8b \x8f \x8e  \x8c\x88\x83\x8a\x86 \x89\x8d       ", // Operator
     *b"                                                             !   ! !            !  !   ", // OperatorAfterN
     *b"                                                  !          !   !      !         !    ", // OperatorAfterD
@@ -239,6 +245,9 @@ static LETTERS: [[u8; 87]; 72] = [
     *b"                                         !                                             ", // HolderMark
     *b"            $$$$$$$$$$         GH       \"        #           % %%% % %  %%%%% %%       ", // HeldComponent
     *b"                                                           !  !                     !  ", // FloatEnd
+    *b"            xxxxxxxxxx       x xx x   uxvxxxx xxxxx w x      xxxxxxxxxx xxxx  xxxxxxxxx", // ArgumentsFirst
+    *b"            $$$$$$$$$$                  \" )      #                                     ", // PlainEntity
+    *b"            $$$$$$$$$$                  \" K      #                                     ", // PlainTypeEntity
 ];
 
 /// A rule without its number and its symbols.
@@ -268,7 +277,7 @@ macro_rules! chains {
 }
 
 // The rules of the productions, in the order of their numbers.
-pub static HEADS: [Head; 120] = [
+pub static HEADS: [Head; 122] = [
     takes!(0), // ! Mark
     takes!(2), // \" InternalName
     takes!(2), // # LocalTypeName
@@ -311,8 +320,8 @@ pub static HEADS: [Head; 120] = [
     takes!(2), // H Destructor
     takes!(0), // I Abbreviation
     chains!(1), // J Substitution
-    takes!(0), // K StringLiteral
-    takes!(1), // L NestedType
+    takes!(1), // K NestedType
+    takes!(0), // L StringLiteral
     takes!(1), // M Discriminator
     takes!(0), // N OneDigit
     takes!(2), // O ManyDigits
@@ -387,12 +396,14 @@ pub static HEADS: [Head; 120] = [
     chains!(2), // \x94 NestTemplate
     takes!(2), // \x95 NestTag
     chains!(2), // \x96 Holder
-    takes!(2), // \x97 SizedFloat
-    takes!(2), // \x98 Tag
+    takes!(2), // \x97 DefaultEntity
+    takes!(2), // \x98 DefaultTypeEntity
+    takes!(2), // \x99 SizedFloat
+    takes!(2), // \x9a Tag
 ];
 
 // The symbols of the rules, in the same order.
-pub static SYMBOLS: [Sym; 726] = symbols_listed! {
+pub static SYMBOLS: [Sym; 738] = symbols_listed! {
     [NONE, NONE, NONE, NONE, NONE], // ! Mark
     [NAME, MAYBE_ARGUMENTS, NONE, NONE, NONE], // \" InternalName
     [ANONYMOUS, MAYBE_ARGUMENTS, NONE, NONE, NONE], // # LocalTypeName
@@ -428,15 +439,15 @@ pub static SYMBOLS: [Sym; 726] = symbols_listed! {
     [NAME, NEST_REST, NONE, NONE, NONE], // A NestSource
     [UNQUALIFIED, MAYBE_ARGUMENTS, NEST_TAIL, NONE, NONE], // B NestStd
     [ABBREVIATION, NEST_REST_ALONE, NONE, NONE, NONE], // C NestAbbreviated
-    [ARGUMENT_LIST, Sym::Byte(b'E'), COMPONENT, NEST_TAIL, NONE], // D NestArguments
+    [ARGUMENTS_FIRST, Sym::Byte(b'E'), COMPONENT, NEST_TAIL, NONE], // D NestArguments
     [COMPONENT, NEST_TAIL, NONE, NONE, NONE], // E NestNext
     [NONE, NONE, NONE, NONE, NONE], // F NestEnd
     [CONSTRUCTOR_DIGIT, MAYBE_ARGUMENTS, NONE, NONE, NONE], // G Constructor
     [DESTRUCTOR_DIGIT, MAYBE_ARGUMENTS, NONE, NONE, NONE], // H Destructor
     [NONE, NONE, NONE, NONE, NONE], // I Abbreviation
     [SEQ36, NONE, NONE, NONE, NONE], // J Substitution
-    [NONE, NONE, NONE, NONE, NONE], // K StringLiteral
-    [NEST, NONE, NONE, NONE, NONE], // L NestedType
+    [NEST, NONE, NONE, NONE, NONE], // K NestedType
+    [NONE, NONE, NONE, NONE, NONE], // L StringLiteral
     [DISCRIMINATOR_REST, NONE, NONE, NONE, NONE], // M Discriminator
     [NONE, NONE, NONE, NONE, NONE], // N OneDigit
     [DIGITS, Sym::Byte(b'_'), NONE, NONE, NONE], // O ManyDigits
@@ -476,7 +487,7 @@ pub static SYMBOLS: [Sym; 726] = symbols_listed! {
     [TYPE, FUNCTION_REST, NONE, NONE, NONE], // q LvalueItem
     [TYPE, FUNCTION_REST, NONE, NONE, NONE], // r RvalueItem
     [ITEM, ITEMS, NONE, NONE, NONE], // s Items
-    [ARGUMENT_LIST, Sym::Byte(b'E'), NONE, NONE, NONE], // t Arguments
+    [ARGUMENTS_FIRST, Sym::Byte(b'E'), NONE, NONE, NONE], // t Arguments
     [PACK_LIST, Sym::Byte(b'E'), ARGUMENT_LIST, NONE, NONE], // u PackArgument
     [LITERAL, Sym::Byte(b'E'), ARGUMENT_LIST, NONE, NONE], // v LiteralArgument
     [Sym::Byte(b'a'), Sym::Byte(b'd'), ADDRESS, ARGUMENT_LIST, NONE], // w AddressArgument
@@ -505,21 +516,23 @@ pub static SYMBOLS: [Sym; 726] = symbols_listed! {
     [OPERATOR_AFTER_I, NONE, NONE, NONE, NONE], // \x8e OperatorI
     [OPERATOR_AFTER_G, NONE, NONE, NONE, NONE], // \x8f OperatorG
     [NAME, NONE, NONE, NONE, NONE], // \x90 LiteralOperator
-    [ARGUMENT_LIST, Sym::Byte(b'E'), NEST_TAIL, NONE, NONE], // \x91 NestInstance
+    [ARGUMENTS_FIRST, Sym::Byte(b'E'), NEST_TAIL, NONE, NONE], // \x91 NestInstance
     [COMPLETE_NAME, NONE, NONE, NONE, NONE], // \x92 SpecialName
     [TYPE, DIGITS, Sym::Byte(b'_'), TYPE, NONE], // \x93 ConstructionVtable
     [ABBREVIATION, NEST_REST_OR_END, NONE, NONE, NONE], // \x94 NestTemplate
     [NAME, NEST_REST, NONE, NONE, NONE], // \x95 NestTag
     [HOLDER_MARK, HELD_COMPONENT, NONE, NONE, NONE], // \x96 Holder
-    [DIGITS, FLOAT_END, NONE, NONE, NONE], // \x97 SizedFloat
-    [NAME, MAYBE_ARGUMENTS, NONE, NONE, NONE], // \x98 Tag
+    [DECIMAL, PLAIN_ENTITY, NONE, NONE, NONE], // \x97 DefaultEntity
+    [DECIMAL, PLAIN_TYPE_ENTITY, NONE, NONE, NONE], // \x98 DefaultTypeEntity
+    [DIGITS, FLOAT_END, NONE, NONE, NONE], // \x99 SizedFloat
+    [NAME, MAYBE_ARGUMENTS, NONE, NONE, NONE], // \x9a Tag
 };
 
 /// The number of the rule that a kind takes at a byte, if it takes one.
 #[inline]
 fn number(kind: u16, byte: u8) -> Option<usize>
     requires { kind < abi.kinds }
-    ensures few { IfSome result (λ number. number < 120) }
+    ensures few { IfSome result (λ number. number < 122) }
     ensures rule { (head : Head) → MatchOption result (abi.rule kind byte ≡ None) (λ number. abi.rule kind byte ≡ Some (listed_rule head number)) }
 {
     match letter_in(&LETTERS[kind as usize], byte) {

@@ -8,7 +8,7 @@ use crate::table::{FIRST_LETTER, HEADS, SYMBOLS};
 use sym_shape::{Rule, letter_in, place_of, symbols_from};
 
 // For each kind a row: for each byte from `$` to `z` the letter of the production that the kind takes there.
-static WIDE_LETTERS: [[u8; 87]; 72] = [
+static WIDE_LETTERS: [[u8; 87]; 75] = [
     // $%&'()*+,-./0123456789:;<=>?@ABCDEFGHIJKLMNOPQRSTUVWXYZ[\]^_`abcdefghijklmnopqrstuvwxyz
     *b"                                                           *                           ", // Symbol
     *b"          +                                                                            ", // MaybeSuffix
@@ -33,8 +33,8 @@ static WIDE_LETTERS: [[u8; 87]; 72] = [
     *b"             !!!!!                                                                     ", // ConstructorDigit
     *b"            !!! !!                                                                     ", // DestructorDigit
     *b"            JJJJJJJJJJ       JJJJJJJJJJJJJJJJJJJJJJJJJJ    J II I    I     I   I       ", // Abbreviation
-    *b"            $$$$$$$$$$                  \" )      #                             K       ", // Entity
-    *b"            $$$$$$$$$$                  \" L      #                                     ", // TypeEntity
+    *b"            $$$$$$$$$$                  \" )      #              \x97              L       ", // Entity
+    *b"            $$$$$$$$$$                  \" K      #              \x98                      ", // TypeEntity
     *b"                                                           M                           ", // MaybeDiscriminator
     *b"            NNNNNNNNNN                                     O                           ", // DiscriminatorRest
     *b"                                                                        P       Q      ", // Anonymous
@@ -43,8 +43,8 @@ static WIDE_LETTERS: [[u8; 87]; 72] = [
     *b"            VVVVVVVVVV       V VZ V    T VVUV UVVVS   V      VVVVVVVVVV VVVV  RVVVVVVVV", // Item
     *b"            VVVVVVVVVV       V VZ V    T VV V  VVVS   V      VVVVVVVVVV VVVV  RVVVVVVVV", // ItemButRef
     *b"                                  \\                          \\ \\\\\\\\ \\\\    \\\\[  \\ \\\\    ", // ItemAfterD
-    *b"                                  \x97                          ] ]]]] ]]    ]_   ] ]^    ", // AfterD
-    *b"            $$$$$$$$$$       g i  h      aL `  cb#    d      eeeeeeeeee eeee   eefeeeee", // Solid
+    *b"                                  \x99                          ] ]]]] ]]    ]_   ] ]^    ", // AfterD
+    *b"            $$$$$$$$$$       g i  h      aK `  cb#    d      eeeeeeeeee eeee   eefeeeee", // Solid
     *b"                                                     !                                 ", // MaybeCLinkage
     *b"            kkkkkkkkkk       kkkkkkkkkkkkkkkkkkkkkkkkkk    k kk k    k     k   kj      ", // TypeAfterS
     *b"            ((((((((((                  &        '                                     ", // SourceOrLocal
@@ -52,7 +52,7 @@ static WIDE_LETTERS: [[u8; 87]; 72] = [
     *b"            qqqqqqqqqq       q qqpq    q qqqq qqqqq   q      qqqqqqqqqq qqqq  qqqqqqqqq", // AfterR
     *b"            rrrrrrrrrr       r rrpr    r rrrr rrrrr   r      rrrrrrrrrr rrrr  rrrrrrrrr", // AfterO
     *b"            ssssssssss       s ss s    s ssss sssss   s      ssssssssss ssss  sssssssss", // Items
-    *b"                              \x98      t                                                 ", // MaybeArguments
+    *b"                              \x9a      t                                                 ", // MaybeArguments
     *b"                                     t                                                 ", // Arguments
     *b"            xxxxxxxxxx       x xx x   uxvxxxx xxxxx w x      xxxxxxxxxx xxxx  xxxxxxxxx", // ArgumentList
     *b"            {{{{{{{{{{       { {{ {    {y{{{{ {{{{{ z {      {{{{{{{{{{ {{{{  {{{{{{{{{", // PackList
@@ -61,7 +61,7 @@ static WIDE_LETTERS: [[u8; 87]; 72] = [
     *b"            !!                                                                         ", // Bit
     *b"                                                                     \x82    \x81    \x82 \x82     ", // LiteralAfterD
     *b"            !                                                                          ", // MaybeZero
-    *b"            $$$$$$$$$$                   aL `  cb#    d      e e    eee eeee   ee  eee ", // LiteralType
+    *b"            $$$$$$$$$$                   aK `  cb#    d      e e    eee eeee   ee  eee ", // LiteralType
     *b"                                                             \x85 \x87\x84\x8b \x8f \x8e  \x8c\x88\x83\x8a\x86 \x89\x8d       ", // Operator
     *b"                                                             !   ! !            !  !   ", // OperatorAfterN
     *b"                                                  !          !   !      !         !    ", // OperatorAfterD
@@ -82,13 +82,16 @@ static WIDE_LETTERS: [[u8; 87]; 72] = [
     *b"                                         !                                             ", // HolderMark
     *b"            $$$$$$$$$$         GH       \"        #           % %%% % %  %%%%% %%       ", // HeldComponent
     *b"                                                           !  !                     !  ", // FloatEnd
+    *b"            xxxxxxxxxx       x xx x  uuxvxxxx xxxxx w x      xxxxxxxxxx xxxx  xxxxxxxxx", // ArgumentsFirst
+    *b"            $$$$$$$$$$                  \" )      #                                     ", // PlainEntity
+    *b"            $$$$$$$$$$                  \" K      #                                     ", // PlainTypeEntity
 ];
 
 /// The number of the rule that a kind takes at a byte, if it takes one.
 #[inline]
 fn number(kind: u16, byte: u8) -> Option<usize>
     requires { kind < wide.kinds }
-    ensures few { IfSome result (λ number. number < 120) }
+    ensures few { IfSome result (λ number. number < 122) }
     ensures rule { (head : Head) → MatchOption result (wide.rule kind byte ≡ None) (λ number. wide.rule kind byte ≡ Some (listed_rule head number)) }
 {
     match letter_in(&WIDE_LETTERS[kind as usize], byte) {

@@ -88,6 +88,8 @@ made_at_end Production.SpecialName = 1
 made_at_end Production.ConstructionVtable = 1
 made_at_end Production.SizedFloat = 1
 made_at_end Production.Tag = 1
+made_at_end Production.DefaultEntity = 1
+made_at_end Production.DefaultTypeEntity = 1
 made_at_end Production.CharLiteral = 2
 made_at_end _ = 0
 

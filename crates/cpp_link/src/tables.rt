@@ -3,7 +3,7 @@
 use cpp_grammar::production::Production;
 
 /// The productions.
-pub(crate) const PRODUCTIONS: [Production; 120] = [
+pub(crate) const PRODUCTIONS: [Production; 122] = [
     Production::Mark,
     Production::InternalName,
     Production::LocalTypeName,
@@ -46,8 +46,8 @@ pub(crate) const PRODUCTIONS: [Production; 120] = [
     Production::Destructor,
     Production::Abbreviation,
     Production::Substitution,
-    Production::StringLiteral,
     Production::NestedType,
+    Production::StringLiteral,
     Production::Discriminator,
     Production::OneDigit,
     Production::ManyDigits,
@@ -122,12 +122,14 @@ pub(crate) const PRODUCTIONS: [Production; 120] = [
     Production::NestTemplate,
     Production::NestTag,
     Production::Holder,
+    Production::DefaultEntity,
+    Production::DefaultTypeEntity,
     Production::SizedFloat,
     Production::Tag,
 ];
 
 /// How many parts each has.
-pub(crate) const PART_COUNTS: [u8; 120] = [
+pub(crate) const PART_COUNTS: [u8; 122] = [
     0, // Mark
     2, // InternalName
     2, // LocalTypeName
@@ -170,8 +172,8 @@ pub(crate) const PART_COUNTS: [u8; 120] = [
     2, // Destructor
     0, // Abbreviation
     1, // Substitution
-    0, // StringLiteral
     1, // NestedType
+    0, // StringLiteral
     1, // Discriminator
     0, // OneDigit
     2, // ManyDigits
@@ -246,12 +248,14 @@ pub(crate) const PART_COUNTS: [u8; 120] = [
     2, // NestTemplate
     2, // NestTag
     2, // Holder
+    2, // DefaultEntity
+    2, // DefaultTypeEntity
     2, // SizedFloat
     2, // Tag
 ];
 
 /// Whether parts without a row may stand between those of each.
-pub(crate) const SKIPS_PARTS: [bool; 120] = [
+pub(crate) const SKIPS_PARTS: [bool; 122] = [
     false, // Mark
     false, // InternalName
     false, // LocalTypeName
@@ -294,8 +298,8 @@ pub(crate) const SKIPS_PARTS: [bool; 120] = [
     false, // Destructor
     false, // Abbreviation
     false, // Substitution
-    false, // StringLiteral
     false, // NestedType
+    false, // StringLiteral
     false, // Discriminator
     false, // OneDigit
     false, // ManyDigits
@@ -370,12 +374,14 @@ pub(crate) const SKIPS_PARTS: [bool; 120] = [
     false, // NestTemplate
     false, // NestTag
     false, // Holder
+    false, // DefaultEntity
+    false, // DefaultTypeEntity
     false, // SizedFloat
     false, // Tag
 ];
 
 /// Before how many of its parts nothing is done in each: before none, the first, or all, which are five at most.
-pub(crate) const QUIET_PARTS: [u8; 120] = [
+pub(crate) const QUIET_PARTS: [u8; 122] = [
     5, // Mark
     1, // InternalName
     1, // LocalTypeName
@@ -418,8 +424,8 @@ pub(crate) const QUIET_PARTS: [u8; 120] = [
     1, // Destructor
     5, // Abbreviation
     5, // Substitution
-    5, // StringLiteral
     5, // NestedType
+    5, // StringLiteral
     5, // Discriminator
     5, // OneDigit
     5, // ManyDigits
@@ -494,6 +500,8 @@ pub(crate) const QUIET_PARTS: [u8; 120] = [
     1, // NestTemplate
     1, // NestTag
     1, // Holder
+    5, // DefaultEntity
+    5, // DefaultTypeEntity
     5, // SizedFloat
     1, // Tag
 ];

@@ -1,7 +1,7 @@
 -- Whether two trees are the same, in each mark, number and name.
 use Rattle.std.specs.Prelude.{ℕ, List, Bool, true, false, not, ◌&&◌, nat_eq, Option, Some, None}
 use Rattle.cpp_grammar.specs.Texts.{same_bytes}
-use Rattle.cpp_grammar.specs.Term.{Qualifiers, RefQualifier, any_value, lvalue_only, rvalue_only, Signed, Adjustment, non_virtual, by_table, Thunk, adjusting, covariant, Term, symbol, function, object, special, thunk, of_name, construction, alone, in_std, within, instance, local, holder, tagged, abbreviation, parameter, source, operator, literal_operator, constructor, destructor, lambda, unnamed, string_literal, builtin, sized_float, vendor, pointer, lvalue, rvalue, array, member_pointer, function_type, qualified, vector, complex, expansion, integer, boolean, null_pointer, encoding_literal, address_of, pack, nil, list, absent}
+use Rattle.cpp_grammar.specs.Term.{Qualifiers, RefQualifier, any_value, lvalue_only, rvalue_only, Signed, Adjustment, non_virtual, by_table, Thunk, adjusting, covariant, Term, symbol, function, object, special, thunk, of_name, construction, alone, in_std, within, instance, local, holder, tagged, of_default, abbreviation, parameter, source, operator, literal_operator, constructor, destructor, lambda, unnamed, string_literal, builtin, sized_float, vendor, pointer, lvalue, rvalue, array, member_pointer, function_type, qualified, vector, complex, expansion, integer, boolean, null_pointer, encoding_literal, address_of, pack, nil, list, absent}
 
 unfoldable pub same_truth : Bool → Bool → Bool
 same_truth true b = b
@@ -51,6 +51,7 @@ same_tree (instance a0 a1) (instance b0 b1) = same_tree a0 b0 && same_tree a1 b1
 same_tree (local a0 a1 a2) (local b0 b1 b2) = same_tree a0 b0 && same_tree a1 b1 && same_discriminator a2 b2
 same_tree (holder a0) (holder b0) = same_tree a0 b0
 same_tree (tagged a0 a1 a2) (tagged b0 b1 b2) = same_truth a0 b0 && same_tree a1 b1 && same_bytes a2 b2
+same_tree (of_default a0 a1) (of_default b0 b1) = same_bytes a0 b0 && same_tree a1 b1
 same_tree (abbreviation a0) (abbreviation b0) = nat_eq a0 b0
 same_tree (parameter a0) (parameter b0) = nat_eq a0 b0
 same_tree (source a0 a1) (source b0 b1) = same_truth a0 b0 && same_bytes a1 b1

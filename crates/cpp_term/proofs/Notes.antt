@@ -1,7 +1,7 @@
 -- What annotating keeps.
 use Rattle.std.proofs.Common.{◌≡◌, refl, ap, ◌∙◌, ℕ, zero, suc, Bool, true, false, ◌||◌, ◌&&◌, Option, Some, None}
 use Rattle.std.proofs.lemmas.Bool.{true≢false}
-use Rattle.cpp_grammar.specs.Term.{Term, alone, in_std, within, instance, local, holder, tagged, parameter, lambda, pointer, lvalue, rvalue, array, member_pointer, function_type, qualified, vector, complex, expansion, integer, pack, list, absent}
+use Rattle.cpp_grammar.specs.Term.{Term, alone, in_std, within, instance, local, holder, tagged, of_default, parameter, lambda, pointer, lvalue, rvalue, array, member_pointer, function_type, qualified, vector, complex, expansion, integer, pack, list, absent}
 use Rattle.cpp_grammar.specs.Scope.{count, element, arguments_of, is_open, first_of, length_if_pack, pack_length}
 use Rattle.cpp_grammar.specs.Items.{Context, indexed, argument, Head, lref, collapsed, head_with, head_closed, head, packs_of, is_none_of, is_empty}
 use Rattle.cpp_grammar.specs.References.{packs_in}
@@ -57,6 +57,7 @@ open_noted s (instance template arguments) = both (λ x y. x || y) (open_noted s
 open_noted s (local encoding entity discriminator) = open_noted s entity
 open_noted s (holder name) = open_noted s name
 open_noted s (tagged of_structor name tag) = open_noted s name
+open_noted s (of_default digits entity) = open_noted s entity
 open_noted s (lambda parameters number) = open_noted s parameters
 open_noted s (pointer t) = open_noted s t
 open_noted s (lvalue t) = open_noted s t
@@ -91,6 +92,7 @@ closed_noted s r (instance template arguments) e = both term_.instance (closed_n
 closed_noted s r (local encoding entity discriminator) e = ap (λ x. term_.local (annotate None encoding) x discriminator) (closed_noted s r entity e)
 closed_noted s r (holder name) e = ap term_.holder (closed_noted s r name e)
 closed_noted s r (tagged of_structor name tag) e = ap (λ x. term_.tagged of_structor x tag) (closed_noted s r name e)
+closed_noted s r (of_default digits entity) e = ap (term_.of_default digits) (closed_noted s r entity e)
 closed_noted s r (parameter k) e = absurd (true≢false e)
 closed_noted s r (lambda parameters number) e = ap (λ x. term_.lambda x number) (closed_noted s r parameters e)
 closed_noted s r (pointer t) e = ap term_.pointer (closed_noted s r t e)
@@ -125,6 +127,7 @@ pack_none (instance template arguments) = both first_of (pack_none template) (pa
 pack_none (local encoding entity discriminator) = pack_none entity
 pack_none (holder name) = pack_none name
 pack_none (tagged of_structor name tag) = pack_none name
+pack_none (of_default digits entity) = pack_none entity
 pack_none (parameter k) = refl
 pack_none (lambda parameters number) = pack_none parameters
 pack_none (pointer t) = pack_none t
@@ -151,6 +154,7 @@ pack_some all (instance template arguments) = both first_of (pack_some all templ
 pack_some all (local encoding entity discriminator) = pack_some all entity
 pack_some all (holder name) = pack_some all name
 pack_some all (tagged of_structor name tag) = pack_some all name
+pack_some all (of_default digits entity) = pack_some all entity
 pack_some all (parameter k) = ap scope_.length_if_pack (element_noted None all k) ∙ length_noted None (element all k)
 pack_some all (lambda parameters number) = pack_some all parameters
 pack_some all (pointer t) = pack_some all t

@@ -2,7 +2,7 @@
 use Rattle.std.specs.Prelude.{ℕ, List, [], ◌∷◌, Option, Some, None, Result, Ok, Err}
 use Rattle.sym_core.specs.declared.refusal.Refusal.{Refusal}
 use Rattle.sym_print.specs.Unfold.{PartOf, text, sub}
-use Rattle.cpp_grammar.specs.Term.{Term, symbol, function, object, special, thunk, of_name, construction, alone, in_std, within, instance, local, holder, tagged, abbreviation, parameter, source, operator, literal_operator, constructor, destructor, lambda, unnamed, string_literal, builtin, sized_float, vendor, pointer, lvalue, rvalue, array, member_pointer, function_type, qualified, vector, complex, expansion, integer, boolean, null_pointer, encoding_literal, address_of, pack, nil, list, absent}
+use Rattle.cpp_grammar.specs.Term.{Term, symbol, function, object, special, thunk, of_name, construction, alone, in_std, within, instance, local, holder, tagged, of_default, abbreviation, parameter, source, operator, literal_operator, constructor, destructor, lambda, unnamed, string_literal, builtin, sized_float, vendor, pointer, lvalue, rvalue, array, member_pointer, function_type, qualified, vector, complex, expansion, integer, boolean, null_pointer, encoding_literal, address_of, pack, nil, list, absent}
 use Rattle.cpp_grammar.specs.Values.{Prefix, Around, Value, Candidate}
 use Rattle.cpp_grammar.specs.Values as leaf_
 use Rattle.cpp_grammar.specs.Items.{Context, Item}
@@ -32,6 +32,7 @@ annotate s (instance template arguments) = term_.instance (annotate s template) 
 annotate s (local encoding entity discriminator) = term_.local (annotate None encoding) (annotate s entity) discriminator
 annotate s (holder name) = term_.holder (annotate s name)
 annotate s (tagged of_structor name tag) = term_.tagged of_structor (annotate s name) tag
+annotate s (of_default digits entity) = term_.of_default digits (annotate s entity)
 annotate s (abbreviation letter) = term_.abbreviation letter
 annotate s (parameter k) = term_.parameter k (argument_in s k)
 annotate s (source internal bytes) = term_.source internal bytes

@@ -5,7 +5,7 @@ use Rattle.sym_print.specs.declared.detail.Detail.{Detail}
 use Rattle.sym_print.specs.Details.{has_arguments, has_parameters}
 use Rattle.sym_print.specs.Unfold.{PartOf, text, sub}
 use Rattle.cpp_grammar.specs.Texts.{same_bytes, look_up, builtin_texts, operator_texts, abbreviation_texts, special_texts, named_special_texts, literal_endings}
-use Rattle.cpp_term.specs.Term.{Term, symbol, function, object, special, thunk, of_name, construction, alone, in_std, within, instance, local, holder, tagged, abbreviation, parameter, source, operator, literal_operator, constructor, destructor, lambda, unnamed, string_literal, builtin, sized_float, vendor, pointer, lvalue, rvalue, array, member_pointer, function_type, qualified, vector, complex, expansion, integer, boolean, null_pointer, encoding_literal, address_of, pack, nil, list, absent}
+use Rattle.cpp_term.specs.Term.{Term, symbol, function, object, special, thunk, of_name, construction, alone, in_std, within, instance, local, holder, tagged, of_default, abbreviation, parameter, source, operator, literal_operator, constructor, destructor, lambda, unnamed, string_literal, builtin, sized_float, vendor, pointer, lvalue, rvalue, array, member_pointer, function_type, qualified, vector, complex, expansion, integer, boolean, null_pointer, encoding_literal, address_of, pack, nil, list, absent}
 use Rattle.cpp_grammar.specs.Term.{Qualifiers, RefQualifier, Signed}
 use Rattle.cpp_term.specs.Items.{Context, Item, closed, argument, head, packs_of, is_empty}
 use Rattle.cpp_grammar.specs.Items.{Form, root, full, bare, left, right, low, base, piece, first, more, expand, is_reference, is_funarr}
@@ -60,6 +60,7 @@ last_piece (alone p) = p
 last_piece (in_std p) = p
 last_piece (within prefix p) = p
 last_piece (local encoding entity discriminator) = last_piece entity
+last_piece (of_default digits entity) = last_piece entity
 last_piece _ = absent
 
 -- a blank stands before the < of arguments behind the operators << and <
@@ -136,12 +137,17 @@ float_parts digits end = elim (nat_eq end 98) [
   | false ↦ elim (nat_eq end 120) [ true ↦ says "_Float" ∷ text digits ∷ says "x" ∷ [] | false ↦ says "_Float" ∷ text digits ∷ [] ]
 ]
 
+-- the entity of a local name; in which default argument it stands isn't printed
+unfoldable pub entity_of : Term → Term
+entity_of (of_default digits entity) = entity
+entity_of entity = entity
+
 unfoldable pub left_parts : Detail → Context → Term → List (PartOf Item)
 left_parts d context (alone p) = piece_parts context p
 left_parts d context (in_std p) = says "std::" ∷ as_item piece context p ∷ []
 left_parts d context (within prefix p) = within_parts context prefix p
 left_parts d context (instance template arguments) = instance_parts (has_arguments d) context template arguments
-left_parts d context (local encoding entity discriminator) = as_item left context entity ∷ []
+left_parts d context (local encoding entity discriminator) = as_item left context (entity_of entity) ∷ []
 left_parts d context (holder name) = as_item left context name ∷ []
 left_parts d context (tagged of_structor name tag) = as_item left context name ∷ says "[abi:" ∷ text tag ∷ says "]" ∷ []
 left_parts d context (abbreviation letter) = text (look_up (letter ∷ []) abbreviation_texts) ∷ []
@@ -228,7 +234,7 @@ base_parts d context (alone p) = piece_parts context p
 base_parts d context (in_std p) = piece_parts context p
 base_parts d context (within prefix p) = base_within context prefix p
 base_parts d context (instance template arguments) = as_item base context template ∷ []
-base_parts d context (local encoding entity discriminator) = as_item base context entity ∷ []
+base_parts d context (local encoding entity discriminator) = as_item base context (entity_of entity) ∷ []
 base_parts d context (holder name) = as_item base context name ∷ []
 base_parts d context (tagged of_structor name tag) = base_tagged context name
 base_parts d context (abbreviation letter) = text (drop 5 (look_up (letter ∷ []) abbreviation_texts)) ∷ []

@@ -23,6 +23,8 @@ pub data Term : Type 0 where
   holder : (name : Term) → Term
   -- a name with one more tag, and whether it is that of a constructor or a destructor
   tagged : (of_structor : Bool) → (name : Term) → (tag : List ℕ) → Term
+  -- the entity of a local name that stands in a default argument, and the digits that say in which
+  of_default : (digits : List ℕ) → (entity : Term) → Term
   abbreviation : (letter : ℕ) → Term
   -- a parameter by its number, and the argument that it names
   parameter : (number : ℕ) → (argument : Term) → Term

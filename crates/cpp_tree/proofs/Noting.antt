@@ -39,6 +39,7 @@ module _ (y : Table) (table : IsTable y) where
   node-open (Node.Local e entity d) b = at entity b.1
   node-open (Node.Holder name) b = at name b
   node-open (Node.Tagged of_structor name tag) b = at name b.0
+  node-open (Node.OfDefault digits entity) b = at entity b.1
   node-open (Node.Pointer t) b = at t b
   node-open (Node.Lvalue t) b = at t b
   node-open (Node.Rvalue t) b = at t b
@@ -155,6 +156,7 @@ module _ (y : Table) (table : IsTable y) where
   node-pack (Node.Local e entity d) b = pack-at entity b.1
   node-pack (Node.Holder name) b = pack-at name b
   node-pack (Node.Tagged of_structor name tag) b = pack-at name b.0
+  node-pack (Node.OfDefault digits entity) b = pack-at entity b.1
   node-pack (Node.Parameter k a) b = argument-pack a b
   node-pack (Node.Pointer t) b = pack-at t b
   node-pack (Node.Lvalue t) b = pack-at t b

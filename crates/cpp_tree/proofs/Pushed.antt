@@ -63,6 +63,7 @@ module _ (s : List ℕ) (us : List Thunk) (ts : List Term) (t : Term) (i : ℕ) 
   node-stays (Node.Local e entity d) b = rw (early e b.0, early entity b.1) refl
   node-stays (Node.Holder name) b = rw (early name b) refl
   node-stays (Node.Tagged of_structor name tag) b = rw (early name b.0) refl
+  node-stays (Node.OfDefault digits entity) b = rw (early entity b.1) refl
   node-stays (Node.Abbreviation letter) b = refl
   node-stays (Node.Parameter k a) b = rw (early a b) refl
   node-stays (Node.Builtin letter) b = refl

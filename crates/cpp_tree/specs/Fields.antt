@@ -1,6 +1,6 @@
 -- What a tree has beside its production: numbers, texts and the trees of its parts. The productions are constants of the code.
 use Rattle.std.specs.Prelude.{ℕ, ◌+◌, ◌*◌, List, [], ◌∷◌, ◌-◌, ◌++◌, Bool, true, false, ◌==◌, ◌||◌, nat_lt, if◌then◌else◌, cond, get_or, Option, Some, None}
-use Rattle.cpp_grammar.specs.Term.{Qualifiers, RefQualifier, any_value, lvalue_only, rvalue_only, Signed, non_virtual, by_table, Thunk, adjusting, covariant, Term, symbol, function, object, special, thunk, of_name, construction, alone, in_std, within, instance, local, holder, tagged, abbreviation, parameter, source, operator, literal_operator, constructor, destructor, lambda, unnamed, string_literal, builtin, sized_float, vendor, pointer, lvalue, rvalue, array, member_pointer, function_type, qualified, vector, complex, expansion, integer, boolean, null_pointer, encoding_literal, address_of, pack, nil, list, absent}
+use Rattle.cpp_grammar.specs.Term.{Qualifiers, RefQualifier, any_value, lvalue_only, rvalue_only, Signed, non_virtual, by_table, Thunk, adjusting, covariant, Term, symbol, function, object, special, thunk, of_name, construction, alone, in_std, within, instance, local, holder, tagged, of_default, abbreviation, parameter, source, operator, literal_operator, constructor, destructor, lambda, unnamed, string_literal, builtin, sized_float, vendor, pointer, lvalue, rvalue, array, member_pointer, function_type, qualified, vector, complex, expansion, integer, boolean, null_pointer, encoding_literal, address_of, pack, nil, list, absent}
 use Rattle.cpp_tree.specs.declared.view.Names.{Names}
 use Rattle.cpp_tree.specs.declared.view.TheConstants.{ALONE, IN_STD, NESTED}
 use Rattle.cpp_tree.specs.declared.tree_production.TheConstants.{ABSENT, NIL, LIST, SYMBOL, FUNCTION, OBJECT, SPECIAL, GUARD, OF_NAME, CONSTRUCTION, THUNK, TABLE_THUNK, COVARIANT_THUNK, WIDE_THUNK, INSTANCE, LOCAL, NUMBERED_LOCAL, HOLDER, TAGGED, ABBREVIATION, PARAMETER, BUILTIN, BUILTIN_WITH_D, SIZED_FLOAT, VENDOR, POINTER, LVALUE, RVALUE, ARRAY, MEMBER_POINTER, FUNCTION_TYPE, QUALIFIED, VECTOR, COMPLEX, EXPANSION, INTEGER, BOOLEAN, NULL_POINTER, ENCODING_LITERAL, ADDRESS_OF, PACK, NO_NODE}
@@ -94,6 +94,7 @@ fields_of (instance template arguments) = fields INSTANCE 0 0 [] (template ∷ a
 fields_of (local around entity discriminator) = local_fields around entity discriminator
 fields_of (holder name) = fields HOLDER 0 0 [] (name ∷ [])
 fields_of (tagged of_structor name tag) = fields TAGGED (bit of_structor) 0 tag (name ∷ [])
+fields_of (of_default digits entity) = fields OF_DEFAULT 0 0 digits (entity ∷ [])
 fields_of (abbreviation letter) = fields ABBREVIATION letter 0 [] []
 fields_of (parameter number) = fields PARAMETER number 0 [] []
 fields_of (builtin (letter ∷ [])) = fields BUILTIN letter 0 [] []
@@ -219,6 +220,7 @@ narrow_tree_from given = tree_at given.production (
     ∷ (NUMBERED_LOCAL, local (part_in given 0) (part_in given 1) (Some (text_in given 0)))
     ∷ (HOLDER, holder (part_in given 0))
     ∷ (TAGGED, tagged (is_so given 0) (part_in given 0) (text_in given 0))
+    ∷ (OF_DEFAULT, of_default (text_in given 0) (part_in given 0))
     ∷ (ABBREVIATION, abbreviation (number_in given 0))
     ∷ (PARAMETER, parameter (number_in given 0))
     ∷ (BUILTIN, builtin (number_in given 0 ∷ []))

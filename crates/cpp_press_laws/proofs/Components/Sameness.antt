@@ -4,7 +4,7 @@ use Rattle.std.proofs.Common.{ap, sym}
 use Rattle.std.proofs.lemmas.Bool.{eqb-true, eq-eqb}
 use Rattle.sym_spell.proofs.Tests.{both, all}
 use Rattle.cpp_grammar.specs.Texts.{same_bytes}
-use Rattle.cpp_grammar.specs.Term.{Qualifiers, RefQualifier, any_value, lvalue_only, rvalue_only, Signed, Adjustment, non_virtual, by_table, Thunk, adjusting, covariant, Term, symbol, function, object, special, thunk, of_name, construction, alone, in_std, within, instance, local, holder, tagged, abbreviation, parameter, source, operator, literal_operator, constructor, destructor, lambda, unnamed, string_literal, builtin, sized_float, vendor, pointer, lvalue, rvalue, array, member_pointer, function_type, qualified, vector, complex, expansion, integer, boolean, null_pointer, encoding_literal, address_of, pack, nil, list, absent}
+use Rattle.cpp_grammar.specs.Term.{Qualifiers, RefQualifier, any_value, lvalue_only, rvalue_only, Signed, Adjustment, non_virtual, by_table, Thunk, adjusting, covariant, Term, symbol, function, object, special, thunk, of_name, construction, alone, in_std, within, instance, local, holder, tagged, of_default, abbreviation, parameter, source, operator, literal_operator, constructor, destructor, lambda, unnamed, string_literal, builtin, sized_float, vendor, pointer, lvalue, rvalue, array, member_pointer, function_type, qualified, vector, complex, expansion, integer, boolean, null_pointer, encoding_literal, address_of, pack, nil, list, absent}
 use Rattle.cpp_press_laws.specs.Same.{same_truth, same_qualifiers, same_mark, same_signed, same_adjustment, same_thunk, same_discriminator, same_tree}
 
 never : false ≡ true → ⊥
@@ -176,6 +176,9 @@ equal-tree (tagged a0 a1 a2) (tagged b0 b1 b2) h =
     let e0 : a0 ≡ b0 = equal-truth a0 b0 p.0 in
     let e1 : a1 ≡ b1 = equal-tree a1 b1 p.1 in
     let e2 : a2 ≡ b2 = equal-bytes a2 b2 p.2 in cc
+equal-tree (of_default a0 a1) (of_default b0 b1) h =
+    let e0 : a0 ≡ b0 = equal-bytes a0 b0 (both h).0 in
+    let e1 : a1 ≡ b1 = equal-tree a1 b1 (both h).1 in cc
 equal-tree (abbreviation a0) (abbreviation b0) h =
     let e0 : a0 ≡ b0 = eqb-true a0 b0 h in cc
 equal-tree (parameter a0) (parameter b0) h =
@@ -270,6 +273,7 @@ tree-itself (instance template arguments) = all (tree-itself template) (tree-its
 tree-itself (local encoding entity discriminator) = all (all (tree-itself encoding) (tree-itself entity)) (discriminator-itself discriminator)
 tree-itself (holder name) = tree-itself name
 tree-itself (tagged of_structor name tag) = all (all (truth-itself of_structor) (tree-itself name)) (bytes-itself tag)
+tree-itself (of_default digits entity) = all (bytes-itself digits) (tree-itself entity)
 tree-itself (abbreviation letter) = eq-eqb letter letter refl
 tree-itself (parameter k) = eq-eqb k k refl
 tree-itself (source internal bytes) = all (truth-itself internal) (bytes-itself bytes)

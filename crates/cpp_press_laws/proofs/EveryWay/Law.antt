@@ -5,7 +5,7 @@ use Rattle.sym_link.specs.Reading.{◌>>=◌}
 use Rattle.sym_spell.specs.Pressing.{◌and◌, text}
 use Rattle.cpp_grammar.specs.KindNumbers.{SYMBOL}
 use Rattle.std.specs.Prelude.{codes}
-use Rattle.cpp_grammar.specs.Term.{Term, symbol, function, object, special, thunk, of_name, construction, alone, in_std, within, instance, local, holder, tagged, abbreviation, parameter, source, operator, literal_operator, constructor, destructor, lambda, unnamed, string_literal, builtin, sized_float, vendor, pointer, lvalue, rvalue, array, member_pointer, function_type, qualified, vector, complex, expansion, integer, boolean, null_pointer, encoding_literal, address_of, pack, nil, list, absent}
+use Rattle.cpp_grammar.specs.Term.{Term, symbol, function, object, special, thunk, of_name, construction, alone, in_std, within, instance, local, holder, tagged, of_default, abbreviation, parameter, source, operator, literal_operator, constructor, destructor, lambda, unnamed, string_literal, builtin, sized_float, vendor, pointer, lvalue, rvalue, array, member_pointer, function_type, qualified, vector, complex, expansion, integer, boolean, null_pointer, encoding_literal, address_of, pack, nil, list, absent}
 use Rattle.cpp_grammar.specs.Values as value
 use Rattle.cpp_grammar.specs.Values.{Candidate, Around, nothing_there, tree, tree_of, text_of}
 use Rattle.cpp_grammar.specs.Unfolding.{first_around, first_state, first_tree, unfold_cpp}
@@ -56,6 +56,7 @@ reads c (instance template arguments) = reads-instance template arguments (reads
 reads c (local e entity discriminator) = reads-local e entity discriminator (reads c e) (reads c entity)
 reads c (holder name) = reads-nowhere (holder name) _
 reads c (tagged of_structor name tag) = reads-tagged of_structor name tag (reads c name)
+reads c (of_default digits entity) = reads-nowhere (of_default digits entity) _
 reads c (abbreviation l) = reads-abbreviation l
 reads c (parameter k) = reads-parameter k
 reads c (source internal name) = reads-source internal name

@@ -15,6 +15,7 @@ returns-in_default c =
       not_local = c.in_default.not-Local;
       not_holder = c.in_default.not-Holder;
       not_tagged = c.in_default.not-Tagged;
+      not_ofdefault = c.in_default.not-OfDefault;
       not_parameter = c.in_default.not-Parameter;
       not_pointer = c.in_default.not-Pointer;
       not_lvalue = c.in_default.not-Lvalue;
