@@ -1,7 +1,7 @@
 -- What productions stand for, annotated.
 use Rattle.std.proofs.Common.{◌≡◌, refl, ap, sym, ◌∙◌, ℕ, zero, suc, List, [], ◌∷◌, Bool, true, false, not, ◌&&◌, cond, nat_eq, Option, Some, None}
 use Rattle.cpp_grammar.specs.declared.production.Production.{Production}
-use Rattle.cpp_grammar.specs.Term.{RefQualifier, any_value, lvalue_only, rvalue_only, non_virtual, by_table, adjusting, covariant, Term, function, within, instance, local, tagged, constructor, destructor, string_literal, builtin, lvalue, rvalue, nil, list, absent}
+use Rattle.cpp_grammar.specs.Term.{RefQualifier, any_value, lvalue_only, rvalue_only, non_virtual, by_table, adjusting, covariant, Term, function, within, instance, local, tagged, of_default, constructor, destructor, string_literal, builtin, lvalue, rvalue, nil, list, absent}
 use Rattle.cpp_grammar.specs.Scope.{arguments_of, before_arguments, is_structor, has_return_type, is_open}
 use Rattle.cpp_grammar.specs.Values as leaf_
 use Rattle.cpp_grammar.specs.Values.{Around, Prefix, prefix_tree, prefix_listed, Value, unqualified, tree_of, piece_of, is_listed, qualifiers_of, ref_of, letter_of, is_there, mark_of, text_of, signed_of, adjustment_of, normal, signed_digits, local_number, part}
@@ -241,6 +241,7 @@ before_noted : (s : Option term_.Term) (t : Term) → scope_.is_structor (scope_
 unfolding scope_.before_arguments before_arguments annotate
 before_noted s (instance template arguments) = structor_noted s template
 before_noted s (local encoding entity discriminator) = before_noted s entity
+before_noted s (of_default digits entity) = before_noted s entity
 before_noted s t = structor_noted s t
 
 none_some : (s : Option term_.Term) (b : Term) → None ≡ noted_in s (Some b) → ⊥
@@ -306,6 +307,11 @@ Inside Production.Address vs = is_open (tree_of (part vs 2)) ≡ false
 Inside Production.Encoding vs = ⊥
 Inside _ vs = Unit {0}
 
+default_noted : (s : Option term_.Term) (vs : List Value) →
+    noted_.default_entity (value_.text_of (value_.part (noted_values s vs) 0)) (value_.part (noted_values s vs) 1) ≡ noted_value s (meaning_.default_entity (text_of (part vs 0)) (part vs 1))
+unfolding noted_.default_entity meaning_.default_entity noted_value annotate
+default_noted s vs = four (λ d x q r. value_.named (term_.of_default (normal d) x) q r) (text_part_ s vs 0) (tree_part s vs 1) (qualifiers_part s vs 1) (ref_part s vs 1)
+
 pub meaning_noted : (production : Production) (byte : ℕ) (around : Around) (vs : List Value) → Inside production vs →
     noted_.meaning production byte (noted_around around) (noted_values (noted_scope around.scope) vs) ≡ noted_value (noted_scope around.scope) (meaning production byte around vs)
 unfolding noted_.meaning meaning noted_value noted_around annotate
@@ -314,6 +320,8 @@ meaning_noted Production.Special byte around vs h = part_noted (noted_scope arou
 meaning_noted Production.Guard byte around vs h = three (λ x y z. value_.tree (term_.of_name 86 x y z) true) (closed_part (noted_scope around.scope) vs 1 h) (qualifiers_part (noted_scope around.scope) vs 1) (ref_part (noted_scope around.scope) vs 1)
 meaning_noted Production.NestedName byte around vs h = five (λ x a b c m. value_.named x (record { restrict = a; volatile = b; const = c }) m) (tree_part (noted_scope around.scope) vs 4) (there_part (noted_scope around.scope) vs 0) (there_part (noted_scope around.scope) vs 1) (there_part (noted_scope around.scope) vs 2) (mark_part (noted_scope around.scope) vs 3)
 meaning_noted Production.LocalName byte around vs h = five (λ x y d q r. value_.named (term_.local x y d) q r) (closed_part (noted_scope around.scope) vs 0 h) (tree_part (noted_scope around.scope) vs 2) (discriminator_part (noted_scope around.scope) vs 3) (qualifiers_part (noted_scope around.scope) vs 2) (ref_part (noted_scope around.scope) vs 2)
+meaning_noted Production.DefaultEntity byte around vs h = default_noted (noted_scope around.scope) vs
+meaning_noted Production.DefaultTypeEntity byte around vs h = default_noted (noted_scope around.scope) vs
 meaning_noted Production.Lambda byte around vs h = both (λ x d. value_.piece (term_.lambda x (local_number d))) (both (λ x y. noted_.parameters (term_.list x y)) (tree_part (noted_scope around.scope) vs 0) (items_part (noted_scope around.scope) vs 1) ∙ parameters_noted (noted_scope around.scope) (list (tree_of (part vs 0)) (going_.no_items (part vs 1)))) (text_part_ (noted_scope around.scope) vs 3)
 meaning_noted Production.NestEnd byte around vs h = both value_.tree (prefix_tree_noted (noted_scope around.scope) around.prefix) (prefix_listed_noted (noted_scope around.scope) around.prefix)
 meaning_noted Production.StringLiteral byte around vs h = ap (λ x. value_.tree x true) (extended_noted (noted_scope around.scope) around.prefix string_literal)

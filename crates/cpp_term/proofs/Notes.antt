@@ -35,6 +35,7 @@ pub arguments_noted : (s : Option term_.Term) (t : Term) → scope_.arguments_of
 unfolding scope_.arguments_of arguments_of annotate noted_in
 arguments_noted s (instance template arguments) = refl
 arguments_noted s (local encoding entity discriminator) = arguments_noted s entity
+arguments_noted s (of_default digits entity) = arguments_noted s entity
 arguments_noted s _ = refl
 
 pub noted_none : (o : Option Term) → noted_in None o ≡ noted_scope o

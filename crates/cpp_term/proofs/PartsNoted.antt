@@ -4,7 +4,7 @@ use Prim.Native.String.{String}
 use Rattle.sym_print.specs.declared.detail.Detail.{Detail}
 use Rattle.sym_print.specs.Details.{has_arguments, has_parameters}
 use Rattle.sym_print.specs.Unfold.{PartOf, text, sub}
-use Rattle.cpp_grammar.specs.Term.{Qualifiers, RefQualifier, Signed, Term, symbol, function, object, of_name, alone, in_std, within, instance, local, holder, tagged, abbreviation, parameter, source, operator, constructor, destructor, lambda, builtin, sized_float, pointer, lvalue, rvalue, array, member_pointer, function_type, qualified, expansion, integer, pack, nil, list, absent}
+use Rattle.cpp_grammar.specs.Term.{Qualifiers, RefQualifier, Signed, Term, symbol, function, object, of_name, alone, in_std, within, instance, local, holder, tagged, of_default, abbreviation, parameter, source, operator, constructor, destructor, lambda, builtin, sized_float, pointer, lvalue, rvalue, array, member_pointer, function_type, qualified, expansion, integer, pack, nil, list, absent}
 use Rattle.cpp_grammar.specs.Scope.{arguments_of}
 use Rattle.cpp_grammar.specs.Items.{Form, root, full, bare, left, right, low, base, piece, first, more, expand, Context, Item, closed, argument, head, is_reference, is_funarr, packs_of, is_empty}
 use Rattle.cpp_grammar.specs.Parts as leaf_
@@ -75,6 +75,7 @@ last_noted s (alone p) = opening_noted s p
 last_noted s (in_std p) = opening_noted s p
 last_noted s (within prefix p) = opening_noted s p
 last_noted s (local encoding entity discriminator) = last_noted s entity
+last_noted s (of_default digits entity) = last_noted s entity
 last_noted s _ = opening_noted s absent
 
 instance_noted : (all : Bool) (c : Context) (t arguments : Term) → part_.instance_parts all (noted_context c) (annotate (at c) t) (annotate (at c) arguments) ≡ noted_parts (leaf_.instance_parts all c t arguments)
@@ -162,11 +163,18 @@ float_noted digits end = go (nat_eq end 98) (nat_eq end 120)
     go false true = refl
     go false false = refl
 
+entity_noted : (c : Context) (form : Form) (t : Term) → (part_.as_item form (noted_context c) (part_.entity_of (annotate (at c) t)) ∷ []) ≡ noted_parts (leaf_.as_item form c (leaf_.entity_of t) ∷ [])
+unfolding part_.entity_of leaf_.entity_of annotate noted_parts noted_part noted_item
+entity_noted c form (of_default digits entity) = refl
+entity_noted c form (symbol e suffix) = refl
+entity_noted c form _ = refl
+
 left_noted : (d : Detail) (c : Context) (t : Term) → part_.left_parts d (noted_context c) (annotate (at c) t) ≡ noted_parts (leaf_.left_parts d c t)
 unfolding part_.left_parts leaf_.left_parts annotate noted_parts noted_part noted_item noted_context noted_scope
 left_noted d c (alone p) = piece_noted c p
 left_noted d c (within prefix p) = within_noted c prefix p
 left_noted d c (instance template arguments) = instance_noted (has_arguments d) c template arguments
+left_noted d c (local encoding entity discriminator) = entity_noted c left entity
 left_noted d c (sized_float digits end) = float_noted digits end
 left_noted d c (parameter k) = named_noted c left k
 left_noted d c (pointer t) = marked_noted c t "*"
@@ -248,7 +256,7 @@ base_noted d c (alone p) = piece_noted c p
 base_noted d c (in_std p) = piece_noted c p
 base_noted d c (within prefix p) = base_within_noted c prefix p
 base_noted d c (instance template arguments) = refl
-base_noted d c (local encoding entity discriminator) = refl
+base_noted d c (local encoding entity discriminator) = entity_noted c base entity
 base_noted d c (holder name) = refl
 base_noted d c (tagged of_structor name tag) = base_tagged_noted c name
 base_noted d c (abbreviation letter) = refl

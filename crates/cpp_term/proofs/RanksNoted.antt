@@ -7,12 +7,12 @@ use Rattle.sym_print.specs.declared.detail.Detail.{Detail}
 use Rattle.sym_print.specs.Details.{has_arguments, has_parameters}
 use Rattle.sym_print.specs.Unfold.{PartOf, text, sub, RanksBelow}
 use Rattle.cpp_grammar.specs.Term.{Qualifiers, RefQualifier, Signed}
-use Rattle.cpp_term.specs.Term.{Term, symbol, function, object, special, thunk, of_name, construction, alone, in_std, within, instance, local, holder, tagged, abbreviation, parameter, source, constructor, destructor, lambda, pointer, lvalue, rvalue, array, member_pointer, function_type, qualified, expansion, integer, pack, nil, list, absent, sized_float}
+use Rattle.cpp_term.specs.Term.{Term, symbol, function, object, special, thunk, of_name, construction, alone, in_std, within, instance, local, holder, tagged, of_default, abbreviation, parameter, source, constructor, destructor, lambda, pointer, lvalue, rvalue, array, member_pointer, function_type, qualified, expansion, integer, pack, nil, list, absent, sized_float}
 use Rattle.cpp_term.specs.Scope.{element, pack_length}
 use Rattle.cpp_grammar.specs.Items.{Form, root, full, bare, left, right, low, base, piece, first, more, expand, is_reference, is_funarr}
 use Rattle.cpp_term.specs.Items.{Context, Item, indexed, argument, head, packs_of, is_empty}
 use Rattle.cpp_grammar.specs.Parts.{blank_last, qualifier_text, ref_text, encoding_text, is_below}
-use Rattle.cpp_term.specs.Parts.{as_item, says, text_part, list_part, piece_parts, prefix_item, within_parts, instance_parts, marked_parts, reference_parts, qualified_left, expansion_parts, sign_part, is_plain_integer, integer_parts, builtin_code, member_parts, array_left, float_parts, left_parts, low_parts, function_right, closing_right, qualified_right, right_parts, base_within, base_tagged_within, base_tagged, base_parts, types_of, function_bare, function_full, full_parts, bare_parts, root_parts, first_parts, more_parts, at_index, comma_before, expand_rest, expand_parts, parts_in, not_empty, parts}
+use Rattle.cpp_term.specs.Parts.{as_item, says, text_part, list_part, piece_parts, prefix_item, within_parts, instance_parts, marked_parts, reference_parts, qualified_left, expansion_parts, sign_part, is_plain_integer, integer_parts, builtin_code, member_parts, array_left, entity_of, float_parts, left_parts, low_parts, function_right, closing_right, qualified_right, right_parts, base_within, base_tagged_within, base_tagged, base_parts, types_of, function_bare, function_full, full_parts, bare_parts, root_parts, first_parts, more_parts, at_index, comma_before, expand_rest, expand_parts, parts_in, not_empty, parts}
 use Rattle.cpp_grammar.specs.Ranks.{or_none}
 use Rattle.cpp_term.specs.Ranks.{pack_count, weight, weight_in, rank_in, rank}
 use Rattle.cpp_grammar.specs.Texts.{look_up, literal_endings}
@@ -147,11 +147,19 @@ float_falls : (r : ℕ) (digits : List ℕ) (end : ℕ) → RanksBelow rank r (f
 unfolding float_parts
 float_falls r digits end = falls_choice r (nat_eq end 98) _ _ tt (falls_choice r (nat_eq end 120) _ _ tt tt)
 
+-- the entity of a local name weighs no more than what it stands in
+entity_weight : (c : Context) (entity : Term) → weight_in c (entity_of entity) ≤ weight_in c entity
+unfolding entity_of weight_in weight
+entity_weight c (of_default digits entity) = omega arith
+entity_weight c (symbol e suffix) = omega arith
+entity_weight c _ = omega arith
+
 left_falls : (d : Detail) (c : Context) (t : Term) → RanksBelow rank (weight_in c t) (left_parts d c t)
 unfolding left_parts rank rank_in weight_in weight
 left_falls d c (alone p) = piece_falls _ c p (omega arith)
 left_falls d c (within prefix p) = within_falls _ c prefix p (omega arith) (omega arith)
 left_falls d c (instance t arguments) = instance_falls _ (has_arguments d) c t arguments (omega arith) (omega arith)
+left_falls d c (local encoding entity discriminator) = (omega (arith, entity_weight c entity), tt)
 left_falls d c (sized_float digits end) = float_falls _ digits end
 left_falls d c (parameter k a) = (argument_weight c a, tt)
 left_falls d c (pointer t) = marked_falls _ c t "*" (omega arith)
@@ -229,7 +237,7 @@ base_falls d c (alone p) = piece_falls _ c p (omega arith)
 base_falls d c (in_std p) = piece_falls _ c p (omega arith)
 base_falls d c (within prefix p) = base_within_falls _ c prefix p (omega arith) (omega arith)
 base_falls d c (instance t arguments) = (omega arith, tt)
-base_falls d c (local encoding entity discriminator) = (omega arith, tt)
+base_falls d c (local encoding entity discriminator) = (omega (arith, entity_weight c entity), tt)
 base_falls d c (holder name) = (omega arith, tt)
 base_falls d c (tagged of_structor name tag) = base_tagged_falls _ c name (omega arith)
 base_falls d c (abbreviation letter) = tt

@@ -68,6 +68,7 @@ module _ (y : Table) (table : IsTable y) where
   pub node-ends : (n : Node) → IsBelow y.bytes (length y.thunks) (length y.nodes) n → arguments_are (trees y) (ends_in y.nodes n) ≡ arguments_of (tree_of y.bytes y.thunks (trees y) n)
   unfolding ends_in tree_of arguments_of arguments_are
   node-ends (Node.Local e entity d) b = (table.each entity b.1).arguments
+  node-ends (Node.OfDefault digits entity) b = (table.each entity b.1).arguments
   node-ends _ b = refl
 
   arguments-below : (i n : ℕ) (a : Option ℕ) → i < n → IsArgumentsBelow i a → IsArgumentsBelow n a
@@ -78,6 +79,7 @@ module _ (y : Table) (table : IsTable y) where
   unfolding ends_in
   node-ends-below (Node.Instance template arguments) b = b.1
   node-ends-below (Node.Local e entity d) b = arguments-below entity (length y.nodes) (entry_at y.nodes entity).arguments b.1 (table.each entity b.1).arguments_below
+  node-ends-below (Node.OfDefault digits entity) b = arguments-below entity (length y.nodes) (entry_at y.nodes entity).arguments b.1 (table.each entity b.1).arguments_below
   node-ends-below _ b = tt
 
   collapse-is : (ts : List Term) (c : HeadClass) → class_is ts (collapses c) ≡ items.collapsed_class (class_is ts c)
@@ -187,6 +189,7 @@ module _ (y : Table) (table : IsTable y) where
   unfolding returning tree_of has_return_type arguments_of before_arguments
   node-returns (Node.Instance template arguments) b = ap not (structor-node (entry_at y.nodes template).node ∙ ap is_structor (sym (table.each template b.0).built))
   node-returns (Node.Local e entity d) b = (table.each entity b.1).returns
+  node-returns (Node.OfDefault digits entity) b = (table.each entity b.1).returns
   node-returns _ b = refl
 
   pub node-counted : (n : Node) → IsBelow y.bytes (length y.thunks) (length y.nodes) n → counting y.nodes n ≡ count (tree_of y.bytes y.thunks (trees y) n)

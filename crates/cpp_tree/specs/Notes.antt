@@ -56,6 +56,7 @@ empties es _ = false
 unfoldable pub ends_in : List Entry → Node → Option ℕ
 ends_in es (Node.Instance template arguments) = Some arguments
 ends_in es (Node.Local e entity d) = (entry_at es entity).arguments
+ends_in es (Node.OfDefault digits entity) = (entry_at es entity).arguments
 ends_in es _ = None
 
 -- ## Its head
@@ -132,6 +133,7 @@ is_structor_node _ = false
 unfoldable pub returning : List Entry → Node → Bool
 returning es (Node.Instance template arguments) = not (is_structor_node (entry_at es template).node)
 returning es (Node.Local e entity d) = (entry_at es entity).returns
+returning es (Node.OfDefault digits entity) = (entry_at es entity).returns
 returning es _ = false
 
 -- ## The elements of a list

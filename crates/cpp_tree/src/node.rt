@@ -151,6 +151,11 @@ pub enum Node {
         name: u32,
         tag: Span,
     },
+    /// The entity of a local name that stands in a default argument, and the digits that say in which.
+    OfDefault {
+        digits: Span,
+        entity: u32,
+    },
     Abbreviation(u8),
     Parameter {
         number: u32,

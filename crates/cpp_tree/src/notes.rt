@@ -307,7 +307,7 @@ impl Nodes {
         noted_over(node, held, of_type(held.words), held.first)
     }
 
-    /// A name in a function.
+    /// A name in a function, or the entity that it names.
     #[inline(always)]
     fn noted_local(&self, node: Node, entity: u32) -> Compact
         requires { entity < length self.now.nodes }
@@ -357,6 +357,7 @@ impl Nodes {
             Node::Local { entity, .. } => self.noted_local(node, entity),
             Node::Holder(name) => self.noted_type(node, name, Words::Plain),
             Node::Tagged { name, .. } => self.noted_type(node, name, Words::Plain),
+            Node::OfDefault { entity, .. } => self.noted_local(node, entity),
             Node::Parameter { argument, .. } => self.noted_parameter(symbol, node, argument),
             Node::Pointer(ty) => self.noted_type(node, ty, Words::Plain),
             Node::Lvalue(ty) => self.noted_type(node, ty, Words::Lvalue),

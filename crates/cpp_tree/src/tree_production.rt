@@ -220,3 +220,7 @@ pub const SIZED_FLOAT: u16 = 67;
 /// A name with a tag. Numbers: 1 where it is that of a constructor or a destructor. Texts: the tag. Parts: the name without it.
 /// Symbols of the wide grammar alone have it.
 pub const TAGGED: u16 = 68;
+
+/// The entity of a local name that stands in a default argument. Texts: the digits that say in which. Parts: the entity. Symbols of
+/// the wide grammar alone have it.
+pub const OF_DEFAULT: u16 = 69;
