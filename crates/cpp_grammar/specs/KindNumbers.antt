@@ -3,10 +3,10 @@ use Rattle.std.specs.Prelude.{ℕ}
 
 -- how many kinds there are, and how many productions
 abbrev pub KIND_COUNT : ℕ
-KIND_COUNT = 72
+KIND_COUNT = 74
 
 abbrev pub PRODUCTION_COUNT : ℕ
-PRODUCTION_COUNT = 120
+PRODUCTION_COUNT = 124
 
 abbrev pub SYMBOL : ℕ
 SYMBOL = 0
@@ -223,3 +223,9 @@ HELD_COMPONENT = 70
 
 abbrev pub FLOAT_END : ℕ
 FLOAT_END = 71
+
+abbrev pub COMPONENT_AFTER_C : ℕ
+COMPONENT_AFTER_C = 72
+
+abbrev pub OTHER_OPERATOR : ℕ
+OTHER_OPERATOR = 73

@@ -1,7 +1,7 @@
 -- What the trees of C++ symbols are like: their arguments, free parameters and packs.
 -- The scope of an encoding is the list of arguments that its own name ends in. It holds for the encoding's types alone.
 use Rattle.std.specs.Prelude.{ℕ, zero, suc, Bool, true, false, not, ◌||◌, Option, Some, None}
-use Rattle.cpp_grammar.specs.Term.{Term, alone, in_std, within, instance, local, holder, tagged, parameter, constructor, destructor, lambda, pointer, lvalue, rvalue, array, member_pointer, function_type, qualified, vector, complex, expansion, integer, pack, list, absent}
+use Rattle.cpp_grammar.specs.Term.{Term, alone, in_std, within, instance, local, holder, tagged, parameter, constructor, destructor, lambda, conversion, pointer, lvalue, rvalue, array, member_pointer, function_type, qualified, vector, complex, expansion, integer, pack, list, absent}
 
 -- the length of a list
 unfoldable pub count : Term → ℕ
@@ -50,6 +50,7 @@ is_open (local encoding entity discriminator) = is_open entity
 is_open (holder name) = is_open name
 is_open (tagged of_structor name tag) = is_open name
 is_open (lambda parameters number) = is_open parameters
+is_open (conversion type) = is_open type
 is_open (pointer type) = is_open type
 is_open (lvalue type) = is_open type
 is_open (rvalue type) = is_open type
@@ -85,6 +86,7 @@ pack_length scope (local encoding entity discriminator) = pack_length scope enti
 pack_length scope (holder name) = pack_length scope name
 pack_length scope (tagged of_structor name tag) = pack_length scope name
 pack_length scope (lambda parameters number) = pack_length scope parameters
+pack_length scope (conversion type) = pack_length scope type
 pack_length scope (pointer type) = pack_length scope type
 pack_length scope (lvalue type) = pack_length scope type
 pack_length scope (rvalue type) = pack_length scope type

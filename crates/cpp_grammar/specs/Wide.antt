@@ -32,7 +32,7 @@ wide_alternatives Kind.Nest = on "S" Production.NestWithS ∷ on "T" Production.
 wide_alternatives Kind.NestAfterS = on "t" Production.NestStd ∷ on_ranges "0-9A-Z" "_abdios" Production.NestTemplate ∷ []
 wide_alternatives Kind.NestRest = on "I" Production.NestArguments ∷ on_ranges "0-9c-el-p" "CDLMUagirs" Production.NestNext ∷ on "B" Production.NestTag ∷ []
 wide_alternatives Kind.NestTail = on "E" Production.NestEnd ∷ on_ranges "0-9c-el-p" "CDLMUagirs" Production.NestNext ∷ []
-wide_alternatives Kind.Component = on "C" Production.Constructor ∷ on "D" Production.Destructor ∷ on "L" Production.InternalName ∷ on "U" Production.LocalTypeName ∷ on_ranges "c-el-p" "agirs" Production.OperatorName ∷ on_ranges "0-9" "" Production.SourceName ∷ on "M" Production.Holder ∷ []
+wide_alternatives Kind.Component = on "C" Production.Constructor ∷ on "D" Production.Destructor ∷ on "L" Production.InternalName ∷ on "U" Production.LocalTypeName ∷ on_ranges "0-9" "" Production.SourceName ∷ on "c" Production.ComponentWithC ∷ on_ranges "l-p" "adegirs" Production.OtherOperatorName ∷ on "M" Production.Holder ∷ []
 wide_alternatives Kind.ConstructorDigit = on_ranges "1-3" "" Production.Mark ∷ on "45" Production.Mark ∷ []
 wide_alternatives Kind.DestructorDigit = on_ranges "0-2" "" Production.Mark ∷ on "45" Production.Mark ∷ []
 wide_alternatives Kind.Abbreviation = on "abdios" Production.Abbreviation ∷ on_ranges "0-9A-Z" "_" Production.Substitution ∷ []
@@ -83,8 +83,10 @@ wide_alternatives Kind.NestRestOrEnd = on "I" Production.NestInstance ∷ on_ran
 wide_alternatives Kind.ArgumentsAlone = on "I" Production.Arguments ∷ []
 wide_alternatives Kind.NestRestAlone = on "I" Production.NestArguments ∷ on_ranges "0-9c-el-p" "CDLMUagirs" Production.NestNext ∷ []
 wide_alternatives Kind.HolderMark = on "M" Production.Mark ∷ []
-wide_alternatives Kind.HeldComponent = on "C" Production.Constructor ∷ on "D" Production.Destructor ∷ on "L" Production.InternalName ∷ on "U" Production.LocalTypeName ∷ on_ranges "c-el-p" "agirs" Production.OperatorName ∷ on_ranges "0-9" "" Production.SourceName ∷ []
+wide_alternatives Kind.HeldComponent = on "C" Production.Constructor ∷ on "D" Production.Destructor ∷ on "L" Production.InternalName ∷ on "U" Production.LocalTypeName ∷ on_ranges "0-9" "" Production.SourceName ∷ on "c" Production.ComponentWithC ∷ on_ranges "l-p" "adegirs" Production.OtherOperatorName ∷ []
 wide_alternatives Kind.FloatEnd = on "_bx" Production.Mark ∷ []
+wide_alternatives Kind.ComponentAfterC = on "v" Production.Conversion ∷ on "lmo" Production.OperatorNameWithC ∷ []
+wide_alternatives Kind.OtherOperator = on "n" Production.OperatorN ∷ on "d" Production.OperatorD ∷ on "a" Production.OperatorA ∷ on "p" Production.OperatorP ∷ on "m" Production.OperatorM ∷ on "r" Production.OperatorR ∷ on "o" Production.OperatorO ∷ on "e" Production.OperatorE ∷ on "l" Production.OperatorL ∷ on "s" Production.OperatorS ∷ on "i" Production.OperatorI ∷ on "g" Production.OperatorG ∷ []
 
 -- the production that a kind takes at a byte
 unfoldable pub wide_choose : Kind → ℕ → Option Production

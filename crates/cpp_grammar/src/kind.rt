@@ -78,6 +78,8 @@ pub enum Kind {
     HolderMark,
     HeldComponent,
     FloatEnd,
+    ComponentAfterC,
+    OtherOperator,
 }
 
 /// The kind with a number.
@@ -158,6 +160,8 @@ pub fn kind_of(number: u16) -> Option<Kind>
         69 => Some(Kind::HolderMark),
         70 => Some(Kind::HeldComponent),
         71 => Some(Kind::FloatEnd),
+        72 => Some(Kind::ComponentAfterC),
+        73 => Some(Kind::OtherOperator),
         _ => None,
     }
 }

@@ -3,7 +3,7 @@
 use cpp_grammar::production::Production;
 
 /// The productions.
-pub(crate) const PRODUCTIONS: [Production; 120] = [
+pub(crate) const PRODUCTIONS: [Production; 124] = [
     Production::Mark,
     Production::InternalName,
     Production::LocalTypeName,
@@ -117,17 +117,21 @@ pub(crate) const PRODUCTIONS: [Production; 120] = [
     Production::OperatorG,
     Production::LiteralOperator,
     Production::NestInstance,
+    Production::Conversion,
+    Production::OperatorNameWithC,
     Production::SpecialName,
     Production::ConstructionVtable,
     Production::NestTemplate,
     Production::NestTag,
+    Production::ComponentWithC,
+    Production::OtherOperatorName,
     Production::Holder,
     Production::SizedFloat,
     Production::Tag,
 ];
 
 /// How many parts each has.
-pub(crate) const PART_COUNTS: [u8; 120] = [
+pub(crate) const PART_COUNTS: [u8; 124] = [
     0, // Mark
     2, // InternalName
     2, // LocalTypeName
@@ -241,17 +245,21 @@ pub(crate) const PART_COUNTS: [u8; 120] = [
     1, // OperatorG
     1, // LiteralOperator
     3, // NestInstance
+    1, // Conversion
+    2, // OperatorNameWithC
     1, // SpecialName
     4, // ConstructionVtable
     2, // NestTemplate
     2, // NestTag
+    1, // ComponentWithC
+    2, // OtherOperatorName
     2, // Holder
     2, // SizedFloat
     2, // Tag
 ];
 
 /// Whether parts without a row may stand between those of each.
-pub(crate) const SKIPS_PARTS: [bool; 120] = [
+pub(crate) const SKIPS_PARTS: [bool; 124] = [
     false, // Mark
     false, // InternalName
     false, // LocalTypeName
@@ -365,17 +373,21 @@ pub(crate) const SKIPS_PARTS: [bool; 120] = [
     false, // OperatorG
     false, // LiteralOperator
     true, // NestInstance
+    false, // Conversion
+    false, // OperatorNameWithC
     false, // SpecialName
     true, // ConstructionVtable
     false, // NestTemplate
     false, // NestTag
+    false, // ComponentWithC
+    false, // OtherOperatorName
     false, // Holder
     false, // SizedFloat
     false, // Tag
 ];
 
 /// Before how many of its parts nothing is done in each: before none, the first, or all, which are five at most.
-pub(crate) const QUIET_PARTS: [u8; 120] = [
+pub(crate) const QUIET_PARTS: [u8; 124] = [
     5, // Mark
     1, // InternalName
     1, // LocalTypeName
@@ -489,10 +501,14 @@ pub(crate) const QUIET_PARTS: [u8; 120] = [
     5, // OperatorG
     5, // LiteralOperator
     0, // NestInstance
+    0, // Conversion
+    1, // OperatorNameWithC
     5, // SpecialName
     5, // ConstructionVtable
     1, // NestTemplate
     1, // NestTag
+    5, // ComponentWithC
+    1, // OtherOperatorName
     1, // Holder
     5, // SizedFloat
     1, // Tag

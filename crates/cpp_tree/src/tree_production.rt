@@ -220,3 +220,12 @@ pub const SIZED_FLOAT: u16 = 67;
 /// A name with a tag. Numbers: 1 where it is that of a constructor or a destructor. Texts: the tag. Parts: the name without it.
 /// Symbols of the wide grammar alone have it.
 pub const TAGGED: u16 = 68;
+
+/// A conversion to a type, in no scope. Parts: the type. Symbols of the wide grammar alone have it, and the next two.
+pub const CONVERSION: u16 = 69;
+
+/// As `CONVERSION`, in std.
+pub const STD_CONVERSION: u16 = 70;
+
+/// As `CONVERSION`, in a prefix: its type is the second part.
+pub const NESTED_CONVERSION: u16 = 71;
