@@ -81,8 +81,10 @@ def build(extended=True, widened=False):
     kind("NestRest", *NEST_REST, wide(eats("B", "NestTag", NAME, "NestRest")))
     kind("NestTail", eats("E", "NestEnd"), chain("NestNext", "Component", "NestTail"))
     component = [eats("C", "Constructor", "ConstructorDigit", "MaybeArguments"), eats("D", "Destructor", "DestructorDigit", "MaybeArguments"),
-                 L_NAME, U_NAME, OP_NAME, S_NAME]
-    kind("Component", *component, wide(chain("Holder", "HolderMark", "HeldComponent")))
+                 L_NAME, U_NAME]
+    # of operators those that begin with c stand apart, since one of them is a type's
+    operators = [eats("c", "ComponentWithC", "ComponentAfterC"), chain("OtherOperatorName", "OtherOperator", "MaybeArguments")]
+    kind("Component", *component, narrow(OP_NAME), S_NAME, *map(wide, operators), wide(chain("Holder", "HolderMark", "HeldComponent")))
     kind("ConstructorDigit", MARK("123"), wide(MARK("45")))
     kind("DestructorDigit", MARK("012"), wide(MARK("45")))
     kind("Abbreviation", eats(ABBREVIATED, "Abbreviation"), chain("Substitution", SEQ36))
@@ -135,24 +137,28 @@ def build(extended=True, widened=False):
     kind("LiteralAfterD", eats(builtins(True, words.NULL), "NullLiteral", "MaybeZero"), eats(builtins(True, words.CHARACTER), "CharLiteral", "Integer"))
     kind("MaybeZero", MARK("0"), empty=True)
     kind("LiteralType", eats(builtins(False, words.INTEGER), "Builtin"), *NAMED)
-    kind("Operator", *[eats(a, "Operator" + a.upper(), "OperatorAfter" + a.upper()) for a, _ in OPS])
+    by_letter = {a: eats(a, "Operator" + a.upper(), "OperatorAfter" + a.upper()) for a, _ in OPS}
+    kind("Operator", *by_letter.values())
     for a, second in OPS:
         rules = [MARK(second)]
         if a == "l": rules.append(eats("i", "LiteralOperator", NAME))
         kind("OperatorAfter" + a.upper(), *rules)
     # the wide grammar's own kinds and productions stand last, so that the numbers of the others are those of the ABI's grammar
+    abi_kinds = list(K)
     kind("NestRestOrEnd", eats("I", "NestInstance", "ArgumentsFirst", "'E'", "NestTail"), chain("NestNext", "Component", "NestTail"))
     # behind a parameter and a substitution no tag may come: in the ABI's grammar these are as MaybeArguments and NestRest
     kind("ArgumentsAlone", ARGUMENTS, empty=True)
     kind("NestRestAlone", *NEST_REST)
     kind("HolderMark", MARK("M"))
-    kind("HeldComponent", *component)
+    kind("HeldComponent", *component, S_NAME, *operators)
     kind("FloatEnd", MARK("_bx"))
+    kind("ComponentAfterC", eats("v", "Conversion", "Type"), chain("OperatorNameWithC", "OperatorAfterC", "MaybeArguments"))
+    kind("OtherOperator", *[rule for a, rule in by_letter.items() if a != "c"])
     # a pack begins with an I where it is the first argument alone: behind a name that I would begin the arguments of the name
     kind("ArgumentsFirst", *arguments, wide(eats("I", "PackArgument", "PackList", "'E'", "ArgumentList")), empty=True)
     kind("PlainEntity", *plain_entity)
     kind("PlainTypeEntity", *plain_type_entity)
-    shared = {p for k, (e, rules) in K.items() for cls, p in rules if (k, cls, p) not in MARKED}
+    shared = {p for k in abi_kinds for cls, p in K[k][1] if (k, cls, p) not in MARKED}
     for p in [p for (k, cls, p), mark in MARKED.items() if mark == "wide" and p not in shared]: P[p] = P.pop(p)
 
 def is_kind(s): return s in KS

@@ -171,6 +171,7 @@ PLAIN_TEXTS = [
     ("MINUS", "-"),
     ("CONSTRUCTION", "construction vtable for "),
     ("IN", "-in-"),
+    ("CONVERSION", "operator "),
     ("FLOAT", "_Float"),
     ("WIDER", "x"),
     ("BRAIN_FLOAT", "std::bfloat16_t"),
@@ -180,11 +181,11 @@ PLAIN_TEXTS = [
 # before how many of its parts nothing is done in a production: before all where it isn't named here
 QUIET = {
     "Encoding": 0, "Special": 0, "Guard": 0, "NestArguments": 0, "NestInstance": 0, "NestNext": 0,
-    "Arguments": 0, "Lambda": 0, "Expansion": 0,
+    "Arguments": 0, "Lambda": 0, "Expansion": 0, "Conversion": 0,
     "LocalName": 1, "LocalType": 1, "InternalName": 1, "SourceName": 1, "LocalTypeName": 1, "OperatorName": 1, "Constructor": 1,
     "Destructor": 1, "StdName": 1, "AbbreviatedName": 1, "NestStd": 1, "NestAbbreviated": 1, "NestTemplate": 1, "NestParameter": 1,
     "NestInternal": 1, "NestSource": 1, "NestLocalType": 1, "PackArgument": 1, "Parameter": 1, "TypeWithS": 1, "LvalueItem": 1,
-    "RvalueItem": 1, "IntegerLiteral": 1, "Holder": 1, "NestTag": 1, "Tag": 1,
+    "RvalueItem": 1, "IntegerLiteral": 1, "Holder": 1, "NestTag": 1, "Tag": 1, "OtherOperatorName": 1, "OperatorNameWithC": 1,
 }
 
 # the productions in which parts without a row may stand between those with one
@@ -215,13 +216,16 @@ MADE_BEFORE = {
     "Holder": [0, 1],
     "NestTag": [0, 1],
     "Tag": [0, 1],
+    "OtherOperatorName": [0, 1],
+    "OperatorNameWithC": [0, 1],
 }
 MADE_AT_END = {p: 1 for p in """InternalName LocalTypeName SourceName OperatorName Symbol Guard Encoding SpecialType NonVirtualThunk VirtualThunk
     CovariantThunk LocalName StdName AbbreviatedName Constructor Destructor Abbreviation StringLiteral Lambda RestrictType
     VolatileType ConstType ReferenceType Expansion BuiltinWithD Vector NoexceptFunction Pointer MemberPointer Parameter
     TypeWithS LocalType Builtin Vendor Array Function Complex StdType RestItem LvalueItem RvalueItem Items PackArgument
     LiteralArgument AddressArgument TypeArgument LiteralElement AddressElement TypeElement Address EncodingLiteral
-    BoolLiteral IntegerLiteral NullLiteral SpecialName ConstructionVtable SizedFloat Tag DefaultEntity DefaultTypeEntity""".split()}
+    BoolLiteral IntegerLiteral NullLiteral SpecialName ConstructionVtable SizedFloat Tag DefaultEntity DefaultTypeEntity Conversion OtherOperatorName
+    OperatorNameWithC""".split()}
 MADE_AT_END["CharLiteral"] = 2
 
 # the productions that may leave a tree that is no candidate yet
@@ -263,6 +267,7 @@ TREES = [
     ("lambda", ("parameters", TREE), ("number", NUMBER)),
     ("unnamed", ("number", NUMBER)),
     ("string_literal",),
+    ("conversion", ("t", TREE)),
     ("builtin", ("code", BYTES)),
     ("sized_float", ("digits", BYTES), ("end", NUMBER)),
     ("vendor", ("bytes", BYTES)),

@@ -3,7 +3,7 @@ use Rattle.std.proofs.Common.{◌≡◌, refl, subst, ℕ, List, [], ◌∷◌, 
 use Rattle.std.proofs.lemmas.Bool.{true≢false}
 use Rattle.sym_link.specs.Reading.{Next}
 use Rattle.cpp_grammar.specs.declared.production.Production.{Production}
-use Rattle.cpp_grammar.specs.Term.{Term, in_std, instance, holder, parameter, lvalue, rvalue, pack, source, constructor, destructor}
+use Rattle.cpp_grammar.specs.Term.{Term, in_std, instance, holder, parameter, lvalue, rvalue, pack, source, operator, constructor, destructor}
 use Rattle.cpp_grammar.specs.Scope.{is_open}
 use Rattle.cpp_grammar.specs.Values.{State, Around, prefix_tree, Value, tree, tree_of, piece_of, is_listed, letter_of, text_of}
 use Rattle.cpp_grammar.specs.References.{appended, with_type, with_prefix, parameter_named}
@@ -100,6 +100,9 @@ between_goes Production.InternalName around place (v ∷ []) state n at stays pr
 between_goes Production.SourceName around place (v ∷ []) state n at stays pre all e = piece_goes around at state (source false (text_of v)) n pre (good_leaf _ false (text_of v)) e
 between_goes Production.LocalTypeName around place (v ∷ []) state n at stays pre all e = piece_goes around at state (piece_of v) n pre (good_piece _ v all.0) e
 between_goes Production.OperatorName around place (v ∷ []) state n at stays pre all e = piece_goes around at state (piece_of v) n pre (good_piece _ v all.0) e
+between_goes Production.OtherOperatorName around place (v ∷ []) state n at stays pre all e = piece_goes around at state (piece_of v) n pre (good_piece _ v all.0) e
+between_goes Production.OperatorNameWithC around place (v ∷ []) state n at stays pre all e = piece_goes around at state (operator 99 (letter_of v)) n pre (record { closed = λ h. refl; scopes = tt }) e
+between_goes Production.Conversion around place [] state n at stays pre all e = goes around at state [] (inside around) state n tt (grows_same around at state state refl) (fits_inside around) e
 between_goes Production.Constructor around place (v ∷ []) state n at stays pre all e = piece_goes around at state (constructor (letter_of v)) n pre (record { closed = λ h. refl; scopes = tt }) e
 between_goes Production.Destructor around place (v ∷ []) state n at stays pre all e = piece_goes around at state (destructor (letter_of v)) n pre (record { closed = λ h. refl; scopes = tt }) e
 between_goes Production.StdName around place (v ∷ []) state n at stays pre all e =

@@ -2,7 +2,7 @@
 use Rattle.std.proofs.Common.{◌≡◌, refl, ℕ, zero, suc, List, [], ◌∷◌, Bool, true, false, ◌||◌, ◌&&◌, cond, nat_eq}
 use Rattle.std.proofs.lemmas.Bool.{true≢false}
 use Rattle.cpp_grammar.specs.declared.production.Production.{Production}
-use Rattle.cpp_grammar.specs.Term.{RefQualifier, lvalue_only, rvalue_only, Term, symbol, function, within, instance, local, of_default, string_literal, lvalue, rvalue, member_pointer, function_type, nil, list, absent}
+use Rattle.cpp_grammar.specs.Term.{RefQualifier, lvalue_only, rvalue_only, Term, symbol, function, within, instance, local, of_default, string_literal, conversion, lvalue, rvalue, member_pointer, function_type, nil, list, absent}
 use Rattle.cpp_grammar.specs.Scope.{arguments_of, is_open, has_return_type}
 use Rattle.cpp_grammar.specs.Closed.{HasNoneFree, ScopesAreClosed}
 use Rattle.cpp_grammar.specs.Values.{Around, Prefix, outermost, behind, prefix_tree, Value, nothing_there, letter, tree, piece, named, signature, tree_of, text_of, piece_of, qualifiers_of, ref_of, is_there, part}
@@ -219,6 +219,11 @@ meaning_good s Production.InternalName byte around vs pre all name = good_name s
 meaning_good s Production.SourceName byte around vs pre all name = good_name s vs all
 meaning_good s Production.LocalTypeName byte around vs pre all name = good_name s vs all
 meaning_good s Production.OperatorName byte around vs pre all name = good_name s vs all
+meaning_good s Production.OtherOperatorName byte around vs pre all name = good_name s vs all
+meaning_good s Production.OperatorNameWithC byte around vs pre all name = good_name s vs all
+meaning_good s Production.ComponentWithC byte around vs pre all name = good_held s vs 0 all
+meaning_good s Production.Conversion byte around vs pre all name =
+    let g = good_part s vs 0 all in good_extended s around.prefix (conversion (tree_of (part vs 0))) pre (record { closed = g.closed; scopes = g.scopes })
 meaning_good s Production.Constructor byte around vs pre all name = good_name s vs all
 meaning_good s Production.Destructor byte around vs pre all name = good_name s vs all
 meaning_good s Production.StdName byte around vs pre all name = good_name s vs all

@@ -1,9 +1,9 @@
 -- What a widened tree stands for is what the tree stands for.
-use Rattle.std.proofs.Common.{◌≡◌, ℕ, ◌+◌, ◌-◌, ◌<◌, List, [], ◌∷◌, ◌++◌, length, Bool, true, false, nat_eq, Result, Ok, Err, inl, inr, refl, ap, sym, ◌∙◌, subst, add-zero}
+use Rattle.std.proofs.Common.{◌≡◌, ℕ, ◌+◌, ◌-◌, ◌<◌, List, [], ◌∷◌, ◌++◌, length, Bool, true, false, nat_eq, ◌&&◌, Result, Ok, Err, inl, inr, refl, ap, sym, ◌∙◌, subst, add-zero, append-nil, arith}
 use Rattle.sym_core.specs.declared.refusal.Refusal.{Refusal}
 use Rattle.sym_shape.specs.declared.rule.Rule.{Rule}
 use Rattle.sym_shape.specs.declared.rule.Sym.{Sym}
-use Rattle.sym_shape.specs.declared.rule.Sym.TheVariants.{Kind as OfKind}
+use Rattle.sym_shape.specs.declared.rule.Sym.TheVariants.{Kind as OfKind, Name, Number, Byte}
 use Rattle.sym_shape.specs.Table.{symbols_of}
 use Rattle.sym_shape.specs.Law.{IsSymbol, AreSymbols}
 use Rattle.sym_shape.specs.Tree.{Tree, Forest, branch, empty, token, fixed, nothing, grown, spell, TakesRule, IsTree, AreTrees}
@@ -11,18 +11,18 @@ use Rattle.sym_link.specs.Reading.{Found, Open, ◌>>=◌}
 use Rattle.sym_link.specs.Unfold.{found, alone, standing, unfold_tree, unfold_forest}
 use Rattle.sym_link.proofs.Steps.{bind_same}
 use Rattle.cpp_grammar.specs.declared.production.Production.{Production}
-use Rattle.cpp_grammar.specs.KindNumbers.{SYMBOL, NEST_REST_ALONE}
-use Rattle.cpp_grammar.specs.Grammar.{productions, number_of, number_of_kind, parts_of}
+use Rattle.cpp_grammar.specs.KindNumbers.{SYMBOL, NEST_REST_ALONE, COMPONENT, OPERATOR}
+use Rattle.cpp_grammar.specs.Grammar.{productions, number_of, number_of_kind, parts_of, is_chain}
 use Rattle.cpp_grammar.specs.Table.{rule_of, padded, wide, either}
-use Rattle.cpp_grammar.specs.Term.{instance}
-use Rattle.cpp_grammar.specs.Values.{State, Around, prefix_tree, prefix_listed, Value, nothing_there, text, tree, tree_of, part}
+use Rattle.cpp_grammar.specs.Term.{instance, operator}
+use Rattle.cpp_grammar.specs.Values.{State, Around, prefix_tree, prefix_listed, Value, nothing_there, text, tree, tree_of, piece_of, letter_of, part}
 use Rattle.cpp_grammar.specs.References.{appended, with_prefix}
-use Rattle.cpp_grammar.specs.Between.{inside, after, no_items, named_so_far, listed_so_far, between}
+use Rattle.cpp_grammar.specs.Between.{inside, after, no_items, extended, piece_so_far, named_so_far, listed_so_far, between}
 use Rattle.cpp_grammar.specs.Meaning.{meaning}
 use Rattle.cpp_grammar.specs.Unfolding as unfolding_
 use Rattle.cpp_grammar.specs.Unfolding.{last_token, number_tested, opening, close, production_at, byte_of, cpp, first_around, first_state, first_tree, unfold_cpp}
-use Rattle.cpp_grammar.specs.Widened.{rest_or_end, with_rest_or_end, widened_branch, widened, widened_all}
-use Rattle.cpp_grammar.proofs.Widening.{arguments_rule, next_rule, rest_rule, chosen_rule, same_branch, spell_widened, widened_trees, either_symbols, either_start}
+use Rattle.cpp_grammar.specs.Widened.{rest_or_end, with_rest_or_end, letters_component, operator_component, widened_branch, widened_as, widened_all, widened}
+use Rattle.cpp_grammar.proofs.Widening.{is_operator_component, arguments_rule, next_rule, rest_rule, takes_its, as_wide, behind_s, of_operator, chosen_rule, with_c, without_c, operator_rule, without_c_letters, same_branch, spell_as, widened_trees, either_symbols, either_start}
 
 -- ## A tree has one value
 
@@ -62,6 +62,12 @@ deep_same : (m : Result Read Refusal) → One m → (a b c d f g : Read → Resu
     → ((((m >>= a) >>= b) >>= c) >>= d) ≡ ((m >>= f) >>= g)
 deep_same _ (refused e) a b c d f g same = refl
 deep_same _ (one v s) a b c d f g same = same v s
+
+deep_alike : (m : Result Read Refusal) → One m → (a b c d f g h k : Read → Result Read Refusal)
+    → ((v : Value) (s : State) → (((a (found (v ∷ []) s) >>= b) >>= c) >>= d) ≡ (((f (found (v ∷ []) s) >>= g) >>= h) >>= k))
+    → ((((m >>= a) >>= b) >>= c) >>= d) ≡ ((((m >>= f) >>= g) >>= h) >>= k)
+deep_alike _ (refused e) a b c d f g h k same = refl
+deep_alike _ (one v s) a b c d f g h k same = same v s
 
 -- ## Arguments behind which a name may end
 
@@ -147,57 +153,174 @@ abbreviated_same a r is around place taken state =
     new_end old_end
     (λ v s. ap (λ m. (m >>= λ part. Ok (found ((tree (tree_of v) true ∷ []) ++ part.value) part.state)) >>= new_end) (rest_same r is (after (tree_of v) true around) at s))
 
-narrow_same : (parts : Forest) → AreTrees wide (symbols_of (rule_of Production.NestAbbreviated)) parts → (around : Around) (place : ℕ) (taken : List ℕ) (state : State) →
-    unfold_tree cpp around place (widened_branch (rule_of Production.NestAbbreviated) taken parts) state ≡ unfold_tree cpp around place (branch (rule_of Production.NestAbbreviated) taken parts) state
+narrow_same : (k : ℕ) (parts : Forest) → AreTrees wide (symbols_of (rule_of Production.NestAbbreviated)) parts → (around : Around) (place : ℕ) (taken : List ℕ) (state : State) →
+    unfold_tree cpp around place (widened_branch k (rule_of Production.NestAbbreviated) taken parts) state ≡ unfold_tree cpp around place (branch (rule_of Production.NestAbbreviated) taken parts) state
 unfolding widened_branch with_rest_or_end rule_of parts_of padded number_of_kind number_of
-narrow_same (grown a (grown r nothing)) trees around place taken state = abbreviated_same a r trees.1.0 around place taken state
-narrow_same nothing trees around place taken state = absurd trees
-narrow_same (grown a nothing) trees around place taken state = absurd trees.1
-narrow_same (grown a (grown r (grown u f))) trees around place taken state = absurd trees.1.1
+narrow_same k (grown a (grown r nothing)) trees around place taken state = abbreviated_same a r trees.1.0 around place taken state
+narrow_same k nothing trees around place taken state = absurd trees
+narrow_same k (grown a nothing) trees around place taken state = absurd trees.1
+narrow_same k (grown a (grown r (grown u f))) trees around place taken state = absurd trees.1.1
+
+-- ## An operator within a nested name
+
+-- whichever letters it has
+other_same : (o a : Tree) (around : Around) (place : ℕ) (taken : List ℕ) (state : State) →
+    unfold_tree cpp around place (branch (rule_of Production.OtherOperatorName) taken (grown o (grown a nothing))) state
+    ≡ unfold_tree cpp around place (branch (rule_of Production.OperatorName) taken (grown o (grown a nothing))) state
+unfolding cpp opening production_at productions rule_of number_of between piece_so_far named_so_far after close unfolding_.behind meaning part
+other_same o a around place taken state =
+    let new = standing (rule_of Production.OtherOperatorName) taken place around state in
+    let old = standing (rule_of Production.OperatorName) taken place around state in
+    let at = place + length taken + length (spell o) in
+    let new_end : Read → Result Read Refusal = λ inner. close Production.OtherOperatorName (byte_of taken) around place state inner.value inner.state >>= alone in
+    let old_end : Read → Result Read Refusal = λ inner. close Production.OperatorName (byte_of taken) around place state inner.value inner.state >>= alone in
+    first_same (unfold_tree cpp around (place + length taken) o state) (tree_one o around (place + length taken) state)
+    (λ part. unfold_forest cpp new ([] ++ part.value) at (grown a nothing) part.state)
+    (λ part. unfold_forest cpp old ([] ++ part.value) at (grown a nothing) part.state)
+    new_end old_end
+    (λ v s.
+    let name = extended around.prefix (piece_of v) in
+    first_same (unfold_tree cpp (after name false around) at a s) (tree_one a (after name false around) at s)
+    (λ part. unfold_forest cpp new ((tree name false ∷ []) ++ part.value) (at + length (spell a)) nothing part.state)
+    (λ part. unfold_forest cpp old ((tree name false ∷ []) ++ part.value) (at + length (spell a)) nothing part.state)
+    new_end old_end (λ w last. refl))
+
+-- one that begins with a c
+with_c_same : (second a : Tree) (around : Around) (place : ℕ) (state : State) →
+    unfold_tree cpp around place (letters_component (rule_of Production.OperatorC) [] (99 ∷ []) second a) state
+    ≡ unfold_tree cpp around place (branch (rule_of Production.OperatorName) [] (grown (branch (rule_of Production.OperatorC) (99 ∷ []) (grown second nothing)) (grown a nothing))) state
+unfolding letters_component cpp opening production_at productions rule_of number_of between piece_so_far named_so_far after close unfolding_.behind meaning part piece_of byte_of
+with_c_same second a around place state =
+    let name_ : Tree = branch (rule_of Production.OperatorNameWithC) [] (grown second (grown a nothing)) in
+    let letters : Tree = branch (rule_of Production.OperatorC) (99 ∷ []) (grown second nothing) in
+    let new = standing (rule_of Production.ComponentWithC) (99 ∷ []) place around state in
+    let inner_new = standing (rule_of Production.OperatorNameWithC) [] (place + 1) around state in
+    let old = standing (rule_of Production.OperatorName) [] place around state in
+    let inner_old = standing (rule_of Production.OperatorC) (99 ∷ []) (place + 0) around state in
+    let new_end : Read → Result Read Refusal = λ inner. close Production.ComponentWithC (byte_of (99 ∷ [])) around place state inner.value inner.state >>= alone in
+    let name_end : Read → Result Read Refusal = λ inner. close Production.OperatorNameWithC (byte_of []) around (place + 1) state inner.value inner.state >>= alone in
+    let old_end : Read → Result Read Refusal = λ inner. close Production.OperatorName (byte_of []) around place state inner.value inner.state >>= alone in
+    let letter_end : Read → Result Read Refusal = λ inner. close Production.OperatorC (byte_of (99 ∷ [])) around (place + 0) state inner.value inner.state >>= alone in
+    let onward : Read → Result Read Refusal = λ part. unfold_forest cpp new ([] ++ part.value) (place + 1 + length (spell name_)) nothing part.state in
+    let two : ℕ → Result Read Refusal = λ n. unfold_tree cpp around n second state in
+    let named : ℕ → Read → Result Read Refusal = λ m part. unfold_forest cpp inner_new ([] ++ part.value) m (grown a nothing) part.state in
+    let lettered : ℕ → Read → Result Read Refusal = λ m part. unfold_forest cpp inner_old ([] ++ part.value) m nothing part.state in
+    let behind : ℕ → Read → Result Read Refusal = λ m part. unfold_forest cpp old ([] ++ part.value) m (grown a nothing) part.state in
+    let core : (n m l : ℕ) → ((((two n >>= named m) >>= name_end) >>= onward) >>= new_end) ≡ ((((two n >>= lettered l) >>= letter_end) >>= behind m) >>= old_end) = λ n m l.
+    deep_alike (two n) (tree_one second around n state) (named m) name_end onward new_end (lettered l) letter_end (behind m) old_end
+    (λ v s.
+    let name = extended around.prefix (operator 99 (letter_of v)) in
+    deep_same (unfold_tree cpp (after name false around) m a s) (tree_one a (after name false around) m s)
+    (λ part. unfold_forest cpp inner_new ((tree name false ∷ []) ++ part.value) (m + length (spell a)) nothing part.state) name_end onward new_end
+    (λ part. unfold_forest cpp old ((tree name false ∷ []) ++ part.value) (m + length (spell a)) nothing part.state) old_end
+    (λ w last. refl)) in
+    let first_place : place + 1 + 0 ≡ place + 0 + 1 = omega arith in
+    let next_place : place + 1 + 0 + length (spell second) ≡ place + 0 + length (spell letters) = omega (arith, ap length (append-nil (spell second))) in
+    subst (λ n. ((((two (place + 1 + 0) >>= named (place + 1 + 0 + length (spell second))) >>= name_end) >>= onward) >>= new_end)
+    ≡ ((((two n >>= lettered (n + length (spell second))) >>= letter_end) >>= behind (place + 0 + length (spell letters))) >>= old_end)) first_place
+    (subst (λ m. ((((two (place + 1 + 0) >>= named (place + 1 + 0 + length (spell second))) >>= name_end) >>= onward) >>= new_end)
+    ≡ ((((two (place + 1 + 0) >>= lettered (place + 1 + 0 + length (spell second))) >>= letter_end) >>= behind m) >>= old_end)) next_place
+    (core (place + 1 + 0) (place + 1 + 0 + length (spell second)) (place + 1 + 0 + length (spell second))))
+
+letters_same : (rule : Rule) (first : List ℕ) (second a : Tree) → IsTree wide (OfKind OPERATOR) (branch rule first (grown second nothing)) → (around : Around) (place : ℕ) (state : State) →
+    unfold_tree cpp around place (letters_component rule [] first second a) state
+    ≡ unfold_tree cpp around place (branch (rule_of Production.OperatorName) [] (grown (branch rule first (grown second nothing)) (grown a nothing))) state
+letters_same rule first second a is around place state = elim (operator_rule rule first is.0) [
+  | with_c same own ↦ rw (same, own) (with_c_same second a around place state)
+  | without_c apart takes ↦ ap (λ t. unfold_tree cpp around place t state) (without_c_letters rule [] first second a apart)
+      ∙ other_same (branch rule first (grown second nothing)) a around place [] state
+]
+
+operator_same : (parts : Forest) → AreTrees wide (symbols_of (rule_of Production.OperatorName)) parts → (around : Around) (place : ℕ) (state : State) →
+    unfold_tree cpp around place (operator_component [] parts) state ≡ unfold_tree cpp around place (branch (rule_of Production.OperatorName) [] parts) state
+unfolding operator_component rule_of parts_of padded number_of_kind
+operator_same (grown (branch rule first (grown second nothing)) (grown a nothing)) trees around place state = letters_same rule first second a trees.0 around place state
+operator_same (grown (branch rule first nothing) (grown a nothing)) trees around place state = other_same (branch rule first nothing) a around place [] state
+operator_same (grown (branch rule first (grown second (grown u f))) (grown a nothing)) trees around place state = other_same (branch rule first (grown second (grown u f))) a around place [] state
+operator_same (grown empty (grown a nothing)) trees around place state = other_same empty a around place [] state
+operator_same (grown (token t) f) trees around place state = absurd trees.0
+operator_same (grown (fixed byte) f) trees around place state = absurd trees.0
+operator_same nothing trees around place state = absurd trees
+operator_same (grown t nothing) trees around place state = absurd trees.1
+operator_same (grown t (grown a (grown u f))) trees around place state = absurd trees.1.1
+
+operator_branch_same : (parts : Forest) → AreTrees wide (symbols_of (rule_of Production.OperatorName)) parts → (around : Around) (place : ℕ) (state : State) →
+    unfold_tree cpp around place (widened_branch COMPONENT (rule_of Production.OperatorName) [] parts) state ≡ unfold_tree cpp around place (branch (rule_of Production.OperatorName) [] parts) state
+unfolding widened_branch rule_of number_of operator_component
+operator_branch_same parts trees around place state = operator_same parts trees around place state
 
 branch_same : (k : ℕ) (rule : Rule) (taken : List ℕ) (parts : Forest) → k < either.kinds → TakesRule either k rule taken → AreTrees wide (symbols_of rule) parts → (around : Around) (place : ℕ) (state : State)
-    → unfold_tree cpp around place (widened_branch rule taken parts) state ≡ unfold_tree cpp around place (branch rule taken parts) state
+    → unfold_tree cpp around place (widened_branch k rule taken parts) state ≡ unfold_tree cpp around place (branch rule taken parts) state
+unfolding rule_of is_chain
 branch_same k rule taken parts lt takes trees around place state = elim (chosen_rule k takes.byte rule lt takes.is_byte takes.found).here [
-  | inl same ↦ ap (λ t. unfold_tree cpp around place t state) (same_branch rule taken parts same.0)
-  | inr narrow ↦ rw narrow.0 (narrow_same parts (subst (λ r. AreTrees wide (symbols_of r) parts) narrow.0 trees) around place taken state)
+  | as_wide other apart same ↦ ap (λ t. unfold_tree cpp around place t state) (same_branch k rule taken parts other apart)
+  | behind_s is at ↦ rw is (narrow_same k parts (subst (λ r. AreTrees wide (symbols_of r) parts) is trees) around place taken state)
+  | of_operator is at ↦ rw (is, at, takes_its rule (rule_of Production.OperatorName) taken takes.byte false is refl takes.takes)
+      (operator_branch_same parts (subst (λ r. AreTrees wide (symbols_of r) parts) is trees) around place state)
 ]
 
 -- ## Trees
 
-last_behind : (rule : Rule) (taken : List ℕ) (parts rest : Forest) (digits : List ℕ) → last_token (grown (widened_branch rule taken parts) rest) digits ≡ last_token rest digits
-unfolding widened_branch last_token
-last_behind rule taken parts rest digits = go (nat_eq rule.number (number_of Production.NestAbbreviated))
+letters_last : (rule : Rule) (taken first : List ℕ) (second arguments : Tree) (rest : Forest) (digits : List ℕ)
+    → last_token (grown (letters_component rule taken first second arguments) rest) digits ≡ last_token rest digits
+unfolding letters_component last_token
+letters_last rule taken first second arguments rest digits = go (nat_eq rule.number (number_of Production.OperatorC))
   where
-    go : (b : Bool) → last_token (grown (elim b [ true ↦ branch (rule_of Production.NestTemplate) taken (with_rest_or_end parts) | false ↦ branch rule taken parts ]) rest) digits ≡ last_token rest digits
+    go : (b : Bool) → last_token (grown (elim b as (λ _. Tree) [
+      | true ↦ branch (rule_of Production.ComponentWithC) (taken ++ first)
+          (grown (branch (rule_of Production.OperatorNameWithC) [] (grown second (grown arguments nothing))) nothing)
+      | false ↦ branch (rule_of Production.OtherOperatorName) taken (grown (branch rule first (grown second nothing)) (grown arguments nothing))
+    ]) rest) digits ≡ last_token rest digits
     go true = refl
     go false = refl
 
-last_same : (f : Forest) (digits : List ℕ) → last_token (widened_all f) digits ≡ last_token f digits
-unfolding widened widened_all last_token
-last_same nothing digits = refl
-last_same (grown (branch rule taken parts) f) digits = last_behind rule taken (widened_all parts) (widened_all f) digits ∙ last_same f digits
-last_same (grown empty f) digits = last_same f digits
-last_same (grown (token t) f) digits = last_same f t.own
-last_same (grown (fixed byte) f) digits = last_same f digits
+operator_last : (taken : List ℕ) (parts rest : Forest) (digits : List ℕ) → last_token (grown (operator_component taken parts) rest) digits ≡ last_token rest digits
+unfolding operator_component last_token
+operator_last taken (grown (branch rule first (grown second nothing)) (grown arguments nothing)) rest digits = letters_last rule taken first second arguments rest digits
+operator_last taken _ rest digits = refl
 
-opening_same : (p : Production) (f : Forest) (place : ℕ) (state : State) → opening p (widened_all f) place state ≡ opening p f place state
+last_behind : (k : ℕ) (rule : Rule) (taken : List ℕ) (parts rest : Forest) (digits : List ℕ) → last_token (grown (widened_branch k rule taken parts) rest) digits ≡ last_token rest digits
+unfolding widened_branch last_token
+last_behind k rule taken parts rest digits = go (nat_eq rule.number (number_of Production.NestAbbreviated)) (is_operator_component rule.number k)
+  where
+    go : (b c : Bool) → last_token (grown (elim b as (λ _. Tree) [
+      | true ↦ branch (rule_of Production.NestTemplate) taken (with_rest_or_end parts)
+      | false ↦ elim c as (λ _. Tree) [ true ↦ operator_component taken parts | false ↦ branch rule taken parts ]
+    ]) rest) digits ≡ last_token rest digits
+    go true c = refl
+    go false true = operator_last taken parts rest digits
+    go false false = refl
+
+last_same : (f : Forest) (xs : List Sym) (digits : List ℕ) → last_token (widened_all f xs) digits ≡ last_token f digits
+unfolding widened_as widened_all last_token
+last_same nothing xs digits = refl
+last_same (grown t f) [] digits = refl
+last_same (grown (branch rule taken parts) f) (OfKind k ∷ xs) digits = last_behind k rule taken (widened_all parts (symbols_of rule)) (widened_all f xs) digits ∙ last_same f xs digits
+last_same (grown (branch rule taken parts) f) (Name ∷ xs) digits = last_same f xs digits
+last_same (grown (branch rule taken parts) f) (Number kind ∷ xs) digits = last_same f xs digits
+last_same (grown (branch rule taken parts) f) (Byte b ∷ xs) digits = last_same f xs digits
+last_same (grown empty f) (x ∷ xs) digits = last_same f xs digits
+last_same (grown (token t) f) (x ∷ xs) digits = last_same f xs t.own
+last_same (grown (fixed byte) f) (x ∷ xs) digits = last_same f xs digits
+
+opening_same : (p : Production) (f : Forest) (xs : List Sym) (place : ℕ) (state : State) → opening p (widened_all f xs) place state ≡ opening p f place state
 unfolding opening
-opening_same Production.Lambda f place state = ap (λ digits. number_tested (place - 1) digits state) (last_same f [])
-opening_same Production.Unnamed f place state = ap (λ digits. number_tested (place - 1) digits state) (last_same f [])
-opening_same _ f place state = refl
+opening_same Production.Lambda f xs place state = ap (λ digits. number_tested (place - 1) digits state) (last_same f xs [])
+opening_same Production.Unnamed f xs place state = ap (λ digits. number_tested (place - 1) digits state) (last_same f xs [])
+opening_same _ f xs place state = refl
 
 mutual
-  unfolding cpp widened widened_all
+  unfolding cpp widened_as widened_all
 
-  pub unfold_widened : (x : Sym) (t : Tree) → IsSymbol either x → IsTree either x t → (around : Around) (place : ℕ) (state : State) → unfold_tree cpp around place (widened t) state ≡ unfold_tree cpp around place t state
+  pub unfold_widened : (x : Sym) (t : Tree) → IsSymbol either x → IsTree either x t → (around : Around) (place : ℕ) (state : State) → unfold_tree cpp around place (widened_as t x) state ≡ unfold_tree cpp around place t state
   unfold_widened (OfKind k) (branch rule taken parts) known is around place state =
       let symbols = either_symbols k is.0.byte rule known is.0.is_byte is.0.found in
       let whole = standing rule taken place around state in
       let p = production_at rule.number in
       let end : Read → Result Read Refusal = λ inner. close p (byte_of taken) around place state inner.value inner.state >>= alone in
-      branch_same k rule taken (widened_all parts) known is.0 (widened_trees (symbols_of rule) parts symbols is.1) around place state
-      ∙ ap (λ m. m >>= λ begun. unfold_forest cpp whole [] (place + length taken) (widened_all parts) begun >>= end) (opening_same p parts place state)
-      ∙ bind_same (opening p parts place state) (λ begun. unfold_forest cpp whole [] (place + length taken) (widened_all parts) begun >>= end)
+      branch_same k rule taken (widened_all parts (symbols_of rule)) known is.0 (widened_trees (symbols_of rule) parts symbols is.1) around place state
+      ∙ ap (λ m. m >>= λ begun. unfold_forest cpp whole [] (place + length taken) (widened_all parts (symbols_of rule)) begun >>= end) (opening_same p parts (symbols_of rule) place state)
+      ∙ bind_same (opening p parts place state) (λ begun. unfold_forest cpp whole [] (place + length taken) (widened_all parts (symbols_of rule)) begun >>= end)
       (λ begun. unfold_forest cpp whole [] (place + length taken) parts begun >>= end)
       (λ begun. ap (λ m. m >>= end) (forest_widened (symbols_of rule) parts symbols is.1 whole [] (place + length taken) begun))
   unfold_widened _ empty known is around place state = refl
@@ -206,17 +329,17 @@ mutual
   unfold_widened _ _ known is around place state = absurd is
 
   forest_widened : (xs : List Sym) (f : Forest) → AreSymbols either xs → AreTrees either xs f → (rule : Open State Around) (vs : List Value) (place : ℕ) (state : State)
-      → unfold_forest cpp rule vs place (widened_all f) state ≡ unfold_forest cpp rule vs place f state
+      → unfold_forest cpp rule vs place (widened_all f xs) state ≡ unfold_forest cpp rule vs place f state
   forest_widened [] nothing known is rule vs place state = refl
   forest_widened (x ∷ xs) (grown t f) known is rule vs place state =
       bind_same (between (production_at rule.rule.number) rule.context rule.place vs state)
-      (λ next. unfold_tree cpp next.context place (widened t) next.state >>= λ part. unfold_forest cpp rule (next.values ++ part.value) (place + length (spell (widened t))) (widened_all f) part.state)
+      (λ next. unfold_tree cpp next.context place (widened_as t x) next.state >>= λ part. unfold_forest cpp rule (next.values ++ part.value) (place + length (spell (widened_as t x))) (widened_all f xs) part.state)
       (λ next. unfold_tree cpp next.context place t next.state >>= λ part. unfold_forest cpp rule (next.values ++ part.value) (place + length (spell t)) f part.state)
       (λ next.
-      ap (λ m. m >>= λ part. unfold_forest cpp rule (next.values ++ part.value) (place + length (spell (widened t))) (widened_all f) part.state) (unfold_widened x t known.0 is.0 next.context place next.state)
-      ∙ bind_same (unfold_tree cpp next.context place t next.state) (λ part. unfold_forest cpp rule (next.values ++ part.value) (place + length (spell (widened t))) (widened_all f) part.state)
+      ap (λ m. m >>= λ part. unfold_forest cpp rule (next.values ++ part.value) (place + length (spell (widened_as t x))) (widened_all f xs) part.state) (unfold_widened x t known.0 is.0 next.context place next.state)
+      ∙ bind_same (unfold_tree cpp next.context place t next.state) (λ part. unfold_forest cpp rule (next.values ++ part.value) (place + length (spell (widened_as t x))) (widened_all f xs) part.state)
       (λ part. unfold_forest cpp rule (next.values ++ part.value) (place + length (spell t)) f part.state)
-      (λ part. ap (λ w. unfold_forest cpp rule (next.values ++ part.value) (place + length w) (widened_all f) part.state) (spell_widened t)
+      (λ part. ap (λ w. unfold_forest cpp rule (next.values ++ part.value) (place + length w) (widened_all f xs) part.state) (spell_as t x)
       ∙ forest_widened xs f known.1 is.1 rule (next.values ++ part.value) (place + length (spell t)) part.state))
   forest_widened _ _ known is rule vs place state = absurd is
 

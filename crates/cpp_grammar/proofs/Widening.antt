@@ -1,7 +1,7 @@
 -- The trees of both grammars, widened, are those of the wide one, and spell what they spelled.
-use Rattle.std.proofs.Common.{◌≡◌, ℕ, ◌<◌, List, [], ◌∷◌, ◌++◌, slice_get, Bool, true, false, cond, ◌||◌, nat_eq, Option, Some, None, inl, inr, refl, ap, sym, ◌∙◌, subst, lit≤, arith, append-nil}
+use Rattle.std.proofs.Common.{◌≡◌, ℕ, ◌<◌, List, [], ◌∷◌, ◌++◌, slice_get, Bool, true, false, cond, ◌||◌, ◌&&◌, nat_eq, Option, Some, None, inl, inr, refl, ap, sym, ◌∙◌, subst, lit≤, arith, append-nil, append_assoc}
 use Rattle.std.specs.Prelude.{◌⊎◌}
-use Rattle.std.proofs.lemmas.Bool.{eqb-true, true≢false}
+use Rattle.std.proofs.lemmas.Bool.{eqb-true, and_parts, true≢false}
 use Rattle.sym_shape.specs.declared.rule.Rule.{Rule}
 use Rattle.sym_shape.specs.declared.rule.Sym.{Sym}
 use Rattle.sym_shape.specs.declared.rule.Sym.TheVariants.{Kind as OfKind, Name, Number, Byte}
@@ -13,52 +13,66 @@ use Rattle.sym_shape.proofs.Firsts.{branch_first, branch_filled}
 use Rattle.sym_link.specs.Sound.{IsSound}
 use Rattle.cpp_grammar.specs.declared.kind.Kind.{Kind}
 use Rattle.cpp_grammar.specs.declared.production.Production.{Production}
-use Rattle.cpp_grammar.specs.KindNumbers.{NEST_AFTER_S, NEST_REST_ALONE, NEST_TAIL, NEST_REST_OR_END}
+use Rattle.cpp_grammar.specs.KindNumbers.{SYMBOL, NEST_AFTER_S, NEST_REST_ALONE, NEST_TAIL, COMPONENT, MAYBE_ARGUMENTS, OPERATOR, NEST_REST_OR_END, COMPONENT_AFTER_C, OTHER_OPERATOR}
 use Rattle.cpp_grammar.specs.Grammar.{Alternative, in_ranges, among, is_in, pick, kinds, number_of, number_of_kind, parts_of, is_chain, may_be_empty}
 use Rattle.cpp_grammar.specs.Wide.{wide_alternatives, wide_choose}
 use Rattle.cpp_grammar.specs.Either.{either_alternatives, either_choose}
 use Rattle.cpp_grammar.specs.Table.{rule_of, rule_taken, padded, sheet_with, wide_sheet, wide, either_sheet, either}
 use Rattle.cpp_grammar.specs.TableLaws.{wide_lawful}
-use Rattle.cpp_grammar.specs.Widened.{rest_or_end, with_rest_or_end, widened_branch, widened, widened_all}
+use Rattle.cpp_grammar.specs.Widened.{rest_or_end, with_rest_or_end, letters_component, operator_component, widened_branch, widened_as, widened_all, widened}
 use Rattle.cpp_grammar.proofs.Choosing.{kinds_numbered, number_at, wide_rule_at, either_rule_at, is_either_kind}
 use Rattle.cpp_grammar.proofs.Growing.{same_choice, each_below, below, kept, same_production, empty_keeps, wide_rule_kept}
 
 -- ## What a kind takes
 
--- A kind takes what it takes in the wide grammar, or behind an S the rule that the other grammar has there.
+abbrev pub is_operator_component : (rule kind : ℕ) → Bool
+is_operator_component rule kind = nat_eq rule (number_of Production.OperatorName) && nat_eq kind COMPONENT
+
+-- A kind takes what it takes in the wide grammar, or the rule that the other grammar has there: behind an S, and of an operator within a
+-- nested name.
 unfoldable is_wide_or_narrow : Kind → (chosen other : Option Production) → Bool
 is_wide_or_narrow kind None other = true
-is_wide_or_narrow kind (Some p) other = cond (nat_eq (number_of p) (number_of Production.NestAbbreviated)) (nat_eq (number_of_kind kind) NEST_AFTER_S) (same_choice (Some p) other)
+is_wide_or_narrow kind (Some p) other =
+    cond (nat_eq (number_of p) (number_of Production.NestAbbreviated)) (nat_eq (number_of_kind kind) NEST_AFTER_S)
+    (cond (is_operator_component (number_of p) (number_of_kind kind)) true (same_choice (Some p) other))
 
 wide_or_narrow : (kind : Kind) → each_below 256 (λ b. is_wide_or_narrow kind (pick (either_alternatives kind) b) (pick (wide_alternatives kind) b)) ≡ true
 unfolding in_ranges among is_in pick number_of number_of_kind wide_alternatives either_alternatives same_choice each_below is_wide_or_narrow
 wide_or_narrow Kind.Symbol = refl
 wide_or_narrow _ = refl
 
+-- which of these a rule is
+pub data Here (k byte : ℕ) (rule : Rule) : Type 0 where
+  as_wide : nat_eq rule.number (number_of Production.NestAbbreviated) ≡ false → is_operator_component rule.number k ≡ false → wide.rule k byte ≡ Some rule → Here k byte rule
+  behind_s : rule ≡ rule_of Production.NestAbbreviated → k ≡ NEST_AFTER_S → Here k byte rule
+  of_operator : rule ≡ rule_of Production.OperatorName → k ≡ COMPONENT → Here k byte rule
+
 -- the rule that a kind takes at a byte
 pub record Chosen (k byte : ℕ) (rule : Rule) : Type 0 where
   pub production : Production
   pub is : rule ≡ rule_of production
-  pub here : ((nat_eq rule.number (number_of Production.NestAbbreviated) ≡ false) × (wide.rule k byte ≡ Some rule))
-      ⊎ ((rule ≡ rule_of Production.NestAbbreviated) × (k ≡ NEST_AFTER_S))
+  pub here : Here k byte rule
 
 which : (k byte : ℕ) (kind : Kind) (p : Production) (rule : Rule) → slice_get kinds k ≡ Some kind → rule ≡ rule_of p
-    → is_wide_or_narrow kind (Some p) (pick (wide_alternatives kind) byte) ≡ true
-    → ((nat_eq rule.number (number_of Production.NestAbbreviated) ≡ false) × (wide.rule k byte ≡ Some rule)) ⊎ ((rule ≡ rule_of Production.NestAbbreviated) × (k ≡ NEST_AFTER_S))
+    → is_wide_or_narrow kind (Some p) (pick (wide_alternatives kind) byte) ≡ true → Here k byte rule
 unfolding is_wide_or_narrow wide_choose rule_taken rule_of
-which k byte kind p rule at is test = go (nat_eq (number_of p) (number_of Production.NestAbbreviated)) refl test
+which k byte kind p rule at is test = go (nat_eq (number_of p) (number_of Production.NestAbbreviated)) (is_operator_component (number_of p) (number_of_kind kind)) refl refl test
   where
-    go : (b : Bool) → nat_eq (number_of p) (number_of Production.NestAbbreviated) ≡ b
-        → cond b (nat_eq (number_of_kind kind) NEST_AFTER_S) (same_choice (Some p) (pick (wide_alternatives kind) byte)) ≡ true
-        → ((nat_eq rule.number (number_of Production.NestAbbreviated) ≡ false) × (wide.rule k byte ≡ Some rule)) ⊎ ((rule ≡ rule_of Production.NestAbbreviated) × (k ≡ NEST_AFTER_S))
-    go true same h = inr (
-      is ∙ ap rule_of (same_production p Production.NestAbbreviated same),
-      omega (arith, number_at 0 kinds k kind kinds_numbered at, eqb-true (number_of_kind kind) NEST_AFTER_S h),
-    )
-    go false other h = inl (
-      ap (λ r. nat_eq r.number (number_of Production.NestAbbreviated)) is ∙ other,
-      wide_rule_at k kind byte at ∙ ap rule_taken (kept (Some p) (pick (wide_alternatives kind) byte) p h refl) ∙ ap Some (sym is),
-    )
+    numbered : number_of_kind kind ≡ k
+    numbered = omega (arith, number_at 0 kinds k kind kinds_numbered at)
+
+    go : (a b : Bool) → nat_eq (number_of p) (number_of Production.NestAbbreviated) ≡ a → is_operator_component (number_of p) (number_of_kind kind) ≡ b
+        → cond a (nat_eq (number_of_kind kind) NEST_AFTER_S) (cond b true (same_choice (Some p) (pick (wide_alternatives kind) byte))) ≡ true → Here k byte rule
+    go true b same which_ h = behind_s
+        (is ∙ ap rule_of (same_production p Production.NestAbbreviated same))
+        (sym numbered ∙ eqb-true (number_of_kind kind) NEST_AFTER_S h)
+    go false true other same h =
+        let two = and_parts (nat_eq (number_of p) (number_of Production.OperatorName)) (nat_eq (number_of_kind kind) COMPONENT) same in
+        of_operator (is ∙ ap rule_of (same_production p Production.OperatorName two.0)) (sym numbered ∙ eqb-true (number_of_kind kind) COMPONENT two.1)
+    go false false other apart h = as_wide
+        (ap (λ r. nat_eq r.number (number_of Production.NestAbbreviated)) is ∙ other)
+        (ap (λ r. is_operator_component r.number k) is ∙ ap (λ n. is_operator_component (number_of p) n) (sym numbered) ∙ apart)
+        (wide_rule_at k kind byte at ∙ ap rule_taken (kept (Some p) (pick (wide_alternatives kind) byte) p h refl) ∙ ap Some (sym is))
 
 pub chosen_rule : (k byte : ℕ) (rule : Rule) → k < either.kinds → byte < 256 → either.rule k byte ≡ Some rule → Chosen k byte rule
 unfolding either_choose rule_taken
@@ -101,18 +115,24 @@ symbols_either (Byte c ∷ xs) known = (known.0, symbols_either xs known.1)
 pub either_number : (k b : ℕ) (rule : Rule) → k < either.kinds → b < 256 → either.rule k b ≡ Some rule → rule.number < TOKEN
 unfolding rule_of number_of
 either_number k b rule lt byte found = elim (chosen_rule k b rule lt byte found).here [
-  | inl same ↦ (wide_lawful.rule k b rule (wide_kind k lt) byte same.1).number
-  | inr narrow ↦ rw narrow.0 (lit≤ tt)
+  | as_wide other apart same ↦ (wide_lawful.rule k b rule (wide_kind k lt) byte same).number
+  | behind_s is at ↦ rw is (lit≤ tt)
+  | of_operator is at ↦ rw is (lit≤ tt)
 ]
 
 narrow_symbols : AreSymbols either (symbols_of (rule_of Production.NestAbbreviated))
 unfolding rule_of parts_of padded number_of_kind either either_sheet kinds
 narrow_symbols = (lit≤ tt, (lit≤ tt, tt))
 
+operator_symbols : AreSymbols either (symbols_of (rule_of Production.OperatorName))
+unfolding rule_of parts_of padded number_of_kind either either_sheet kinds
+operator_symbols = (lit≤ tt, (lit≤ tt, tt))
+
 pub either_symbols : (k b : ℕ) (rule : Rule) → k < either.kinds → b < 256 → either.rule k b ≡ Some rule → AreSymbols either (symbols_of rule)
 either_symbols k b rule lt byte found = elim (chosen_rule k b rule lt byte found).here [
-  | inl same ↦ symbols_either (symbols_of rule) (wide_lawful.rule k b rule (wide_kind k lt) byte same.1).symbols
-  | inr narrow ↦ rw narrow.0 narrow_symbols
+  | as_wide other apart same ↦ symbols_either (symbols_of rule) (wide_lawful.rule k b rule (wide_kind k lt) byte same).symbols
+  | behind_s is at ↦ rw is narrow_symbols
+  | of_operator is at ↦ rw is operator_symbols
 ]
 
 -- ## What comes behind the abbreviation of a nested name
@@ -135,7 +155,7 @@ is_left : (c : Bool) → c || false ≡ true → c ≡ true
 is_left true h = refl
 is_left false h = h
 
-takes_its : (rule own : Rule) (taken : List ℕ) (byte : ℕ) (eats : Bool) → rule ≡ own → own.eats ≡ eats → taken ≡ cond rule.eats (byte ∷ []) [] → taken ≡ cond eats (byte ∷ []) []
+pub takes_its : (rule own : Rule) (taken : List ℕ) (byte : ℕ) (eats : Bool) → rule ≡ own → own.eats ≡ eats → taken ≡ cond rule.eats (byte ∷ []) [] → taken ≡ cond eats (byte ∷ []) []
 takes_its rule own taken byte eats is same takes = takes ∙ ap (λ r. cond r.eats (byte ∷ []) []) is ∙ ap (λ e. cond e (byte ∷ []) []) same
 
 pub rest_rule : (rule : Rule) (taken : List ℕ) → TakesRule wide NEST_REST_ALONE rule taken → RestRule rule taken
@@ -196,6 +216,113 @@ rest_tree empty is = absurd (true≢false (sym is ∙ never_empty))
 rest_tree (token t) is = absurd is
 rest_tree (fixed byte) is = absurd is
 
+-- ## An operator within a nested name
+
+-- what such a rule is
+pub data OperatorRule (rule : Rule) (first : List ℕ) : Type 0 where
+  with_c : rule ≡ rule_of Production.OperatorC → first ≡ 99 ∷ [] → OperatorRule rule first
+  without_c : nat_eq rule.number (number_of Production.OperatorC) ≡ false → TakesRule wide OTHER_OPERATOR rule first → OperatorRule rule first
+
+unfoldable is_with_c_or_other : (byte : ℕ) → (chosen other : Option Production) → Bool
+is_with_c_or_other byte None other = true
+is_with_c_or_other byte (Some p) other = cond (nat_eq (number_of p) (number_of Production.OperatorC)) (nat_eq byte 99) (same_choice (Some p) other)
+
+with_c_or_other : each_below 256 (λ b. is_with_c_or_other b (pick (wide_alternatives Kind.Operator) b) (pick (wide_alternatives Kind.OtherOperator) b)) ≡ true
+unfolding in_ranges among is_in pick number_of wide_alternatives same_choice each_below is_with_c_or_other
+with_c_or_other = refl
+
+pub operator_rule : (rule : Rule) (first : List ℕ) → TakesRule wide OPERATOR rule first → OperatorRule rule first
+unfolding is_with_c_or_other wide_choose rule_taken rule_of is_chain kinds
+operator_rule rule first takes = by (pick (wide_alternatives Kind.Operator) takes.byte) refl (sym (wide_rule_at OPERATOR Kind.Operator takes.byte refl) ∙ takes.found)
+  where
+    own : (p : Production) → ◌≡◌ {A = Option Rule} (Some (rule_of p)) (Some rule) → rule ≡ rule_of p
+    own p h = cc
+
+    other : Option Production
+    other = pick (wide_alternatives Kind.OtherOperator) takes.byte
+
+    tested : (p : Production) → rule ≡ rule_of p → (b : Bool) → nat_eq (number_of p) (number_of Production.OperatorC) ≡ b
+        → cond b (nat_eq takes.byte 99) (same_choice (Some p) other) ≡ true → OperatorRule rule first
+    tested p is true same h =
+        let c : rule ≡ rule_of Production.OperatorC = is ∙ ap rule_of (same_production p Production.OperatorC same) in
+        with_c c (takes_its rule (rule_of Production.OperatorC) first takes.byte true c refl takes.takes ∙ ap (λ b. b ∷ []) (eqb-true takes.byte 99 h))
+    tested p is false apart h = without_c
+        (ap (λ r. nat_eq r.number (number_of Production.OperatorC)) is ∙ apart)
+        (record {
+          byte = takes.byte;
+          is_byte = takes.is_byte;
+          found = wide_rule_at OTHER_OPERATOR Kind.OtherOperator takes.byte refl ∙ ap rule_taken (kept (Some p) other p h refl) ∙ ap Some (sym is);
+          takes = takes.takes;
+        })
+
+    by : (o : Option Production) → pick (wide_alternatives Kind.Operator) takes.byte ≡ o → rule_taken o ≡ Some rule → OperatorRule rule first
+    by None at h = let clash : ◌≡◌ {A = Option Rule} None (Some rule) = h in absurd cc
+    by (Some p) at h = tested p (own p h) (nat_eq (number_of p) (number_of Production.OperatorC)) refl
+        (subst (λ o. is_with_c_or_other takes.byte o other ≡ true) at
+        (below 256 (λ b. is_with_c_or_other b (pick (wide_alternatives Kind.Operator) b) (pick (wide_alternatives Kind.OtherOperator) b)) takes.byte with_c_or_other takes.is_byte))
+
+pub without_c_letters : (rule : Rule) (taken first : List ℕ) (second arguments : Tree) → nat_eq rule.number (number_of Production.OperatorC) ≡ false
+    → letters_component rule taken first second arguments ≡ branch (rule_of Production.OtherOperatorName) taken (grown (branch rule first (grown second nothing)) (grown arguments nothing))
+unfolding letters_component
+without_c_letters rule taken first second arguments apart = ap (λ b. elim b as (λ _. Tree) [
+  | true ↦ branch (rule_of Production.ComponentWithC) (taken ++ first)
+      (grown (branch (rule_of Production.OperatorNameWithC) [] (grown second (grown arguments nothing))) nothing)
+  | false ↦ branch (rule_of Production.OtherOperatorName) taken (grown (branch rule first (grown second nothing)) (grown arguments nothing))
+]) apart
+
+with_c_tree : (second arguments : Tree) → AreTrees wide (symbols_of (rule_of Production.OperatorC)) (grown second nothing) → IsTree wide (OfKind MAYBE_ARGUMENTS) arguments
+    → IsTree wide (OfKind COMPONENT) (letters_component (rule_of Production.OperatorC) [] (99 ∷ []) second arguments)
+unfolding letters_component rule_of parts_of padded is_chain number_of number_of_kind kinds wide_choose wide_alternatives pick is_in in_ranges among
+with_c_tree second arguments one rest = (
+  takes_at COMPONENT Kind.Component Production.ComponentWithC (99 ∷ []) 99 refl (lit≤ tt) refl refl,
+  ((takes_at COMPONENT_AFTER_C Kind.ComponentAfterC Production.OperatorNameWithC [] 108 refl (lit≤ tt) refl refl, (one.0, (rest, tt))), tt),
+)
+
+other_tree : (operator_ arguments : Tree) → IsTree wide (OfKind OTHER_OPERATOR) operator_ → IsTree wide (OfKind MAYBE_ARGUMENTS) arguments
+    → IsTree wide (OfKind COMPONENT) (branch (rule_of Production.OtherOperatorName) [] (grown operator_ (grown arguments nothing)))
+unfolding rule_of parts_of padded is_chain number_of_kind kinds wide_choose wide_alternatives pick is_in in_ranges among
+other_tree operator_ arguments one rest = (takes_at COMPONENT Kind.Component Production.OtherOperatorName [] 97 refl (lit≤ tt) refl refl, (one, (rest, tt)))
+
+letters_tree : (rule : Rule) (first : List ℕ) (second arguments : Tree) → IsTree wide (OfKind OPERATOR) (branch rule first (grown second nothing))
+    → IsTree wide (OfKind MAYBE_ARGUMENTS) arguments → IsTree wide (OfKind COMPONENT) (letters_component rule [] first second arguments)
+letters_tree rule first second arguments is rest = elim (operator_rule rule first is.0) [
+  | with_c same own ↦ rw (same, own) (with_c_tree second arguments (subst (λ r. AreTrees wide (symbols_of r) (grown second nothing)) same is.1) rest)
+  | without_c apart takes ↦ subst (λ t. IsTree wide (OfKind COMPONENT) t) (sym (without_c_letters rule [] first second arguments apart))
+      (other_tree (branch rule first (grown second nothing)) arguments (takes, is.1) rest)
+]
+
+one_symbol : (parts : Forest) → AreTrees wide (symbols_of (rule_of Production.OperatorC)) parts → (second : Tree) × (parts ≡ grown second nothing)
+unfolding rule_of parts_of padded
+one_symbol (grown second nothing) trees = (second, refl)
+one_symbol nothing trees = absurd trees
+one_symbol (grown second (grown u f)) trees = absurd trees.1
+
+-- where it isn't followed by one letter, its rule isn't that of c
+not_one : (rule : Rule) (first : List ℕ) (inner : Forest) → ((second : Tree) → inner ≡ grown second nothing → ⊥) → IsTree wide (OfKind OPERATOR) (branch rule first inner)
+    → IsTree wide (OfKind OTHER_OPERATOR) (branch rule first inner)
+not_one rule first inner never is = elim (operator_rule rule first is.0) [
+  | with_c same own ↦ (let one = one_symbol inner (subst (λ r. AreTrees wide (symbols_of r) inner) same is.1) in absurd (never one.0 one.1))
+  | without_c apart takes ↦ (takes, is.1)
+]
+
+operator_filled : wide.may_be_empty OPERATOR ≡ false
+unfolding wide wide_sheet sheet_with kinds may_be_empty
+operator_filled = refl
+
+operator_tree : (parts : Forest) → AreTrees wide (symbols_of (rule_of Production.OperatorName)) parts → IsTree wide (OfKind COMPONENT) (operator_component [] parts)
+unfolding rule_of parts_of padded number_of_kind operator_component
+operator_tree (grown (branch rule first (grown second nothing)) (grown arguments nothing)) trees = letters_tree rule first second arguments trees.0 trees.1.0
+operator_tree (grown (branch rule first nothing) (grown arguments nothing)) trees =
+    other_tree (branch rule first nothing) arguments (not_one rule first nothing (λ second e. cc e) trees.0) trees.1.0
+operator_tree (grown (branch rule first (grown second (grown u f))) (grown arguments nothing)) trees =
+    other_tree (branch rule first (grown second (grown u f))) arguments (not_one rule first (grown second (grown u f)) (λ third e. cc e) trees.0) trees.1.0
+operator_tree (grown empty f) trees = absurd (true≢false (sym trees.0 ∙ operator_filled))
+operator_tree (grown (token t) f) trees = absurd trees.0
+operator_tree (grown (fixed byte) f) trees = absurd trees.0
+operator_tree nothing trees = absurd trees
+operator_tree (grown t nothing) trees = absurd trees.1
+operator_tree (grown t (grown arguments (grown u f))) trees = absurd trees.1.1
+
 -- ## Trees
 
 narrow_parts : (parts : Forest) → AreTrees wide (symbols_of (rule_of Production.NestAbbreviated)) parts → AreTrees wide (symbols_of (rule_of Production.NestTemplate)) (with_rest_or_end parts)
@@ -206,36 +333,51 @@ narrow_parts (grown a nothing) trees = absurd trees.1
 narrow_parts (grown a (grown r (grown u f))) trees = absurd trees.1.1
 
 -- another rule stays
-pub same_branch : (rule : Rule) (taken : List ℕ) (parts : Forest) → nat_eq rule.number (number_of Production.NestAbbreviated) ≡ false → widened_branch rule taken parts ≡ branch rule taken parts
+pub same_branch : (k : ℕ) (rule : Rule) (taken : List ℕ) (parts : Forest) → nat_eq rule.number (number_of Production.NestAbbreviated) ≡ false
+    → is_operator_component rule.number k ≡ false → widened_branch k rule taken parts ≡ branch rule taken parts
 unfolding widened_branch
-same_branch rule taken parts other = ap (λ b. elim b [ true ↦ branch (rule_of Production.NestTemplate) taken (with_rest_or_end parts) | false ↦ branch rule taken parts ]) other
+same_branch k rule taken parts other apart =
+    ap (λ b. elim b as (λ _. Tree) [
+      | true ↦ branch (rule_of Production.NestTemplate) taken (with_rest_or_end parts)
+      | false ↦ elim (is_operator_component rule.number k) as (λ _. Tree) [ true ↦ operator_component taken parts | false ↦ branch rule taken parts ]
+    ]) other
+    ∙ ap (λ b. elim b as (λ _. Tree) [ true ↦ operator_component taken parts | false ↦ branch rule taken parts ]) apart
+
+nest_branch : (taken : List ℕ) (parts : Forest) → taken ≡ [] → AreTrees wide (symbols_of (rule_of Production.NestAbbreviated)) parts
+    → IsTree wide (OfKind NEST_AFTER_S) (widened_branch NEST_AFTER_S (rule_of Production.NestAbbreviated) taken parts)
+unfolding widened_branch rule_of is_chain number_of kinds wide_choose wide_alternatives pick is_in in_ranges among
+nest_branch taken parts none trees = rw none (takes_at NEST_AFTER_S Kind.NestAfterS Production.NestTemplate [] 48 refl (lit≤ tt) refl refl, narrow_parts parts trees)
+
+operator_branch_tree : (taken : List ℕ) (parts : Forest) → taken ≡ [] → AreTrees wide (symbols_of (rule_of Production.OperatorName)) parts
+    → IsTree wide (OfKind COMPONENT) (widened_branch COMPONENT (rule_of Production.OperatorName) taken parts)
+unfolding widened_branch rule_of number_of operator_component
+operator_branch_tree taken parts none trees = rw none (operator_tree parts trees)
 
 branch_tree : (k : ℕ) (rule : Rule) (taken : List ℕ) (parts : Forest) → k < either.kinds → TakesRule either k rule taken → AreTrees wide (symbols_of rule) parts
-    → IsTree wide (OfKind k) (widened_branch rule taken parts)
-unfolding widened_branch rule_of is_chain number_of kinds wide_choose wide_alternatives pick is_in in_ranges among
+    → IsTree wide (OfKind k) (widened_branch k rule taken parts)
+unfolding rule_of is_chain
 branch_tree k rule taken parts lt takes trees = elim (chosen_rule k takes.byte rule lt takes.is_byte takes.found).here [
-  | inl same ↦ subst (λ t. IsTree wide (OfKind k) t) (sym (same_branch rule taken parts same.0)) (record { byte = takes.byte; is_byte = takes.is_byte; found = same.1; takes = takes.takes }, trees)
-  | inr narrow ↦ (
-      let none : taken ≡ [] = takes_its rule (rule_of Production.NestAbbreviated) taken takes.byte false narrow.0 refl takes.takes in
-      rw (narrow.0, narrow.1, none) (
-        takes_at NEST_AFTER_S Kind.NestAfterS Production.NestTemplate [] 48 refl (lit≤ tt) refl refl,
-        narrow_parts parts (subst (λ r. AreTrees wide (symbols_of r) parts) narrow.0 trees),
-      ))
+  | as_wide other apart same ↦ subst (λ t. IsTree wide (OfKind k) t) (sym (same_branch k rule taken parts other apart))
+      (record { byte = takes.byte; is_byte = takes.is_byte; found = same; takes = takes.takes }, trees)
+  | behind_s is at ↦ rw (is, at) (nest_branch taken parts (takes_its rule (rule_of Production.NestAbbreviated) taken takes.byte false is refl takes.takes)
+      (subst (λ r. AreTrees wide (symbols_of r) parts) is trees))
+  | of_operator is at ↦ rw (is, at) (operator_branch_tree taken parts (takes_its rule (rule_of Production.OperatorName) taken takes.byte false is refl takes.takes)
+      (subst (λ r. AreTrees wide (symbols_of r) parts) is trees))
 ]
 
 mutual
-  unfolding widened widened_all either wide
+  unfolding widened_as widened_all either wide
 
-  pub widened_tree : (x : Sym) (t : Tree) → IsSymbol either x → IsTree either x t → IsTree wide x (widened t)
+  pub widened_tree : (x : Sym) (t : Tree) → IsSymbol either x → IsTree either x t → IsTree wide x (widened_as t x)
   widened_tree (OfKind k) (branch rule taken parts) known is =
-      branch_tree k rule taken (widened_all parts) known is.0 (widened_trees (symbols_of rule) parts (either_symbols k is.0.byte rule known is.0.is_byte is.0.found) is.1)
+      branch_tree k rule taken (widened_all parts (symbols_of rule)) known is.0 (widened_trees (symbols_of rule) parts (either_symbols k is.0.byte rule known is.0.is_byte is.0.found) is.1)
   widened_tree (OfKind k) empty known is = empty_wide k is
   widened_tree Name (token t) known is = is
   widened_tree (Number kind) (token t) known is = is
   widened_tree (Byte b) (fixed c) known is = is
   widened_tree _ _ known is = absurd is
 
-  pub widened_trees : (xs : List Sym) (f : Forest) → AreSymbols either xs → AreTrees either xs f → AreTrees wide xs (widened_all f)
+  pub widened_trees : (xs : List Sym) (f : Forest) → AreSymbols either xs → AreTrees either xs f → AreTrees wide xs (widened_all f xs)
   widened_trees [] nothing known is = is
   widened_trees (x ∷ xs) (grown t f) known is = (widened_tree x t known.0 is.0, widened_trees xs f known.1 is.1)
   widened_trees _ _ known is = absurd is
@@ -253,26 +395,55 @@ unfolding with_rest_or_end
 spell_parts (grown a (grown r nothing)) = ap (λ w. spell a ++ (w ++ [])) (spell_rest r)
 spell_parts _ = refl
 
-spell_branch : (rule : Rule) (taken : List ℕ) (parts : Forest) → spell (widened_branch rule taken parts) ≡ taken ++ spell_all parts
-unfolding widened_branch
-spell_branch rule taken parts = go (nat_eq rule.number (number_of Production.NestAbbreviated))
+spelled_apart : (t f s a : List ℕ) → (t ++ f) ++ ((s ++ (a ++ [])) ++ []) ≡ t ++ ((f ++ (s ++ [])) ++ (a ++ []))
+spelled_apart t f s a =
+    append_assoc t f ((s ++ (a ++ [])) ++ [])
+    ∙ ap (λ w. t ++ w) (ap (λ w. f ++ w) (append-nil (s ++ (a ++ []))) ∙ ap (λ w. f ++ (w ++ (a ++ []))) (sym (append-nil s)) ∙ sym (append_assoc f (s ++ []) (a ++ [])))
+
+spell_letters : (rule : Rule) (taken first : List ℕ) (second arguments : Tree)
+    → spell (letters_component rule taken first second arguments) ≡ taken ++ ((first ++ (spell second ++ [])) ++ (spell arguments ++ []))
+unfolding letters_component
+spell_letters rule taken first second arguments = go (nat_eq rule.number (number_of Production.OperatorC))
   where
-    go : (b : Bool) → spell (elim b [ true ↦ branch (rule_of Production.NestTemplate) taken (with_rest_or_end parts) | false ↦ branch rule taken parts ]) ≡ taken ++ spell_all parts
-    go true = ap (λ w. taken ++ w) (spell_parts parts)
+    go : (b : Bool) → spell (elim b as (λ _. Tree) [
+      | true ↦ branch (rule_of Production.ComponentWithC) (taken ++ first)
+          (grown (branch (rule_of Production.OperatorNameWithC) [] (grown second (grown arguments nothing))) nothing)
+      | false ↦ branch (rule_of Production.OtherOperatorName) taken (grown (branch rule first (grown second nothing)) (grown arguments nothing))
+    ]) ≡ taken ++ ((first ++ (spell second ++ [])) ++ (spell arguments ++ []))
+    go true = spelled_apart taken first (spell second) (spell arguments)
     go false = refl
 
+spell_operator : (taken : List ℕ) (parts : Forest) → spell (operator_component taken parts) ≡ taken ++ spell_all parts
+unfolding operator_component
+spell_operator taken (grown (branch rule first (grown second nothing)) (grown arguments nothing)) = spell_letters rule taken first second arguments
+spell_operator taken _ = refl
+
+spell_branch : (k : ℕ) (rule : Rule) (taken : List ℕ) (parts : Forest) → spell (widened_branch k rule taken parts) ≡ taken ++ spell_all parts
+unfolding widened_branch
+spell_branch k rule taken parts = go (nat_eq rule.number (number_of Production.NestAbbreviated)) (is_operator_component rule.number k)
+  where
+    go : (b c : Bool) → spell (elim b as (λ _. Tree) [
+      | true ↦ branch (rule_of Production.NestTemplate) taken (with_rest_or_end parts)
+      | false ↦ elim c as (λ _. Tree) [ true ↦ operator_component taken parts | false ↦ branch rule taken parts ]
+    ]) ≡ taken ++ spell_all parts
+    go true c = ap (λ w. taken ++ w) (spell_parts parts)
+    go false true = spell_operator taken parts
+    go false false = refl
+
 mutual
-  unfolding widened widened_all
+  unfolding widened_as widened_all
 
-  pub spell_widened : (t : Tree) → spell (widened t) ≡ spell t
-  spell_widened (branch rule taken parts) = spell_branch rule taken (widened_all parts) ∙ ap (λ w. taken ++ w) (spell_widened_all parts)
-  spell_widened empty = refl
-  spell_widened (token t) = refl
-  spell_widened (fixed byte) = refl
+  pub spell_as : (t : Tree) (x : Sym) → spell (widened_as t x) ≡ spell t
+  spell_as (branch rule taken parts) (OfKind k) =
+      spell_branch k rule taken (widened_all parts (symbols_of rule)) ∙ ap (λ w. taken ++ w) (spell_widened_all parts (symbols_of rule))
+  spell_as _ _ = refl
 
-  pub spell_widened_all : (f : Forest) → spell_all (widened_all f) ≡ spell_all f
-  spell_widened_all nothing = refl
-  spell_widened_all (grown t f) = ap (λ w. w ++ spell_all (widened_all f)) (spell_widened t) ∙ ap (λ w. spell t ++ w) (spell_widened_all f)
+  pub spell_widened_all : (f : Forest) (xs : List Sym) → spell_all (widened_all f xs) ≡ spell_all f
+  spell_widened_all (grown t f) (x ∷ xs) = ap (λ w. w ++ spell_all (widened_all f xs)) (spell_as t x) ∙ ap (λ w. spell t ++ w) (spell_widened_all f xs)
+  spell_widened_all _ _ = refl
+
+pub spell_widened : (t : Tree) → spell (widened t) ≡ spell t
+spell_widened t = spell_as t (OfKind SYMBOL)
 
 -- ## The first byte of a rule's tree
 
@@ -281,45 +452,96 @@ unfolding either either_sheet kinds
 either_start = lit≤ tt
 
 -- the widened tree of a rule is that of a rule
-record IsBranch (k : ℕ) (rule : Rule) (taken spelled : List ℕ) : Type 0 where
+record IsBranch (k : ℕ) (rule : Rule) (spelled : List ℕ) : Type 0 where
   other : Rule
+  own : List ℕ
   parts : Forest
-  is : IsTree wide (OfKind k) (branch other taken parts)
-  spells : taken ++ spell_all parts ≡ spelled
-  same : nat_eq rule.number (number_of Production.NestAbbreviated) ≡ false → other ≡ rule
+  is : IsTree wide (OfKind k) (branch other own parts)
+  spells : own ++ spell_all parts ≡ spelled
+  same : nat_eq rule.number (number_of Production.NestAbbreviated) ≡ false → is_operator_component rule.number k ≡ false → other ≡ rule
 
-wide_branch : (k : ℕ) (rule : Rule) (taken : List ℕ) (parts : Forest) → k < either.kinds → IsTree either (OfKind k) (branch rule taken parts) → IsBranch k rule taken (taken ++ spell_all parts)
-unfolding widened widened_branch
-wide_branch k rule taken parts lt is =
-    go (nat_eq rule.number (number_of Production.NestAbbreviated)) refl (widened_tree (OfKind k) (branch rule taken parts) lt is) (spell_widened (branch rule taken parts))
+operator_is_branch : (k : ℕ) (rule : Rule) (taken spelled : List ℕ) (parts : Forest) → is_operator_component rule.number k ≡ true
+    → IsTree wide (OfKind k) (operator_component taken parts) → spell (operator_component taken parts) ≡ spelled → IsBranch k rule spelled
+unfolding operator_component letters_component
+operator_is_branch k rule taken spelled (grown (branch r first (grown second nothing)) (grown arguments nothing)) this = go (nat_eq r.number (number_of Production.OperatorC))
   where
-    go : (b : Bool) → nat_eq rule.number (number_of Production.NestAbbreviated) ≡ b
-        → IsTree wide (OfKind k) (elim b [ true ↦ branch (rule_of Production.NestTemplate) taken (with_rest_or_end (widened_all parts)) | false ↦ branch rule taken (widened_all parts) ])
-        → spell (elim b [ true ↦ branch (rule_of Production.NestTemplate) taken (with_rest_or_end (widened_all parts)) | false ↦ branch rule taken (widened_all parts) ]) ≡ taken ++ spell_all parts
-        → IsBranch k rule taken (taken ++ spell_all parts)
-    go true this tree spelled = record { other = rule_of Production.NestTemplate; parts = with_rest_or_end (widened_all parts); is = tree; spells = spelled; same = λ other. absurd (true≢false (sym this ∙ other)) }
-    go false this tree spelled = record { other = rule; parts = widened_all parts; is = tree; spells = spelled; same = λ other. refl }
+    go : (b : Bool) → IsTree wide (OfKind k) (elim b as (λ _. Tree) [
+      | true ↦ branch (rule_of Production.ComponentWithC) (taken ++ first)
+          (grown (branch (rule_of Production.OperatorNameWithC) [] (grown second (grown arguments nothing))) nothing)
+      | false ↦ branch (rule_of Production.OtherOperatorName) taken (grown (branch r first (grown second nothing)) (grown arguments nothing))
+    ]) → spell (elim b as (λ _. Tree) [
+      | true ↦ branch (rule_of Production.ComponentWithC) (taken ++ first)
+          (grown (branch (rule_of Production.OperatorNameWithC) [] (grown second (grown arguments nothing))) nothing)
+      | false ↦ branch (rule_of Production.OtherOperatorName) taken (grown (branch r first (grown second nothing)) (grown arguments nothing))
+    ]) ≡ spelled → IsBranch k rule spelled
+    go true is spells = record {
+      other = rule_of Production.ComponentWithC;
+      own = taken ++ first;
+      parts = grown (branch (rule_of Production.OperatorNameWithC) [] (grown second (grown arguments nothing))) nothing;
+      is = is;
+      spells = spells;
+      same = λ other apart. absurd (true≢false (sym this ∙ apart));
+    }
+    go false is spells = record {
+      other = rule_of Production.OtherOperatorName;
+      own = taken;
+      parts = grown (branch r first (grown second nothing)) (grown arguments nothing);
+      is = is;
+      spells = spells;
+      same = λ other apart. absurd (true≢false (sym this ∙ apart));
+    }
+operator_is_branch k rule taken spelled parts this = λ is spells.
+    record { other = rule_of Production.OtherOperatorName; own = taken; parts = parts; is = is; spells = spells; same = λ other apart. absurd (true≢false (sym this ∙ apart)) }
+
+wide_branch : (k : ℕ) (rule : Rule) (taken : List ℕ) (parts : Forest) → k < either.kinds → IsTree either (OfKind k) (branch rule taken parts) → IsBranch k rule (taken ++ spell_all parts)
+unfolding widened_as widened_branch
+wide_branch k rule taken parts lt is =
+    go (nat_eq rule.number (number_of Production.NestAbbreviated)) (is_operator_component rule.number k) refl refl
+    (widened_tree (OfKind k) (branch rule taken parts) lt is) (spell_as (branch rule taken parts) (OfKind k))
+  where
+    all : Forest
+    all = widened_all parts (symbols_of rule)
+
+    go : (b c : Bool) → nat_eq rule.number (number_of Production.NestAbbreviated) ≡ b → is_operator_component rule.number k ≡ c
+        → IsTree wide (OfKind k) (elim b as (λ _. Tree) [
+          | true ↦ branch (rule_of Production.NestTemplate) taken (with_rest_or_end all)
+          | false ↦ elim c as (λ _. Tree) [ true ↦ operator_component taken all | false ↦ branch rule taken all ]
+        ])
+        → spell (elim b as (λ _. Tree) [
+          | true ↦ branch (rule_of Production.NestTemplate) taken (with_rest_or_end all)
+          | false ↦ elim c as (λ _. Tree) [ true ↦ operator_component taken all | false ↦ branch rule taken all ]
+        ]) ≡ taken ++ spell_all parts
+        → IsBranch k rule (taken ++ spell_all parts)
+    go true c this which_ tree spelled =
+        record { other = rule_of Production.NestTemplate; own = taken; parts = with_rest_or_end all; is = tree; spells = spelled; same = λ other apart. absurd (true≢false (sym this ∙ other)) }
+    go false true other this tree spelled = operator_is_branch k rule taken (taken ++ spell_all parts) all this tree spelled
+    go false false other apart tree spelled = record { other = rule; own = taken; parts = all; is = tree; spells = spelled; same = λ one two. refl }
 
 -- a rule's tree isn't empty
 pub either_filled : (k : ℕ) (rule : Rule) (taken : List ℕ) (parts : Forest) → k < either.kinds → IsTree either (OfKind k) (branch rule taken parts) → taken ++ spell_all parts ≡ [] → ⊥
 either_filled k rule taken parts lt is none =
     let w = wide_branch k rule taken parts lt is in
-    branch_filled wide wide_lawful k w.other taken w.parts (wide_kind k lt) w.is (w.spells ∙ none)
+    branch_filled wide wide_lawful k w.other w.own w.parts (wide_kind k lt) w.is (w.spells ∙ none)
 
 narrow_at : either.rule NEST_AFTER_S 33 ≡ Some (rule_of Production.NestAbbreviated)
 unfolding either_choose either_alternatives kinds pick is_in in_ranges among rule_taken
 narrow_at = either_rule_at NEST_AFTER_S Kind.NestAfterS 33 refl
+
+operator_at : either.rule COMPONENT 33 ≡ Some (rule_of Production.OperatorName)
+unfolding either_choose either_alternatives kinds pick is_in in_ranges among rule_taken
+operator_at = either_rule_at COMPONENT Kind.Component 33 refl
 
 -- The rule of a tree is the one that its first byte chooses, or stands at the byte that no symbol has.
 pub either_first : (k : ℕ) (rule : Rule) (taken : List ℕ) (parts : Forest) (b : ℕ) (w : List ℕ) → k < either.kinds → IsTree either (OfKind k) (branch rule taken parts) → taken ++ spell_all parts ≡ b ∷ w
     → (b < 256) × ((either.rule k b ≡ Some rule) ⊎ (either.rule k 33 ≡ Some rule))
 either_first k rule taken parts b w lt is spelled =
     let wide_ = wide_branch k rule taken parts lt is in
-    let first = branch_first wide wide_lawful k wide_.other taken wide_.parts b w (wide_kind k lt) wide_.is (wide_.spells ∙ spelled) in (
+    let first = branch_first wide wide_lawful k wide_.other wide_.own wide_.parts b w (wide_kind k lt) wide_.is (wide_.spells ∙ spelled) in (
       first.0,
       elim (chosen_rule k is.0.byte rule lt is.0.is_byte is.0.found).here [
-        | inl same ↦ (elim (wide_rule_kept k b rule first.0 (first.1 ∙ ap Some (wide_.same same.0))) [ inl here ↦ inl here | inr apart ↦ inr apart.1 ])
-        | inr narrow ↦ inr (ap (λ n. either.rule n 33) narrow.1 ∙ narrow_at ∙ ap Some (sym narrow.0))
+        | as_wide other apart same ↦ (elim (wide_rule_kept k b rule first.0 (first.1 ∙ ap Some (wide_.same other apart))) [ inl here ↦ inl here | inr apart ↦ inr apart.1 ])
+        | behind_s is at ↦ inr (ap (λ n. either.rule n 33) at ∙ narrow_at ∙ ap Some (sym is))
+        | of_operator is at ↦ inr (ap (λ n. either.rule n 33) at ∙ operator_at ∙ ap Some (sym is))
       ],
     )
 

@@ -17,6 +17,7 @@ on_ranges ranges singles production = record { ranges = codes ranges; singles = 
 -- what a kind may begin with, and the production that is then taken
 unfoldable pub either_alternatives : Kind → List Alternative
 either_alternatives Kind.NestAfterS = on "t" Production.NestStd ∷ on_ranges "0-9A-Z" "_abdios" Production.NestTemplate ∷ on "!" Production.NestAbbreviated ∷ []
+either_alternatives Kind.Component = on "C" Production.Constructor ∷ on "D" Production.Destructor ∷ on "L" Production.InternalName ∷ on "U" Production.LocalTypeName ∷ on_ranges "0-9" "" Production.SourceName ∷ on "c" Production.ComponentWithC ∷ on_ranges "l-p" "adegirs" Production.OtherOperatorName ∷ on "M" Production.Holder ∷ on "!" Production.OperatorName ∷ []
 either_alternatives kind = wide_alternatives kind
 
 -- the production that a kind takes at a byte

@@ -112,9 +112,11 @@ number_of_kind Kind.NestRestAlone = 68
 number_of_kind Kind.HolderMark = 69
 number_of_kind Kind.HeldComponent = 70
 number_of_kind Kind.FloatEnd = 71
-number_of_kind Kind.ArgumentsFirst = 72
-number_of_kind Kind.PlainEntity = 73
-number_of_kind Kind.PlainTypeEntity = 74
+number_of_kind Kind.ComponentAfterC = 72
+number_of_kind Kind.OtherOperator = 73
+number_of_kind Kind.ArgumentsFirst = 74
+number_of_kind Kind.PlainEntity = 75
+number_of_kind Kind.PlainTypeEntity = 76
 
 -- a kind as a symbol of a rule
 abbrev part : Kind → Sym
@@ -192,8 +194,10 @@ alternatives Kind.NestRestOrEnd = on "I" Production.NestInstance ∷ on_ranges "
 alternatives Kind.ArgumentsAlone = on "I" Production.Arguments ∷ []
 alternatives Kind.NestRestAlone = on "I" Production.NestArguments ∷ on_ranges "0-9c-el-p" "CDLUagirs" Production.NestNext ∷ []
 alternatives Kind.HolderMark = on "M" Production.Mark ∷ []
-alternatives Kind.HeldComponent = on "C" Production.Constructor ∷ on "D" Production.Destructor ∷ on "L" Production.InternalName ∷ on "U" Production.LocalTypeName ∷ on_ranges "c-el-p" "agirs" Production.OperatorName ∷ on_ranges "0-9" "" Production.SourceName ∷ []
+alternatives Kind.HeldComponent = on "C" Production.Constructor ∷ on "D" Production.Destructor ∷ on "L" Production.InternalName ∷ on "U" Production.LocalTypeName ∷ on_ranges "0-9" "" Production.SourceName ∷ on "c" Production.ComponentWithC ∷ on_ranges "l-p" "adegirs" Production.OtherOperatorName ∷ []
 alternatives Kind.FloatEnd = on "_bx" Production.Mark ∷ []
+alternatives Kind.ComponentAfterC = on "v" Production.Conversion ∷ on "lmo" Production.OperatorNameWithC ∷ []
+alternatives Kind.OtherOperator = on "n" Production.OperatorN ∷ on "d" Production.OperatorD ∷ on "a" Production.OperatorA ∷ on "p" Production.OperatorP ∷ on "m" Production.OperatorM ∷ on "r" Production.OperatorR ∷ on "o" Production.OperatorO ∷ on "e" Production.OperatorE ∷ on "l" Production.OperatorL ∷ on "s" Production.OperatorS ∷ on "i" Production.OperatorI ∷ on "g" Production.OperatorG ∷ []
 alternatives Kind.ArgumentsFirst = on "J" Production.PackArgument ∷ on "L" Production.LiteralArgument ∷ on "X" Production.AddressArgument ∷ on_ranges "0-9M-PR-Va-jl-or-z" "ACDFKZ" Production.TypeArgument ∷ []
 alternatives Kind.PlainEntity = on "N" Production.NestedName ∷ on "L" Production.InternalName ∷ on "U" Production.LocalTypeName ∷ on_ranges "0-9" "" Production.SourceName ∷ []
 alternatives Kind.PlainTypeEntity = on "N" Production.NestedType ∷ on "L" Production.InternalName ∷ on "U" Production.LocalTypeName ∷ on_ranges "0-9" "" Production.SourceName ∷ []
@@ -317,10 +321,14 @@ parts_of Production.OperatorI = part Kind.OperatorAfterI ∷ []
 parts_of Production.OperatorG = part Kind.OperatorAfterG ∷ []
 parts_of Production.LiteralOperator = Name ∷ []
 parts_of Production.NestInstance = part Kind.ArgumentsFirst ∷ Byte 69 ∷ part Kind.NestTail ∷ []
+parts_of Production.Conversion = part Kind.Type ∷ []
+parts_of Production.OperatorNameWithC = part Kind.OperatorAfterC ∷ part Kind.MaybeArguments ∷ []
 parts_of Production.SpecialName = part Kind.CompleteName ∷ []
 parts_of Production.ConstructionVtable = part Kind.Type ∷ Number Digits ∷ Byte 95 ∷ part Kind.Type ∷ []
 parts_of Production.NestTemplate = part Kind.Abbreviation ∷ part Kind.NestRestOrEnd ∷ []
 parts_of Production.NestTag = Name ∷ part Kind.NestRest ∷ []
+parts_of Production.ComponentWithC = part Kind.ComponentAfterC ∷ []
+parts_of Production.OtherOperatorName = part Kind.OtherOperator ∷ part Kind.MaybeArguments ∷ []
 parts_of Production.Holder = part Kind.HolderMark ∷ part Kind.HeldComponent ∷ []
 parts_of Production.DefaultEntity = Number Decimal ∷ part Kind.PlainEntity ∷ []
 parts_of Production.DefaultTypeEntity = Number Decimal ∷ part Kind.PlainTypeEntity ∷ []
@@ -351,7 +359,9 @@ is_chain Production.Items = true
 is_chain Production.TypeArgument = true
 is_chain Production.TypeElement = true
 is_chain Production.IntegerLiteral = true
+is_chain Production.OperatorNameWithC = true
 is_chain Production.NestTemplate = true
+is_chain Production.OtherOperatorName = true
 is_chain Production.Holder = true
 is_chain _ = false
 
@@ -376,11 +386,11 @@ may_be_empty _ = false
 
 -- the kinds in the order of their numbers
 unfoldable pub kinds : List Kind
-kinds = Kind.Symbol ∷ Kind.MaybeSuffix ∷ Kind.SuffixFirst ∷ Kind.SuffixMore ∷ Kind.Encoding ∷ Kind.Special ∷ Kind.CallOffset ∷ Kind.Integer ∷ Kind.CompleteName ∷ Kind.MaybeRestrict ∷ Kind.MaybeVolatile ∷ Kind.MaybeConst ∷ Kind.MaybeRef ∷ Kind.NameAfterS ∷ Kind.Unqualified ∷ Kind.Nest ∷ Kind.NestAfterS ∷ Kind.NestRest ∷ Kind.NestTail ∷ Kind.Component ∷ Kind.ConstructorDigit ∷ Kind.DestructorDigit ∷ Kind.Abbreviation ∷ Kind.Entity ∷ Kind.TypeEntity ∷ Kind.MaybeDiscriminator ∷ Kind.DiscriminatorRest ∷ Kind.Anonymous ∷ Kind.Type ∷ Kind.Plain ∷ Kind.Item ∷ Kind.ItemButRef ∷ Kind.ItemAfterD ∷ Kind.AfterD ∷ Kind.Solid ∷ Kind.MaybeCLinkage ∷ Kind.TypeAfterS ∷ Kind.SourceOrLocal ∷ Kind.FunctionRest ∷ Kind.AfterR ∷ Kind.AfterO ∷ Kind.Items ∷ Kind.MaybeArguments ∷ Kind.Arguments ∷ Kind.ArgumentList ∷ Kind.PackList ∷ Kind.Address ∷ Kind.Literal ∷ Kind.Bit ∷ Kind.LiteralAfterD ∷ Kind.MaybeZero ∷ Kind.LiteralType ∷ Kind.Operator ∷ Kind.OperatorAfterN ∷ Kind.OperatorAfterD ∷ Kind.OperatorAfterA ∷ Kind.OperatorAfterP ∷ Kind.OperatorAfterC ∷ Kind.OperatorAfterM ∷ Kind.OperatorAfterR ∷ Kind.OperatorAfterO ∷ Kind.OperatorAfterE ∷ Kind.OperatorAfterL ∷ Kind.OperatorAfterS ∷ Kind.OperatorAfterI ∷ Kind.OperatorAfterG ∷ Kind.NestRestOrEnd ∷ Kind.ArgumentsAlone ∷ Kind.NestRestAlone ∷ Kind.HolderMark ∷ Kind.HeldComponent ∷ Kind.FloatEnd ∷ Kind.ArgumentsFirst ∷ Kind.PlainEntity ∷ Kind.PlainTypeEntity ∷ []
+kinds = Kind.Symbol ∷ Kind.MaybeSuffix ∷ Kind.SuffixFirst ∷ Kind.SuffixMore ∷ Kind.Encoding ∷ Kind.Special ∷ Kind.CallOffset ∷ Kind.Integer ∷ Kind.CompleteName ∷ Kind.MaybeRestrict ∷ Kind.MaybeVolatile ∷ Kind.MaybeConst ∷ Kind.MaybeRef ∷ Kind.NameAfterS ∷ Kind.Unqualified ∷ Kind.Nest ∷ Kind.NestAfterS ∷ Kind.NestRest ∷ Kind.NestTail ∷ Kind.Component ∷ Kind.ConstructorDigit ∷ Kind.DestructorDigit ∷ Kind.Abbreviation ∷ Kind.Entity ∷ Kind.TypeEntity ∷ Kind.MaybeDiscriminator ∷ Kind.DiscriminatorRest ∷ Kind.Anonymous ∷ Kind.Type ∷ Kind.Plain ∷ Kind.Item ∷ Kind.ItemButRef ∷ Kind.ItemAfterD ∷ Kind.AfterD ∷ Kind.Solid ∷ Kind.MaybeCLinkage ∷ Kind.TypeAfterS ∷ Kind.SourceOrLocal ∷ Kind.FunctionRest ∷ Kind.AfterR ∷ Kind.AfterO ∷ Kind.Items ∷ Kind.MaybeArguments ∷ Kind.Arguments ∷ Kind.ArgumentList ∷ Kind.PackList ∷ Kind.Address ∷ Kind.Literal ∷ Kind.Bit ∷ Kind.LiteralAfterD ∷ Kind.MaybeZero ∷ Kind.LiteralType ∷ Kind.Operator ∷ Kind.OperatorAfterN ∷ Kind.OperatorAfterD ∷ Kind.OperatorAfterA ∷ Kind.OperatorAfterP ∷ Kind.OperatorAfterC ∷ Kind.OperatorAfterM ∷ Kind.OperatorAfterR ∷ Kind.OperatorAfterO ∷ Kind.OperatorAfterE ∷ Kind.OperatorAfterL ∷ Kind.OperatorAfterS ∷ Kind.OperatorAfterI ∷ Kind.OperatorAfterG ∷ Kind.NestRestOrEnd ∷ Kind.ArgumentsAlone ∷ Kind.NestRestAlone ∷ Kind.HolderMark ∷ Kind.HeldComponent ∷ Kind.FloatEnd ∷ Kind.ComponentAfterC ∷ Kind.OtherOperator ∷ Kind.ArgumentsFirst ∷ Kind.PlainEntity ∷ Kind.PlainTypeEntity ∷ []
 
 -- the productions in the order of their numbers
 unfoldable pub productions : List Production
-productions = Production.Mark ∷ Production.InternalName ∷ Production.LocalTypeName ∷ Production.SourceName ∷ Production.OperatorName ∷ Production.InternalPiece ∷ Production.LocalTypePiece ∷ Production.SourcePiece ∷ Production.NestedName ∷ Production.Symbol ∷ Production.Suffix ∷ Production.SuffixByte ∷ Production.Special ∷ Production.Guard ∷ Production.Encoding ∷ Production.SpecialType ∷ Production.NonVirtualThunk ∷ Production.VirtualThunk ∷ Production.CovariantThunk ∷ Production.NonVirtualOffset ∷ Production.VirtualOffset ∷ Production.Negative ∷ Production.Positive ∷ Production.NameWithS ∷ Production.LocalName ∷ Production.StdName ∷ Production.AbbreviatedName ∷ Production.OperatorPiece ∷ Production.NestWithS ∷ Production.NestParameter ∷ Production.NestInternal ∷ Production.NestLocalType ∷ Production.NestSource ∷ Production.NestStd ∷ Production.NestAbbreviated ∷ Production.NestArguments ∷ Production.NestNext ∷ Production.NestEnd ∷ Production.Constructor ∷ Production.Destructor ∷ Production.Abbreviation ∷ Production.Substitution ∷ Production.NestedType ∷ Production.StringLiteral ∷ Production.Discriminator ∷ Production.OneDigit ∷ Production.ManyDigits ∷ Production.Lambda ∷ Production.Unnamed ∷ Production.RestrictType ∷ Production.VolatileType ∷ Production.ConstType ∷ Production.ReferenceType ∷ Production.PlainType ∷ Production.TypeWithD ∷ Production.PlainWithD ∷ Production.QualifiedPlain ∷ Production.ItemWithD ∷ Production.Expansion ∷ Production.ItemIsType ∷ Production.BuiltinWithD ∷ Production.Vector ∷ Production.NoexceptFunction ∷ Production.Pointer ∷ Production.MemberPointer ∷ Production.Parameter ∷ Production.TypeWithS ∷ Production.LocalType ∷ Production.Builtin ∷ Production.Vendor ∷ Production.Array ∷ Production.Function ∷ Production.Complex ∷ Production.StdType ∷ Production.AbbreviatedType ∷ Production.RestEnd ∷ Production.RestLvalue ∷ Production.RestRvalue ∷ Production.RestItem ∷ Production.RefEnd ∷ Production.LvalueItem ∷ Production.RvalueItem ∷ Production.Items ∷ Production.Arguments ∷ Production.PackArgument ∷ Production.LiteralArgument ∷ Production.AddressArgument ∷ Production.TypeArgument ∷ Production.LiteralElement ∷ Production.AddressElement ∷ Production.TypeElement ∷ Production.Address ∷ Production.EncodingLiteral ∷ Production.BoolLiteral ∷ Production.LiteralWithD ∷ Production.IntegerLiteral ∷ Production.NullLiteral ∷ Production.CharLiteral ∷ Production.OperatorN ∷ Production.OperatorD ∷ Production.OperatorA ∷ Production.OperatorP ∷ Production.OperatorC ∷ Production.OperatorM ∷ Production.OperatorR ∷ Production.OperatorO ∷ Production.OperatorE ∷ Production.OperatorL ∷ Production.OperatorS ∷ Production.OperatorI ∷ Production.OperatorG ∷ Production.LiteralOperator ∷ Production.NestInstance ∷ Production.SpecialName ∷ Production.ConstructionVtable ∷ Production.NestTemplate ∷ Production.NestTag ∷ Production.Holder ∷ Production.DefaultEntity ∷ Production.DefaultTypeEntity ∷ Production.SizedFloat ∷ Production.Tag ∷ []
+productions = Production.Mark ∷ Production.InternalName ∷ Production.LocalTypeName ∷ Production.SourceName ∷ Production.OperatorName ∷ Production.InternalPiece ∷ Production.LocalTypePiece ∷ Production.SourcePiece ∷ Production.NestedName ∷ Production.Symbol ∷ Production.Suffix ∷ Production.SuffixByte ∷ Production.Special ∷ Production.Guard ∷ Production.Encoding ∷ Production.SpecialType ∷ Production.NonVirtualThunk ∷ Production.VirtualThunk ∷ Production.CovariantThunk ∷ Production.NonVirtualOffset ∷ Production.VirtualOffset ∷ Production.Negative ∷ Production.Positive ∷ Production.NameWithS ∷ Production.LocalName ∷ Production.StdName ∷ Production.AbbreviatedName ∷ Production.OperatorPiece ∷ Production.NestWithS ∷ Production.NestParameter ∷ Production.NestInternal ∷ Production.NestLocalType ∷ Production.NestSource ∷ Production.NestStd ∷ Production.NestAbbreviated ∷ Production.NestArguments ∷ Production.NestNext ∷ Production.NestEnd ∷ Production.Constructor ∷ Production.Destructor ∷ Production.Abbreviation ∷ Production.Substitution ∷ Production.NestedType ∷ Production.StringLiteral ∷ Production.Discriminator ∷ Production.OneDigit ∷ Production.ManyDigits ∷ Production.Lambda ∷ Production.Unnamed ∷ Production.RestrictType ∷ Production.VolatileType ∷ Production.ConstType ∷ Production.ReferenceType ∷ Production.PlainType ∷ Production.TypeWithD ∷ Production.PlainWithD ∷ Production.QualifiedPlain ∷ Production.ItemWithD ∷ Production.Expansion ∷ Production.ItemIsType ∷ Production.BuiltinWithD ∷ Production.Vector ∷ Production.NoexceptFunction ∷ Production.Pointer ∷ Production.MemberPointer ∷ Production.Parameter ∷ Production.TypeWithS ∷ Production.LocalType ∷ Production.Builtin ∷ Production.Vendor ∷ Production.Array ∷ Production.Function ∷ Production.Complex ∷ Production.StdType ∷ Production.AbbreviatedType ∷ Production.RestEnd ∷ Production.RestLvalue ∷ Production.RestRvalue ∷ Production.RestItem ∷ Production.RefEnd ∷ Production.LvalueItem ∷ Production.RvalueItem ∷ Production.Items ∷ Production.Arguments ∷ Production.PackArgument ∷ Production.LiteralArgument ∷ Production.AddressArgument ∷ Production.TypeArgument ∷ Production.LiteralElement ∷ Production.AddressElement ∷ Production.TypeElement ∷ Production.Address ∷ Production.EncodingLiteral ∷ Production.BoolLiteral ∷ Production.LiteralWithD ∷ Production.IntegerLiteral ∷ Production.NullLiteral ∷ Production.CharLiteral ∷ Production.OperatorN ∷ Production.OperatorD ∷ Production.OperatorA ∷ Production.OperatorP ∷ Production.OperatorC ∷ Production.OperatorM ∷ Production.OperatorR ∷ Production.OperatorO ∷ Production.OperatorE ∷ Production.OperatorL ∷ Production.OperatorS ∷ Production.OperatorI ∷ Production.OperatorG ∷ Production.LiteralOperator ∷ Production.NestInstance ∷ Production.Conversion ∷ Production.OperatorNameWithC ∷ Production.SpecialName ∷ Production.ConstructionVtable ∷ Production.NestTemplate ∷ Production.NestTag ∷ Production.ComponentWithC ∷ Production.OtherOperatorName ∷ Production.Holder ∷ Production.DefaultEntity ∷ Production.DefaultTypeEntity ∷ Production.SizedFloat ∷ Production.Tag ∷ []
 
 -- the numbers of the productions
 unfoldable pub number_of : Production → ℕ
@@ -497,12 +507,16 @@ number_of Production.OperatorI = 109
 number_of Production.OperatorG = 110
 number_of Production.LiteralOperator = 111
 number_of Production.NestInstance = 112
-number_of Production.SpecialName = 113
-number_of Production.ConstructionVtable = 114
-number_of Production.NestTemplate = 115
-number_of Production.NestTag = 116
-number_of Production.Holder = 117
-number_of Production.DefaultEntity = 118
-number_of Production.DefaultTypeEntity = 119
-number_of Production.SizedFloat = 120
-number_of Production.Tag = 121
+number_of Production.Conversion = 113
+number_of Production.OperatorNameWithC = 114
+number_of Production.SpecialName = 115
+number_of Production.ConstructionVtable = 116
+number_of Production.NestTemplate = 117
+number_of Production.NestTag = 118
+number_of Production.ComponentWithC = 119
+number_of Production.OtherOperatorName = 120
+number_of Production.Holder = 121
+number_of Production.DefaultEntity = 122
+number_of Production.DefaultTypeEntity = 123
+number_of Production.SizedFloat = 124
+number_of Production.Tag = 125

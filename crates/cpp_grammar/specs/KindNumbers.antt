@@ -3,10 +3,10 @@ use Rattle.std.specs.Prelude.{ℕ}
 
 -- how many kinds there are, and how many productions
 abbrev pub KIND_COUNT : ℕ
-KIND_COUNT = 75
+KIND_COUNT = 77
 
 abbrev pub PRODUCTION_COUNT : ℕ
-PRODUCTION_COUNT = 122
+PRODUCTION_COUNT = 126
 
 abbrev pub SYMBOL : ℕ
 SYMBOL = 0
@@ -224,11 +224,17 @@ HELD_COMPONENT = 70
 abbrev pub FLOAT_END : ℕ
 FLOAT_END = 71
 
+abbrev pub COMPONENT_AFTER_C : ℕ
+COMPONENT_AFTER_C = 72
+
+abbrev pub OTHER_OPERATOR : ℕ
+OTHER_OPERATOR = 73
+
 abbrev pub ARGUMENTS_FIRST : ℕ
-ARGUMENTS_FIRST = 72
+ARGUMENTS_FIRST = 74
 
 abbrev pub PLAIN_ENTITY : ℕ
-PLAIN_ENTITY = 73
+PLAIN_ENTITY = 75
 
 abbrev pub PLAIN_TYPE_ENTITY : ℕ
-PLAIN_TYPE_ENTITY = 74
+PLAIN_TYPE_ENTITY = 76

@@ -1,7 +1,7 @@
 -- What the trees of C++ symbols are like: their arguments, free parameters and packs.
 -- The scope of an encoding is the list of arguments that its own name ends in. It holds for the encoding's types alone.
 use Rattle.std.specs.Prelude.{ℕ, zero, suc, Bool, true, false, not, ◌||◌, Option, Some, None}
-use Rattle.cpp_grammar.specs.Term.{Term, alone, in_std, within, instance, local, holder, tagged, of_default, parameter, constructor, destructor, lambda, pointer, lvalue, rvalue, array, member_pointer, function_type, qualified, vector, complex, expansion, integer, pack, list, absent}
+use Rattle.cpp_grammar.specs.Term.{Term, alone, in_std, within, instance, local, holder, tagged, of_default, parameter, constructor, destructor, lambda, conversion, pointer, lvalue, rvalue, array, member_pointer, function_type, qualified, vector, complex, expansion, integer, pack, list, absent}
 
 -- the length of a list
 unfoldable pub count : Term → ℕ
@@ -53,6 +53,7 @@ is_open (holder name) = is_open name
 is_open (tagged of_structor name tag) = is_open name
 is_open (of_default digits entity) = is_open entity
 is_open (lambda parameters number) = is_open parameters
+is_open (conversion type) = is_open type
 is_open (pointer type) = is_open type
 is_open (lvalue type) = is_open type
 is_open (rvalue type) = is_open type
@@ -89,6 +90,7 @@ pack_length scope (holder name) = pack_length scope name
 pack_length scope (tagged of_structor name tag) = pack_length scope name
 pack_length scope (of_default digits entity) = pack_length scope entity
 pack_length scope (lambda parameters number) = pack_length scope parameters
+pack_length scope (conversion type) = pack_length scope type
 pack_length scope (pointer type) = pack_length scope type
 pack_length scope (lvalue type) = pack_length scope type
 pack_length scope (rvalue type) = pack_length scope type

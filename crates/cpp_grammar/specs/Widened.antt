@@ -1,10 +1,16 @@
 -- The tree that a symbol of the ABI's grammar has in the wide one.
 -- They differ in a nested name that begins with an abbreviation or a substitution. In the wide grammar it may end behind arguments, so a
--- rule of its own takes these, and what comes behind them is a part as behind any other piece of a name.
-use Rattle.std.specs.Prelude.{List, ℕ, [], true, false, nat_eq}
+-- rule of its own takes these, and what comes behind them is a part as behind any other piece of a name. And they differ in an operator's
+-- name within a nested one: there the wide grammar has conversions to types, which begin with a c too, so a rule takes the c, and another
+-- what comes behind it.
+use Rattle.std.specs.Prelude.{List, ℕ, [], ◌∷◌, ◌++◌, ◌&&◌, true, false, nat_eq}
 use Rattle.sym_shape.specs.declared.rule.Rule.{Rule}
+use Rattle.sym_shape.specs.declared.rule.Sym.{Sym}
+use Rattle.sym_shape.specs.declared.rule.Sym.TheVariants.{Kind as OfKind}
+use Rattle.sym_shape.specs.Table.{symbols_of}
 use Rattle.sym_shape.specs.Tree.{Tree, Forest, branch, nothing, grown}
 use Rattle.cpp_grammar.specs.declared.production.Production.{Production}
+use Rattle.cpp_grammar.specs.KindNumbers.{SYMBOL, COMPONENT}
 use Rattle.cpp_grammar.specs.Grammar.{number_of}
 use Rattle.cpp_grammar.specs.Table.{rule_of}
 
@@ -19,18 +25,40 @@ unfoldable pub with_rest_or_end : Forest → Forest
 with_rest_or_end (grown abbreviation (grown rest nothing)) = grown abbreviation (grown (rest_or_end rest) nothing)
 with_rest_or_end parts = parts
 
--- a tree whose parts are widened
-unfoldable pub widened_branch : Rule → (taken : List ℕ) → Forest → Tree
-widened_branch rule taken parts = elim (nat_eq rule.number (number_of Production.NestAbbreviated)) [
-  | true ↦ branch (rule_of Production.NestTemplate) taken (with_rest_or_end parts)
-  | false ↦ branch rule taken parts
+-- an operator of two letters, and the arguments behind it
+unfoldable pub letters_component : (rule : Rule) → (taken first : List ℕ) → (second arguments : Tree) → Tree
+letters_component rule taken first second arguments = elim (nat_eq rule.number (number_of Production.OperatorC)) [
+  | true ↦ branch (rule_of Production.ComponentWithC) (taken ++ first)
+      (grown (branch (rule_of Production.OperatorNameWithC) [] (grown second (grown arguments nothing))) nothing)
+  | false ↦ branch (rule_of Production.OtherOperatorName) taken (grown (branch rule first (grown second nothing)) (grown arguments nothing))
 ]
 
-unfoldable mutual
-  pub widened : Tree → Tree
-  widened (branch rule taken parts) = widened_branch rule taken (widened_all parts)
-  widened tree = tree
+-- an operator's name within a nested one
+unfoldable pub operator_component : (taken : List ℕ) → Forest → Tree
+operator_component taken (grown (branch rule first (grown second nothing)) (grown arguments nothing)) =
+    letters_component rule taken first second arguments
+operator_component taken parts = branch (rule_of Production.OtherOperatorName) taken parts
 
-  pub widened_all : Forest → Forest
-  widened_all nothing = nothing
-  widened_all (grown tree rest) = grown (widened tree) (widened_all rest)
+-- a tree of a kind whose parts are widened
+unfoldable pub widened_branch : (kind : ℕ) → Rule → (taken : List ℕ) → Forest → Tree
+widened_branch kind rule taken parts = elim (nat_eq rule.number (number_of Production.NestAbbreviated)) [
+  | true ↦ branch (rule_of Production.NestTemplate) taken (with_rest_or_end parts)
+  | false ↦ elim (nat_eq rule.number (number_of Production.OperatorName) && nat_eq kind COMPONENT) [
+    | true ↦ operator_component taken parts
+    | false ↦ branch rule taken parts
+  ]
+]
+
+-- as the part that a symbol of a rule stands for
+unfoldable mutual
+  pub widened_as : Tree → Sym → Tree
+  widened_as (branch rule taken parts) (OfKind kind) = widened_branch kind rule taken (widened_all parts (symbols_of rule))
+  widened_as tree symbol = tree
+
+  pub widened_all : Forest → List Sym → Forest
+  widened_all (grown tree rest) (symbol ∷ symbols) = grown (widened_as tree symbol) (widened_all rest symbols)
+  widened_all parts symbols = parts
+
+-- of a whole symbol
+abbrev pub widened : Tree → Tree
+widened tree = widened_as tree (OfKind SYMBOL)

@@ -78,6 +78,8 @@ pub enum Kind {
     HolderMark,
     HeldComponent,
     FloatEnd,
+    ComponentAfterC,
+    OtherOperator,
     ArgumentsFirst,
     PlainEntity,
     PlainTypeEntity,
@@ -161,9 +163,11 @@ pub fn kind_of(number: u16) -> Option<Kind>
         69 => Some(Kind::HolderMark),
         70 => Some(Kind::HeldComponent),
         71 => Some(Kind::FloatEnd),
-        72 => Some(Kind::ArgumentsFirst),
-        73 => Some(Kind::PlainEntity),
-        74 => Some(Kind::PlainTypeEntity),
+        72 => Some(Kind::ComponentAfterC),
+        73 => Some(Kind::OtherOperator),
+        74 => Some(Kind::ArgumentsFirst),
+        75 => Some(Kind::PlainEntity),
+        76 => Some(Kind::PlainTypeEntity),
         _ => None,
     }
 }

@@ -153,11 +153,15 @@ const HELD_COMPONENT: Sym = Sym::Kind(70);
 
 const FLOAT_END: Sym = Sym::Kind(71);
 
-const ARGUMENTS_FIRST: Sym = Sym::Kind(72);
+const COMPONENT_AFTER_C: Sym = Sym::Kind(72);
 
-const PLAIN_ENTITY: Sym = Sym::Kind(73);
+const OTHER_OPERATOR: Sym = Sym::Kind(73);
 
-const PLAIN_TYPE_ENTITY: Sym = Sym::Kind(74);
+const ARGUMENTS_FIRST: Sym = Sym::Kind(74);
+
+const PLAIN_ENTITY: Sym = Sym::Kind(75);
+
+const PLAIN_TYPE_ENTITY: Sym = Sym::Kind(76);
 
 const NAME: Sym = Sym::Name;
 
@@ -171,7 +175,7 @@ const DIGITS: Sym = Sym::Number(NumberKind::Digits);
 pub const FIRST_LETTER: u8 = b'!';
 
 // For each kind a row: for each byte from `$` to `z` the letter of the production that the kind takes there.
-static LETTERS: [[u8; 87]; 75] = [
+static LETTERS: [[u8; 87]; 77] = [
     // $%&'()*+,-./0123456789:;<=>?@ABCDEFGHIJKLMNOPQRSTUVWXYZ[\]^_`abcdefghijklmnopqrstuvwxyz
     *b"                                                           *                           ", // Symbol
     *b"          +                                                                            ", // MaybeSuffix
@@ -243,8 +247,10 @@ static LETTERS: [[u8; 87]; 75] = [
     *b"                                     t                                                 ", // ArgumentsAlone
     *b"            EEEEEEEEEE         EE    D  E        E           E EEE E E  EEEEE EE       ", // NestRestAlone
     *b"                                         !                                             ", // HolderMark
-    *b"            $$$$$$$$$$         GH       \"        #           % %%% % %  %%%%% %%       ", // HeldComponent
+    *b"            $$$$$$$$$$         GH       \"        #           \x99 \x98\x99\x99 \x99 \x99  \x99\x99\x99\x99\x99 \x99\x99       ", // HeldComponent
     *b"                                                           !  !                     !  ", // FloatEnd
+    *b"                                                                        \x93\x93 \x93      \x92    ", // ComponentAfterC
+    *b"                                                             \x85  \x84\x8b \x8f \x8e  \x8c\x88\x83\x8a\x86 \x89\x8d       ", // OtherOperator
     *b"            xxxxxxxxxx       x xx x   uxvxxxx xxxxx w x      xxxxxxxxxx xxxx  xxxxxxxxx", // ArgumentsFirst
     *b"            $$$$$$$$$$                  \" )      #                                     ", // PlainEntity
     *b"            $$$$$$$$$$                  \" K      #                                     ", // PlainTypeEntity
@@ -277,7 +283,7 @@ macro_rules! chains {
 }
 
 // The rules of the productions, in the order of their numbers.
-pub static HEADS: [Head; 122] = [
+pub static HEADS: [Head; 126] = [
     takes!(0), // ! Mark
     takes!(2), // \" InternalName
     takes!(2), // # LocalTypeName
@@ -391,19 +397,23 @@ pub static HEADS: [Head; 122] = [
     takes!(1), // \x8f OperatorG
     takes!(1), // \x90 LiteralOperator
     takes!(3), // \x91 NestInstance
-    takes!(1), // \x92 SpecialName
-    takes!(4), // \x93 ConstructionVtable
-    chains!(2), // \x94 NestTemplate
-    takes!(2), // \x95 NestTag
-    chains!(2), // \x96 Holder
-    takes!(2), // \x97 DefaultEntity
-    takes!(2), // \x98 DefaultTypeEntity
-    takes!(2), // \x99 SizedFloat
-    takes!(2), // \x9a Tag
+    takes!(1), // \x92 Conversion
+    chains!(2), // \x93 OperatorNameWithC
+    takes!(1), // \x94 SpecialName
+    takes!(4), // \x95 ConstructionVtable
+    chains!(2), // \x96 NestTemplate
+    takes!(2), // \x97 NestTag
+    takes!(1), // \x98 ComponentWithC
+    chains!(2), // \x99 OtherOperatorName
+    chains!(2), // \x9a Holder
+    takes!(2), // \x9b DefaultEntity
+    takes!(2), // \x9c DefaultTypeEntity
+    takes!(2), // \x9d SizedFloat
+    takes!(2), // \x9e Tag
 ];
 
 // The symbols of the rules, in the same order.
-pub static SYMBOLS: [Sym; 738] = symbols_listed! {
+pub static SYMBOLS: [Sym; 762] = symbols_listed! {
     [NONE, NONE, NONE, NONE, NONE], // ! Mark
     [NAME, MAYBE_ARGUMENTS, NONE, NONE, NONE], // \" InternalName
     [ANONYMOUS, MAYBE_ARGUMENTS, NONE, NONE, NONE], // # LocalTypeName
@@ -517,22 +527,26 @@ pub static SYMBOLS: [Sym; 738] = symbols_listed! {
     [OPERATOR_AFTER_G, NONE, NONE, NONE, NONE], // \x8f OperatorG
     [NAME, NONE, NONE, NONE, NONE], // \x90 LiteralOperator
     [ARGUMENTS_FIRST, Sym::Byte(b'E'), NEST_TAIL, NONE, NONE], // \x91 NestInstance
-    [COMPLETE_NAME, NONE, NONE, NONE, NONE], // \x92 SpecialName
-    [TYPE, DIGITS, Sym::Byte(b'_'), TYPE, NONE], // \x93 ConstructionVtable
-    [ABBREVIATION, NEST_REST_OR_END, NONE, NONE, NONE], // \x94 NestTemplate
-    [NAME, NEST_REST, NONE, NONE, NONE], // \x95 NestTag
-    [HOLDER_MARK, HELD_COMPONENT, NONE, NONE, NONE], // \x96 Holder
-    [DECIMAL, PLAIN_ENTITY, NONE, NONE, NONE], // \x97 DefaultEntity
-    [DECIMAL, PLAIN_TYPE_ENTITY, NONE, NONE, NONE], // \x98 DefaultTypeEntity
-    [DIGITS, FLOAT_END, NONE, NONE, NONE], // \x99 SizedFloat
-    [NAME, MAYBE_ARGUMENTS, NONE, NONE, NONE], // \x9a Tag
+    [TYPE, NONE, NONE, NONE, NONE], // \x92 Conversion
+    [OPERATOR_AFTER_C, MAYBE_ARGUMENTS, NONE, NONE, NONE], // \x93 OperatorNameWithC
+    [COMPLETE_NAME, NONE, NONE, NONE, NONE], // \x94 SpecialName
+    [TYPE, DIGITS, Sym::Byte(b'_'), TYPE, NONE], // \x95 ConstructionVtable
+    [ABBREVIATION, NEST_REST_OR_END, NONE, NONE, NONE], // \x96 NestTemplate
+    [NAME, NEST_REST, NONE, NONE, NONE], // \x97 NestTag
+    [COMPONENT_AFTER_C, NONE, NONE, NONE, NONE], // \x98 ComponentWithC
+    [OTHER_OPERATOR, MAYBE_ARGUMENTS, NONE, NONE, NONE], // \x99 OtherOperatorName
+    [HOLDER_MARK, HELD_COMPONENT, NONE, NONE, NONE], // \x9a Holder
+    [DECIMAL, PLAIN_ENTITY, NONE, NONE, NONE], // \x9b DefaultEntity
+    [DECIMAL, PLAIN_TYPE_ENTITY, NONE, NONE, NONE], // \x9c DefaultTypeEntity
+    [DIGITS, FLOAT_END, NONE, NONE, NONE], // \x9d SizedFloat
+    [NAME, MAYBE_ARGUMENTS, NONE, NONE, NONE], // \x9e Tag
 };
 
 /// The number of the rule that a kind takes at a byte, if it takes one.
 #[inline]
 fn number(kind: u16, byte: u8) -> Option<usize>
     requires { kind < abi.kinds }
-    ensures few { IfSome result (λ number. number < 122) }
+    ensures few { IfSome result (λ number. number < 126) }
     ensures rule { (head : Head) → MatchOption result (abi.rule kind byte ≡ None) (λ number. abi.rule kind byte ≡ Some (listed_rule head number)) }
 {
     match letter_in(&LETTERS[kind as usize], byte) {

@@ -16,7 +16,7 @@ use Rattle.cpp_tree.specs.declared.node.Node.{Node}
 use Rattle.cpp_tree.specs.declared.node.Thunk.{Thunk}
 use Rattle.cpp_tree.specs.Nodes.{tree_at, tree_of, piece_of}
 use Rattle.cpp_layout.specs.Texts.{fixed_text}
-use Rattle.cpp_layout.specs.declared.texts.TheConstants.{ANONYMOUS, BLANK_LESS, BRACE, COLONS, GREATER, LAMBDA, LESS, LITERAL, RIGHT_NUMBER, UNNAMED}
+use Rattle.cpp_layout.specs.declared.texts.TheConstants.{ANONYMOUS, BLANK_LESS, BRACE, COLONS, CONVERSION, GREATER, LAMBDA, LESS, LITERAL, RIGHT_NUMBER, UNNAMED}
 use Rattle.cpp_tree.specs.Nodes.{is_encoding}
 use Rattle.cpp_layout.specs.Layout.{IsNoSource}
 
@@ -88,6 +88,10 @@ pub unnamed-whole : (c : items.Context) (number : ℕ) → text (fixed_text UNNA
 unfolding piece_parts
 unnamed-whole c number = refl
 
+pub conversion-whole : (c : items.Context) (t : Term) → text (fixed_text CONVERSION) ∷ as_item heads.left c t ∷ as_item heads.right c t ∷ [] ≡ piece_parts c (term.conversion t)
+unfolding piece_parts
+conversion-whole c t = refl
+
 pub literal-whole : (c : items.Context) (name : List ℕ) → text (fixed_text LITERAL) ∷ text name ∷ [] ≡ piece_parts c (term.literal_operator name)
 unfolding piece_parts
 literal-whole c name = refl
@@ -101,15 +105,16 @@ other-source (Piece.Source i b) other = other i b refl
 other-source _ other = tt
 
 pub piece-none : (s : List ℕ) (ts : List Term) (c : items.Context) (p : Piece) → ((i : Bool) (b : Span) → p ≡ Piece.Source i b → ⊥) → ((a b : ℕ) → p ≡ Piece.Operator a b → ⊥) → ((b : Span) → p ≡ Piece.LiteralOperator b → ⊥)
-    → ((a n : ℕ) → p ≡ Piece.Lambda a n → ⊥) → ((n : ℕ) → p ≡ Piece.Unnamed n → ⊥) → (p ≡ Piece.StringLiteral → ⊥) → [] ≡ piece_parts c (piece_of s ts p)
+    → ((a n : ℕ) → p ≡ Piece.Lambda a n → ⊥) → ((n : ℕ) → p ≡ Piece.Unnamed n → ⊥) → (p ≡ Piece.StringLiteral → ⊥) → ((t : ℕ) → p ≡ Piece.Conversion t → ⊥) → [] ≡ piece_parts c (piece_of s ts p)
 unfolding piece_of piece_parts
-piece-none s ts c (Piece.Source i b) h1 h2 h3 h4 h5 h6 = absurd (h1 i b refl)
-piece-none s ts c (Piece.Operator a b) h1 h2 h3 h4 h5 h6 = absurd (h2 a b refl)
-piece-none s ts c (Piece.LiteralOperator b) h1 h2 h3 h4 h5 h6 = absurd (h3 b refl)
-piece-none s ts c (Piece.Lambda a n) h1 h2 h3 h4 h5 h6 = absurd (h4 a n refl)
-piece-none s ts c (Piece.Unnamed n) h1 h2 h3 h4 h5 h6 = absurd (h5 n refl)
-piece-none s ts c Piece.StringLiteral h1 h2 h3 h4 h5 h6 = absurd (h6 refl)
-piece-none s ts c _ h1 h2 h3 h4 h5 h6 = refl
+piece-none s ts c (Piece.Source i b) h1 h2 h3 h4 h5 h6 h7 = absurd (h1 i b refl)
+piece-none s ts c (Piece.Operator a b) h1 h2 h3 h4 h5 h6 h7 = absurd (h2 a b refl)
+piece-none s ts c (Piece.LiteralOperator b) h1 h2 h3 h4 h5 h6 h7 = absurd (h3 b refl)
+piece-none s ts c (Piece.Lambda a n) h1 h2 h3 h4 h5 h6 h7 = absurd (h4 a n refl)
+piece-none s ts c (Piece.Unnamed n) h1 h2 h3 h4 h5 h6 h7 = absurd (h5 n refl)
+piece-none s ts c Piece.StringLiteral h1 h2 h3 h4 h5 h6 h7 = absurd (h6 refl)
+piece-none s ts c (Piece.Conversion t) h1 h2 h3 h4 h5 h6 h7 = absurd (h7 t refl)
+piece-none s ts c _ h1 h2 h3 h4 h5 h6 h7 = refl
 
 pub base-other : (s : List ℕ) (ts : List Term) (c : items.Context) (prefix : Term) (p : Piece) → ((d : ℕ) → p ≡ Piece.Constructor d → ⊥) → ((d : ℕ) → p ≡ Piece.Destructor d → ⊥) → piece_parts c (piece_of s ts p) ≡ base_within c prefix (piece_of s ts p)
 unfolding piece_of base_within
@@ -198,6 +203,7 @@ within-other s ts c prefix t (Piece.Operator a b) is h1 h2 = rw is refl
 within-other s ts c prefix t (Piece.LiteralOperator b) is h1 h2 = rw is refl
 within-other s ts c prefix t (Piece.Lambda a n) is h1 h2 = rw is refl
 within-other s ts c prefix t (Piece.Unnamed n) is h1 h2 = rw is refl
+within-other s ts c prefix t (Piece.Conversion a) is h1 h2 = rw is refl
 within-other s ts c prefix t Piece.StringLiteral is h1 h2 = rw is refl
 within-other s ts c prefix t Piece.Absent is h1 h2 = rw is refl
 

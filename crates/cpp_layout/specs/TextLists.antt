@@ -43,6 +43,7 @@ plain_texts =
     codes "-" ∷
     codes "construction vtable for " ∷
     codes "-in-" ∷
+    codes "operator " ∷
     codes "_Float" ∷
     codes "x" ∷
     codes "std::bfloat16_t" ∷

@@ -158,6 +158,19 @@ impl Symbol {
         self.push_text(parts, texts::LITERAL);
     }
 
+    /// The parts of the name of a conversion to a type.
+    // <operator-name> ::= cv <type>
+    fn fill_conversion<S: PartList<Context>>(&self, parts: &mut S, ty: u32, ctx: Context)
+        requires ty { ty < length self.now.table.nodes }
+        requires room { 8 ≤ S.room parts.old }
+        ensures shows { Shows self.now ctx.detail (S.held parts.old) (S.held parts.new) (piece_parts (context_of ctx) (term.conversion (tree_at (trees (table_of self.now)) ty))) }
+        ensures few { S.room parts.old ≤ S.room parts.new + 8 }
+    {
+        self.push_item(parts, ty, form::RIGHT, 0, ctx);
+        self.push_item(parts, ty, form::LEFT, 0, ctx);
+        self.push_text(parts, texts::CONVERSION);
+    }
+
     /// The parts of a piece that is no source name.
     fn fill_rare_piece<S: PartList<Context>>(&self, parts: &mut S, piece: Piece, ctx: Context)
         requires table { IsTable (table_of self.now) }
@@ -175,6 +188,7 @@ impl Symbol {
             }
             Piece::Unnamed(number) => self.fill_unnamed(parts, number, ctx),
             Piece::StringLiteral => self.push_text(parts, texts::STRING),
+            Piece::Conversion(ty) => self.fill_conversion(parts, ty, ctx),
             _ => {}
         }
     }

@@ -82,91 +82,93 @@ pub const CONSTRUCTION: u16 = 37;
 
 pub const IN: u16 = 38;
 
-pub const FLOAT: u16 = 39;
+pub const CONVERSION: u16 = 39;
 
-pub const WIDER: u16 = 40;
+pub const FLOAT: u16 = 40;
 
-pub const BRAIN_FLOAT: u16 = 41;
+pub const WIDER: u16 = 41;
 
-pub const TAG: u16 = 42;
+pub const BRAIN_FLOAT: u16 = 42;
+
+pub const TAG: u16 = 43;
 
 /// Where the texts behind a function's parameters begin.
-pub const SUFFIX: u16 = 43;
+pub const SUFFIX: u16 = 44;
 
 /// No text.
-pub const NONE: u16 = 43;
+pub const NONE: u16 = 44;
 
 /// Where the builtin types begin.
-pub const BUILTIN: u16 = 91;
+pub const BUILTIN: u16 = 92;
 
 /// Where the names of operators begin.
-pub const OPERATOR: u16 = 122;
+pub const OPERATOR: u16 = 123;
 
 /// How many operators there are.
 pub const OPERATORS: u16 = 48;
 
 /// Where the abbreviations begin, and their names without `std::`.
-pub const ABBREVIATION: u16 = 170;
+pub const ABBREVIATION: u16 = 171;
 
-pub const LAST_OF_ABBREVIATION: u16 = 176;
+pub const LAST_OF_ABBREVIATION: u16 = 177;
 
 /// Where the special names begin.
-pub const SPECIAL: u16 = 182;
+pub const SPECIAL: u16 = 183;
 
 /// Where the special names of names begin.
-pub const NAMED_SPECIAL: u16 = 186;
+pub const NAMED_SPECIAL: u16 = 187;
 
 /// Where the endings of integer literals begin.
-pub const ENDING: u16 = 189;
+pub const ENDING: u16 = 190;
 
 /// Where the qualifiers begin whose blank stands behind them, but for those of no qualifier.
-pub const BLANKED: u16 = 193;
+pub const BLANKED: u16 = 194;
 
 /// The name of an operator that has no code.
-pub const OPERATOR_ALONE: u16 = 201;
+pub const OPERATOR_ALONE: u16 = 202;
 
 /// How many texts there are.
-pub const COUNT: u16 = 202;
+pub const COUNT: u16 = 203;
 
 /// A text behind the operators: an abbreviation, a special name, an ending, a qualifier.
 #[tactic(auto, unfolding(crate::specs::Texts::fixed_text, cpp_grammar::specs::Texts::builtin_texts, cpp_grammar::specs::Texts::operator_texts, cpp_grammar::specs::Texts::abbreviation_texts, cpp_grammar::specs::Texts::special_texts, cpp_grammar::specs::Texts::named_special_texts, cpp_grammar::specs::Texts::literal_endings))]
 #[inline(always)]
 fn remaining_text(number: u16) -> &'static [u8]
-    requires { 170 ≤ number }
+    requires { 171 ≤ number }
     ensures { result.now ≡ fixed_text number }
 {
     match number {
-        170 => b"std::allocator",
-        171 => b"std::basic_string",
-        172 => b"std::string",
-        173 => b"std::istream",
-        174 => b"std::ostream",
-        175 => b"std::iostream",
-        176 => b"allocator",
-        177 => b"basic_string",
-        178 => b"string",
-        179 => b"istream",
-        180 => b"ostream",
-        181 => b"iostream",
-        182 => b"vtable for ",
-        183 => b"VTT for ",
-        184 => b"typeinfo for ",
-        185 => b"typeinfo name for ",
-        186 => b"guard variable for ",
-        187 => b"thread-local initialization routine for ",
-        188 => b"thread-local wrapper routine for ",
-        189 => b"u",
-        190 => b"l",
-        191 => b"ul",
-        192 => b"ll",
-        193 => b"ull",
-        194 => b"restrict ",
-        195 => b"volatile ",
-        196 => b"volatile restrict ",
-        197 => b"const ",
-        198 => b"const restrict ",
-        199 => b"const volatile ",
-        200 => b"const volatile restrict ",
+        171 => b"std::allocator",
+        172 => b"std::basic_string",
+        173 => b"std::string",
+        174 => b"std::istream",
+        175 => b"std::ostream",
+        176 => b"std::iostream",
+        177 => b"allocator",
+        178 => b"basic_string",
+        179 => b"string",
+        180 => b"istream",
+        181 => b"ostream",
+        182 => b"iostream",
+        183 => b"vtable for ",
+        184 => b"VTT for ",
+        185 => b"typeinfo for ",
+        186 => b"typeinfo name for ",
+        187 => b"guard variable for ",
+        188 => b"thread-local initialization routine for ",
+        189 => b"thread-local wrapper routine for ",
+        190 => b"u",
+        191 => b"l",
+        192 => b"ul",
+        193 => b"ll",
+        194 => b"ull",
+        195 => b"restrict ",
+        196 => b"volatile ",
+        197 => b"volatile restrict ",
+        198 => b"const ",
+        199 => b"const restrict ",
+        200 => b"const volatile ",
+        201 => b"const volatile restrict ",
         OPERATOR_ALONE => b"operator",
         _ => b"",
     }
@@ -176,58 +178,58 @@ fn remaining_text(number: u16) -> &'static [u8]
 #[tactic(auto, unfolding(crate::specs::Texts::fixed_text, cpp_grammar::specs::Texts::builtin_texts, cpp_grammar::specs::Texts::operator_texts))]
 #[inline(always)]
 fn operator_text(number: u16) -> &'static [u8]
-    requires { 122 ≤ number }
+    requires { 123 ≤ number }
     ensures { result.now ≡ fixed_text number }
 {
     match number {
-        122 => b"operator new",
-        123 => b"operator new[]",
-        124 => b"operator delete",
-        125 => b"operator delete[]",
-        126 => b"operator co_await",
-        127 => b"operator+",
-        128 => b"operator-",
-        129 => b"operator&",
-        130 => b"operator*",
-        131 => b"operator~",
-        132 => b"operator+",
-        133 => b"operator-",
-        134 => b"operator*",
-        135 => b"operator/",
-        136 => b"operator%",
-        137 => b"operator&",
-        138 => b"operator^",
-        139 => b"operator=",
-        140 => b"operator+=",
-        141 => b"operator-=",
-        142 => b"operator*=",
-        143 => b"operator/=",
-        144 => b"operator%=",
-        145 => b"operator&=",
-        146 => b"operator|=",
-        147 => b"operator^=",
-        148 => b"operator<<",
-        149 => b"operator>>",
-        150 => b"operator<<=",
-        151 => b"operator>>=",
-        152 => b"operator==",
-        153 => b"operator!=",
-        154 => b"operator<",
-        155 => b"operator>",
-        156 => b"operator<=",
-        157 => b"operator>=",
-        158 => b"operator<=>",
-        159 => b"operator!",
-        160 => b"operator&&",
-        161 => b"operator||",
-        162 => b"operator++",
-        163 => b"operator--",
-        164 => b"operator,",
-        165 => b"operator->*",
-        166 => b"operator->",
-        167 => b"operator()",
-        168 => b"operator[]",
-        169 => b"operator|",
+        123 => b"operator new",
+        124 => b"operator new[]",
+        125 => b"operator delete",
+        126 => b"operator delete[]",
+        127 => b"operator co_await",
+        128 => b"operator+",
+        129 => b"operator-",
+        130 => b"operator&",
+        131 => b"operator*",
+        132 => b"operator~",
+        133 => b"operator+",
+        134 => b"operator-",
+        135 => b"operator*",
+        136 => b"operator/",
+        137 => b"operator%",
+        138 => b"operator&",
+        139 => b"operator^",
+        140 => b"operator=",
+        141 => b"operator+=",
+        142 => b"operator-=",
+        143 => b"operator*=",
+        144 => b"operator/=",
+        145 => b"operator%=",
+        146 => b"operator&=",
+        147 => b"operator|=",
+        148 => b"operator^=",
+        149 => b"operator<<",
+        150 => b"operator>>",
+        151 => b"operator<<=",
+        152 => b"operator>>=",
+        153 => b"operator==",
+        154 => b"operator!=",
+        155 => b"operator<",
+        156 => b"operator>",
+        157 => b"operator<=",
+        158 => b"operator>=",
+        159 => b"operator<=>",
+        160 => b"operator!",
+        161 => b"operator&&",
+        162 => b"operator||",
+        163 => b"operator++",
+        164 => b"operator--",
+        165 => b"operator,",
+        166 => b"operator->*",
+        167 => b"operator->",
+        168 => b"operator()",
+        169 => b"operator[]",
+        170 => b"operator|",
         _ => remaining_text(number),
     }
 }
@@ -236,41 +238,41 @@ fn operator_text(number: u16) -> &'static [u8]
 #[tactic(auto, unfolding(crate::specs::Texts::fixed_text, cpp_grammar::specs::Texts::builtin_texts))]
 #[inline(always)]
 fn builtin_text(number: u16) -> &'static [u8]
-    requires { 91 ≤ number }
+    requires { 92 ≤ number }
     ensures { result.now ≡ fixed_text number }
 {
     match number {
-        91 => b"void",
-        92 => b"wchar_t",
-        93 => b"bool",
-        94 => b"char",
-        95 => b"signed char",
-        96 => b"unsigned char",
-        97 => b"short",
-        98 => b"unsigned short",
-        99 => b"int",
-        100 => b"unsigned int",
-        101 => b"long",
-        102 => b"unsigned long",
-        103 => b"long long",
-        104 => b"unsigned long long",
-        105 => b"__int128",
-        106 => b"unsigned __int128",
-        107 => b"float",
-        108 => b"double",
-        109 => b"long double",
-        110 => b"__float128",
-        111 => b"...",
-        112 => b"char32_t",
-        113 => b"char16_t",
-        114 => b"char8_t",
-        115 => b"auto",
-        116 => b"decltype(auto)",
-        117 => b"std::nullptr_t",
-        118 => b"decimal64",
-        119 => b"decimal128",
-        120 => b"decimal32",
-        121 => b"half",
+        92 => b"void",
+        93 => b"wchar_t",
+        94 => b"bool",
+        95 => b"char",
+        96 => b"signed char",
+        97 => b"unsigned char",
+        98 => b"short",
+        99 => b"unsigned short",
+        100 => b"int",
+        101 => b"unsigned int",
+        102 => b"long",
+        103 => b"unsigned long",
+        104 => b"long long",
+        105 => b"unsigned long long",
+        106 => b"__int128",
+        107 => b"unsigned __int128",
+        108 => b"float",
+        109 => b"double",
+        110 => b"long double",
+        111 => b"__float128",
+        112 => b"...",
+        113 => b"char32_t",
+        114 => b"char16_t",
+        115 => b"char8_t",
+        116 => b"auto",
+        117 => b"decltype(auto)",
+        118 => b"std::nullptr_t",
+        119 => b"decimal64",
+        120 => b"decimal128",
+        121 => b"decimal32",
+        122 => b"half",
         _ => operator_text(number),
     }
 }
@@ -279,58 +281,58 @@ fn builtin_text(number: u16) -> &'static [u8]
 #[tactic(auto, unfolding(crate::specs::Texts::fixed_text))]
 #[inline(always)]
 fn suffix_text(number: u16) -> &'static [u8]
-    requires { 43 ≤ number }
+    requires { 44 ≤ number }
     ensures { result.now ≡ fixed_text number }
 {
     match number {
         NONE => b"",
-        44 => b" restrict",
-        45 => b" volatile",
-        46 => b" volatile restrict",
-        47 => b" const",
-        48 => b" const restrict",
-        49 => b" const volatile",
-        50 => b" const volatile restrict",
-        51 => b" &",
-        52 => b" restrict &",
-        53 => b" volatile &",
-        54 => b" volatile restrict &",
-        55 => b" const &",
-        56 => b" const restrict &",
-        57 => b" const volatile &",
-        58 => b" const volatile restrict &",
-        59 => b" &&",
-        60 => b" restrict &&",
-        61 => b" volatile &&",
-        62 => b" volatile restrict &&",
-        63 => b" const &&",
-        64 => b" const restrict &&",
-        65 => b" const volatile &&",
-        66 => b" const volatile restrict &&",
-        67 => b" noexcept",
-        68 => b" restrict noexcept",
-        69 => b" volatile noexcept",
-        70 => b" volatile restrict noexcept",
-        71 => b" const noexcept",
-        72 => b" const restrict noexcept",
-        73 => b" const volatile noexcept",
-        74 => b" const volatile restrict noexcept",
-        75 => b" & noexcept",
-        76 => b" restrict & noexcept",
-        77 => b" volatile & noexcept",
-        78 => b" volatile restrict & noexcept",
-        79 => b" const & noexcept",
-        80 => b" const restrict & noexcept",
-        81 => b" const volatile & noexcept",
-        82 => b" const volatile restrict & noexcept",
-        83 => b" && noexcept",
-        84 => b" restrict && noexcept",
-        85 => b" volatile && noexcept",
-        86 => b" volatile restrict && noexcept",
-        87 => b" const && noexcept",
-        88 => b" const restrict && noexcept",
-        89 => b" const volatile && noexcept",
-        90 => b" const volatile restrict && noexcept",
+        45 => b" restrict",
+        46 => b" volatile",
+        47 => b" volatile restrict",
+        48 => b" const",
+        49 => b" const restrict",
+        50 => b" const volatile",
+        51 => b" const volatile restrict",
+        52 => b" &",
+        53 => b" restrict &",
+        54 => b" volatile &",
+        55 => b" volatile restrict &",
+        56 => b" const &",
+        57 => b" const restrict &",
+        58 => b" const volatile &",
+        59 => b" const volatile restrict &",
+        60 => b" &&",
+        61 => b" restrict &&",
+        62 => b" volatile &&",
+        63 => b" volatile restrict &&",
+        64 => b" const &&",
+        65 => b" const restrict &&",
+        66 => b" const volatile &&",
+        67 => b" const volatile restrict &&",
+        68 => b" noexcept",
+        69 => b" restrict noexcept",
+        70 => b" volatile noexcept",
+        71 => b" volatile restrict noexcept",
+        72 => b" const noexcept",
+        73 => b" const restrict noexcept",
+        74 => b" const volatile noexcept",
+        75 => b" const volatile restrict noexcept",
+        76 => b" & noexcept",
+        77 => b" restrict & noexcept",
+        78 => b" volatile & noexcept",
+        79 => b" volatile restrict & noexcept",
+        80 => b" const & noexcept",
+        81 => b" const restrict & noexcept",
+        82 => b" const volatile & noexcept",
+        83 => b" const volatile restrict & noexcept",
+        84 => b" && noexcept",
+        85 => b" restrict && noexcept",
+        86 => b" volatile && noexcept",
+        87 => b" volatile restrict && noexcept",
+        88 => b" const && noexcept",
+        89 => b" const restrict && noexcept",
+        90 => b" const volatile && noexcept",
+        91 => b" const volatile restrict && noexcept",
         _ => builtin_text(number),
     }
 }
@@ -381,6 +383,7 @@ pub fn fixed_text(number: u16) -> &'static [u8]
         MINUS => b"-",
         CONSTRUCTION => b"construction vtable for ",
         IN => b"-in-",
+        CONVERSION => b"operator ",
         FLOAT => b"_Float",
         WIDER => b"x",
         BRAIN_FLOAT => b"std::bfloat16_t",

@@ -21,6 +21,8 @@ any_byte : (s : List ℕ) (p : Production) (b c : ℕ) (around : Around) (place 
 unfolding is_chain link_close link_meaning close meaning behind
 any_byte s Production.SourceName b c around place began vs state chain = refl
 any_byte s Production.OperatorName b c around place began vs state chain = refl
+any_byte s Production.OtherOperatorName b c around place began vs state chain = refl
+any_byte s Production.OperatorNameWithC b c around place began vs state chain = refl
 any_byte s Production.SourcePiece b c around place began vs state chain = refl
 any_byte s Production.Encoding b c around place began vs state chain = refl
 any_byte s Production.Positive b c around place began vs state chain = refl

@@ -9,10 +9,10 @@ use Rattle.sym_shape.specs.declared.rule.Sym.TheVariants.{Kind as OfKind, Name, 
 use Rattle.sym_link.specs.Reading.{Found, Next}
 use Rattle.sym_link.specs.Unfold.{found}
 use Rattle.cpp_grammar.specs.declared.production.Production.{Production}
-use Rattle.cpp_grammar.specs.KindNumbers.{INTEGER, UNQUALIFIED, NEST, NEST_AFTER_S, NEST_REST, NEST_REST_OR_END, NEST_REST_ALONE, ARGUMENTS_ALONE, NEST_TAIL, COMPONENT, HOLDER_MARK, HELD_COMPONENT, CONSTRUCTOR_DIGIT, DESTRUCTOR_DIGIT, ABBREVIATION, ANONYMOUS, ITEM_AFTER_D, AFTER_D, SOLID, TYPE_AFTER_S, MAYBE_ARGUMENTS, ARGUMENTS, ARGUMENT_LIST, LITERAL_TYPE, OPERATOR}
+use Rattle.cpp_grammar.specs.KindNumbers.{INTEGER, UNQUALIFIED, NEST, NEST_AFTER_S, NEST_REST, NEST_REST_OR_END, NEST_REST_ALONE, ARGUMENTS_ALONE, NEST_TAIL, COMPONENT, HOLDER_MARK, HELD_COMPONENT, COMPONENT_AFTER_C, OPERATOR_AFTER_C, OTHER_OPERATOR, CONSTRUCTOR_DIGIT, DESTRUCTOR_DIGIT, ABBREVIATION, ANONYMOUS, ITEM_AFTER_D, AFTER_D, SOLID, TYPE_AFTER_S, MAYBE_ARGUMENTS, ARGUMENTS, ARGUMENT_LIST, LITERAL_TYPE, OPERATOR}
 use Rattle.cpp_grammar.specs.Grammar.{parts_of, number_of_kind}
 use Rattle.cpp_grammar.proofs.ClosedStates.{ok_same}
-use Rattle.cpp_term.specs.Term.{Term, source, constructor, destructor, in_std, instance, holder, pack, lvalue, rvalue}
+use Rattle.cpp_term.specs.Term.{Term, source, operator, constructor, destructor, in_std, instance, holder, pack, lvalue, rvalue}
 use Rattle.cpp_term.specs.Values.{State, Around, prefix_tree, prefix_listed, Value, nothing_there, tree, named, tree_of, piece_of, letter_of, text_of, is_listed, is_there, part}
 use Rattle.cpp_term.specs.References.{appended, with_type, with_unqualified, with_prefix}
 use Rattle.cpp_term.specs.Between.{Going, in_name, in_types, in_signature, under_expansion, after, inside, extended, applied, no_items, named_so_far, listed_so_far, piece_so_far, with_tag, tag_so_far, index_of, between}
@@ -52,6 +52,33 @@ operator-name around place =
     name-flow Production.OperatorName around place (OfKind OPERATOR) (λ v. extended around.prefix (piece_of v)) (λ a v. refl) (λ state. refl)
     (λ v state. refl) (λ v. refl) (λ u w. refl) (λ v. omega arith) (λ byte began vs state one e. still
     (meaning Production.OperatorName byte around vs) state one e)
+
+other-operator-name : (around : Around) (place : ℕ) → Flow Production.OtherOperatorName around place (OfKind OTHER_OPERATOR ∷ OfKind MAYBE_ARGUMENTS ∷ []) [] 0
+unfolding pending_around goes_on is_arguments between piece_so_far named_so_far makes_before made_before makes_at_end name_at_end part leaves makes_name close behind
+other-operator-name around place =
+    name-flow Production.OtherOperatorName around place (OfKind OTHER_OPERATOR) (λ v. extended around.prefix (piece_of v)) (λ a v. refl) (λ state. refl)
+    (λ v state. refl) (λ v. refl) (λ u w. refl) (λ v. omega arith) (λ byte began vs state one e. still
+    (meaning Production.OtherOperatorName byte around vs) state one e)
+
+operator-name-with-c : (around : Around) (place : ℕ) → Flow Production.OperatorNameWithC around place (OfKind OPERATOR_AFTER_C ∷ OfKind MAYBE_ARGUMENTS ∷ []) [] 0
+unfolding pending_around goes_on is_arguments between piece_so_far named_so_far makes_before made_before makes_at_end name_at_end part leaves makes_name close behind
+operator-name-with-c around place =
+    name-flow Production.OperatorNameWithC around place (OfKind OPERATOR_AFTER_C) (λ v. extended around.prefix (operator 99 (letter_of v))) (λ a v. refl) (λ state. refl)
+    (λ v state. refl) (λ v. refl) (λ u w. refl) (λ v. omega arith) (λ byte began vs state one e. still
+    (meaning Production.OperatorNameWithC byte around vs) state one e)
+
+-- a component behind a c is one that is made
+component-with-c : (around : Around) (place : ℕ) → Flow Production.ComponentWithC around place (OfKind COMPONENT_AFTER_C ∷ []) [] 0
+unfolding pending pending_around goes_on is_arguments is_component becomes_candidate between makes_before made_before makes_at_end made_at_end part leaves makes_name meaning close behind
+component-with-c around place = λ state next e. came (going [] around state) next e (record {
+  over = 0;
+  few = omega arith;
+  later = λ w. record {
+    now = 1;
+    few = omega arith;
+    goes = λ byte began last one g. ended Production.ComponentWithC 0 1 last (found w last) one g (omega arith);
+  };
+})
 
 constructor-name : (around : Around) (place : ℕ) → Flow Production.Constructor around place (OfKind CONSTRUCTOR_DIGIT ∷ OfKind MAYBE_ARGUMENTS ∷ []) [] 0
 unfolding pending_around goes_on is_arguments between piece_so_far named_so_far makes_before made_before makes_at_end name_at_end part leaves makes_name close behind
@@ -405,6 +432,11 @@ unfolding between makes_before made_before
 encoding-keeps around place [] state next e = kept [] (in_name place) state next 0 e
 encoding-keeps around place (v ∷ vs) state next e = kept (v ∷ vs) (in_types place (tree_of v)) state next 0 e
 
+conversion-keeps : (around : Around) (place : ℕ) → Keeps Production.Conversion around place
+unfolding between makes_before made_before
+conversion-keeps around place [] state next e = kept [] (inside around) state next 0 e
+conversion-keeps around place (v ∷ vs) state next e = kept (v ∷ vs) around state next 0 e
+
 local-name-keeps : (around : Around) (place : ℕ) → Keeps Production.LocalName around place
 unfolding between makes_before made_before
 local-name-keeps around place [] state next e = kept [] around state next 0 e
@@ -476,6 +508,12 @@ flows Production.InternalName around place = internal-name around place
 flows Production.LocalTypeName around place = local-type-name around place
 flows Production.SourceName around place = source-name around place
 flows Production.OperatorName around place = operator-name around place
+flows Production.OtherOperatorName around place = other-operator-name around place
+flows Production.OperatorNameWithC around place = operator-name-with-c around place
+flows Production.ComponentWithC around place = component-with-c around place
+flows Production.Conversion around place = plain-flow Production.Conversion around place (conversion-keeps around place)
+    (plain-closes Production.Conversion around place (λ byte began vs state. refl) (λ byte began vs state. refl) (λ byte vs. omega arith))
+    (parts_of Production.Conversion) refl []
 flows Production.Constructor around place = constructor-name around place
 flows Production.Destructor around place = destructor-name around place
 flows Production.StdName around place = std-name around place

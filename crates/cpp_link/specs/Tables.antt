@@ -13,6 +13,7 @@ quiet_parts Production.NestNext = 0
 quiet_parts Production.Arguments = 0
 quiet_parts Production.Lambda = 0
 quiet_parts Production.Expansion = 0
+quiet_parts Production.Conversion = 0
 quiet_parts Production.LocalName = 1
 quiet_parts Production.LocalType = 1
 quiet_parts Production.InternalName = 1
@@ -39,6 +40,8 @@ quiet_parts Production.IntegerLiteral = 1
 quiet_parts Production.Holder = 1
 quiet_parts Production.NestTag = 1
 quiet_parts Production.Tag = 1
+quiet_parts Production.OtherOperatorName = 1
+quiet_parts Production.OperatorNameWithC = 1
 quiet_parts _ = 5
 
 -- parts without a row may stand between those with one

@@ -372,6 +372,19 @@ impl Linked {
             Production::LocalTypeName => self.applied(symbol, parts, false),
             // <unqualified-name> ::= <operator-name>, perhaps with <template-args>
             Production::OperatorName => self.applied(symbol, parts, false),
+            // <unqualified-name> ::= <operator-name>, within a nested name, without a c in front and behind one
+            Production::OtherOperatorName => self.applied(symbol, parts, false),
+            Production::OperatorNameWithC => self.applied(symbol, parts, false),
+            Production::ComponentWithC => Meant::Given(self.given(symbol, parts, 0)),
+            // <operator-name> ::= cv <type>
+            Production::Conversion => made(
+                self.extended(
+                    symbol,
+                    kept.prefix(),
+                    Piece::Conversion(self.tree(symbol, parts, 0)),
+                ),
+                false,
+            ),
             // <ctor-dtor-name> ::= C1 | C2 | C3
             Production::Constructor => self.applied(symbol, parts, false),
             // <ctor-dtor-name> ::= D0 | D1 | D2

@@ -243,6 +243,7 @@ impl Linked {
                 then: self.inside(kept),
                 packs: self.packs,
             },
+            Production::Conversion => self.go(self.inside(kept)),
             Production::NestNext => Step::Go {
                 candidate: self.prefix_candidate(symbol, kept),
                 then: self.behind_name(kept, self.prefix_node(symbol, kept), true),
@@ -445,6 +446,17 @@ impl Linked {
                 symbol,
                 kept.prefix(),
                 self.piece_in(symbol, first),
+            )),
+            // an operator's name within a nested one, behind its c or without one
+            Production::OtherOperatorName => self.named(self.extended(
+                symbol,
+                kept.prefix(),
+                self.piece_in(symbol, first),
+            )),
+            Production::OperatorNameWithC => self.named(self.extended(
+                symbol,
+                kept.prefix(),
+                Piece::Operator(b'c', letter_of(first)),
             )),
             Production::NestLocalType => self.named(self.extended(
                 symbol,

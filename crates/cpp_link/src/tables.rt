@@ -3,7 +3,7 @@
 use cpp_grammar::production::Production;
 
 /// The productions.
-pub(crate) const PRODUCTIONS: [Production; 122] = [
+pub(crate) const PRODUCTIONS: [Production; 126] = [
     Production::Mark,
     Production::InternalName,
     Production::LocalTypeName,
@@ -117,10 +117,14 @@ pub(crate) const PRODUCTIONS: [Production; 122] = [
     Production::OperatorG,
     Production::LiteralOperator,
     Production::NestInstance,
+    Production::Conversion,
+    Production::OperatorNameWithC,
     Production::SpecialName,
     Production::ConstructionVtable,
     Production::NestTemplate,
     Production::NestTag,
+    Production::ComponentWithC,
+    Production::OtherOperatorName,
     Production::Holder,
     Production::DefaultEntity,
     Production::DefaultTypeEntity,
@@ -129,7 +133,7 @@ pub(crate) const PRODUCTIONS: [Production; 122] = [
 ];
 
 /// How many parts each has.
-pub(crate) const PART_COUNTS: [u8; 122] = [
+pub(crate) const PART_COUNTS: [u8; 126] = [
     0, // Mark
     2, // InternalName
     2, // LocalTypeName
@@ -243,10 +247,14 @@ pub(crate) const PART_COUNTS: [u8; 122] = [
     1, // OperatorG
     1, // LiteralOperator
     3, // NestInstance
+    1, // Conversion
+    2, // OperatorNameWithC
     1, // SpecialName
     4, // ConstructionVtable
     2, // NestTemplate
     2, // NestTag
+    1, // ComponentWithC
+    2, // OtherOperatorName
     2, // Holder
     2, // DefaultEntity
     2, // DefaultTypeEntity
@@ -255,7 +263,7 @@ pub(crate) const PART_COUNTS: [u8; 122] = [
 ];
 
 /// Whether parts without a row may stand between those of each.
-pub(crate) const SKIPS_PARTS: [bool; 122] = [
+pub(crate) const SKIPS_PARTS: [bool; 126] = [
     false, // Mark
     false, // InternalName
     false, // LocalTypeName
@@ -369,10 +377,14 @@ pub(crate) const SKIPS_PARTS: [bool; 122] = [
     false, // OperatorG
     false, // LiteralOperator
     true, // NestInstance
+    false, // Conversion
+    false, // OperatorNameWithC
     false, // SpecialName
     true, // ConstructionVtable
     false, // NestTemplate
     false, // NestTag
+    false, // ComponentWithC
+    false, // OtherOperatorName
     false, // Holder
     false, // DefaultEntity
     false, // DefaultTypeEntity
@@ -381,7 +393,7 @@ pub(crate) const SKIPS_PARTS: [bool; 122] = [
 ];
 
 /// Before how many of its parts nothing is done in each: before none, the first, or all, which are five at most.
-pub(crate) const QUIET_PARTS: [u8; 122] = [
+pub(crate) const QUIET_PARTS: [u8; 126] = [
     5, // Mark
     1, // InternalName
     1, // LocalTypeName
@@ -495,10 +507,14 @@ pub(crate) const QUIET_PARTS: [u8; 122] = [
     5, // OperatorG
     5, // LiteralOperator
     0, // NestInstance
+    0, // Conversion
+    1, // OperatorNameWithC
     5, // SpecialName
     5, // ConstructionVtable
     1, // NestTemplate
     1, // NestTag
+    5, // ComponentWithC
+    1, // OtherOperatorName
     1, // Holder
     5, // DefaultEntity
     5, // DefaultTypeEntity

@@ -125,6 +125,11 @@ pub fn then_piece(
             )?;
         }
         Piece::StringLiteral => then_fixed(symbol, b"s", tasks)?,
+        // <operator-name> ::= cv <type>
+        Piece::Conversion(ty) => {
+            then_tree(symbol, ty, Way::Type, encoding, tasks)?;
+            then_fixed(symbol, b"cv", tasks)?;
+        }
         Piece::Absent => {}
     }
     Ok(())

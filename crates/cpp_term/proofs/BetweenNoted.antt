@@ -4,7 +4,7 @@ use Rattle.sym_core.specs.declared.NumberKind.TheVariants.{Decimal, Seq36}
 use Rattle.sym_core.specs.Value.{counted_value}
 use Rattle.sym_link.specs.Reading.{Next}
 use Rattle.cpp_grammar.specs.declared.production.Production.{Production}
-use Rattle.cpp_grammar.specs.Term.{Term, in_std, instance, holder, parameter, lvalue, rvalue, source, constructor, destructor}
+use Rattle.cpp_grammar.specs.Term.{Term, in_std, instance, holder, parameter, lvalue, rvalue, source, operator, constructor, destructor}
 use Rattle.cpp_grammar.specs.Values as leaf_
 use Rattle.cpp_grammar.specs.Values.{Around, Prefix, prefix_tree, Value, State, tree_of, piece_of, is_listed, text_of, letter_of, part}
 use Rattle.cpp_grammar.specs.References.{appended, with_type, with_unqualified, with_prefix, substituted, parameter_named}
@@ -83,6 +83,12 @@ inside_goes : (around : Around) (x : State) (y : value_.State) → y.packs ≡ x
 unfolding noted_values inside between_.inside noted_around noted_prefix
 inside_goes around x y packs = record { values = refl; context = refl; moves = prefix_moves around x y packs; scope = inl (refl, refl) }
 
+-- in a part that no name so far goes on
+unnamed_goes : (around : Around) (x : State) (y : value_.State) → y.packs ≡ x.packs →
+    Goes around x y (record { context = inside around; values = []; state = x }) (record { context = between_.inside (noted_around around); values = []; state = y })
+unfolding noted_values inside between_.inside noted_around noted_prefix
+unnamed_goes around x y packs = record { values = refl; context = refl; moves = moves_none around x x y y refl refl packs; scope = inl (refl, refl) }
+
 signature_goes : (around : Around) (x : State) (y : value_.State) (vs : List Value) → y.packs ≡ x.packs →
     Goes around x y (record { context = in_signature around; values = vs; state = x }) (record { context = between_.in_signature (noted_around around); values = noted_values (noted_scope around.scope) vs; state = y })
 unfolding in_signature between_.in_signature noted_around noted_prefix noted_scope
@@ -128,6 +134,9 @@ between_noted Production.InternalName around place (v ∷ []) x y stays packs = 
 between_noted Production.SourceName around place (v ∷ []) x y stays packs = piece_goes around x y (source false (text_of v)) _ packs (ap (term_.source false) (text_noted (noted_scope around.scope) v))
 between_noted Production.LocalTypeName around place (v ∷ []) x y stays packs = piece_goes around x y (piece_of v) _ packs (piece_noted (noted_scope around.scope) v)
 between_noted Production.OperatorName around place (v ∷ []) x y stays packs = piece_goes around x y (piece_of v) _ packs (piece_noted (noted_scope around.scope) v)
+between_noted Production.OtherOperatorName around place (v ∷ []) x y stays packs = piece_goes around x y (piece_of v) _ packs (piece_noted (noted_scope around.scope) v)
+between_noted Production.OperatorNameWithC around place (v ∷ []) x y stays packs = piece_goes around x y (operator 99 (letter_of v)) _ packs (ap (term_.operator 99) (letter_noted (noted_scope around.scope) v))
+between_noted Production.Conversion around place [] x y stays packs = unnamed_goes around x y packs
 between_noted Production.Constructor around place (v ∷ []) x y stays packs = piece_goes around x y (constructor (letter_of v)) _ packs (ap term_.constructor (letter_noted (noted_scope around.scope) v))
 between_noted Production.Destructor around place (v ∷ []) x y stays packs = piece_goes around x y (destructor (letter_of v)) _ packs (ap term_.destructor (letter_noted (noted_scope around.scope) v))
 between_noted Production.StdName around place (v ∷ []) x y stays packs = named_goes around x x y y (in_std (piece_of v)) _ false [] [] (ap term_.in_std (piece_noted (noted_scope around.scope) v)) refl (moves_none around x x y y refl refl packs)

@@ -1,7 +1,7 @@
 -- What productions stand for, annotated.
 use Rattle.std.proofs.Common.{◌≡◌, refl, ap, sym, ◌∙◌, ℕ, zero, suc, List, [], ◌∷◌, Bool, true, false, not, ◌&&◌, cond, nat_eq, Option, Some, None}
 use Rattle.cpp_grammar.specs.declared.production.Production.{Production}
-use Rattle.cpp_grammar.specs.Term.{RefQualifier, any_value, lvalue_only, rvalue_only, non_virtual, by_table, adjusting, covariant, Term, function, within, instance, local, tagged, of_default, constructor, destructor, string_literal, builtin, lvalue, rvalue, nil, list, absent}
+use Rattle.cpp_grammar.specs.Term.{RefQualifier, any_value, lvalue_only, rvalue_only, non_virtual, by_table, adjusting, covariant, Term, function, within, instance, local, tagged, of_default, constructor, destructor, string_literal, conversion, builtin, lvalue, rvalue, nil, list, absent}
 use Rattle.cpp_grammar.specs.Scope.{arguments_of, before_arguments, is_structor, has_return_type, is_open}
 use Rattle.cpp_grammar.specs.Values as leaf_
 use Rattle.cpp_grammar.specs.Values.{Around, Prefix, prefix_tree, prefix_listed, Value, unqualified, tree_of, piece_of, is_listed, qualifiers_of, ref_of, letter_of, is_there, mark_of, text_of, signed_of, adjustment_of, normal, signed_digits, local_number, part}
@@ -353,6 +353,12 @@ meaning_noted Production.InternalName byte around vs h = ap (λ x. value_.tree x
 meaning_noted Production.SourceName byte around vs h = ap (λ x. value_.tree x false) (applied_part (noted_scope around.scope) vs 0 1)
 meaning_noted Production.LocalTypeName byte around vs h = ap (λ x. value_.tree x false) (applied_part (noted_scope around.scope) vs 0 1)
 meaning_noted Production.OperatorName byte around vs h = ap (λ x. value_.tree x false) (applied_part (noted_scope around.scope) vs 0 1)
+meaning_noted Production.OtherOperatorName byte around vs h = ap (λ x. value_.tree x false) (applied_part (noted_scope around.scope) vs 0 1)
+meaning_noted Production.OperatorNameWithC byte around vs h = ap (λ x. value_.tree x false) (applied_part (noted_scope around.scope) vs 0 1)
+meaning_noted Production.ComponentWithC byte around vs h = part_noted (noted_scope around.scope) vs 0
+meaning_noted Production.Conversion byte around vs h =
+    ap (λ x. value_.tree (between_.extended (noted_prefix (noted_scope around.scope) around.prefix) (term_.conversion x)) false) (tree_part (noted_scope around.scope) vs 0)
+    ∙ ap (λ x. value_.tree x false) (extended_noted (noted_scope around.scope) around.prefix (conversion (tree_of (part vs 0))))
 meaning_noted Production.Constructor byte around vs h = ap (λ x. value_.tree x false) (applied_part (noted_scope around.scope) vs 0 1)
 meaning_noted Production.Destructor byte around vs h = ap (λ x. value_.tree x false) (applied_part (noted_scope around.scope) vs 0 1)
 meaning_noted Production.StdName byte around vs h = ap (λ x. value_.tree x false) (applied_part (noted_scope around.scope) vs 0 1)

@@ -1,7 +1,7 @@
 -- What annotating keeps.
 use Rattle.std.proofs.Common.{◌≡◌, refl, ap, ◌∙◌, ℕ, zero, suc, Bool, true, false, ◌||◌, ◌&&◌, Option, Some, None}
 use Rattle.std.proofs.lemmas.Bool.{true≢false}
-use Rattle.cpp_grammar.specs.Term.{Term, alone, in_std, within, instance, local, holder, tagged, of_default, parameter, lambda, pointer, lvalue, rvalue, array, member_pointer, function_type, qualified, vector, complex, expansion, integer, pack, list, absent}
+use Rattle.cpp_grammar.specs.Term.{Term, alone, in_std, within, instance, local, holder, tagged, of_default, parameter, lambda, conversion, pointer, lvalue, rvalue, array, member_pointer, function_type, qualified, vector, complex, expansion, integer, pack, list, absent}
 use Rattle.cpp_grammar.specs.Scope.{count, element, arguments_of, is_open, first_of, length_if_pack, pack_length}
 use Rattle.cpp_grammar.specs.Items.{Context, indexed, argument, Head, lref, collapsed, head_with, head_closed, head, packs_of, is_none_of, is_empty}
 use Rattle.cpp_grammar.specs.References.{packs_in}
@@ -60,6 +60,7 @@ open_noted s (holder name) = open_noted s name
 open_noted s (tagged of_structor name tag) = open_noted s name
 open_noted s (of_default digits entity) = open_noted s entity
 open_noted s (lambda parameters number) = open_noted s parameters
+open_noted s (conversion t) = open_noted s t
 open_noted s (pointer t) = open_noted s t
 open_noted s (lvalue t) = open_noted s t
 open_noted s (rvalue t) = open_noted s t
@@ -96,6 +97,7 @@ closed_noted s r (tagged of_structor name tag) e = ap (λ x. term_.tagged of_str
 closed_noted s r (of_default digits entity) e = ap (term_.of_default digits) (closed_noted s r entity e)
 closed_noted s r (parameter k) e = absurd (true≢false e)
 closed_noted s r (lambda parameters number) e = ap (λ x. term_.lambda x number) (closed_noted s r parameters e)
+closed_noted s r (conversion t) e = ap term_.conversion (closed_noted s r t e)
 closed_noted s r (pointer t) e = ap term_.pointer (closed_noted s r t e)
 closed_noted s r (lvalue t) e = ap term_.lvalue (closed_noted s r t e)
 closed_noted s r (rvalue t) e = ap term_.rvalue (closed_noted s r t e)
@@ -131,6 +133,7 @@ pack_none (tagged of_structor name tag) = pack_none name
 pack_none (of_default digits entity) = pack_none entity
 pack_none (parameter k) = refl
 pack_none (lambda parameters number) = pack_none parameters
+pack_none (conversion t) = pack_none t
 pack_none (pointer t) = pack_none t
 pack_none (lvalue t) = pack_none t
 pack_none (rvalue t) = pack_none t
@@ -158,6 +161,7 @@ pack_some all (tagged of_structor name tag) = pack_some all name
 pack_some all (of_default digits entity) = pack_some all entity
 pack_some all (parameter k) = ap scope_.length_if_pack (element_noted None all k) ∙ length_noted None (element all k)
 pack_some all (lambda parameters number) = pack_some all parameters
+pack_some all (conversion t) = pack_some all t
 pack_some all (pointer t) = pack_some all t
 pack_some all (lvalue t) = pack_some all t
 pack_some all (rvalue t) = pack_some all t

@@ -7,7 +7,7 @@ use Rattle.sym_core.specs.declared.NumberKind.TheVariants.{Decimal}
 use Rattle.sym_core.specs.Value.{counted_value}
 use Rattle.sym_link.specs.Reading.{Next, ◌>>=◌}
 use Rattle.cpp_grammar.specs.declared.production.Production.{Production}
-use Rattle.cpp_term.specs.Term.{Term, alone, within, in_std, instance, holder, tagged, parameter, lvalue, rvalue, pack, source, constructor, destructor, nil, absent}
+use Rattle.cpp_term.specs.Term.{Term, alone, within, in_std, instance, holder, tagged, parameter, lvalue, rvalue, pack, source, operator, constructor, destructor, nil, absent}
 use Rattle.cpp_term.specs.Scope.{arguments_of, is_structor, element}
 use Rattle.cpp_term.specs.Values.{State, Prefix, outermost, behind, Around, prefix_tree, Value, nothing_there, tree, named, tree_of, piece_of, is_listed, is_there, letter_of, text_of}
 use Rattle.cpp_term.specs.References.{appended, with_type, with_prefix, parameter_named}
@@ -102,6 +102,9 @@ between Production.InternalName around place (v ∷ []) state = piece_so_far aro
 between Production.SourceName around place (v ∷ []) state = piece_so_far around (source false (text_of v)) [] state
 between Production.LocalTypeName around place (v ∷ []) state = piece_so_far around (piece_of v) [] state
 between Production.OperatorName around place (v ∷ []) state = piece_so_far around (piece_of v) [] state
+between Production.OtherOperatorName around place (v ∷ []) state = piece_so_far around (piece_of v) [] state
+between Production.OperatorNameWithC around place (v ∷ []) state = piece_so_far around (operator 99 (letter_of v)) [] state
+between Production.Conversion around place [] state = next [] (inside around) state
 between Production.Constructor around place (v ∷ []) state = piece_so_far around (constructor (letter_of v)) [] state
 between Production.Destructor around place (v ∷ []) state = piece_so_far around (destructor (letter_of v)) [] state
 between Production.StdName around place (v ∷ []) state = named_so_far around (in_std (piece_of v)) [] state

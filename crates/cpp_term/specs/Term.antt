@@ -37,6 +37,8 @@ pub data Term : Type 0 where
   lambda : (parameters : Term) → (number : ℕ) → Term
   unnamed : (number : ℕ) → Term
   string_literal : Term
+  -- the operator that makes a value of a type
+  conversion : (type : Term) → Term
   -- types
   builtin : (code : List ℕ) → Term
   -- a floating type of so many bits, and the byte behind their digits

@@ -46,11 +46,22 @@ pub lambda-within : (ns : List Entry) (n : Node) (e : Entry) (piece : Piece) (p 
 unfolding piece_packs piece_opens
 lambda-within ns n e piece p k is = rw is refl
 
-pub other-alone : (ns : List Entry) (n : Node) (piece : Piece) → ((p k : ℕ) → piece ≡ Piece.Lambda p k → ⊥)
+pub conversion-alone : (ns : List Entry) (n : Node) (piece : Piece) (t : ℕ) → piece ≡ Piece.Conversion t
+    → kept n (entry_at ns t).packs (entry_at ns t).is_open false Words.Plain 0 0 ≡ kept n (piece_packs ns piece) (piece_opens ns piece) false Words.Plain 0 0
+unfolding piece_packs piece_opens
+conversion-alone ns n piece t is = rw is refl
+
+pub conversion-within : (ns : List Entry) (n : Node) (e : Entry) (piece : Piece) (t : ℕ) → piece ≡ Piece.Conversion t
+    → kept n (first_of e.packs (entry_at ns t).packs) (e.is_open || (entry_at ns t).is_open) false Words.Plain 0 0 ≡ kept n (first_of e.packs (piece_packs ns piece)) (e.is_open || piece_opens ns piece) false Words.Plain 0 0
+unfolding piece_packs piece_opens
+conversion-within ns n e piece t is = rw is refl
+
+pub other-alone : (ns : List Entry) (n : Node) (piece : Piece) → ((p k : ℕ) → piece ≡ Piece.Lambda p k → ⊥) → ((t : ℕ) → piece ≡ Piece.Conversion t → ⊥)
     → bare_entry n false ≡ kept n (piece_packs ns piece) (piece_opens ns piece) false Words.Plain 0 0
 unfolding piece_packs piece_opens class_kept arguments_kept returns_kept count_kept run_kept
-other-alone ns n (Piece.Lambda p k) other = absurd (other p k refl)
-other-alone ns n _ other = refl
+other-alone ns n (Piece.Lambda p k) other none = absurd (other p k refl)
+other-alone ns n (Piece.Conversion t) other none = absurd (none t refl)
+other-alone ns n _ other none = refl
 
 first-none : (p : Option ℕ) → p ≡ first_of p None
 unfolding first_of
@@ -64,11 +75,12 @@ or-false false = refl
 within-none : (n : Node) (e : Entry) → kept n e.packs e.is_open false Words.Plain 0 0 ≡ kept n (first_of e.packs None) (e.is_open || false) false Words.Plain 0 0
 within-none n e = ap (λ p. kept n p e.is_open false Words.Plain 0 0) (first-none e.packs) ∙ ap (λ b. kept n (first_of e.packs None) b false Words.Plain 0 0) (or-false e.is_open)
 
-pub other-within : (ns : List Entry) (n : Node) (e : Entry) (piece : Piece) → ((p k : ℕ) → piece ≡ Piece.Lambda p k → ⊥)
+pub other-within : (ns : List Entry) (n : Node) (e : Entry) (piece : Piece) → ((p k : ℕ) → piece ≡ Piece.Lambda p k → ⊥) → ((t : ℕ) → piece ≡ Piece.Conversion t → ⊥)
     → kept n e.packs e.is_open false Words.Plain 0 0 ≡ kept n (first_of e.packs (piece_packs ns piece)) (e.is_open || piece_opens ns piece) false Words.Plain 0 0
 unfolding piece_packs piece_opens
-other-within ns n e (Piece.Lambda p k) other = absurd (other p k refl)
-other-within ns n e _ other = within-none n e
+other-within ns n e (Piece.Lambda p k) other none = absurd (other p k refl)
+other-within ns n e (Piece.Conversion t) other none = absurd (none t refl)
+other-within ns n e _ other none = within-none n e
 
 pub expansion-is : (n : Node) (c held : Compact) (e : Entry) → entry_of held ≡ e → entry_of c ≡ bare_entry n (heads.is_none_of (packs_kept held.has_packs held.packs))
     → entry_of (record { node = c.node; packs = c.packs; first = c.first; second = c.second; has_packs = c.has_packs; is_open = held.is_open; is_empty = c.is_empty; words = c.words })

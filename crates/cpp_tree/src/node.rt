@@ -89,6 +89,7 @@ pub enum Piece {
     Lambda { parameters: u32, number: u64 },
     Unnamed(u64),
     StringLiteral,
+    Conversion(u32),
     Absent,
 }
 

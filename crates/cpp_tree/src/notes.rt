@@ -145,6 +145,7 @@ impl Nodes {
                 Words::Plain,
                 0,
             ),
+            Piece::Conversion(ty) => noted_over(node, self.at(ty), Words::Plain, 0),
             _ => bare(node, false),
         }
     }
@@ -161,6 +162,15 @@ impl Nodes {
                 node,
                 self.at(prefix),
                 self.at(parameters),
+                false,
+                Words::Plain,
+                0,
+                0,
+            ),
+            Piece::Conversion(ty) => noted_over_two(
+                node,
+                self.at(prefix),
+                self.at(ty),
                 false,
                 Words::Plain,
                 0,

@@ -221,6 +221,15 @@ pub const SIZED_FLOAT: u16 = 67;
 /// Symbols of the wide grammar alone have it.
 pub const TAGGED: u16 = 68;
 
+/// A conversion to a type, in no scope. Parts: the type. Symbols of the wide grammar alone have it, and the next two.
+pub const CONVERSION: u16 = 69;
+
+/// As `CONVERSION`, in std.
+pub const STD_CONVERSION: u16 = 70;
+
+/// As `CONVERSION`, in a prefix: its type is the second part.
+pub const NESTED_CONVERSION: u16 = 71;
+
 /// The entity of a local name that stands in a default argument. Texts: the digits that say in which. Parts: the entity. Symbols of
 /// the wide grammar alone have it.
-pub const OF_DEFAULT: u16 = 69;
+pub const OF_DEFAULT: u16 = 72;

@@ -136,6 +136,9 @@ between-outside Production.InternalName around place (v ∷ []) state next no_ o
 between-outside Production.SourceName around place (v ∷ []) state next no_ outside e = goes state _ _ state next outside refl e
 between-outside Production.LocalTypeName around place (v ∷ []) state next no_ outside e = goes state _ _ state next outside refl e
 between-outside Production.OperatorName around place (v ∷ []) state next no_ outside e = goes state _ _ state next outside refl e
+between-outside Production.OtherOperatorName around place (v ∷ []) state next no_ outside e = goes state _ _ state next outside refl e
+between-outside Production.OperatorNameWithC around place (v ∷ []) state next no_ outside e = goes state _ _ state next outside refl e
+between-outside Production.Conversion around place [] state next no_ outside e = goes state _ _ state next outside refl e
 between-outside Production.Constructor around place (v ∷ []) state next no_ outside e = goes state _ _ state next outside refl e
 between-outside Production.Destructor around place (v ∷ []) state next no_ outside e = goes state _ _ state next outside refl e
 between-outside Production.StdName around place (v ∷ []) state next no_ outside e = goes state _ _ state next outside refl e

@@ -167,6 +167,8 @@ kind-branch Kind.OperatorAfterG = operator-after-g-branch
 kind-branch Kind.NestRestOrEnd = λ rule taken parts all around at old v new front is e outer. tt
 kind-branch Kind.HolderMark = λ rule taken parts all around at old v new front is e outer. tt
 kind-branch Kind.HeldComponent = λ rule taken parts all around at old v new front is e outer. tt
+kind-branch Kind.ComponentAfterC = λ rule taken parts all around at old v new front is e outer. tt
+kind-branch Kind.OtherOperator = λ rule taken parts all around at old v new front is e outer. tt
 kind-branch Kind.FloatEnd = λ rule taken parts all around at old v new front is e outer. tt
 
 branch-read : (rule : Rule) (taken : List ℕ) (parts : Forest) → AllOf ShapeRead parts → ShapeRead (branch rule taken parts)

@@ -2,7 +2,7 @@
 use Rattle.std.proofs.Common.{◌≡◌, ℕ, suc, ◌+◌, ◌-◌, ◌<◌, inl, inr, List, [], ◌∷◌, ◌++◌, Option, Bool, true, false, refl, arith}
 use Rattle.std.specs.Prelude.{cond, ◌&&◌, codes}
 use Rattle.sym_spell.specs.Pressing.{◌and◌, text}
-use Rattle.cpp_grammar.specs.Term.{RefQualifier, Term, symbol, function, object, special, thunk, of_name, construction, alone, in_std, within, instance, local, holder, tagged, abbreviation, parameter, source, operator, literal_operator, constructor, destructor, lambda, unnamed, string_literal, builtin, sized_float, vendor, pointer, lvalue, rvalue, array, member_pointer, function_type, qualified, vector, complex, expansion, integer, boolean, null_pointer, encoding_literal, address_of, pack, nil, list, absent}
+use Rattle.cpp_grammar.specs.Term.{RefQualifier, Term, symbol, function, object, special, thunk, of_name, construction, alone, in_std, within, instance, local, holder, tagged, abbreviation, parameter, source, operator, literal_operator, constructor, destructor, lambda, unnamed, string_literal, conversion, builtin, sized_float, vendor, pointer, lvalue, rvalue, array, member_pointer, function_type, qualified, vector, complex, expansion, integer, boolean, null_pointer, encoding_literal, address_of, pack, nil, list, absent}
 use Rattle.cpp_press_laws.specs.Texts.{counted, ordinal, signed_text, qualifier_letters, mark_letter, name_letters, special_code, thunk_text, discriminator_text}
 use Rattle.cpp_press_laws.specs.Components.{Spelling, component}
 use Rattle.cpp_press_laws.specs.Pressing.{Ways, no_ways, type_ways, function_text, in_N_and_E, with_letters, name_ways, template_before, is_operator, is_one_piece, entity_text, local_text, begun, encoding_ways, piece_ways, argument_ways, ways_of, pressed}
@@ -389,6 +389,8 @@ ways-grow whole (lambda parameters k) in_whole n =
     piece-ways-grow whole (lambda parameters k) (front (codes "Ul")
     (back (more-grows (ways-grow whole parameters in_whole n).as_parameters (omega arith)) (codes "E" ++ ordinal (k - 1))))
 ways-grow whole (unnamed k) in_whole n = piece-ways-grow whole (unnamed k) (text-grows (codes "Ut" ++ ordinal (k - 1)))
+ways-grow whole (conversion type) in_whole n =
+    piece-ways-grow whole (conversion type) (front (codes "cv") (more-grows (ways-grow whole type in_whole n).as_type (omega arith)))
 ways-grow whole string_literal in_whole n = piece-ways-grow whole string_literal (text-grows (codes "s"))
 ways-grow whole (builtin code) in_whole n = type-ways-grow whole (builtin code) (text-grows code)
 ways-grow whole (sized_float digits end) in_whole n =

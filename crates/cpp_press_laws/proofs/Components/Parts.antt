@@ -2,7 +2,7 @@
 use Rattle.std.proofs.Common.{◌≡◌, ℕ, ◌+◌, ◌⊎◌, inl, inr, List, [], ◌∷◌, ◌++◌, Option, Some, None, Bool, true, false, refl, sym, ◌∙◌}
 use Rattle.std.specs.Prelude.{not, ◌&&◌, ◌||◌, nat_eq}
 use Rattle.std.proofs.lemmas.Bool.{eq-eqb, eqb-true, and_parts, false≢true}
-use Rattle.cpp_grammar.specs.Term.{Term, symbol, function, object, special, thunk, of_name, construction, alone, in_std, within, instance, local, holder, tagged, of_default, parameter, lambda, vendor, pointer, lvalue, rvalue, array, member_pointer, function_type, qualified, vector, complex, expansion, integer, encoding_literal, address_of, pack, list}
+use Rattle.cpp_grammar.specs.Term.{Term, symbol, function, object, special, thunk, of_name, construction, alone, in_std, within, instance, local, holder, tagged, of_default, parameter, lambda, conversion, vendor, pointer, lvalue, rvalue, array, member_pointer, function_type, qualified, vector, complex, expansion, integer, encoding_literal, address_of, pack, list}
 use Rattle.cpp_grammar.specs.Scope.{is_open}
 use Rattle.cpp_grammar.specs.Values.{Candidate}
 use Rattle.cpp_press_laws.specs.Same.{same_tree}
@@ -75,6 +75,7 @@ Inside (holder name) x = PrefixOr name (Inside name x) x
 Inside (tagged of_structor name tag) x = ItselfOr name (Inside name x) x
 Inside (of_default digits entity) x = Inside entity x
 Inside (lambda parameters k) x = Inside parameters x
+Inside (conversion type) x = ItselfOr type (Inside type x) x
 Inside (pointer type) x = ItselfOr type (Inside type x) x
 Inside (lvalue type) x = ItselfOr type (Inside type x) x
 Inside (rvalue type) x = ItselfOr type (Inside type x) x

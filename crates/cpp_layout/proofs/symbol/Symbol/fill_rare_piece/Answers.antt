@@ -27,5 +27,9 @@ pub returns-in-StringLiteral-clause-shows : goal.returns-in-StringLiteral-clause
 unfolding piece_of piece_parts
 returns-in-StringLiteral-clause-shows g c = fills c.args.self.now c.args.ctx.detail _ _ _ (c.push_text.ensures.shows _ _ _ (starts c.args.self.now c.args.ctx.detail _)) (ap (λ p. piece_parts (context_of c.args.ctx) (piece_of c.args.self.now.bytes (trees (table_of c.args.self.now)) p)) (sym c.in-StringLiteral.is))
 
+pub returns-in-Conversion-clause-shows : goal.returns-in-Conversion-clause-shows
+unfolding piece_of
+returns-in-Conversion-clause-shows g c = fills c.args.self.now c.args.ctx.detail _ _ _ c.fill_conversion.ensures.shows (ap (λ p. piece_parts (context_of c.args.ctx) (piece_of c.args.self.now.bytes (trees (table_of c.args.self.now)) p)) (sym c.in-Conversion.is))
+
 pub returns-in_default-clause-shows : goal.returns-in_default-clause-shows
-returns-in_default-clause-shows g c = fills c.args.self.now c.args.ctx.detail _ _ _ (starts c.args.self.now c.args.ctx.detail _) (piece-none _ _ _ c.args.piece (no-source c.args.piece c.requires.kind) c.in_default.not-Operator c.in_default.not-LiteralOperator c.in_default.not-Lambda c.in_default.not-Unnamed c.in_default.not-StringLiteral)
+returns-in_default-clause-shows g c = fills c.args.self.now c.args.ctx.detail _ _ _ (starts c.args.self.now c.args.ctx.detail _) (piece-none _ _ _ c.args.piece (no-source c.args.piece c.requires.kind) c.in_default.not-Operator c.in_default.not-LiteralOperator c.in_default.not-Lambda c.in_default.not-Unnamed c.in_default.not-StringLiteral c.in_default.not-Conversion)
