@@ -10,7 +10,7 @@ use Rattle.cpp_grammar.specs.Texts.{same_bytes}
 use Rattle.cpp_term.specs.Term as term
 use Rattle.cpp_term.specs.Term.{Term}
 use Rattle.cpp_term.specs.Items as items
-use Rattle.cpp_term.specs.Parts.{as_item, list_part, piece_parts, prefix_item, within_parts, base_within, base_tagged_within, base_tagged, opening_text, last_piece, instance_parts}
+use Rattle.cpp_term.specs.Parts.{as_item, list_part, piece_parts, prefix_item, within_parts, base_within, base_tagged_within, base_tagged, opening_text, last_piece, entity_of, instance_parts}
 use Rattle.cpp_tree.specs.declared.node.Piece.{Piece}
 use Rattle.cpp_tree.specs.declared.node.Node.{Node}
 use Rattle.cpp_tree.specs.declared.node.Thunk.{Thunk}
@@ -207,19 +207,30 @@ within-other s ts c prefix t (Piece.Conversion a) is h1 h2 = rw is refl
 within-other s ts c prefix t Piece.StringLiteral is h1 h2 = rw is refl
 within-other s ts c prefix t Piece.Absent is h1 h2 = rw is refl
 
+-- ## The entity of a local name
+
+pub entity-other : (s : List ℕ) (us : List Thunk) (ts : List Term) (n : Node) (t : Term) → t ≡ tree_of s us ts n → ((g : Span) (a : ℕ) → n ≡ Node.OfDefault g a → ⊥) → t ≡ entity_of t
+unfolding tree_of entity_of
+entity-other s us ts n t is other = subst (λ u. u ≡ entity_of u) (sym is) (by n other)
+  where
+    by : (n : Node) → ((g : Span) (a : ℕ) → n ≡ Node.OfDefault g a → ⊥) → tree_of s us ts n ≡ entity_of (tree_of s us ts n)
+    by (Node.OfDefault g a) other = absurd (other g a refl)
+    by _ other = refl
+
 -- ## The last piece
 
 pub last-none : (s : List ℕ) (us : List Thunk) (ts : List Term) (n : Node) (t : Term) → t ≡ tree_of s us ts n
-    → ((p : Piece) → n ≡ Node.Alone p → ⊥) → ((p : Piece) → n ≡ Node.InStd p → ⊥) → ((a : ℕ) (p : Piece) → n ≡ Node.Within a p → ⊥) → ((e a : ℕ) (d : Option Span) → n ≡ Node.Local e a d → ⊥) → fixed_text LESS ≡ opening_text (last_piece t)
+    → ((p : Piece) → n ≡ Node.Alone p → ⊥) → ((p : Piece) → n ≡ Node.InStd p → ⊥) → ((a : ℕ) (p : Piece) → n ≡ Node.Within a p → ⊥) → ((e a : ℕ) (d : Option Span) → n ≡ Node.Local e a d → ⊥) → ((g : Span) (a : ℕ) → n ≡ Node.OfDefault g a → ⊥) → fixed_text LESS ≡ opening_text (last_piece t)
 unfolding tree_of last_piece opening_text
-last-none s us ts n t is h1 h2 h3 h4 = other n h1 h2 h3 h4 ∙ ap (λ u. opening_text (last_piece u)) (sym is)
+last-none s us ts n t is h1 h2 h3 h4 h5 = other n h1 h2 h3 h4 h5 ∙ ap (λ u. opening_text (last_piece u)) (sym is)
   where
-    other : (n : Node) → ((p : Piece) → n ≡ Node.Alone p → ⊥) → ((p : Piece) → n ≡ Node.InStd p → ⊥) → ((a : ℕ) (p : Piece) → n ≡ Node.Within a p → ⊥) → ((e a : ℕ) (d : Option Span) → n ≡ Node.Local e a d → ⊥) → fixed_text LESS ≡ opening_text (last_piece (tree_of s us ts n))
-    other (Node.Alone p) h1 h2 h3 h4 = absurd (h1 p refl)
-    other (Node.InStd p) h1 h2 h3 h4 = absurd (h2 p refl)
-    other (Node.Within a p) h1 h2 h3 h4 = absurd (h3 a p refl)
-    other (Node.Local e a d) h1 h2 h3 h4 = absurd (h4 e a d refl)
-    other _ h1 h2 h3 h4 = refl
+    other : (n : Node) → ((p : Piece) → n ≡ Node.Alone p → ⊥) → ((p : Piece) → n ≡ Node.InStd p → ⊥) → ((a : ℕ) (p : Piece) → n ≡ Node.Within a p → ⊥) → ((e a : ℕ) (d : Option Span) → n ≡ Node.Local e a d → ⊥) → ((g : Span) (a : ℕ) → n ≡ Node.OfDefault g a → ⊥) → fixed_text LESS ≡ opening_text (last_piece (tree_of s us ts n))
+    other (Node.Alone p) h1 h2 h3 h4 h5 = absurd (h1 p refl)
+    other (Node.InStd p) h1 h2 h3 h4 h5 = absurd (h2 p refl)
+    other (Node.Within a p) h1 h2 h3 h4 h5 = absurd (h3 a p refl)
+    other (Node.Local e a d) h1 h2 h3 h4 h5 = absurd (h4 e a d refl)
+    other (Node.OfDefault g a) h1 h2 h3 h4 h5 = absurd (h5 g a refl)
+    other _ h1 h2 h3 h4 h5 = refl
 
 pub instance-whole : (c : items.Context) (t a : Term) (n : ℕ) → fixed_text n ≡ opening_text (last_piece t) → as_item heads.left c t ∷ text (fixed_text n) ∷ (list_part heads.first c a ++ (text (fixed_text GREATER) ∷ [])) ≡ instance_parts true c t a
 unfolding instance_parts

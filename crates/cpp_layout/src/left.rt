@@ -139,7 +139,9 @@ impl Symbol {
                 template,
                 arguments,
             } => self.fill_instance(parts, template, arguments, ctx),
-            Node::Local { entity, .. } => self.push_item(parts, entity, form::LEFT, 0, ctx),
+            Node::Local { entity, .. } => {
+                self.push_item(parts, self.own_entity(entity), form::LEFT, 0, ctx);
+            }
             Node::Holder(name) => self.push_item(parts, name, form::LEFT, 0, ctx),
             Node::Tagged { name, tag, .. } => self.fill_tagged(parts, name, tag, ctx),
             Node::Abbreviation(letter) => self.push_some(parts, abbreviation(letter)),
@@ -193,7 +195,9 @@ impl Symbol {
             Node::InStd(piece) => self.fill_piece(parts, piece, ctx),
             Node::Within { prefix, piece } => self.fill_base_within(parts, prefix, piece, ctx),
             Node::Instance { template, .. } => self.push_item(parts, template, form::BASE, 0, ctx),
-            Node::Local { entity, .. } => self.push_item(parts, entity, form::BASE, 0, ctx),
+            Node::Local { entity, .. } => {
+                self.push_item(parts, self.own_entity(entity), form::BASE, 0, ctx);
+            }
             Node::Holder(name) => self.push_item(parts, name, form::BASE, 0, ctx),
             Node::Tagged { name, .. } => self.fill_base_tagged(parts, name, ctx),
             Node::Abbreviation(letter) => self.push_some(parts, last_of_abbreviation(letter)),

@@ -10,7 +10,7 @@ ghost use Rattle.cpp_grammar.specs.Items.{left, base, piece};
 ghost use Rattle.cpp_grammar.specs.Parts.{begins_with, source_text};
 ghost use Rattle.cpp_term.specs.Term as term;
 ghost use Rattle.cpp_term.specs.Items as items;
-ghost use Rattle.cpp_term.specs.Parts.{as_item, piece_parts, prefix_item, within_parts, base_within, base_tagged, opening_text, last_piece, instance_parts};
+ghost use Rattle.cpp_term.specs.Parts.{as_item, piece_parts, prefix_item, within_parts, base_within, base_tagged, entity_of, opening_text, last_piece, instance_parts};
 ghost use Rattle.cpp_tree.specs.Nodes.{tree_at, trees, piece_of, bytes_at, IsTable, IsWithin, IsPieceBelow};
 ghost use Rattle.cpp_layout.specs.Texts.{fixed_text};
 ghost use Rattle.cpp_layout.specs.declared.texts.TheConstants.{BLANK_LESS, COLONS, COUNT, LESS, RIGHT_BRACKET, TAG};
@@ -294,6 +294,20 @@ impl Symbol {
         }
     }
 
+    /// The entity of a local name. In which default argument it stands isn't shown.
+    #[inline(always)]
+    pub(crate) fn own_entity(&self, entity: u32) -> u32
+        requires table { IsTable (table_of self.now) }
+        requires entity { entity < length self.now.table.nodes }
+        ensures tree { tree_at (trees (table_of self.now)) result ≡ entity_of (tree_at (trees (table_of self.now)) entity) }
+        ensures below { result < length self.now.table.nodes }
+    {
+        match self.stored(entity) {
+            Node::OfDefault { entity, .. } => entity,
+            _ => entity,
+        }
+    }
+
     /// Whether a name's last piece is the operator << or <.
     fn ends_in_angle(&self, template: u32) -> bool
         requires table { IsTable (table_of self.now) }
@@ -304,6 +318,7 @@ impl Symbol {
         'entities: loop {
             match self.stored(name) {
                 Node::Local { entity, .. } => name = entity,
+                Node::OfDefault { entity, .. } => name = entity,
                 Node::Alone(piece) => return is_angle(piece),
                 Node::InStd(piece) => return is_angle(piece),
                 Node::Within { piece, .. } => return is_angle(piece),

@@ -9,7 +9,7 @@ use Rattle.sym_shape.specs.declared.rule.Sym.TheVariants.{Kind as OfKind, Name, 
 use Rattle.sym_link.specs.Reading.{Found, Next}
 use Rattle.sym_link.specs.Unfold.{found}
 use Rattle.cpp_grammar.specs.declared.production.Production.{Production}
-use Rattle.cpp_grammar.specs.KindNumbers.{INTEGER, UNQUALIFIED, NEST, NEST_AFTER_S, NEST_REST, NEST_REST_OR_END, NEST_REST_ALONE, ARGUMENTS_ALONE, NEST_TAIL, COMPONENT, HOLDER_MARK, HELD_COMPONENT, COMPONENT_AFTER_C, OPERATOR_AFTER_C, OTHER_OPERATOR, CONSTRUCTOR_DIGIT, DESTRUCTOR_DIGIT, ABBREVIATION, ANONYMOUS, ITEM_AFTER_D, AFTER_D, SOLID, TYPE_AFTER_S, MAYBE_ARGUMENTS, ARGUMENTS, ARGUMENT_LIST, LITERAL_TYPE, OPERATOR}
+use Rattle.cpp_grammar.specs.KindNumbers.{INTEGER, UNQUALIFIED, NEST, NEST_AFTER_S, NEST_REST, NEST_REST_OR_END, NEST_REST_ALONE, ARGUMENTS_ALONE, NEST_TAIL, COMPONENT, HOLDER_MARK, HELD_COMPONENT, COMPONENT_AFTER_C, OPERATOR_AFTER_C, OTHER_OPERATOR, CONSTRUCTOR_DIGIT, DESTRUCTOR_DIGIT, ABBREVIATION, ANONYMOUS, ITEM_AFTER_D, AFTER_D, SOLID, TYPE_AFTER_S, MAYBE_ARGUMENTS, ARGUMENTS, ARGUMENTS_FIRST, LITERAL_TYPE, OPERATOR}
 use Rattle.cpp_grammar.specs.Grammar.{parts_of, number_of_kind}
 use Rattle.cpp_grammar.proofs.ClosedStates.{ok_same}
 use Rattle.cpp_term.specs.Term.{Term, source, operator, constructor, destructor, in_std, instance, holder, pack, lvalue, rvalue}
@@ -343,7 +343,7 @@ holder-component around place = λ state next e. came (going [] around state) ne
         }))
 
 nest-arguments : (around : Around) (place : ℕ)
-    → Flow Production.NestArguments around place (OfKind ARGUMENT_LIST ∷ Byte 69 ∷ OfKind COMPONENT ∷ OfKind NEST_TAIL ∷ []) [] (unlisted_around around)
+    → Flow Production.NestArguments around place (OfKind ARGUMENTS_FIRST ∷ Byte 69 ∷ OfKind COMPONENT ∷ OfKind NEST_TAIL ∷ []) [] (unlisted_around around)
 unfolding pending pending_around goes_on is_arguments is_component becomes_candidate between listed_so_far makes_before made_before part leaves makes_name may_leave meaning close behind
 nest-arguments around place = λ state next e. came (going [] (inside around) (with_prefix around state)) next e (record {
   over = 0;
@@ -371,7 +371,7 @@ nest-arguments around place = λ state next e. came (going [] (inside around) (w
         (quiet (going (v ∷ []) around state) (omega arith) (λ b. refl) (λ b. made v b))
 
 nest-instance : (around : Around) (place : ℕ)
-    → Flow Production.NestInstance around place (OfKind ARGUMENT_LIST ∷ Byte 69 ∷ OfKind NEST_TAIL ∷ []) [] (unlisted_around around)
+    → Flow Production.NestInstance around place (OfKind ARGUMENTS_FIRST ∷ Byte 69 ∷ OfKind NEST_TAIL ∷ []) [] (unlisted_around around)
 unfolding pending pending_around goes_on is_arguments is_component becomes_candidate between named_so_far makes_before made_before part leaves makes_name may_leave meaning close behind
 nest-instance around place = λ state next e. came (going [] (inside around) (with_prefix around state)) next e (record {
   over = 0;
@@ -397,7 +397,7 @@ nest-end around place = λ byte began state one e.
     ended Production.NestEnd 0 (unlisted_around around) state (found (tree (prefix_tree around.prefix)
     (prefix_listed around.prefix)) state) one e (omega arith)
 
-arguments : (around : Around) (place : ℕ) → Flow Production.Arguments around place (OfKind ARGUMENT_LIST ∷ Byte 69 ∷ []) [] (unlisted_around around)
+arguments : (around : Around) (place : ℕ) → Flow Production.Arguments around place (OfKind ARGUMENTS_FIRST ∷ Byte 69 ∷ []) [] (unlisted_around around)
 unfolding pending pending_around goes_on is_arguments is_component becomes_candidate between makes_before made_before makes_at_end made_at_end leaves makes_name may_leave close behind
 arguments around place = λ state next e. came (going [] (inside around) (with_prefix around state)) next e (record {
   over = 0;

@@ -436,6 +436,9 @@ impl Linked {
                 qualifiers: self.qualifiers(symbol, parts, 2),
                 mark: self.reference(symbol, parts, 2),
             },
+            // <local-name> ::= Z <function encoding> E d [<parameter number>] _ <entity name>
+            Production::DefaultEntity => self.default_entity(symbol, parts),
+            Production::DefaultTypeEntity => self.default_entity(symbol, parts),
             // <ref-qualifier> ::= R, or <type> ::= R <type>, a parameter
             Production::RestLvalue => self.signature_or(
                 symbol,

@@ -6,7 +6,7 @@ ghost use Rattle.cpp_term.specs.Term.{Term};
 ghost use Rattle.cpp_term.specs.Values as values;
 ghost use Rattle.cpp_term.specs.Values.{tree_of, is_there, text_of, part, prefix_tree, prefix_listed};
 ghost use Rattle.cpp_term.specs.Between.{applied, no_items, extended};
-ghost use Rattle.cpp_term.specs.Meaning.{parameters, discriminator_of, reference_to, listed_value, signature_or, operator_or_literal};
+ghost use Rattle.cpp_term.specs.Meaning.{parameters, default_entity, discriminator_of, reference_to, listed_value, signature_or, operator_or_literal};
 ghost use Rattle.cpp_grammar.specs.Term.{any_value};
 ghost use Rattle.cpp_grammar.specs.Values.{unqualified, local_number};
 ghost use Rattle.cpp_tree.specs.Nodes as nodes;
@@ -20,7 +20,7 @@ ghost use Rattle.cpp_link.specs.Parts.{trees_in, tree_of_node, value_of, value_i
 
 use crate::linked::Linked;
 use crate::meaning::{made, tree};
-use crate::numbers::local_number;
+use crate::numbers::{local_number, normal};
 use crate::part::{Meant, Part, Prefix};
 use crate::values::part;
 use cpp_tree::node::{Mark, Node, Piece, Qualifiers};
@@ -195,6 +195,25 @@ impl Linked {
         match rest {
             Part::Letter(second) => Meant::Given(Part::Piece(Piece::Operator(first, second))),
             _ => Meant::Given(rest),
+        }
+    }
+
+    /// The entity of a local name that stands in a default argument.
+    #[tactic(auto, unfolding(cpp_term::specs::Meaning::default_entity, crate::specs::Parts::meant_value, crate::specs::Parts::value_of, cpp_tree::specs::Nodes::tree_of, crate::specs::Making::nodes_of_meant))]
+    pub fn default_entity(&self, symbol: &[u8], parts: &[Part]) -> Meant
+        requires table { IsTable (over symbol.now self.now.nodes) }
+        requires there { AreThere symbol.now (length self.now.nodes.nodes) parts.now }
+        ensures is { meant_value symbol.now self.now.nodes result ≡ default_entity (text_of (part (values_in symbol.now self.now.nodes parts.now) 0)) (part (values_in symbol.now self.now.nodes parts.now) 1) }
+        ensures there { IsMeantThere symbol.now (length self.now.nodes.thunks) (length self.now.nodes.nodes) result }
+        ensures nodes { nodes_of_meant result ≡ 1 }
+    {
+        Meant::Entity {
+            node: Node::OfDefault {
+                digits: normal(symbol, self.text(symbol, parts, 0)),
+                entity: self.tree(symbol, parts, 1),
+            },
+            qualifiers: self.qualifiers(symbol, parts, 1),
+            mark: self.reference(symbol, parts, 1),
         }
     }
 

@@ -5,9 +5,13 @@ use Rattle.cpp_layout.specs.Layout.{table_of}
 use Rattle.cpp_layout.proofs.Naming.{last-none}
 use Rattle.cpp_layout.proofs.symbol.Symbol.ends_in_angle.Goals as goal
 
-pub entities-preserved : goal.entities-preserved
+pub entities-preserved-in-Local : goal.entities-preserved-in-Local
 unfolding tree_of last_piece
-entities-preserved c = (omega (arith, c.in-Local.ensures.below.1, c.entities.invariant.0), sym (ap last_piece c.in-Local.ensures.tree) ∙ c.entities.invariant.1)
+entities-preserved-in-Local c = (omega (arith, c.in-Local.ensures.below.1, c.entities.invariant.0), sym (ap last_piece c.in-Local.ensures.tree) ∙ c.entities.invariant.1)
+
+pub entities-preserved-in-OfDefault : goal.entities-preserved-in-OfDefault
+unfolding tree_of last_piece
+entities-preserved-in-OfDefault c = (omega (arith, c.in-OfDefault.ensures.below.1, c.entities.invariant.0), sym (ap last_piece c.in-OfDefault.ensures.tree) ∙ c.entities.invariant.1)
 
 pub returns-in-Alone : goal.returns-in-Alone
 unfolding tree_of last_piece
@@ -22,4 +26,4 @@ unfolding tree_of last_piece
 returns-in-Within c = c.is_angle-in-Within.ensures c.args.self.now.bytes (trees (table_of c.args.self.now)) ∙ ap opening_text (sym (ap last_piece c.in-Within.ensures.tree) ∙ c.entities.invariant.1)
 
 pub returns-in_default : goal.returns-in_default
-returns-in_default c = last-none _ _ _ c.stored.result _ c.stored.ensures.tree c.in_default.not-Alone c.in_default.not-InStd c.in_default.not-Within c.in_default.not-Local ∙ ap opening_text c.entities.invariant.1
+returns-in_default c = last-none _ _ _ c.stored.result _ c.stored.ensures.tree c.in_default.not-Alone c.in_default.not-InStd c.in_default.not-Within c.in_default.not-Local c.in_default.not-OfDefault ∙ ap opening_text c.entities.invariant.1

@@ -2,9 +2,10 @@ use Rattle.std.proofs.Common.{[], ap, sym, ◌∙◌, ◌∷◌}
 use Rattle.cpp_layout.proofs.Growing.{fills, starts}
 use Rattle.cpp_layout.proofs.Typing.{base-other-node}
 use Rattle.cpp_layout.specs.Layout.{context_of}
-use Rattle.cpp_term.specs.Parts.{base_parts}
+use Rattle.cpp_term.specs.Parts.{as_item, base_parts}
 use Rattle.cpp_tree.specs.Nodes.{tree_of}
 use Rattle.sym_print.specs.Unfold.{text}
+use Rattle.cpp_grammar.specs.Items as heads
 use Rattle.cpp_layout.proofs.symbol.Symbol.fill_base.Goals as goal
 
 pub returns-in-Alone-clause-shows : goal.returns-in-Alone-clause-shows
@@ -25,7 +26,7 @@ returns-in-Instance-clause-shows g c = fills c.args.self.now c.args.ctx.detail _
 
 pub returns-in-Local-clause-shows : goal.returns-in-Local-clause-shows
 unfolding tree_of base_parts
-returns-in-Local-clause-shows g c = fills c.args.self.now c.args.ctx.detail _ _ _ (c.push_item-in-Local.ensures.shows _ _ (starts c.args.self.now c.args.ctx.detail _)) (ap (λ t. base_parts c.args.ctx.detail (context_of c.args.ctx) t) (sym c.in-Local.ensures.tree))
+returns-in-Local-clause-shows g c = fills c.args.self.now c.args.ctx.detail _ _ _ (c.push_item-in-Local.ensures.shows _ _ (starts c.args.self.now c.args.ctx.detail _)) (ap (λ t. as_item heads.base (context_of c.args.ctx) t ∷ []) c.own_entity.ensures.tree ∙ ap (λ t. base_parts c.args.ctx.detail (context_of c.args.ctx) t) (sym c.in-Local.ensures.tree))
 
 pub returns-in-Holder-clause-shows : goal.returns-in-Holder-clause-shows
 unfolding tree_of base_parts

@@ -32,7 +32,7 @@ returns-in-Instance-clause-shows g c = fills c.args.self.now c.args.ctx.detail _
 
 pub returns-in-Local-clause-shows : goal.returns-in-Local-clause-shows
 unfolding tree_of left_parts
-returns-in-Local-clause-shows g c = fills c.args.self.now c.args.ctx.detail _ _ _ (c.push_item.ensures.shows _ _ (starts c.args.self.now c.args.ctx.detail _)) (ap (λ n. left_parts c.args.ctx.detail (context_of c.args.ctx) (tree_of c.args.self.now.bytes c.args.self.now.table.thunks (trees (table_of c.args.self.now)) n)) (sym c.in-Local.is) ∙ ap (λ t. left_parts c.args.ctx.detail (context_of c.args.ctx) t) (sym c.stored-stored.ensures.tree))
+returns-in-Local-clause-shows g c = fills c.args.self.now c.args.ctx.detail _ _ _ (c.push_item.ensures.shows _ _ (starts c.args.self.now c.args.ctx.detail _)) (ap (λ t. as_item heads.left (context_of c.args.ctx) t ∷ []) c.own_entity.ensures.tree ∙ ap (λ n. left_parts c.args.ctx.detail (context_of c.args.ctx) (tree_of c.args.self.now.bytes c.args.self.now.table.thunks (trees (table_of c.args.self.now)) n)) (sym c.in-Local.is) ∙ ap (λ t. left_parts c.args.ctx.detail (context_of c.args.ctx) t) (sym c.stored-stored.ensures.tree))
 
 pub returns-in-Holder-clause-shows : goal.returns-in-Holder-clause-shows
 unfolding tree_of left_parts
