@@ -3,7 +3,7 @@
 use Rattle.std.specs.Prelude.{ℕ, ◌-◌, List, [], ◌∷◌, ◌++◌, Bool, true, false, cond, ◌&&◌, codes, Option}
 use Prim.Native.String.{String}
 use Rattle.sym_spell.specs.Pressing.{◌and◌, text, nothing}
-use Rattle.cpp_grammar.specs.Term.{RefQualifier, Term, symbol, function, object, special, thunk, of_name, construction, alone, in_std, within, instance, local, holder, tagged, abbreviation, parameter, source, operator, literal_operator, constructor, destructor, lambda, unnamed, string_literal, conversion, builtin, sized_float, vendor, pointer, lvalue, rvalue, array, member_pointer, function_type, qualified, vector, complex, expansion, integer, boolean, null_pointer, encoding_literal, address_of, pack, nil, list, absent}
+use Rattle.cpp_grammar.specs.Term.{RefQualifier, Term, symbol, function, object, special, thunk, of_name, construction, alone, in_std, within, instance, local, holder, tagged, of_default, abbreviation, parameter, source, operator, literal_operator, constructor, destructor, lambda, unnamed, string_literal, conversion, builtin, sized_float, vendor, pointer, lvalue, rvalue, array, member_pointer, function_type, qualified, vector, complex, expansion, integer, boolean, null_pointer, encoding_literal, address_of, pack, nil, list, absent}
 use Rattle.cpp_press_laws.specs.Texts.{counted, ordinal, signed_text, qualifier_letters, mark_letter, name_letters, special_code, thunk_text, discriminator_text}
 use Rattle.cpp_press_laws.specs.Components.{Spelling, ended, referred, component}
 
@@ -171,6 +171,8 @@ ways_of n (local e entity discriminator) =
 ways_of n (holder name) = record no_ways { as_prefix = (ways_of n name).as_prefix and says "M" }
 ways_of n (tagged of_structor name tag) =
     type_ways (component n (tagged of_structor name tag) ((ways_of n name).as_type and text (codes "B" ++ counted tag)))
+-- local entities of default arguments are read by the wide grammar alone, and aren't pressed
+ways_of n (of_default digits entity) = no_ways
 ways_of n (abbreviation l) = type_ways (text (codes "S" ++ l ∷ []))
 ways_of n (parameter k) = type_ways (component n (parameter k) (text (codes "T" ++ ordinal k)))
 ways_of n (source internal name) = piece_ways (text (cond internal (codes "L") [] ++ counted name))

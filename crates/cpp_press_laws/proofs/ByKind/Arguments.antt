@@ -149,10 +149,10 @@ address-branch rule taken parts all around at old v new front is e =
 
 -- ## Lists
 
-pack-argument : (around : Around) (at : ℕ) (old : State) (v : Value) (new : State) → around.prefix ≡ outermost
-    → OpenedRead Kind.ArgumentList around at old v new Production.PackArgument → KindFits Kind.ArgumentList around v old new
+pack-argument : (kind : Kind) (around : Around) (at : ℕ) (old : State) (v : Value) (new : State) → around.prefix ≡ outermost
+    → OpenedRead kind around at old v new Production.PackArgument → KindFits Kind.ArgumentList around v old new
 unfolding parts_of between number_of_kind
-pack-argument around at old v new outer o =
+pack-argument kind around at old v new outer o =
     let a = o.goes tt in
     let b = a.onward in
     let c = b.onward in
@@ -163,10 +163,10 @@ pack-argument around at old v new outer o =
     (step.pack-argument around byte old t b.value c.value old a.after c.after (a.read Kind.PackList refl outer)
     (subst (λ s. KindFits Kind.ArgumentList around c.value s c.after) b.read.0 (c.read Kind.ArgumentList refl outer)))
 
-literal-argument : (around : Around) (at : ℕ) (old : State) (v : Value) (new : State) → around.prefix ≡ outermost
-    → OpenedRead Kind.ArgumentList around at old v new Production.LiteralArgument → KindFits Kind.ArgumentList around v old new
+literal-argument : (kind : Kind) (around : Around) (at : ℕ) (old : State) (v : Value) (new : State) → around.prefix ≡ outermost
+    → OpenedRead kind around at old v new Production.LiteralArgument → KindFits Kind.ArgumentList around v old new
 unfolding parts_of between number_of_kind
-literal-argument around at old v new outer o =
+literal-argument kind around at old v new outer o =
     let a = o.goes tt in
     let b = a.onward in
     let c = b.onward in
@@ -189,10 +189,10 @@ literal-element around at old v new outer o =
     (step.literal-element around byte old a.value b.value c.value old a.after c.after (a.read Kind.Literal refl outer)
     (subst (λ s. KindFits Kind.PackList around c.value s c.after) b.read.0 (c.read Kind.PackList refl outer)))
 
-address-argument : (around : Around) (at : ℕ) (old : State) (v : Value) (new : State) → around.prefix ≡ outermost
-    → OpenedRead Kind.ArgumentList around at old v new Production.AddressArgument → KindFits Kind.ArgumentList around v old new
+address-argument : (kind : Kind) (around : Around) (at : ℕ) (old : State) (v : Value) (new : State) → around.prefix ≡ outermost
+    → OpenedRead kind around at old v new Production.AddressArgument → KindFits Kind.ArgumentList around v old new
 unfolding parts_of between number_of_kind
-address-argument around at old v new outer o =
+address-argument kind around at old v new outer o =
     let a = o.goes tt in
     let b = a.onward in
     let c = b.onward in
@@ -219,10 +219,10 @@ address-element around at old v new outer o =
     (subst (λ s. KindFits Kind.Address around c.value s c.after) (b.read.0 ∙ a.read.0) (c.read Kind.Address refl outer))
     (d.read Kind.PackList refl outer))
 
-type-argument : (around : Around) (at : ℕ) (old : State) (v : Value) (new : State) → around.prefix ≡ outermost
-    → OpenedRead Kind.ArgumentList around at old v new Production.TypeArgument → KindFits Kind.ArgumentList around v old new
+type-argument : (kind : Kind) (around : Around) (at : ℕ) (old : State) (v : Value) (new : State) → around.prefix ≡ outermost
+    → OpenedRead kind around at old v new Production.TypeArgument → KindFits Kind.ArgumentList around v old new
 unfolding parts_of between number_of_kind
-type-argument around at old v new outer o =
+type-argument kind around at old v new outer o =
     let a = o.goes tt in
     let b = a.onward in
     let byte : ℕ = byte_of o.taken in
@@ -251,10 +251,23 @@ argument-list-branch rule taken parts all around at old v new front is e =
   where
     go : around.prefix ≡ outermost → OneOf (alternatives Kind.ArgumentList) (OpenedRead Kind.ArgumentList around at old v new)
         → KindFits Kind.ArgumentList around v old new
-    go outer (inl o) = pack-argument around at old v new outer o
-    go outer (inr (inl o)) = literal-argument around at old v new outer o
-    go outer (inr (inr (inl o))) = address-argument around at old v new outer o
-    go outer (inr (inr (inr (inl o)))) = type-argument around at old v new outer o
+    go outer (inl o) = pack-argument Kind.ArgumentList around at old v new outer o
+    go outer (inr (inl o)) = literal-argument Kind.ArgumentList around at old v new outer o
+    go outer (inr (inr (inl o))) = address-argument Kind.ArgumentList around at old v new outer o
+    go outer (inr (inr (inr (inl o)))) = type-argument Kind.ArgumentList around at old v new outer o
+    go outer (inr (inr (inr (inr none)))) = absurd none
+
+pub arguments-first-branch : BranchRead Kind.ArgumentsFirst
+unfolding alternatives
+arguments-first-branch rule taken parts all around at old v new front is e =
+    λ outer. go outer (opened-read Kind.ArgumentsFirst rule taken parts all around at old v new front is e)
+  where
+    go : around.prefix ≡ outermost → OneOf (alternatives Kind.ArgumentsFirst) (OpenedRead Kind.ArgumentsFirst around at old v new)
+        → KindFits Kind.ArgumentList around v old new
+    go outer (inl o) = pack-argument Kind.ArgumentsFirst around at old v new outer o
+    go outer (inr (inl o)) = literal-argument Kind.ArgumentsFirst around at old v new outer o
+    go outer (inr (inr (inl o))) = address-argument Kind.ArgumentsFirst around at old v new outer o
+    go outer (inr (inr (inr (inl o)))) = type-argument Kind.ArgumentsFirst around at old v new outer o
     go outer (inr (inr (inr (inr none)))) = absurd none
 
 pub pack-list-branch : BranchRead Kind.PackList

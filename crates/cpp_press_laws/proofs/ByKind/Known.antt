@@ -121,6 +121,7 @@ KindRead Kind.MaybeCLinkage around v old new = new ≡ old
 KindRead Kind.SourceOrLocal around v old new = (begins_name (piece_of v) ≡ true) × PieceFits around (piece_of v) old new
 KindRead Kind.MaybeArguments around v old new = KindFits Kind.MaybeArguments around v old new
 KindRead Kind.ArgumentsAlone around v old new = KindFits Kind.MaybeArguments around v old new
+KindRead Kind.ArgumentsFirst around v old new = around.prefix ≡ outermost → KindFits Kind.ArgumentList around v old new
 KindRead Kind.Arguments around v old new = (v ≡ tree (tree_of v) true) × KindFits Kind.Arguments around v old new
 KindRead Kind.Bit around v old new = new ≡ old
 KindRead Kind.MaybeZero around v old new = new ≡ old

@@ -42,7 +42,7 @@ arguments-come kind around at old v new o =
     (a.value ∷ b.value ∷ []) b.after v new b.onward (
       refl,
       subst (λ s. KindFits Kind.Arguments around (tree (no_items a.value) true) old s) (sym b.read.0)
-          (arguments-read around byte old a.value b.value old a.after (a.read Kind.ArgumentList refl refl)),
+          (arguments-read around byte old a.value b.value old a.after (a.read Kind.ArgumentsFirst refl refl)),
     )
 
 pub arguments-branch : BranchRead Kind.Arguments

@@ -64,7 +64,7 @@ nest-arguments kind outer t listed start at old v new so_far o =
     let own : Term = instance t (no_items a.value) in
     let prefix : PrefixFits outer own start (appended (after t listed outer) own b.after) =
     subst (λ s. PrefixFits outer own start (appended (after t listed outer) own s)) (sym b.read.0)
-    (arguments-so-far outer t listed a.value start old a.after so_far (a.read Kind.ArgumentList refl refl)) in
+    (arguments-so-far outer t listed a.value start old a.after so_far (a.read Kind.ArgumentsFirst refl refl)) in
     let one : NestRead outer c.value start c.after = c.read Kind.Component refl outer own start refl (λ n place cs front. refl) prefix in
     let two : NestRead outer d.value start d.after = d.read Kind.NestTail refl outer (tree_of c.value) start refl one.1 in
     comes-as (λ w s. NestRead outer w start s) Production.NestArguments tt (byte_of o.taken) (after t listed outer) at old

@@ -141,6 +141,7 @@ kind-branch Kind.Items = items-branch
 kind-branch Kind.MaybeArguments = maybe-arguments-branch
 kind-branch Kind.ArgumentsAlone = arguments-alone-branch
 kind-branch Kind.Arguments = arguments-branch
+kind-branch Kind.ArgumentsFirst = arguments-first-branch
 kind-branch Kind.ArgumentList = argument-list-branch
 kind-branch Kind.PackList = pack-list-branch
 kind-branch Kind.Address = address-branch
@@ -170,6 +171,8 @@ kind-branch Kind.HeldComponent = λ rule taken parts all around at old v new fro
 kind-branch Kind.ComponentAfterC = λ rule taken parts all around at old v new front is e outer. tt
 kind-branch Kind.OtherOperator = λ rule taken parts all around at old v new front is e outer. tt
 kind-branch Kind.FloatEnd = λ rule taken parts all around at old v new front is e outer. tt
+kind-branch Kind.PlainEntity = λ rule taken parts all around at old v new front is e outer. tt
+kind-branch Kind.PlainTypeEntity = λ rule taken parts all around at old v new front is e outer. tt
 
 branch-read : (rule : Rule) (taken : List ℕ) (parts : Forest) → AllOf ShapeRead parts → ShapeRead (branch rule taken parts)
 branch-read rule taken parts all kind around at old v new front is e = kind-branch kind rule taken parts all around at old v new front is e

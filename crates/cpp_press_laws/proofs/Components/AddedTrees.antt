@@ -2,7 +2,7 @@
 use Rattle.std.proofs.Common.{◌≡◌, ℕ, ◌+◌, inl, inr, length, List, [], ◌∷◌, ◌++◌, Option, Bool, true, false, sym, subst}
 use Rattle.std.specs.Prelude.{codes, cond}
 use Rattle.sym_spell.specs.Pressing.{◌and◌, text}
-use Rattle.cpp_grammar.specs.Term.{Qualifiers, RefQualifier, Term, symbol, function, object, special, thunk, of_name, construction, alone, in_std, within, instance, local, holder, tagged, abbreviation, parameter, source, operator, literal_operator, constructor, destructor, lambda, unnamed, string_literal, conversion, builtin, sized_float, vendor, pointer, lvalue, rvalue, array, member_pointer, function_type, qualified, vector, complex, expansion, integer, boolean, null_pointer, encoding_literal, address_of, pack, nil, list, absent}
+use Rattle.cpp_grammar.specs.Term.{Qualifiers, RefQualifier, Term, symbol, function, object, special, thunk, of_name, construction, alone, in_std, within, instance, local, holder, tagged, of_default, abbreviation, parameter, source, operator, literal_operator, constructor, destructor, lambda, unnamed, string_literal, conversion, builtin, sized_float, vendor, pointer, lvalue, rvalue, array, member_pointer, function_type, qualified, vector, complex, expansion, integer, boolean, null_pointer, encoding_literal, address_of, pack, nil, list, absent}
 use Rattle.cpp_grammar.specs.Scope.{has_return_type}
 use Rattle.cpp_grammar.specs.Values.{Around}
 use Rattle.cpp_grammar.specs.Between.{in_name, in_types, in_signature, under_expansion}
@@ -369,4 +369,5 @@ adds (pack elements) = argument-ways-add (pack elements) _ _ (no-pieces (pack el
     (λ in_pack around allowed place cs fits complete. (adds elements).as_elements true around allowed (place + 1) cs fits.1 complete)
 adds nil = nil-add
 adds (list first rest) = list-add first rest (adds first) (adds rest)
+adds (of_default digits entity) = nowhere-ways-add (of_default digits entity) _
 adds absent = nowhere-ways-add absent _

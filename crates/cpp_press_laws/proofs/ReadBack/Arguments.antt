@@ -7,7 +7,7 @@ use Rattle.sym_shape.specs.Tree.{Forest, TakesRule}
 use Rattle.sym_link.specs.Unfold.{found}
 use Rattle.cpp_grammar.specs.declared.kind.Kind.{Kind}
 use Rattle.cpp_grammar.specs.declared.production.Production.{Production}
-use Rattle.cpp_grammar.specs.KindNumbers.{INTEGER, TYPE, ITEM, ITEM_AFTER_D, ITEMS, ARGUMENT_LIST, PACK_LIST}
+use Rattle.cpp_grammar.specs.KindNumbers.{INTEGER, TYPE, ITEM, ITEM_AFTER_D, ITEMS, ARGUMENT_LIST, ARGUMENTS_FIRST, PACK_LIST}
 use Rattle.cpp_grammar.specs.Grammar.{in_ranges, among, is_in, pick, number_of_kind, alternatives, choose, kinds, parts_of, is_chain}
 use Rattle.cpp_grammar.specs.Table.{abi, rule_of}
 use Rattle.cpp_grammar.specs.Term.{Signed, Term, expansion, nil, list}
@@ -21,7 +21,7 @@ use Rattle.cpp_press_laws.specs.Texts.{signed_text}
 use Rattle.cpp_press_laws.specs.Spellable.{AreSpellableDigits, IsSpellableNumber}
 use Rattle.cpp_press_laws.specs.Subtrees.{Written, written, ReadsAt, Is}
 use Rattle.cpp_press_laws.proofs.ReadBack.Tokens.{digits_token}
-use Rattle.cpp_press_laws.proofs.ReadBack.Reading.{RowAt, PassesAt, row-part, row-last, takes-byte, takes-none, production-reads, fixed-reads, number-reads}
+use Rattle.cpp_press_laws.proofs.ReadBack.Reading.{RowAt, PassesAt, row-part, row-last, takes-byte, takes-none, production-reads, fixed-reads, number-reads, first-reads}
 use Rattle.cpp_press_laws.proofs.ReadBack.Types.{AreOnly, same-written, one-part, then-last, whole-same}
 use Rattle.cpp_press_laws.proofs.ReadBack.Solids.{two-parts}
 
@@ -93,12 +93,12 @@ pub arguments-read : (around : Around) (allowed : Option ℕ) (k : ℕ) (items :
     → ReadsAt around allowed (OfKind k) (Is (tree items true)) place cs (written (73 ∷ (w.bytes ++ (69 ∷ []))) w.components)
 unfolding parts_of number_of_kind between opening close unfolding_.behind meaning part
 arguments-read around allowed k items last place cs middle w takes are passes one =
-    whole-same Production.Arguments k (73 ∷ []) around allowed place (last ∷ nothing_there ∷ []) (tree items true) cs (OfKind ARGUMENT_LIST ∷ Byte 69 ∷ [])
+    whole-same Production.Arguments k (73 ∷ []) around allowed place (last ∷ nothing_there ∷ []) (tree items true) cs (OfKind ARGUMENTS_FIRST ∷ Byte 69 ∷ [])
     (written (w.bytes ++ (69 ∷ [])) w.components) takes refl
     (λ f s. refl) (λ began s. ap (λ l. Ok (found (tree l true) s)) are)
-    (row-part Production.Arguments (73 ∷ []) around (inside around) allowed allowed place (OfKind ARGUMENT_LIST) (Byte 69 ∷ []) [] [] (Is last)
+    (row-part Production.Arguments (73 ∷ []) around (inside around) allowed allowed place (OfKind ARGUMENTS_FIRST) (Byte 69 ∷ []) [] [] (Is last)
     (AreOnly (last ∷ nothing_there ∷ [])) (place + 1) cs middle w (written (69 ∷ []) w.components)
-    passes one (λ packs h. h)
+    passes (first-reads (inside around) allowed (Is last) (place + 1) middle w one) (λ packs h. h)
     (λ v h. subst (λ x. RowAt Production.Arguments (73 ∷ []) around allowed place (Byte 69 ∷ []) (x ∷ []) (AreOnly (last ∷ nothing_there ∷ []))
     (place + 1 + length w.bytes) w.components (written (69 ∷ []) w.components)) (sym h)
     (then-last Production.Arguments (73 ∷ []) around allowed place (Byte 69) (last ∷ []) nothing_there (place + 1 + length w.bytes) w.components

@@ -7,7 +7,7 @@ use Rattle.sym_shape.specs.Tree.{Forest, TakesRule}
 use Rattle.sym_link.specs.Unfold.{found}
 use Rattle.cpp_grammar.specs.declared.kind.Kind.{Kind}
 use Rattle.cpp_grammar.specs.declared.production.Production.{Production}
-use Rattle.cpp_grammar.specs.KindNumbers.{UNQUALIFIED, NEST, NEST_AFTER_S, NEST_REST, NEST_TAIL, COMPONENT, ABBREVIATION, ANONYMOUS, MAYBE_ARGUMENTS, ARGUMENT_LIST}
+use Rattle.cpp_grammar.specs.KindNumbers.{UNQUALIFIED, NEST, NEST_AFTER_S, NEST_REST, NEST_TAIL, COMPONENT, ABBREVIATION, ANONYMOUS, MAYBE_ARGUMENTS, ARGUMENT_LIST, ARGUMENTS_FIRST}
 use Rattle.cpp_grammar.specs.Grammar.{in_ranges, among, is_in, pick, number_of_kind, alternatives, choose, kinds, parts_of, is_chain}
 use Rattle.cpp_grammar.specs.Table.{abi, rule_of}
 use Rattle.cpp_grammar.specs.Term.{Term, source, in_std, instance, parameter}
@@ -22,7 +22,7 @@ use Rattle.cpp_press_laws.specs.Texts.{counted, ordinal}
 use Rattle.cpp_press_laws.specs.Spellable.{IsSpellableName}
 use Rattle.cpp_press_laws.specs.Subtrees.{Written, written, ReadsAt, Is}
 use Rattle.cpp_press_laws.proofs.ReadBack.Tokens.{name_token, name-spelled, name-is-token, ordinal_digits, ordinal_token, ordinal-spelled, ordinal-is-token}
-use Rattle.cpp_press_laws.proofs.ReadBack.Reading.{RowAt, PassesAt, passes-by, row-part, row-last, takes-byte, takes-none, fixed-reads, name-reads, number-reads}
+use Rattle.cpp_press_laws.proofs.ReadBack.Reading.{RowAt, PassesAt, passes-by, row-part, row-last, takes-byte, takes-none, fixed-reads, name-reads, number-reads, first-reads}
 use Rattle.cpp_press_laws.proofs.ReadBack.Types.{AreOnly, same-written, one-part, more, then-part, whole-same}
 use Rattle.cpp_press_laws.proofs.ReadBack.Functions.{IsInScope, parameter-passes}
 use Rattle.cpp_press_laws.proofs.ReadBack.Names.{alone-rest, SoFar, Extends}
@@ -183,12 +183,12 @@ nest-arguments around allowed t items listed last place cs w args are so_far one
     (joined w.bytes args.bytes (comp.bytes ++ rest.bytes))
     (so_far v (written (73 ∷ (args.bytes ++ (69 ∷ (comp.bytes ++ rest.bytes)))) rest.components)
     (whole-same Production.NestArguments 17 (73 ∷ []) here allowed at (tree whole true ∷ nothing_there ∷ tree u false ∷ v ∷ []) v w.components
-    (OfKind ARGUMENT_LIST ∷ Byte 69 ∷ OfKind COMPONENT ∷ OfKind NEST_TAIL ∷ []) (written (args.bytes ++ (69 ∷ (comp.bytes ++ rest.bytes))) rest.components)
+    (OfKind ARGUMENTS_FIRST ∷ Byte 69 ∷ OfKind COMPONENT ∷ OfKind NEST_TAIL ∷ []) (written (args.bytes ++ (69 ∷ (comp.bytes ++ rest.bytes))) rest.components)
     (takes-byte NEST_REST Kind.NestRest Production.NestArguments 73 refl refl (omega arith) refl) refl (λ f s. refl) (λ began s. refl)
-    (row-part Production.NestArguments (73 ∷ []) here (inside around) allowed allowed at (OfKind ARGUMENT_LIST) (Byte 69 ∷ OfKind COMPONENT ∷ OfKind NEST_TAIL ∷ []) [] []
+    (row-part Production.NestArguments (73 ∷ []) here (inside around) allowed allowed at (OfKind ARGUMENTS_FIRST) (Byte 69 ∷ OfKind COMPONENT ∷ OfKind NEST_TAIL ∷ []) [] []
     (Is last) (AreOnly (tree whole true ∷ nothing_there ∷ tree u false ∷ v ∷ [])) (at + 1) w.components
     (listed_now around listed w.components t) args (written (69 ∷ (comp.bytes ++ rest.bytes)) rest.components)
-    (begins listed at) one (λ packs h. h)
+    (begins listed at) (first-reads (inside around) allowed (Is last) (at + 1) (listed_now around listed w.components t) args one) (λ packs h. h)
     (λ z h. subst (λ x. RowAt Production.NestArguments (73 ∷ []) here allowed at (Byte 69 ∷ OfKind COMPONENT ∷ OfKind NEST_TAIL ∷ []) (x ∷ [])
     (AreOnly (tree whole true ∷ nothing_there ∷ tree u false ∷ v ∷ [])) (at + 1 + length args.bytes) args.components
     (written (69 ∷ (comp.bytes ++ rest.bytes)) rest.components)) (sym h)

@@ -11,6 +11,7 @@ use Rattle.sym_shape.specs.Tree as shape
 use Rattle.sym_link.specs.Unfold.{unfold_forest, found, standing}
 use Rattle.cpp_grammar.specs.declared.kind.Kind.{Kind}
 use Rattle.cpp_grammar.specs.declared.production.Production.{Production}
+use Rattle.cpp_grammar.specs.KindNumbers.{ARGUMENT_LIST, ARGUMENTS_FIRST}
 use Rattle.cpp_grammar.specs.Grammar.{kinds, choose, parts_of, is_chain, may_be_empty}
 use Rattle.cpp_grammar.specs.Table.{abi, rule_of, rule_taken}
 use Rattle.cpp_grammar.specs.Term.{Term}
@@ -18,6 +19,7 @@ use Rattle.cpp_grammar.specs.Values.{Candidate, State, Around, Value, nothing_th
 use Rattle.cpp_grammar.specs.References.{appended}
 use Rattle.cpp_grammar.specs.Between.{Going, between}
 use Rattle.cpp_grammar.specs.Unfolding.{cpp, opening, close, byte_of}
+use Rattle.cpp_grammar.proofs.Alone.{list_first}
 use Rattle.cpp_grammar.proofs.Choosing.{rule_at_kind, empty_at_kind}
 use Rattle.cpp_grammar.proofs.ClosedTrees.{at_number, its_symbols}
 use Rattle.cpp_press_laws.specs.Subtrees.{Written, written, IsAllowed, Reads, ReadsAt}
@@ -304,5 +306,21 @@ number-reads around allowed kind t place components is s same packs = record {
   candidates = same;
   packs = packs;
 }
+
+-- what is read as arguments is read so from the first one on
+pub first-reads : (around : Around) (allowed : Option ℕ) (Q : Value → Type 0) (place : ℕ) (components : List Candidate) (w : Written)
+    → ReadsAt around allowed (OfKind ARGUMENT_LIST) Q place components w → ReadsAt around allowed (OfKind ARGUMENTS_FIRST) Q place components w
+first-reads around allowed Q place components w one s same packs =
+    let r = one s same packs in record {
+      shape = r.shape;
+      spelled = r.spelled;
+      shaped = list_first r.shape r.shaped;
+      value = r.value;
+      good = r.good;
+      state = r.state;
+      unfolds = r.unfolds;
+      candidates = r.candidates;
+      packs = r.packs;
+    }
 
 -- ## What is read
