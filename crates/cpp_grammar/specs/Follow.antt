@@ -41,7 +41,7 @@ after_ranges Kind.AfterD = codes ".-.0-9A-AC-FJ-PR-VX-XZ-Za-jl-pr-z"
 after_ranges Kind.Solid = codes ".-.0-9A-AC-FJ-PR-VX-XZ-Za-jl-pr-z"
 after_ranges Kind.MaybeCLinkage = codes "0-9A-AC-DF-FK-KM-PR-VZ-Za-jl-or-z"
 after_ranges Kind.TypeAfterS = codes ".-.0-9A-AC-FI-PR-VX-XZ-Za-jl-pr-z"
-after_ranges Kind.SourceOrLocal = codes ".-.0-9A-AC-FI-PR-VX-XZ-Za-jl-pr-z"
+after_ranges Kind.SourceOrLocal = codes ".-.0-9A-FI-PR-VX-XZ-Za-jl-pr-z"
 after_ranges Kind.FunctionRest = codes ".-.0-9A-AC-FJ-PR-VX-XZ-Za-jl-pr-z"
 after_ranges Kind.AfterR = codes ".-.0-9A-AC-FJ-PR-VX-XZ-Za-jl-pr-z"
 after_ranges Kind.AfterO = codes ".-.0-9A-AC-FJ-PR-VX-XZ-Za-jl-pr-z"
@@ -78,6 +78,11 @@ after_ranges Kind.HeldComponent = codes "0-9C-EL-MU-Ua-ac-eg-gi-il-pr-s"
 after_ranges Kind.FloatEnd = codes ".-.0-9A-AC-FJ-PR-VX-XZ-Za-jl-pr-z"
 after_ranges Kind.ComponentAfterC = codes "0-9C-EL-MU-Ua-ac-eg-gi-il-pr-s"
 after_ranges Kind.OtherOperator = codes "0-9B-EI-IL-MU-Ua-ac-eg-gi-il-pr-s"
+after_ranges Kind.OtherSpecial = codes ".-.E-E"
+after_ranges Kind.SpecialAfterG = codes ".-.E-E"
+after_ranges Kind.CloneLetter = codes "0-9G-GL-LN-NS-UZ-Za-ac-eg-gi-il-pr-s"
+after_ranges Kind.TypeInStd = codes ".-.0-9A-AC-FI-PR-VX-XZ-Za-jl-pr-z"
+after_ranges Kind.MaybeTags = codes ".-.0-9A-AC-FI-PR-VX-XZ-Za-jl-pr-z"
 
 -- how many chains may stand on one another at the beginning of a kind
 unfoldable pub rank : Kind → ℕ
@@ -178,4 +183,8 @@ height Kind.HeldComponent = 1
 height Kind.FloatEnd = 1
 height Kind.ComponentAfterC = 2
 height Kind.OtherOperator = 2
+height Kind.OtherSpecial = 3
+height Kind.SpecialAfterG = 2
+height Kind.CloneLetter = 1
+height Kind.TypeInStd = 2
 height _ = 0

@@ -3,10 +3,10 @@ use Rattle.std.specs.Prelude.{ℕ}
 
 -- how many kinds there are, and how many productions
 abbrev pub KIND_COUNT : ℕ
-KIND_COUNT = 74
+KIND_COUNT = 79
 
 abbrev pub PRODUCTION_COUNT : ℕ
-PRODUCTION_COUNT = 124
+PRODUCTION_COUNT = 130
 
 abbrev pub SYMBOL : ℕ
 SYMBOL = 0
@@ -229,3 +229,18 @@ COMPONENT_AFTER_C = 72
 
 abbrev pub OTHER_OPERATOR : ℕ
 OTHER_OPERATOR = 73
+
+abbrev pub OTHER_SPECIAL : ℕ
+OTHER_SPECIAL = 74
+
+abbrev pub SPECIAL_AFTER_G : ℕ
+SPECIAL_AFTER_G = 75
+
+abbrev pub CLONE_LETTER : ℕ
+CLONE_LETTER = 76
+
+abbrev pub TYPE_IN_STD : ℕ
+TYPE_IN_STD = 77
+
+abbrev pub MAYBE_TAGS : ℕ
+MAYBE_TAGS = 78

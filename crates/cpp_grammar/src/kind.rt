@@ -80,6 +80,11 @@ pub enum Kind {
     FloatEnd,
     ComponentAfterC,
     OtherOperator,
+    OtherSpecial,
+    SpecialAfterG,
+    CloneLetter,
+    TypeInStd,
+    MaybeTags,
 }
 
 /// The kind with a number.
@@ -162,6 +167,11 @@ pub fn kind_of(number: u16) -> Option<Kind>
         71 => Some(Kind::FloatEnd),
         72 => Some(Kind::ComponentAfterC),
         73 => Some(Kind::OtherOperator),
+        74 => Some(Kind::OtherSpecial),
+        75 => Some(Kind::SpecialAfterG),
+        76 => Some(Kind::CloneLetter),
+        77 => Some(Kind::TypeInStd),
+        78 => Some(Kind::MaybeTags),
         _ => None,
     }
 }
@@ -186,6 +196,7 @@ pub fn may_be_empty(kind: Kind) -> bool
         Kind::PackList => true,
         Kind::MaybeZero => true,
         Kind::ArgumentsAlone => true,
+        Kind::MaybeTags => true,
         _ => false,
     }
 }

@@ -118,6 +118,11 @@ pub enum Production {
     NestInstance,
     Conversion,
     OperatorNameWithC,
+    SpecialWithG,
+    Clone,
+    TaggedStdType,
+    TypeTag,
+    OtherSpecial,
     SpecialName,
     ConstructionVtable,
     NestTemplate,
@@ -126,5 +131,6 @@ pub enum Production {
     OtherOperatorName,
     Holder,
     SizedFloat,
+    TypeInStd,
     Tag,
 }

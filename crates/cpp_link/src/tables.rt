@@ -3,7 +3,7 @@
 use cpp_grammar::production::Production;
 
 /// The productions.
-pub(crate) const PRODUCTIONS: [Production; 124] = [
+pub(crate) const PRODUCTIONS: [Production; 130] = [
     Production::Mark,
     Production::InternalName,
     Production::LocalTypeName,
@@ -119,6 +119,11 @@ pub(crate) const PRODUCTIONS: [Production; 124] = [
     Production::NestInstance,
     Production::Conversion,
     Production::OperatorNameWithC,
+    Production::SpecialWithG,
+    Production::Clone,
+    Production::TaggedStdType,
+    Production::TypeTag,
+    Production::OtherSpecial,
     Production::SpecialName,
     Production::ConstructionVtable,
     Production::NestTemplate,
@@ -127,11 +132,12 @@ pub(crate) const PRODUCTIONS: [Production; 124] = [
     Production::OtherOperatorName,
     Production::Holder,
     Production::SizedFloat,
+    Production::TypeInStd,
     Production::Tag,
 ];
 
 /// How many parts each has.
-pub(crate) const PART_COUNTS: [u8; 124] = [
+pub(crate) const PART_COUNTS: [u8; 130] = [
     0, // Mark
     2, // InternalName
     2, // LocalTypeName
@@ -247,6 +253,11 @@ pub(crate) const PART_COUNTS: [u8; 124] = [
     3, // NestInstance
     1, // Conversion
     2, // OperatorNameWithC
+    1, // SpecialWithG
+    2, // Clone
+    2, // TaggedStdType
+    2, // TypeTag
+    1, // OtherSpecial
     1, // SpecialName
     4, // ConstructionVtable
     2, // NestTemplate
@@ -255,11 +266,12 @@ pub(crate) const PART_COUNTS: [u8; 124] = [
     2, // OtherOperatorName
     2, // Holder
     2, // SizedFloat
+    1, // TypeInStd
     2, // Tag
 ];
 
 /// Whether parts without a row may stand between those of each.
-pub(crate) const SKIPS_PARTS: [bool; 124] = [
+pub(crate) const SKIPS_PARTS: [bool; 130] = [
     false, // Mark
     false, // InternalName
     false, // LocalTypeName
@@ -375,6 +387,11 @@ pub(crate) const SKIPS_PARTS: [bool; 124] = [
     true, // NestInstance
     false, // Conversion
     false, // OperatorNameWithC
+    false, // SpecialWithG
+    false, // Clone
+    false, // TaggedStdType
+    false, // TypeTag
+    false, // OtherSpecial
     false, // SpecialName
     true, // ConstructionVtable
     false, // NestTemplate
@@ -383,11 +400,12 @@ pub(crate) const SKIPS_PARTS: [bool; 124] = [
     false, // OtherOperatorName
     false, // Holder
     false, // SizedFloat
+    false, // TypeInStd
     false, // Tag
 ];
 
 /// Before how many of its parts nothing is done in each: before none, the first, or all, which are five at most.
-pub(crate) const QUIET_PARTS: [u8; 124] = [
+pub(crate) const QUIET_PARTS: [u8; 130] = [
     5, // Mark
     1, // InternalName
     1, // LocalTypeName
@@ -503,6 +521,11 @@ pub(crate) const QUIET_PARTS: [u8; 124] = [
     0, // NestInstance
     0, // Conversion
     1, // OperatorNameWithC
+    5, // SpecialWithG
+    5, // Clone
+    1, // TaggedStdType
+    1, // TypeTag
+    0, // OtherSpecial
     5, // SpecialName
     5, // ConstructionVtable
     1, // NestTemplate
@@ -511,5 +534,6 @@ pub(crate) const QUIET_PARTS: [u8; 124] = [
     1, // OtherOperatorName
     1, // Holder
     5, // SizedFloat
+    5, // TypeInStd
     1, // Tag
 ];
