@@ -176,16 +176,19 @@ PLAIN_TEXTS = [
     ("WIDER", "x"),
     ("BRAIN_FLOAT", "std::bfloat16_t"),
     ("TAG", "[abi:"),
+    ("CLONE", "transaction clone for "),
+    ("OTHER_CLONE", "non-transaction clone for "),
 ]
 
 # before how many of its parts nothing is done in a production: before all where it isn't named here
 QUIET = {
     "Encoding": 0, "Special": 0, "Guard": 0, "NestArguments": 0, "NestInstance": 0, "NestNext": 0,
-    "Arguments": 0, "Lambda": 0, "Expansion": 0, "Conversion": 0,
+    "Arguments": 0, "Lambda": 0, "Expansion": 0, "Conversion": 0, "OtherSpecial": 0,
     "LocalName": 1, "LocalType": 1, "InternalName": 1, "SourceName": 1, "LocalTypeName": 1, "OperatorName": 1, "Constructor": 1,
     "Destructor": 1, "StdName": 1, "AbbreviatedName": 1, "NestStd": 1, "NestAbbreviated": 1, "NestTemplate": 1, "NestParameter": 1,
     "NestInternal": 1, "NestSource": 1, "NestLocalType": 1, "PackArgument": 1, "Parameter": 1, "TypeWithS": 1, "LvalueItem": 1,
     "RvalueItem": 1, "IntegerLiteral": 1, "Holder": 1, "NestTag": 1, "Tag": 1, "OtherOperatorName": 1, "OperatorNameWithC": 1,
+    "TaggedStdType": 1, "TypeTag": 1,
 }
 
 # the productions in which parts without a row may stand between those with one
@@ -218,6 +221,8 @@ MADE_BEFORE = {
     "Tag": [0, 1],
     "OtherOperatorName": [0, 1],
     "OperatorNameWithC": [0, 1],
+    "TaggedStdType": [0, 1],
+    "TypeTag": [0, 1],
 }
 MADE_AT_END = {p: 1 for p in """InternalName LocalTypeName SourceName OperatorName Symbol Guard Encoding SpecialType NonVirtualThunk VirtualThunk
     CovariantThunk LocalName StdName AbbreviatedName Constructor Destructor Abbreviation StringLiteral Lambda RestrictType
@@ -225,14 +230,15 @@ MADE_AT_END = {p: 1 for p in """InternalName LocalTypeName SourceName OperatorNa
     TypeWithS LocalType Builtin Vendor Array Function Complex StdType RestItem LvalueItem RvalueItem Items PackArgument
     LiteralArgument AddressArgument TypeArgument LiteralElement AddressElement TypeElement Address EncodingLiteral
     BoolLiteral IntegerLiteral NullLiteral SpecialName ConstructionVtable SizedFloat Tag DefaultEntity DefaultTypeEntity Conversion OtherOperatorName
-    OperatorNameWithC""".split()}
+    OperatorNameWithC Clone TaggedStdType TypeTag""".split()}
 MADE_AT_END["CharLiteral"] = 2
 
 # the productions that may leave a tree that is no candidate yet
 LEAVES = """NestWithS NestParameter NestInternal NestLocalType NestSource NestStd NestAbbreviated NestTemplate NestArguments NestInstance
     NestNext NestTag NestEnd
     Abbreviation Substitution NestedType Expansion ItemIsType BuiltinWithD Vector NoexceptFunction Pointer MemberPointer
-    Parameter TypeWithS LocalType Builtin Vendor Array Function Complex StdType AbbreviatedType SizedFloat""".split()
+    Parameter TypeWithS LocalType Builtin Vendor Array Function Complex StdType AbbreviatedType SizedFloat
+    TaggedStdType TypeInStd""".split()
 
 # ## The trees
 
@@ -249,6 +255,7 @@ TREES = [
     ("thunk", ("kind", THUNK), ("e", OWN)),
     ("of_name", ("letter", NUMBER), ("name", OWN), ("q", QUALIFIERS), ("ref", MARK)),
     ("construction", ("derived", OWN), ("digits", BYTES), ("parent", OWN)),
+    ("clone", ("letter", NUMBER), ("e", OWN)),
     ("alone", ("p", PIECE)),
     ("in_std", ("p", PIECE)),
     ("within", ("prefix", TREE), ("p", PIECE)),

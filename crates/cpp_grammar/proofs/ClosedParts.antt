@@ -54,6 +54,7 @@ abbrev pub StaysInside : Production → Type 0
 StaysInside Production.Encoding = ⊥
 StaysInside Production.Special = ⊥
 StaysInside Production.Guard = ⊥
+StaysInside Production.OtherSpecial = ⊥
 StaysInside _ = Unit {0}
 
 named_goes : (around : Around) (at : ℕ) (state : State) (t : Term) (listed : Bool) (vs : List Value) (new : State) (n : Next Value State Around) →
@@ -133,6 +134,10 @@ between_goes Production.NestInstance around place (v ∷ w ∷ []) state n at st
     (good_instance (Bare around) _ _ (good_prefix (Bare around) around.prefix pre) (good_no_items (Bare around) v (good_tree _ v all.0))) all.1 (grows_same around at state state refl) e
 between_goes Production.NestTag around place (v ∷ []) state n at stays pre all e = tag_goes around at state (text_of v) n pre e
 between_goes Production.Tag around place (v ∷ []) state n at stays pre all e = tag_goes around at state (text_of v) n pre e
+between_goes Production.TypeTag around place (v ∷ []) state n at stays pre all e = tag_goes around at state (text_of v) n pre e
+between_goes Production.TaggedStdType around place (v ∷ []) state n at stays pre all e =
+    let g = good_piece (Bare around) v all.0 in
+    named_goes around at state (in_std (piece_of v)) false [] state n (record { closed = g.closed; scopes = g.scopes }) tt (grows_same around at state state refl) e
 between_goes Production.NestNext around place [] state n at stays pre all e =
     goes around at state [] (after (prefix_tree around.prefix) true around) (with_prefix around state) n tt (with_prefix_grows around at state pre)
     (fits_after around (prefix_tree around.prefix) true (good_prefix (Bare around) around.prefix pre)) e

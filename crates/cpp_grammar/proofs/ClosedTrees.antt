@@ -15,7 +15,7 @@ use Rattle.sym_link.specs.Reading.{Found, Open, Next, ◌>>=◌}
 use Rattle.sym_link.specs.Unfold.{found, alone, standing, unfold_tree, unfold_forest}
 use Rattle.cpp_grammar.specs.declared.kind.Kind.{Kind}
 use Rattle.cpp_grammar.specs.declared.production.Production.{Production}
-use Rattle.cpp_grammar.specs.KindNumbers.{KIND_COUNT, SYMBOL, SPECIAL, COMPLETE_NAME, ITEMS}
+use Rattle.cpp_grammar.specs.KindNumbers.{KIND_COUNT, SYMBOL, SPECIAL, OTHER_SPECIAL, COMPLETE_NAME, ITEMS}
 use Rattle.cpp_grammar.specs.Grammar.{Alternative, is_in, pick, kinds, productions, number_of, number_of_kind, parts_of, is_chain}
 use Rattle.cpp_grammar.specs.Wide.{wide_alternatives}
 use Rattle.cpp_grammar.specs.Either.{either_alternatives, either_choose}
@@ -51,6 +51,7 @@ unfoldable pub opens : Production → Bool
 opens Production.Encoding = true
 opens Production.Special = true
 opens Production.Guard = true
+opens Production.OtherSpecial = true
 opens _ = false
 
 pub stays : (p : Production) → opens p ≡ false → StaysInside p
@@ -58,6 +59,7 @@ unfolding opens
 stays Production.Encoding h = absurd (true≢false h)
 stays Production.Special h = absurd (true≢false h)
 stays Production.Guard h = absurd (true≢false h)
+stays Production.OtherSpecial h = absurd (true≢false h)
 stays _ h = tt
 
 pub needs_no_name : (p : Production) (vs : List Value) → StaysInside p → HasClosedName p vs
@@ -330,25 +332,39 @@ pub always : (s : Type 0) (at : ℕ) (t : Term) → Good (Bare (in_name at)) t �
 unfolding in_name
 always s at t good = record { closed = λ h. good.closed refl; scopes = good.scopes }
 
-special_comes : (f : Forest) → AllTreesGood f → (rule : Open State Around) (from : ℕ) (state : State) (r : Found (List Value) State) → production_at rule.rule.number ≡ Production.Special →
-    AreTrees either (parts_of Production.Special) f → rule.context.encoding < rule.place → rule.place ≤ from → rule.place < from + length (spell_all f) → AllOld rule.context rule.place state.candidates →
-    unfold_forest cpp rule [] from f state ≡ Ok r → InnerComes Production.Special rule.context (from + length (spell_all f)) state r
-unfolding cpp parts_of number_of_kind between meaning held is_encoding nameless part in_name
-special_comes (grown t nothing) all rule from state r is trees lt le more old e =
+-- a production that begins an encoding, and has one part and what it stands for
+alone_comes : (p : Production) (k : ℕ) → suc k ≤ KIND_COUNT → is_encoding (OfKind k) ≡ false → ((around : Around) (at : ℕ) (state : State) → between p around at [] state ≡ Ok (nameless at [] state)) →
+    ((byte : ℕ) (around : Around) (v : Value) → meaning p byte around (v ∷ []) ≡ v) → (f : Forest) → AllTreesGood f → (rule : Open State Around) (from : ℕ) (state : State) (r : Found (List Value) State) →
+    production_at rule.rule.number ≡ p → AreTrees either (OfKind k ∷ []) f → rule.context.encoding < rule.place → rule.place ≤ from → rule.place < from + length (spell_all f) → AllOld rule.context rule.place state.candidates →
+    unfold_forest cpp rule [] from f state ≡ Ok r → InnerComes p rule.context (from + length (spell_all f)) state r
+unfolding cpp nameless in_name
+alone_comes p k is_kind other goes means (grown t nothing) all rule from state r is trees lt le more old e =
     let around = rule.context in
     let at = rule.place in
-    let s = stepped rule [] from state t nothing r (nameless at [] state) (ap (λ p. between p around at [] state) is) e in
-    let c = name_comes t all.0 (OfKind SPECIAL) at from state s.part (known 5 (lit≤ tt)) trees.0 refl le (old_later (in_name at) at from state.candidates le (old_inner around at state.candidates lt old)) s.is in
+    let s = stepped rule [] from state t nothing r (nameless at [] state) (ap (λ p. between p around at [] state) is ∙ goes around at state) e in
+    let c = name_comes t all.0 (OfKind k) at from state s.part (known k is_kind) trees.0 other le (old_later (in_name at) at from state.candidates le (old_inner around at state.candidates lt old)) s.is in
     let same : found (c.value ∷ []) s.part.state ≡ r = same_found [] s.part.value (c.value ∷ []) s.part.state r c.is s.rest in
     let end = from + length (spell t ++ []) in
-    subst (λ x. InnerComes Production.Special around end state x) same
+    subst (λ x. InnerComes p around end state x) same
     (record {
-      means = λ byte. always (Bare around) at (held c.value) c.good;
+      means = λ byte. subst (λ v. Good (Bare around) (held v)) (sym (means byte around c.value)) (always (Bare around) at (held c.value) c.good);
       grows = grows_inner around (in_name at) at end state s.part.state refl lt more
           (grows_on (in_name at) (from + length (spell t)) end state s.part.state (omega (arith, length-append (spell t) [])) c.grows);
     })
-special_comes nothing all rule from state r is trees lt le more old e = absurd trees
-special_comes (grown t (grown u f)) all rule from state r is trees lt le more old e = absurd trees.1
+alone_comes p k is_kind other goes means nothing all rule from state r is trees lt le more old e = absurd trees
+alone_comes p k is_kind other goes means (grown t (grown u f)) all rule from state r is trees lt le more old e = absurd trees.1
+
+special_comes : (f : Forest) → AllTreesGood f → (rule : Open State Around) (from : ℕ) (state : State) (r : Found (List Value) State) → production_at rule.rule.number ≡ Production.Special →
+    AreTrees either (parts_of Production.Special) f → rule.context.encoding < rule.place → rule.place ≤ from → rule.place < from + length (spell_all f) → AllOld rule.context rule.place state.candidates →
+    unfold_forest cpp rule [] from f state ≡ Ok r → InnerComes Production.Special rule.context (from + length (spell_all f)) state r
+unfolding parts_of number_of_kind between meaning is_encoding nameless part
+special_comes = alone_comes Production.Special SPECIAL (lit≤ tt) refl (λ around at state. refl) (λ byte around v. refl)
+
+other_special_comes : (f : Forest) → AllTreesGood f → (rule : Open State Around) (from : ℕ) (state : State) (r : Found (List Value) State) → production_at rule.rule.number ≡ Production.OtherSpecial →
+    AreTrees either (parts_of Production.OtherSpecial) f → rule.context.encoding < rule.place → rule.place ≤ from → rule.place < from + length (spell_all f) → AllOld rule.context rule.place state.candidates →
+    unfold_forest cpp rule [] from f state ≡ Ok r → InnerComes Production.OtherSpecial rule.context (from + length (spell_all f)) state r
+unfolding parts_of number_of_kind between meaning is_encoding nameless part
+other_special_comes = alone_comes Production.OtherSpecial OTHER_SPECIAL (lit≤ tt) refl (λ around at state. refl) (λ byte around v. refl)
 
 guard_comes : (f : Forest) → AllTreesGood f → (rule : Open State Around) (from : ℕ) (state : State) (r : Found (List Value) State) → production_at rule.rule.number ≡ Production.Guard →
     AreTrees either (parts_of Production.Guard) f → rule.context.encoding < rule.place → rule.place ≤ from → rule.place < from + length (spell_all f) → AllOld rule.context rule.place state.candidates →
@@ -428,6 +444,7 @@ unfolding opens close unfolding_.behind
 inner_closes Production.Encoding o byte around place began vs state one e = ok_same (found (meaning Production.Encoding byte around vs) state) one e
 inner_closes Production.Special o byte around place began vs state one e = ok_same (found (meaning Production.Special byte around vs) state) one e
 inner_closes Production.Guard o byte around place began vs state one e = ok_same (found (meaning Production.Guard byte around vs) state) one e
+inner_closes Production.OtherSpecial o byte around place began vs state one e = ok_same (found (meaning Production.OtherSpecial byte around vs) state) one e
 inner_closes Production.Mark o byte around place began vs state one e = absurd (false≢true o)
 inner_closes _ o byte around place began vs state one e = absurd (false≢true o)
 
@@ -438,6 +455,7 @@ unfolding opens
 inner_comes Production.Encoding o = encoding_comes
 inner_comes Production.Special o = special_comes
 inner_comes Production.Guard o = guard_comes
+inner_comes Production.OtherSpecial o = other_special_comes
 inner_comes Production.Mark o = absurd (false≢true o)
 inner_comes _ o = absurd (false≢true o)
 

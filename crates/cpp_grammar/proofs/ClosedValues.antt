@@ -206,6 +206,9 @@ meaning_good s Production.SpecialType byte around vs pre all name = let g = good
 meaning_good s Production.SpecialName byte around vs pre all name = let g = good_part s vs 0 all in record { closed = λ h. refl; scopes = g.scopes }
 meaning_good s Production.ConstructionVtable byte around vs pre all name =
     let g = good_part s vs 0 all in let b = good_part s vs 3 all in record { closed = λ h. refl; scopes = (g.scopes, b.scopes) }
+meaning_good s Production.OtherSpecial byte around vs pre all name = good_held s vs 0 all
+meaning_good s Production.SpecialWithG byte around vs pre all name = good_held s vs 0 all
+meaning_good s Production.Clone byte around vs pre all name = let g = good_part s vs 1 all in record { closed = λ h. refl; scopes = g.scopes }
 meaning_good s Production.NonVirtualThunk byte around vs pre all name = let g = good_part s vs 2 all in record { closed = λ h. refl; scopes = g.scopes }
 meaning_good s Production.VirtualThunk byte around vs pre all name = let g = good_part s vs 4 all in record { closed = λ h. refl; scopes = g.scopes }
 meaning_good s Production.CovariantThunk byte around vs pre all name = let g = good_part s vs 2 all in record { closed = λ h. refl; scopes = g.scopes }
@@ -229,6 +232,7 @@ meaning_good s Production.Destructor byte around vs pre all name = good_name s v
 meaning_good s Production.StdName byte around vs pre all name = good_name s vs all
 meaning_good s Production.AbbreviatedName byte around vs pre all name = good_name s vs all
 meaning_good s Production.Tag byte around vs pre all name = good_name s vs all
+meaning_good s Production.TypeTag byte around vs pre all name = good_name s vs all
 meaning_good s Production.LocalTypePiece byte around vs pre all name = good_held s vs 0 all
 meaning_good s Production.OperatorPiece byte around vs pre all name = good_held s vs 0 all
 meaning_good s Production.NestWithS byte around vs pre all name = good_held s vs 0 all
@@ -272,6 +276,8 @@ meaning_good s Production.TypeWithS byte around vs pre all name = good_name s vs
 meaning_good s Production.LocalType byte around vs pre all name =
     let e = good_part s vs 0 all in let g = good_part s vs 2 all in record { closed = g.closed; scopes = (e.scopes, g.scopes) }
 meaning_good s Production.StdType byte around vs pre all name = let g = good_piece_part s vs 0 all in record { closed = g.closed; scopes = g.scopes }
+meaning_good s Production.TypeInStd byte around vs pre all name = good_held s vs 0 all
+meaning_good s Production.TaggedStdType byte around vs pre all name = good_name s vs all
 meaning_good s Production.AbbreviatedType byte around vs pre all name = good_held s vs 0 all
 meaning_good s Production.RestLvalue byte around vs pre all name = good_signature_or s lvalue_only (part vs 0) (good_held s vs 0 all)
 meaning_good s Production.RestRvalue byte around vs pre all name = good_signature_or s rvalue_only (part vs 0) (good_held s vs 0 all)

@@ -84,7 +84,7 @@ kept None later p same is = absurd cc
 kept (Some q) None p same is = absurd (false≢true same)
 kept (Some q) (Some r) p same is = ap Some (sym (same_production q r same)) ∙ is
 
-or_parts : (a b : Bool) → a || b ≡ true → (a ≡ true) ⊎ (b ≡ true)
+pub or_parts : (a b : Bool) → a || b ≡ true → (a ≡ true) ⊎ (b ≡ true)
 or_parts true b h = inl refl
 or_parts false b h = inr h
 

@@ -6,7 +6,7 @@ use Rattle.std.proofs.lemmas.Bool.{false≢true, ltb-true}
 use Rattle.sym_print.specs.declared.detail.Detail.{Detail}
 use Rattle.sym_print.specs.Details.{has_arguments, has_parameters}
 use Rattle.sym_print.specs.Unfold.{PartOf, text, sub, RanksBelow}
-use Rattle.cpp_grammar.specs.Term.{Qualifiers, RefQualifier, Signed, Term, symbol, function, object, special, thunk, of_name, construction, alone, in_std, within, instance, local, holder, tagged, of_default, abbreviation, parameter, source, constructor, destructor, lambda, conversion, sized_float, pointer, lvalue, rvalue, array, member_pointer, function_type, qualified, vector, complex, expansion, integer, pack, nil, list, absent}
+use Rattle.cpp_grammar.specs.Term.{Qualifiers, RefQualifier, Signed, Term, symbol, function, object, special, thunk, of_name, construction, clone, alone, in_std, within, instance, local, holder, tagged, of_default, abbreviation, parameter, source, constructor, destructor, lambda, conversion, sized_float, pointer, lvalue, rvalue, array, member_pointer, function_type, qualified, vector, complex, expansion, integer, pack, nil, list, absent}
 use Rattle.cpp_grammar.specs.Scope.{element, arguments_of, pack_length}
 use Rattle.cpp_grammar.specs.Items.{Form, root, full, bare, left, right, low, base, piece, first, more, expand, Context, Item, indexed, argument, head, is_reference, is_funarr, packs_of, is_empty}
 use Rattle.cpp_grammar.specs.Parts.{as_item, says, text_part, list_part, piece_parts, prefix_item, within_parts, instance_parts, marked_parts, reference_parts, qualified_left, blank_last, qualifier_text, expansion_parts, sign_part, is_plain_integer, integer_parts, builtin_code, member_parts, array_left, entity_of, float_parts, left_parts, low_parts, function_right, ref_text, closing_right, qualified_right, right_parts, base_within, base_tagged_within, base_tagged, base_parts, types_of, encoding_text, function_bare, function_full, full_parts, bare_parts, root_parts, first_parts, more_parts, at_index, is_below, comma_before, expand_rest, expand_parts, parts_in, not_empty, parts}
@@ -308,6 +308,7 @@ full_falls d c (special letter t) = (omega arith, (omega arith, tt))
 full_falls d c (thunk kind e) = (omega arith, tt)
 full_falls d c (of_name letter name q ref) = (omega arith, falls_text _ (encoding_text q ref))
 full_falls d c (construction derived digits parent) = (omega arith, (omega arith, (omega arith, (omega arith, tt))))
+full_falls d c (clone letter e) = (omega arith, tt)
 full_falls d c _ = tt
 
 bare_falls : (d : Detail) (c : Context) (t : Term) → RanksBelow rank (weight_in c t) (bare_parts d t)

@@ -11,18 +11,18 @@ use Rattle.sym_link.specs.Reading.{Found, Open, ◌>>=◌}
 use Rattle.sym_link.specs.Unfold.{found, alone, standing, unfold_tree, unfold_forest}
 use Rattle.sym_link.proofs.Steps.{bind_same}
 use Rattle.cpp_grammar.specs.declared.production.Production.{Production}
-use Rattle.cpp_grammar.specs.KindNumbers.{SYMBOL, NEST_REST_ALONE, COMPONENT, OPERATOR}
+use Rattle.cpp_grammar.specs.KindNumbers.{SYMBOL, ENCODING, NEST_REST_ALONE, COMPONENT, TYPE_AFTER_S, OPERATOR}
 use Rattle.cpp_grammar.specs.Grammar.{productions, number_of, number_of_kind, parts_of, is_chain}
 use Rattle.cpp_grammar.specs.Table.{rule_of, padded, wide, either}
-use Rattle.cpp_grammar.specs.Term.{instance, operator}
-use Rattle.cpp_grammar.specs.Values.{State, Around, prefix_tree, prefix_listed, Value, nothing_there, text, tree, tree_of, piece_of, letter_of, part}
+use Rattle.cpp_grammar.specs.Term.{instance, in_std, operator}
+use Rattle.cpp_grammar.specs.Values.{State, Around, prefix_tree, prefix_listed, Value, nothing_there, text, tree, tree_of, piece_of, letter_of, is_there, part}
 use Rattle.cpp_grammar.specs.References.{appended, with_prefix}
-use Rattle.cpp_grammar.specs.Between.{inside, after, no_items, extended, piece_so_far, named_so_far, listed_so_far, between}
+use Rattle.cpp_grammar.specs.Between.{in_name, inside, after, no_items, applied, extended, piece_so_far, named_so_far, listed_so_far, applied, between}
 use Rattle.cpp_grammar.specs.Meaning.{meaning}
 use Rattle.cpp_grammar.specs.Unfolding as unfolding_
 use Rattle.cpp_grammar.specs.Unfolding.{last_token, number_tested, opening, close, production_at, byte_of, cpp, first_around, first_state, first_tree, unfold_cpp}
-use Rattle.cpp_grammar.specs.Widened.{rest_or_end, with_rest_or_end, letters_component, operator_component, widened_branch, widened_as, widened_all, widened}
-use Rattle.cpp_grammar.proofs.Widening.{is_operator_component, arguments_rule, next_rule, rest_rule, takes_its, as_wide, behind_s, of_operator, chosen_rule, with_c, without_c, operator_rule, without_c_letters, same_branch, spell_as, widened_trees, either_symbols, either_start}
+use Rattle.cpp_grammar.specs.Widened.{Change, with_rest, within_name, with_g, with_t, unchanged, rest_or_end, with_rest_or_end, letters_component, operator_component, variable_with_g, type_without_tags, change_of, changed, widened_branch, widened_as, widened_all, widened}
+use Rattle.cpp_grammar.proofs.Widening.{arguments_rule, next_rule, rest_rule, takes_its, as_wide, aside, behind_s, of_operator, of_variable, in_std_, chosen_rule, with_c, without_c, operator_rule, without_c_letters, same_branch, spell_as, widened_trees, either_symbols, either_start}
 
 -- ## A tree has one value
 
@@ -155,7 +155,7 @@ abbreviated_same a r is around place taken state =
 
 narrow_same : (k : ℕ) (parts : Forest) → AreTrees wide (symbols_of (rule_of Production.NestAbbreviated)) parts → (around : Around) (place : ℕ) (taken : List ℕ) (state : State) →
     unfold_tree cpp around place (widened_branch k (rule_of Production.NestAbbreviated) taken parts) state ≡ unfold_tree cpp around place (branch (rule_of Production.NestAbbreviated) taken parts) state
-unfolding widened_branch with_rest_or_end rule_of parts_of padded number_of_kind number_of
+unfolding change_of changed with_rest_or_end rule_of parts_of padded number_of_kind number_of
 narrow_same k (grown a (grown r nothing)) trees around place taken state = abbreviated_same a r trees.1.0 around place taken state
 narrow_same k nothing trees around place taken state = absurd trees
 narrow_same k (grown a nothing) trees around place taken state = absurd trees.1
@@ -246,17 +246,93 @@ operator_same (grown t (grown a (grown u f))) trees around place state = absurd 
 
 operator_branch_same : (parts : Forest) → AreTrees wide (symbols_of (rule_of Production.OperatorName)) parts → (around : Around) (place : ℕ) (state : State) →
     unfold_tree cpp around place (widened_branch COMPONENT (rule_of Production.OperatorName) [] parts) state ≡ unfold_tree cpp around place (branch (rule_of Production.OperatorName) [] parts) state
-unfolding widened_branch rule_of number_of operator_component
+unfolding change_of changed rule_of number_of operator_component
 operator_branch_same parts trees around place state = operator_same parts trees around place state
+
+-- ## A guard variable, and a type in std
+
+deeper_same : (m : Result Read Refusal) → One m → (a b c d e h f g : Read → Result Read Refusal)
+    → ((v : Value) (s : State) → (((((a (found (v ∷ []) s) >>= b) >>= c) >>= d) >>= e) >>= h) ≡ (f (found (v ∷ []) s) >>= g))
+    → ((((((m >>= a) >>= b) >>= c) >>= d) >>= e) >>= h) ≡ ((m >>= f) >>= g)
+deeper_same _ (refused e_) a b c d e h f g same = refl
+deeper_same _ (one v s) a b c d e h f g same = same v s
+
+variable_same : (name : Tree) (around : Around) (place : ℕ) (taken : List ℕ) (state : State) →
+    unfold_tree cpp around place (variable_with_g taken (grown (fixed 86) (grown name nothing))) state
+    ≡ unfold_tree cpp around place (branch (rule_of Production.Guard) taken (grown (fixed 86) (grown name nothing))) state
+unfolding variable_with_g cpp opening production_at productions rule_of number_of between close unfolding_.behind meaning part byte_of
+variable_same name around place taken state =
+    let inner = in_name place in
+    let lettered : Tree = branch (rule_of Production.SpecialName) (86 ∷ []) (grown name nothing) in
+    let behind_g : Tree = branch (rule_of Production.SpecialWithG) taken (grown lettered nothing) in
+    let at = place + 0 in
+    let on = at + length taken in
+    let new = standing (rule_of Production.OtherSpecial) [] place around state in
+    let with_g_ = standing (rule_of Production.SpecialWithG) taken at inner state in
+    let with_letter = standing (rule_of Production.SpecialName) (86 ∷ []) on inner state in
+    let old = standing (rule_of Production.Guard) taken place around state in
+    let new_end : Read → Result Read Refusal = λ i. close Production.OtherSpecial (byte_of []) around place state i.value i.state >>= alone in
+    let g_end : Read → Result Read Refusal = λ i. close Production.SpecialWithG (byte_of taken) inner at state i.value i.state >>= alone in
+    let letter_end : Read → Result Read Refusal = λ i. close Production.SpecialName (byte_of (86 ∷ [])) inner on state i.value i.state >>= alone in
+    let old_end : Read → Result Read Refusal = λ i. close Production.Guard (byte_of taken) around place state i.value i.state >>= alone in
+    let onward : Read → Result Read Refusal = λ p. unfold_forest cpp new ([] ++ p.value) (at + length (spell behind_g)) nothing p.state in
+    let g_onward : Read → Result Read Refusal = λ p. unfold_forest cpp with_g_ ([] ++ p.value) (on + length (spell lettered)) nothing p.state in
+    let letter_onward : Read → Result Read Refusal = λ p. unfold_forest cpp with_letter ([] ++ p.value) (on + 1 + length (spell name)) nothing p.state in
+    let plain : Read → Result Read Refusal = λ p. unfold_forest cpp old ((nothing_there ∷ []) ++ p.value) (place + length taken + 1 + length (spell name)) nothing p.state in
+    subst (λ n. unfold_tree cpp around place (branch (rule_of Production.OtherSpecial) [] (grown behind_g nothing)) state
+    ≡ ((unfold_tree cpp inner (n + length taken + 1) name state >>= plain) >>= old_end)) (add-zero place)
+    (deeper_same (unfold_tree cpp inner (on + 1) name state) (tree_one name inner (on + 1) state) letter_onward letter_end g_onward g_end onward new_end plain old_end (λ v s. refl))
+
+type_same : (piece : Tree) (around : Around) (place : ℕ) (taken : List ℕ) (state : State) →
+    unfold_tree cpp around place (type_without_tags taken (grown piece nothing)) state
+    ≡ unfold_tree cpp around place (branch (rule_of Production.StdType) taken (grown piece nothing)) state
+unfolding type_without_tags cpp opening production_at productions rule_of number_of between named_so_far after close unfolding_.behind meaning part byte_of applied is_there tree_of
+type_same piece around place taken state =
+    let tagged_ : Tree = branch (rule_of Production.TaggedStdType) taken (grown piece (grown empty nothing)) in
+    let at = place + 0 in
+    let on = at + length taken in
+    let new = standing (rule_of Production.TypeInStd) [] place around state in
+    let with_tags = standing (rule_of Production.TaggedStdType) taken at around state in
+    let old = standing (rule_of Production.StdType) taken place around state in
+    let new_end : Read → Result Read Refusal = λ i. close Production.TypeInStd (byte_of []) around place state i.value i.state >>= alone in
+    let tagged_end : Read → Result Read Refusal = λ i. close Production.TaggedStdType (byte_of taken) around at state i.value i.state >>= alone in
+    let old_end : Read → Result Read Refusal = λ i. close Production.StdType (byte_of taken) around place state i.value i.state >>= alone in
+    let onward : Read → Result Read Refusal = λ p. unfold_forest cpp new ([] ++ p.value) (at + length (spell tagged_)) nothing p.state in
+    let behind : Read → Result Read Refusal = λ p. unfold_forest cpp with_tags ([] ++ p.value) (on + length (spell piece)) (grown empty nothing) p.state in
+    let plain : Read → Result Read Refusal = λ p. unfold_forest cpp old ([] ++ p.value) (place + length taken + length (spell piece)) nothing p.state in
+    subst (λ n. unfold_tree cpp around place (branch (rule_of Production.TypeInStd) [] (grown tagged_ nothing)) state
+    ≡ ((unfold_tree cpp around (n + length taken) piece state >>= plain) >>= old_end)) (add-zero place)
+    (deep_same (unfold_tree cpp around on piece state) (tree_one piece around on state) behind tagged_end onward new_end plain old_end (λ v s. refl))
+
+variable_branch_same : (k : ℕ) (taken : List ℕ) (parts : Forest) → AreTrees wide (symbols_of (rule_of Production.Guard)) parts → (around : Around) (place : ℕ) (state : State) →
+    unfold_tree cpp around place (widened_branch k (rule_of Production.Guard) taken parts) state ≡ unfold_tree cpp around place (branch (rule_of Production.Guard) taken parts) state
+unfolding change_of changed rule_of parts_of padded number_of_kind number_of
+variable_branch_same k taken (grown (fixed letter) (grown name nothing)) trees around place state = rw (sym trees.0) (variable_same name around place taken state)
+variable_branch_same k taken nothing trees around place state = absurd trees
+variable_branch_same k taken (grown t nothing) trees around place state = absurd trees.1
+variable_branch_same k taken (grown (branch r u f) g) trees around place state = absurd trees.0
+variable_branch_same k taken (grown empty g) trees around place state = absurd trees.0
+variable_branch_same k taken (grown (token t) g) trees around place state = absurd trees.0
+variable_branch_same k taken (grown (fixed letter) (grown name (grown u f))) trees around place state = absurd trees.1.1
+
+type_branch_same : (k : ℕ) (taken : List ℕ) (parts : Forest) → AreTrees wide (symbols_of (rule_of Production.StdType)) parts → (around : Around) (place : ℕ) (state : State) →
+    unfold_tree cpp around place (widened_branch k (rule_of Production.StdType) taken parts) state ≡ unfold_tree cpp around place (branch (rule_of Production.StdType) taken parts) state
+unfolding change_of changed rule_of parts_of padded number_of_kind number_of
+type_branch_same k taken (grown piece nothing) trees around place state = type_same piece around place taken state
+type_branch_same k taken nothing trees around place state = absurd trees
+type_branch_same k taken (grown piece (grown u f)) trees around place state = absurd trees.1
 
 branch_same : (k : ℕ) (rule : Rule) (taken : List ℕ) (parts : Forest) → k < either.kinds → TakesRule either k rule taken → AreTrees wide (symbols_of rule) parts → (around : Around) (place : ℕ) (state : State)
     → unfold_tree cpp around place (widened_branch k rule taken parts) state ≡ unfold_tree cpp around place (branch rule taken parts) state
 unfolding rule_of is_chain
 branch_same k rule taken parts lt takes trees around place state = elim (chosen_rule k takes.byte rule lt takes.is_byte takes.found).here [
-  | as_wide other apart same ↦ ap (λ t. unfold_tree cpp around place t state) (same_branch k rule taken parts other apart)
+  | as_wide stays same ↦ ap (λ t. unfold_tree cpp around place t state) (same_branch k rule taken parts stays)
+  | aside stays other less same chains ↦ ap (λ t. unfold_tree cpp around place t state) (same_branch k rule taken parts stays)
   | behind_s is at ↦ rw is (narrow_same k parts (subst (λ r. AreTrees wide (symbols_of r) parts) is trees) around place taken state)
   | of_operator is at ↦ rw (is, at, takes_its rule (rule_of Production.OperatorName) taken takes.byte false is refl takes.takes)
       (operator_branch_same parts (subst (λ r. AreTrees wide (symbols_of r) parts) is trees) around place state)
+  | of_variable is at here ↦ rw is (variable_branch_same k taken parts (subst (λ r. AreTrees wide (symbols_of r) parts) is trees) around place state)
+  | in_std_ is at here ↦ rw is (type_branch_same k taken parts (subst (λ r. AreTrees wide (symbols_of r) parts) is trees) around place state)
 ]
 
 -- ## Trees
@@ -279,23 +355,21 @@ unfolding operator_component last_token
 operator_last taken (grown (branch rule first (grown second nothing)) (grown arguments nothing)) rest digits = letters_last rule taken first second arguments rest digits
 operator_last taken _ rest digits = refl
 
-last_behind : (k : ℕ) (rule : Rule) (taken : List ℕ) (parts rest : Forest) (digits : List ℕ) → last_token (grown (widened_branch k rule taken parts) rest) digits ≡ last_token rest digits
-unfolding widened_branch last_token
-last_behind k rule taken parts rest digits = go (nat_eq rule.number (number_of Production.NestAbbreviated)) (is_operator_component rule.number k)
-  where
-    go : (b c : Bool) → last_token (grown (elim b as (λ _. Tree) [
-      | true ↦ branch (rule_of Production.NestTemplate) taken (with_rest_or_end parts)
-      | false ↦ elim c as (λ _. Tree) [ true ↦ operator_component taken parts | false ↦ branch rule taken parts ]
-    ]) rest) digits ≡ last_token rest digits
-    go true c = refl
-    go false true = operator_last taken parts rest digits
-    go false false = refl
+last_behind : (change : Change) (rule : Rule) (taken : List ℕ) (parts rest : Forest) (digits : List ℕ) → last_token (grown (changed change rule taken parts) rest) digits ≡ last_token rest digits
+unfolding changed variable_with_g type_without_tags last_token
+last_behind with_rest rule taken parts rest digits = refl
+last_behind within_name rule taken parts rest digits = operator_last taken parts rest digits
+last_behind with_g rule taken (grown (fixed letter) (grown name nothing)) rest digits = refl
+last_behind with_g rule taken _ rest digits = refl
+last_behind with_t rule taken (grown piece nothing) rest digits = refl
+last_behind with_t rule taken _ rest digits = refl
+last_behind unchanged rule taken parts rest digits = refl
 
 last_same : (f : Forest) (xs : List Sym) (digits : List ℕ) → last_token (widened_all f xs) digits ≡ last_token f digits
 unfolding widened_as widened_all last_token
 last_same nothing xs digits = refl
 last_same (grown t f) [] digits = refl
-last_same (grown (branch rule taken parts) f) (OfKind k ∷ xs) digits = last_behind k rule taken (widened_all parts (symbols_of rule)) (widened_all f xs) digits ∙ last_same f xs digits
+last_same (grown (branch rule taken parts) f) (OfKind k ∷ xs) digits = last_behind (change_of k rule.number) rule taken (widened_all parts (symbols_of rule)) (widened_all f xs) digits ∙ last_same f xs digits
 last_same (grown (branch rule taken parts) f) (Name ∷ xs) digits = last_same f xs digits
 last_same (grown (branch rule taken parts) f) (Number kind ∷ xs) digits = last_same f xs digits
 last_same (grown (branch rule taken parts) f) (Byte b ∷ xs) digits = last_same f xs digits

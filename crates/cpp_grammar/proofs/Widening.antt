@@ -1,5 +1,5 @@
 -- The trees of both grammars, widened, are those of the wide one, and spell what they spelled.
-use Rattle.std.proofs.Common.{◌≡◌, ℕ, ◌<◌, List, [], ◌∷◌, ◌++◌, slice_get, Bool, true, false, cond, ◌||◌, ◌&&◌, nat_eq, Option, Some, None, inl, inr, refl, ap, sym, ◌∙◌, subst, lit≤, arith, append-nil, append_assoc}
+use Rattle.std.proofs.Common.{◌≡◌, ℕ, ◌<◌, List, [], ◌∷◌, ◌++◌, slice_get, Bool, true, false, not, cond, ◌||◌, ◌&&◌, nat_eq, Option, Some, None, inl, inr, refl, ap, sym, ◌∙◌, subst, lit≤, arith, append-nil, append_assoc}
 use Rattle.std.specs.Prelude.{◌⊎◌}
 use Rattle.std.proofs.lemmas.Bool.{eqb-true, and_parts, true≢false}
 use Rattle.sym_shape.specs.declared.rule.Rule.{Rule}
@@ -13,39 +13,50 @@ use Rattle.sym_shape.proofs.Firsts.{branch_first, branch_filled}
 use Rattle.sym_link.specs.Sound.{IsSound}
 use Rattle.cpp_grammar.specs.declared.kind.Kind.{Kind}
 use Rattle.cpp_grammar.specs.declared.production.Production.{Production}
-use Rattle.cpp_grammar.specs.KindNumbers.{SYMBOL, NEST_AFTER_S, NEST_REST_ALONE, NEST_TAIL, COMPONENT, MAYBE_ARGUMENTS, OPERATOR, NEST_REST_OR_END, COMPONENT_AFTER_C, OTHER_OPERATOR}
+use Rattle.cpp_grammar.specs.KindNumbers.{SYMBOL, ENCODING, NEST_AFTER_S, NEST_REST_ALONE, NEST_TAIL, COMPONENT, TYPE_AFTER_S, MAYBE_ARGUMENTS, OPERATOR, NEST_REST_OR_END, COMPONENT_AFTER_C, OTHER_OPERATOR, OTHER_SPECIAL, SPECIAL_AFTER_G, TYPE_IN_STD, MAYBE_TAGS}
 use Rattle.cpp_grammar.specs.Grammar.{Alternative, in_ranges, among, is_in, pick, kinds, number_of, number_of_kind, parts_of, is_chain, may_be_empty}
 use Rattle.cpp_grammar.specs.Wide.{wide_alternatives, wide_choose}
 use Rattle.cpp_grammar.specs.Either.{either_alternatives, either_choose}
 use Rattle.cpp_grammar.specs.Table.{rule_of, rule_taken, padded, sheet_with, wide_sheet, wide, either_sheet, either}
 use Rattle.cpp_grammar.specs.TableLaws.{wide_lawful}
-use Rattle.cpp_grammar.specs.Widened.{rest_or_end, with_rest_or_end, letters_component, operator_component, widened_branch, widened_as, widened_all, widened}
-use Rattle.cpp_grammar.proofs.Choosing.{kinds_numbered, number_at, wide_rule_at, either_rule_at, is_either_kind}
-use Rattle.cpp_grammar.proofs.Growing.{same_choice, each_below, below, kept, same_production, empty_keeps, wide_rule_kept}
+use Rattle.cpp_grammar.specs.Widened.{Change, with_rest, within_name, with_g, with_t, unchanged, rest_or_end, with_rest_or_end, letters_component, operator_component, variable_with_g, type_without_tags, change_of, changed, widened_branch, widened_as, widened_all, widened}
+use Rattle.cpp_grammar.proofs.Choosing.{kinds_numbered, number_at, wide_rule_at, wide_empty_at, either_rule_at, is_either_kind}
+use Rattle.cpp_grammar.proofs.Growing.{same_choice, each_below, below, or_parts, kept, same_production, empty_keeps, wide_rule_kept}
 
 -- ## What a kind takes
 
-abbrev pub is_operator_component : (rule kind : ℕ) → Bool
-is_operator_component rule kind = nat_eq rule (number_of Production.OperatorName) && nat_eq kind COMPONENT
+-- where the wide grammar has a rule that stands aside in the table of both: behind a G and a t, each of another kind
+unfoldable chosen_at : ℕ → ℕ
+chosen_at kind = cond (nat_eq kind ENCODING) 71 116
 
--- A kind takes what it takes in the wide grammar, or the rule that the other grammar has there: behind an S, and of an operator within a
--- nested name.
-unfoldable is_wide_or_narrow : Kind → (chosen other : Option Production) → Bool
-is_wide_or_narrow kind None other = true
-is_wide_or_narrow kind (Some p) other =
-    cond (nat_eq (number_of p) (number_of Production.NestAbbreviated)) (nat_eq (number_of_kind kind) NEST_AFTER_S)
-    (cond (is_operator_component (number_of p) (number_of_kind kind)) true (same_choice (Some p) other))
+unfoldable is_aside : Kind → Production → Bool
+is_aside kind p = is_chain p && same_choice (Some p) (pick (wide_alternatives kind) (chosen_at (number_of_kind kind)))
 
-wide_or_narrow : (kind : Kind) → each_below 256 (λ b. is_wide_or_narrow kind (pick (either_alternatives kind) b) (pick (wide_alternatives kind) b)) ≡ true
-unfolding in_ranges among is_in pick number_of number_of_kind wide_alternatives either_alternatives same_choice each_below is_wide_or_narrow
+-- A kind takes what it takes in the wide grammar, perhaps at another byte if that takes none, or the rule that the other grammar has there:
+-- behind an S, of an operator within a nested name, of a guard variable, and of a type in std.
+unfoldable is_wide_or_narrow : Kind → (byte : ℕ) → (chosen other : Option Production) → Bool
+is_wide_or_narrow kind byte None other = true
+is_wide_or_narrow kind byte (Some p) other = elim (change_of (number_of_kind kind) (number_of p)) [
+  | with_rest ↦ nat_eq (number_of_kind kind) NEST_AFTER_S
+  | within_name ↦ nat_eq (number_of_kind kind) COMPONENT
+  | with_g ↦ nat_eq (number_of_kind kind) ENCODING && nat_eq byte 71
+  | with_t ↦ nat_eq (number_of_kind kind) TYPE_AFTER_S && nat_eq byte 116
+  | unchanged ↦ same_choice (Some p) other || is_aside kind p
+]
+
+wide_or_narrow : (kind : Kind) → each_below 256 (λ b. is_wide_or_narrow kind b (pick (either_alternatives kind) b) (pick (wide_alternatives kind) b)) ≡ true
+unfolding in_ranges among is_in pick number_of number_of_kind wide_alternatives either_alternatives same_choice each_below is_chain change_of chosen_at is_aside is_wide_or_narrow
 wide_or_narrow Kind.Symbol = refl
 wide_or_narrow _ = refl
 
 -- which of these a rule is
 pub data Here (k byte : ℕ) (rule : Rule) : Type 0 where
-  as_wide : nat_eq rule.number (number_of Production.NestAbbreviated) ≡ false → is_operator_component rule.number k ≡ false → wide.rule k byte ≡ Some rule → Here k byte rule
+  as_wide : change_of k rule.number ≡ unchanged → wide.rule k byte ≡ Some rule → Here k byte rule
+  aside : change_of k rule.number ≡ unchanged → (other : ℕ) → other < 256 → wide.rule k other ≡ Some rule → rule.eats ≡ false → Here k byte rule
   behind_s : rule ≡ rule_of Production.NestAbbreviated → k ≡ NEST_AFTER_S → Here k byte rule
   of_operator : rule ≡ rule_of Production.OperatorName → k ≡ COMPONENT → Here k byte rule
+  of_variable : rule ≡ rule_of Production.Guard → k ≡ ENCODING → byte ≡ 71 → Here k byte rule
+  in_std_ : rule ≡ rule_of Production.StdType → k ≡ TYPE_AFTER_S → byte ≡ 116 → Here k byte rule
 
 -- the rule that a kind takes at a byte
 pub record Chosen (k byte : ℕ) (rule : Rule) : Type 0 where
@@ -53,26 +64,73 @@ pub record Chosen (k byte : ℕ) (rule : Rule) : Type 0 where
   pub is : rule ≡ rule_of production
   pub here : Here k byte rule
 
+-- which production it is
+data Changing (kind : ℕ) (p : Production) : Change → Type 0 where
+  rest_ : p ≡ Production.NestAbbreviated → Changing kind p with_rest
+  name_ : p ≡ Production.OperatorName → Changing kind p within_name
+  g_ : p ≡ Production.Guard → Changing kind p with_g
+  t_ : p ≡ Production.StdType → Changing kind p with_t
+  none_ : Changing kind p unchanged
+
+changing : (kind : ℕ) (p : Production) → Changing kind p (change_of kind (number_of p))
+unfolding change_of
+changing kind p = go (nat_eq (number_of p) (number_of Production.NestAbbreviated)) (nat_eq (number_of p) (number_of Production.OperatorName)) (nat_eq kind COMPONENT)
+    (nat_eq (number_of p) (number_of Production.Guard)) (nat_eq (number_of p) (number_of Production.StdType)) refl refl refl refl
+  where
+    go : (a b c d e : Bool) → nat_eq (number_of p) (number_of Production.NestAbbreviated) ≡ a → nat_eq (number_of p) (number_of Production.OperatorName) ≡ b
+        → nat_eq (number_of p) (number_of Production.Guard) ≡ d → nat_eq (number_of p) (number_of Production.StdType) ≡ e
+        → Changing kind p (cond a with_rest (cond (b && c) within_name (cond d with_g (cond e with_t unchanged))))
+    go true b c d e one two three four = rest_ (same_production p Production.NestAbbreviated one)
+    go false true true d e one two three four = name_ (same_production p Production.OperatorName two)
+    go false true false true e one two three four = g_ (same_production p Production.Guard three)
+    go false true false false true one two three four = t_ (same_production p Production.StdType four)
+    go false true false false false one two three four = none_
+    go false false c true e one two three four = g_ (same_production p Production.Guard three)
+    go false false c false true one two three four = t_ (same_production p Production.StdType four)
+    go false false c false false one two three four = none_
+
 which : (k byte : ℕ) (kind : Kind) (p : Production) (rule : Rule) → slice_get kinds k ≡ Some kind → rule ≡ rule_of p
-    → is_wide_or_narrow kind (Some p) (pick (wide_alternatives kind) byte) ≡ true → Here k byte rule
-unfolding is_wide_or_narrow wide_choose rule_taken rule_of
-which k byte kind p rule at is test = go (nat_eq (number_of p) (number_of Production.NestAbbreviated)) (is_operator_component (number_of p) (number_of_kind kind)) refl refl test
+    → is_wide_or_narrow kind byte (Some p) (pick (wide_alternatives kind) byte) ≡ true → Here k byte rule
+unfolding is_wide_or_narrow is_aside wide_choose rule_taken rule_of chosen_at
+which k byte kind p rule at is test = go (change_of (number_of_kind kind) (number_of p)) refl (changing (number_of_kind kind) p) test
   where
     numbered : number_of_kind kind ≡ k
     numbered = omega (arith, number_at 0 kinds k kind kinds_numbered at)
 
-    go : (a b : Bool) → nat_eq (number_of p) (number_of Production.NestAbbreviated) ≡ a → is_operator_component (number_of p) (number_of_kind kind) ≡ b
-        → cond a (nat_eq (number_of_kind kind) NEST_AFTER_S) (cond b true (same_choice (Some p) (pick (wide_alternatives kind) byte))) ≡ true → Here k byte rule
-    go true b same which_ h = behind_s
-        (is ∙ ap rule_of (same_production p Production.NestAbbreviated same))
-        (sym numbered ∙ eqb-true (number_of_kind kind) NEST_AFTER_S h)
-    go false true other same h =
-        let two = and_parts (nat_eq (number_of p) (number_of Production.OperatorName)) (nat_eq (number_of_kind kind) COMPONENT) same in
-        of_operator (is ∙ ap rule_of (same_production p Production.OperatorName two.0)) (sym numbered ∙ eqb-true (number_of_kind kind) COMPONENT two.1)
-    go false false other apart h = as_wide
-        (ap (λ r. nat_eq r.number (number_of Production.NestAbbreviated)) is ∙ other)
-        (ap (λ r. is_operator_component r.number k) is ∙ ap (λ n. is_operator_component (number_of p) n) (sym numbered) ∙ apart)
-        (wide_rule_at k kind byte at ∙ ap rule_taken (kept (Some p) (pick (wide_alternatives kind) byte) p h refl) ∙ ap Some (sym is))
+    stays_ : change_of (number_of_kind kind) (number_of p) ≡ unchanged → change_of k rule.number ≡ unchanged
+    stays_ e = ap (λ r. change_of k r.number) is ∙ ap (λ n. change_of n (number_of p)) (sym numbered) ∙ e
+
+    wide_at : (b : ℕ) → same_choice (Some p) (pick (wide_alternatives kind) b) ≡ true → wide.rule k b ≡ Some rule
+    wide_at b h = wide_rule_at k kind b at ∙ ap rule_taken (kept (Some p) (pick (wide_alternatives kind) b) p h refl) ∙ ap Some (sym is)
+
+    below_all : (n : ℕ) → chosen_at n < 256
+    below_all n = by (nat_eq n ENCODING)
+      where
+        by : (b : Bool) → cond b 71 116 < 256
+        by true = lit≤ tt
+        by false = lit≤ tt
+
+    go : (c : Change) → change_of (number_of_kind kind) (number_of p) ≡ c → Changing (number_of_kind kind) p c → elim c [
+      | with_rest ↦ nat_eq (number_of_kind kind) NEST_AFTER_S
+      | within_name ↦ nat_eq (number_of_kind kind) COMPONENT
+      | with_g ↦ nat_eq (number_of_kind kind) ENCODING && nat_eq byte 71
+      | with_t ↦ nat_eq (number_of_kind kind) TYPE_AFTER_S && nat_eq byte 116
+      | unchanged ↦ same_choice (Some p) (pick (wide_alternatives kind) byte) || is_aside kind p
+    ] ≡ true → Here k byte rule
+    go _ e (rest_ one) h = behind_s (is ∙ ap rule_of one) (sym numbered ∙ eqb-true (number_of_kind kind) NEST_AFTER_S h)
+    go _ e (name_ one) h = of_operator (is ∙ ap rule_of one) (sym numbered ∙ eqb-true (number_of_kind kind) COMPONENT h)
+    go _ e (g_ one) h =
+        let both = and_parts (nat_eq (number_of_kind kind) ENCODING) (nat_eq byte 71) h in
+        of_variable (is ∙ ap rule_of one) (sym numbered ∙ eqb-true (number_of_kind kind) ENCODING both.0) (eqb-true byte 71 both.1)
+    go _ e (t_ one) h =
+        let both = and_parts (nat_eq (number_of_kind kind) TYPE_AFTER_S) (nat_eq byte 116) h in
+        in_std_ (is ∙ ap rule_of one) (sym numbered ∙ eqb-true (number_of_kind kind) TYPE_AFTER_S both.0) (eqb-true byte 116 both.1)
+    go _ e none_ h = elim (or_parts (same_choice (Some p) (pick (wide_alternatives kind) byte)) (is_aside kind p) h) [
+      | inl same ↦ as_wide (stays_ e) (wide_at byte same)
+      | inr apart ↦ (
+          let both = and_parts (is_chain p) (same_choice (Some p) (pick (wide_alternatives kind) (chosen_at (number_of_kind kind)))) apart in
+          aside (stays_ e) (chosen_at (number_of_kind kind)) (below_all (number_of_kind kind)) (wide_at (chosen_at (number_of_kind kind)) both.1) (ap (λ r. r.eats) is ∙ ap not both.0))
+    ]
 
 pub chosen_rule : (k byte : ℕ) (rule : Rule) → k < either.kinds → byte < 256 → either.rule k byte ≡ Some rule → Chosen k byte rule
 unfolding either_choose rule_taken
@@ -84,8 +142,8 @@ chosen_rule k byte rule lt is_byte found = go (slice_get kinds k) refl
     by : (kind : Kind) → slice_get kinds k ≡ Some kind → (o : Option Production) → pick (either_alternatives kind) byte ≡ o → rule_taken o ≡ Some rule → Chosen k byte rule
     by kind at None is h = let clash : ◌≡◌ {A = Option Rule} None (Some rule) = h in absurd cc
     by kind at (Some p) is h =
-        let test = below 256 (λ b. is_wide_or_narrow kind (pick (either_alternatives kind) b) (pick (wide_alternatives kind) b)) byte (wide_or_narrow kind) is_byte in
-        record { production = p; is = own p h; here = which k byte kind p rule at (own p h) (subst (λ o. is_wide_or_narrow kind o (pick (wide_alternatives kind) byte) ≡ true) is test) }
+        let test = below 256 (λ b. is_wide_or_narrow kind b (pick (either_alternatives kind) b) (pick (wide_alternatives kind) b)) byte (wide_or_narrow kind) is_byte in
+        record { production = p; is = own p h; here = which k byte kind p rule at (own p h) (subst (λ o. is_wide_or_narrow kind byte o (pick (wide_alternatives kind) byte) ≡ true) is test) }
 
     go : (o : Option Kind) → slice_get kinds k ≡ o → Chosen k byte rule
     go None none = absurd (is_either_kind k lt none)
@@ -115,9 +173,12 @@ symbols_either (Byte c ∷ xs) known = (known.0, symbols_either xs known.1)
 pub either_number : (k b : ℕ) (rule : Rule) → k < either.kinds → b < 256 → either.rule k b ≡ Some rule → rule.number < TOKEN
 unfolding rule_of number_of
 either_number k b rule lt byte found = elim (chosen_rule k b rule lt byte found).here [
-  | as_wide other apart same ↦ (wide_lawful.rule k b rule (wide_kind k lt) byte same).number
+  | as_wide stays same ↦ (wide_lawful.rule k b rule (wide_kind k lt) byte same).number
+  | aside stays other less same chains ↦ (wide_lawful.rule k other rule (wide_kind k lt) less same).number
   | behind_s is at ↦ rw is (lit≤ tt)
   | of_operator is at ↦ rw is (lit≤ tt)
+  | of_variable is at here ↦ rw is (lit≤ tt)
+  | in_std_ is at here ↦ rw is (lit≤ tt)
 ]
 
 narrow_symbols : AreSymbols either (symbols_of (rule_of Production.NestAbbreviated))
@@ -128,11 +189,22 @@ operator_symbols : AreSymbols either (symbols_of (rule_of Production.OperatorNam
 unfolding rule_of parts_of padded number_of_kind either either_sheet kinds
 operator_symbols = (lit≤ tt, (lit≤ tt, tt))
 
+variable_symbols : AreSymbols either (symbols_of (rule_of Production.Guard))
+unfolding rule_of parts_of padded number_of_kind either either_sheet kinds
+variable_symbols = (lit≤ tt, (lit≤ tt, tt))
+
+type_symbols : AreSymbols either (symbols_of (rule_of Production.StdType))
+unfolding rule_of parts_of padded number_of_kind either either_sheet kinds
+type_symbols = (lit≤ tt, tt)
+
 pub either_symbols : (k b : ℕ) (rule : Rule) → k < either.kinds → b < 256 → either.rule k b ≡ Some rule → AreSymbols either (symbols_of rule)
 either_symbols k b rule lt byte found = elim (chosen_rule k b rule lt byte found).here [
-  | as_wide other apart same ↦ symbols_either (symbols_of rule) (wide_lawful.rule k b rule (wide_kind k lt) byte same).symbols
+  | as_wide stays same ↦ symbols_either (symbols_of rule) (wide_lawful.rule k b rule (wide_kind k lt) byte same).symbols
+  | aside stays other less same chains ↦ symbols_either (symbols_of rule) (wide_lawful.rule k other rule (wide_kind k lt) less same).symbols
   | behind_s is at ↦ rw is narrow_symbols
   | of_operator is at ↦ rw is operator_symbols
+  | of_variable is at here ↦ rw is variable_symbols
+  | in_std_ is at here ↦ rw is type_symbols
 ]
 
 -- ## What comes behind the abbreviation of a nested name
@@ -333,35 +405,71 @@ narrow_parts (grown a nothing) trees = absurd trees.1
 narrow_parts (grown a (grown r (grown u f))) trees = absurd trees.1.1
 
 -- another rule stays
-pub same_branch : (k : ℕ) (rule : Rule) (taken : List ℕ) (parts : Forest) → nat_eq rule.number (number_of Production.NestAbbreviated) ≡ false
-    → is_operator_component rule.number k ≡ false → widened_branch k rule taken parts ≡ branch rule taken parts
-unfolding widened_branch
-same_branch k rule taken parts other apart =
-    ap (λ b. elim b as (λ _. Tree) [
-      | true ↦ branch (rule_of Production.NestTemplate) taken (with_rest_or_end parts)
-      | false ↦ elim (is_operator_component rule.number k) as (λ _. Tree) [ true ↦ operator_component taken parts | false ↦ branch rule taken parts ]
-    ]) other
-    ∙ ap (λ b. elim b as (λ _. Tree) [ true ↦ operator_component taken parts | false ↦ branch rule taken parts ]) apart
+pub same_branch : (k : ℕ) (rule : Rule) (taken : List ℕ) (parts : Forest) → change_of k rule.number ≡ unchanged → widened_branch k rule taken parts ≡ branch rule taken parts
+unfolding changed
+same_branch k rule taken parts stays = ap (λ c. changed c rule taken parts) stays
 
 nest_branch : (taken : List ℕ) (parts : Forest) → taken ≡ [] → AreTrees wide (symbols_of (rule_of Production.NestAbbreviated)) parts
     → IsTree wide (OfKind NEST_AFTER_S) (widened_branch NEST_AFTER_S (rule_of Production.NestAbbreviated) taken parts)
-unfolding widened_branch rule_of is_chain number_of kinds wide_choose wide_alternatives pick is_in in_ranges among
-nest_branch taken parts none trees = rw none (takes_at NEST_AFTER_S Kind.NestAfterS Production.NestTemplate [] 48 refl (lit≤ tt) refl refl, narrow_parts parts trees)
+unfolding change_of changed rule_of is_chain number_of kinds wide_choose wide_alternatives pick is_in in_ranges among
+nest_branch taken parts none_taken trees = rw none_taken (takes_at NEST_AFTER_S Kind.NestAfterS Production.NestTemplate [] 48 refl (lit≤ tt) refl refl, narrow_parts parts trees)
 
 operator_branch_tree : (taken : List ℕ) (parts : Forest) → taken ≡ [] → AreTrees wide (symbols_of (rule_of Production.OperatorName)) parts
     → IsTree wide (OfKind COMPONENT) (widened_branch COMPONENT (rule_of Production.OperatorName) taken parts)
-unfolding widened_branch rule_of number_of operator_component
-operator_branch_tree taken parts none trees = rw none (operator_tree parts trees)
+unfolding change_of changed rule_of number_of operator_component
+operator_branch_tree taken parts none_taken trees = rw none_taken (operator_tree parts trees)
+
+-- behind a G and a t, a chain leads to a kind that takes the byte
+variable_branch : (taken : List ℕ) (parts : Forest) → taken ≡ 71 ∷ [] → AreTrees wide (symbols_of (rule_of Production.Guard)) parts
+    → IsTree wide (OfKind ENCODING) (widened_branch ENCODING (rule_of Production.Guard) taken parts)
+unfolding change_of changed variable_with_g rule_of parts_of padded is_chain number_of number_of_kind kinds wide_choose wide_alternatives pick is_in in_ranges among
+variable_branch taken (grown (fixed letter) (grown name nothing)) own trees = rw (own, sym trees.0) (
+  takes_at ENCODING Kind.Encoding Production.OtherSpecial [] 71 refl (lit≤ tt) refl refl,
+  ((
+    takes_at OTHER_SPECIAL Kind.OtherSpecial Production.SpecialWithG (71 ∷ []) 71 refl (lit≤ tt) refl refl,
+    ((takes_at SPECIAL_AFTER_G Kind.SpecialAfterG Production.SpecialName (86 ∷ []) 86 refl (lit≤ tt) refl refl, (trees.1.0, tt)), tt),
+  ), tt),
+)
+variable_branch taken nothing own trees = absurd trees
+variable_branch taken (grown t nothing) own trees = absurd trees.1
+variable_branch taken (grown (branch r u f) g) own trees = absurd trees.0
+variable_branch taken (grown empty g) own trees = absurd trees.0
+variable_branch taken (grown (token t) g) own trees = absurd trees.0
+variable_branch taken (grown (fixed letter) (grown name (grown u f))) own trees = absurd trees.1.1
+
+type_branch : (taken : List ℕ) (parts : Forest) → taken ≡ 116 ∷ [] → AreTrees wide (symbols_of (rule_of Production.StdType)) parts
+    → IsTree wide (OfKind TYPE_AFTER_S) (widened_branch TYPE_AFTER_S (rule_of Production.StdType) taken parts)
+unfolding change_of changed type_without_tags rule_of parts_of padded is_chain number_of number_of_kind kinds wide_choose wide_alternatives pick is_in in_ranges among may_be_empty
+type_branch taken (grown piece nothing) own trees = rw own (
+  takes_at TYPE_AFTER_S Kind.TypeAfterS Production.TypeInStd [] 116 refl (lit≤ tt) refl refl,
+  ((takes_at TYPE_IN_STD Kind.TypeInStd Production.TaggedStdType (116 ∷ []) 116 refl (lit≤ tt) refl refl, (trees.0, (no_tags, tt))), tt),
+)
+  where
+    no_tags : wide.may_be_empty MAYBE_TAGS ≡ true
+    no_tags = wide_empty_at MAYBE_TAGS Kind.MaybeTags refl
+type_branch taken nothing own trees = absurd trees
+type_branch taken (grown piece (grown u f)) own trees = absurd trees.1
 
 branch_tree : (k : ℕ) (rule : Rule) (taken : List ℕ) (parts : Forest) → k < either.kinds → TakesRule either k rule taken → AreTrees wide (symbols_of rule) parts
     → IsTree wide (OfKind k) (widened_branch k rule taken parts)
 unfolding rule_of is_chain
 branch_tree k rule taken parts lt takes trees = elim (chosen_rule k takes.byte rule lt takes.is_byte takes.found).here [
-  | as_wide other apart same ↦ subst (λ t. IsTree wide (OfKind k) t) (sym (same_branch k rule taken parts other apart))
+  | as_wide stays same ↦ subst (λ t. IsTree wide (OfKind k) t) (sym (same_branch k rule taken parts stays))
       (record { byte = takes.byte; is_byte = takes.is_byte; found = same; takes = takes.takes }, trees)
+  | aside stays other less same chains ↦ subst (λ t. IsTree wide (OfKind k) t) (sym (same_branch k rule taken parts stays))
+      (record {
+        byte = other;
+        is_byte = less;
+        found = same;
+        takes = takes.takes ∙ ap (λ b. cond b (takes.byte ∷ []) []) chains ∙ sym (ap (λ b. cond b (other ∷ []) []) chains);
+      }, trees)
   | behind_s is at ↦ rw (is, at) (nest_branch taken parts (takes_its rule (rule_of Production.NestAbbreviated) taken takes.byte false is refl takes.takes)
       (subst (λ r. AreTrees wide (symbols_of r) parts) is trees))
   | of_operator is at ↦ rw (is, at) (operator_branch_tree taken parts (takes_its rule (rule_of Production.OperatorName) taken takes.byte false is refl takes.takes)
+      (subst (λ r. AreTrees wide (symbols_of r) parts) is trees))
+  | of_variable is at here ↦ rw (is, at) (variable_branch taken parts (takes_its rule (rule_of Production.Guard) taken takes.byte true is refl takes.takes ∙ ap (λ b. b ∷ []) here)
+      (subst (λ r. AreTrees wide (symbols_of r) parts) is trees))
+  | in_std_ is at here ↦ rw (is, at) (type_branch taken parts (takes_its rule (rule_of Production.StdType) taken takes.byte true is refl takes.takes ∙ ap (λ b. b ∷ []) here)
       (subst (λ r. AreTrees wide (symbols_of r) parts) is trees))
 ]
 
@@ -418,24 +526,31 @@ unfolding operator_component
 spell_operator taken (grown (branch rule first (grown second nothing)) (grown arguments nothing)) = spell_letters rule taken first second arguments
 spell_operator taken _ = refl
 
-spell_branch : (k : ℕ) (rule : Rule) (taken : List ℕ) (parts : Forest) → spell (widened_branch k rule taken parts) ≡ taken ++ spell_all parts
-unfolding widened_branch
-spell_branch k rule taken parts = go (nat_eq rule.number (number_of Production.NestAbbreviated)) (is_operator_component rule.number k)
-  where
-    go : (b c : Bool) → spell (elim b as (λ _. Tree) [
-      | true ↦ branch (rule_of Production.NestTemplate) taken (with_rest_or_end parts)
-      | false ↦ elim c as (λ _. Tree) [ true ↦ operator_component taken parts | false ↦ branch rule taken parts ]
-    ]) ≡ taken ++ spell_all parts
-    go true c = ap (λ w. taken ++ w) (spell_parts parts)
-    go false true = spell_operator taken parts
-    go false false = refl
+spell_variable : (taken : List ℕ) (parts : Forest) → spell (variable_with_g taken parts) ≡ taken ++ spell_all parts
+unfolding variable_with_g
+spell_variable taken (grown (fixed letter) (grown name nothing)) =
+    append-nil (taken ++ (((letter ∷ []) ++ (spell name ++ [])) ++ [])) ∙ ap (λ w. taken ++ w) (append-nil ((letter ∷ []) ++ (spell name ++ [])))
+spell_variable taken _ = refl
+
+spell_type : (taken : List ℕ) (parts : Forest) → spell (type_without_tags taken parts) ≡ taken ++ spell_all parts
+unfolding type_without_tags
+spell_type taken (grown piece nothing) = append-nil (taken ++ (spell piece ++ []))
+spell_type taken _ = refl
+
+spell_changed : (change : Change) (rule : Rule) (taken : List ℕ) (parts : Forest) → spell (changed change rule taken parts) ≡ taken ++ spell_all parts
+unfolding changed
+spell_changed with_rest rule taken parts = ap (λ w. taken ++ w) (spell_parts parts)
+spell_changed within_name rule taken parts = spell_operator taken parts
+spell_changed with_g rule taken parts = spell_variable taken parts
+spell_changed with_t rule taken parts = spell_type taken parts
+spell_changed unchanged rule taken parts = refl
 
 mutual
   unfolding widened_as widened_all
 
   pub spell_as : (t : Tree) (x : Sym) → spell (widened_as t x) ≡ spell t
   spell_as (branch rule taken parts) (OfKind k) =
-      spell_branch k rule taken (widened_all parts (symbols_of rule)) ∙ ap (λ w. taken ++ w) (spell_widened_all parts (symbols_of rule))
+      spell_changed (change_of k rule.number) rule taken (widened_all parts (symbols_of rule)) ∙ ap (λ w. taken ++ w) (spell_widened_all parts (symbols_of rule))
   spell_as _ _ = refl
 
   pub spell_widened_all : (f : Forest) (xs : List Sym) → spell_all (widened_all f xs) ≡ spell_all f
@@ -458,64 +573,68 @@ record IsBranch (k : ℕ) (rule : Rule) (spelled : List ℕ) : Type 0 where
   parts : Forest
   is : IsTree wide (OfKind k) (branch other own parts)
   spells : own ++ spell_all parts ≡ spelled
-  same : nat_eq rule.number (number_of Production.NestAbbreviated) ≡ false → is_operator_component rule.number k ≡ false → other ≡ rule
+  same : change_of k rule.number ≡ unchanged → other ≡ rule
 
-operator_is_branch : (k : ℕ) (rule : Rule) (taken spelled : List ℕ) (parts : Forest) → is_operator_component rule.number k ≡ true
-    → IsTree wide (OfKind k) (operator_component taken parts) → spell (operator_component taken parts) ≡ spelled → IsBranch k rule spelled
+-- what becomes of a tree is that of a rule
+record IsSome (t : Tree) : Type 0 where
+  other : Rule
+  own : List ℕ
+  parts : Forest
+  is : t ≡ branch other own parts
+
+some : (other : Rule) (own : List ℕ) (parts : Forest) → IsSome (branch other own parts)
+some other own parts = record { other = other; own = own; parts = parts; is = refl }
+
+operator_branch : (taken : List ℕ) (parts : Forest) → IsSome (operator_component taken parts)
 unfolding operator_component letters_component
-operator_is_branch k rule taken spelled (grown (branch r first (grown second nothing)) (grown arguments nothing)) this = go (nat_eq r.number (number_of Production.OperatorC))
+operator_branch taken (grown (branch r first (grown second nothing)) (grown arguments nothing)) = go (nat_eq r.number (number_of Production.OperatorC))
   where
-    go : (b : Bool) → IsTree wide (OfKind k) (elim b as (λ _. Tree) [
+    go : (b : Bool) → IsSome (elim b as (λ _. Tree) [
       | true ↦ branch (rule_of Production.ComponentWithC) (taken ++ first)
           (grown (branch (rule_of Production.OperatorNameWithC) [] (grown second (grown arguments nothing))) nothing)
       | false ↦ branch (rule_of Production.OtherOperatorName) taken (grown (branch r first (grown second nothing)) (grown arguments nothing))
-    ]) → spell (elim b as (λ _. Tree) [
-      | true ↦ branch (rule_of Production.ComponentWithC) (taken ++ first)
-          (grown (branch (rule_of Production.OperatorNameWithC) [] (grown second (grown arguments nothing))) nothing)
-      | false ↦ branch (rule_of Production.OtherOperatorName) taken (grown (branch r first (grown second nothing)) (grown arguments nothing))
-    ]) ≡ spelled → IsBranch k rule spelled
-    go true is spells = record {
-      other = rule_of Production.ComponentWithC;
-      own = taken ++ first;
-      parts = grown (branch (rule_of Production.OperatorNameWithC) [] (grown second (grown arguments nothing))) nothing;
-      is = is;
-      spells = spells;
-      same = λ other apart. absurd (true≢false (sym this ∙ apart));
-    }
-    go false is spells = record {
-      other = rule_of Production.OtherOperatorName;
-      own = taken;
-      parts = grown (branch r first (grown second nothing)) (grown arguments nothing);
-      is = is;
-      spells = spells;
-      same = λ other apart. absurd (true≢false (sym this ∙ apart));
-    }
-operator_is_branch k rule taken spelled parts this = λ is spells.
-    record { other = rule_of Production.OtherOperatorName; own = taken; parts = parts; is = is; spells = spells; same = λ other apart. absurd (true≢false (sym this ∙ apart)) }
+    ])
+    go true = some _ _ _
+    go false = some _ _ _
+operator_branch taken parts = some (rule_of Production.OtherOperatorName) taken parts
+
+some_branch : (change : Change) (rule : Rule) (taken : List ℕ) (parts : Forest) → IsSome (changed change rule taken parts)
+unfolding changed variable_with_g type_without_tags
+some_branch with_rest rule taken parts = some _ _ _
+some_branch within_name rule taken parts = operator_branch taken parts
+some_branch with_g rule taken (grown (fixed letter) (grown name nothing)) = some _ _ _
+some_branch with_g rule taken parts = some (rule_of Production.Guard) taken parts
+some_branch with_t rule taken (grown piece nothing) = some _ _ _
+some_branch with_t rule taken parts = some (rule_of Production.StdType) taken parts
+some_branch unchanged rule taken parts = some rule taken parts
 
 wide_branch : (k : ℕ) (rule : Rule) (taken : List ℕ) (parts : Forest) → k < either.kinds → IsTree either (OfKind k) (branch rule taken parts) → IsBranch k rule (taken ++ spell_all parts)
-unfolding widened_as widened_branch
+unfolding widened_as changed
 wide_branch k rule taken parts lt is =
-    go (nat_eq rule.number (number_of Production.NestAbbreviated)) (is_operator_component rule.number k) refl refl
-    (widened_tree (OfKind k) (branch rule taken parts) lt is) (spell_as (branch rule taken parts) (OfKind k))
+    go (change_of k rule.number) refl (widened_tree (OfKind k) (branch rule taken parts) lt is) (spell_as (branch rule taken parts) (OfKind k))
   where
     all : Forest
     all = widened_all parts (symbols_of rule)
 
-    go : (b c : Bool) → nat_eq rule.number (number_of Production.NestAbbreviated) ≡ b → is_operator_component rule.number k ≡ c
-        → IsTree wide (OfKind k) (elim b as (λ _. Tree) [
-          | true ↦ branch (rule_of Production.NestTemplate) taken (with_rest_or_end all)
-          | false ↦ elim c as (λ _. Tree) [ true ↦ operator_component taken all | false ↦ branch rule taken all ]
-        ])
-        → spell (elim b as (λ _. Tree) [
-          | true ↦ branch (rule_of Production.NestTemplate) taken (with_rest_or_end all)
-          | false ↦ elim c as (λ _. Tree) [ true ↦ operator_component taken all | false ↦ branch rule taken all ]
-        ]) ≡ taken ++ spell_all parts
+    other_than : (c : Change) → (c ≡ unchanged → ⊥) → change_of k rule.number ≡ c → IsTree wide (OfKind k) (changed c rule taken all) → spell (changed c rule taken all) ≡ taken ++ spell_all parts
         → IsBranch k rule (taken ++ spell_all parts)
-    go true c this which_ tree spelled =
-        record { other = rule_of Production.NestTemplate; own = taken; parts = with_rest_or_end all; is = tree; spells = spelled; same = λ other apart. absurd (true≢false (sym this ∙ other)) }
-    go false true other this tree spelled = operator_is_branch k rule taken (taken ++ spell_all parts) all this tree spelled
-    go false false other apart tree spelled = record { other = rule; own = taken; parts = all; is = tree; spells = spelled; same = λ one two. refl }
+    other_than c apart e tree spelled =
+        let x = some_branch c rule taken all in
+        record {
+          other = x.other;
+          own = x.own;
+          parts = x.parts;
+          is = subst (λ t. IsTree wide (OfKind k) t) x.is tree;
+          spells = sym (ap spell x.is) ∙ spelled;
+          same = λ stays. absurd (apart (sym e ∙ stays));
+        }
+
+    go : (c : Change) → change_of k rule.number ≡ c → IsTree wide (OfKind k) (changed c rule taken all) → spell (changed c rule taken all) ≡ taken ++ spell_all parts → IsBranch k rule (taken ++ spell_all parts)
+    go unchanged e tree spelled = record { other = rule; own = taken; parts = all; is = tree; spells = spelled; same = λ stays. refl }
+    go with_rest e tree spelled = other_than with_rest (λ h. cc h) e tree spelled
+    go within_name e tree spelled = other_than within_name (λ h. cc h) e tree spelled
+    go with_g e tree spelled = other_than with_g (λ h. cc h) e tree spelled
+    go with_t e tree spelled = other_than with_t (λ h. cc h) e tree spelled
 
 -- a rule's tree isn't empty
 pub either_filled : (k : ℕ) (rule : Rule) (taken : List ℕ) (parts : Forest) → k < either.kinds → IsTree either (OfKind k) (branch rule taken parts) → taken ++ spell_all parts ≡ [] → ⊥
@@ -531,17 +650,32 @@ operator_at : either.rule COMPONENT 33 ≡ Some (rule_of Production.OperatorName
 unfolding either_choose either_alternatives kinds pick is_in in_ranges among rule_taken
 operator_at = either_rule_at COMPONENT Kind.Component 33 refl
 
+kept_at : (k b : ℕ) (rule : Rule) → b < 256 → wide.rule k b ≡ Some rule → (either.rule k b ≡ Some rule) ⊎ (either.rule k 33 ≡ Some rule)
+kept_at k b rule lt found = elim (wide_rule_kept k b rule lt found) [ inl here ↦ inl here | inr apart ↦ inr apart.1 ]
+
+-- a rule that takes a byte is chosen there
+taken_at : (k : ℕ) (rule : Rule) (taken rest : List ℕ) (b : ℕ) (w : List ℕ) → TakesRule either k rule taken → rule.eats ≡ true → taken ++ rest ≡ b ∷ w → either.rule k b ≡ Some rule
+taken_at k rule taken rest b w takes eats spelled =
+    let own : taken ≡ takes.byte ∷ [] = takes.takes ∙ ap (λ e. cond e (takes.byte ∷ []) []) eats in
+    let whole : ◌≡◌ {A = List ℕ} (takes.byte ∷ rest) (b ∷ w) = sym (ap (λ t. t ++ rest) own) ∙ spelled in
+    let same : takes.byte ≡ b = cc in
+    ap (λ n. either.rule k n) (sym same) ∙ takes.found
+
 -- The rule of a tree is the one that its first byte chooses, or stands at the byte that no symbol has.
 pub either_first : (k : ℕ) (rule : Rule) (taken : List ℕ) (parts : Forest) (b : ℕ) (w : List ℕ) → k < either.kinds → IsTree either (OfKind k) (branch rule taken parts) → taken ++ spell_all parts ≡ b ∷ w
     → (b < 256) × ((either.rule k b ≡ Some rule) ⊎ (either.rule k 33 ≡ Some rule))
+unfolding rule_of is_chain
 either_first k rule taken parts b w lt is spelled =
     let wide_ = wide_branch k rule taken parts lt is in
     let first = branch_first wide wide_lawful k wide_.other wide_.own wide_.parts b w (wide_kind k lt) wide_.is (wide_.spells ∙ spelled) in (
       first.0,
       elim (chosen_rule k is.0.byte rule lt is.0.is_byte is.0.found).here [
-        | as_wide other apart same ↦ (elim (wide_rule_kept k b rule first.0 (first.1 ∙ ap Some (wide_.same other apart))) [ inl here ↦ inl here | inr apart ↦ inr apart.1 ])
+        | as_wide stays same ↦ kept_at k b rule first.0 (first.1 ∙ ap Some (wide_.same stays))
+        | aside stays other less same chains ↦ kept_at k b rule first.0 (first.1 ∙ ap Some (wide_.same stays))
         | behind_s is at ↦ inr (ap (λ n. either.rule n 33) at ∙ narrow_at ∙ ap Some (sym is))
         | of_operator is at ↦ inr (ap (λ n. either.rule n 33) at ∙ operator_at ∙ ap Some (sym is))
+        | of_variable same at here ↦ inl (taken_at k rule taken (spell_all parts) b w is.0 (ap (λ r. r.eats) same) spelled)
+        | in_std_ same at here ↦ inl (taken_at k rule taken (spell_all parts) b w is.0 (ap (λ r. r.eats) same) spelled)
       ],
     )
 

@@ -91,6 +91,7 @@ between Production.Encoding around place [] state = next [] (in_name place) stat
 between Production.Encoding around place (name ∷ vs) state = next (name ∷ vs) (in_types place (tree_of name)) state
 between Production.Special around place vs state = next vs (in_name place) state
 between Production.Guard around place vs state = next vs (in_name place) state
+between Production.OtherSpecial around place vs state = next vs (in_name place) state
 -- names; the first piece of a local entity has the enclosing encoding as its prefix
 between Production.LocalName around place (e ∷ vs) state = next (e ∷ vs) (after (tree_of e) true around) state
 between Production.LocalType around place (e ∷ vs) state = next (e ∷ vs) (after (tree_of e) true around) state
@@ -128,6 +129,7 @@ between Production.NestNext around place (component ∷ []) state = next (compon
 between Production.Holder around place (v ∷ []) state = listed_so_far around (holder (prefix_tree around.prefix)) [] state
 -- a name without its tags is no candidate
 between Production.Tag around place (v ∷ []) state = tag_so_far around (text_of v) state
+between Production.TypeTag around place (v ∷ []) state = tag_so_far around (text_of v) state
 -- arguments; the template name before them is a candidate
 between Production.Arguments around place [] state = next [] (inside around) (with_prefix around state)
 between Production.PackArgument around place (elements ∷ []) state = next (tree (pack (no_items elements)) true ∷ []) around state
@@ -135,6 +137,7 @@ between Production.Lambda around place vs state = next vs (in_signature around) 
 -- types
 between Production.Expansion around place vs state = next vs (under_expansion around) (record state { packs = None })
 between Production.Parameter around place (v ∷ []) state = parameter_so_far around place (index_of v) [] state
+between Production.TaggedStdType around place (v ∷ []) state = named_so_far around (in_std (piece_of v)) [] state
 between Production.TypeWithS around place (v ∷ []) state = next (v ∷ []) (after (tree_of v) (is_listed v) around) state
 between Production.LvalueItem around place (v ∷ []) state = let t = lvalue (tree_of v) in next (tree t true ∷ []) around (appended around t state)
 between Production.RvalueItem around place (v ∷ []) state = let t = rvalue (tree_of v) in next (tree t true ∷ []) around (appended around t state)

@@ -1,6 +1,6 @@
 -- Trees in which the arguments that are a scope have no free parameters.
 use Rattle.std.specs.Prelude.{◌≡◌, false, Option, Some, None}
-use Rattle.cpp_grammar.specs.Term.{Term, symbol, function, object, special, thunk, of_name, construction, alone, in_std, within, instance, local, holder, tagged, of_default, lambda, conversion, pointer, lvalue, rvalue, array, member_pointer, function_type, qualified, vector, complex, expansion, integer, encoding_literal, address_of, pack, list}
+use Rattle.cpp_grammar.specs.Term.{Term, symbol, function, object, special, thunk, of_name, construction, clone, alone, in_std, within, instance, local, holder, tagged, of_default, lambda, conversion, pointer, lvalue, rvalue, array, member_pointer, function_type, qualified, vector, complex, expansion, integer, encoding_literal, address_of, pack, list}
 use Rattle.cpp_grammar.specs.Scope.{arguments_of, is_open}
 
 -- the arguments of a scope, if there are some, have no free parameters
@@ -18,6 +18,7 @@ ScopesAreClosed (special letter t) = ScopesAreClosed t
 ScopesAreClosed (thunk kind e) = ScopesAreClosed e
 ScopesAreClosed (of_name letter name q ref) = ScopesAreClosed name
 ScopesAreClosed (construction derived digits parent) = ScopesAreClosed derived × ScopesAreClosed parent
+ScopesAreClosed (clone letter e) = ScopesAreClosed e
 ScopesAreClosed (alone p) = ScopesAreClosed p
 ScopesAreClosed (in_std p) = ScopesAreClosed p
 ScopesAreClosed (within prefix p) = ScopesAreClosed prefix × ScopesAreClosed p

@@ -41,7 +41,7 @@ after_ranges Kind.AfterD = codes ".-.0-9A-AC-FJ-PR-VX-XZ-Za-jl-pr-z"
 after_ranges Kind.Solid = codes ".-.0-9A-AC-FJ-PR-VX-XZ-Za-jl-pr-z"
 after_ranges Kind.MaybeCLinkage = codes "0-9A-AC-DF-FK-KM-PR-VZ-Za-jl-or-z"
 after_ranges Kind.TypeAfterS = codes ".-.0-9A-AC-FI-PR-VX-XZ-Za-jl-pr-z"
-after_ranges Kind.SourceOrLocal = codes ".-.0-9A-AC-FI-PR-VX-XZ-Za-jl-pr-z"
+after_ranges Kind.SourceOrLocal = codes ".-.0-9A-FI-PR-VX-XZ-Za-jl-pr-z"
 after_ranges Kind.FunctionRest = codes ".-.0-9A-AC-FJ-PR-VX-XZ-Za-jl-pr-z"
 after_ranges Kind.AfterR = codes ".-.0-9A-AC-FJ-PR-VX-XZ-Za-jl-pr-z"
 after_ranges Kind.AfterO = codes ".-.0-9A-AC-FJ-PR-VX-XZ-Za-jl-pr-z"
@@ -81,6 +81,11 @@ after_ranges Kind.OtherOperator = codes "0-9B-EI-IL-MU-Ua-ac-eg-gi-il-pr-s"
 after_ranges Kind.ArgumentsFirst = codes "E-E"
 after_ranges Kind.PlainEntity = codes ".-.0-9A-AC-FK-KM-PR-VZ-Z_-_a-jl-or-z"
 after_ranges Kind.PlainTypeEntity = codes ".-.0-9A-AC-FJ-PR-VX-XZ-Z_-_a-jl-pr-z"
+after_ranges Kind.OtherSpecial = codes ".-.E-E"
+after_ranges Kind.SpecialAfterG = codes ".-.E-E"
+after_ranges Kind.CloneLetter = codes "0-9G-GL-LN-NS-UZ-Za-ac-eg-gi-il-pr-s"
+after_ranges Kind.TypeInStd = codes ".-.0-9A-AC-FI-PR-VX-XZ-Za-jl-pr-z"
+after_ranges Kind.MaybeTags = codes ".-.0-9A-AC-FI-PR-VX-XZ-Za-jl-pr-z"
 
 -- how many chains may stand on one another at the beginning of a kind
 unfoldable pub rank : Kind → ℕ
@@ -186,4 +191,8 @@ height Kind.ComponentAfterC = 2
 height Kind.OtherOperator = 2
 height Kind.PlainEntity = 1
 height Kind.PlainTypeEntity = 1
+height Kind.OtherSpecial = 3
+height Kind.SpecialAfterG = 2
+height Kind.CloneLetter = 1
+height Kind.TypeInStd = 2
 height _ = 0

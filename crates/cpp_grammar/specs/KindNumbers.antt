@@ -3,10 +3,10 @@ use Rattle.std.specs.Prelude.{ℕ}
 
 -- how many kinds there are, and how many productions
 abbrev pub KIND_COUNT : ℕ
-KIND_COUNT = 77
+KIND_COUNT = 82
 
 abbrev pub PRODUCTION_COUNT : ℕ
-PRODUCTION_COUNT = 126
+PRODUCTION_COUNT = 132
 
 abbrev pub SYMBOL : ℕ
 SYMBOL = 0
@@ -238,3 +238,18 @@ PLAIN_ENTITY = 75
 
 abbrev pub PLAIN_TYPE_ENTITY : ℕ
 PLAIN_TYPE_ENTITY = 76
+
+abbrev pub OTHER_SPECIAL : ℕ
+OTHER_SPECIAL = 77
+
+abbrev pub SPECIAL_AFTER_G : ℕ
+SPECIAL_AFTER_G = 78
+
+abbrev pub CLONE_LETTER : ℕ
+CLONE_LETTER = 79
+
+abbrev pub TYPE_IN_STD : ℕ
+TYPE_IN_STD = 80
+
+abbrev pub MAYBE_TAGS : ℕ
+MAYBE_TAGS = 81

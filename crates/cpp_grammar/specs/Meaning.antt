@@ -1,7 +1,7 @@
 -- What a production stands for, given the values of its parts.
 use Rattle.std.specs.Prelude.{ℕ, List, [], ◌∷◌, Bool, true, false, cond, not, ◌&&◌, nat_eq, Option, Some, None}
 use Rattle.cpp_grammar.specs.declared.production.Production.{Production}
-use Rattle.cpp_grammar.specs.Term.{RefQualifier, any_value, lvalue_only, rvalue_only, non_virtual, by_table, adjusting, covariant, Term, symbol, function, object, special, thunk, of_name, construction, in_std, local, of_default, abbreviation, source, operator, literal_operator, lambda, unnamed, string_literal, conversion, builtin, sized_float, vendor, pointer, lvalue, rvalue, array, member_pointer, function_type, qualified, vector, complex, expansion, integer, boolean, null_pointer, encoding_literal, address_of, nil, list, absent}
+use Rattle.cpp_grammar.specs.Term.{RefQualifier, any_value, lvalue_only, rvalue_only, non_virtual, by_table, adjusting, covariant, Term, symbol, function, object, special, thunk, of_name, construction, clone, in_std, local, of_default, abbreviation, source, operator, literal_operator, lambda, unnamed, string_literal, conversion, builtin, sized_float, vendor, pointer, lvalue, rvalue, array, member_pointer, function_type, qualified, vector, complex, expansion, integer, boolean, null_pointer, encoding_literal, address_of, nil, list, absent}
 use Rattle.cpp_grammar.specs.Scope.{has_return_type}
 use Rattle.cpp_grammar.specs.Values.{Around, prefix_tree, prefix_listed, Value, nothing_there, letter, text, signed, adjusted, tree, piece, named, signature, unqualified, tree_of, piece_of, is_listed, qualifiers_of, ref_of, letter_of, is_there, mark_of, text_of, signed_of, adjustment_of, normal, signed_digits, local_number, part}
 use Rattle.cpp_grammar.specs.Between.{extended, applied, no_items}
@@ -73,6 +73,9 @@ meaning Production.SuffixByte byte around vs = text (byte ∷ text_of (part vs 0
 -- encodings
 meaning Production.Special byte around vs = part vs 0
 meaning Production.Guard byte around vs = tree (of_name 86 (tree_of (part vs 1)) (qualifiers_of (part vs 1)) (ref_of (part vs 1))) true
+meaning Production.OtherSpecial byte around vs = part vs 0
+meaning Production.SpecialWithG byte around vs = part vs 0
+meaning Production.Clone byte around vs = tree (clone (letter_of (part vs 0)) (tree_of (part vs 1))) true
 meaning Production.Encoding byte around vs = tree (encoding_of (part vs 0) (no_items (part vs 1))) true
 meaning Production.SpecialType byte around vs = tree (special byte (tree_of (part vs 0))) true
 meaning Production.SpecialName byte around vs = tree (of_name byte (tree_of (part vs 0)) (qualifiers_of (part vs 0)) (ref_of (part vs 0))) true
@@ -103,6 +106,7 @@ meaning Production.Conversion byte around vs = tree (extended around.prefix (con
 meaning Production.StdName byte around vs = tree (applied (tree_of (part vs 0)) (part vs 1)) false
 meaning Production.AbbreviatedName byte around vs = tree (applied (tree_of (part vs 0)) (part vs 1)) false
 meaning Production.Tag byte around vs = named (applied (tree_of (part vs 0)) (part vs 1)) unqualified any_value
+meaning Production.TypeTag byte around vs = named (applied (tree_of (part vs 0)) (part vs 1)) unqualified any_value
 meaning Production.InternalPiece byte around vs = piece (source true (text_of (part vs 0)))
 meaning Production.LocalTypePiece byte around vs = part vs 0
 meaning Production.SourcePiece byte around vs = piece (source false (text_of (part vs 0)))
@@ -158,6 +162,8 @@ meaning Production.Parameter byte around vs = tree (applied (tree_of (part vs 0)
 meaning Production.TypeWithS byte around vs = tree (applied (tree_of (part vs 0)) (part vs 1)) (is_listed (part vs 0) && not (is_there (part vs 1)))
 meaning Production.LocalType byte around vs = tree (local (tree_of (part vs 0)) (tree_of (part vs 2)) (discriminator_of (part vs 3))) false
 meaning Production.StdType byte around vs = tree (in_std (piece_of (part vs 0))) false
+meaning Production.TypeInStd byte around vs = part vs 0
+meaning Production.TaggedStdType byte around vs = tree (applied (tree_of (part vs 0)) (part vs 1)) false
 meaning Production.AbbreviatedType byte around vs = part vs 0
 meaning Production.RestEnd byte around vs = signature nil any_value
 meaning Production.RestLvalue byte around vs = signature_or lvalue_only (part vs 0)

@@ -5,7 +5,7 @@ use Rattle.sym_print.specs.declared.detail.Detail.{Detail}
 use Rattle.sym_print.specs.Details.{has_arguments, has_parameters}
 use Rattle.sym_print.specs.Unfold.{PartOf, text, sub}
 use Rattle.cpp_grammar.specs.Texts.{same_bytes, look_up, builtin_texts, operator_texts, abbreviation_texts, special_texts, named_special_texts, literal_endings}
-use Rattle.cpp_grammar.specs.Term.{Qualifiers, RefQualifier, any_value, lvalue_only, rvalue_only, Signed, non_virtual, by_table, Thunk, adjusting, covariant, Term, symbol, function, object, special, thunk, of_name, construction, alone, in_std, within, instance, local, holder, tagged, of_default, abbreviation, parameter, source, operator, literal_operator, constructor, destructor, lambda, unnamed, string_literal, conversion, builtin, sized_float, vendor, pointer, lvalue, rvalue, array, member_pointer, function_type, qualified, vector, complex, expansion, integer, boolean, null_pointer, encoding_literal, address_of, pack, nil, list, absent}
+use Rattle.cpp_grammar.specs.Term.{Qualifiers, RefQualifier, any_value, lvalue_only, rvalue_only, Signed, non_virtual, by_table, Thunk, adjusting, covariant, Term, symbol, function, object, special, thunk, of_name, construction, clone, alone, in_std, within, instance, local, holder, tagged, of_default, abbreviation, parameter, source, operator, literal_operator, constructor, destructor, lambda, unnamed, string_literal, conversion, builtin, sized_float, vendor, pointer, lvalue, rvalue, array, member_pointer, function_type, qualified, vector, complex, expansion, integer, boolean, null_pointer, encoding_literal, address_of, pack, nil, list, absent}
 use Rattle.cpp_grammar.specs.Scope.{arguments_of}
 use Rattle.cpp_grammar.specs.Items.{Form, root, full, bare, left, right, low, base, piece, first, more, expand, Context, Item, closed, argument, head, is_reference, is_funarr, packs_of, is_empty}
 
@@ -66,6 +66,7 @@ prefix_item context (special letter t) = as_item bare closed (special letter t)
 prefix_item context (thunk kind e) = as_item bare closed (thunk kind e)
 prefix_item context (of_name letter name q r) = as_item bare closed (of_name letter name q r)
 prefix_item context (construction derived digits parent) = as_item bare closed (construction derived digits parent)
+prefix_item context (clone letter e) = as_item bare closed (clone letter e)
 prefix_item context (holder name) = as_item left context name
 prefix_item context t = as_item left context t
 
@@ -285,6 +286,10 @@ thunk_text (adjusting (non_virtual a)) = codes "non-virtual thunk to "
 thunk_text (adjusting (by_table a b)) = codes "virtual thunk to "
 thunk_text (covariant a b) = codes "covariant return thunk to "
 
+-- t of one within a transaction, n of one without
+unfoldable pub clone_text : (letter : ℕ) → List ℕ
+clone_text letter = elim (nat_eq letter 116) [ true ↦ codes "transaction clone for " | false ↦ codes "non-transaction clone for " ]
+
 abbrev pub construction_parts : (derived parent : Term) → List (PartOf Item)
 construction_parts derived parent =
     says "construction vtable for " ∷ as_item left closed parent ∷ as_item right closed parent ∷ says "-in-" ∷ as_item left closed derived ∷ as_item right closed derived ∷ []
@@ -296,6 +301,7 @@ full_parts d (special letter t) = text (look_up (letter ∷ []) special_texts) �
 full_parts d (thunk kind e) = text (thunk_text kind) ∷ as_item full closed e ∷ []
 full_parts d (of_name letter name q ref) = text (look_up (letter ∷ []) named_special_texts) ∷ as_item left closed name ∷ text_part (encoding_text q ref)
 full_parts d (construction derived digits parent) = construction_parts derived parent
+full_parts d (clone letter e) = text (clone_text letter) ∷ as_item full closed e ∷ []
 full_parts d _ = []
 
 unfoldable pub bare_parts : Detail → Term → List (PartOf Item)

@@ -1,6 +1,6 @@
 -- A rank of items that falls from each item to its parts, so that printing ends.
 use Rattle.std.specs.Prelude.{ℕ, ◌+◌, ◌-◌, Option, Some, None}
-use Rattle.cpp_grammar.specs.Term.{Term, symbol, function, object, special, thunk, of_name, construction, alone, in_std, within, instance, local, holder, tagged, of_default, parameter, lambda, conversion, pointer, lvalue, rvalue, array, member_pointer, function_type, qualified, vector, complex, expansion, integer, encoding_literal, address_of, pack, list}
+use Rattle.cpp_grammar.specs.Term.{Term, symbol, function, object, special, thunk, of_name, construction, clone, alone, in_std, within, instance, local, holder, tagged, of_default, parameter, lambda, conversion, pointer, lvalue, rvalue, array, member_pointer, function_type, qualified, vector, complex, expansion, integer, encoding_literal, address_of, pack, list}
 use Rattle.cpp_grammar.specs.Scope.{arguments_of, pack_length}
 use Rattle.cpp_grammar.specs.Items.{Form, expand, Context, Item}
 
@@ -23,6 +23,7 @@ weight a scope (special letter t) = 1 + weight 0 None t
 weight a scope (thunk kind e) = 1 + weight 0 None e
 weight a scope (of_name letter name q ref) = 1 + weight 0 None name
 weight a scope (construction derived digits parent) = 1 + weight 0 None derived + weight 0 None parent
+weight a scope (clone letter e) = 1 + weight 0 None e
 weight a scope (alone p) = 1 + weight a scope p
 weight a scope (in_std p) = 1 + weight a scope p
 weight a scope (within prefix p) = 1 + weight a scope prefix + weight a scope p

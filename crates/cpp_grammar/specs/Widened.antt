@@ -2,13 +2,13 @@
 -- They differ in a nested name that begins with an abbreviation or a substitution. In the wide grammar it may end behind arguments, so a
 -- rule of its own takes these, and what comes behind them is a part as behind any other piece of a name. And they differ in an operator's
 -- name within a nested one: there the wide grammar has conversions to types, which begin with a c too, so a rule takes the c, and another
--- what comes behind it.
-use Rattle.std.specs.Prelude.{List, ℕ, [], ◌∷◌, ◌++◌, ◌&&◌, true, false, nat_eq}
+-- what comes behind it. In the same way it has clones behind the G of a guard variable. And behind a name of std, as a type, it has tags.
+use Rattle.std.specs.Prelude.{List, ℕ, [], ◌∷◌, ◌++◌, ◌&&◌, true, false, cond, nat_eq}
 use Rattle.sym_shape.specs.declared.rule.Rule.{Rule}
 use Rattle.sym_shape.specs.declared.rule.Sym.{Sym}
 use Rattle.sym_shape.specs.declared.rule.Sym.TheVariants.{Kind as OfKind}
 use Rattle.sym_shape.specs.Table.{symbols_of}
-use Rattle.sym_shape.specs.Tree.{Tree, Forest, branch, nothing, grown}
+use Rattle.sym_shape.specs.Tree.{Tree, Forest, branch, empty, fixed, nothing, grown}
 use Rattle.cpp_grammar.specs.declared.production.Production.{Production}
 use Rattle.cpp_grammar.specs.KindNumbers.{SYMBOL, COMPONENT}
 use Rattle.cpp_grammar.specs.Grammar.{number_of}
@@ -39,15 +39,43 @@ operator_component taken (grown (branch rule first (grown second nothing)) (grow
     letters_component rule taken first second arguments
 operator_component taken parts = branch (rule_of Production.OtherOperatorName) taken parts
 
+-- a guard variable, behind the G
+unfoldable pub variable_with_g : (taken : List ℕ) → Forest → Tree
+variable_with_g taken (grown (fixed letter) (grown name nothing)) =
+    branch (rule_of Production.OtherSpecial) []
+    (grown (branch (rule_of Production.SpecialWithG) taken (grown (branch (rule_of Production.SpecialName) (letter ∷ []) (grown name nothing)) nothing)) nothing)
+variable_with_g taken parts = branch (rule_of Production.Guard) taken parts
+
+-- a name of std as a type, behind the t: it has no tags
+unfoldable pub type_without_tags : (taken : List ℕ) → Forest → Tree
+type_without_tags taken (grown piece nothing) =
+    branch (rule_of Production.TypeInStd) [] (grown (branch (rule_of Production.TaggedStdType) taken (grown piece (grown empty nothing))) nothing)
+type_without_tags taken parts = branch (rule_of Production.StdType) taken parts
+
+-- what becomes of a tree of a kind
+pub data Change : Type 0 where
+  with_rest : Change
+  within_name : Change
+  with_g : Change
+  with_t : Change
+  unchanged : Change
+
+unfoldable pub change_of : (kind rule : ℕ) → Change
+change_of kind rule =
+    cond (nat_eq rule (number_of Production.NestAbbreviated)) with_rest
+    (cond (nat_eq rule (number_of Production.OperatorName) && nat_eq kind COMPONENT) within_name
+    (cond (nat_eq rule (number_of Production.Guard)) with_g (cond (nat_eq rule (number_of Production.StdType)) with_t unchanged)))
+
+unfoldable pub changed : Change → Rule → (taken : List ℕ) → Forest → Tree
+changed with_rest rule taken parts = branch (rule_of Production.NestTemplate) taken (with_rest_or_end parts)
+changed within_name rule taken parts = operator_component taken parts
+changed with_g rule taken parts = variable_with_g taken parts
+changed with_t rule taken parts = type_without_tags taken parts
+changed unchanged rule taken parts = branch rule taken parts
+
 -- a tree of a kind whose parts are widened
-unfoldable pub widened_branch : (kind : ℕ) → Rule → (taken : List ℕ) → Forest → Tree
-widened_branch kind rule taken parts = elim (nat_eq rule.number (number_of Production.NestAbbreviated)) [
-  | true ↦ branch (rule_of Production.NestTemplate) taken (with_rest_or_end parts)
-  | false ↦ elim (nat_eq rule.number (number_of Production.OperatorName) && nat_eq kind COMPONENT) [
-    | true ↦ operator_component taken parts
-    | false ↦ branch rule taken parts
-  ]
-]
+abbrev pub widened_branch : (kind : ℕ) → Rule → (taken : List ℕ) → Forest → Tree
+widened_branch kind rule taken parts = changed (change_of kind rule.number) rule taken parts
 
 -- as the part that a symbol of a rule stands for
 unfoldable mutual

@@ -83,6 +83,11 @@ pub enum Kind {
     ArgumentsFirst,
     PlainEntity,
     PlainTypeEntity,
+    OtherSpecial,
+    SpecialAfterG,
+    CloneLetter,
+    TypeInStd,
+    MaybeTags,
 }
 
 /// The kind with a number.
@@ -168,6 +173,11 @@ pub fn kind_of(number: u16) -> Option<Kind>
         74 => Some(Kind::ArgumentsFirst),
         75 => Some(Kind::PlainEntity),
         76 => Some(Kind::PlainTypeEntity),
+        77 => Some(Kind::OtherSpecial),
+        78 => Some(Kind::SpecialAfterG),
+        79 => Some(Kind::CloneLetter),
+        80 => Some(Kind::TypeInStd),
+        81 => Some(Kind::MaybeTags),
         _ => None,
     }
 }
@@ -193,6 +203,7 @@ pub fn may_be_empty(kind: Kind) -> bool
         Kind::MaybeZero => true,
         Kind::ArgumentsAlone => true,
         Kind::ArgumentsFirst => true,
+        Kind::MaybeTags => true,
         _ => false,
     }
 }

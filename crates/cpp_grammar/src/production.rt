@@ -118,6 +118,11 @@ pub enum Production {
     NestInstance,
     Conversion,
     OperatorNameWithC,
+    SpecialWithG,
+    Clone,
+    TaggedStdType,
+    TypeTag,
+    OtherSpecial,
     SpecialName,
     ConstructionVtable,
     NestTemplate,
@@ -128,5 +133,6 @@ pub enum Production {
     DefaultEntity,
     DefaultTypeEntity,
     SizedFloat,
+    TypeInStd,
     Tag,
 }

@@ -8,14 +8,14 @@ use crate::table::{FIRST_LETTER, HEADS, SYMBOLS};
 use sym_shape::{Rule, letter_in, place_of, symbols_from};
 
 // For each kind a row: for each byte from `$` to `z` the letter of the production that the kind takes there.
-static WIDE_LETTERS: [[u8; 87]; 77] = [
+static WIDE_LETTERS: [[u8; 87]; 82] = [
     // $%&'()*+,-./0123456789:;<=>?@ABCDEFGHIJKLMNOPQRSTUVWXYZ[\]^_`abcdefghijklmnopqrstuvwxyz
     *b"                                                           *                           ", // Symbol
     *b"          +                                                                            ", // MaybeSuffix
     *b",         , ,,,,,,,,,,       ,,,,,,,,,,,,,,,,,,,,,,,,,,    , ,,,,,,,,,,,,,,,,,,,,,,,,,,", // SuffixFirst
     *b",         , ,,,,,,,,,,       ,,,,,,,,,,,,,,,,,,,,,,,,,,    , ,,,,,,,,,,,,,,,,,,,,,,,,,,", // SuffixMore
-    *b"            //////////             .    / /    /-/    /      / /// / /  ///// //       ", // Encoding
-    *b"                               \x95    \x940         00 0\x94           3    1             2    ", // Special
+    *b"            //////////             \x98    / /    /-/    /      / /// / /  ///// //       ", // Encoding
+    *b"                               \x9a    \x990         00 0\x99           3    1             2    ", // Special
     *b"                                                                    4             5    ", // CallOffset
     *b"            7777777777                                                    6            ", // Integer
     *b"            $$$$$$$$$$                  \" )    8 #    9      % %%% % %  %%%%% %%       ", // CompleteName
@@ -26,15 +26,15 @@ static WIDE_LETTERS: [[u8; 87]; 77] = [
     *b"            ;;;;;;;;;;       ;;;;;;;;;;;;;;;;;;;;;;;;;;    ; ;; ;    ;     ;   ;:      ", // NameAfterS
     *b"            ((((((((((                  &        '           < <<< < <  <<<<< <<       ", // Unqualified
     *b"            AAAAAAAAAA                  ?      =>@                                     ", // Nest
-    *b"            \x96\x96\x96\x96\x96\x96\x96\x96\x96\x96       \x96\x96\x96\x96\x96\x96\x96\x96\x96\x96\x96\x96\x96\x96\x96\x96\x96\x96\x96\x96\x96\x96\x96\x96\x96\x96    \x96 \x96\x96 \x96    \x96     \x96   \x96B      ", // NestAfterS
-    *b"            EEEEEEEEEE        \x97EE    D  EE       E           E EEE E E  EEEEE EE       ", // NestRest
+    *b"            \x9b\x9b\x9b\x9b\x9b\x9b\x9b\x9b\x9b\x9b       \x9b\x9b\x9b\x9b\x9b\x9b\x9b\x9b\x9b\x9b\x9b\x9b\x9b\x9b\x9b\x9b\x9b\x9b\x9b\x9b\x9b\x9b\x9b\x9b\x9b\x9b    \x9b \x9b\x9b \x9b    \x9b     \x9b   \x9bB      ", // NestAfterS
+    *b"            EEEEEEEEEE        \x9cEE    D  EE       E           E EEE E E  EEEEE EE       ", // NestRest
     *b"            EEEEEEEEEE         EEF      EE       E           E EEE E E  EEEEE EE       ", // NestTail
-    *b"            $$$$$$$$$$         GH       \"\x9a       #           \x99 \x98\x99\x99 \x99 \x99  \x99\x99\x99\x99\x99 \x99\x99       ", // Component
+    *b"            $$$$$$$$$$         GH       \"\x9f       #           \x9e \x9d\x9e\x9e \x9e \x9e  \x9e\x9e\x9e\x9e\x9e \x9e\x9e       ", // Component
     *b"             !!!!!                                                                     ", // ConstructorDigit
     *b"            !!! !!                                                                     ", // DestructorDigit
     *b"            JJJJJJJJJJ       JJJJJJJJJJJJJJJJJJJJJJJJJJ    J II I    I     I   I       ", // Abbreviation
-    *b"            $$$$$$$$$$                  \" )      #              \x9b              L       ", // Entity
-    *b"            $$$$$$$$$$                  \" K      #              \x9c                      ", // TypeEntity
+    *b"            $$$$$$$$$$                  \" )      #              \xa0              L       ", // Entity
+    *b"            $$$$$$$$$$                  \" K      #              \xa1                      ", // TypeEntity
     *b"                                                           M                           ", // MaybeDiscriminator
     *b"            NNNNNNNNNN                                     O                           ", // DiscriminatorRest
     *b"                                                                        P       Q      ", // Anonymous
@@ -43,16 +43,16 @@ static WIDE_LETTERS: [[u8; 87]; 77] = [
     *b"            VVVVVVVVVV       V VZ V    T VVUV UVVVS   V      VVVVVVVVVV VVVV  RVVVVVVVV", // Item
     *b"            VVVVVVVVVV       V VZ V    T VV V  VVVS   V      VVVVVVVVVV VVVV  RVVVVVVVV", // ItemButRef
     *b"                                  \\                          \\ \\\\\\\\ \\\\    \\\\[  \\ \\\\    ", // ItemAfterD
-    *b"                                  \x9d                          ] ]]]] ]]    ]_   ] ]^    ", // AfterD
+    *b"                                  \xa2                          ] ]]]] ]]    ]_   ] ]^    ", // AfterD
     *b"            $$$$$$$$$$       g i  h      aK `  cb#    d      eeeeeeeeee eeee   eefeeeee", // Solid
     *b"                                                     !                                 ", // MaybeCLinkage
-    *b"            kkkkkkkkkk       kkkkkkkkkkkkkkkkkkkkkkkkkk    k kk k    k     k   kj      ", // TypeAfterS
+    *b"            kkkkkkkkkk       kkkkkkkkkkkkkkkkkkkkkkkkkk    k kk k    k     k   k\xa3      ", // TypeAfterS
     *b"            ((((((((((                  &        '                                     ", // SourceOrLocal
     *b"            oooooooooo       o oolo    o oono moooo   o      oooooooooo oooo  ooooooooo", // FunctionRest
     *b"            qqqqqqqqqq       q qqpq    q qqqq qqqqq   q      qqqqqqqqqq qqqq  qqqqqqqqq", // AfterR
     *b"            rrrrrrrrrr       r rrpr    r rrrr rrrrr   r      rrrrrrrrrr rrrr  rrrrrrrrr", // AfterO
     *b"            ssssssssss       s ss s    s ssss sssss   s      ssssssssss ssss  sssssssss", // Items
-    *b"                              \x9e      t                                                 ", // MaybeArguments
+    *b"                              \xa4      t                                                 ", // MaybeArguments
     *b"                                     t                                                 ", // Arguments
     *b"            xxxxxxxxxx       x xx x   uxvxxxx xxxxx w x      xxxxxxxxxx xxxx  xxxxxxxxx", // ArgumentList
     *b"            {{{{{{{{{{       { {{ {    {y{{{{ {{{{{ z {      {{{{{{{{{{ {{{{  {{{{{{{{{", // PackList
@@ -80,20 +80,25 @@ static WIDE_LETTERS: [[u8; 87]; 77] = [
     *b"                                     t                                                 ", // ArgumentsAlone
     *b"            EEEEEEEEEE         EE    D  EE       E           E EEE E E  EEEEE EE       ", // NestRestAlone
     *b"                                         !                                             ", // HolderMark
-    *b"            $$$$$$$$$$         GH       \"        #           \x99 \x98\x99\x99 \x99 \x99  \x99\x99\x99\x99\x99 \x99\x99       ", // HeldComponent
+    *b"            $$$$$$$$$$         GH       \"        #           \x9e \x9d\x9e\x9e \x9e \x9e  \x9e\x9e\x9e\x9e\x9e \x9e\x9e       ", // HeldComponent
     *b"                                                           !  !                     !  ", // FloatEnd
     *b"                                                                        \x93\x93 \x93      \x92    ", // ComponentAfterC
     *b"                                                             \x85  \x84\x8b \x8f \x8e  \x8c\x88\x83\x8a\x86 \x89\x8d       ", // OtherOperator
     *b"            xxxxxxxxxx       x xx x  uuxvxxxx xxxxx w x      xxxxxxxxxx xxxx  xxxxxxxxx", // ArgumentsFirst
     *b"            $$$$$$$$$$                  \" )      #                                     ", // PlainEntity
     *b"            $$$$$$$$$$                  \" K      #                                     ", // PlainTypeEntity
+    *b"                                   \x94                                                   ", // OtherSpecial
+    *b"                                                \x95 \x99                                    ", // SpecialAfterG
+    *b"                                                                          !     !      ", // CloneLetter
+    *b"                                                                                \x96      ", // TypeInStd
+    *b"                              \x97                                                        ", // MaybeTags
 ];
 
 /// The number of the rule that a kind takes at a byte, if it takes one.
 #[inline]
 fn number(kind: u16, byte: u8) -> Option<usize>
     requires { kind < wide.kinds }
-    ensures few { IfSome result (λ number. number < 126) }
+    ensures few { IfSome result (λ number. number < 132) }
     ensures rule { (head : Head) → MatchOption result (wide.rule kind byte ≡ None) (λ number. wide.rule kind byte ≡ Some (listed_rule head number)) }
 {
     match letter_in(&WIDE_LETTERS[kind as usize], byte) {

@@ -47,7 +47,9 @@ plain_texts =
     codes "_Float" ∷
     codes "x" ∷
     codes "std::bfloat16_t" ∷
-    codes "[abi:" ∷ []
+    codes "[abi:" ∷
+    codes "transaction clone for " ∷
+    codes "non-transaction clone for " ∷ []
 
 -- what stands behind a function's parameters
 abbrev pub suffix_texts : List (List ℕ)

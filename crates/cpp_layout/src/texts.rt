@@ -92,83 +92,87 @@ pub const BRAIN_FLOAT: u16 = 42;
 
 pub const TAG: u16 = 43;
 
+pub const CLONE: u16 = 44;
+
+pub const OTHER_CLONE: u16 = 45;
+
 /// Where the texts behind a function's parameters begin.
-pub const SUFFIX: u16 = 44;
+pub const SUFFIX: u16 = 46;
 
 /// No text.
-pub const NONE: u16 = 44;
+pub const NONE: u16 = 46;
 
 /// Where the builtin types begin.
-pub const BUILTIN: u16 = 92;
+pub const BUILTIN: u16 = 94;
 
 /// Where the names of operators begin.
-pub const OPERATOR: u16 = 123;
+pub const OPERATOR: u16 = 125;
 
 /// How many operators there are.
 pub const OPERATORS: u16 = 48;
 
 /// Where the abbreviations begin, and their names without `std::`.
-pub const ABBREVIATION: u16 = 171;
+pub const ABBREVIATION: u16 = 173;
 
-pub const LAST_OF_ABBREVIATION: u16 = 177;
+pub const LAST_OF_ABBREVIATION: u16 = 179;
 
 /// Where the special names begin.
-pub const SPECIAL: u16 = 183;
+pub const SPECIAL: u16 = 185;
 
 /// Where the special names of names begin.
-pub const NAMED_SPECIAL: u16 = 187;
+pub const NAMED_SPECIAL: u16 = 189;
 
 /// Where the endings of integer literals begin.
-pub const ENDING: u16 = 190;
+pub const ENDING: u16 = 192;
 
 /// Where the qualifiers begin whose blank stands behind them, but for those of no qualifier.
-pub const BLANKED: u16 = 194;
+pub const BLANKED: u16 = 196;
 
 /// The name of an operator that has no code.
-pub const OPERATOR_ALONE: u16 = 202;
+pub const OPERATOR_ALONE: u16 = 204;
 
 /// How many texts there are.
-pub const COUNT: u16 = 203;
+pub const COUNT: u16 = 205;
 
 /// A text behind the operators: an abbreviation, a special name, an ending, a qualifier.
 #[tactic(auto, unfolding(crate::specs::Texts::fixed_text, cpp_grammar::specs::Texts::builtin_texts, cpp_grammar::specs::Texts::operator_texts, cpp_grammar::specs::Texts::abbreviation_texts, cpp_grammar::specs::Texts::special_texts, cpp_grammar::specs::Texts::named_special_texts, cpp_grammar::specs::Texts::literal_endings))]
 #[inline(always)]
 fn remaining_text(number: u16) -> &'static [u8]
-    requires { 171 ≤ number }
+    requires { 173 ≤ number }
     ensures { result.now ≡ fixed_text number }
 {
     match number {
-        171 => b"std::allocator",
-        172 => b"std::basic_string",
-        173 => b"std::string",
-        174 => b"std::istream",
-        175 => b"std::ostream",
-        176 => b"std::iostream",
-        177 => b"allocator",
-        178 => b"basic_string",
-        179 => b"string",
-        180 => b"istream",
-        181 => b"ostream",
-        182 => b"iostream",
-        183 => b"vtable for ",
-        184 => b"VTT for ",
-        185 => b"typeinfo for ",
-        186 => b"typeinfo name for ",
-        187 => b"guard variable for ",
-        188 => b"thread-local initialization routine for ",
-        189 => b"thread-local wrapper routine for ",
-        190 => b"u",
-        191 => b"l",
-        192 => b"ul",
-        193 => b"ll",
-        194 => b"ull",
-        195 => b"restrict ",
-        196 => b"volatile ",
-        197 => b"volatile restrict ",
-        198 => b"const ",
-        199 => b"const restrict ",
-        200 => b"const volatile ",
-        201 => b"const volatile restrict ",
+        173 => b"std::allocator",
+        174 => b"std::basic_string",
+        175 => b"std::string",
+        176 => b"std::istream",
+        177 => b"std::ostream",
+        178 => b"std::iostream",
+        179 => b"allocator",
+        180 => b"basic_string",
+        181 => b"string",
+        182 => b"istream",
+        183 => b"ostream",
+        184 => b"iostream",
+        185 => b"vtable for ",
+        186 => b"VTT for ",
+        187 => b"typeinfo for ",
+        188 => b"typeinfo name for ",
+        189 => b"guard variable for ",
+        190 => b"thread-local initialization routine for ",
+        191 => b"thread-local wrapper routine for ",
+        192 => b"u",
+        193 => b"l",
+        194 => b"ul",
+        195 => b"ll",
+        196 => b"ull",
+        197 => b"restrict ",
+        198 => b"volatile ",
+        199 => b"volatile restrict ",
+        200 => b"const ",
+        201 => b"const restrict ",
+        202 => b"const volatile ",
+        203 => b"const volatile restrict ",
         OPERATOR_ALONE => b"operator",
         _ => b"",
     }
@@ -178,58 +182,58 @@ fn remaining_text(number: u16) -> &'static [u8]
 #[tactic(auto, unfolding(crate::specs::Texts::fixed_text, cpp_grammar::specs::Texts::builtin_texts, cpp_grammar::specs::Texts::operator_texts))]
 #[inline(always)]
 fn operator_text(number: u16) -> &'static [u8]
-    requires { 123 ≤ number }
+    requires { 125 ≤ number }
     ensures { result.now ≡ fixed_text number }
 {
     match number {
-        123 => b"operator new",
-        124 => b"operator new[]",
-        125 => b"operator delete",
-        126 => b"operator delete[]",
-        127 => b"operator co_await",
-        128 => b"operator+",
-        129 => b"operator-",
-        130 => b"operator&",
-        131 => b"operator*",
-        132 => b"operator~",
-        133 => b"operator+",
-        134 => b"operator-",
-        135 => b"operator*",
-        136 => b"operator/",
-        137 => b"operator%",
-        138 => b"operator&",
-        139 => b"operator^",
-        140 => b"operator=",
-        141 => b"operator+=",
-        142 => b"operator-=",
-        143 => b"operator*=",
-        144 => b"operator/=",
-        145 => b"operator%=",
-        146 => b"operator&=",
-        147 => b"operator|=",
-        148 => b"operator^=",
-        149 => b"operator<<",
-        150 => b"operator>>",
-        151 => b"operator<<=",
-        152 => b"operator>>=",
-        153 => b"operator==",
-        154 => b"operator!=",
-        155 => b"operator<",
-        156 => b"operator>",
-        157 => b"operator<=",
-        158 => b"operator>=",
-        159 => b"operator<=>",
-        160 => b"operator!",
-        161 => b"operator&&",
-        162 => b"operator||",
-        163 => b"operator++",
-        164 => b"operator--",
-        165 => b"operator,",
-        166 => b"operator->*",
-        167 => b"operator->",
-        168 => b"operator()",
-        169 => b"operator[]",
-        170 => b"operator|",
+        125 => b"operator new",
+        126 => b"operator new[]",
+        127 => b"operator delete",
+        128 => b"operator delete[]",
+        129 => b"operator co_await",
+        130 => b"operator+",
+        131 => b"operator-",
+        132 => b"operator&",
+        133 => b"operator*",
+        134 => b"operator~",
+        135 => b"operator+",
+        136 => b"operator-",
+        137 => b"operator*",
+        138 => b"operator/",
+        139 => b"operator%",
+        140 => b"operator&",
+        141 => b"operator^",
+        142 => b"operator=",
+        143 => b"operator+=",
+        144 => b"operator-=",
+        145 => b"operator*=",
+        146 => b"operator/=",
+        147 => b"operator%=",
+        148 => b"operator&=",
+        149 => b"operator|=",
+        150 => b"operator^=",
+        151 => b"operator<<",
+        152 => b"operator>>",
+        153 => b"operator<<=",
+        154 => b"operator>>=",
+        155 => b"operator==",
+        156 => b"operator!=",
+        157 => b"operator<",
+        158 => b"operator>",
+        159 => b"operator<=",
+        160 => b"operator>=",
+        161 => b"operator<=>",
+        162 => b"operator!",
+        163 => b"operator&&",
+        164 => b"operator||",
+        165 => b"operator++",
+        166 => b"operator--",
+        167 => b"operator,",
+        168 => b"operator->*",
+        169 => b"operator->",
+        170 => b"operator()",
+        171 => b"operator[]",
+        172 => b"operator|",
         _ => remaining_text(number),
     }
 }
@@ -238,41 +242,41 @@ fn operator_text(number: u16) -> &'static [u8]
 #[tactic(auto, unfolding(crate::specs::Texts::fixed_text, cpp_grammar::specs::Texts::builtin_texts))]
 #[inline(always)]
 fn builtin_text(number: u16) -> &'static [u8]
-    requires { 92 ≤ number }
+    requires { 94 ≤ number }
     ensures { result.now ≡ fixed_text number }
 {
     match number {
-        92 => b"void",
-        93 => b"wchar_t",
-        94 => b"bool",
-        95 => b"char",
-        96 => b"signed char",
-        97 => b"unsigned char",
-        98 => b"short",
-        99 => b"unsigned short",
-        100 => b"int",
-        101 => b"unsigned int",
-        102 => b"long",
-        103 => b"unsigned long",
-        104 => b"long long",
-        105 => b"unsigned long long",
-        106 => b"__int128",
-        107 => b"unsigned __int128",
-        108 => b"float",
-        109 => b"double",
-        110 => b"long double",
-        111 => b"__float128",
-        112 => b"...",
-        113 => b"char32_t",
-        114 => b"char16_t",
-        115 => b"char8_t",
-        116 => b"auto",
-        117 => b"decltype(auto)",
-        118 => b"std::nullptr_t",
-        119 => b"decimal64",
-        120 => b"decimal128",
-        121 => b"decimal32",
-        122 => b"half",
+        94 => b"void",
+        95 => b"wchar_t",
+        96 => b"bool",
+        97 => b"char",
+        98 => b"signed char",
+        99 => b"unsigned char",
+        100 => b"short",
+        101 => b"unsigned short",
+        102 => b"int",
+        103 => b"unsigned int",
+        104 => b"long",
+        105 => b"unsigned long",
+        106 => b"long long",
+        107 => b"unsigned long long",
+        108 => b"__int128",
+        109 => b"unsigned __int128",
+        110 => b"float",
+        111 => b"double",
+        112 => b"long double",
+        113 => b"__float128",
+        114 => b"...",
+        115 => b"char32_t",
+        116 => b"char16_t",
+        117 => b"char8_t",
+        118 => b"auto",
+        119 => b"decltype(auto)",
+        120 => b"std::nullptr_t",
+        121 => b"decimal64",
+        122 => b"decimal128",
+        123 => b"decimal32",
+        124 => b"half",
         _ => operator_text(number),
     }
 }
@@ -281,58 +285,58 @@ fn builtin_text(number: u16) -> &'static [u8]
 #[tactic(auto, unfolding(crate::specs::Texts::fixed_text))]
 #[inline(always)]
 fn suffix_text(number: u16) -> &'static [u8]
-    requires { 44 ≤ number }
+    requires { 46 ≤ number }
     ensures { result.now ≡ fixed_text number }
 {
     match number {
         NONE => b"",
-        45 => b" restrict",
-        46 => b" volatile",
-        47 => b" volatile restrict",
-        48 => b" const",
-        49 => b" const restrict",
-        50 => b" const volatile",
-        51 => b" const volatile restrict",
-        52 => b" &",
-        53 => b" restrict &",
-        54 => b" volatile &",
-        55 => b" volatile restrict &",
-        56 => b" const &",
-        57 => b" const restrict &",
-        58 => b" const volatile &",
-        59 => b" const volatile restrict &",
-        60 => b" &&",
-        61 => b" restrict &&",
-        62 => b" volatile &&",
-        63 => b" volatile restrict &&",
-        64 => b" const &&",
-        65 => b" const restrict &&",
-        66 => b" const volatile &&",
-        67 => b" const volatile restrict &&",
-        68 => b" noexcept",
-        69 => b" restrict noexcept",
-        70 => b" volatile noexcept",
-        71 => b" volatile restrict noexcept",
-        72 => b" const noexcept",
-        73 => b" const restrict noexcept",
-        74 => b" const volatile noexcept",
-        75 => b" const volatile restrict noexcept",
-        76 => b" & noexcept",
-        77 => b" restrict & noexcept",
-        78 => b" volatile & noexcept",
-        79 => b" volatile restrict & noexcept",
-        80 => b" const & noexcept",
-        81 => b" const restrict & noexcept",
-        82 => b" const volatile & noexcept",
-        83 => b" const volatile restrict & noexcept",
-        84 => b" && noexcept",
-        85 => b" restrict && noexcept",
-        86 => b" volatile && noexcept",
-        87 => b" volatile restrict && noexcept",
-        88 => b" const && noexcept",
-        89 => b" const restrict && noexcept",
-        90 => b" const volatile && noexcept",
-        91 => b" const volatile restrict && noexcept",
+        47 => b" restrict",
+        48 => b" volatile",
+        49 => b" volatile restrict",
+        50 => b" const",
+        51 => b" const restrict",
+        52 => b" const volatile",
+        53 => b" const volatile restrict",
+        54 => b" &",
+        55 => b" restrict &",
+        56 => b" volatile &",
+        57 => b" volatile restrict &",
+        58 => b" const &",
+        59 => b" const restrict &",
+        60 => b" const volatile &",
+        61 => b" const volatile restrict &",
+        62 => b" &&",
+        63 => b" restrict &&",
+        64 => b" volatile &&",
+        65 => b" volatile restrict &&",
+        66 => b" const &&",
+        67 => b" const restrict &&",
+        68 => b" const volatile &&",
+        69 => b" const volatile restrict &&",
+        70 => b" noexcept",
+        71 => b" restrict noexcept",
+        72 => b" volatile noexcept",
+        73 => b" volatile restrict noexcept",
+        74 => b" const noexcept",
+        75 => b" const restrict noexcept",
+        76 => b" const volatile noexcept",
+        77 => b" const volatile restrict noexcept",
+        78 => b" & noexcept",
+        79 => b" restrict & noexcept",
+        80 => b" volatile & noexcept",
+        81 => b" volatile restrict & noexcept",
+        82 => b" const & noexcept",
+        83 => b" const restrict & noexcept",
+        84 => b" const volatile & noexcept",
+        85 => b" const volatile restrict & noexcept",
+        86 => b" && noexcept",
+        87 => b" restrict && noexcept",
+        88 => b" volatile && noexcept",
+        89 => b" volatile restrict && noexcept",
+        90 => b" const && noexcept",
+        91 => b" const restrict && noexcept",
+        92 => b" const volatile && noexcept",
+        93 => b" const volatile restrict && noexcept",
         _ => builtin_text(number),
     }
 }
@@ -388,6 +392,8 @@ pub fn fixed_text(number: u16) -> &'static [u8]
         WIDER => b"x",
         BRAIN_FLOAT => b"std::bfloat16_t",
         TAG => b"[abi:",
+        CLONE => b"transaction clone for ",
+        OTHER_CLONE => b"non-transaction clone for ",
         _ => suffix_text(number),
     }
 }

@@ -113,6 +113,8 @@ may_leave Production.Complex = true
 may_leave Production.StdType = true
 may_leave Production.AbbreviatedType = true
 may_leave Production.SizedFloat = true
+may_leave Production.TaggedStdType = true
+may_leave Production.TypeInStd = true
 may_leave _ = false
 
 -- what goes on with the name so far

@@ -14,6 +14,7 @@ quiet_parts Production.Arguments = 0
 quiet_parts Production.Lambda = 0
 quiet_parts Production.Expansion = 0
 quiet_parts Production.Conversion = 0
+quiet_parts Production.OtherSpecial = 0
 quiet_parts Production.LocalName = 1
 quiet_parts Production.LocalType = 1
 quiet_parts Production.InternalName = 1
@@ -42,6 +43,8 @@ quiet_parts Production.NestTag = 1
 quiet_parts Production.Tag = 1
 quiet_parts Production.OtherOperatorName = 1
 quiet_parts Production.OperatorNameWithC = 1
+quiet_parts Production.TaggedStdType = 1
+quiet_parts Production.TypeTag = 1
 quiet_parts _ = 5
 
 -- parts without a row may stand between those with one

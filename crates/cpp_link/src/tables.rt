@@ -3,7 +3,7 @@
 use cpp_grammar::production::Production;
 
 /// The productions.
-pub(crate) const PRODUCTIONS: [Production; 126] = [
+pub(crate) const PRODUCTIONS: [Production; 132] = [
     Production::Mark,
     Production::InternalName,
     Production::LocalTypeName,
@@ -119,6 +119,11 @@ pub(crate) const PRODUCTIONS: [Production; 126] = [
     Production::NestInstance,
     Production::Conversion,
     Production::OperatorNameWithC,
+    Production::SpecialWithG,
+    Production::Clone,
+    Production::TaggedStdType,
+    Production::TypeTag,
+    Production::OtherSpecial,
     Production::SpecialName,
     Production::ConstructionVtable,
     Production::NestTemplate,
@@ -129,11 +134,12 @@ pub(crate) const PRODUCTIONS: [Production; 126] = [
     Production::DefaultEntity,
     Production::DefaultTypeEntity,
     Production::SizedFloat,
+    Production::TypeInStd,
     Production::Tag,
 ];
 
 /// How many parts each has.
-pub(crate) const PART_COUNTS: [u8; 126] = [
+pub(crate) const PART_COUNTS: [u8; 132] = [
     0, // Mark
     2, // InternalName
     2, // LocalTypeName
@@ -249,6 +255,11 @@ pub(crate) const PART_COUNTS: [u8; 126] = [
     3, // NestInstance
     1, // Conversion
     2, // OperatorNameWithC
+    1, // SpecialWithG
+    2, // Clone
+    2, // TaggedStdType
+    2, // TypeTag
+    1, // OtherSpecial
     1, // SpecialName
     4, // ConstructionVtable
     2, // NestTemplate
@@ -259,11 +270,12 @@ pub(crate) const PART_COUNTS: [u8; 126] = [
     2, // DefaultEntity
     2, // DefaultTypeEntity
     2, // SizedFloat
+    1, // TypeInStd
     2, // Tag
 ];
 
 /// Whether parts without a row may stand between those of each.
-pub(crate) const SKIPS_PARTS: [bool; 126] = [
+pub(crate) const SKIPS_PARTS: [bool; 132] = [
     false, // Mark
     false, // InternalName
     false, // LocalTypeName
@@ -379,6 +391,11 @@ pub(crate) const SKIPS_PARTS: [bool; 126] = [
     true, // NestInstance
     false, // Conversion
     false, // OperatorNameWithC
+    false, // SpecialWithG
+    false, // Clone
+    false, // TaggedStdType
+    false, // TypeTag
+    false, // OtherSpecial
     false, // SpecialName
     true, // ConstructionVtable
     false, // NestTemplate
@@ -389,11 +406,12 @@ pub(crate) const SKIPS_PARTS: [bool; 126] = [
     false, // DefaultEntity
     false, // DefaultTypeEntity
     false, // SizedFloat
+    false, // TypeInStd
     false, // Tag
 ];
 
 /// Before how many of its parts nothing is done in each: before none, the first, or all, which are five at most.
-pub(crate) const QUIET_PARTS: [u8; 126] = [
+pub(crate) const QUIET_PARTS: [u8; 132] = [
     5, // Mark
     1, // InternalName
     1, // LocalTypeName
@@ -509,6 +527,11 @@ pub(crate) const QUIET_PARTS: [u8; 126] = [
     0, // NestInstance
     0, // Conversion
     1, // OperatorNameWithC
+    5, // SpecialWithG
+    5, // Clone
+    1, // TaggedStdType
+    1, // TypeTag
+    0, // OtherSpecial
     5, // SpecialName
     5, // ConstructionVtable
     1, // NestTemplate
@@ -519,5 +542,6 @@ pub(crate) const QUIET_PARTS: [u8; 126] = [
     5, // DefaultEntity
     5, // DefaultTypeEntity
     5, // SizedFloat
+    5, // TypeInStd
     1, // Tag
 ];

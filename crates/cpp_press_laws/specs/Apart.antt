@@ -1,6 +1,6 @@
 -- No two components that are compared and equal are both spelled out.
 use Rattle.std.specs.Prelude.{◌≡◌, ℕ, List, [], ◌∷◌, ◌++◌, ◌⊎◌, true, false}
-use Rattle.cpp_grammar.specs.Term.{Term, symbol, function, object, special, thunk, of_name, construction, alone, in_std, within, instance, local, holder, tagged, of_default, lambda, conversion, pointer, lvalue, rvalue, array, member_pointer, function_type, qualified, vector, complex, expansion, integer, encoding_literal, address_of, pack, list}
+use Rattle.cpp_grammar.specs.Term.{Term, symbol, function, object, special, thunk, of_name, construction, clone, alone, in_std, within, instance, local, holder, tagged, of_default, lambda, conversion, pointer, lvalue, rvalue, array, member_pointer, function_type, qualified, vector, complex, expansion, integer, encoding_literal, address_of, pack, list}
 use Rattle.cpp_grammar.specs.Values.{Candidate}
 use Rattle.cpp_press_laws.specs.Texts.{name_letters}
 use Rattle.cpp_press_laws.specs.Components.{is_same}
@@ -32,6 +32,7 @@ IsNeverReferred own (special l type) = IsNeverReferred own type
 IsNeverReferred own (thunk kind e) = IsNeverReferred own e
 IsNeverReferred own (of_name l name q ref) = IsTemplateBehindLetters own name (name_letters q ref) ⊎ IsNeverReferred own name
 IsNeverReferred own (construction derived digits parent) = IsNeverReferred own derived ⊎ IsNeverReferred own parent
+IsNeverReferred own (clone letter e) = IsNeverReferred own e
 IsNeverReferred own (alone p) = IsNeverReferred own p
 IsNeverReferred own (in_std p) = IsNeverReferred own p
 IsNeverReferred own (within prefix p) = IsNeverReferred own prefix ⊎ IsNeverReferred own p

@@ -1,7 +1,7 @@
 -- Whether two trees are the same, in each mark, number and name.
 use Rattle.std.specs.Prelude.{ℕ, List, Bool, true, false, not, ◌&&◌, nat_eq, Option, Some, None}
 use Rattle.cpp_grammar.specs.Texts.{same_bytes}
-use Rattle.cpp_grammar.specs.Term.{Qualifiers, RefQualifier, any_value, lvalue_only, rvalue_only, Signed, Adjustment, non_virtual, by_table, Thunk, adjusting, covariant, Term, symbol, function, object, special, thunk, of_name, construction, alone, in_std, within, instance, local, holder, tagged, of_default, abbreviation, parameter, source, operator, literal_operator, constructor, destructor, lambda, unnamed, string_literal, conversion, builtin, sized_float, vendor, pointer, lvalue, rvalue, array, member_pointer, function_type, qualified, vector, complex, expansion, integer, boolean, null_pointer, encoding_literal, address_of, pack, nil, list, absent}
+use Rattle.cpp_grammar.specs.Term.{Qualifiers, RefQualifier, any_value, lvalue_only, rvalue_only, Signed, Adjustment, non_virtual, by_table, Thunk, adjusting, covariant, Term, symbol, function, object, special, thunk, of_name, construction, clone, alone, in_std, within, instance, local, holder, tagged, of_default, abbreviation, parameter, source, operator, literal_operator, constructor, destructor, lambda, unnamed, string_literal, conversion, builtin, sized_float, vendor, pointer, lvalue, rvalue, array, member_pointer, function_type, qualified, vector, complex, expansion, integer, boolean, null_pointer, encoding_literal, address_of, pack, nil, list, absent}
 
 unfoldable pub same_truth : Bool → Bool → Bool
 same_truth true b = b
@@ -44,6 +44,7 @@ same_tree (special a0 a1) (special b0 b1) = nat_eq a0 b0 && same_tree a1 b1
 same_tree (thunk a0 a1) (thunk b0 b1) = same_thunk a0 b0 && same_tree a1 b1
 same_tree (of_name a0 a1 a2 a3) (of_name b0 b1 b2 b3) = nat_eq a0 b0 && same_tree a1 b1 && same_qualifiers a2 b2 && same_mark a3 b3
 same_tree (construction a0 a1 a2) (construction b0 b1 b2) = same_tree a0 b0 && same_bytes a1 b1 && same_tree a2 b2
+same_tree (clone a0 a1) (clone b0 b1) = nat_eq a0 b0 && same_tree a1 b1
 same_tree (alone a0) (alone b0) = same_tree a0 b0
 same_tree (in_std a0) (in_std b0) = same_tree a0 b0
 same_tree (within a0 a1) (within b0 b1) = same_tree a0 b0 && same_tree a1 b1

@@ -8,7 +8,7 @@ use Rattle.sym_link.specs.Driving.{Fails}
 use Rattle.sym_link.specs.Reading.{Found, ◌>>=◌}
 use Rattle.sym_link.specs.Unfold.{unfold_tree}
 use Rattle.cpp_grammar.specs.Table.{either}
-use Rattle.cpp_grammar.specs.Term.{Term, symbol, function, object, special, thunk, of_name, construction, alone, in_std, within, instance, local, holder, tagged, of_default, lambda, conversion, pointer, lvalue, rvalue, array, member_pointer, function_type, qualified, vector, complex, expansion, integer, encoding_literal, address_of, pack, list}
+use Rattle.cpp_grammar.specs.Term.{Term, symbol, function, object, special, thunk, of_name, construction, clone, alone, in_std, within, instance, local, holder, tagged, of_default, lambda, conversion, pointer, lvalue, rvalue, array, member_pointer, function_type, qualified, vector, complex, expansion, integer, encoding_literal, address_of, pack, list}
 use Rattle.cpp_grammar.specs.Unfolding.{unfold_cpp}
 use Rattle.cpp_term.specs.Term as term_
 use Rattle.cpp_term.specs.Scope as scope_
@@ -32,6 +32,7 @@ erased s (special letter t) = ap (λ a. special letter a) (erased None t)
 erased s (thunk kind e) = ap (λ a. thunk kind a) (erased None e)
 erased s (of_name letter name q ref) = ap (λ a. of_name letter a q ref) (erased None name)
 erased s (construction derived digits parent) = both (λ a b. construction a digits b) (erased None derived) (erased None parent)
+erased s (clone letter e) = ap (λ a. clone letter a) (erased None e)
 erased s (alone p) = ap (λ a. alone a) (erased s p)
 erased s (in_std p) = ap (λ a. in_std a) (erased s p)
 erased s (within prefix p) = both (λ a b. within a b) (erased s prefix) (erased s p)

@@ -2,7 +2,7 @@
 use Rattle.std.specs.Prelude.{ℕ, List, [], ◌∷◌, Option, Some, None, Result, Ok, Err}
 use Rattle.sym_core.specs.declared.refusal.Refusal.{Refusal}
 use Rattle.sym_print.specs.Unfold.{PartOf, text, sub}
-use Rattle.cpp_grammar.specs.Term.{Term, symbol, function, object, special, thunk, of_name, construction, alone, in_std, within, instance, local, holder, tagged, of_default, abbreviation, parameter, source, operator, literal_operator, constructor, destructor, lambda, unnamed, string_literal, conversion, builtin, sized_float, vendor, pointer, lvalue, rvalue, array, member_pointer, function_type, qualified, vector, complex, expansion, integer, boolean, null_pointer, encoding_literal, address_of, pack, nil, list, absent}
+use Rattle.cpp_grammar.specs.Term.{Term, symbol, function, object, special, thunk, of_name, construction, clone, alone, in_std, within, instance, local, holder, tagged, of_default, abbreviation, parameter, source, operator, literal_operator, constructor, destructor, lambda, unnamed, string_literal, conversion, builtin, sized_float, vendor, pointer, lvalue, rvalue, array, member_pointer, function_type, qualified, vector, complex, expansion, integer, boolean, null_pointer, encoding_literal, address_of, pack, nil, list, absent}
 use Rattle.cpp_grammar.specs.Values.{Prefix, Around, Value, Candidate}
 use Rattle.cpp_grammar.specs.Values as leaf_
 use Rattle.cpp_grammar.specs.Items.{Context, Item}
@@ -25,6 +25,7 @@ annotate s (special letter t) = term_.special letter (annotate None t)
 annotate s (thunk kind e) = term_.thunk kind (annotate None e)
 annotate s (of_name letter name q ref) = term_.of_name letter (annotate None name) q ref
 annotate s (construction derived digits parent) = term_.construction (annotate None derived) digits (annotate None parent)
+annotate s (clone letter e) = term_.clone letter (annotate None e)
 annotate s (alone p) = term_.alone (annotate s p)
 annotate s (in_std p) = term_.in_std (annotate s p)
 annotate s (within prefix p) = term_.within (annotate s prefix) (annotate s p)

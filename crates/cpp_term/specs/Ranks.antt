@@ -1,7 +1,7 @@
 -- A rank of items that falls from each item to its parts, so that printing ends.
 use Rattle.std.specs.Prelude.{ℕ, ◌+◌, ◌-◌}
 use Rattle.cpp_grammar.specs.Ranks.{or_none}
-use Rattle.cpp_term.specs.Term.{Term, symbol, function, object, special, thunk, of_name, construction, alone, in_std, within, instance, local, holder, tagged, of_default, parameter, lambda, conversion, pointer, lvalue, rvalue, array, member_pointer, function_type, qualified, vector, complex, expansion, integer, encoding_literal, address_of, pack, list}
+use Rattle.cpp_term.specs.Term.{Term, symbol, function, object, special, thunk, of_name, construction, clone, alone, in_std, within, instance, local, holder, tagged, of_default, parameter, lambda, conversion, pointer, lvalue, rvalue, array, member_pointer, function_type, qualified, vector, complex, expansion, integer, encoding_literal, address_of, pack, list}
 use Rattle.cpp_term.specs.Scope.{pack_length}
 use Rattle.cpp_grammar.specs.Items.{Form, expand}
 use Rattle.cpp_term.specs.Items.{Context, Item}
@@ -20,6 +20,7 @@ weight (special letter t) = 1 + weight t
 weight (thunk kind e) = 1 + weight e
 weight (of_name letter name q ref) = 1 + weight name
 weight (construction derived digits parent) = 1 + weight derived + weight parent
+weight (clone letter e) = 1 + weight e
 weight (alone p) = 1 + weight p
 weight (in_std p) = 1 + weight p
 weight (within prefix p) = 1 + weight prefix + weight p

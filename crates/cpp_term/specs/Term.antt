@@ -13,6 +13,8 @@ pub data Term : Type 0 where
   of_name : (letter : ℕ) → (name : Term) → Qualifiers → RefQualifier → Term
   -- the virtual table of a base class at an offset, while an object of a class derived from it is constructed
   construction : (derived : Term) → (digits : List ℕ) → (parent : Term) → Term
+  -- a function as it is within a transaction, or as it is without one, by the letter of its code
+  clone : (letter : ℕ) → (encoding : Term) → Term
   -- names, which are types too; a prefix is a name, a parameter or the encoding around a local entity
   alone : (piece : Term) → Term
   in_std : (piece : Term) → Term

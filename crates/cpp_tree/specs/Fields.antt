@@ -1,6 +1,6 @@
 -- What a tree has beside its production: numbers, texts and the trees of its parts. The productions are constants of the code.
 use Rattle.std.specs.Prelude.{ℕ, ◌+◌, ◌*◌, List, [], ◌∷◌, ◌-◌, ◌++◌, Bool, true, false, ◌==◌, ◌||◌, nat_lt, if◌then◌else◌, cond, get_or, Option, Some, None}
-use Rattle.cpp_grammar.specs.Term.{Qualifiers, RefQualifier, any_value, lvalue_only, rvalue_only, Signed, non_virtual, by_table, Thunk, adjusting, covariant, Term, symbol, function, object, special, thunk, of_name, construction, alone, in_std, within, instance, local, holder, tagged, of_default, abbreviation, parameter, source, operator, literal_operator, constructor, destructor, lambda, unnamed, string_literal, conversion, builtin, sized_float, vendor, pointer, lvalue, rvalue, array, member_pointer, function_type, qualified, vector, complex, expansion, integer, boolean, null_pointer, encoding_literal, address_of, pack, nil, list, absent}
+use Rattle.cpp_grammar.specs.Term.{Qualifiers, RefQualifier, any_value, lvalue_only, rvalue_only, Signed, non_virtual, by_table, Thunk, adjusting, covariant, Term, symbol, function, object, special, thunk, of_name, construction, clone, alone, in_std, within, instance, local, holder, tagged, of_default, abbreviation, parameter, source, operator, literal_operator, constructor, destructor, lambda, unnamed, string_literal, conversion, builtin, sized_float, vendor, pointer, lvalue, rvalue, array, member_pointer, function_type, qualified, vector, complex, expansion, integer, boolean, null_pointer, encoding_literal, address_of, pack, nil, list, absent}
 use Rattle.cpp_tree.specs.declared.view.Names.{Names}
 use Rattle.cpp_tree.specs.declared.view.TheConstants.{ALONE, IN_STD, NESTED}
 use Rattle.cpp_tree.specs.declared.tree_production.TheConstants.{ABSENT, NIL, LIST, SYMBOL, FUNCTION, OBJECT, SPECIAL, GUARD, OF_NAME, CONSTRUCTION, THUNK, TABLE_THUNK, COVARIANT_THUNK, WIDE_THUNK, INSTANCE, LOCAL, NUMBERED_LOCAL, HOLDER, TAGGED, OF_DEFAULT, ABBREVIATION, PARAMETER, BUILTIN, BUILTIN_WITH_D, SIZED_FLOAT, VENDOR, POINTER, LVALUE, RVALUE, ARRAY, MEMBER_POINTER, FUNCTION_TYPE, QUALIFIED, VECTOR, COMPLEX, EXPANSION, INTEGER, BOOLEAN, NULL_POINTER, ENCODING_LITERAL, ADDRESS_OF, PACK, NO_NODE}
@@ -91,6 +91,7 @@ fields_of (special letter type) = fields SPECIAL letter 0 [] (type ∷ [])
 fields_of (of_name letter name q mark) = named_fields letter name q mark
 fields_of (thunk kind encoding) = thunk_fields kind encoding
 fields_of (construction derived digits parent) = fields CONSTRUCTION 0 0 digits (derived ∷ parent ∷ [])
+fields_of (clone letter encoding) = fields CLONE letter 0 [] (encoding ∷ [])
 fields_of (instance template arguments) = fields INSTANCE 0 0 [] (template ∷ arguments ∷ [])
 fields_of (local around entity discriminator) = local_fields around entity discriminator
 fields_of (holder name) = fields HOLDER 0 0 [] (name ∷ [])
@@ -217,6 +218,7 @@ narrow_tree_from given = tree_at given.production (
     ∷ (TABLE_THUNK, thunk (adjusting (by_table (signed_in given 0) (signed_in given 1))) (part_in given 0))
     ∷ (COVARIANT_THUNK, thunk (covariant (non_virtual (signed_in given 0)) (non_virtual (signed_in given 1))) (part_in given 0))
     ∷ (CONSTRUCTION, construction (part_in given 0) (text_in given 0) (part_in given 1))
+    ∷ (CLONE, clone (number_in given 0) (part_in given 0))
     ∷ (INSTANCE, instance (part_in given 0) (part_in given 1))
     ∷ (LOCAL, local (part_in given 0) (part_in given 1) None)
     ∷ (NUMBERED_LOCAL, local (part_in given 0) (part_in given 1) (Some (text_in given 0)))

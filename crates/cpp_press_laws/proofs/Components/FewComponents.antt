@@ -2,7 +2,7 @@
 use Rattle.std.proofs.Common.{◌≡◌, ℕ, ◌+◌, ◌≤◌, ◌⊎◌, inl, inr, length, List, [], ◌∷◌, ◌++◌, Option, None, Bool, true, false, refl, arith, sym, subst, ◌∙◌, length-append}
 use Rattle.std.specs.Prelude.{cond, codes, ◌&&◌}
 use Rattle.sym_spell.specs.Pressing.{◌and◌, text, nothing}
-use Rattle.cpp_grammar.specs.Term.{Thunk, Qualifiers, RefQualifier, Term, symbol, function, object, special, thunk, of_name, construction, alone, in_std, within, instance, local, holder, tagged, of_default, abbreviation, parameter, source, operator, literal_operator, constructor, destructor, lambda, unnamed, string_literal, conversion, builtin, sized_float, vendor, pointer, lvalue, rvalue, array, member_pointer, function_type, qualified, vector, complex, expansion, integer, boolean, null_pointer, encoding_literal, address_of, pack, nil, list, absent}
+use Rattle.cpp_grammar.specs.Term.{Thunk, Qualifiers, RefQualifier, Term, symbol, function, object, special, thunk, of_name, construction, clone, alone, in_std, within, instance, local, holder, tagged, of_default, abbreviation, parameter, source, operator, literal_operator, constructor, destructor, lambda, unnamed, string_literal, conversion, builtin, sized_float, vendor, pointer, lvalue, rvalue, array, member_pointer, function_type, qualified, vector, complex, expansion, integer, boolean, null_pointer, encoding_literal, address_of, pack, nil, list, absent}
 use Rattle.cpp_grammar.specs.Scope.{has_return_type}
 use Rattle.cpp_grammar.specs.Values.{Candidate, outermost, Around}
 use Rattle.cpp_grammar.specs.Between.{in_name, in_types, after, inside}
@@ -679,6 +679,7 @@ counts (special l type) = few-special l type (counts type)
 counts (thunk kind e) = few-thunk kind e (counts e)
 counts (of_name l name q ref) = few-of-name l name q ref (counts name)
 counts (construction derived digits parent) = few-nowhere (construction derived digits parent) _
+counts (clone letter e) = few-clone letter e (counts e)
 counts (alone p) = few-alone p (counts p)
 counts (in_std p) = few-in-std p (counts p)
 counts (within prefix p) = few-within prefix p (counts prefix) (counts p)

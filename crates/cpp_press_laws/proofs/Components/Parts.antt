@@ -2,7 +2,7 @@
 use Rattle.std.proofs.Common.{◌≡◌, ℕ, ◌+◌, ◌⊎◌, inl, inr, List, [], ◌∷◌, ◌++◌, Option, Some, None, Bool, true, false, refl, sym, ◌∙◌}
 use Rattle.std.specs.Prelude.{not, ◌&&◌, ◌||◌, nat_eq}
 use Rattle.std.proofs.lemmas.Bool.{eq-eqb, eqb-true, and_parts, false≢true}
-use Rattle.cpp_grammar.specs.Term.{Term, symbol, function, object, special, thunk, of_name, construction, alone, in_std, within, instance, local, holder, tagged, of_default, parameter, lambda, conversion, vendor, pointer, lvalue, rvalue, array, member_pointer, function_type, qualified, vector, complex, expansion, integer, encoding_literal, address_of, pack, list}
+use Rattle.cpp_grammar.specs.Term.{Term, symbol, function, object, special, thunk, of_name, construction, clone, alone, in_std, within, instance, local, holder, tagged, of_default, parameter, lambda, conversion, vendor, pointer, lvalue, rvalue, array, member_pointer, function_type, qualified, vector, complex, expansion, integer, encoding_literal, address_of, pack, list}
 use Rattle.cpp_grammar.specs.Scope.{is_open}
 use Rattle.cpp_grammar.specs.Values.{Candidate}
 use Rattle.cpp_press_laws.specs.Same.{same_tree}
@@ -66,6 +66,7 @@ Inside (special l type) x = Shut (ItselfOr type (Inside type x) x) x
 Inside (thunk kind e) x = Shut (Inside e x) x
 Inside (of_name l name q ref) x = Shut (Inside name x) x
 Inside (construction derived digits parent) x = Shut (ItselfOr derived (Inside derived x) x ⊎ ItselfOr parent (Inside parent x) x) x
+Inside (clone letter e) x = Shut (Inside e x) x
 Inside (alone p) x = Inside p x
 Inside (in_std p) x = Inside p x
 Inside (within prefix p) x = PrefixOr prefix (Inside prefix x) x ⊎ Inside p x

@@ -4,7 +4,7 @@ use Rattle.std.proofs.Common.{ap, sym}
 use Rattle.std.proofs.lemmas.Bool.{eqb-true, eq-eqb}
 use Rattle.sym_spell.proofs.Tests.{both, all}
 use Rattle.cpp_grammar.specs.Texts.{same_bytes}
-use Rattle.cpp_grammar.specs.Term.{Qualifiers, RefQualifier, any_value, lvalue_only, rvalue_only, Signed, Adjustment, non_virtual, by_table, Thunk, adjusting, covariant, Term, symbol, function, object, special, thunk, of_name, construction, alone, in_std, within, instance, local, holder, tagged, of_default, abbreviation, parameter, source, operator, literal_operator, constructor, destructor, lambda, unnamed, string_literal, conversion, builtin, sized_float, vendor, pointer, lvalue, rvalue, array, member_pointer, function_type, qualified, vector, complex, expansion, integer, boolean, null_pointer, encoding_literal, address_of, pack, nil, list, absent}
+use Rattle.cpp_grammar.specs.Term.{Qualifiers, RefQualifier, any_value, lvalue_only, rvalue_only, Signed, Adjustment, non_virtual, by_table, Thunk, adjusting, covariant, Term, symbol, function, object, special, thunk, of_name, construction, clone, alone, in_std, within, instance, local, holder, tagged, of_default, abbreviation, parameter, source, operator, literal_operator, constructor, destructor, lambda, unnamed, string_literal, conversion, builtin, sized_float, vendor, pointer, lvalue, rvalue, array, member_pointer, function_type, qualified, vector, complex, expansion, integer, boolean, null_pointer, encoding_literal, address_of, pack, nil, list, absent}
 use Rattle.cpp_press_laws.specs.Same.{same_truth, same_qualifiers, same_mark, same_signed, same_adjustment, same_thunk, same_discriminator, same_tree}
 
 never : false ≡ true → ⊥
@@ -154,6 +154,9 @@ equal-tree (construction a0 a1 a2) (construction b0 b1 b2) h =
     let e0 : a0 ≡ b0 = equal-tree a0 b0 p.0 in
     let e1 : a1 ≡ b1 = equal-bytes a1 b1 p.1 in
     let e2 : a2 ≡ b2 = equal-tree a2 b2 p.2 in cc
+equal-tree (clone a0 a1) (clone b0 b1) h =
+    let e0 : a0 ≡ b0 = eqb-true a0 b0 (both h).0 in
+    let e1 : a1 ≡ b1 = equal-tree a1 b1 (both h).1 in cc
 equal-tree (alone a0) (alone b0) h =
     let e0 : a0 ≡ b0 = equal-tree a0 b0 h in cc
 equal-tree (in_std a0) (in_std b0) h =
@@ -268,6 +271,7 @@ tree-itself (special letter t) = all (eq-eqb letter letter refl) (tree-itself t)
 tree-itself (thunk kind e) = all (thunk-itself kind) (tree-itself e)
 tree-itself (of_name letter name q ref) = all (all (all (eq-eqb letter letter refl) (tree-itself name)) (qualifiers-itself q)) (mark-itself ref)
 tree-itself (construction derived digits parent) = all (all (tree-itself derived) (bytes-itself digits)) (tree-itself parent)
+tree-itself (clone letter e) = all (eq-eqb letter letter refl) (tree-itself e)
 tree-itself (alone p) = tree-itself p
 tree-itself (in_std p) = tree-itself p
 tree-itself (within prefix p) = all (tree-itself prefix) (tree-itself p)
