@@ -18,7 +18,7 @@ use Rattle.cpp_press_laws.proofs.ByKind.References.{abbreviation-branch}
 use Rattle.cpp_press_laws.proofs.ByKind.Empty.{empty-read}
 use Rattle.cpp_press_laws.proofs.ByKind.Root.{read-fits}
 use Rattle.cpp_press_laws.proofs.ByKind.PieceKinds.{source-or-local-branch, unqualified-branch, operator-branch, anonymous-branch, integer-branch, call-offset-branch, discriminator-branch, discriminator-rest-branch, restrict-branch, volatile-branch, const-branch, ref-branch, c-linkage-branch, zero-branch, bit-branch, constructor-digit-branch, destructor-digit-branch, operator-after-n-branch, operator-after-d-branch, operator-after-a-branch, operator-after-p-branch, operator-after-c-branch, operator-after-m-branch, operator-after-r-branch, operator-after-o-branch, operator-after-e-branch, operator-after-s-branch, operator-after-i-branch, operator-after-g-branch, operator-after-l-branch}
-use Rattle.cpp_press_laws.proofs.ByKind.Arguments.{argument-list-branch, pack-list-branch, literal-branch, literal-after-d-branch, address-branch}
+use Rattle.cpp_press_laws.proofs.ByKind.Arguments.{argument-list-branch, arguments-first-branch, pack-list-branch, literal-branch, literal-after-d-branch, address-branch}
 use Rattle.cpp_press_laws.proofs.ByKind.Nests.{nest-branch, nest-after-s-branch, nest-rest-branch, nest-rest-alone-branch, nest-tail-branch, component-branch}
 use Rattle.cpp_press_laws.proofs.ByKind.Names.{arguments-branch, maybe-arguments-branch, arguments-alone-branch, type-after-s-branch, name-after-s-branch, with-s-solid, parameter-solid, nested-solid, source-solid, local-type-name-solid, source-own, internal-own, local-type-own, operator-own, with-s-own}
 use Rattle.cpp_press_laws.proofs.ByKind.Encodings.{encoding-branch, special-branch}
@@ -171,6 +171,11 @@ kind-branch Kind.HeldComponent = λ rule taken parts all around at old v new fro
 kind-branch Kind.ComponentAfterC = λ rule taken parts all around at old v new front is e outer. tt
 kind-branch Kind.OtherOperator = λ rule taken parts all around at old v new front is e outer. tt
 kind-branch Kind.FloatEnd = λ rule taken parts all around at old v new front is e outer. tt
+kind-branch Kind.OtherSpecial = λ rule taken parts all around at old v new front is e outer. tt
+kind-branch Kind.SpecialAfterG = λ rule taken parts all around at old v new front is e outer. tt
+kind-branch Kind.CloneLetter = λ rule taken parts all around at old v new front is e outer. tt
+kind-branch Kind.TypeInStd = λ rule taken parts all around at old v new front is e outer. tt
+kind-branch Kind.MaybeTags = λ rule taken parts all around at old v new front is e outer. tt
 kind-branch Kind.PlainEntity = λ rule taken parts all around at old v new front is e outer. tt
 kind-branch Kind.PlainTypeEntity = λ rule taken parts all around at old v new front is e outer. tt
 

@@ -3,7 +3,7 @@ use Rattle.std.proofs.Common.{◌≡◌, ℕ, suc, ◌+◌, ◌<◌, ◌≤◌, 
 use Rattle.std.specs.Prelude.{cond, codes, ◌&&◌, ◌||◌, nat_lt, ◌/◌, ◌%◌}
 use Rattle.sym_spell.specs.Pressing.{◌and◌, text, nothing}
 use Rattle.sym_spell.specs.Digits.{digits_in, decimal_digit}
-use Rattle.cpp_grammar.specs.Term.{Qualifiers, Term, alone, in_std, within, instance, local, tagged, abbreviation, parameter, source, operator, literal_operator, constructor, destructor, lambda, unnamed, string_literal, builtin, vendor, pointer, lvalue, rvalue, array, member_pointer, function_type, qualified, vector, complex, expansion, integer, boolean, null_pointer, encoding_literal, address_of, pack, nil, list}
+use Rattle.cpp_grammar.specs.Term.{Qualifiers, Term, alone, in_std, within, instance, local, of_default, tagged, abbreviation, parameter, source, operator, literal_operator, constructor, destructor, lambda, unnamed, string_literal, builtin, vendor, pointer, lvalue, rvalue, array, member_pointer, function_type, qualified, vector, complex, expansion, integer, boolean, null_pointer, encoding_literal, address_of, pack, nil, list}
 use Rattle.cpp_grammar.specs.Scope.{count, arguments_of}
 use Rattle.cpp_grammar.specs.Values.{Candidate, Around}
 use Rattle.cpp_grammar.specs.Between.{after, inside}
@@ -387,6 +387,7 @@ entity-counts (instance t b) role around allowed place cs h a is =
     sides (inl k) = inl (k.1, k.2)
     sides (inr k) = inr k
 entity-counts (local e entity d) role around allowed place cs h a is = absurd h
+entity-counts (of_default digits entity) role around allowed place cs h a is = absurd h
 entity-counts _ role around allowed place cs h a is = absurd (none-some is)
 
 own-counts : (t a : Term) (ls : List ℕ) (around : Around) (allowed : Option ℕ) (place : ℕ) (cs : List Candidate)
@@ -412,6 +413,7 @@ arguments-counted (instance t b) q ref around allowed place cs h a is =
     subst (λ x. Writes (count x) (with_letters (name_letters q ref) ((ways_of n t).before false (of_elements (ways_of n b).as_elements))
     (instance_between n t b) place cs)) (some-one is)
     (omega (arith, own-counts t b (name_letters q ref) around allowed place cs h))
+arguments-counted (of_default digits entity) q ref around allowed place cs h a is = absurd h
 arguments-counted (local e entity d) q ref around allowed place cs h a is =
     let n : ℕ = around.encoding in
     let spelled : Spelling = (ways_of n e).as_encoding in

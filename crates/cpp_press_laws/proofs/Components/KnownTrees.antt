@@ -3,7 +3,7 @@
 use Rattle.std.proofs.Common.{◌≡◌, ℕ, ◌-◌, ◌<◌, ◌⊎◌, inl, inr, length, List, [], ◌∷◌, ◌++◌, Option, Bool, true, false, refl, arith}
 use Rattle.std.specs.Prelude.{◌&&◌, codes, cond}
 use Rattle.sym_spell.specs.Pressing.{◌and◌, text, nothing}
-use Rattle.cpp_grammar.specs.Term.{Term, symbol, function, object, special, thunk, of_name, construction, alone, in_std, within, instance, local, holder, tagged, of_default, abbreviation, parameter, source, operator, literal_operator, constructor, destructor, lambda, unnamed, string_literal, conversion, builtin, sized_float, vendor, pointer, lvalue, rvalue, array, member_pointer, function_type, qualified, vector, complex, expansion, integer, boolean, null_pointer, encoding_literal, address_of, pack, nil, list, absent, adjusting, covariant, Thunk}
+use Rattle.cpp_grammar.specs.Term.{Term, symbol, function, object, special, thunk, of_name, construction, clone, alone, in_std, within, instance, local, holder, tagged, of_default, abbreviation, parameter, source, operator, literal_operator, constructor, destructor, lambda, unnamed, string_literal, conversion, builtin, sized_float, vendor, pointer, lvalue, rvalue, array, member_pointer, function_type, qualified, vector, complex, expansion, integer, boolean, null_pointer, encoding_literal, address_of, pack, nil, list, absent, adjusting, covariant, Thunk}
 use Rattle.cpp_grammar.specs.Scope.{is_open}
 use Rattle.cpp_press_laws.specs.Texts.{counted, ordinal, signed_text, qualifier_letters, mark_letter, name_letters, special_code, thunk_text, discriminator_text}
 use Rattle.cpp_press_laws.specs.Components.{Spelling, ended, component}
@@ -366,6 +366,10 @@ keeps (of_name l name q ref) open_ n R =
     encoding-ways-keep open_ n R (of_name l name q ref) _ (Inside name) (λ x s. s) (λ here h.
     behind-text-keeps ⊥ here (OrOpen R) (special_code l) ((ways_of here name).as_name (name_letters q ref))
     ((keeps name ⊥ here (OrOpen R)).as_name h (name_letters q ref)))
+keeps (clone letter e) open_ n R =
+    encoding-ways-keep open_ n R (clone letter e) _ (λ x. Shut (Inside e x) x) (λ x s. s.1) (λ here h.
+    behind-bytes-keeps ⊥ here (OrOpen R) (codes "GT" ++ letter ∷ []) (ways_of here e).as_encoding (omega arith)
+    ((keeps e ⊥ here (OrOpen R)).as_encoding h))
 keeps (construction derived digits parent) open_ n R =
     encoding-ways-keep open_ n R (construction derived digits parent) _ (λ x. Whole derived x ⊎ Whole parent x) (λ x s. s) (λ here h.
     behind-text-keeps ⊥ here (OrOpen R) (codes "TC") ((ways_of here derived).as_type and (text (digits ++ codes "_") and (ways_of here parent).as_type))
