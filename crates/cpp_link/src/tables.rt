@@ -3,7 +3,7 @@
 use cpp_grammar::production::Production;
 
 /// The productions.
-pub(crate) const PRODUCTIONS: [Production; 130] = [
+pub(crate) const PRODUCTIONS: [Production; 129] = [
     Production::Mark,
     Production::InternalName,
     Production::LocalTypeName,
@@ -119,7 +119,6 @@ pub(crate) const PRODUCTIONS: [Production; 130] = [
     Production::NestInstance,
     Production::Conversion,
     Production::OperatorNameWithC,
-    Production::SpecialWithG,
     Production::Clone,
     Production::TaggedStdType,
     Production::TypeTag,
@@ -137,7 +136,7 @@ pub(crate) const PRODUCTIONS: [Production; 130] = [
 ];
 
 /// How many parts each has.
-pub(crate) const PART_COUNTS: [u8; 130] = [
+pub(crate) const PART_COUNTS: [u8; 129] = [
     0, // Mark
     2, // InternalName
     2, // LocalTypeName
@@ -253,11 +252,10 @@ pub(crate) const PART_COUNTS: [u8; 130] = [
     3, // NestInstance
     1, // Conversion
     2, // OperatorNameWithC
-    1, // SpecialWithG
     2, // Clone
     2, // TaggedStdType
     2, // TypeTag
-    1, // OtherSpecial
+    2, // OtherSpecial
     1, // SpecialName
     4, // ConstructionVtable
     2, // NestTemplate
@@ -271,7 +269,7 @@ pub(crate) const PART_COUNTS: [u8; 130] = [
 ];
 
 /// Whether parts without a row may stand between those of each.
-pub(crate) const SKIPS_PARTS: [bool; 130] = [
+pub(crate) const SKIPS_PARTS: [bool; 129] = [
     false, // Mark
     false, // InternalName
     false, // LocalTypeName
@@ -387,7 +385,6 @@ pub(crate) const SKIPS_PARTS: [bool; 130] = [
     true, // NestInstance
     false, // Conversion
     false, // OperatorNameWithC
-    false, // SpecialWithG
     false, // Clone
     false, // TaggedStdType
     false, // TypeTag
@@ -405,7 +402,7 @@ pub(crate) const SKIPS_PARTS: [bool; 130] = [
 ];
 
 /// Before how many of its parts nothing is done in each: before none, the first, or all, which are five at most.
-pub(crate) const QUIET_PARTS: [u8; 130] = [
+pub(crate) const QUIET_PARTS: [u8; 129] = [
     5, // Mark
     1, // InternalName
     1, // LocalTypeName
@@ -521,7 +518,6 @@ pub(crate) const QUIET_PARTS: [u8; 130] = [
     0, // NestInstance
     0, // Conversion
     1, // OperatorNameWithC
-    5, // SpecialWithG
     5, // Clone
     1, // TaggedStdType
     1, // TypeTag
