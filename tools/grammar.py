@@ -59,7 +59,7 @@ def build(extended=True, widened=False):
     kind("MaybeSuffix", eats(".", "Suffix", "SuffixFirst"), empty=True)
     kind("SuffixFirst", eats(WORD, "SuffixByte", "SuffixMore"))
     kind("SuffixMore", eats(WORD, "SuffixByte", "SuffixMore"), empty=True)
-    kind("Encoding", eats("T", "Special", "Special"), narrow(eats("G", "Guard", "'V'", "CompleteName")), wide(chain("OtherSpecial", "OtherSpecial")),
+    kind("Encoding", eats("T", "Special", "Special"), narrow(eats("G", "Guard", "'V'", "CompleteName")), wide(chain("OtherSpecial", "SpecialMark", "SpecialAfterG")),
          chain("Encoding", "CompleteName", "Items"))
     kind("Special", eats(SPECIAL, "SpecialType", "Type"), eats("h", "NonVirtualThunk", "Integer", "'_'", "Encoding"),
          eats("v", "VirtualThunk", "Integer", "'_'", "Integer", "'_'", "Encoding"), eats("c", "CovariantThunk", "CallOffset", "CallOffset", "Encoding"),
@@ -160,7 +160,7 @@ def build(extended=True, widened=False):
     kind("PlainEntity", *plain_entity)
     kind("PlainTypeEntity", *plain_type_entity)
     # behind a G and an St the wide grammar has more than the other: a chain leads to a kind that takes these bytes
-    kind("OtherSpecial", eats("G", "SpecialWithG", "SpecialAfterG"))
+    kind("SpecialMark", MARK("G"))
     kind("SpecialAfterG", eats("V", "SpecialName", "CompleteName"), eats("T", "Clone", "CloneLetter", "Encoding"))
     kind("CloneLetter", MARK("tn"))
     kind("TypeInStd", eats("t", "TaggedStdType", "SourceOrLocal", "MaybeTags"))

@@ -15,7 +15,7 @@ use Rattle.sym_link.specs.Reading.{Found, Open, Next, ◌>>=◌}
 use Rattle.sym_link.specs.Unfold.{found, alone, standing, unfold_tree, unfold_forest}
 use Rattle.cpp_grammar.specs.declared.kind.Kind.{Kind}
 use Rattle.cpp_grammar.specs.declared.production.Production.{Production}
-use Rattle.cpp_grammar.specs.KindNumbers.{KIND_COUNT, SYMBOL, SPECIAL, OTHER_SPECIAL, COMPLETE_NAME, ITEMS}
+use Rattle.cpp_grammar.specs.KindNumbers.{KIND_COUNT, SYMBOL, SPECIAL, SPECIAL_MARK, SPECIAL_AFTER_G, COMPLETE_NAME, ITEMS}
 use Rattle.cpp_grammar.specs.Grammar.{Alternative, is_in, pick, kinds, productions, number_of, number_of_kind, parts_of, is_chain}
 use Rattle.cpp_grammar.specs.Wide.{wide_alternatives}
 use Rattle.cpp_grammar.specs.Either.{either_alternatives, either_choose}
@@ -332,69 +332,74 @@ pub always : (s : Type 0) (at : ℕ) (t : Term) → Good (Bare (in_name at)) t �
 unfolding in_name
 always s at t good = record { closed = λ h. good.closed refl; scopes = good.scopes }
 
--- a production that begins an encoding, and has one part and what it stands for
-alone_comes : (p : Production) (k : ℕ) → suc k ≤ KIND_COUNT → is_encoding (OfKind k) ≡ false → ((around : Around) (at : ℕ) (state : State) → between p around at [] state ≡ Ok (nameless at [] state)) →
-    ((byte : ℕ) (around : Around) (v : Value) → meaning p byte around (v ∷ []) ≡ v) → (f : Forest) → AllTreesGood f → (rule : Open State Around) (from : ℕ) (state : State) (r : Found (List Value) State) →
-    production_at rule.rule.number ≡ p → AreTrees either (OfKind k ∷ []) f → rule.context.encoding < rule.place → rule.place ≤ from → rule.place < from + length (spell_all f) → AllOld rule.context rule.place state.candidates →
-    unfold_forest cpp rule [] from f state ≡ Ok r → InnerComes p rule.context (from + length (spell_all f)) state r
-unfolding cpp nameless in_name
-alone_comes p k is_kind other goes means (grown t nothing) all rule from state r is trees lt le more old e =
-    let around = rule.context in
-    let at = rule.place in
-    let s = stepped rule [] from state t nothing r (nameless at [] state) (ap (λ p. between p around at [] state) is ∙ goes around at state) e in
-    let c = name_comes t all.0 (OfKind k) at from state s.part (known k is_kind) trees.0 other le (old_later (in_name at) at from state.candidates le (old_inner around at state.candidates lt old)) s.is in
-    let same : found (c.value ∷ []) s.part.state ≡ r = same_found [] s.part.value (c.value ∷ []) s.part.state r c.is s.rest in
-    let end = from + length (spell t ++ []) in
-    subst (λ x. InnerComes p around end state x) same
-    (record {
-      means = λ byte. subst (λ v. Good (Bare around) (held v)) (sym (means byte around c.value)) (always (Bare around) at (held c.value) c.good);
-      grows = grows_inner around (in_name at) at end state s.part.state refl lt more
-          (grows_on (in_name at) (from + length (spell t)) end state s.part.state (omega (arith, length-append (spell t) [])) c.grows);
-    })
-alone_comes p k is_kind other goes means nothing all rule from state r is trees lt le more old e = absurd trees
-alone_comes p k is_kind other goes means (grown t (grown u f)) all rule from state r is trees lt le more old e = absurd trees.1
-
 special_comes : (f : Forest) → AllTreesGood f → (rule : Open State Around) (from : ℕ) (state : State) (r : Found (List Value) State) → production_at rule.rule.number ≡ Production.Special →
     AreTrees either (parts_of Production.Special) f → rule.context.encoding < rule.place → rule.place ≤ from → rule.place < from + length (spell_all f) → AllOld rule.context rule.place state.candidates →
     unfold_forest cpp rule [] from f state ≡ Ok r → InnerComes Production.Special rule.context (from + length (spell_all f)) state r
-unfolding parts_of number_of_kind between meaning is_encoding nameless part
-special_comes = alone_comes Production.Special SPECIAL (lit≤ tt) refl (λ around at state. refl) (λ byte around v. refl)
+unfolding cpp parts_of number_of_kind between meaning held is_encoding nameless part in_name
+special_comes (grown t nothing) all rule from state r is trees lt le more old e =
+    let around = rule.context in
+    let at = rule.place in
+    let s = stepped rule [] from state t nothing r (nameless at [] state) (ap (λ p. between p around at [] state) is) e in
+    let c = name_comes t all.0 (OfKind SPECIAL) at from state s.part (known 5 (lit≤ tt)) trees.0 refl le (old_later (in_name at) at from state.candidates le (old_inner around at state.candidates lt old)) s.is in
+    let same : found (c.value ∷ []) s.part.state ≡ r = same_found [] s.part.value (c.value ∷ []) s.part.state r c.is s.rest in
+    let end = from + length (spell t ++ []) in
+    subst (λ x. InnerComes Production.Special around end state x) same
+    (record {
+      means = λ byte. always (Bare around) at (held c.value) c.good;
+      grows = grows_inner around (in_name at) at end state s.part.state refl lt more
+          (grows_on (in_name at) (from + length (spell t)) end state s.part.state (omega (arith, length-append (spell t) [])) c.grows);
+    })
+special_comes nothing all rule from state r is trees lt le more old e = absurd trees
+special_comes (grown t (grown u f)) all rule from state r is trees lt le more old e = absurd trees.1
+
+-- a production that begins an encoding, and has two parts in which nothing is named
+two_come : (p : Production) (x y : Sym) → IsSymbol either x → IsSymbol either y → is_encoding x ≡ false → is_encoding y ≡ false →
+    ((around : Around) (at : ℕ) (vs : List Value) (state : State) → between p around at vs state ≡ Ok (nameless at vs state)) →
+    ((byte at : ℕ) (around : Around) (v w : Value) → Good (Bare (in_name at)) (held w) → Good (Bare around) (held (meaning p byte around (v ∷ w ∷ [])))) →
+    (f : Forest) → AllTreesGood f → (rule : Open State Around) (from : ℕ) (state : State) (r : Found (List Value) State) → production_at rule.rule.number ≡ p →
+    AreTrees either (x ∷ y ∷ []) f → rule.context.encoding < rule.place → rule.place ≤ from → rule.place < from + length (spell_all f) → AllOld rule.context rule.place state.candidates →
+    unfold_forest cpp rule [] from f state ≡ Ok r → InnerComes p rule.context (from + length (spell_all f)) state r
+unfolding cpp nameless in_name
+two_come p x y known_x known_y apart_x apart_y goes means (grown t (grown u nothing)) all rule from state r is trees lt le more old e =
+    let around = rule.context in
+    let at = rule.place in
+    let first = stepped rule [] from state t (grown u nothing) r (nameless at [] state) (ap (λ p. between p around at [] state) is ∙ goes around at [] state) e in
+    let old0 = old_later (in_name at) at from state.candidates le (old_inner around at state.candidates lt old) in
+    let c = name_comes t all.0 x at from state first.part known_x trees.0 apart_x le old0 first.is in
+    let next = from + length (spell t) in
+    let vs = c.value ∷ [] in
+    let onward = subst (λ ws. unfold_forest cpp rule ws next (grown u nothing) first.part.state ≡ Ok r) c.is first.rest in
+    let second = stepped rule vs next first.part.state u nothing r (nameless at vs first.part.state) (ap (λ p. between p around at vs first.part.state) is ∙ goes around at vs first.part.state) onward in
+    let old1 = old_grows (in_name at) from next state first.part.state (omega arith) old0 c.grows in
+    let d = name_comes u all.1.0 y at next first.part.state second.part known_y trees.1.0 apart_y (omega (arith, le)) old1 second.is in
+    let same : found (c.value ∷ d.value ∷ []) second.part.state ≡ r = same_found vs second.part.value (d.value ∷ []) second.part.state r d.is second.rest in
+    let end = from + length (spell t ++ (spell u ++ [])) in
+    subst (λ x. InnerComes p around end state x) same
+    (record {
+      means = λ byte. means byte at around c.value d.value d.good;
+      grows = grows_inner around (in_name at) at end state second.part.state refl lt more
+          (grows_then (in_name at) next end state first.part.state second.part.state (omega (arith, length-append (spell t) (spell u ++ []))) c.grows
+          (grows_on (in_name at) (next + length (spell u)) end first.part.state second.part.state (omega (arith, length-append (spell t) (spell u ++ []), length-append (spell u) [])) d.grows));
+    })
+two_come p x y known_x known_y apart_x apart_y goes means nothing all rule from state r is trees lt le more old e = absurd trees
+two_come p x y known_x known_y apart_x apart_y goes means (grown t nothing) all rule from state r is trees lt le more old e = absurd trees.1
+two_come p x y known_x known_y apart_x apart_y goes means (grown t (grown u (grown v f))) all rule from state r is trees lt le more old e = absurd trees.1.1
+
+guard_comes : (f : Forest) → AllTreesGood f → (rule : Open State Around) (from : ℕ) (state : State) (r : Found (List Value) State) → production_at rule.rule.number ≡ Production.Guard →
+    AreTrees either (parts_of Production.Guard) f → rule.context.encoding < rule.place → rule.place ≤ from → rule.place < from + length (spell_all f) → AllOld rule.context rule.place state.candidates →
+    unfold_forest cpp rule [] from f state ≡ Ok r → InnerComes Production.Guard rule.context (from + length (spell_all f)) state r
+unfolding parts_of number_of_kind between meaning held is_encoding nameless part is_open
+guard_comes = two_come Production.Guard (Byte 86) (OfKind COMPLETE_NAME) (lit≤ tt) (known 8 (lit≤ tt)) refl refl (λ around at vs state. refl)
+    (λ byte at around v w good.
+    let named = always (Bare around) at (tree_of w) (good_tree (Bare (in_name at)) w good) in
+    record { closed = λ h. refl; scopes = named.scopes })
 
 other_special_comes : (f : Forest) → AllTreesGood f → (rule : Open State Around) (from : ℕ) (state : State) (r : Found (List Value) State) → production_at rule.rule.number ≡ Production.OtherSpecial →
     AreTrees either (parts_of Production.OtherSpecial) f → rule.context.encoding < rule.place → rule.place ≤ from → rule.place < from + length (spell_all f) → AllOld rule.context rule.place state.candidates →
     unfold_forest cpp rule [] from f state ≡ Ok r → InnerComes Production.OtherSpecial rule.context (from + length (spell_all f)) state r
 unfolding parts_of number_of_kind between meaning is_encoding nameless part
-other_special_comes = alone_comes Production.OtherSpecial OTHER_SPECIAL (lit≤ tt) refl (λ around at state. refl) (λ byte around v. refl)
-
-guard_comes : (f : Forest) → AllTreesGood f → (rule : Open State Around) (from : ℕ) (state : State) (r : Found (List Value) State) → production_at rule.rule.number ≡ Production.Guard →
-    AreTrees either (parts_of Production.Guard) f → rule.context.encoding < rule.place → rule.place ≤ from → rule.place < from + length (spell_all f) → AllOld rule.context rule.place state.candidates →
-    unfold_forest cpp rule [] from f state ≡ Ok r → InnerComes Production.Guard rule.context (from + length (spell_all f)) state r
-unfolding cpp parts_of number_of_kind between meaning held is_encoding nameless part in_name is_open
-guard_comes (grown t (grown u nothing)) all rule from state r is trees lt le more old e =
-    let around = rule.context in
-    let at = rule.place in
-    let first = stepped rule [] from state t (grown u nothing) r (nameless at [] state) (ap (λ p. between p around at [] state) is) e in
-    let old0 = old_later (in_name at) at from state.candidates le (old_inner around at state.candidates lt old) in
-    let c = name_comes t all.0 (Byte 86) at from state first.part (lit≤ tt) trees.0 refl le old0 first.is in
-    let next = from + length (spell t) in
-    let vs = c.value ∷ [] in
-    let onward = subst (λ ws. unfold_forest cpp rule ws next (grown u nothing) first.part.state ≡ Ok r) c.is first.rest in
-    let second = stepped rule vs next first.part.state u nothing r (nameless at vs first.part.state) (ap (λ p. between p around at vs first.part.state) is) onward in
-    let old1 = old_grows (in_name at) from next state first.part.state (omega arith) old0 c.grows in
-    let d = name_comes u all.1.0 (OfKind COMPLETE_NAME) at next first.part.state second.part (known 8 (lit≤ tt)) trees.1.0 refl (omega (arith, le)) old1 second.is in
-    let same : found (c.value ∷ d.value ∷ []) second.part.state ≡ r = same_found vs second.part.value (d.value ∷ []) second.part.state r d.is second.rest in
-    let end = from + length (spell t ++ (spell u ++ [])) in
-    let good = always (Bare around) at (tree_of d.value) (good_tree (Bare (in_name at)) d.value d.good) in
-    subst (λ x. InnerComes Production.Guard around end state x) same
-    (record {
-      means = λ byte. record { closed = λ h. refl; scopes = good.scopes };
-      grows = grows_inner around (in_name at) at end state second.part.state refl lt more
-          (grows_then (in_name at) next end state first.part.state second.part.state (omega (arith, length-append (spell t) (spell u ++ []))) c.grows
-          (grows_on (in_name at) (next + length (spell u)) end first.part.state second.part.state (omega (arith, length-append (spell t) (spell u ++ []), length-append (spell u) [])) d.grows));
-    })
-guard_comes nothing all rule from state r is trees lt le more old e = absurd trees
-guard_comes (grown t nothing) all rule from state r is trees lt le more old e = absurd trees.1
-guard_comes (grown t (grown u (grown v f))) all rule from state r is trees lt le more old e = absurd trees.1.1
+other_special_comes = two_come Production.OtherSpecial (OfKind SPECIAL_MARK) (OfKind SPECIAL_AFTER_G) (known SPECIAL_MARK (lit≤ tt)) (known SPECIAL_AFTER_G (lit≤ tt)) refl refl (λ around at vs state. refl)
+    (λ byte at around v w good. always (Bare around) at (held w) good)
 
 encoding_comes : (f : Forest) → AllTreesGood f → (rule : Open State Around) (from : ℕ) (state : State) (r : Found (List Value) State) → production_at rule.rule.number ≡ Production.Encoding →
     AreTrees either (parts_of Production.Encoding) f → rule.context.encoding < rule.place → rule.place ≤ from → rule.place < from + length (spell_all f) → AllOld rule.context rule.place state.candidates →

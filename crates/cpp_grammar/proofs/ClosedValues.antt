@@ -206,8 +206,7 @@ meaning_good s Production.SpecialType byte around vs pre all name = let g = good
 meaning_good s Production.SpecialName byte around vs pre all name = let g = good_part s vs 0 all in record { closed = λ h. refl; scopes = g.scopes }
 meaning_good s Production.ConstructionVtable byte around vs pre all name =
     let g = good_part s vs 0 all in let b = good_part s vs 3 all in record { closed = λ h. refl; scopes = (g.scopes, b.scopes) }
-meaning_good s Production.OtherSpecial byte around vs pre all name = good_held s vs 0 all
-meaning_good s Production.SpecialWithG byte around vs pre all name = good_held s vs 0 all
+meaning_good s Production.OtherSpecial byte around vs pre all name = good_held s vs 1 all
 meaning_good s Production.Clone byte around vs pre all name = let g = good_part s vs 1 all in record { closed = λ h. refl; scopes = g.scopes }
 meaning_good s Production.NonVirtualThunk byte around vs pre all name = let g = good_part s vs 2 all in record { closed = λ h. refl; scopes = g.scopes }
 meaning_good s Production.VirtualThunk byte around vs pre all name = let g = good_part s vs 4 all in record { closed = λ h. refl; scopes = g.scopes }

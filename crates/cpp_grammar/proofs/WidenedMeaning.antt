@@ -16,6 +16,7 @@ use Rattle.cpp_grammar.specs.Grammar.{productions, number_of, number_of_kind, pa
 use Rattle.cpp_grammar.specs.Table.{rule_of, padded, wide, either}
 use Rattle.cpp_grammar.specs.Term.{instance, in_std, operator}
 use Rattle.cpp_grammar.specs.Values.{State, Around, prefix_tree, prefix_listed, Value, nothing_there, text, tree, tree_of, piece_of, letter_of, is_there, part}
+use Rattle.cpp_grammar.specs.Values as leaf_
 use Rattle.cpp_grammar.specs.References.{appended, with_prefix}
 use Rattle.cpp_grammar.specs.Between.{in_name, inside, after, no_items, applied, extended, piece_so_far, named_so_far, listed_so_far, applied, between}
 use Rattle.cpp_grammar.specs.Meaning.{meaning}
@@ -251,37 +252,28 @@ operator_branch_same parts trees around place state = operator_same parts trees 
 
 -- ## A guard variable, and a type in std
 
-deeper_same : (m : Result Read Refusal) → One m → (a b c d e h f g : Read → Result Read Refusal)
-    → ((v : Value) (s : State) → (((((a (found (v ∷ []) s) >>= b) >>= c) >>= d) >>= e) >>= h) ≡ (f (found (v ∷ []) s) >>= g))
-    → ((((((m >>= a) >>= b) >>= c) >>= d) >>= e) >>= h) ≡ ((m >>= f) >>= g)
-deeper_same _ (refused e_) a b c d e h f g same = refl
-deeper_same _ (one v s) a b c d e h f g same = same v s
-
 variable_same : (name : Tree) (around : Around) (place : ℕ) (taken : List ℕ) (state : State) →
     unfold_tree cpp around place (variable_with_g taken (grown (fixed 86) (grown name nothing))) state
     ≡ unfold_tree cpp around place (branch (rule_of Production.Guard) taken (grown (fixed 86) (grown name nothing))) state
 unfolding variable_with_g cpp opening production_at productions rule_of number_of between close unfolding_.behind meaning part byte_of
 variable_same name around place taken state =
     let inner = in_name place in
+    let mark : Tree = branch (rule_of Production.Mark) taken nothing in
     let lettered : Tree = branch (rule_of Production.SpecialName) (86 ∷ []) (grown name nothing) in
-    let behind_g : Tree = branch (rule_of Production.SpecialWithG) taken (grown lettered nothing) in
-    let at = place + 0 in
-    let on = at + length taken in
+    let on = place + 0 + length (spell mark) in
     let new = standing (rule_of Production.OtherSpecial) [] place around state in
-    let with_g_ = standing (rule_of Production.SpecialWithG) taken at inner state in
     let with_letter = standing (rule_of Production.SpecialName) (86 ∷ []) on inner state in
     let old = standing (rule_of Production.Guard) taken place around state in
     let new_end : Read → Result Read Refusal = λ i. close Production.OtherSpecial (byte_of []) around place state i.value i.state >>= alone in
-    let g_end : Read → Result Read Refusal = λ i. close Production.SpecialWithG (byte_of taken) inner at state i.value i.state >>= alone in
     let letter_end : Read → Result Read Refusal = λ i. close Production.SpecialName (byte_of (86 ∷ [])) inner on state i.value i.state >>= alone in
     let old_end : Read → Result Read Refusal = λ i. close Production.Guard (byte_of taken) around place state i.value i.state >>= alone in
-    let onward : Read → Result Read Refusal = λ p. unfold_forest cpp new ([] ++ p.value) (at + length (spell behind_g)) nothing p.state in
-    let g_onward : Read → Result Read Refusal = λ p. unfold_forest cpp with_g_ ([] ++ p.value) (on + length (spell lettered)) nothing p.state in
+    let onward : Read → Result Read Refusal = λ p. unfold_forest cpp new ((leaf_.letter (byte_of taken) ∷ []) ++ p.value) (on + length (spell lettered)) nothing p.state in
     let letter_onward : Read → Result Read Refusal = λ p. unfold_forest cpp with_letter ([] ++ p.value) (on + 1 + length (spell name)) nothing p.state in
     let plain : Read → Result Read Refusal = λ p. unfold_forest cpp old ((nothing_there ∷ []) ++ p.value) (place + length taken + 1 + length (spell name)) nothing p.state in
-    subst (λ n. unfold_tree cpp around place (branch (rule_of Production.OtherSpecial) [] (grown behind_g nothing)) state
-    ≡ ((unfold_tree cpp inner (n + length taken + 1) name state >>= plain) >>= old_end)) (add-zero place)
-    (deeper_same (unfold_tree cpp inner (on + 1) name state) (tree_one name inner (on + 1) state) letter_onward letter_end g_onward g_end onward new_end plain old_end (λ v s. refl))
+    let there : place + 0 + length (spell mark) + 1 ≡ place + length taken + 1 = omega (arith, ap length (append-nil taken)) in
+    subst (λ n. unfold_tree cpp around place (branch (rule_of Production.OtherSpecial) [] (grown mark (grown lettered nothing))) state
+    ≡ ((unfold_tree cpp inner n name state >>= plain) >>= old_end)) there
+    (deep_same (unfold_tree cpp inner (on + 1) name state) (tree_one name inner (on + 1) state) letter_onward letter_end onward new_end plain old_end (λ v s. refl))
 
 type_same : (piece : Tree) (around : Around) (place : ℕ) (taken : List ℕ) (state : State) →
     unfold_tree cpp around place (type_without_tags taken (grown piece nothing)) state

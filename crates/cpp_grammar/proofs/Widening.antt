@@ -13,7 +13,7 @@ use Rattle.sym_shape.proofs.Firsts.{branch_first, branch_filled}
 use Rattle.sym_link.specs.Sound.{IsSound}
 use Rattle.cpp_grammar.specs.declared.kind.Kind.{Kind}
 use Rattle.cpp_grammar.specs.declared.production.Production.{Production}
-use Rattle.cpp_grammar.specs.KindNumbers.{SYMBOL, ENCODING, NEST_AFTER_S, NEST_REST_ALONE, NEST_TAIL, COMPONENT, TYPE_AFTER_S, MAYBE_ARGUMENTS, OPERATOR, NEST_REST_OR_END, COMPONENT_AFTER_C, OTHER_OPERATOR, OTHER_SPECIAL, SPECIAL_AFTER_G, TYPE_IN_STD, MAYBE_TAGS}
+use Rattle.cpp_grammar.specs.KindNumbers.{SYMBOL, ENCODING, NEST_AFTER_S, NEST_REST_ALONE, NEST_TAIL, COMPONENT, TYPE_AFTER_S, MAYBE_ARGUMENTS, OPERATOR, NEST_REST_OR_END, COMPONENT_AFTER_C, OTHER_OPERATOR, SPECIAL_MARK, SPECIAL_AFTER_G, TYPE_IN_STD, MAYBE_TAGS}
 use Rattle.cpp_grammar.specs.Grammar.{Alternative, in_ranges, among, is_in, pick, kinds, number_of, number_of_kind, parts_of, is_chain, may_be_empty}
 use Rattle.cpp_grammar.specs.Wide.{wide_alternatives, wide_choose}
 use Rattle.cpp_grammar.specs.Either.{either_alternatives, either_choose}
@@ -425,10 +425,10 @@ variable_branch : (taken : List ℕ) (parts : Forest) → taken ≡ 71 ∷ [] �
 unfolding change_of changed variable_with_g rule_of parts_of padded is_chain number_of number_of_kind kinds wide_choose wide_alternatives pick is_in in_ranges among
 variable_branch taken (grown (fixed letter) (grown name nothing)) own trees = rw (own, sym trees.0) (
   takes_at ENCODING Kind.Encoding Production.OtherSpecial [] 71 refl (lit≤ tt) refl refl,
-  ((
-    takes_at OTHER_SPECIAL Kind.OtherSpecial Production.SpecialWithG (71 ∷ []) 71 refl (lit≤ tt) refl refl,
+  (
+    (takes_at SPECIAL_MARK Kind.SpecialMark Production.Mark (71 ∷ []) 71 refl (lit≤ tt) refl refl, tt),
     ((takes_at SPECIAL_AFTER_G Kind.SpecialAfterG Production.SpecialName (86 ∷ []) 86 refl (lit≤ tt) refl refl, (trees.1.0, tt)), tt),
-  ), tt),
+  ),
 )
 variable_branch taken nothing own trees = absurd trees
 variable_branch taken (grown t nothing) own trees = absurd trees.1
@@ -529,7 +529,7 @@ spell_operator taken _ = refl
 spell_variable : (taken : List ℕ) (parts : Forest) → spell (variable_with_g taken parts) ≡ taken ++ spell_all parts
 unfolding variable_with_g
 spell_variable taken (grown (fixed letter) (grown name nothing)) =
-    append-nil (taken ++ (((letter ∷ []) ++ (spell name ++ [])) ++ [])) ∙ ap (λ w. taken ++ w) (append-nil ((letter ∷ []) ++ (spell name ++ [])))
+    ap (λ w. w ++ (((letter ∷ []) ++ (spell name ++ [])) ++ [])) (append-nil taken) ∙ ap (λ w. taken ++ w) (append-nil ((letter ∷ []) ++ (spell name ++ [])))
 spell_variable taken _ = refl
 
 spell_type : (taken : List ℕ) (parts : Forest) → spell (type_without_tags taken parts) ≡ taken ++ spell_all parts

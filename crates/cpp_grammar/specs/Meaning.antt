@@ -73,8 +73,7 @@ meaning Production.SuffixByte byte around vs = text (byte ∷ text_of (part vs 0
 -- encodings
 meaning Production.Special byte around vs = part vs 0
 meaning Production.Guard byte around vs = tree (of_name 86 (tree_of (part vs 1)) (qualifiers_of (part vs 1)) (ref_of (part vs 1))) true
-meaning Production.OtherSpecial byte around vs = part vs 0
-meaning Production.SpecialWithG byte around vs = part vs 0
+meaning Production.OtherSpecial byte around vs = part vs 1
 meaning Production.Clone byte around vs = tree (clone (letter_of (part vs 0)) (tree_of (part vs 1))) true
 meaning Production.Encoding byte around vs = tree (encoding_of (part vs 0) (no_items (part vs 1))) true
 meaning Production.SpecialType byte around vs = tree (special byte (tree_of (part vs 0))) true

@@ -43,7 +43,7 @@ operator_component taken parts = branch (rule_of Production.OtherOperatorName) t
 unfoldable pub variable_with_g : (taken : List ℕ) → Forest → Tree
 variable_with_g taken (grown (fixed letter) (grown name nothing)) =
     branch (rule_of Production.OtherSpecial) []
-    (grown (branch (rule_of Production.SpecialWithG) taken (grown (branch (rule_of Production.SpecialName) (letter ∷ []) (grown name nothing)) nothing)) nothing)
+    (grown (branch (rule_of Production.Mark) taken nothing) (grown (branch (rule_of Production.SpecialName) (letter ∷ []) (grown name nothing)) nothing))
 variable_with_g taken parts = branch (rule_of Production.Guard) taken parts
 
 -- a name of std as a type, behind the t: it has no tags

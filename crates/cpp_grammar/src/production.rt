@@ -118,7 +118,6 @@ pub enum Production {
     NestInstance,
     Conversion,
     OperatorNameWithC,
-    SpecialWithG,
     Clone,
     TaggedStdType,
     TypeTag,

@@ -163,7 +163,7 @@ const PLAIN_ENTITY: Sym = Sym::Kind(75);
 
 const PLAIN_TYPE_ENTITY: Sym = Sym::Kind(76);
 
-const OTHER_SPECIAL: Sym = Sym::Kind(77);
+const SPECIAL_MARK: Sym = Sym::Kind(77);
 
 const SPECIAL_AFTER_G: Sym = Sym::Kind(78);
 
@@ -257,18 +257,18 @@ static LETTERS: [[u8; 87]; 82] = [
     *b"                                     t                                                 ", // ArgumentsAlone
     *b"            EEEEEEEEEE         EE    D  E        E           E EEE E E  EEEEE EE       ", // NestRestAlone
     *b"                                         !                                             ", // HolderMark
-    *b"            $$$$$$$$$$         GH       \"        #           \x9e \x9d\x9e\x9e \x9e \x9e  \x9e\x9e\x9e\x9e\x9e \x9e\x9e       ", // HeldComponent
+    *b"            $$$$$$$$$$         GH       \"        #           \x9d \x9c\x9d\x9d \x9d \x9d  \x9d\x9d\x9d\x9d\x9d \x9d\x9d       ", // HeldComponent
     *b"                                                           !  !                     !  ", // FloatEnd
     *b"                                                                        \x93\x93 \x93      \x92    ", // ComponentAfterC
     *b"                                                             \x85  \x84\x8b \x8f \x8e  \x8c\x88\x83\x8a\x86 \x89\x8d       ", // OtherOperator
     *b"            xxxxxxxxxx       x xx x   uxvxxxx xxxxx w x      xxxxxxxxxx xxxx  xxxxxxxxx", // ArgumentsFirst
     *b"            $$$$$$$$$$                  \" )      #                                     ", // PlainEntity
     *b"            $$$$$$$$$$                  \" K      #                                     ", // PlainTypeEntity
-    *b"                                   \x94                                                   ", // OtherSpecial
-    *b"                                                \x95 \x99                                    ", // SpecialAfterG
+    *b"                                   !                                                   ", // SpecialMark
+    *b"                                                \x94 \x98                                    ", // SpecialAfterG
     *b"                                                                          !     !      ", // CloneLetter
-    *b"                                                                                \x96      ", // TypeInStd
-    *b"                              \x97                                                        ", // MaybeTags
+    *b"                                                                                \x95      ", // TypeInStd
+    *b"                              \x96                                                        ", // MaybeTags
 ];
 
 /// A rule without its number and its symbols.
@@ -298,7 +298,7 @@ macro_rules! chains {
 }
 
 // The rules of the productions, in the order of their numbers.
-pub static HEADS: [Head; 132] = [
+pub static HEADS: [Head; 131] = [
     takes!(0), // ! Mark
     takes!(2), // \" InternalName
     takes!(2), // # LocalTypeName
@@ -414,27 +414,26 @@ pub static HEADS: [Head; 132] = [
     takes!(3), // \x91 NestInstance
     takes!(1), // \x92 Conversion
     chains!(2), // \x93 OperatorNameWithC
-    takes!(1), // \x94 SpecialWithG
-    takes!(2), // \x95 Clone
-    takes!(2), // \x96 TaggedStdType
-    takes!(2), // \x97 TypeTag
-    chains!(1), // \x98 OtherSpecial
-    takes!(1), // \x99 SpecialName
-    takes!(4), // \x9a ConstructionVtable
-    chains!(2), // \x9b NestTemplate
-    takes!(2), // \x9c NestTag
-    takes!(1), // \x9d ComponentWithC
-    chains!(2), // \x9e OtherOperatorName
-    chains!(2), // \x9f Holder
-    takes!(2), // \xa0 DefaultEntity
-    takes!(2), // \xa1 DefaultTypeEntity
-    takes!(2), // \xa2 SizedFloat
-    chains!(1), // \xa3 TypeInStd
-    takes!(2), // \xa4 Tag
+    takes!(2), // \x94 Clone
+    takes!(2), // \x95 TaggedStdType
+    takes!(2), // \x96 TypeTag
+    chains!(2), // \x97 OtherSpecial
+    takes!(1), // \x98 SpecialName
+    takes!(4), // \x99 ConstructionVtable
+    chains!(2), // \x9a NestTemplate
+    takes!(2), // \x9b NestTag
+    takes!(1), // \x9c ComponentWithC
+    chains!(2), // \x9d OtherOperatorName
+    chains!(2), // \x9e Holder
+    takes!(2), // \x9f DefaultEntity
+    takes!(2), // \xa0 DefaultTypeEntity
+    takes!(2), // \xa1 SizedFloat
+    chains!(1), // \xa2 TypeInStd
+    takes!(2), // \xa3 Tag
 ];
 
 // The symbols of the rules, in the same order.
-pub static SYMBOLS: [Sym; 798] = symbols_listed! {
+pub static SYMBOLS: [Sym; 792] = symbols_listed! {
     [NONE, NONE, NONE, NONE, NONE], // ! Mark
     [NAME, MAYBE_ARGUMENTS, NONE, NONE, NONE], // \" InternalName
     [ANONYMOUS, MAYBE_ARGUMENTS, NONE, NONE, NONE], // # LocalTypeName
@@ -550,30 +549,29 @@ pub static SYMBOLS: [Sym; 798] = symbols_listed! {
     [ARGUMENTS_FIRST, Sym::Byte(b'E'), NEST_TAIL, NONE, NONE], // \x91 NestInstance
     [TYPE, NONE, NONE, NONE, NONE], // \x92 Conversion
     [OPERATOR_AFTER_C, MAYBE_ARGUMENTS, NONE, NONE, NONE], // \x93 OperatorNameWithC
-    [SPECIAL_AFTER_G, NONE, NONE, NONE, NONE], // \x94 SpecialWithG
-    [CLONE_LETTER, ENCODING, NONE, NONE, NONE], // \x95 Clone
-    [SOURCE_OR_LOCAL, MAYBE_TAGS, NONE, NONE, NONE], // \x96 TaggedStdType
-    [NAME, MAYBE_TAGS, NONE, NONE, NONE], // \x97 TypeTag
-    [OTHER_SPECIAL, NONE, NONE, NONE, NONE], // \x98 OtherSpecial
-    [COMPLETE_NAME, NONE, NONE, NONE, NONE], // \x99 SpecialName
-    [TYPE, DIGITS, Sym::Byte(b'_'), TYPE, NONE], // \x9a ConstructionVtable
-    [ABBREVIATION, NEST_REST_OR_END, NONE, NONE, NONE], // \x9b NestTemplate
-    [NAME, NEST_REST, NONE, NONE, NONE], // \x9c NestTag
-    [COMPONENT_AFTER_C, NONE, NONE, NONE, NONE], // \x9d ComponentWithC
-    [OTHER_OPERATOR, MAYBE_ARGUMENTS, NONE, NONE, NONE], // \x9e OtherOperatorName
-    [HOLDER_MARK, HELD_COMPONENT, NONE, NONE, NONE], // \x9f Holder
-    [DECIMAL, PLAIN_ENTITY, NONE, NONE, NONE], // \xa0 DefaultEntity
-    [DECIMAL, PLAIN_TYPE_ENTITY, NONE, NONE, NONE], // \xa1 DefaultTypeEntity
-    [DIGITS, FLOAT_END, NONE, NONE, NONE], // \xa2 SizedFloat
-    [TYPE_IN_STD, NONE, NONE, NONE, NONE], // \xa3 TypeInStd
-    [NAME, MAYBE_ARGUMENTS, NONE, NONE, NONE], // \xa4 Tag
+    [CLONE_LETTER, ENCODING, NONE, NONE, NONE], // \x94 Clone
+    [SOURCE_OR_LOCAL, MAYBE_TAGS, NONE, NONE, NONE], // \x95 TaggedStdType
+    [NAME, MAYBE_TAGS, NONE, NONE, NONE], // \x96 TypeTag
+    [SPECIAL_MARK, SPECIAL_AFTER_G, NONE, NONE, NONE], // \x97 OtherSpecial
+    [COMPLETE_NAME, NONE, NONE, NONE, NONE], // \x98 SpecialName
+    [TYPE, DIGITS, Sym::Byte(b'_'), TYPE, NONE], // \x99 ConstructionVtable
+    [ABBREVIATION, NEST_REST_OR_END, NONE, NONE, NONE], // \x9a NestTemplate
+    [NAME, NEST_REST, NONE, NONE, NONE], // \x9b NestTag
+    [COMPONENT_AFTER_C, NONE, NONE, NONE, NONE], // \x9c ComponentWithC
+    [OTHER_OPERATOR, MAYBE_ARGUMENTS, NONE, NONE, NONE], // \x9d OtherOperatorName
+    [HOLDER_MARK, HELD_COMPONENT, NONE, NONE, NONE], // \x9e Holder
+    [DECIMAL, PLAIN_ENTITY, NONE, NONE, NONE], // \x9f DefaultEntity
+    [DECIMAL, PLAIN_TYPE_ENTITY, NONE, NONE, NONE], // \xa0 DefaultTypeEntity
+    [DIGITS, FLOAT_END, NONE, NONE, NONE], // \xa1 SizedFloat
+    [TYPE_IN_STD, NONE, NONE, NONE, NONE], // \xa2 TypeInStd
+    [NAME, MAYBE_ARGUMENTS, NONE, NONE, NONE], // \xa3 Tag
 };
 
 /// The number of the rule that a kind takes at a byte, if it takes one.
 #[inline]
 fn number(kind: u16, byte: u8) -> Option<usize>
     requires { kind < abi.kinds }
-    ensures few { IfSome result (λ number. number < 132) }
+    ensures few { IfSome result (λ number. number < 131) }
     ensures rule { (head : Head) → MatchOption result (abi.rule kind byte ≡ None) (λ number. abi.rule kind byte ≡ Some (listed_rule head number)) }
 {
     match letter_in(&LETTERS[kind as usize], byte) {

@@ -14,8 +14,8 @@ static WIDE_LETTERS: [[u8; 87]; 82] = [
     *b"          +                                                                            ", // MaybeSuffix
     *b",         , ,,,,,,,,,,       ,,,,,,,,,,,,,,,,,,,,,,,,,,    , ,,,,,,,,,,,,,,,,,,,,,,,,,,", // SuffixFirst
     *b",         , ,,,,,,,,,,       ,,,,,,,,,,,,,,,,,,,,,,,,,,    , ,,,,,,,,,,,,,,,,,,,,,,,,,,", // SuffixMore
-    *b"            //////////             \x98    / /    /-/    /      / /// / /  ///// //       ", // Encoding
-    *b"                               \x9a    \x990         00 0\x99           3    1             2    ", // Special
+    *b"            //////////             \x97    / /    /-/    /      / /// / /  ///// //       ", // Encoding
+    *b"                               \x99    \x980         00 0\x98           3    1             2    ", // Special
     *b"                                                                    4             5    ", // CallOffset
     *b"            7777777777                                                    6            ", // Integer
     *b"            $$$$$$$$$$                  \" )    8 #    9      % %%% % %  %%%%% %%       ", // CompleteName
@@ -26,15 +26,15 @@ static WIDE_LETTERS: [[u8; 87]; 82] = [
     *b"            ;;;;;;;;;;       ;;;;;;;;;;;;;;;;;;;;;;;;;;    ; ;; ;    ;     ;   ;:      ", // NameAfterS
     *b"            ((((((((((                  &        '           < <<< < <  <<<<< <<       ", // Unqualified
     *b"            AAAAAAAAAA                  ?      =>@                                     ", // Nest
-    *b"            \x9b\x9b\x9b\x9b\x9b\x9b\x9b\x9b\x9b\x9b       \x9b\x9b\x9b\x9b\x9b\x9b\x9b\x9b\x9b\x9b\x9b\x9b\x9b\x9b\x9b\x9b\x9b\x9b\x9b\x9b\x9b\x9b\x9b\x9b\x9b\x9b    \x9b \x9b\x9b \x9b    \x9b     \x9b   \x9bB      ", // NestAfterS
-    *b"            EEEEEEEEEE        \x9cEE    D  EE       E           E EEE E E  EEEEE EE       ", // NestRest
+    *b"            \x9a\x9a\x9a\x9a\x9a\x9a\x9a\x9a\x9a\x9a       \x9a\x9a\x9a\x9a\x9a\x9a\x9a\x9a\x9a\x9a\x9a\x9a\x9a\x9a\x9a\x9a\x9a\x9a\x9a\x9a\x9a\x9a\x9a\x9a\x9a\x9a    \x9a \x9a\x9a \x9a    \x9a     \x9a   \x9aB      ", // NestAfterS
+    *b"            EEEEEEEEEE        \x9bEE    D  EE       E           E EEE E E  EEEEE EE       ", // NestRest
     *b"            EEEEEEEEEE         EEF      EE       E           E EEE E E  EEEEE EE       ", // NestTail
-    *b"            $$$$$$$$$$         GH       \"\x9f       #           \x9e \x9d\x9e\x9e \x9e \x9e  \x9e\x9e\x9e\x9e\x9e \x9e\x9e       ", // Component
+    *b"            $$$$$$$$$$         GH       \"\x9e       #           \x9d \x9c\x9d\x9d \x9d \x9d  \x9d\x9d\x9d\x9d\x9d \x9d\x9d       ", // Component
     *b"             !!!!!                                                                     ", // ConstructorDigit
     *b"            !!! !!                                                                     ", // DestructorDigit
     *b"            JJJJJJJJJJ       JJJJJJJJJJJJJJJJJJJJJJJJJJ    J II I    I     I   I       ", // Abbreviation
-    *b"            $$$$$$$$$$                  \" )      #              \xa0              L       ", // Entity
-    *b"            $$$$$$$$$$                  \" K      #              \xa1                      ", // TypeEntity
+    *b"            $$$$$$$$$$                  \" )      #              \x9f              L       ", // Entity
+    *b"            $$$$$$$$$$                  \" K      #              \xa0                      ", // TypeEntity
     *b"                                                           M                           ", // MaybeDiscriminator
     *b"            NNNNNNNNNN                                     O                           ", // DiscriminatorRest
     *b"                                                                        P       Q      ", // Anonymous
@@ -43,16 +43,16 @@ static WIDE_LETTERS: [[u8; 87]; 82] = [
     *b"            VVVVVVVVVV       V VZ V    T VVUV UVVVS   V      VVVVVVVVVV VVVV  RVVVVVVVV", // Item
     *b"            VVVVVVVVVV       V VZ V    T VV V  VVVS   V      VVVVVVVVVV VVVV  RVVVVVVVV", // ItemButRef
     *b"                                  \\                          \\ \\\\\\\\ \\\\    \\\\[  \\ \\\\    ", // ItemAfterD
-    *b"                                  \xa2                          ] ]]]] ]]    ]_   ] ]^    ", // AfterD
+    *b"                                  \xa1                          ] ]]]] ]]    ]_   ] ]^    ", // AfterD
     *b"            $$$$$$$$$$       g i  h      aK `  cb#    d      eeeeeeeeee eeee   eefeeeee", // Solid
     *b"                                                     !                                 ", // MaybeCLinkage
-    *b"            kkkkkkkkkk       kkkkkkkkkkkkkkkkkkkkkkkkkk    k kk k    k     k   k\xa3      ", // TypeAfterS
+    *b"            kkkkkkkkkk       kkkkkkkkkkkkkkkkkkkkkkkkkk    k kk k    k     k   k\xa2      ", // TypeAfterS
     *b"            ((((((((((                  &        '                                     ", // SourceOrLocal
     *b"            oooooooooo       o oolo    o oono moooo   o      oooooooooo oooo  ooooooooo", // FunctionRest
     *b"            qqqqqqqqqq       q qqpq    q qqqq qqqqq   q      qqqqqqqqqq qqqq  qqqqqqqqq", // AfterR
     *b"            rrrrrrrrrr       r rrpr    r rrrr rrrrr   r      rrrrrrrrrr rrrr  rrrrrrrrr", // AfterO
     *b"            ssssssssss       s ss s    s ssss sssss   s      ssssssssss ssss  sssssssss", // Items
-    *b"                              \xa4      t                                                 ", // MaybeArguments
+    *b"                              \xa3      t                                                 ", // MaybeArguments
     *b"                                     t                                                 ", // Arguments
     *b"            xxxxxxxxxx       x xx x   uxvxxxx xxxxx w x      xxxxxxxxxx xxxx  xxxxxxxxx", // ArgumentList
     *b"            {{{{{{{{{{       { {{ {    {y{{{{ {{{{{ z {      {{{{{{{{{{ {{{{  {{{{{{{{{", // PackList
@@ -80,25 +80,25 @@ static WIDE_LETTERS: [[u8; 87]; 82] = [
     *b"                                     t                                                 ", // ArgumentsAlone
     *b"            EEEEEEEEEE         EE    D  EE       E           E EEE E E  EEEEE EE       ", // NestRestAlone
     *b"                                         !                                             ", // HolderMark
-    *b"            $$$$$$$$$$         GH       \"        #           \x9e \x9d\x9e\x9e \x9e \x9e  \x9e\x9e\x9e\x9e\x9e \x9e\x9e       ", // HeldComponent
+    *b"            $$$$$$$$$$         GH       \"        #           \x9d \x9c\x9d\x9d \x9d \x9d  \x9d\x9d\x9d\x9d\x9d \x9d\x9d       ", // HeldComponent
     *b"                                                           !  !                     !  ", // FloatEnd
     *b"                                                                        \x93\x93 \x93      \x92    ", // ComponentAfterC
     *b"                                                             \x85  \x84\x8b \x8f \x8e  \x8c\x88\x83\x8a\x86 \x89\x8d       ", // OtherOperator
     *b"            xxxxxxxxxx       x xx x  uuxvxxxx xxxxx w x      xxxxxxxxxx xxxx  xxxxxxxxx", // ArgumentsFirst
     *b"            $$$$$$$$$$                  \" )      #                                     ", // PlainEntity
     *b"            $$$$$$$$$$                  \" K      #                                     ", // PlainTypeEntity
-    *b"                                   \x94                                                   ", // OtherSpecial
-    *b"                                                \x95 \x99                                    ", // SpecialAfterG
+    *b"                                   !                                                   ", // SpecialMark
+    *b"                                                \x94 \x98                                    ", // SpecialAfterG
     *b"                                                                          !     !      ", // CloneLetter
-    *b"                                                                                \x96      ", // TypeInStd
-    *b"                              \x97                                                        ", // MaybeTags
+    *b"                                                                                \x95      ", // TypeInStd
+    *b"                              \x96                                                        ", // MaybeTags
 ];
 
 /// The number of the rule that a kind takes at a byte, if it takes one.
 #[inline]
 fn number(kind: u16, byte: u8) -> Option<usize>
     requires { kind < wide.kinds }
-    ensures few { IfSome result (λ number. number < 132) }
+    ensures few { IfSome result (λ number. number < 131) }
     ensures rule { (head : Head) → MatchOption result (wide.rule kind byte ≡ None) (λ number. wide.rule kind byte ≡ Some (listed_rule head number)) }
 {
     match letter_in(&WIDE_LETTERS[kind as usize], byte) {

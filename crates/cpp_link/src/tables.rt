@@ -3,7 +3,7 @@
 use cpp_grammar::production::Production;
 
 /// The productions.
-pub(crate) const PRODUCTIONS: [Production; 132] = [
+pub(crate) const PRODUCTIONS: [Production; 131] = [
     Production::Mark,
     Production::InternalName,
     Production::LocalTypeName,
@@ -119,7 +119,6 @@ pub(crate) const PRODUCTIONS: [Production; 132] = [
     Production::NestInstance,
     Production::Conversion,
     Production::OperatorNameWithC,
-    Production::SpecialWithG,
     Production::Clone,
     Production::TaggedStdType,
     Production::TypeTag,
@@ -139,7 +138,7 @@ pub(crate) const PRODUCTIONS: [Production; 132] = [
 ];
 
 /// How many parts each has.
-pub(crate) const PART_COUNTS: [u8; 132] = [
+pub(crate) const PART_COUNTS: [u8; 131] = [
     0, // Mark
     2, // InternalName
     2, // LocalTypeName
@@ -255,11 +254,10 @@ pub(crate) const PART_COUNTS: [u8; 132] = [
     3, // NestInstance
     1, // Conversion
     2, // OperatorNameWithC
-    1, // SpecialWithG
     2, // Clone
     2, // TaggedStdType
     2, // TypeTag
-    1, // OtherSpecial
+    2, // OtherSpecial
     1, // SpecialName
     4, // ConstructionVtable
     2, // NestTemplate
@@ -275,7 +273,7 @@ pub(crate) const PART_COUNTS: [u8; 132] = [
 ];
 
 /// Whether parts without a row may stand between those of each.
-pub(crate) const SKIPS_PARTS: [bool; 132] = [
+pub(crate) const SKIPS_PARTS: [bool; 131] = [
     false, // Mark
     false, // InternalName
     false, // LocalTypeName
@@ -391,7 +389,6 @@ pub(crate) const SKIPS_PARTS: [bool; 132] = [
     true, // NestInstance
     false, // Conversion
     false, // OperatorNameWithC
-    false, // SpecialWithG
     false, // Clone
     false, // TaggedStdType
     false, // TypeTag
@@ -411,7 +408,7 @@ pub(crate) const SKIPS_PARTS: [bool; 132] = [
 ];
 
 /// Before how many of its parts nothing is done in each: before none, the first, or all, which are five at most.
-pub(crate) const QUIET_PARTS: [u8; 132] = [
+pub(crate) const QUIET_PARTS: [u8; 131] = [
     5, // Mark
     1, // InternalName
     1, // LocalTypeName
@@ -527,7 +524,6 @@ pub(crate) const QUIET_PARTS: [u8; 132] = [
     0, // NestInstance
     0, // Conversion
     1, // OperatorNameWithC
-    5, // SpecialWithG
     5, // Clone
     1, // TaggedStdType
     1, // TypeTag
