@@ -228,7 +228,7 @@ def inside():
 
 # a node has the arguments of its tree; these have others. A number of a thunk stands for it, and the letters of a builtin type are told apart
 def camel(name): return "".join(part.capitalize() for part in name.split("_"))
-NAMES = {"list": "Cell", "symbol": "Whole"}
+NAMES = {"list": "Cell", "symbol": "Whole", "clone": "CloneOf"}
 PIECES = "source operator literal_operator constructor destructor lambda unnamed string_literal conversion".split()
 OTHERS = {
     "function": [("name", TREE), ("q", QUALIFIERS), ("m", MARK), ("returned", TREE), ("parameters", TREE)],
