@@ -228,7 +228,7 @@ def inside():
 
 # a node has the arguments of its tree; these have others. A number of a thunk stands for it, and the letters of a builtin type are told apart
 def camel(name): return "".join(part.capitalize() for part in name.split("_"))
-NAMES = {"list": "Cell", "symbol": "Whole"}
+NAMES = {"list": "Cell", "symbol": "Whole", "clone": "CloneOf"}
 PIECES = "source operator literal_operator constructor destructor lambda unnamed string_literal conversion".split()
 OTHERS = {
     "function": [("name", TREE), ("q", QUALIFIERS), ("m", MARK), ("returned", TREE), ("parameters", TREE)],
@@ -468,7 +468,7 @@ def declarations():
     yield "cpp_press_laws/proofs/Components/Growing.antt", "size", fold("size", [], lambda parts: f"suc ({' + '.join(parts)})", "1", trees=named(PRESSED))
     yield "cpp_press_laws/specs/Apart.antt", "IsNeverReferred", never_referred()
     yield "cpp_press/specs/Weight.antt", "weight", fold("weight", [], summed("12"), "12", trees=named(PRESSED))
-    nowhere = {"symbol": None, "construction": None, "holder": None, "sized_float": None, "conversion": None, "absent": None, ("order", "function"): ["name", "returned", "parameters", "q", "ref"]}
+    nowhere = {"symbol": None, "construction": None, "clone": None, "holder": None, "sized_float": None, "conversion": None, "absent": None, ("order", "function"): ["name", "returned", "parameters", "q", "ref"]}
     yield "cpp_press_laws/proofs/Components/FewComponents.antt", "counts", by_each("counts", "few", [], nowhere, {"local": "local-name", "address_of": "address"})
     yield "cpp_press_laws/proofs/EveryWay/Law.antt", "reads", by_each("reads", "reads", ["c"], {**nowhere, ("before", "function"): ["c"]}, {"address_of": "address"})
     yield "cpp_press_laws/proofs/Fits/Packs.antt", "closed-packs", closed_packs()

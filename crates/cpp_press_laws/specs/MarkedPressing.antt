@@ -3,7 +3,7 @@
 use Rattle.std.specs.Prelude.{ℕ, ◌-◌, List, [], ◌∷◌, ◌++◌, Bool, true, false, cond, ◌&&◌, codes, Option}
 use Prim.Native.String.{String}
 use Rattle.sym_spell.specs.Pressing.{◌and◌, text, nothing}
-use Rattle.cpp_grammar.specs.Term.{RefQualifier, Term, symbol, function, object, special, thunk, of_name, construction, alone, in_std, within, instance, local, holder, tagged, abbreviation, parameter, source, operator, literal_operator, constructor, destructor, lambda, unnamed, string_literal, conversion, builtin, sized_float, vendor, pointer, lvalue, rvalue, array, member_pointer, function_type, qualified, vector, complex, expansion, integer, boolean, null_pointer, encoding_literal, address_of, pack, nil, list, absent}
+use Rattle.cpp_grammar.specs.Term.{RefQualifier, Term, symbol, function, object, special, thunk, of_name, construction, clone, alone, in_std, within, instance, local, holder, tagged, abbreviation, parameter, source, operator, literal_operator, constructor, destructor, lambda, unnamed, string_literal, conversion, builtin, sized_float, vendor, pointer, lvalue, rvalue, array, member_pointer, function_type, qualified, vector, complex, expansion, integer, boolean, null_pointer, encoding_literal, address_of, pack, nil, list, absent}
 use Rattle.cpp_press_laws.specs.Texts.{counted, ordinal, signed_text, qualifier_letters, mark_letter, name_letters, special_code, thunk_text, discriminator_text}
 use Rattle.cpp_press_laws.specs.MarkedComponents.{compared, not_compared, Spelling, referred, component}
 use Rattle.cpp_press_laws.specs.Pressing.{is_operator, is_one_piece}
@@ -128,6 +128,7 @@ ways_of n (thunk kind e) = encoding_ways (λ here. text (thunk_text kind) and (w
 ways_of n (of_name l name q ref) = encoding_ways (λ here. text (special_code l) and (ways_of here name).as_name (name_letters q ref))
 ways_of n (construction derived digits parent) =
     encoding_ways (λ here. says "TC" and (ways_of here derived).as_type and text (digits ++ codes "_") and (ways_of here parent).as_type)
+ways_of n (clone letter e) = encoding_ways (λ here. text (codes "GT" ++ letter ∷ []) and (ways_of here e).as_encoding)
 ways_of n (alone p) =
     let spelling = (ways_of n p).as_piece in
     name_ways n (alone p) spelling spelling spelling spelling (λ in_type arguments. template_before n (alone p) false spelling arguments)

@@ -140,6 +140,7 @@ between_noted Production.Conversion around place [] x y stays packs = unnamed_go
 between_noted Production.Constructor around place (v ∷ []) x y stays packs = piece_goes around x y (constructor (letter_of v)) _ packs (ap term_.constructor (letter_noted (noted_scope around.scope) v))
 between_noted Production.Destructor around place (v ∷ []) x y stays packs = piece_goes around x y (destructor (letter_of v)) _ packs (ap term_.destructor (letter_noted (noted_scope around.scope) v))
 between_noted Production.StdName around place (v ∷ []) x y stays packs = named_goes around x x y y (in_std (piece_of v)) _ false [] [] (ap term_.in_std (piece_noted (noted_scope around.scope) v)) refl (moves_none around x x y y refl refl packs)
+between_noted Production.TaggedStdType around place (v ∷ []) x y stays packs = named_goes around x x y y (in_std (piece_of v)) _ false [] [] (ap term_.in_std (piece_noted (noted_scope around.scope) v)) refl (moves_none around x x y y refl refl packs)
 between_noted Production.AbbreviatedName around place (v ∷ []) x y stays packs = named_goes around x x y y (tree_of v) _ true [] [] (tree_noted (noted_scope around.scope) v) refl (moves_none around x x y y refl refl packs)
 between_noted Production.NestStd around place (v ∷ []) x y stays packs = named_goes around x x y y (in_std (piece_of v)) _ false [] [] (ap term_.in_std (piece_noted (noted_scope around.scope) v)) refl (moves_none around x x y y refl refl packs)
 between_noted Production.NestStd around place (v ∷ w ∷ []) x y stays packs =
@@ -163,6 +164,7 @@ between_noted Production.NestInstance around place (v ∷ w ∷ []) x y stays pa
     named_goes around x x y y (instance (prefix_tree around.prefix) (no_items v)) _ false (w ∷ []) (noted_value (noted_scope around.scope) w ∷ []) e refl (moves_none around x x y y refl refl packs)
 between_noted Production.NestTag around place (v ∷ []) x y stays packs = tag_goes around x y v packs
 between_noted Production.Tag around place (v ∷ []) x y stays packs = tag_goes around x y v packs
+between_noted Production.TypeTag around place (v ∷ []) x y stays packs = tag_goes around x y v packs
 between_noted Production.NestNext around place [] x y stays packs =
     after_goes around x (with_prefix around x) y _ leaf_.nothing_there (prefix_tree around.prefix) _ true [] (prefix_tree_noted (noted_scope around.scope) around.prefix) (prefix_moves around x y packs)
 between_noted Production.NestNext around place (v ∷ []) x y stays packs = after_goes around x x y y v (tree_of v) _ false (v ∷ []) (tree_noted (noted_scope around.scope) v) (moves_none around x x y y refl refl packs)
@@ -195,6 +197,7 @@ between_noted Production.IntegerLiteral around place (v ∷ []) x y stays packs 
 between_noted Production.Encoding around place vs x y stays packs = absurd stays
 between_noted Production.Special around place vs x y stays packs = absurd stays
 between_noted Production.Guard around place vs x y stays packs = absurd stays
+between_noted Production.OtherSpecial around place vs x y stays packs = absurd stays
 between_noted _ around place vs x y stays packs = same_goes around x y vs packs
 
 -- ## Behind a production

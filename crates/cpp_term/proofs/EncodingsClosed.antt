@@ -13,7 +13,7 @@ use Rattle.sym_link.specs.Reading.{Found, Open, Next, ◌>>=◌}
 use Rattle.sym_link.specs.Unfold.{found, alone, unfold_tree, unfold_forest}
 use Rattle.cpp_grammar.specs.declared.kind.Kind.{Kind}
 use Rattle.cpp_grammar.specs.declared.production.Production.{Production}
-use Rattle.cpp_grammar.specs.KindNumbers.{ENCODING, SPECIAL}
+use Rattle.cpp_grammar.specs.KindNumbers.{ENCODING, SPECIAL, SPECIAL_MARK, SPECIAL_AFTER_G}
 use Rattle.cpp_grammar.specs.Grammar.{Alternative, is_in, pick, kinds, number_of_kind, parts_of}
 use Rattle.cpp_grammar.specs.Either.{either_alternatives, either_choose}
 use Rattle.cpp_grammar.specs.Table.{either, rule_of, rule_taken}
@@ -29,7 +29,7 @@ use Rattle.cpp_grammar.proofs.ClosedValues.{AllGood, GoodPrefix, held, good_tree
 use Rattle.cpp_grammar.proofs.ClosedStates.{Bare, AllOld, old_later, old_grows, ok_same, behind_bind}
 use Rattle.cpp_grammar.proofs.ClosedParts.{StaysInside, between_goes}
 use Rattle.cpp_grammar.proofs.ClosedTrees.{is_encoding, has_encoding, opens, or_true, at_number, its_symbols, stays, takes_byte, Whole, same_rule, opening_keeps, all_append, good_fits, old_fits, grows_fits, old_inner, one_good, known, name_comes, same_found, stepped, inner_closes, forest_good, tree_good, trees_good}
-use Rattle.cpp_term.proofs.KindsNoted.{all_open, in_special, may_be_special, encodings_open, special_types}
+use Rattle.cpp_term.proofs.KindsNoted.{all_open, is_special_kind, in_special, may_be_special, encodings_open, special_types}
 use Rattle.cpp_term.proofs.MeaningNoted.{Inside}
 
 -- ## What is chosen in a kind
@@ -82,9 +82,9 @@ opens_in_encodings kind byte p four e = picked_opens (either_alternatives kind) 
     go true b h k = k
     go false b h k = absurd (false≢true h)
 
-special_in : (kind : Kind) (byte : ℕ) (p : Production) → either_choose kind byte ≡ Some p → in_special p ≡ true → nat_eq (number_of_kind kind) 5 ≡ true
+special_in : (kind : Kind) (byte : ℕ) (p : Production) → either_choose kind byte ≡ Some p → in_special p ≡ true → is_special_kind (number_of_kind kind) ≡ true
 unfolding either_choose
-special_in kind byte p e h = go (nat_eq (number_of_kind kind) 5) (may_be_special (either_alternatives kind)) (picked_special (either_alternatives kind) byte p e h) (special_types kind)
+special_in kind byte p e h = go (is_special_kind (number_of_kind kind)) (may_be_special (either_alternatives kind)) (picked_special (either_alternatives kind) byte p e h) (special_types kind)
   where
     go : (a b : Bool) → b ≡ true → a || not b ≡ true → a ≡ true
     go true b h k = refl
@@ -94,10 +94,10 @@ special_in kind byte p e h = go (nat_eq (number_of_kind kind) 5) (may_be_special
 one_production : (p q : Production) (rule : Rule) → rule ≡ rule_of p → rule ≡ rule_of q → q ≡ p
 one_production p q rule is so = sym (at_number q) ∙ ap (λ x. production_at x.number) (sym so ∙ is) ∙ at_number p
 
-special_kind : (p : Production) (k : ℕ) (rule : Rule) (taken : List ℕ) → rule ≡ rule_of p → k < either.kinds → TakesRule either k rule taken → in_special p ≡ true → nat_eq k 5 ≡ true
+special_kind : (p : Production) (k : ℕ) (rule : Rule) (taken : List ℕ) → rule ≡ rule_of p → k < either.kinds → TakesRule either k rule taken → in_special p ≡ true → is_special_kind k ≡ true
 special_kind p k rule taken is lt takes h =
     let c = chosen_rule k rule taken lt takes in
-    ap (λ n. nat_eq n 5) c.number ∙ special_in c.kind c.byte c.production c.chosen (ap in_special (one_production p c.production rule is c.is) ∙ h)
+    ap (λ n. is_special_kind n) c.number ∙ special_in c.kind c.byte c.production c.chosen (ap in_special (one_production p c.production rule is c.is) ∙ h)
 
 -- ## Encodings
 
@@ -131,6 +131,28 @@ special_closed (grown t nothing) rule from state r is trees lt le old e =
 special_closed nothing rule from state r is trees lt le old e = absurd trees
 special_closed (grown t (grown u f)) rule from state r is trees lt le old e = absurd trees.1
 
+other_special_closed : (f : Forest) (rule : Open State Around) (from : ℕ) (state : State) (r : Found (List Value) State) → production_at rule.rule.number ≡ Production.OtherSpecial →
+    AreTrees either (parts_of Production.OtherSpecial) f → rule.context.encoding < rule.place → rule.place ≤ from → AllOld rule.context rule.place state.candidates →
+    unfold_forest cpp rule [] from f state ≡ Ok r → is_open (tree_of (part r.value 1)) ≡ false
+unfolding cpp parts_of number_of_kind between is_encoding nameless_ part in_name
+other_special_closed (grown t (grown u nothing)) rule from state r is trees lt le old e =
+    let around = rule.context in
+    let at = rule.place in
+    let first = stepped rule [] from state t (grown u nothing) r (nameless_ at [] state) (ap (λ p. between p around at [] state) is) e in
+    let old0 = old_later (in_name at) at from state.candidates le (old_inner around at state.candidates lt old) in
+    let c = name_comes t (tree_good t) (OfKind SPECIAL_MARK) at from state first.part (known SPECIAL_MARK (lit≤ tt)) trees.0 refl le old0 first.is in
+    let next = from + length (spell t) in
+    let vs = c.value ∷ [] in
+    let onward = subst (λ ws. unfold_forest cpp rule ws next (grown u nothing) first.part.state ≡ Ok r) c.is first.rest in
+    let second = stepped rule vs next first.part.state u nothing r (nameless_ at vs first.part.state) (ap (λ p. between p around at vs first.part.state) is) onward in
+    let old1 = old_grows (in_name at) from next state first.part.state (omega arith) old0 c.grows in
+    let d = name_comes u (tree_good u) (OfKind SPECIAL_AFTER_G) at next first.part.state second.part (known SPECIAL_AFTER_G (lit≤ tt)) trees.1.0 refl (omega (arith, le)) old1 second.is in
+    let same : found (c.value ∷ d.value ∷ []) second.part.state ≡ r = same_found vs second.part.value (d.value ∷ []) second.part.state r d.is second.rest in
+    subst (λ x. is_open (tree_of (part x.value 1)) ≡ false) same ((good_tree (Bare (in_name at)) d.value d.good).closed refl)
+other_special_closed nothing rule from state r is trees lt le old e = absurd trees
+other_special_closed (grown t nothing) rule from state r is trees lt le old e = absurd trees.1
+other_special_closed (grown t (grown u (grown v f))) rule from state r is trees lt le old e = absurd trees.1.1
+
 inner_closed : (p : Production) → opens p ≡ true → (f : Forest) (rule : Open State Around) (from : ℕ) (state : State) (r : Found (List Value) State) → production_at rule.rule.number ≡ p → AreTrees either (parts_of p) f →
     rule.context.encoding < rule.place → rule.place ≤ from → AllOld rule.context rule.place state.candidates → unfold_forest cpp rule [] from f state ≡ Ok r →
     (byte : ℕ) (around : Around) → is_open (tree_of (meaning p byte around r.value)) ≡ false
@@ -138,6 +160,7 @@ unfolding opens meaning tree_of is_open
 inner_closed Production.Encoding o f rule from state r is trees lt le old e byte around = closed_encoding (part r.value 0) (no_items (part r.value 1))
 inner_closed Production.Special o f rule from state r is trees lt le old e byte around = special_closed f rule from state r is trees lt le old e
 inner_closed Production.Guard o f rule from state r is trees lt le old e byte around = refl
+inner_closed Production.OtherSpecial o f rule from state r is trees lt le old e byte around = other_special_closed f rule from state r is trees lt le old e
 inner_closed Production.Mark o f rule from state r is trees lt le old e byte around = absurd (false≢true o)
 inner_closed _ o f rule from state r is trees lt le old e byte around = absurd (false≢true o)
 
@@ -184,6 +207,7 @@ keeps Production.Symbol h around place vs state n e = goes_on vs around state n 
 keeps Production.NonVirtualThunk h around place vs state n e = goes_on vs around state n e
 keeps Production.VirtualThunk h around place vs state n e = goes_on vs around state n e
 keeps Production.CovariantThunk h around place vs state n e = goes_on vs around state n e
+keeps Production.Clone h around place vs state n e = goes_on vs around state n e
 keeps Production.EncodingLiteral h around place vs state n e = goes_on vs around state n e
 keeps Production.Address h around place vs state n e = goes_on vs around state n e
 keeps Production.LocalName h around place [] state n e = goes_on [] around state n e
@@ -272,6 +296,9 @@ inside_values Production.LocalType [] plain all special = refl
 inside_values Production.EncodingLiteral (u ∷ v ∷ vs) plain all special = (all refl).1.0 refl
 inside_values Production.EncodingLiteral (v ∷ []) plain all special = refl
 inside_values Production.EncodingLiteral [] plain all special = refl
+inside_values Production.Clone (u ∷ v ∷ vs) plain all special = (all refl).1.0 refl
+inside_values Production.Clone (v ∷ []) plain all special = refl
+inside_values Production.Clone [] plain all special = refl
 inside_values Production.Address (u ∷ v ∷ w ∷ vs) plain all special = (all refl).1.1.0 refl
 inside_values Production.Address (u ∷ v ∷ []) plain all special = refl
 inside_values Production.Address (v ∷ []) plain all special = refl
@@ -283,7 +310,7 @@ inside_values _ vs plain all special = first_of (cc, search tt)
 
 -- Encodings among the parts of a production have no free parameters.
 pub insides : (p : Production) (rule : Rule) (taken : List ℕ) (parts : Forest) (k : ℕ) (around : Around) (at : ℕ) (state : State) (inner : Found (List Value) State) → rule ≡ rule_of p → opens p ≡ false → k < either.kinds →
-    IsTree either (OfKind k) (branch rule taken parts) → around.encoding ≤ at → (nat_eq k 5 ≡ true → Bare around) → GoodPrefix (Bare around) around.prefix → AllOld around at state.candidates →
+    IsTree either (OfKind k) (branch rule taken parts) → around.encoding ≤ at → (is_special_kind k ≡ true → Bare around) → GoodPrefix (Bare around) around.prefix → AllOld around at state.candidates →
     unfold_forest cpp (Whole rule taken at around state) [] (at + length taken) parts state ≡ Ok inner → Inside p inner.value
 insides p rule taken parts k around at state inner is plain lt tree le special pre old e =
     let whole = Whole rule taken at around state in

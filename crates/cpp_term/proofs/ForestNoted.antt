@@ -24,6 +24,7 @@ use Rattle.cpp_term.specs.Values as value_
 use Rattle.cpp_term.specs.Between as between_
 use Rattle.cpp_term.specs.Unfolding as unfolded_
 use Rattle.cpp_term.specs.Annotated.{annotate, noted_scope, noted_value, noted_values, noted_around}
+use Rattle.cpp_term.proofs.KindsNoted.{is_special_kind}
 use Rattle.cpp_term.proofs.Notes.{both, closed_noted}
 use Rattle.cpp_term.proofs.StatesNoted.{Alike, alike_bind, Same, Moves, moves_none, moves_then, same_moves, IsNoted, AllNoted}
 use Rattle.cpp_term.proofs.BetweenNoted.{InScope, Goes, between_noted}
@@ -107,7 +108,7 @@ value_closed s r _ h = refl
 
 -- a tree of a kind of special names: these stand where nothing is named
 unfoldable pub is_special : Sym → Bool
-is_special (OfKind k) = nat_eq k 5
+is_special (OfKind k) = is_special_kind k
 is_special _ = false
 
 unfoldable pub has_special : List Sym → Bool

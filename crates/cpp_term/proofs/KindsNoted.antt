@@ -1,7 +1,8 @@
--- Laws of the table from which `Insides` is to be shown: encodings are made by productions that open one, and what a special name is of stands in the kind of special names alone.
-use Rattle.std.proofs.Common.{◌≡◌, refl, List, [], ◌∷◌, Bool, true, false, not, ◌||◌, ◌&&◌, nat_eq}
+-- Laws of the table from which `Insides` is to be shown: encodings are made by productions that open one, and what a special name is of stands in the kinds of special names alone.
+use Rattle.std.proofs.Common.{◌≡◌, refl, ℕ, List, [], ◌∷◌, Bool, true, false, not, ◌||◌, ◌&&◌, nat_eq}
 use Rattle.cpp_grammar.specs.declared.kind.Kind.{Kind}
 use Rattle.cpp_grammar.specs.declared.production.Production.{Production}
+use Rattle.cpp_grammar.specs.KindNumbers.{SPECIAL, SPECIAL_AFTER_G}
 use Rattle.cpp_grammar.specs.Grammar.{Alternative, number_of_kind}
 use Rattle.cpp_grammar.specs.Wide.{wide_alternatives}
 use Rattle.cpp_grammar.specs.Either.{either_alternatives}
@@ -11,7 +12,11 @@ unfoldable pub all_open : List Alternative → Bool
 all_open [] = true
 all_open (a ∷ rest) = opens a.production && all_open rest
 
--- a production of the kind of special names whose parts are types and names
+-- the kinds of special names
+unfoldable pub is_special_kind : ℕ → Bool
+is_special_kind k = nat_eq k SPECIAL || nat_eq k SPECIAL_AFTER_G
+
+-- a production of these kinds whose parts are types and names
 unfoldable pub in_special : Production → Bool
 in_special Production.SpecialType = true
 in_special Production.SpecialName = true
@@ -28,7 +33,7 @@ unfolding number_of_kind wide_alternatives either_alternatives all_open opens
 encodings_open Kind.Symbol = refl
 encodings_open _ = refl
 
-pub special_types : (kind : Kind) → nat_eq (number_of_kind kind) 5 || not (may_be_special (either_alternatives kind)) ≡ true
-unfolding number_of_kind wide_alternatives either_alternatives in_special may_be_special
+pub special_types : (kind : Kind) → is_special_kind (number_of_kind kind) || not (may_be_special (either_alternatives kind)) ≡ true
+unfolding number_of_kind wide_alternatives either_alternatives is_special_kind in_special may_be_special
 special_types Kind.Symbol = refl
 special_types _ = refl

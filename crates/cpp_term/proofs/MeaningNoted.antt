@@ -296,6 +296,7 @@ Inside Production.Guard vs = is_open (tree_of (part vs 1)) ≡ false
 Inside Production.SpecialType vs = is_open (tree_of (part vs 0)) ≡ false
 Inside Production.SpecialName vs = is_open (tree_of (part vs 0)) ≡ false
 Inside Production.ConstructionVtable vs = (is_open (tree_of (part vs 0)) ≡ false) × (is_open (tree_of (part vs 3)) ≡ false)
+Inside Production.Clone vs = is_open (tree_of (part vs 1)) ≡ false
 Inside Production.NonVirtualThunk vs = is_open (tree_of (part vs 2)) ≡ false
 Inside Production.VirtualThunk vs = is_open (tree_of (part vs 4)) ≡ false
 Inside Production.CovariantThunk vs = is_open (tree_of (part vs 2)) ≡ false
@@ -311,6 +312,8 @@ pub meaning_noted : (production : Production) (byte : ℕ) (around : Around) (vs
 unfolding noted_.meaning meaning noted_value noted_around annotate
 meaning_noted Production.Encoding byte around vs h = absurd h
 meaning_noted Production.Special byte around vs h = part_noted (noted_scope around.scope) vs 0
+meaning_noted Production.OtherSpecial byte around vs h = part_noted (noted_scope around.scope) vs 1
+meaning_noted Production.Clone byte around vs h = both (λ x y. value_.tree (term_.clone x y) true) (letter_part (noted_scope around.scope) vs 0) (closed_part (noted_scope around.scope) vs 1 h)
 meaning_noted Production.Guard byte around vs h = three (λ x y z. value_.tree (term_.of_name 86 x y z) true) (closed_part (noted_scope around.scope) vs 1 h) (qualifiers_part (noted_scope around.scope) vs 1) (ref_part (noted_scope around.scope) vs 1)
 meaning_noted Production.NestedName byte around vs h = five (λ x a b c m. value_.named x (record { restrict = a; volatile = b; const = c }) m) (tree_part (noted_scope around.scope) vs 4) (there_part (noted_scope around.scope) vs 0) (there_part (noted_scope around.scope) vs 1) (there_part (noted_scope around.scope) vs 2) (mark_part (noted_scope around.scope) vs 3)
 meaning_noted Production.LocalName byte around vs h = five (λ x y d q r. value_.named (term_.local x y d) q r) (closed_part (noted_scope around.scope) vs 0 h) (tree_part (noted_scope around.scope) vs 2) (discriminator_part (noted_scope around.scope) vs 3) (qualifiers_part (noted_scope around.scope) vs 2) (ref_part (noted_scope around.scope) vs 2)
@@ -354,6 +357,9 @@ meaning_noted Production.Conversion byte around vs h =
 meaning_noted Production.Constructor byte around vs h = ap (λ x. value_.tree x false) (applied_part (noted_scope around.scope) vs 0 1)
 meaning_noted Production.Destructor byte around vs h = ap (λ x. value_.tree x false) (applied_part (noted_scope around.scope) vs 0 1)
 meaning_noted Production.StdName byte around vs h = ap (λ x. value_.tree x false) (applied_part (noted_scope around.scope) vs 0 1)
+meaning_noted Production.TypeTag byte around vs h = ap (λ x. value_.named x unqualified any_value) (applied_part (noted_scope around.scope) vs 0 1)
+meaning_noted Production.TaggedStdType byte around vs h = ap (λ x. value_.tree x false) (applied_part (noted_scope around.scope) vs 0 1)
+meaning_noted Production.TypeInStd byte around vs h = part_noted (noted_scope around.scope) vs 0
 meaning_noted Production.Tag byte around vs h = ap (λ x. value_.named x unqualified any_value) (applied_part (noted_scope around.scope) vs 0 1)
 meaning_noted Production.NestTag byte around vs h = part_noted (noted_scope around.scope) vs 1
 meaning_noted Production.AbbreviatedName byte around vs h = ap (λ x. value_.tree x false) (applied_part (noted_scope around.scope) vs 0 1)

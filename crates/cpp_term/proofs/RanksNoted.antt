@@ -7,7 +7,7 @@ use Rattle.sym_print.specs.declared.detail.Detail.{Detail}
 use Rattle.sym_print.specs.Details.{has_arguments, has_parameters}
 use Rattle.sym_print.specs.Unfold.{PartOf, text, sub, RanksBelow}
 use Rattle.cpp_grammar.specs.Term.{Qualifiers, RefQualifier, Signed}
-use Rattle.cpp_term.specs.Term.{Term, symbol, function, object, special, thunk, of_name, construction, alone, in_std, within, instance, local, holder, tagged, abbreviation, parameter, source, constructor, destructor, lambda, conversion, pointer, lvalue, rvalue, array, member_pointer, function_type, qualified, expansion, integer, pack, nil, list, absent, sized_float}
+use Rattle.cpp_term.specs.Term.{Term, symbol, function, object, special, thunk, of_name, construction, clone, alone, in_std, within, instance, local, holder, tagged, abbreviation, parameter, source, constructor, destructor, lambda, conversion, pointer, lvalue, rvalue, array, member_pointer, function_type, qualified, expansion, integer, pack, nil, list, absent, sized_float}
 use Rattle.cpp_term.specs.Scope.{element, pack_length}
 use Rattle.cpp_grammar.specs.Items.{Form, root, full, bare, left, right, low, base, piece, first, more, expand, is_reference, is_funarr}
 use Rattle.cpp_term.specs.Items.{Context, Item, indexed, argument, head, packs_of, is_empty}
@@ -263,6 +263,7 @@ full_falls d c (special letter t) = (omega arith, (omega arith, tt))
 full_falls d c (thunk kind e) = (omega arith, tt)
 full_falls d c (of_name letter name q ref) = (omega arith, falls_text _ (encoding_text q ref))
 full_falls d c (construction derived digits parent) = (omega arith, (omega arith, (omega arith, (omega arith, tt))))
+full_falls d c (clone letter e) = (omega arith, tt)
 full_falls d c _ = tt
 
 bare_falls : (d : Detail) (c : Context) (t : Term) → RanksBelow rank (weight_in c t) (bare_parts d t)

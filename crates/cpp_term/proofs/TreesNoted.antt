@@ -12,7 +12,7 @@ use Rattle.sym_shape.specs.Tree.{Tree, Forest, branch, empty, token, fixed, noth
 use Rattle.sym_link.specs.Reading.{Found, Open, Next, ◌>>=◌}
 use Rattle.sym_link.specs.Unfold.{found, alone, unfold_tree, unfold_forest}
 use Rattle.cpp_grammar.specs.declared.production.Production.{Production}
-use Rattle.cpp_grammar.specs.KindNumbers.{SYMBOL, SPECIAL, COMPLETE_NAME, ITEMS}
+use Rattle.cpp_grammar.specs.KindNumbers.{SYMBOL, SPECIAL, SPECIAL_MARK, SPECIAL_AFTER_G, COMPLETE_NAME, ITEMS}
 use Rattle.cpp_grammar.specs.Grammar.{parts_of, number_of_kind}
 use Rattle.cpp_grammar.specs.Table.{either, rule_of}
 use Rattle.cpp_grammar.proofs.Widening.{either_sound}
@@ -23,7 +23,7 @@ use Rattle.cpp_grammar.specs.Between.{in_name, in_types, between, no_items}
 use Rattle.cpp_grammar.specs.Meaning.{meaning}
 use Rattle.cpp_grammar.specs.Unfolding as unfolding_
 use Rattle.cpp_grammar.specs.Unfolding.{last_token, number_tested, opening, production_at, byte_of, close, cpp}
-use Rattle.cpp_grammar.proofs.ClosedValues.{GoodPrefix, held, good_tree}
+use Rattle.cpp_grammar.proofs.ClosedValues.{Good, GoodPrefix, held, good_tree}
 use Rattle.cpp_grammar.proofs.ClosedStates.{Bare, AllOld, AllNew, Grows, old_later, old_grows}
 use Rattle.cpp_grammar.proofs.ClosedParts.{StaysInside}
 use Rattle.cpp_grammar.proofs.ClosedTrees as trees_
@@ -44,6 +44,7 @@ use Rattle.cpp_term.proofs.Notes.{both, closed_noted, scope_noted}
 use Rattle.cpp_term.proofs.MeaningNoted.{Inside, part_noted, tree_noted, items_noted, encoding_noted, qualifiers_noted, ref_noted, three as three_}
 use Rattle.cpp_term.proofs.StatesNoted.{Alike, alike_bind, Same, Moves, moves_none, moves_then, same_moves, AllNoted, Comes}
 use Rattle.cpp_term.proofs.BetweenNoted.{close_noted}
+use Rattle.cpp_term.proofs.KindsNoted.{is_special_kind}
 use Rattle.cpp_term.proofs.ForestNoted.{is_special, has_special, Many, TreeNoted, AllTreesNoted, noted_open, forest_noted, cancel, value_closed}
 
 -- an opening tests a number, and leaves the state
@@ -64,7 +65,7 @@ opened R _ f place x y g h r = r
 
 -- only the production of special names has a part of that kind
 plain_special : (p : Production) → opens p || not (has_special (parts_of p)) ≡ true
-unfolding opens has_special is_special parts_of number_of_kind
+unfolding opens has_special is_special is_special_kind parts_of number_of_kind
 plain_special Production.Mark = refl
 plain_special _ = refl
 
@@ -77,7 +78,7 @@ no_special p h = go (opens p) (has_special (parts_of p)) h (plain_special p)
     go true b h k = absurd (true≢false h)
 
 plain_noted : (k : ℕ) (rule : Rule) (taken : List ℕ) (parts : Forest) → AllTreesNoted parts → (p : Production) → rule ≡ rule_of p → opens p ≡ false → (around : Around) (at : ℕ) (state : State) (other : value_.State) →
-    k < either.kinds → IsTree either (OfKind k) (branch rule taken parts) → around.encoding ≤ at → (nat_eq k 5 ≡ true → Bare around) → GoodPrefix (Bare around) around.prefix → AllOld around at state.candidates → Same around state other →
+    k < either.kinds → IsTree either (OfKind k) (branch rule taken parts) → around.encoding ≤ at → (is_special_kind k ≡ true → Bare around) → GoodPrefix (Bare around) around.prefix → AllOld around at state.candidates → Same around state other →
     Alike (Many around state other) (unfold_tree cpp around at (branch rule taken parts) state) (unfold_tree unfolded_.cpp (noted_around around) at (branch rule taken parts) other)
 unfolding cpp unfolded_.cpp noted_values
 plain_noted k rule taken parts all p is plain around at state other lt tree le special pre old same =
@@ -264,44 +265,75 @@ noted_types_next rule v vs us y is e g =
     ∙ ap (λ c. Ok (record { context = c; values = noted_value None v ∷ []; state = y })) (types_noted rule.place v)
     ∙ sym (ap (λ ws. Ok (record { context = noted_around (in_types rule.place (tree_of v)); values = ws; state = y })) one)
 
-guard_noted : (f : Forest) → AllTreesNoted f → (rule : Open State Around) (first : value_.State) (from : ℕ) (x : State) (y : value_.State) → production_at rule.rule.number ≡ Production.Guard → AreTrees either (parts_of Production.Guard) f →
+other_special_means : (around : Around) (byte : ℕ) (vs : List Value) (us : List value_.Value) (ws : List Value) (zs : List value_.Value) (v w : Value) → vs ≡ v ∷ [] → ws ≡ w ∷ [] → is_open (held w) ≡ false →
+    us ≡ noted_values None vs → zs ≡ noted_values None ws →
+    noted_.meaning Production.OtherSpecial byte (noted_around around) (us ++ zs) ≡ noted_value (noted_scope around.scope) (meaning Production.OtherSpecial byte around (vs ++ ws))
+unfolding meaning noted_.meaning part value_.part
+other_special_means around byte vs us ws zs v w e g closed i j =
+    ap (noted_.meaning Production.OtherSpecial byte (noted_around around)) (pair_noted None None vs us ws zs v w e g i j)
+    ∙ value_closed None (noted_scope around.scope) w closed
+    ∙ sym (ap (λ xs. noted_value (noted_scope around.scope) (meaning Production.OtherSpecial byte around xs)) (both (λ a b. a ++ b) e g))
+
+-- a production that begins an encoding, and has two parts in which nothing is named
+two_noted : (p : Production) (k l : Sym) → IsSymbol either k → IsSymbol either l → is_encoding k ≡ false → is_encoding l ≡ false →
+    ((around : Around) (at : ℕ) (vs : List Value) (state : State) → between p around at vs state ≡ Ok (nameless_ at vs state)) →
+    ((around : value_.Around) (at : ℕ) (vs : List value_.Value) (state : value_.State) → between_.between p around at vs state ≡ Ok (noted_nameless at vs state)) →
+    ((at : ℕ) (around : Around) (byte : ℕ) (vs : List Value) (us : List value_.Value) (ws : List Value) (zs : List value_.Value) (v w : Value) → vs ≡ v ∷ [] → ws ≡ w ∷ [] → Good (Bare (in_name at)) (held w) →
+    us ≡ noted_values None vs → zs ≡ noted_values None ws →
+    noted_.meaning p byte (noted_around around) (us ++ zs) ≡ noted_value (noted_scope around.scope) (meaning p byte around (vs ++ ws))) →
+    (f : Forest) → AllTreesNoted f → (rule : Open State Around) (first : value_.State) (from : ℕ) (x : State) (y : value_.State) → production_at rule.rule.number ≡ p → AreTrees either (k ∷ l ∷ []) f →
     rule.context.encoding < rule.place → rule.place ≤ from → AllOld rule.context rule.place x.candidates → Same rule.context x y →
-    Alike (Inner Production.Guard rule.context x y) (unfold_forest cpp rule [] from f x) (unfold_forest unfolded_.cpp (noted_open rule first) [] from f y)
-unfolding parts_of number_of_kind between between_.between is_encoding nameless_ noted_nameless in_name noted_scope noted_values
-guard_noted nothing all rule first from x y is trees lt le old same = absurd trees
-guard_noted (grown t nothing) all rule first from x y is trees lt le old same = absurd trees.1
-guard_noted (grown t (grown u (grown v f))) all rule first from x y is trees lt le old same = absurd trees.1.1
-guard_noted (grown t (grown u nothing)) all rule first from x y is trees lt le old same =
+    Alike (Inner p rule.context x y) (unfold_forest cpp rule [] from f x) (unfold_forest unfolded_.cpp (noted_open rule first) [] from f y)
+unfolding nameless_ noted_nameless in_name noted_scope noted_values
+two_noted p k l known_k known_l apart_k apart_l goes goes_noted means nothing all rule first from x y is trees lt le old same = absurd trees
+two_noted p k l known_k known_l apart_k apart_l goes goes_noted means (grown t nothing) all rule first from x y is trees lt le old same = absurd trees.1
+two_noted p k l known_k known_l apart_k apart_l goes goes_noted means (grown t (grown u (grown v f))) all rule first from x y is trees lt le old same = absurd trees.1.1
+two_noted p k l known_k known_l apart_k apart_l goes goes_noted means (grown t (grown u nothing)) all rule first from x y is trees lt le old same =
     let around = rule.context in
     let at = rule.place in
     let next = from + length (spell t) in
     let old0 = old_later (in_name at) at from x.candidates le (trees_.old_inner around at x.candidates lt old) in
     let same0 : Same (in_name at) x y = record { packs = same.packs; all = all_name around at x.candidates y.candidates lt old same.all } in
-    step (Inner Production.Guard around x y) rule first [] [] from x y t (grown u nothing) (nameless_ at [] x) (noted_nameless at [] y) (ap (λ p. between p around at [] x) is) (ap (λ p. between_.between p (noted_around around) at [] y) is)
-    (alike_bind (Many (in_name at) x y) (Inner Production.Guard around x y) (unfold_tree cpp (in_name at) from t x) (unfold_tree unfolded_.cpp (between_.in_name at) from t y)
+    step (Inner p around x y) rule first [] [] from x y t (grown u nothing) (nameless_ at [] x) (noted_nameless at [] y) (ap (λ p. between p around at [] x) is ∙ goes around at [] x) (ap (λ p. between_.between p (noted_around around) at [] y) is ∙ goes_noted (noted_around around) at [] y)
+    (alike_bind (Many (in_name at) x y) (Inner p around x y) (unfold_tree cpp (in_name at) from t x) (unfold_tree unfolded_.cpp (between_.in_name at) from t y)
     (λ part. unfold_forest cpp rule ([] ++ part.value) next (grown u nothing) part.state) (λ part. unfold_forest unfolded_.cpp (noted_open rule first) ([] ++ part.value) next (grown u nothing) part.state)
-    (named_part t all.0 (Byte 86) at from x y (lit≤ tt) trees.0 refl le old0 same0)
+    (named_part t all.0 k at from x y known_k trees.0 apart_k le old0 same0)
     (λ a b a-is many.
-    let c = trees_.name_comes t (trees_.tree_good t) (Byte 86) at from x a (lit≤ tt) trees.0 refl le old0 a-is in
+    let c = trees_.name_comes t (trees_.tree_good t) k at from x a known_k trees.0 apart_k le old0 a-is in
     let old1 = old_grows (in_name at) from next x a.state (omega arith) old0 c.grows in
     let same1 = same_moves (in_name at) x a.state y b.state same0 many.moves in
-    step (Inner Production.Guard around x y) rule first a.value b.value next a.state b.state u nothing (nameless_ at a.value a.state) (noted_nameless at b.value b.state)
-    (ap (λ p. between p around at a.value a.state) is) (ap (λ p. between_.between p (noted_around around) at b.value b.state) is)
-    (alike_bind (Many (in_name at) a.state b.state) (Inner Production.Guard around x y) (unfold_tree cpp (in_name at) next u a.state) (unfold_tree unfolded_.cpp (between_.in_name at) next u b.state)
+    step (Inner p around x y) rule first a.value b.value next a.state b.state u nothing (nameless_ at a.value a.state) (noted_nameless at b.value b.state)
+    (ap (λ p. between p around at a.value a.state) is ∙ goes around at a.value a.state)
+    (ap (λ p. between_.between p (noted_around around) at b.value b.state) is ∙ goes_noted (noted_around around) at b.value b.state)
+    (alike_bind (Many (in_name at) a.state b.state) (Inner p around x y) (unfold_tree cpp (in_name at) next u a.state) (unfold_tree unfolded_.cpp (between_.in_name at) next u b.state)
     (λ part. unfold_forest cpp rule (a.value ++ part.value) (next + length (spell u)) nothing part.state) (λ part. unfold_forest unfolded_.cpp (noted_open rule first) (b.value ++ part.value) (next + length (spell u)) nothing part.state)
-    (named_part u all.1.0 (OfKind COMPLETE_NAME) at next a.state b.state (trees_.known 8 (lit≤ tt)) trees.1.0 refl (omega (arith, le)) old1 same1)
+    (named_part u all.1.0 l at next a.state b.state known_l trees.1.0 apart_l (omega (arith, le)) old1 same1)
     (λ d e d-is more.
-    let g = trees_.name_comes u (trees_.tree_good u) (OfKind COMPLETE_NAME) at next a.state d (trees_.known 8 (lit≤ tt)) trees.1.0 refl (omega (arith, le)) old1 d-is in
+    let g = trees_.name_comes u (trees_.tree_good u) l at next a.state d known_l trees.1.0 apart_l (omega (arith, le)) old1 d-is in
     record {
-      means = λ byte. guard_means around byte a.value b.value d.value e.value c.value g.value c.is g.is ((good_tree (Bare (in_name at)) g.value g.good).closed refl) many.values more.values;
+      means = λ byte. means at around byte a.value b.value d.value e.value c.value g.value c.is g.is g.good many.values more.values;
       moves = moves_then around x a.state d.state y b.state e.state (moves_out around (in_name at) at next x a.state y b.state refl lt c.grows many.moves)
           (moves_out around (in_name at) at (next + length (spell u)) a.state d.state b.state e.state refl lt g.grows more.moves);
     }))))
 
+guard_noted : (f : Forest) → AllTreesNoted f → (rule : Open State Around) (first : value_.State) (from : ℕ) (x : State) (y : value_.State) → production_at rule.rule.number ≡ Production.Guard → AreTrees either (parts_of Production.Guard) f →
+    rule.context.encoding < rule.place → rule.place ≤ from → AllOld rule.context rule.place x.candidates → Same rule.context x y →
+    Alike (Inner Production.Guard rule.context x y) (unfold_forest cpp rule [] from f x) (unfold_forest unfolded_.cpp (noted_open rule first) [] from f y)
+unfolding parts_of number_of_kind between between_.between is_encoding nameless_ noted_nameless in_name
+guard_noted = two_noted Production.Guard (Byte 86) (OfKind COMPLETE_NAME) (lit≤ tt) (trees_.known 8 (lit≤ tt)) refl refl (λ around at vs state. refl) (λ around at vs state. refl)
+    (λ at around byte vs us ws zs v w e g good. guard_means around byte vs us ws zs v w e g ((good_tree (Bare (in_name at)) w good).closed refl))
+
+other_special_noted : (f : Forest) → AllTreesNoted f → (rule : Open State Around) (first : value_.State) (from : ℕ) (x : State) (y : value_.State) → production_at rule.rule.number ≡ Production.OtherSpecial → AreTrees either (parts_of Production.OtherSpecial) f →
+    rule.context.encoding < rule.place → rule.place ≤ from → AllOld rule.context rule.place x.candidates → Same rule.context x y →
+    Alike (Inner Production.OtherSpecial rule.context x y) (unfold_forest cpp rule [] from f x) (unfold_forest unfolded_.cpp (noted_open rule first) [] from f y)
+unfolding parts_of number_of_kind between between_.between is_encoding nameless_ noted_nameless in_name
+other_special_noted = two_noted Production.OtherSpecial (OfKind SPECIAL_MARK) (OfKind SPECIAL_AFTER_G) (trees_.known SPECIAL_MARK (lit≤ tt)) (trees_.known SPECIAL_AFTER_G (lit≤ tt)) refl refl
+    (λ around at vs state. refl) (λ around at vs state. refl) (λ at around byte vs us ws zs v w e g good. other_special_means around byte vs us ws zs v w e g (good.closed refl))
+
 encoding_noted_ : (f : Forest) → AllTreesNoted f → (rule : Open State Around) (first : value_.State) (from : ℕ) (x : State) (y : value_.State) → production_at rule.rule.number ≡ Production.Encoding → AreTrees either (parts_of Production.Encoding) f →
     rule.context.encoding < rule.place → rule.place ≤ from → AllOld rule.context rule.place x.candidates → Same rule.context x y →
     Alike (Inner Production.Encoding rule.context x y) (unfold_forest cpp rule [] from f x) (unfold_forest unfolded_.cpp (noted_open rule first) [] from f y)
-unfolding parts_of number_of_kind between between_.between is_encoding is_special nameless_ noted_nameless in_name in_types noted_scope noted_values
+unfolding parts_of number_of_kind between between_.between is_encoding is_special is_special_kind nameless_ noted_nameless in_name in_types noted_scope noted_values
 encoding_noted_ nothing all rule first from x y is trees lt le old same = absurd trees
 encoding_noted_ (grown t nothing) all rule first from x y is trees lt le old same = absurd trees.1
 encoding_noted_ (grown t (grown u (grown v f))) all rule first from x y is trees lt le old same = absurd trees.1.1
@@ -346,6 +378,7 @@ unfolding opens
 inner_noted Production.Encoding o = encoding_noted_
 inner_noted Production.Special o = special_noted
 inner_noted Production.Guard o = guard_noted
+inner_noted Production.OtherSpecial o = other_special_noted
 inner_noted Production.Mark o = absurd (false≢true o)
 inner_noted _ o = absurd (false≢true o)
 
@@ -354,6 +387,7 @@ unfolding opens close unfolding_.behind
 inner_closes Production.Encoding o byte around place began vs x = refl
 inner_closes Production.Special o byte around place began vs x = refl
 inner_closes Production.Guard o byte around place began vs x = refl
+inner_closes Production.OtherSpecial o byte around place began vs x = refl
 inner_closes Production.Mark o byte around place began vs x = absurd (false≢true o)
 inner_closes _ o byte around place began vs x = absurd (false≢true o)
 
@@ -363,6 +397,7 @@ unfolding opens unfolded_.close unfolded_.behind
 noted_closes Production.Encoding o byte around place began vs x = refl
 noted_closes Production.Special o byte around place began vs x = refl
 noted_closes Production.Guard o byte around place began vs x = refl
+noted_closes Production.OtherSpecial o byte around place began vs x = refl
 noted_closes Production.Mark o byte around place began vs x = absurd (false≢true o)
 noted_closes _ o byte around place began vs x = absurd (false≢true o)
 
@@ -429,7 +464,7 @@ result_noted x y z (Err e) (Ok b) many = absurd many
 
 -- Unfolding with arguments is unfolding without: the same refusal, or the same tree with its arguments.
 pub unfold_noted : (shape : Tree) → IsTree either (OfKind SYMBOL) shape → unfolded_.unfold_cpp shape ≡ noted_tree (unfolding_.unfold_cpp shape)
-unfolding unfolded_.unfold_cpp unfolding_.unfold_cpp unfolding_.first_around unfolding_.first_state unfolded_.first_around unfolded_.first_state is_encoding is_special noted_around noted_scope noted_prefix
+unfolding unfolded_.unfold_cpp unfolding_.unfold_cpp unfolding_.first_around unfolding_.first_state unfolded_.first_around unfolded_.first_state is_encoding is_special is_special_kind noted_around noted_scope noted_prefix
 unfold_noted shape is =
     result_noted unfolding_.first_state unfolding_.first_state unfolded_.first_state (unfold_tree cpp unfolding_.first_around 0 shape unfolding_.first_state) (unfold_tree unfolded_.cpp unfolded_.first_around 0 shape unfolded_.first_state)
     (tree_noted_ shape (OfKind SYMBOL) unfolding_.first_around 0 unfolding_.first_state unfolded_.first_state (trees_.known 0 (lit≤ tt)) is (omega arith) (λ opening. absurd (false≢true opening)) (λ special. absurd (false≢true special)) tt tt
@@ -455,7 +490,7 @@ pub record ReadWithArguments (shape : Tree) (read : Found (List Value) State) : 
 
 pub read_with_arguments : (shape : Tree) (read : Found (List Value) State) → IsTree either (OfKind SYMBOL) shape
     → unfold_tree cpp unfolding_.first_around 0 shape unfolding_.first_state ≡ Ok read → ReadWithArguments shape read
-unfolding unfolding_.first_around unfolding_.first_state unfolded_.first_around unfolded_.first_state is_encoding is_special noted_around noted_scope noted_prefix
+unfolding unfolding_.first_around unfolding_.first_state unfolded_.first_around unfolded_.first_state is_encoding is_special is_special_kind noted_around noted_scope noted_prefix
 read_with_arguments shape read is e =
     go (unfold_tree unfolded_.cpp unfolded_.first_around 0 shape unfolded_.first_state) refl
     (subst (λ r. Alike (Many unfolding_.first_around unfolding_.first_state unfolded_.first_state) r (unfold_tree unfolded_.cpp unfolded_.first_around 0 shape unfolded_.first_state)) e

@@ -9,7 +9,7 @@ use Rattle.cpp_term.specs.Term.{Term, symbol, function, object, special, thunk, 
 use Rattle.cpp_grammar.specs.Term.{Qualifiers, RefQualifier, Signed}
 use Rattle.cpp_term.specs.Items.{Context, Item, closed, argument, head, packs_of, is_empty}
 use Rattle.cpp_grammar.specs.Items.{Form, root, full, bare, left, right, low, base, piece, first, more, expand, is_reference, is_funarr}
-use Rattle.cpp_grammar.specs.Parts.{qualifier_text, ref_text, blank_last, source_text, encoding_text, thunk_text, is_below}
+use Rattle.cpp_grammar.specs.Parts.{qualifier_text, ref_text, blank_last, source_text, encoding_text, thunk_text, clone_text, is_below}
 
 abbrev pub as_item : Form → Context → Term → PartOf Item
 as_item form context t = sub (record { tree = t; form = form; context = context })
@@ -252,10 +252,6 @@ function_full false name q ref returned parameters = function_bare false name q 
 function_full true name q ref absent parameters = function_bare true name q ref parameters
 function_full true name q ref returned parameters =
     (as_item left (types_of name) returned ∷ says " " ∷ []) ++ function_bare true name q ref parameters ++ (as_item right (types_of name) returned ∷ [])
-
--- t of one within a transaction, n of one without
-unfoldable pub clone_text : (letter : ℕ) → List ℕ
-clone_text letter = elim (nat_eq letter 116) [ true ↦ codes "transaction clone for " | false ↦ codes "non-transaction clone for " ]
 
 abbrev pub construction_parts : (derived parent : Term) → List (PartOf Item)
 construction_parts derived parent =

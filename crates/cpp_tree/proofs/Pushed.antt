@@ -57,7 +57,7 @@ module _ (s : List ℕ) (us : List Thunk) (ts : List Term) (t : Term) (i : ℕ) 
   node-stays (Node.Thunk u e) b = rw (early e b.1) refl
   node-stays (Node.OfName letter name q m) b = rw (early name b) refl
   node-stays (Node.Construction derived digits parent) b = rw (early derived b.0, early parent b.2) refl
-  node-stays (Node.Clone letter e) b = rw (early e b) refl
+  node-stays (Node.CloneOf letter e) b = rw (early e b) refl
   node-stays (Node.Alone p) b = rw (piece-stays p b) refl
   node-stays (Node.InStd p) b = rw (piece-stays p b) refl
   node-stays (Node.Within prefix p) b = rw (early prefix b.0, piece-stays p b.1) refl

@@ -94,7 +94,7 @@ tree_of s us ts (Node.Special letter t) = term.special letter (tree_at ts t)
 tree_of s us ts (Node.Thunk u e) = term.thunk (thunk_of s (slice_get us u)) (tree_at ts e)
 tree_of s us ts (Node.OfName letter name q m) = term.of_name letter (tree_at ts name) (qualifiers_of q) (mark_of m)
 tree_of s us ts (Node.Construction derived digits parent) = term.construction (tree_at ts derived) (bytes_at s digits) (tree_at ts parent)
-tree_of s us ts (Node.Clone letter e) = term.clone letter (tree_at ts e)
+tree_of s us ts (Node.CloneOf letter e) = term.clone letter (tree_at ts e)
 tree_of s us ts (Node.Alone p) = term.alone (piece_of s ts p)
 tree_of s us ts (Node.InStd p) = term.in_std (piece_of s ts p)
 tree_of s us ts (Node.Within prefix p) = term.within (tree_at ts prefix) (piece_of s ts p)
@@ -143,6 +143,7 @@ is_encoding (Node.Special code t) = true
 is_encoding (Node.Thunk u e) = true
 is_encoding (Node.OfName letter name q m) = true
 is_encoding (Node.Construction derived digits parent) = true
+is_encoding (Node.CloneOf letter e) = true
 is_encoding _ = false
 
 -- ## What nodes are made of
@@ -166,7 +167,7 @@ IsBelow s held n (Node.Special letter t) = t < n
 IsBelow s held n (Node.Thunk u e) = (u < held) × (e < n)
 IsBelow s held n (Node.OfName letter name q m) = name < n
 IsBelow s held n (Node.Construction derived digits parent) = (derived < n) × IsWithin digits s × (parent < n)
-IsBelow s held n (Node.Clone letter e) = e < n
+IsBelow s held n (Node.CloneOf letter e) = e < n
 IsBelow s held n (Node.Alone p) = IsPieceBelow s n p
 IsBelow s held n (Node.InStd p) = IsPieceBelow s n p
 IsBelow s held n (Node.Within prefix p) = (prefix < n) × IsPieceBelow s n p

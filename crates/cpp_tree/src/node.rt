@@ -93,8 +93,8 @@ pub enum Piece {
     Absent,
 }
 
-/// A node, by the numbers of earlier nodes. A parameter stands with its argument. Builtin types, abbreviations and special names have
-/// the last letter of their codes, a thunk has the number of what it adjusts.
+/// A node, by the numbers of earlier nodes. A parameter stands with its argument. Builtin types, abbreviations, special names and
+/// clones have the last letter of their codes, a thunk has the number of what it adjusts.
 #[derive(Clone, Copy)]
 pub enum Node {
     Absent,
@@ -129,6 +129,10 @@ pub enum Node {
         derived: u32,
         digits: Span,
         parent: u32,
+    },
+    CloneOf {
+        letter: u8,
+        encoding: u32,
     },
     Alone(Piece),
     InStd(Piece),
@@ -224,6 +228,7 @@ impl Node {
             Node::Thunk { .. } => true,
             Node::OfName { .. } => true,
             Node::Construction { .. } => true,
+            Node::CloneOf { .. } => true,
             _ => false,
         }
     }

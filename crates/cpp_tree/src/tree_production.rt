@@ -229,3 +229,7 @@ pub const STD_CONVERSION: u16 = 70;
 
 /// As `CONVERSION`, in a prefix: its type is the second part.
 pub const NESTED_CONVERSION: u16 = 71;
+
+/// A function as it is within a transaction, or as it is without one. Numbers: the letter of its code, t or n. Parts: the encoding.
+/// Symbols of the wide grammar alone have it.
+pub const CLONE: u16 = 72;

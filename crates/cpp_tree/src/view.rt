@@ -10,7 +10,7 @@ ghost use Rattle.cpp_tree.specs.Views.{plain_tree, prefix_trees, seen_of, seen_b
 
 use crate::node::{Adjustment, Mark, Piece, Qualifiers, Signed, Thunk, bit};
 use crate::tree_production::{
-    ABBREVIATION, ABSENT, ADDRESS_OF, ARRAY, BOOLEAN, BUILTIN, BUILTIN_WITH_D, COMPLEX,
+    ABBREVIATION, ABSENT, ADDRESS_OF, ARRAY, BOOLEAN, BUILTIN, BUILTIN_WITH_D, CLONE, COMPLEX,
     CONSTRUCTION, CONSTRUCTOR, CONVERSION, COVARIANT_THUNK, DESTRUCTOR, ENCODING_LITERAL,
     EXPANSION, FUNCTION, FUNCTION_TYPE, GUARD, HOLDER, INSTANCE, INTEGER, LAMBDA, LIST,
     LITERAL_OPERATOR, LOCAL, LVALUE, MEMBER_POINTER, NESTED_CONSTRUCTOR, NESTED_CONVERSION,
@@ -348,6 +348,9 @@ pub fn view_of(symbol: &[u8], nodes: &Nodes, node: node::Node) -> NodeView
             digits,
             parent,
         } => two(CONSTRUCTION, none, digits, derived, parent),
+        node::Node::CloneOf { letter, encoding } => {
+            one(CLONE, [letter as u64, 0], NO_TEXT, encoding)
+        }
         node::Node::Alone(piece) => view_of_name(symbol, nodes, ALONE, None, piece),
         node::Node::InStd(piece) => view_of_name(symbol, nodes, IN_STD, None, piece),
         node::Node::Within { prefix, piece } => {

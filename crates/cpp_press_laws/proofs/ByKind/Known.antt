@@ -257,6 +257,7 @@ lambdas-go Production.Encoding around place (v ∷ vs) state n bare e =
     bare-next (in_types place (tree_of v)) (v ∷ vs) state n (λ is. absurd (false≢true is)) e
 lambdas-go Production.Special around place vs state n bare e = bare-next (in_name place) vs state n (λ is. absurd (false≢true is)) e
 lambdas-go Production.Guard around place vs state n bare e = bare-next (in_name place) vs state n (λ is. absurd (false≢true is)) e
+lambdas-go Production.OtherSpecial around place vs state n bare e = bare-next (in_name place) vs state n (λ is. absurd (false≢true is)) e
 lambdas-go Production.LocalName around place [] state n bare e = bare-next around [] state n bare e
 lambdas-go Production.LocalName around place (v ∷ vs) state n bare e = bare-next (after (tree_of v) true around) (v ∷ vs) state n bare e
 lambdas-go Production.LocalType around place [] state n bare e = bare-next around [] state n bare e
@@ -271,6 +272,7 @@ lambdas-go Production.Conversion around place [] state n bare e = bare-next (ins
 lambdas-go Production.Constructor around place (v ∷ []) state n bare e = bare-next _ _ state n bare e
 lambdas-go Production.Destructor around place (v ∷ []) state n bare e = bare-next _ _ state n bare e
 lambdas-go Production.StdName around place (v ∷ []) state n bare e = bare-next _ _ state n bare e
+lambdas-go Production.TaggedStdType around place (v ∷ []) state n bare e = bare-next _ _ state n bare e
 lambdas-go Production.AbbreviatedName around place (v ∷ []) state n bare e = bare-next _ _ state n bare e
 lambdas-go Production.NestStd around place (v ∷ []) state n bare e = bare-next _ _ state n bare e
 lambdas-go Production.NestStd around place (v ∷ w ∷ []) state n bare e = bare-next _ _ state n bare e
@@ -288,6 +290,7 @@ lambdas-go Production.NestInstance around place (v ∷ w ∷ []) state n bare e 
 lambdas-go Production.Holder around place (v ∷ []) state n bare e = bare-next _ _ state n bare e
 lambdas-go Production.NestTag around place (v ∷ []) state n bare e = bare-next _ _ state n bare e
 lambdas-go Production.Tag around place (v ∷ []) state n bare e = bare-next _ _ state n bare e
+lambdas-go Production.TypeTag around place (v ∷ []) state n bare e = bare-next _ _ state n bare e
 lambdas-go Production.NestNext around place [] state n bare e = bare-next _ _ _ n bare e
 lambdas-go Production.NestNext around place (v ∷ []) state n bare e = bare-next _ _ state n bare e
 lambdas-go Production.Arguments around place [] state n bare e = bare-next (inside around) [] (with_prefix around state) n bare e

@@ -130,6 +130,7 @@ between-outside Production.Encoding around place [] state next no_ outside e = g
 between-outside Production.Encoding around place (v ∷ vs) state next no_ outside e = goes state _ _ state next refl refl e
 between-outside Production.Special around place vs state next no_ outside e = goes state _ _ state next refl refl e
 between-outside Production.Guard around place vs state next no_ outside e = goes state _ _ state next refl refl e
+between-outside Production.OtherSpecial around place vs state next no_ outside e = goes state _ _ state next refl refl e
 between-outside Production.LocalName around place (v ∷ vs) state next no_ outside e = goes state _ _ state next outside refl e
 between-outside Production.LocalType around place (v ∷ vs) state next no_ outside e = goes state _ _ state next outside refl e
 between-outside Production.InternalName around place (v ∷ []) state next no_ outside e = goes state _ _ state next outside refl e
@@ -142,6 +143,7 @@ between-outside Production.Conversion around place [] state next no_ outside e =
 between-outside Production.Constructor around place (v ∷ []) state next no_ outside e = goes state _ _ state next outside refl e
 between-outside Production.Destructor around place (v ∷ []) state next no_ outside e = goes state _ _ state next outside refl e
 between-outside Production.StdName around place (v ∷ []) state next no_ outside e = goes state _ _ state next outside refl e
+between-outside Production.TaggedStdType around place (v ∷ []) state next no_ outside e = goes state _ _ state next outside refl e
 between-outside Production.AbbreviatedName around place (v ∷ []) state next no_ outside e = goes state _ _ state next outside refl e
 between-outside Production.NestStd around place (v ∷ []) state next no_ outside e = goes state _ _ state next outside refl e
 between-outside Production.NestStd around place (v ∷ w ∷ []) state next no_ outside e = goes state _ _ state next outside refl e
@@ -162,6 +164,7 @@ between-outside Production.NestInstance around place (v ∷ w ∷ []) state next
 between-outside Production.Holder around place (v ∷ []) state next no_ outside e = goes state _ _ state next outside refl e
 between-outside Production.NestTag around place (v ∷ []) state next no_ outside e = goes state _ _ state next outside refl e
 between-outside Production.Tag around place (v ∷ []) state next no_ outside e = goes state _ _ state next outside refl e
+between-outside Production.TypeTag around place (v ∷ []) state next no_ outside e = goes state _ _ state next outside refl e
 between-outside Production.NestNext around place [] state next no_ outside e =
     goes state _ _ (with_prefix around state) next outside (prefix-kept around state) e
 between-outside Production.NestNext around place (v ∷ []) state next no_ outside e = goes state _ _ state next outside refl e

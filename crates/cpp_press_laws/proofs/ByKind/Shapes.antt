@@ -170,6 +170,11 @@ kind-branch Kind.HeldComponent = λ rule taken parts all around at old v new fro
 kind-branch Kind.ComponentAfterC = λ rule taken parts all around at old v new front is e outer. tt
 kind-branch Kind.OtherOperator = λ rule taken parts all around at old v new front is e outer. tt
 kind-branch Kind.FloatEnd = λ rule taken parts all around at old v new front is e outer. tt
+kind-branch Kind.SpecialMark = λ rule taken parts all around at old v new front is e outer. tt
+kind-branch Kind.SpecialAfterG = λ rule taken parts all around at old v new front is e outer. tt
+kind-branch Kind.CloneLetter = λ rule taken parts all around at old v new front is e outer. tt
+kind-branch Kind.TypeInStd = λ rule taken parts all around at old v new front is e outer. tt
+kind-branch Kind.MaybeTags = λ rule taken parts all around at old v new front is e outer. tt
 
 branch-read : (rule : Rule) (taken : List ℕ) (parts : Forest) → AllOf ShapeRead parts → ShapeRead (branch rule taken parts)
 branch-read rule taken parts all kind around at old v new front is e = kind-branch kind rule taken parts all around at old v new front is e

@@ -2,7 +2,7 @@
 use Rattle.std.proofs.Common.{◌≡◌, ℕ, ◌+◌, inl, inr, length, List, [], ◌∷◌, ◌++◌, Option, Bool, true, false, sym, subst}
 use Rattle.std.specs.Prelude.{codes, cond}
 use Rattle.sym_spell.specs.Pressing.{◌and◌, text}
-use Rattle.cpp_grammar.specs.Term.{Qualifiers, RefQualifier, Term, symbol, function, object, special, thunk, of_name, construction, alone, in_std, within, instance, local, holder, tagged, abbreviation, parameter, source, operator, literal_operator, constructor, destructor, lambda, unnamed, string_literal, conversion, builtin, sized_float, vendor, pointer, lvalue, rvalue, array, member_pointer, function_type, qualified, vector, complex, expansion, integer, boolean, null_pointer, encoding_literal, address_of, pack, nil, list, absent}
+use Rattle.cpp_grammar.specs.Term.{Qualifiers, RefQualifier, Term, symbol, function, object, special, thunk, of_name, construction, clone, alone, in_std, within, instance, local, holder, tagged, abbreviation, parameter, source, operator, literal_operator, constructor, destructor, lambda, unnamed, string_literal, conversion, builtin, sized_float, vendor, pointer, lvalue, rvalue, array, member_pointer, function_type, qualified, vector, complex, expansion, integer, boolean, null_pointer, encoding_literal, address_of, pack, nil, list, absent}
 use Rattle.cpp_grammar.specs.Scope.{has_return_type}
 use Rattle.cpp_grammar.specs.Values.{Around}
 use Rattle.cpp_grammar.specs.Between.{in_name, in_types, in_signature, under_expansion}
@@ -298,6 +298,7 @@ adds (of_name l name q ref) =
     encoding-ways-add (of_name l name q ref) _ _ (Inside name) (λ x s. s)
     (λ allowed here cs fits complete. (adds name).as_name q ref (in_name here) allowed (here + 2) cs fits.1 complete)
 adds (construction derived digits parent) = nowhere-ways-add (construction derived digits parent) _
+adds (clone letter e) = nowhere-ways-add (clone letter e) _
 adds (holder name) = nowhere-ways-add (holder name) _
 adds (conversion type) = nowhere-ways-add (conversion type) _
 adds (sized_float digits end) = nowhere-ways-add (sized_float digits end) _

@@ -2,7 +2,7 @@
 use Rattle.std.proofs.Common.{◌≡◌, ℕ, suc, ◌+◌, ◌-◌, ◌<◌, inl, inr, List, [], ◌∷◌, ◌++◌, Option, Bool, true, false, refl, arith}
 use Rattle.std.specs.Prelude.{cond, ◌&&◌, codes}
 use Rattle.sym_spell.specs.Pressing.{◌and◌, text}
-use Rattle.cpp_grammar.specs.Term.{RefQualifier, Term, symbol, function, object, special, thunk, of_name, construction, alone, in_std, within, instance, local, holder, tagged, abbreviation, parameter, source, operator, literal_operator, constructor, destructor, lambda, unnamed, string_literal, conversion, builtin, sized_float, vendor, pointer, lvalue, rvalue, array, member_pointer, function_type, qualified, vector, complex, expansion, integer, boolean, null_pointer, encoding_literal, address_of, pack, nil, list, absent}
+use Rattle.cpp_grammar.specs.Term.{RefQualifier, Term, symbol, function, object, special, thunk, of_name, construction, clone, alone, in_std, within, instance, local, holder, tagged, abbreviation, parameter, source, operator, literal_operator, constructor, destructor, lambda, unnamed, string_literal, conversion, builtin, sized_float, vendor, pointer, lvalue, rvalue, array, member_pointer, function_type, qualified, vector, complex, expansion, integer, boolean, null_pointer, encoding_literal, address_of, pack, nil, list, absent}
 use Rattle.cpp_press_laws.specs.Texts.{counted, ordinal, signed_text, qualifier_letters, mark_letter, name_letters, special_code, thunk_text, discriminator_text}
 use Rattle.cpp_press_laws.specs.Components.{Spelling, component}
 use Rattle.cpp_press_laws.specs.Pressing.{Ways, no_ways, type_ways, function_text, in_N_and_E, with_letters, name_ways, template_before, is_operator, is_one_piece, entity_text, local_text, begun, encoding_ways, piece_ways, argument_ways, ways_of, pressed}
@@ -335,6 +335,9 @@ ways-grow whole (construction derived digits parent) in_whole n =
     encoding-ways-grow whole (construction derived digits parent) (λ here.
     front (codes "TC") (and-grows (more-grows (ways-grow whole derived (λ x is. in_whole x (inl is)) here).as_type (omega arith))
     (front (digits ++ codes "_") (more-grows (ways-grow whole parent (λ x is. in_whole x (inr is)) here).as_type (omega arith)))))
+ways-grow whole (clone letter e) in_whole n =
+    encoding-ways-grow whole (clone letter e) (λ here.
+    front (codes "GT" ++ letter ∷ []) (more-grows (ways-grow whole e in_whole here).as_encoding (omega arith)))
 ways-grow whole (alone p) in_whole n =
     let a = (ways-grow whole p in_whole n).as_piece in
     name-ways-grow whole n (alone p) a (more-grows a (omega arith)) a (λ never. a)

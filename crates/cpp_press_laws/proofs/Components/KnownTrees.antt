@@ -3,7 +3,7 @@
 use Rattle.std.proofs.Common.{◌≡◌, ℕ, ◌-◌, ◌<◌, ◌⊎◌, inl, inr, length, List, [], ◌∷◌, ◌++◌, Option, Bool, true, false, refl, arith}
 use Rattle.std.specs.Prelude.{◌&&◌, codes, cond}
 use Rattle.sym_spell.specs.Pressing.{◌and◌, text, nothing}
-use Rattle.cpp_grammar.specs.Term.{Term, symbol, function, object, special, thunk, of_name, construction, alone, in_std, within, instance, local, holder, tagged, abbreviation, parameter, source, operator, literal_operator, constructor, destructor, lambda, unnamed, string_literal, conversion, builtin, sized_float, vendor, pointer, lvalue, rvalue, array, member_pointer, function_type, qualified, vector, complex, expansion, integer, boolean, null_pointer, encoding_literal, address_of, pack, nil, list, absent, adjusting, covariant, Thunk}
+use Rattle.cpp_grammar.specs.Term.{Term, symbol, function, object, special, thunk, of_name, construction, clone, alone, in_std, within, instance, local, holder, tagged, abbreviation, parameter, source, operator, literal_operator, constructor, destructor, lambda, unnamed, string_literal, conversion, builtin, sized_float, vendor, pointer, lvalue, rvalue, array, member_pointer, function_type, qualified, vector, complex, expansion, integer, boolean, null_pointer, encoding_literal, address_of, pack, nil, list, absent, adjusting, covariant, Thunk}
 use Rattle.cpp_grammar.specs.Scope.{is_open}
 use Rattle.cpp_press_laws.specs.Texts.{counted, ordinal, signed_text, qualifier_letters, mark_letter, name_letters, special_code, thunk_text, discriminator_text}
 use Rattle.cpp_press_laws.specs.Components.{Spelling, ended, component}
@@ -373,6 +373,10 @@ keeps (construction derived digits parent) open_ n R =
     ((keeps derived ⊥ here (OrOpen R)).as_type (λ x w. h x (inl w)))
     (behind-text-keeps ⊥ here (OrOpen R) (digits ++ codes "_") (ways_of here parent).as_type
     ((keeps parent ⊥ here (OrOpen R)).as_type (λ x w. h x (inr w))))))
+keeps (clone letter e) open_ n R =
+    encoding-ways-keep open_ n R (clone letter e) _ (λ x. Shut (Inside e x) x) (λ x s. s.1) (λ here h.
+    behind-bytes-keeps ⊥ here (OrOpen R) (codes "GT" ++ letter ∷ []) (ways_of here e).as_encoding (omega arith)
+    ((keeps e ⊥ here (OrOpen R)).as_encoding h))
 keeps (alone p) open_ n R =
     let spelling : Spelling = (ways_of n p).as_piece in
     let one : In (Inside p) R → KeepsTo open_ n R spelling = (keeps p open_ n R).as_piece in

@@ -50,6 +50,7 @@ PrefixOr (special l type) inside x = ⊥
 PrefixOr (thunk kind e) inside x = ⊥
 PrefixOr (of_name l name q ref) inside x = ⊥
 PrefixOr (construction derived digits parent) inside x = ⊥
+PrefixOr (clone letter e) inside x = ⊥
 PrefixOr t inside x = ItselfOr t inside x
 
 -- of what is in an encoding, what has no free parameters
