@@ -1,10 +1,11 @@
 -- The parts of encodings.
-use Rattle.std.proofs.Common.{Option, None, Some, zero, suc, ◌≡◌, ℕ, ◌<◌, ◌≤◌, ◌+◌, List, [], ◌∷◌, ◌++◌, length, Bool, true, false, refl, sym, ap, subst, ◌∙◌, arith, append-nil, append_assoc}
+use Rattle.std.proofs.Common.{Option, None, Some, zero, suc, ◌≡◌, ℕ, ◌<◌, ◌≤◌, ◌+◌, List, [], ◌∷◌, ◌++◌, length, Bool, true, false, if◌then◌else◌, nat_eq, refl, sym, ap, subst, ◌∙◌, arith, append-nil, append_assoc}
+use Rattle.std.specs.Prelude.{codes}
 use Rattle.sym_print.specs.declared.detail.Detail.{Detail}
 use Rattle.sym_print.specs.Unfold.{PartOf, text}
 use Rattle.cpp_grammar.specs.Items as heads
 use Rattle.cpp_term.specs.Items as items
-use Rattle.cpp_grammar.specs.Parts.{encoding_text, qualifier_text, is_below}
+use Rattle.cpp_grammar.specs.Parts.{encoding_text, qualifier_text, is_below, clone_text}
 use Rattle.cpp_term.specs.Parts.{as_item, list_part, text_part, function_bare, function_full, full_parts, bare_parts, root_parts, expand_parts, expand_rest, comma_before, at_index, types_of, function_right, qualified_right, right_parts, expansion_parts, first_parts, more_parts}
 use Rattle.cpp_term.specs.Term as term
 use Rattle.cpp_grammar.specs.Term as values
@@ -16,7 +17,7 @@ use Rattle.cpp_tree.specs.declared.node.Qualifiers.{Qualifiers}
 use Rattle.sym_core.specs.declared.Span.{Span}
 use Rattle.cpp_tree.specs.declared.node.Thunk.{Thunk}
 use Rattle.cpp_layout.specs.Texts.{fixed_text, suffix_of}
-use Rattle.cpp_layout.specs.declared.texts.TheConstants.{BLANK, BLANK_LEFT, COMMA, DOTS, LEFT, RIGHT}
+use Rattle.cpp_layout.specs.declared.texts.TheConstants.{BLANK, BLANK_LEFT, CLONE, OTHER_CLONE, COMMA, DOTS, LEFT, RIGHT}
 use Rattle.cpp_layout.specs.Layout.{text_if, clone_suffix}
 
 pub part-none : (b : List ℕ) (rest : List (PartOf items.Item)) → b ≡ [] → rest ≡ text_part b ++ rest
@@ -129,20 +130,30 @@ not-absent-node s us ts _ other e = cc e
 pub not-absent : (s : List ℕ) (us : List Thunk) (ts : List Term) (n : Node) (t : Term) → t ≡ tree_of s us ts n → (n ≡ Node.Absent → ⊥) → t ≡ term.absent → ⊥
 not-absent s us ts n t is other e = not-absent-node s us ts n other (sym is ∙ e)
 
+pub clone-whole : (letter : ℕ) (i : PartOf items.Item) → ◌≡◌ {A = List (PartOf items.Item)} (text (fixed_text (if nat_eq letter 116 then CLONE else OTHER_CLONE)) ∷ i ∷ []) (text (clone_text letter) ∷ i ∷ [])
+unfolding clone_text
+clone-whole letter i = by (nat_eq letter 116)
+  where
+    by : (b : Bool) → ◌≡◌ {A = List (PartOf items.Item)} (text (fixed_text (if b then CLONE else OTHER_CLONE)) ∷ i ∷ [])
+        (text (elim b [ true ↦ codes "transaction clone for " | false ↦ codes "non-transaction clone for " ]) ∷ i ∷ [])
+    by true = refl
+    by false = refl
+
 pub full-none : (d : Detail) (s : List ℕ) (us : List Thunk) (ts : List Term) (n : Node) (t : Term) → t ≡ tree_of s us ts n → ((a : ℕ) (q : Qualifiers) (m : Mark) (r p : ℕ) → n ≡ Node.Function a q m r p → ⊥) → ((a : ℕ) (q : Qualifiers) (m : Mark) → n ≡ Node.Object a q m → ⊥) → ((k a : ℕ) → n ≡ Node.Special k a → ⊥)
-    → ((k a : ℕ) → n ≡ Node.Thunk k a → ⊥) → ((k a : ℕ) (q : Qualifiers) (m : Mark) → n ≡ Node.OfName k a q m → ⊥) → ((a : ℕ) (g : Span) (b : ℕ) → n ≡ Node.Construction a g b → ⊥) → [] ≡ full_parts d t
+    → ((k a : ℕ) → n ≡ Node.Thunk k a → ⊥) → ((k a : ℕ) (q : Qualifiers) (m : Mark) → n ≡ Node.OfName k a q m → ⊥) → ((a : ℕ) (g : Span) (b : ℕ) → n ≡ Node.Construction a g b → ⊥) → ((k a : ℕ) → n ≡ Node.CloneOf k a → ⊥) → [] ≡ full_parts d t
 unfolding tree_of full_parts
-full-none d s us ts n t is h1 h2 h3 h4 h5 h6 = by n h1 h2 h3 h4 h5 h6 ∙ ap (full_parts d) (sym is)
+full-none d s us ts n t is h1 h2 h3 h4 h5 h6 h7 = by n h1 h2 h3 h4 h5 h6 h7 ∙ ap (full_parts d) (sym is)
   where
     by : (n : Node) → ((a : ℕ) (q : Qualifiers) (m : Mark) (r p : ℕ) → n ≡ Node.Function a q m r p → ⊥) → ((a : ℕ) (q : Qualifiers) (m : Mark) → n ≡ Node.Object a q m → ⊥) → ((k a : ℕ) → n ≡ Node.Special k a → ⊥)
-        → ((k a : ℕ) → n ≡ Node.Thunk k a → ⊥) → ((k a : ℕ) (q : Qualifiers) (m : Mark) → n ≡ Node.OfName k a q m → ⊥) → ((a : ℕ) (g : Span) (b : ℕ) → n ≡ Node.Construction a g b → ⊥) → [] ≡ full_parts d (tree_of s us ts n)
-    by (Node.Function a q m r p) h1 h2 h3 h4 h5 h6 = absurd (h1 a q m r p refl)
-    by (Node.Object a q m) h1 h2 h3 h4 h5 h6 = absurd (h2 a q m refl)
-    by (Node.Special k a) h1 h2 h3 h4 h5 h6 = absurd (h3 k a refl)
-    by (Node.Thunk k a) h1 h2 h3 h4 h5 h6 = absurd (h4 k a refl)
-    by (Node.OfName k a q m) h1 h2 h3 h4 h5 h6 = absurd (h5 k a q m refl)
-    by (Node.Construction a g b) h1 h2 h3 h4 h5 h6 = absurd (h6 a g b refl)
-    by _ h1 h2 h3 h4 h5 h6 = refl
+        → ((k a : ℕ) → n ≡ Node.Thunk k a → ⊥) → ((k a : ℕ) (q : Qualifiers) (m : Mark) → n ≡ Node.OfName k a q m → ⊥) → ((a : ℕ) (g : Span) (b : ℕ) → n ≡ Node.Construction a g b → ⊥) → ((k a : ℕ) → n ≡ Node.CloneOf k a → ⊥) → [] ≡ full_parts d (tree_of s us ts n)
+    by (Node.Function a q m r p) h1 h2 h3 h4 h5 h6 h7 = absurd (h1 a q m r p refl)
+    by (Node.Object a q m) h1 h2 h3 h4 h5 h6 h7 = absurd (h2 a q m refl)
+    by (Node.Special k a) h1 h2 h3 h4 h5 h6 h7 = absurd (h3 k a refl)
+    by (Node.Thunk k a) h1 h2 h3 h4 h5 h6 h7 = absurd (h4 k a refl)
+    by (Node.OfName k a q m) h1 h2 h3 h4 h5 h6 h7 = absurd (h5 k a q m refl)
+    by (Node.Construction a g b) h1 h2 h3 h4 h5 h6 h7 = absurd (h6 a g b refl)
+    by (Node.CloneOf k a) h1 h2 h3 h4 h5 h6 h7 = absurd (h7 k a refl)
+    by _ h1 h2 h3 h4 h5 h6 h7 = refl
 
 pub bare-other : (d : Detail) (s : List ℕ) (us : List Thunk) (ts : List Term) (n : Node) (t : Term) → t ≡ tree_of s us ts n → ((a : ℕ) (q : Qualifiers) (m : Mark) (r p : ℕ) → n ≡ Node.Function a q m r p → ⊥) → full_parts d t ≡ bare_parts d t
 unfolding tree_of bare_parts

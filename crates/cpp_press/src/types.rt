@@ -440,6 +440,11 @@ fn then_encoding(
             then_tree(symbol, derived, Way::Type, here, tasks)?;
             then_fixed(symbol, b"TC", tasks)?;
         }
+        Node::CloneOf { letter, encoding } => {
+            then_tree(symbol, encoding, Way::Encoding, here, tasks)?;
+            then_text(symbol, Text::Letter(letter), tasks)?;
+            then_fixed(symbol, b"GT", tasks)?;
+        }
         Node::Whole { encoding, suffix } => {
             then_text(symbol, Text::Suffix(suffix), tasks)?;
             then_tree(symbol, encoding, Way::Encoding, here, tasks)?;

@@ -333,7 +333,7 @@ ways-grow whole (of_name l name q ref) in_whole n =
     (more-grows ((ways-grow whole name (λ x is. in_whole x (inr is)) here).as_name (name_letters q ref) (λ x is. in_whole x (inl is))) (omega arith)))
 ways-grow whole (clone letter e) in_whole n =
     encoding-ways-grow whole (clone letter e) (λ here.
-    front (codes "GT" ++ letter ∷ []) (more-grows (ways-grow whole e in_whole here).as_encoding (omega arith)))
+    front (codes "GT") (front (letter ∷ []) (more-grows (ways-grow whole e in_whole here).as_encoding (omega arith))))
 ways-grow whole (construction derived digits parent) in_whole n =
     encoding-ways-grow whole (construction derived digits parent) (λ here.
     front (codes "TC") (and-grows (more-grows (ways-grow whole derived (λ x is. in_whole x (inl is)) here).as_type (omega arith))

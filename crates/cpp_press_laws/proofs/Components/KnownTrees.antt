@@ -368,8 +368,9 @@ keeps (of_name l name q ref) open_ n R =
     ((keeps name ⊥ here (OrOpen R)).as_name h (name_letters q ref)))
 keeps (clone letter e) open_ n R =
     encoding-ways-keep open_ n R (clone letter e) _ (λ x. Shut (Inside e x) x) (λ x s. s.1) (λ here h.
-    behind-bytes-keeps ⊥ here (OrOpen R) (codes "GT" ++ letter ∷ []) (ways_of here e).as_encoding (omega arith)
-    ((keeps e ⊥ here (OrOpen R)).as_encoding h))
+    behind-text-keeps ⊥ here (OrOpen R) (codes "GT") (text (letter ∷ []) and (ways_of here e).as_encoding)
+    (behind-bytes-keeps ⊥ here (OrOpen R) (letter ∷ []) (ways_of here e).as_encoding (omega arith)
+    ((keeps e ⊥ here (OrOpen R)).as_encoding h)))
 keeps (construction derived digits parent) open_ n R =
     encoding-ways-keep open_ n R (construction derived digits parent) _ (λ x. Whole derived x ⊎ Whole parent x) (λ x s. s) (λ here h.
     behind-text-keeps ⊥ here (OrOpen R) (codes "TC") ((ways_of here derived).as_type and (text (digits ++ codes "_") and (ways_of here parent).as_type))
