@@ -1,4 +1,5 @@
--- What is expected where no tags may come serves for any name: they have the same trees.
+-- What is expected where no tags may come serves for any name, and what is expected of arguments from the first one on for any others: they
+-- have the same trees.
 use Rattle.std.proofs.Common.{ℕ, List}
 use Rattle.sym_shape.specs.declared.rule.Sym.{Sym}
 use Rattle.sym_shape.specs.Tree.{Tree, IsTree}
@@ -6,7 +7,7 @@ use Rattle.cpp_grammar.specs.declared.kind.Kind.{Kind}
 use Rattle.cpp_grammar.specs.Grammar.{number_of_kind}
 use Rattle.cpp_grammar.specs.Table.{abi}
 use Rattle.cpp_grammar.specs.Values.{State, Around}
-use Rattle.cpp_grammar.proofs.Alone.{arguments_alone, rest_alone}
+use Rattle.cpp_grammar.proofs.Alone.{arguments_alone, rest_alone, list_first}
 use Rattle.cpp_direct.specs.Holes.{Opened, ExpectsSym, Expects}
 
 of-trees : (s : List ℕ) (x y : Sym) (around : Around) (os : List Opened) (at : ℕ) (st : State) → ((t : Tree) → IsTree abi y t → IsTree abi x t)
@@ -21,3 +22,7 @@ any-arguments s around os at st expects = of-trees s _ _ around os at st argumen
 pub any-rest : (s : List ℕ) (around : Around) (os : List Opened) (at : ℕ) (st : State) → Expects s Kind.NestRestAlone around os at st → Expects s Kind.NestRest around os at st
 unfolding number_of_kind
 any-rest s around os at st expects = of-trees s _ _ around os at st rest_alone expects
+
+pub any-list : (s : List ℕ) (around : Around) (os : List Opened) (at : ℕ) (st : State) → Expects s Kind.ArgumentsFirst around os at st → Expects s Kind.ArgumentList around os at st
+unfolding number_of_kind
+any-list s around os at st expects = of-trees s _ _ around os at st list_first expects

@@ -5,7 +5,7 @@ use Rattle.sym_shape.specs.declared.rule.Sym.TheVariants.{Kind as OfKind, Name, 
 use Rattle.sym_link.specs.Unfold.{found, standing}
 use Rattle.cpp_grammar.specs.declared.kind.Kind.{Kind}
 use Rattle.cpp_grammar.specs.declared.production.Production.{Production}
-use Rattle.cpp_grammar.specs.KindNumbers.{NEST_TAIL, COMPONENT, CONSTRUCTOR_DIGIT, DESTRUCTOR_DIGIT, MAYBE_ARGUMENTS, ARGUMENT_LIST, OPERATOR}
+use Rattle.cpp_grammar.specs.KindNumbers.{NEST_TAIL, COMPONENT, CONSTRUCTOR_DIGIT, DESTRUCTOR_DIGIT, MAYBE_ARGUMENTS, ARGUMENTS_FIRST, OPERATOR}
 use Rattle.cpp_grammar.specs.Grammar.{in_ranges, among, is_in, pick, alternatives, number_of_kind, choose, parts_of, is_chain}
 use Rattle.cpp_grammar.specs.Table.{rule_of}
 use Rattle.cpp_grammar.specs.Term.{Term, within, instance, source, operator, constructor, destructor}
@@ -18,6 +18,7 @@ use Rattle.cpp_grammar.specs.Unfolding as unfolding_
 use Rattle.cpp_grammar.specs.Unfolding.{opening, close, byte_of}
 use Rattle.cpp_direct.specs.Holes.{Opened, opened, StandsAt, Comes, Expects, with_candidate, unless_listed, IsNameAt, Named, AwaitsComponent}
 use Rattle.cpp_direct.specs.HolesOfNests.{IsRest, AwaitsArguments}
+use Rattle.cpp_direct.proofs.Alone.{any-list}
 use Rattle.cpp_direct.proofs.Moves.{stands-split, comes-moved, first-of, first-of-chain, next-of, last-of, expects-byte, expects-name, letter-comes}
 use Rattle.cpp_direct.proofs.MovesOfNests.{last-passes}
 use Rattle.cpp_direct.proofs.Operators.{IsOperator}
@@ -66,9 +67,11 @@ first-arguments s os around t listed at st expects stands =
     let here : Around = after t listed around in
     record {
       inner = opened (standing (rule_of p) (73 ∷ []) at here st) [] (Byte 69 ∷ OfKind COMPONENT ∷ OfKind NEST_TAIL ∷ []) ∷ os;
-      awaits = first-of s Kind.NestRest p 73 here os at st (OfKind ARGUMENT_LIST) (Byte 69 ∷ OfKind COMPONENT ∷ OfKind NEST_TAIL ∷ []) (inside around) []
+      awaits = any-list s (inside around) (opened (standing (rule_of p) (73 ∷ []) at here st) [] (Byte 69 ∷ OfKind COMPONENT ∷ OfKind NEST_TAIL ∷ []) ∷ os) (at + 1)
+          (unless_listed listed around.encoding t st)
+          (first-of s Kind.NestRest p 73 here os at st (OfKind ARGUMENTS_FIRST) (Byte 69 ∷ OfKind COMPONENT ∷ OfKind NEST_TAIL ∷ []) (inside around) []
           (unless_listed listed around.encoding t st) refl (omega arith) refl (λ f. refl) refl
-          (rw (prefix-appended around t listed st) refl) expects stands;
+          (rw (prefix-appended around t listed st) refl) expects stands);
       onward = λ l to later comes ended.
           let u : Term = instance t (no_items l) in
           record {

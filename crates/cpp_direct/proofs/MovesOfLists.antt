@@ -22,6 +22,7 @@ use Rattle.cpp_direct.specs.ItemBytes.{is_integer_letter}
 use Rattle.cpp_direct.specs.Letters.{integer_letters}
 use Rattle.cpp_direct.proofs.LettersTested.{each_passes, tested-one, is_small, small, takes, taken}
 use Rattle.cpp_direct.specs.HolesOfLists.{ArgumentsOpened, IsArgumentKind, LiteralOpened, PackOpened, EnumeratorOpened, IsDigitsAt, minus_sign}
+use Rattle.cpp_direct.proofs.Alone.{any-list}
 use Rattle.cpp_direct.proofs.Moves.{stands-split, opens, opens-chain, needs-next, ends, expects-byte, expects-number}
 
 -- ## Marks
@@ -57,8 +58,9 @@ arguments-open s os around t listed at st expects stands =
     let needs = opens s Kind.MaybeArguments Production.Arguments 73 (73 ∷ []) named_ os at st refl (omega arith) refl (λ f. refl) expects stands in
     record {
       inner = opened rule [] (Byte 69 ∷ []) ∷ os;
-      awaits = needs-next s Production.Arguments (73 ∷ []) at named_ st [] (OfKind (number_of_kind Kind.ArgumentList)) (Byte 69 ∷ []) os
-          (at + 1) st (inside around) [] state (prefix-listed t listed around at st) needs;
+      awaits = any-list s (inside around) (opened rule [] (Byte 69 ∷ []) ∷ os) (at + 1) state
+          (needs-next s Production.Arguments (73 ∷ []) at named_ st [] (OfKind (number_of_kind Kind.ArgumentsFirst)) (Byte 69 ∷ []) os
+          (at + 1) st (inside around) [] state (prefix-listed t listed around at st) needs);
       onward = λ l here now comes ended.
           ends s Production.Arguments (73 ∷ []) at named_ st (l ∷ nothing_there ∷ []) os (here + 1) now _ now
           (expects-byte s 69 named_ (opened rule (l ∷ []) [] ∷ os) here now

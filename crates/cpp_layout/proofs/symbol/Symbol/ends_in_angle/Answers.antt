@@ -9,9 +9,9 @@ pub entities-preserved-in-Local : goal.entities-preserved-in-Local
 unfolding tree_of last_piece
 entities-preserved-in-Local c = (omega (arith, c.in-Local.ensures.below.1, c.entities.invariant.0), sym (ap last_piece c.in-Local.ensures.tree) ∙ c.entities.invariant.1)
 
-pub entities-preserved-in-OfDefault : goal.entities-preserved-in-OfDefault
+pub entities-preserved : goal.entities-preserved
 unfolding tree_of last_piece
-entities-preserved-in-OfDefault c = (omega (arith, c.in-OfDefault.ensures.below.1, c.entities.invariant.0), sym (ap last_piece c.in-OfDefault.ensures.tree) ∙ c.entities.invariant.1)
+entities-preserved c = (omega (arith, c.in-OfDefault.ensures.below.1, c.entities.invariant.0), sym (ap last_piece c.in-OfDefault.ensures.tree) ∙ c.entities.invariant.1)
 
 pub returns-in-Alone : goal.returns-in-Alone
 unfolding tree_of last_piece
