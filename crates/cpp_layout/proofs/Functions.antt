@@ -130,19 +130,20 @@ pub not-absent : (s : List ℕ) (us : List Thunk) (ts : List Term) (n : Node) (t
 not-absent s us ts n t is other e = not-absent-node s us ts n other (sym is ∙ e)
 
 pub full-none : (d : Detail) (s : List ℕ) (us : List Thunk) (ts : List Term) (n : Node) (t : Term) → t ≡ tree_of s us ts n → ((a : ℕ) (q : Qualifiers) (m : Mark) (r p : ℕ) → n ≡ Node.Function a q m r p → ⊥) → ((a : ℕ) (q : Qualifiers) (m : Mark) → n ≡ Node.Object a q m → ⊥) → ((k a : ℕ) → n ≡ Node.Special k a → ⊥)
-    → ((k a : ℕ) → n ≡ Node.Thunk k a → ⊥) → ((k a : ℕ) (q : Qualifiers) (m : Mark) → n ≡ Node.OfName k a q m → ⊥) → ((a : ℕ) (g : Span) (b : ℕ) → n ≡ Node.Construction a g b → ⊥) → [] ≡ full_parts d t
+    → ((k a : ℕ) → n ≡ Node.Thunk k a → ⊥) → ((k a : ℕ) (q : Qualifiers) (m : Mark) → n ≡ Node.OfName k a q m → ⊥) → ((a : ℕ) (g : Span) (b : ℕ) → n ≡ Node.Construction a g b → ⊥) → ((k a : ℕ) → n ≡ Node.CloneOf k a → ⊥) → [] ≡ full_parts d t
 unfolding tree_of full_parts
-full-none d s us ts n t is h1 h2 h3 h4 h5 h6 = by n h1 h2 h3 h4 h5 h6 ∙ ap (full_parts d) (sym is)
+full-none d s us ts n t is h1 h2 h3 h4 h5 h6 h7 = by n h1 h2 h3 h4 h5 h6 h7 ∙ ap (full_parts d) (sym is)
   where
     by : (n : Node) → ((a : ℕ) (q : Qualifiers) (m : Mark) (r p : ℕ) → n ≡ Node.Function a q m r p → ⊥) → ((a : ℕ) (q : Qualifiers) (m : Mark) → n ≡ Node.Object a q m → ⊥) → ((k a : ℕ) → n ≡ Node.Special k a → ⊥)
-        → ((k a : ℕ) → n ≡ Node.Thunk k a → ⊥) → ((k a : ℕ) (q : Qualifiers) (m : Mark) → n ≡ Node.OfName k a q m → ⊥) → ((a : ℕ) (g : Span) (b : ℕ) → n ≡ Node.Construction a g b → ⊥) → [] ≡ full_parts d (tree_of s us ts n)
-    by (Node.Function a q m r p) h1 h2 h3 h4 h5 h6 = absurd (h1 a q m r p refl)
-    by (Node.Object a q m) h1 h2 h3 h4 h5 h6 = absurd (h2 a q m refl)
-    by (Node.Special k a) h1 h2 h3 h4 h5 h6 = absurd (h3 k a refl)
-    by (Node.Thunk k a) h1 h2 h3 h4 h5 h6 = absurd (h4 k a refl)
-    by (Node.OfName k a q m) h1 h2 h3 h4 h5 h6 = absurd (h5 k a q m refl)
-    by (Node.Construction a g b) h1 h2 h3 h4 h5 h6 = absurd (h6 a g b refl)
-    by _ h1 h2 h3 h4 h5 h6 = refl
+        → ((k a : ℕ) → n ≡ Node.Thunk k a → ⊥) → ((k a : ℕ) (q : Qualifiers) (m : Mark) → n ≡ Node.OfName k a q m → ⊥) → ((a : ℕ) (g : Span) (b : ℕ) → n ≡ Node.Construction a g b → ⊥) → ((k a : ℕ) → n ≡ Node.CloneOf k a → ⊥) → [] ≡ full_parts d (tree_of s us ts n)
+    by (Node.Function a q m r p) h1 h2 h3 h4 h5 h6 h7 = absurd (h1 a q m r p refl)
+    by (Node.Object a q m) h1 h2 h3 h4 h5 h6 h7 = absurd (h2 a q m refl)
+    by (Node.Special k a) h1 h2 h3 h4 h5 h6 h7 = absurd (h3 k a refl)
+    by (Node.Thunk k a) h1 h2 h3 h4 h5 h6 h7 = absurd (h4 k a refl)
+    by (Node.OfName k a q m) h1 h2 h3 h4 h5 h6 h7 = absurd (h5 k a q m refl)
+    by (Node.Construction a g b) h1 h2 h3 h4 h5 h6 h7 = absurd (h6 a g b refl)
+    by (Node.CloneOf k a) h1 h2 h3 h4 h5 h6 h7 = absurd (h7 k a refl)
+    by _ h1 h2 h3 h4 h5 h6 h7 = refl
 
 pub bare-other : (d : Detail) (s : List ℕ) (us : List Thunk) (ts : List Term) (n : Node) (t : Term) → t ≡ tree_of s us ts n → ((a : ℕ) (q : Qualifiers) (m : Mark) (r p : ℕ) → n ≡ Node.Function a q m r p → ⊥) → full_parts d t ≡ bare_parts d t
 unfolding tree_of bare_parts

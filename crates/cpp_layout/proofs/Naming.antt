@@ -173,6 +173,7 @@ prefix-encoding s us ts c n t is e = subst (λ u. as_item heads.bare items.close
     by (Node.Thunk k a) e = refl
     by (Node.OfName k a q m) e = refl
     by (Node.Construction a g b) e = refl
+    by (Node.CloneOf k a) e = refl
     by _ e = cc e
 
 pub prefix-other : (s : List ℕ) (us : List Thunk) (ts : List Term) (c : items.Context) (n : Node) (t : Term) → t ≡ tree_of s us ts n → is_encoding n ≡ false → ((a : ℕ) → n ≡ Node.Holder a → ⊥) → as_item heads.left c t ≡ prefix_item c t
@@ -186,6 +187,7 @@ prefix-other s us ts c n t is e other = subst (λ u. as_item heads.left c u ≡ 
     by (Node.Thunk k a) e other = cc e
     by (Node.OfName k a q m) e other = cc e
     by (Node.Construction a g b) e other = cc e
+    by (Node.CloneOf k a) e other = cc e
     by (Node.Holder a) e other = absurd (other a refl)
     by _ e other = refl
 

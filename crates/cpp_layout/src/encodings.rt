@@ -9,7 +9,7 @@ ghost use Rattle.sym_print.specs.Details.{has_parameters};
 ghost use Rattle.cpp_term.specs.Items as items;
 ghost use Rattle.cpp_term.specs.Term as term;
 ghost use Rattle.cpp_grammar.specs.Items as heads;
-ghost use Rattle.cpp_grammar.specs.Parts.{encoding_text, thunk_text};
+ghost use Rattle.cpp_grammar.specs.Parts.{clone_text, encoding_text, thunk_text};
 ghost use Rattle.cpp_grammar.specs.Texts.{look_up, special_texts, named_special_texts};
 ghost use Rattle.cpp_term.specs.Parts.{as_item, construction_parts, function_bare, function_full, full_parts, bare_parts, root_parts, text_part};
 ghost use Rattle.cpp_tree.specs.Nodes.{tree_at, trees, IsTable, IsWithin, bytes_at, thunk_of, qualifiers_of, mark_of};
@@ -38,6 +38,19 @@ fn thunk_number(thunk: Option<Thunk>) -> u16
             Adjustment::NonVirtual(_) => texts::NON_VIRTUAL,
             Adjustment::ByTable(_, _) => texts::VIRTUAL,
         },
+    }
+}
+
+/// The number of the text before what a clone leads to, by the letter of its code.
+#[tactic(auto, unfolding(cpp_grammar::specs::Parts::clone_text))]
+fn clone_number(letter: u8) -> u16
+    ensures text { fixed_text result ≡ clone_text letter }
+    ensures some { 0 < length (fixed_text result) }
+{
+    if letter == b't' {
+        texts::CLONE
+    } else {
+        texts::OTHER_CLONE
     }
 }
 
@@ -248,6 +261,28 @@ impl Symbol {
         self.push_text(parts, thunk_number(self.thunk(thunk)));
     }
 
+    /// The parts of a transaction clone's name.
+    // <special-name> ::= GTt <encoding> | GTn <encoding>
+    fn fill_clone<S: PartList<Context>>(
+        &self,
+        parts: &mut S,
+        letter: u8,
+        encoding: u32,
+        detail: Detail,
+    )
+        requires encoding { encoding < length self.now.table.nodes }
+        requires room { 8 ≤ S.room parts.old }
+        ensures shows { Shows self.now detail (S.held parts.old) (S.held parts.new) (text (clone_text letter) ∷ as_item heads.full items.closed (tree_at (trees (table_of self.now)) encoding) ∷ []) }
+        ensures few { S.room parts.old ≤ S.room parts.new + 8 }
+    {
+        let closed = Context {
+            index: None,
+            detail,
+        };
+        self.push_item(parts, encoding, form::FULL, 0, closed);
+        self.push_text(parts, clone_number(letter));
+    }
+
     /// The parts of a function's name and types.
     fn fill_signature<S: PartList<Context>>(
         &self,
@@ -366,6 +401,9 @@ impl Symbol {
                 parent,
                 ..
             } => { self.fill_construction(parts, derived, parent, detail) }
+            Node::CloneOf { letter, encoding } => {
+                self.fill_clone(parts, letter, encoding, detail)
+            }
             _ => {}
         }
     }

@@ -36,14 +36,14 @@ is_component k = nat_eq k 19 || nat_eq k 70 || nat_eq k 72
 unfoldable pub becomes_candidate : ℕ → Bool
 becomes_candidate k =
     nat_eq k 15 || nat_eq k 16 || nat_eq k 17 || nat_eq k 18 || nat_eq k 22
-    || nat_eq k 32 || nat_eq k 33 || nat_eq k 34 || nat_eq k 36 || nat_eq k 51 || nat_eq k 66 || nat_eq k 68
+    || nat_eq k 32 || nat_eq k 33 || nat_eq k 34 || nat_eq k 36 || nat_eq k 51 || nat_eq k 66 || nat_eq k 68 || nat_eq k 77
 
 -- what goes on with the name so far, and arguments behind it
 unfoldable pub goes_on : ℕ → Bool
 goes_on k = nat_eq k 17 || nat_eq k 18 || nat_eq k 66 || nat_eq k 68
 
 unfoldable pub is_arguments : ℕ → Bool
-is_arguments k = nat_eq k 42 || nat_eq k 43 || nat_eq k 67
+is_arguments k = nat_eq k 42 || nat_eq k 43 || nat_eq k 67 || nat_eq k 78
 
 -- a name with tags in the place of the arguments behind it, which isn't a candidate yet
 unfoldable pub in_place : Value → ℕ
@@ -71,6 +71,7 @@ makes_name Production.Constructor = true
 makes_name Production.Destructor = true
 makes_name Production.Holder = true
 makes_name Production.Tag = true
+makes_name Production.TypeTag = true
 makes_name Production.OtherOperatorName = true
 makes_name Production.OperatorNameWithC = true
 makes_name Production.ComponentWithC = true
@@ -383,7 +384,44 @@ spent-or-not n nothing_there = omega arith
 spent-or-not n (named t qualifiers ref) = omega arith
 spent-or-not n _ = omega arith
 
--- a name is made, and is pending where no arguments follow
+-- a name is made, and is pending where nothing follows
+pub made-flow : (p : Production) (around : Around) (place : ℕ) (x y : Sym) (t : Value → Term) →
+    ((a : Around) (v : Value) → pending_around x a v ≡ 0)
+    → ((v : Value) → pending y v ≡ in_place v)
+    → ((a : Around) (v : Value) → pending_around y a v ≡ cond (is_there v) (unlisted_around a) 0)
+    → ((state : State) → between p around place [] state ≡ Ok (going [] around state))
+    → ((v : Value) (state : State) → between p around place (v ∷ []) state ≡ Ok
+    (going (tree (t v) false ∷ []) (after (t v) false around) state))
+    → ((v : Value) → makes_before p (v ∷ []) ≡ 1) → ((u w : Value) → makes_at_end p (u ∷ w ∷ []) ≡ one_if_arguments w) →
+    ((v : Value) → leaves p v ≤ 1)
+    → ((byte : ℕ) (began : State) (vs : List Value) (state : State) (one : Found Value State)
+    → close p byte around place began vs state ≡ Ok one → one.state ≡ state)
+    → Flow p around place (x ∷ y ∷ []) [] 0
+unfolding unlisted_around after prefix_listed
+made-flow p around place x y t none behind_y front_y first second made end few same = λ state next e.
+    subst (Onward x (makes_before p []) 0 state (Flow p around place (y ∷ [])))
+    (ok_same (going [] around state) next (sym (first state) ∙ e))
+    (quiet (going [] around state) (omega arith) (λ v. none around v) begun)
+  where
+    closes : (u w : Value) → Flow p around place [] (u ∷ w ∷ []) (behind_name 1 w)
+    closes u w = λ byte began state one e. omega
+        (arith, few one.value, end u w, ap (λ s. length s.candidates) (same byte began (u ∷ w ∷ []) state one e), there-or-not w)
+
+    begun : (v : Value) → Flow p around place (y ∷ []) (v ∷ []) 0
+    begun v = λ state next e.
+        subst (Onward y (makes_before p (v ∷ [])) 0 state (Flow p around place []))
+        (ok_same (going (tree (t v) false ∷ []) (after (t v) false around) state) next (sym (second v state) ∙ e))
+        (record {
+          over = 1;
+          few = omega (arith, made v);
+          later = λ w. record {
+            now = behind_name 1 w;
+            few = omega (arith, spent-or-not 1 w, behind_y w, front_y (after (t v) false around) w);
+            goes = closes (tree (t v) false) w;
+          };
+        })
+
+-- where arguments may follow
 pub name-flow : (p : Production) (around : Around) (place : ℕ) (x : Sym) (t : Value → Term) →
     ((a : Around) (v : Value) → pending_around x a v ≡ 0)
     → ((state : State) → between p around place [] state ≡ Ok (going [] around state))
@@ -394,25 +432,8 @@ pub name-flow : (p : Production) (around : Around) (place : ℕ) (x : Sym) (t : 
     → ((byte : ℕ) (began : State) (vs : List Value) (state : State) (one : Found Value State)
     → close p byte around place began vs state ≡ Ok one → one.state ≡ state)
     → Flow p around place (x ∷ OfKind MAYBE_ARGUMENTS ∷ []) [] 0
-unfolding pending pending_around unlisted_around goes_on is_arguments is_component becomes_candidate after prefix_listed
-name-flow p around place x t none first second made end few same = λ state next e.
-    subst (Onward x (makes_before p []) 0 state (Flow p around place (OfKind MAYBE_ARGUMENTS ∷ [])))
-    (ok_same (going [] around state) next (sym (first state) ∙ e))
-    (quiet (going [] around state) (omega arith) (λ v. none around v) begun)
-  where
-    closes : (u w : Value) → Flow p around place [] (u ∷ w ∷ []) (behind_name 1 w)
-    closes u w = λ byte began state one e. omega
-        (arith, few one.value, end u w, ap (λ s. length s.candidates) (same byte began (u ∷ w ∷ []) state one e), there-or-not w)
-
-    begun : (v : Value) → Flow p around place (OfKind MAYBE_ARGUMENTS ∷ []) (v ∷ []) 0
-    begun v = λ state next e.
-        subst (Onward (OfKind MAYBE_ARGUMENTS) (makes_before p (v ∷ [])) 0 state (Flow p around place []))
-        (ok_same (going (tree (t v) false ∷ []) (after (t v) false around) state) next (sym (second v state) ∙ e))
-        (record {
-          over = 1;
-          few = omega (arith, made v);
-          later = λ w. record { now = behind_name 1 w; few = spent-or-not 1 w; goes = closes (tree (t v) false) w };
-        })
+unfolding pending pending_around goes_on is_arguments is_component becomes_candidate
+name-flow p around place x t none = made-flow p around place x (OfKind MAYBE_ARGUMENTS) t none (λ v. refl) (λ a v. refl)
 
 -- ## What passes its part on
 

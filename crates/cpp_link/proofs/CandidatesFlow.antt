@@ -9,7 +9,7 @@ use Rattle.sym_shape.specs.declared.rule.Sym.TheVariants.{Kind as OfKind, Name, 
 use Rattle.sym_link.specs.Reading.{Found, Next}
 use Rattle.sym_link.specs.Unfold.{found}
 use Rattle.cpp_grammar.specs.declared.production.Production.{Production}
-use Rattle.cpp_grammar.specs.KindNumbers.{INTEGER, UNQUALIFIED, NEST, NEST_AFTER_S, NEST_REST, NEST_REST_OR_END, NEST_REST_ALONE, ARGUMENTS_ALONE, NEST_TAIL, COMPONENT, HOLDER_MARK, HELD_COMPONENT, COMPONENT_AFTER_C, OPERATOR_AFTER_C, OTHER_OPERATOR, CONSTRUCTOR_DIGIT, DESTRUCTOR_DIGIT, ABBREVIATION, ANONYMOUS, ITEM_AFTER_D, AFTER_D, SOLID, TYPE_AFTER_S, MAYBE_ARGUMENTS, ARGUMENTS, ARGUMENT_LIST, LITERAL_TYPE, OPERATOR}
+use Rattle.cpp_grammar.specs.KindNumbers.{INTEGER, UNQUALIFIED, NEST, NEST_AFTER_S, NEST_REST, NEST_REST_OR_END, NEST_REST_ALONE, ARGUMENTS_ALONE, NEST_TAIL, COMPONENT, HOLDER_MARK, HELD_COMPONENT, COMPONENT_AFTER_C, OPERATOR_AFTER_C, OTHER_OPERATOR, CONSTRUCTOR_DIGIT, DESTRUCTOR_DIGIT, ABBREVIATION, ANONYMOUS, ITEM_AFTER_D, AFTER_D, SOLID, TYPE_AFTER_S, TYPE_IN_STD, SOURCE_OR_LOCAL, MAYBE_TAGS, MAYBE_ARGUMENTS, ARGUMENTS, ARGUMENT_LIST, LITERAL_TYPE, OPERATOR}
 use Rattle.cpp_grammar.specs.Grammar.{parts_of, number_of_kind}
 use Rattle.cpp_grammar.proofs.ClosedStates.{ok_same}
 use Rattle.cpp_term.specs.Term.{Term, source, operator, constructor, destructor, in_std, instance, holder, pack, lvalue, rvalue}
@@ -20,7 +20,7 @@ use Rattle.cpp_term.specs.Meaning.{meaning, function_of}
 use Rattle.cpp_term.specs.Unfolding.{behind, close}
 use Rattle.cpp_link.specs.Owed.{made_before, made_at_end}
 use Rattle.cpp_link.specs.NodeCount.{makes_before, makes_at_end, one_if_there, one_if_arguments, std_before, name_at_end}
-use Rattle.cpp_link.proofs.CandidatesFew.{unlisted, unlisted_around, is_component, becomes_candidate, goes_on, is_arguments, in_place, behind_name, pending, pending_around, makes_name, may_leave, takes_name, begins_arguments, leaves, starts_with, Onward, Flow, going, appended-one, typed-one, unqualified-one, prefix-one, substituted-none, parameter-one, came, ended, quiet, takes_pending, take_nothing, plain-flow, kept, still, there-or-not, spent-or-not, name-flow, value-flow, same-closes, rest-step, nest-flow}
+use Rattle.cpp_link.proofs.CandidatesFew.{unlisted, unlisted_around, is_component, becomes_candidate, goes_on, is_arguments, in_place, behind_name, pending, pending_around, makes_name, may_leave, takes_name, begins_arguments, leaves, starts_with, Onward, Flow, going, appended-one, typed-one, unqualified-one, prefix-one, substituted-none, parameter-one, came, ended, quiet, takes_pending, take_nothing, plain-flow, kept, still, there-or-not, spent-or-not, made-flow, name-flow, value-flow, same-closes, rest-step, nest-flow}
 
 -- ## Names
 
@@ -125,6 +125,25 @@ abbreviated-name around place = λ state next e. came (going [] around state) ne
     none false = refl
 
 -- ## Types
+
+-- a name in std as a type, and tags behind it
+tagged-std-type : (around : Around) (place : ℕ) → Flow Production.TaggedStdType around place (OfKind SOURCE_OR_LOCAL ∷ OfKind MAYBE_TAGS ∷ []) [] 0
+unfolding pending pending_around goes_on is_arguments is_component becomes_candidate between named_so_far makes_before made_before makes_at_end name_at_end part leaves makes_name may_leave unlisted close behind
+tagged-std-type around place =
+    made-flow Production.TaggedStdType around place (OfKind SOURCE_OR_LOCAL) (OfKind MAYBE_TAGS) (λ v. in_std (piece_of v)) (λ a v. refl) (λ v. refl) (λ a v. refl)
+    (λ state. refl) (λ v state. refl) (λ v. refl) (λ u w. refl) (λ v. at_most_one (is_listed v)) (λ byte began vs state one e. still
+    (meaning Production.TaggedStdType byte around vs) state one e)
+  where
+    at_most_one : (b : Bool) → cond b 0 1 ≤ 1
+    at_most_one true = omega arith
+    at_most_one false = omega arith
+
+type-tag : (around : Around) (place : ℕ) → Flow Production.TypeTag around place (Name ∷ OfKind MAYBE_TAGS ∷ []) [] 0
+unfolding pending pending_around goes_on is_arguments is_component becomes_candidate between tag_so_far named_so_far makes_before made_before makes_at_end name_at_end part leaves makes_name close behind
+type-tag around place =
+    made-flow Production.TypeTag around place Name (OfKind MAYBE_TAGS) (λ v. with_tag (prefix_tree around.prefix) (text_of v)) (λ a v. refl) (λ v. refl) (λ a v. refl)
+    (λ state. refl) (λ v state. refl) (λ v. refl) (λ u w. refl) (λ v. omega arith) (λ byte began vs state one e. still
+    (meaning Production.TypeTag byte around vs) state one e)
 
 solid-type : (p : Production) (around : Around) (place k : ℕ) → ((a : Around) (v : Value) → pending_around (OfKind k) a v ≡ 0)
     → ((v : Value) → pending (OfKind k) v ≡ unlisted v) → ((state : State) → between p around place [] state ≡ Ok (going [] around state))
@@ -529,6 +548,11 @@ flows Production.ItemIsType around place = value-flow Production.ItemIsType arou
 flows Production.AbbreviatedType around place = value-flow Production.AbbreviatedType around place (OfKind ABBREVIATION) (λ a v. refl) (λ v. refl)
     (λ state. refl)
     (λ v. same-closes Production.AbbreviatedType around place (v ∷ []) v (λ u. refl) (λ byte began state. refl))
+flows Production.TypeInStd around place = value-flow Production.TypeInStd around place (OfKind TYPE_IN_STD) (λ a v. refl) (λ v. refl)
+    (λ state. refl)
+    (λ v. same-closes Production.TypeInStd around place (v ∷ []) v (λ u. refl) (λ byte began state. refl))
+flows Production.TaggedStdType around place = tagged-std-type around place
+flows Production.TypeTag around place = type-tag around place
 flows Production.PlainType around place = solid-type Production.PlainType around place SOLID (λ a v. refl) (λ v. refl) (λ state. refl)
     (λ v. refl) (λ byte began state v. refl)
 flows Production.TypeWithD around place = solid-type Production.TypeWithD around place AFTER_D (λ a v. refl) (λ v. refl) (λ state. refl)
@@ -568,6 +592,9 @@ flows Production.Special around place = plain-flow Production.Special around pla
 flows Production.Guard around place = plain-flow Production.Guard around place (λ vs state next e. kept vs (in_name place) state next 0 e)
     (plain-closes Production.Guard around place (λ byte began vs state. refl) (λ byte began vs state. refl) (λ byte vs. omega arith))
     (parts_of Production.Guard) refl []
+flows Production.OtherSpecial around place = plain-flow Production.OtherSpecial around place (λ vs state next e. kept vs (in_name place) state next 0 e)
+    (plain-closes Production.OtherSpecial around place (λ byte began vs state. refl) (λ byte began vs state. refl) (λ byte vs. omega arith))
+    (parts_of Production.OtherSpecial) refl []
 flows Production.Lambda around place = plain-flow Production.Lambda around place
     (λ vs state next e. kept vs (in_signature around) state next 0 e)
     (plain-closes Production.Lambda around place (λ byte began vs state. refl) (λ byte began vs state. refl) (λ byte vs. omega arith))

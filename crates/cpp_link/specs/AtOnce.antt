@@ -39,6 +39,7 @@ unfoldable closes_most : Production → (held : ℕ) → ℕ
 closes_most Production.InternalName held = 1
 closes_most Production.SourceName held = 1
 closes_most Production.Tag held = 1
+closes_most Production.TypeTag held = 1
 closes_most Production.PackArgument held = pack_most_at held
 closes_most p held = owes_of p held
 
@@ -224,6 +225,7 @@ unfolding closes_of closes_most
 most_right Production.InternalName own = name_one own
 most_right Production.SourceName own = name_one own
 most_right Production.Tag own = name_one own
+most_right Production.TypeTag own = name_one own
 most_right Production.PackArgument own = pack_most own
 most_right p own = closes_owed p own
 

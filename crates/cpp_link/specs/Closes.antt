@@ -24,6 +24,7 @@ unfoldable pub closes_of : Production → List Part → ℕ
 closes_of Production.InternalName parts = name_closes parts
 closes_of Production.SourceName parts = name_closes parts
 closes_of Production.Tag parts = name_closes parts
+closes_of Production.TypeTag parts = name_closes parts
 closes_of Production.PackArgument parts = pack_closes parts
 closes_of p parts = owes_of p (length parts)
 
@@ -35,4 +36,5 @@ unfoldable pub ends_of : Production → List Part → ℕ
 ends_of Production.InternalName parts = name_closes parts
 ends_of Production.SourceName parts = name_closes parts
 ends_of Production.Tag parts = name_closes parts
+ends_of Production.TypeTag parts = name_closes parts
 ends_of p parts = made_at_end p

@@ -69,6 +69,7 @@ unfolding closes_of made_at_end
 closes_owed Production.InternalName own = omega (arith, name_one own, end_owed Production.InternalName (length own))
 closes_owed Production.SourceName own = omega (arith, name_one own, end_owed Production.SourceName (length own))
 closes_owed Production.Tag own = omega (arith, name_one own, end_owed Production.Tag (length own))
+closes_owed Production.TypeTag own = omega (arith, name_one own, end_owed Production.TypeTag (length own))
 closes_owed Production.PackArgument own = pack_owed own
 closes_owed p own = same_le (owes_of p (length own))
 
@@ -77,6 +78,7 @@ unfolding closes_of ends_of made_at_end pack_closes
 ends_closes Production.InternalName own = same_le (name_closes own)
 ends_closes Production.SourceName own = same_le (name_closes own)
 ends_closes Production.Tag own = same_le (name_closes own)
+ends_closes Production.TypeTag own = same_le (name_closes own)
 ends_closes Production.PackArgument [] = omega arith
 ends_closes Production.PackArgument (elements ∷ []) = omega arith
 ends_closes Production.PackArgument (elements ∷ p ∷ own) = omega arith
@@ -107,6 +109,7 @@ unfolding closes_of
 closes_behind Production.InternalName first part rest = name_behind first part rest
 closes_behind Production.SourceName first part rest = name_behind first part rest
 closes_behind Production.Tag first part rest = name_behind first part rest
+closes_behind Production.TypeTag first part rest = name_behind first part rest
 closes_behind Production.PackArgument first part rest = pack_behind first part rest
 closes_behind p first part rest = longer p (part ∷ rest) Part.Nothing
 
@@ -115,6 +118,7 @@ unfolding closes_of name_closes pack_closes pack_makes
 first_pushed Production.InternalName = omega arith
 first_pushed Production.SourceName = omega arith
 first_pushed Production.Tag = omega arith
+first_pushed Production.TypeTag = omega arith
 first_pushed Production.PackArgument = omega arith
 first_pushed p = quiet_owed p 0
 
@@ -152,5 +156,6 @@ unfolding closes_of made_before
 closes_made Production.InternalName first part rest one makes = name_made first part rest one
 closes_made Production.SourceName first part rest one makes = name_made first part rest one
 closes_made Production.Tag first part rest one makes = name_made first part rest one
+closes_made Production.TypeTag first part rest one makes = name_made first part rest one
 closes_made Production.PackArgument first part rest one makes = pack_made first part rest one (makes refl)
 closes_made p first part rest one makes = made_longer p (part ∷ rest) one

@@ -69,6 +69,8 @@ makes_at_end Production.Destructor known = name_at_end known
 makes_at_end Production.Parameter known = name_at_end known
 makes_at_end Production.TypeWithS known = name_at_end known
 makes_at_end Production.Tag known = name_at_end known
+makes_at_end Production.TypeTag known = name_at_end known
+makes_at_end Production.TaggedStdType known = name_at_end known
 makes_at_end Production.Lambda known = lambda_at_end known
 makes_at_end p known = made_at_end p
 

@@ -117,6 +117,8 @@ impl Linked {
             Production::NestTag => Meant::Given(self.given(symbol, parts, 1)),
             // <unqualified-name> ::= <unqualified-name> <abi-tags>, perhaps with <template-args>
             Production::Tag => self.in_place(symbol, parts),
+            // <unqualified-name> ::= <unqualified-name> <abi-tags>, in std as a type
+            Production::TypeTag => self.in_place(symbol, parts),
             // <prefix> ::= St <unqualified-name>
             Production::NestStd => Meant::Given(self.given(symbol, parts, 2)),
             // <prefix> ::= <template-prefix> <template-args>
@@ -174,6 +176,16 @@ impl Linked {
                     name: self.tree(symbol, parts, 0),
                     qualifiers: self.qualifiers(symbol, parts, 0),
                     mark: self.reference(symbol, parts, 0),
+                },
+                true,
+            ),
+            // <special-name> ::= GV <object name> | GTt <encoding> | GTn <encoding>
+            Production::OtherSpecial => Meant::Given(self.given(symbol, parts, 1)),
+            // <special-name> ::= GTt <encoding> | GTn <encoding>, behind the G
+            Production::Clone => made(
+                Node::CloneOf {
+                    letter: self.letter(symbol, parts, 0),
+                    encoding: self.tree(symbol, parts, 1),
                 },
                 true,
             ),
@@ -391,6 +403,9 @@ impl Linked {
             Production::Destructor => self.applied(symbol, parts, false),
             // <unscoped-name> ::= St <unqualified-name>
             Production::StdName => self.applied(symbol, parts, false),
+            // <unscoped-name> ::= St <unqualified-name>, as a type, perhaps with <abi-tags>
+            Production::TypeInStd => Meant::Given(self.given(symbol, parts, 0)),
+            Production::TaggedStdType => self.applied(symbol, parts, false),
             // <unscoped-template-name> ::= <substitution>, with <template-args>
             Production::AbbreviatedName => self.applied(symbol, parts, false),
             // <template-param> ::= T_ | T <parameter number> _

@@ -222,6 +222,7 @@ impl Linked {
             Production::Encoding => self.go(self.in_encoding(kept, place, None)),
             Production::Special => self.go(self.in_encoding(kept, place, None)),
             Production::Guard => self.go(self.in_encoding(kept, place, None)),
+            Production::OtherSpecial => self.go(self.in_encoding(kept, place, None)),
             Production::Lambda => self.go(self.in_signature(kept)),
             Production::Expansion => Step::Go {
                 candidate: None,
@@ -385,6 +386,7 @@ impl Linked {
         match production {
             Production::Special => self.go(self.in_encoding(kept, place, None)),
             Production::Guard => self.go(self.in_encoding(kept, place, None)),
+            Production::OtherSpecial => self.go(self.in_encoding(kept, place, None)),
             Production::Lambda => self.go(self.in_signature(kept)),
             Production::Expansion => Step::Go {
                 candidate: None,
@@ -481,6 +483,7 @@ impl Linked {
                 packs: self.packs,
             },
             Production::StdName => self.named(Node::InStd(self.piece_in(symbol, first))),
+            Production::TaggedStdType => self.named(Node::InStd(self.piece_in(symbol, first))),
             Production::NestStd => self.named(Node::InStd(self.piece_in(symbol, first))),
             Production::AbbreviatedName => Step::Named {
                 node: self.node(symbol, first),
@@ -503,6 +506,11 @@ impl Linked {
                 self.text_in(symbol, first),
             )),
             Production::Tag => self.named(self.tagged(symbol, kept, self.text_in(symbol, first))),
+            Production::TypeTag => self.named(self.tagged(
+                symbol,
+                kept,
+                self.text_in(symbol, first),
+            )),
             Production::NestNext => self.go(self.behind_name(
                 kept,
                 self.node(symbol, first),
@@ -559,6 +567,7 @@ impl Linked {
         match production {
             Production::Special => self.go(self.in_encoding(kept, place, None)),
             Production::Guard => self.go(self.in_encoding(kept, place, None)),
+            Production::OtherSpecial => self.go(self.in_encoding(kept, place, None)),
             Production::Lambda => self.go(self.in_signature(kept)),
             Production::Expansion => Step::Go {
                 candidate: None,
@@ -627,6 +636,7 @@ impl Linked {
         match production {
             Production::Special => self.go(self.in_encoding(kept, place, None)),
             Production::Guard => self.go(self.in_encoding(kept, place, None)),
+            Production::OtherSpecial => self.go(self.in_encoding(kept, place, None)),
             Production::Lambda => self.go(self.in_signature(kept)),
             Production::Expansion => Step::Go {
                 candidate: None,
@@ -677,6 +687,7 @@ impl Linked {
         match production {
             Production::Special => self.go(self.in_encoding(kept, place, None)),
             Production::Guard => self.go(self.in_encoding(kept, place, None)),
+            Production::OtherSpecial => self.go(self.in_encoding(kept, place, None)),
             Production::Lambda => self.go(self.in_signature(kept)),
             Production::Expansion => Step::Go {
                 candidate: None,

@@ -3,7 +3,7 @@ use Rattle.std.proofs.Common.{◌≡◌, ℕ, ◌-◌, List, [], ◌∷◌, ◌+
 use Rattle.std.specs.Prelude.{codes, cond}
 use Rattle.sym_spell.specs.Pressing.{◌and◌, text, nothing}
 use Rattle.sym_spell.proofs.Spellings.{and-assoc, nothing-and}
-use Rattle.cpp_grammar.specs.Term.{Qualifiers, RefQualifier, any_value, lvalue_only, rvalue_only, Term, symbol, function, object, special, thunk, of_name, construction, alone, in_std, within, instance, local, holder, tagged, abbreviation, parameter, source, operator, literal_operator, constructor, destructor, lambda, unnamed, string_literal, conversion, builtin, sized_float, vendor, pointer, lvalue, rvalue, array, member_pointer, function_type, qualified, vector, complex, expansion, integer, boolean, null_pointer, encoding_literal, address_of, pack, nil, list}
+use Rattle.cpp_grammar.specs.Term.{Qualifiers, RefQualifier, any_value, lvalue_only, rvalue_only, Term, symbol, function, object, special, thunk, of_name, construction, clone, alone, in_std, within, instance, local, holder, tagged, abbreviation, parameter, source, operator, literal_operator, constructor, destructor, lambda, unnamed, string_literal, conversion, builtin, sized_float, vendor, pointer, lvalue, rvalue, array, member_pointer, function_type, qualified, vector, complex, expansion, integer, boolean, null_pointer, encoding_literal, address_of, pack, nil, list}
 use Rattle.cpp_grammar.specs.Values.{Candidate}
 use Rattle.cpp_tree.specs.Nodes.{qualifiers_of, mark_of}
 use Rattle.cpp_press_laws.specs.Texts.{counted, ordinal, signed_text, qualifier_letters, mark_letter, name_letters, special_code, thunk_text, discriminator_text}
@@ -151,6 +151,8 @@ encoding-is n here (thunk kind e) r cs = ap {A = Spelling} (λ (f : Spelling). f
 encoding-is n here (of_name l name q ref) r cs = ap {A = Spelling} (λ (f : Spelling). f here cs) (two (text (special_code l)) ((ways_of here name).as_name (name_letters q ref)) r)
 encoding-is n here (construction derived digits parent) r cs =
     ap {A = Spelling} (λ (f : Spelling). f here cs) (four (text (codes "TC")) (ways_of here derived).as_type (text (digits ++ codes "_")) (ways_of here parent).as_type r)
+encoding-is n here (clone letter e) r cs =
+    ap {A = Spelling} (λ (f : Spelling). f here cs) (three (text (codes "G")) (text (codes "T" ++ letter ∷ [])) (ways_of here e).as_encoding r)
 encoding-is n here (symbol e suffix) r cs =
     ap {A = Spelling} (λ (f : Spelling). f here cs) (three (text (codes "_Z")) (ways_of n e).as_encoding (text suffix) r)
     ∙ ap {A = Spelling} (λ (f : Spelling). (text (codes "_Z") and (f and (text suffix and r))) here cs) (same-encoding n here e)

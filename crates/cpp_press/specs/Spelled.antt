@@ -1,7 +1,7 @@
 -- Trees that are spelled out, each onto what stands behind it.
 use Rattle.std.specs.Prelude.{ℕ, ◌-◌, List, [], ◌∷◌, ◌++◌, Bool, true, false, cond, ◌&&◌, ◌||◌, codes, Option}
 use Prim.Native.String.{String}
-use Rattle.cpp_grammar.specs.Term.{Qualifiers, RefQualifier, any_value, Term, symbol, function, object, special, thunk, of_name, construction, alone, in_std, within, instance, local, holder, tagged, abbreviation, parameter, source, operator, literal_operator, constructor, destructor, lambda, unnamed, string_literal, conversion, builtin, sized_float, vendor, pointer, lvalue, rvalue, array, member_pointer, function_type, qualified, vector, complex, expansion, integer, boolean, null_pointer, encoding_literal, address_of, pack, nil, list}
+use Rattle.cpp_grammar.specs.Term.{Qualifiers, RefQualifier, any_value, Term, symbol, function, object, special, thunk, of_name, construction, clone, alone, in_std, within, instance, local, holder, tagged, abbreviation, parameter, source, operator, literal_operator, constructor, destructor, lambda, unnamed, string_literal, conversion, builtin, sized_float, vendor, pointer, lvalue, rvalue, array, member_pointer, function_type, qualified, vector, complex, expansion, integer, boolean, null_pointer, encoding_literal, address_of, pack, nil, list}
 use Rattle.cpp_press_laws.specs.Texts.{counted, ordinal, signed_text, qualifier_letters, mark_letter, name_letters, special_code, thunk_text, discriminator_text}
 use Rattle.cpp_press_laws.specs.Components.{Spelling}
 use Rattle.cpp_press_laws.specs.Pressing.{is_operator, is_encoding, is_one_piece}
@@ -163,6 +163,7 @@ encoding_onto n (thunk kind e) rest = written (thunk_text kind) onto in_way n Wa
 encoding_onto n (of_name l name q ref) rest = written (special_code l) onto in_name n q ref name onto rest
 encoding_onto n (construction derived digits parent) rest =
     fixed "TC" onto in_way n Way.Type derived onto written (digits ++ codes "_") onto in_way n Way.Type parent onto rest
+encoding_onto n (clone letter e) rest = fixed "G" onto written (codes "T" ++ letter ∷ []) onto in_way n Way.Encoding e onto rest
 encoding_onto n (symbol e suffix) rest = fixed "_Z" onto in_way n Way.Encoding e onto written suffix onto rest
 encoding_onto n _ rest = rest
 

@@ -440,6 +440,12 @@ fn then_encoding(
             then_tree(symbol, derived, Way::Type, here, tasks)?;
             then_fixed(symbol, b"TC", tasks)?;
         }
+        // <special-name> ::= GTt <encoding> | GTn <encoding>
+        Node::CloneOf { letter, encoding } => {
+            then_tree(symbol, encoding, Way::Encoding, here, tasks)?;
+            then_text(symbol, Text::Pair(b'T', letter), tasks)?;
+            then_fixed(symbol, b"G", tasks)?;
+        }
         Node::Whole { encoding, suffix } => {
             then_text(symbol, Text::Suffix(suffix), tasks)?;
             then_tree(symbol, encoding, Way::Encoding, here, tasks)?;

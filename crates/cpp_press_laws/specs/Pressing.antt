@@ -149,7 +149,7 @@ ways_of n (thunk kind e) = encoding_ways (λ here. text (thunk_text kind) and (w
 ways_of n (of_name l name q ref) = encoding_ways (λ here. text (special_code l) and (ways_of here name).as_name (name_letters q ref))
 ways_of n (construction derived digits parent) =
     encoding_ways (λ here. says "TC" and (ways_of here derived).as_type and text (digits ++ codes "_") and (ways_of here parent).as_type)
-ways_of n (clone letter e) = encoding_ways (λ here. text (codes "GT" ++ letter ∷ []) and (ways_of here e).as_encoding)
+ways_of n (clone letter e) = encoding_ways (λ here. says "G" and text (codes "T" ++ letter ∷ []) and (ways_of here e).as_encoding)
 ways_of n (alone p) =
     let spelling = (ways_of n p).as_piece in
     name_ways n (alone p) spelling spelling spelling spelling (λ in_type arguments. template_before n (alone p) false spelling arguments)

@@ -337,7 +337,7 @@ ways-grow whole (construction derived digits parent) in_whole n =
     (front (digits ++ codes "_") (more-grows (ways-grow whole parent (λ x is. in_whole x (inr is)) here).as_type (omega arith)))))
 ways-grow whole (clone letter e) in_whole n =
     encoding-ways-grow whole (clone letter e) (λ here.
-    front (codes "GT" ++ letter ∷ []) (more-grows (ways-grow whole e in_whole here).as_encoding (omega arith)))
+    front (codes "G") (front (codes "T" ++ letter ∷ []) (more-grows (ways-grow whole e in_whole here).as_encoding (omega arith))))
 ways-grow whole (alone p) in_whole n =
     let a = (ways-grow whole p in_whole n).as_piece in
     name-ways-grow whole n (alone p) a (more-grows a (omega arith)) a (λ never. a)

@@ -375,8 +375,9 @@ keeps (construction derived digits parent) open_ n R =
     ((keeps parent ⊥ here (OrOpen R)).as_type (λ x w. h x (inr w))))))
 keeps (clone letter e) open_ n R =
     encoding-ways-keep open_ n R (clone letter e) _ (λ x. Shut (Inside e x) x) (λ x s. s.1) (λ here h.
-    behind-bytes-keeps ⊥ here (OrOpen R) (codes "GT" ++ letter ∷ []) (ways_of here e).as_encoding (omega arith)
-    ((keeps e ⊥ here (OrOpen R)).as_encoding h))
+    behind-text-keeps ⊥ here (OrOpen R) (codes "G") (text (codes "T" ++ letter ∷ []) and (ways_of here e).as_encoding)
+    (behind-bytes-keeps ⊥ here (OrOpen R) (codes "T" ++ letter ∷ []) (ways_of here e).as_encoding (omega arith)
+    ((keeps e ⊥ here (OrOpen R)).as_encoding h)))
 keeps (alone p) open_ n R =
     let spelling : Spelling = (ways_of n p).as_piece in
     let one : In (Inside p) R → KeepsTo open_ n R spelling = (keeps p open_ n R).as_piece in

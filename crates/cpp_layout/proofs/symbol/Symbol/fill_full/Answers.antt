@@ -29,5 +29,9 @@ pub returns-in-Construction-clause-shows : goal.returns-in-Construction-clause-s
 unfolding tree_of full_parts
 returns-in-Construction-clause-shows g c = fills c.args.self.now c.args.detail _ _ _ c.fill_construction.ensures.shows (ap (λ t. full_parts c.args.detail t) (sym c.in-Construction.ensures.tree))
 
+pub returns-in-CloneOf-clause-shows : goal.returns-in-CloneOf-clause-shows
+unfolding tree_of full_parts
+returns-in-CloneOf-clause-shows g c = fills c.args.self.now c.args.detail _ _ _ c.fill_clone.ensures.shows (ap (λ t. full_parts c.args.detail t) (sym c.in-CloneOf.ensures.tree))
+
 pub returns-in_default-clause-shows : goal.returns-in_default-clause-shows
-returns-in_default-clause-shows g c = fills c.args.self.now c.args.detail _ _ _ (starts c.args.self.now c.args.detail _) (full-none c.args.detail _ _ _ c.stored.result _ c.stored.ensures.tree c.in_default.not-Function c.in_default.not-Object c.in_default.not-Special c.in_default.not-Thunk c.in_default.not-OfName c.in_default.not-Construction)
+returns-in_default-clause-shows g c = fills c.args.self.now c.args.detail _ _ _ (starts c.args.self.now c.args.detail _) (full-none c.args.detail _ _ _ c.stored.result _ c.stored.ensures.tree c.in_default.not-Function c.in_default.not-Object c.in_default.not-Special c.in_default.not-Thunk c.in_default.not-OfName c.in_default.not-Construction c.in_default.not-CloneOf)

@@ -1,0 +1,12 @@
+use Rattle.std.proofs.Common.{[], ap, ◌∷◌}
+use Rattle.cpp_layout.proofs.Growing.{fills, starts}
+use Rattle.cpp_layout.specs.Layout.{table_of}
+use Rattle.cpp_term.specs.Parts.{as_item}
+use Rattle.cpp_tree.specs.Nodes.{tree_at, trees}
+use Rattle.sym_print.specs.Unfold.{text}
+use Rattle.cpp_grammar.specs.Items as heads
+use Rattle.cpp_term.specs.Items as items
+use Rattle.cpp_layout.proofs.symbol.Symbol.fill_clone.Goals as goal
+
+pub returns-clause-shows : goal.returns-clause-shows
+returns-clause-shows g c = fills c.args.self.now c.args.detail _ _ _ (c.push_text.ensures.shows _ _ _ (c.push_item.ensures.shows _ _ (starts c.args.self.now c.args.detail _))) (ap (λ t. text t ∷ as_item heads.full items.closed (tree_at (trees (table_of c.args.self.now)) c.args.encoding) ∷ []) c.clone_number.ensures.text)
