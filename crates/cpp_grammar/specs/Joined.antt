@@ -1,0 +1,41 @@
+-- The ABI's grammar in which what comes behind a parameter or a substitution isn't told apart from what comes behind any other name.
+-- Both have kinds of their own since the wide grammar has tags behind the names alone.
+use Rattle.std.specs.Prelude.{List, length, option_map}
+use Rattle.sym_shape.specs.declared.rule.Rule.{Rule}
+use Rattle.sym_shape.specs.declared.rule.Sym.{Sym}
+use Rattle.sym_shape.specs.Table.{Table}
+use Rattle.sym_shape.specs.Tree.{Tree, Forest, branch, nothing, grown}
+use Rattle.cpp_grammar.specs.declared.production.Production.{Production}
+use Rattle.cpp_grammar.specs.JoinedParts.{joined_parts}
+use Rattle.cpp_grammar.specs.Table.{padded, abi}
+use Rattle.cpp_grammar.specs.Unfolding.{production_at}
+
+-- the rule over the parts of its production
+unfoldable pub rule_over : (Production → List Sym) → Rule → Rule
+rule_over parts rule = record {
+  number = rule.number;
+  eats = rule.eats;
+  count = length (parts (production_at rule.number));
+  symbols = padded 5 (parts (production_at rule.number));
+}
+
+unfoldable pub abi_joined : Table
+abi_joined = record {
+  kinds = abi.kinds;
+  rule = λ kind byte. option_map (rule_over joined_parts) (abi.rule kind byte);
+  may_be_empty = abi.may_be_empty;
+  after = abi.after;
+  rank = abi.rank;
+  height = abi.height;
+  names = abi.names;
+}
+
+-- the tree with such rules
+unfoldable mutual
+  pub tree_over : (Production → List Sym) → Tree → Tree
+  tree_over parts (branch rule taken trees) = branch (rule_over parts rule) taken (forest_over parts trees)
+  tree_over parts tree = tree
+
+  pub forest_over : (Production → List Sym) → Forest → Forest
+  forest_over parts nothing = nothing
+  forest_over parts (grown tree rest) = grown (tree_over parts tree) (forest_over parts rest)
