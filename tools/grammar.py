@@ -47,9 +47,6 @@ OP_NAME = chain("OperatorName", "Operator", "MaybeArguments")
 BARE = [eats("L", "InternalPiece", NAME), eats("U", "LocalTypePiece", "Anonymous"), chain("SourcePiece", NAME)]
 NESTED = eats("N", "NestedName", "MaybeRestrict", "MaybeVolatile", "MaybeConst", "MaybeRef", "Nest")
 
-# the kinds that stand apart since the wide grammar has no tags there, each with the one that it is as in the ABI's grammar
-JOINED = {"ArgumentsAlone": "MaybeArguments", "NestRestAlone": "NestRest"}
-
 def build(extended=True, widened=False):
     P.clear(); K.clear(); MARKED.clear()
     WIDENED[0] = widened
@@ -142,7 +139,7 @@ def build(extended=True, widened=False):
         kind("OperatorAfter" + a.upper(), *rules)
     # the wide grammar's own kinds and productions stand last, so that the numbers of the others are those of the ABI's grammar
     kind("NestRestOrEnd", eats("I", "NestInstance", "ArgumentList", "'E'", "NestTail"), chain("NestNext", "Component", "NestTail"))
-    # behind a parameter and a substitution no tag may come: in the ABI's grammar these are as the kinds in JOINED
+    # behind a parameter and a substitution no tag may come: in the ABI's grammar these are as MaybeArguments and NestRest
     kind("ArgumentsAlone", ARGUMENTS, empty=True)
     kind("NestRestAlone", *NEST_REST)
     kind("HolderMark", MARK("M"))
@@ -475,8 +472,6 @@ pick (a ∷ rest) byte = cond (is_in a byte) (Some a.production) (pick rest byte
 def antt_alternatives(name):
     return [f"{name} Kind.{k} = " + " ∷ ".join(on(klass(c, p), p) for c, p in rules) + " ∷ []" for k, (e, rules) in K.items()]
 
-def antt_parts(name, p, syms): return f"{name} Production.{p} = " + "".join(antt_symbol(s) + " ∷ " for s in syms) + "[]"
-
 def antt_grammar():
     out = [GRAMMAR_HEAD.rstrip("\n"), "", "-- the numbers of the kinds", "unfoldable pub number_of_kind : Kind → ℕ"]
     out += [f"number_of_kind Kind.{k} = {i}" for i, k in enumerate(K)]
@@ -486,7 +481,7 @@ def antt_grammar():
     out += ["", "-- the production that a kind takes at a byte", "unfoldable pub choose : Kind → ℕ → Option Production",
             "choose kind byte = pick (alternatives kind) byte", "",
             "-- the parts of a production, behind its own byte if it takes one", "unfoldable pub parts_of : Production → List Sym"]
-    out += [antt_parts("parts_of", p, syms) for p, (ate, syms) in P.items()]
+    for p, (ate, syms) in P.items(): out.append(f"parts_of Production.{p} = " + "".join(antt_symbol(s) + " ∷ " for s in syms) + "[]")
     out += ["", "-- the productions that take no byte of their own", "unfoldable pub is_chain : Production → Bool"]
     out += [f"is_chain Production.{p} = true" for p, (ate, syms) in P.items() if not ate]
     out += ["is_chain _ = false", "", "-- the kinds that may be empty", "unfoldable pub may_be_empty : Kind → Bool"]
@@ -591,29 +586,6 @@ def antt_before():
     out += ["alternatives_before kind = alternatives kind"]
     return "\n".join(out) + "\n"
 
-JOINED_HEAD = f'''-- {WRITTEN} The ABI's grammar in which what comes behind a parameter or a substitution is of the kind of what comes behind
--- any other name: the parts of each production.
-use Rattle.std.specs.Prelude.{{List, [], ◌∷◌}}
-use Rattle.sym_core.specs.declared.NumberKind.TheVariants.{{Decimal}}
-use Rattle.sym_shape.specs.declared.rule.Sym.{{Sym}}
-use Rattle.sym_shape.specs.declared.rule.Sym.TheVariants.{{Kind as OfKind, Number}}
-use Rattle.cpp_grammar.specs.declared.kind.Kind.{{Kind}}
-use Rattle.cpp_grammar.specs.declared.production.Production.{{Production}}
-use Rattle.cpp_grammar.specs.Grammar.{{number_of_kind, parts_of}}
-
-abbrev part : Kind → Sym
-part k = OfKind (number_of_kind k)
-
-unfoldable pub joined_parts : Production → List Sym
-'''
-
-def antt_joined():
-    """the productions over a kind of JOINED, with the other in its place"""
-    out = [JOINED_HEAD.rstrip("\n")]
-    out += [antt_parts("joined_parts", p, [JOINED.get(s, s) for s in syms]) for p, (ate, syms) in P.items() if JOINED.keys() & set(syms)]
-    out += ["joined_parts production = parts_of production"]
-    return "\n".join(out) + "\n"
-
 def files():
     """what is written: each file's path in the folder of the crates, and its text"""
     yield "cpp_grammar/specs/Before.antt", antt_before()
@@ -634,7 +606,6 @@ def files():
     yield "cpp_grammar/src/table.rt", rust_table()
     yield "cpp_grammar/specs/Grammar.antt", antt_grammar()
     yield "cpp_grammar/specs/KindNumbers.antt", antt_kind_numbers()
-    yield "cpp_grammar/specs/JoinedParts.antt", antt_joined()
     yield from written_words.files({p: symbols for p, (ate, symbols) in P.items()})
 
 def write(crates):

@@ -1,6 +1,7 @@
 -- Where the kinds of what comes behind a parameter or a substitution are those of what comes behind any other name, the same symbols
 -- have the same rows and stand for the same.
-use Rattle.std.proofs.Common.{◌≡◌, ◌↔◌, ℕ, ◌+◌, List, [], ◌∷◌, ◌++◌, length, take, Option, Some, None, option_map, inl, inr, refl, ap, sym, ◌∙◌, subst}
+use Rattle.std.proofs.Common.{map, Bool, true, false, cond, nat_eq, ◌≡◌, ◌↔◌, ℕ, ◌+◌, List, [], ◌∷◌, ◌++◌, length, take, Option, Some, None, option_map, inl, inr, refl, ap, sym, ◌∙◌, subst}
+use Rattle.std.proofs.lemmas.Bool.{eqb-true}
 use Rattle.std.proofs.lemmas.Option.{slice_get_cases}
 use Rattle.sym_shape.specs.declared.rule.Rule.{Rule}
 use Rattle.sym_shape.specs.declared.rule.Row.{Row}
@@ -10,12 +11,11 @@ use Rattle.sym_shape.specs.Table.{Table, IsToken, symbols_of}
 use Rattle.sym_shape.specs.Tree.{Tree, Forest, branch, empty, token, fixed, nothing, grown, spell, spell_all, IsTree, AreTrees, IsWellShaped, BeginsWellShaped, IsFirstBad, IsMalformed, AreRowsOf, AreStepsOf, row_count, row_count_all, rows_of, rows_of_all, read_steps, read_steps_all}
 use Rattle.cpp_grammar.specs.declared.production.Production.{Production}
 use Rattle.cpp_grammar.specs.KindNumbers.{MAYBE_ARGUMENTS, ARGUMENTS_ALONE, NEST_REST, NEST_REST_ALONE}
-use Rattle.cpp_grammar.specs.Grammar.{alternatives, choose, kinds, number_of, number_of_kind, parts_of, productions}
-use Rattle.cpp_grammar.specs.Joined.{abi_joined, rule_over, tree_over, forest_over}
-use Rattle.cpp_grammar.specs.JoinedParts.{joined_parts}
+use Rattle.cpp_grammar.specs.Grammar.{alternatives, choose, kinds, number_of, parts_of, productions}
+use Rattle.cpp_grammar.specs.Joined.{joined_kind, joined_symbol, joined_parts, abi_joined, rule_over, tree_over, forest_over}
 use Rattle.cpp_grammar.specs.Table.{abi, padded, rule_of, rule_taken, sheet}
 use Rattle.cpp_grammar.specs.Unfolding.{production_at}
-use Rattle.cpp_grammar.proofs.Alone.{alike, same_arguments, arguments_missing, same_rests, rests_missing, arguments_alone, rest_alone}
+use Rattle.cpp_grammar.proofs.Alone.{alike, same_arguments, arguments_missing, same_rests, rests_missing, arguments_alone, arguments_maybe, rest_alone, rest_any}
 use Rattle.cpp_grammar.proofs.Choosing.{rule_at_kind}
 use Rattle.cpp_grammar.proofs.Growing.{none_past}
 
@@ -52,35 +52,70 @@ joined_found k byte rule found = go (abi.rule k byte) refl found
 
 -- ## The kinds that are joined
 
-maybe_arguments : (t : Tree) → IsTree abi_joined (OfKind ARGUMENTS_ALONE) t → IsTree abi_joined (OfKind MAYBE_ARGUMENTS) t
-unfolding abi_joined
-maybe_arguments t is = alike abi_joined ARGUMENTS_ALONE MAYBE_ARGUMENTS (λ b. ap (option_map (rule_over joined_parts)) (sym (same_arguments b))) (sym arguments_missing) t is
+-- two kinds have the same trees
+abbrev AreAlike : Table → (j k : ℕ) → Type 0
+AreAlike g j k = (t : Tree) → IsTree g (OfKind j) t ↔ IsTree g (OfKind k) t
 
-any_rest : (t : Tree) → IsTree abi_joined (OfKind NEST_REST_ALONE) t → IsTree abi_joined (OfKind NEST_REST) t
+joined_arguments : AreAlike abi_joined ARGUMENTS_ALONE MAYBE_ARGUMENTS
 unfolding abi_joined
-any_rest t is = alike abi_joined NEST_REST_ALONE NEST_REST (λ b. ap (option_map (rule_over joined_parts)) (sym (same_rests b))) (sym rests_missing) t is
+joined_arguments t = (
+  alike abi_joined ARGUMENTS_ALONE MAYBE_ARGUMENTS (λ b. ap (option_map (rule_over joined_parts)) (sym (same_arguments b))) (sym arguments_missing) t,
+  alike abi_joined MAYBE_ARGUMENTS ARGUMENTS_ALONE (λ b. ap (option_map (rule_over joined_parts)) (same_arguments b)) arguments_missing t,
+)
 
-second : (g : Table) (x y z : Sym) → ((t : Tree) → IsTree g y t → IsTree g z t) → (f : Forest) → AreTrees g (x ∷ y ∷ []) f → AreTrees g (x ∷ z ∷ []) f
-second g x y z each (grown a (grown b f)) is = (is.0, (each b is.1.0, is.1.1))
-second g x y z each nothing is = absurd is
-second g x y z each (grown a nothing) is = absurd is.1
+joined_rests : AreAlike abi_joined NEST_REST_ALONE NEST_REST
+unfolding abi_joined
+joined_rests t = (
+  alike abi_joined NEST_REST_ALONE NEST_REST (λ b. ap (option_map (rule_over joined_parts)) (sym (same_rests b))) (sym rests_missing) t,
+  alike abi_joined NEST_REST NEST_REST_ALONE (λ b. ap (option_map (rule_over joined_parts)) (same_rests b)) rests_missing t,
+)
+
+same_kinds : (g : Table) → AreAlike g ARGUMENTS_ALONE MAYBE_ARGUMENTS → AreAlike g NEST_REST_ALONE NEST_REST → (k : ℕ) → AreAlike g k (joined_kind k)
+unfolding joined_kind
+same_kinds g arguments rests k t = go (nat_eq k ARGUMENTS_ALONE) (nat_eq k NEST_REST_ALONE) refl refl
+  where
+    go : (a b : Bool) → nat_eq k ARGUMENTS_ALONE ≡ a → nat_eq k NEST_REST_ALONE ≡ b → IsTree g (OfKind k) t ↔ IsTree g (OfKind (cond a MAYBE_ARGUMENTS (cond b NEST_REST k))) t
+    go true b is other = subst (λ n. IsTree g (OfKind n) t ↔ IsTree g (OfKind MAYBE_ARGUMENTS) t) (sym (eqb-true k ARGUMENTS_ALONE is)) (arguments t)
+    go false true other is = subst (λ n. IsTree g (OfKind n) t ↔ IsTree g (OfKind NEST_REST) t) (sym (eqb-true k NEST_REST_ALONE is)) (rests t)
+    go false false other none = (λ is. is, λ is. is)
+
+-- ## The parts of productions
+
+own_symbols : (p : Production) → symbols_of (rule_of p) ≡ parts_of p
+unfolding rule_of parts_of padded
+own_symbols Production.Mark = refl
+own_symbols _ = refl
+
+over_symbols : (p : Production) → symbols_of (rule_over joined_parts (rule_of p)) ≡ map joined_symbol (parts_of p)
+unfolding rule_over rule_of parts_of joined_parts joined_symbol padded production_at productions number_of
+over_symbols Production.Mark = refl
+over_symbols _ = refl
+
+symbol_joined : (g : Table) → ((k : ℕ) → AreAlike g k (joined_kind k)) → (x : Sym) (t : Tree) → IsTree g x t ↔ IsTree g (joined_symbol x) t
+unfolding joined_symbol
+symbol_joined g same (OfKind k) t = same k t
+symbol_joined g same Name t = (λ is. is, λ is. is)
+symbol_joined g same (Number kind) t = (λ is. is, λ is. is)
+symbol_joined g same (Byte b) t = (λ is. is, λ is. is)
+
+symbols_joined : (g : Table) → ((k : ℕ) → AreAlike g k (joined_kind k)) → (xs : List Sym) (f : Forest) → AreTrees g xs f ↔ AreTrees g (map joined_symbol xs) f
+symbols_joined g same [] f = (λ is. is, λ is. is)
+symbols_joined g same (x ∷ xs) nothing = (λ is. absurd is, λ is. absurd is)
+symbols_joined g same (x ∷ xs) (grown t f) =
+    let first = symbol_joined g same x t in
+    let rest = symbols_joined g same xs f in
+    (λ is. (first.0 is.0, rest.0 is.1), λ is. (first.1 is.0, rest.1 is.1))
 
 -- the parts of a production are its joined parts
 over_joined : (p : Production) (f : Forest) → AreTrees abi_joined (symbols_of (rule_of p)) f → AreTrees abi_joined (symbols_of (rule_over joined_parts (rule_of p))) f
-unfolding rule_over rule_of parts_of joined_parts padded production_at productions number_of number_of_kind
-over_joined Production.NestParameter f is = second abi_joined _ (OfKind NEST_REST_ALONE) (OfKind NEST_REST) any_rest f is
-over_joined Production.NestAbbreviated f is = second abi_joined _ (OfKind NEST_REST_ALONE) (OfKind NEST_REST) any_rest f is
-over_joined Production.Parameter f is = second abi_joined _ (OfKind ARGUMENTS_ALONE) (OfKind MAYBE_ARGUMENTS) maybe_arguments f is
-over_joined Production.TypeWithS f is = second abi_joined _ (OfKind ARGUMENTS_ALONE) (OfKind MAYBE_ARGUMENTS) maybe_arguments f is
-over_joined _ f is = is
+over_joined p f is =
+    subst (λ xs. AreTrees abi_joined xs f) (sym (over_symbols p))
+    ((symbols_joined abi_joined (same_kinds abi_joined joined_arguments joined_rests) (parts_of p) f).0 (subst (λ xs. AreTrees abi_joined xs f) (own_symbols p) is))
 
-over_parted : (p : Production) (f : Forest) → AreTrees abi (symbols_of (rule_over joined_parts (rule_of p))) f → AreTrees abi (symbols_of (rule_over parts_of (rule_of p))) f
-unfolding rule_over rule_of parts_of joined_parts padded production_at productions number_of number_of_kind
-over_parted Production.NestParameter f is = second abi _ (OfKind NEST_REST) (OfKind NEST_REST_ALONE) rest_alone f is
-over_parted Production.NestAbbreviated f is = second abi _ (OfKind NEST_REST) (OfKind NEST_REST_ALONE) rest_alone f is
-over_parted Production.Parameter f is = second abi _ (OfKind MAYBE_ARGUMENTS) (OfKind ARGUMENTS_ALONE) arguments_alone f is
-over_parted Production.TypeWithS f is = second abi _ (OfKind MAYBE_ARGUMENTS) (OfKind ARGUMENTS_ALONE) arguments_alone f is
-over_parted _ f is = is
+over_parted : (p : Production) (f : Forest) → AreTrees abi (symbols_of (rule_over joined_parts (rule_of p))) f → AreTrees abi (symbols_of (rule_of p)) f
+over_parted p f is =
+    subst (λ xs. AreTrees abi xs f) (sym (own_symbols p))
+    ((symbols_joined abi (same_kinds abi (λ t. (arguments_maybe t, arguments_alone t)) (λ t. (rest_any t, rest_alone t))) (parts_of p) f).1 (subst (λ xs. AreTrees abi xs f) (over_symbols p) is))
 
 -- ## Trees
 
@@ -133,7 +168,7 @@ parts_trees k byte rule found f is =
     let w = joined_found k byte rule found in
     let p = rule_found k byte w.0 w.1 in
     let same : rule ≡ rule_over joined_parts (rule_of p.0) = w.2 ∙ ap (rule_over joined_parts) p.1 in
-    subst (λ r. AreTrees abi (symbols_of (rule_over parts_of r)) f) (sym same) (over_parted p.0 f (subst (λ r. AreTrees abi (symbols_of r) f) same is))
+    subst (λ r. AreTrees abi (symbols_of r) f) (sym (ap (rule_over parts_of) same ∙ own_parts p.0)) (over_parted p.0 f (subst (λ r. AreTrees abi (symbols_of r) f) same is))
 
 parts_again : GoesOver abi_joined abi parts_of
 unfolding abi_joined

@@ -1,16 +1,29 @@
 -- The ABI's grammar in which what comes behind a parameter or a substitution isn't told apart from what comes behind any other name.
 -- Both have kinds of their own since the wide grammar has tags behind the names alone.
-use Rattle.std.specs.Prelude.{List, length, option_map}
+use Rattle.std.specs.Prelude.{ℕ, List, length, map, cond, nat_eq, option_map}
 use Rattle.sym_shape.specs.declared.rule.Rule.{Rule}
 use Rattle.sym_shape.specs.declared.rule.Sym.{Sym}
+use Rattle.sym_shape.specs.declared.rule.Sym.TheVariants.{Kind as OfKind}
 use Rattle.sym_shape.specs.Table.{Table}
 use Rattle.sym_shape.specs.Tree.{Tree, Forest, branch, nothing, grown}
 use Rattle.cpp_grammar.specs.declared.production.Production.{Production}
-use Rattle.cpp_grammar.specs.JoinedParts.{joined_parts}
+use Rattle.cpp_grammar.specs.KindNumbers.{MAYBE_ARGUMENTS, ARGUMENTS_ALONE, NEST_REST, NEST_REST_ALONE}
+use Rattle.cpp_grammar.specs.Grammar.{parts_of}
 use Rattle.cpp_grammar.specs.Table.{padded, abi}
 use Rattle.cpp_grammar.specs.Unfolding.{production_at}
 
--- the rule over the parts of its production
+-- the kind in whose place another one stands
+unfoldable pub joined_kind : ℕ → ℕ
+joined_kind kind = cond (nat_eq kind ARGUMENTS_ALONE) MAYBE_ARGUMENTS (cond (nat_eq kind NEST_REST_ALONE) NEST_REST kind)
+
+unfoldable pub joined_symbol : Sym → Sym
+joined_symbol (OfKind kind) = OfKind (joined_kind kind)
+joined_symbol symbol = symbol
+
+unfoldable pub joined_parts : Production → List Sym
+joined_parts production = map joined_symbol (parts_of production)
+
+-- the rule over such parts of its production
 unfoldable pub rule_over : (Production → List Sym) → Rule → Rule
 rule_over parts rule = record {
   number = rule.number;

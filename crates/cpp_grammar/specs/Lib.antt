@@ -14,7 +14,6 @@ pub mod References
 pub mod Between
 pub mod Meaning
 pub mod Unfolding
-pub mod JoinedParts
 pub mod Joined
 pub mod Texts
 pub mod Items
