@@ -185,11 +185,17 @@ def replaced(node, way, new):
 
 
 def repeated(rng, table, tree, times, kind=None):
-    """The tree, in which some kind, or the one that is asked for, stands so many times more within itself."""
-    nodes = [(way, node) for way, _, node in parts_within(table, tree) if node is not None and kind in (None, node.kind)]
+    """The tree, in which some kind, or the one that is asked for, stands so many times more within itself; more often than not with
+    a rule of the wide grammar's own each time."""
+    nodes = [(way, part) for way, _, part in parts_within(table, tree) if part is not None]
+    own = [way for way, node in nodes if table.is_own(node)]
+    kept = rng.choice(own) if own and kind is None and rng.random() < 0.6 else None
     rng.shuffle(nodes)
     for way, node in nodes:
+        if kind not in (None, node.kind) or kept is not None and kept[: len(way)] != way:
+            continue
         within = [inner for inner, found, _ in parts_within(table, node) if inner and len(inner) < 12 and found == node.kind]
+        within = [inner for inner in within if kept is None or kept[: len(way + inner)] != way + inner]
         if within:
             inner, deep = rng.choice(within), node
             for _ in range(times):
@@ -381,18 +387,19 @@ class Words:
         sys.setrecursionlimit(100_000)
         while True:
             derivation = Derivation(self.table, self.rng)
-            size, times = self.rng.choice((5, 20, self.size // 4, self.size // 2)), self.rng.choice((1, 3, 10, 40))
+            size, times = self.rng.choice((5, 20, self.size // 4, self.size // 2)), self.rng.choice((0, 0, 0, 0, 1, 4, 16, 64))
             again, newest = self.rng.choice((0, 0, 0.3, 0.9)), self.rng.choice((0, 0.5, 0.9))
-            if self.rng.random() < 0.05:
-                tree, again, newest = repeated(self.rng, self.table, derivation.types_of_types(size), times, "Items"), 0.9, 1
-            elif self.rng.random() < 0.2:
-                tree = repeated(self.rng, self.table, derivation.tree(size), times)
-            else:
-                tree = derivation.tree(size)
-            spelling = Spelling(derivation, again, newest)
-            word = spelling.word(tree)
-            if len(word) <= self.size:
-                return word, {self.table.rule_name(node) for node in spelling.nodes}
+            tree, kind = derivation.tree(size), None
+            if times and self.rng.random() < 0.2:
+                tree, kind, again, newest = derivation.types_of_types(size), "Items", 0.9, 1
+            while True:
+                spelling = Spelling(derivation, again, newest)
+                word = spelling.word(repeated(self.rng, self.table, tree, times, kind))
+                if len(word) <= self.size:
+                    return word, {self.table.rule_name(node) for node in spelling.nodes}
+                if times == 0:
+                    break
+                times //= 2
 
 
 def answers(program, wide, words):
