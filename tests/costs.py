@@ -1,11 +1,11 @@
 #!/usr/bin/env python3
 """Compares each symbol's answer at its exact cost and at one below with another implementation's.
 
-    tests/costs.py LIBRARY REFERENCE < SYMBOLS
+    tests/costs.py [--wide] LIBRARY REFERENCE < SYMBOLS
 
 LIBRARY is the shared library (tools/pack.sh makes libsymdemangle.so). REFERENCE is a Python module with
 demangle(symbol, limit), whose result has `answer` ("text", "TooLong", "Malformed", "BadReference" or "BadValue"), `text`,
-`cost` and `at`. SYMBOLS has one symbol a line.
+`cost` and `at`. SYMBOLS has one symbol a line. With --wide the library reads C++ by the wide grammar, as REFERENCE then has to.
 At its cost a symbol has its text; at one below it is too long; one that is refused is refused for the same reason at the same
 place, at limits of 0 and 1,000,000. It prints each difference, and its status is 1 where there is one.
 """
@@ -20,7 +20,7 @@ from loading import load
 OK, TOO_LONG = 0, 4
 REFUSED = {"Malformed": 1, "BadReference": 2, "BadValue": 3}
 LIMIT = 1_000_000
-FULL = 0
+FULL, WIDE_FULL = 0, 4
 
 
 class Told(ctypes.Structure):
@@ -32,7 +32,8 @@ class Told(ctypes.Structure):
 class Library:
     """The library's call for a text, with a room for it."""
 
-    def __init__(self, path):
+    def __init__(self, path, detail):
+        self.detail = detail
         self.call = ctypes.CDLL(path).symdemangle_text
         self.call.restype = ctypes.c_uint32
         self.call.argtypes = [
@@ -44,7 +45,7 @@ class Library:
     def answer(self, symbol, limit):
         """The status at a limit, and the text or the place that comes with it."""
         told = Told()
-        status = self.call(symbol, len(symbol), limit, FULL, self.room, LIMIT, ctypes.byref(told))
+        status = self.call(symbol, len(symbol), limit, self.detail, self.room, LIMIT, ctypes.byref(told))
         return status, self.room[: told.length] if status == OK else told.place
 
 
@@ -58,9 +59,11 @@ def wanted(answer):
 
 
 def main():
-    if len(sys.argv) != 3:
+    wide = sys.argv[1:2] == ["--wide"]
+    paths = sys.argv[2:] if wide else sys.argv[1:]
+    if len(paths) != 2:
         sys.exit(__doc__)
-    library, reference = Library(os.path.abspath(sys.argv[1])), load(sys.argv[2])
+    library, reference = Library(os.path.abspath(paths[0]), WIDE_FULL if wide else FULL), load(paths[1])
     symbols = [line for line in sys.stdin.buffer.read().split(b"\n") if line]
     if not symbols:
         sys.exit("no symbols on standard input")

@@ -4,9 +4,10 @@
     tests/fuzz.py SYMFILT REFERENCE [--seed N] [--seconds S] [--size BYTES] [--lang rust|cpp|both] [--wide] [FILE..]
 
 SYMFILT is the built program, REFERENCE another one, as for compare.py. The words are symbols that are cut, flipped, spliced,
-that name a part twice, or have numbers at the edges of their ranges. With --wide both read C++ by the wide grammar. They come from those of FILE, one a line, or from
-the rows of crates/check_rows/stdin. A word has at most BYTES bytes (400), and after S seconds (60) it ends. The status is 1
-where a word is answered otherwise, 2 where nothing was compared.
+that name a part twice, or have numbers at the edges of their ranges. They come from those of FILE, one a line, or from
+the rows of crates/check_rows/stdin; and half of the C++ words are made by the grammar's table (derive.py), and stand as they are
+or are changed so. With --wide both read C++ by the wide grammar, by which the words are then made. A word has at most BYTES bytes
+(400), and after S seconds (60) it ends. The status is 1 where a word is answered otherwise, 2 where nothing was compared.
 """
 
 import argparse
@@ -18,13 +19,15 @@ import sys
 import time
 
 from compare import command_of
+from derive import Words
 
 HERE = os.path.dirname(os.path.abspath(__file__))
 ROWS = os.path.join(HERE, "..", "crates", "check_rows", "stdin")
 BATCH = 200
 PATIENCE = 60
-OPTIONS = ([], ["--limit", "60"], ["--brief"], ["--press"], ["--limit", "0"])
-WIDE_OPTIONS = (["--wide"], ["--wide", "--limit", "60"], ["--wide", "--brief"], ["--wide", "--limit", "0"])
+ANY = "any limit"
+OPTIONS = ([], ["--limit", ANY], ["--brief"], ["--press"], ["--limit", "0"])
+WIDE_OPTIONS = (["--wide"], ["--wide", "--limit", ANY], ["--wide", "--brief"], ["--wide", "--limit", "0"])
 SEPARATORS = b" \n\t,;:<>()[]{}'\"!@#%^&*-+=/\\|?`~\0\x7f"
 BYTES = b"_0123456789abcdefghijklmnopqrstuvwxyzABCDEFGHIJKLMNOPQRSTUVWXYZ.$"
 DIGITS = BYTES[1:63]
@@ -105,13 +108,24 @@ def edge(rng, word, _others):
 MUTATIONS = (cut, flip, insert, splice, double, refer_twice, edge)
 
 
-def made(rng, seeds, size):
+def changed(rng, seeds, size):
     word = rng.choice(seeds)
     for _ in range(rng.choice((1, 1, 2, 3, 5))):
         longer = rng.choice(MUTATIONS)(rng, word, seeds)
         if len(longer) <= size:
             word = longer
     return word
+
+
+def made(rng, seeds, derived, size):
+    """Words for one batch: half of them by the grammar, if there is one, and changed ones of these and of the seeds."""
+    fresh = [derived.word() for _ in range(BATCH // 2)] if derived else []
+    return fresh + [changed(rng, rng.choice((seeds, fresh or seeds)), size) for _ in range(BATCH - len(fresh))]
+
+
+def options_of(rng, way):
+    """The words of a way, with a limit at which some symbols are too long."""
+    return [str(rng.randrange(10, 300)) if word == ANY else word for word in way]
 
 
 class Pair:
@@ -231,14 +245,14 @@ def main():
     if not seeds or pair.run([asked.symfilt, "--version"])[0] != 2:
         print("there is no symbol to begin with" if not seeds else f"{asked.symfilt} isn't the program", file=sys.stderr)
         sys.exit(2)
+    derived = None if asked.lang == "rust" else Words(asked.wide, rng, asked.size)
     until = time.monotonic() + asked.seconds
     compared = found = batches = 0
     while time.monotonic() < until:
-        words = [made(rng, seeds, asked.size) for _ in range(BATCH)]
-        words = [word for word in words if is_of(word, asked.lang)]
+        words = [word for word in made(rng, seeds, derived, asked.size) if is_of(word, asked.lang)]
         argued = [word for word in words if is_argument(word)]
         text = b"".join(word + bytes([rng.choice(SEPARATORS)]) for word in words)
-        for wrong in (compare_words(pair, pair.ways[batches % len(pair.ways)], argued), compare_texts(pair, text)):
+        for wrong in (compare_words(pair, options_of(rng, pair.ways[batches % len(pair.ways)]), argued), compare_texts(pair, text)):
             if wrong:
                 found += 1
                 print(wrong, flush=True)

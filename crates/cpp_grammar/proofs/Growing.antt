@@ -116,7 +116,7 @@ past_kinds begins k past =
     sym (unwrap_or-slice_get (map (sheet_with begins) kinds) k blank)
     ∙ ap (λ o. unwrap_or o blank) (slice_get-map (sheet_with begins) kinds k ∙ ap (option_map (sheet_with begins)) past)
 
-none_past : (begins : Kind → List Alternative) (k byte : ℕ) → slice_get kinds k ≡ None → (table_with begins).rule k byte ≡ None
+pub none_past : (begins : Kind → List Alternative) (k byte : ℕ) → slice_get kinds k ≡ None → (table_with begins).rule k byte ≡ None
 unfolding blank
 none_past begins k byte past = ap (λ s. choice_at s.choices byte) (past_kinds begins k past)
 

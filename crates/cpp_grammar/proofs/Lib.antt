@@ -6,6 +6,8 @@ pub mod Growing
 pub mod Widening
 pub mod WidenedMeaning
 pub mod WidenedPlaces
+pub mod Joining
+pub mod JoinedMeaning
 pub mod Reader
 pub mod Row
 pub mod ListedRows

@@ -1,14 +1,18 @@
 // What holds of every C++ symbol.
-ghost use Rattle.std.specs.Prelude.{◌≤◌, ◌≡◌, ℕ, List, length, Result, Ok};
+ghost use Rattle.std.specs.Prelude.{◌≤◌, ◌≡◌, ◌↔◌, ℕ, List, length, Result, Ok};
 ghost use Rattle.sym_core.specs.declared.refusal.Refusal.{Refusal};
 ghost use Rattle.sym_print.specs.declared.detail.Detail.{Detail};
 ghost use Rattle.sym_print.specs.Unfold.{RanksBelow};
 ghost use Rattle.sym_shape.specs.Decided.{AreBytes};
 ghost use Rattle.sym_shape.specs.Grown.{GrowsInto};
-ghost use Rattle.sym_shape.specs.Tree.{Tree, IsTree, AreRowsOf, IsFirstBad, IsWellShaped, rows_of, spell};
+ghost use Rattle.sym_shape.specs.Tree.{Tree, IsTree, AreRowsOf, AreStepsOf, BeginsWellShaped, IsFirstBad, IsMalformed, IsWellShaped, rows_of, spell};
+ghost use Rattle.sym_shape.specs.declared.rule.Sym.{Sym};
 ghost use Rattle.sym_shape.specs.declared.rule.Sym.TheVariants.{Kind};
 ghost use Rattle.sym_shape.specs.declared.rule.Row.{Row};
 ghost use Rattle.sym_demangle.specs.Mangled.{RefusesBadTokens, StandsFor, IsAnswer, answer};
+ghost use Rattle.cpp_grammar.specs.declared.production.Production.{Production};
+ghost use Rattle.cpp_grammar.specs.Grammar.{parts_of};
+ghost use Rattle.cpp_grammar.specs.Joined.{abi_joined, joined_parts, tree_over};
 ghost use Rattle.cpp_grammar.specs.KindNumbers.{MAYBE_ARGUMENTS, ARGUMENTS_ALONE, NEST_REST, NEST_REST_ALONE, ARGUMENT_LIST, ARGUMENTS_FIRST};
 ghost use Rattle.cpp_grammar.specs.Mangled.{cpp_mangled, wide_mangled};
 ghost use Rattle.cpp_grammar.specs.Closed.{ScopesAreClosed};
@@ -69,6 +73,22 @@ pub fn no_tags_in_abi()
 pub fn no_first_packs_in_abi()
     ensures first { (shape : Tree) → IsTree abi (Kind ARGUMENT_LIST) shape → IsTree abi (Kind ARGUMENTS_FIRST) shape }
     ensures others { (shape : Tree) → IsTree abi (Kind ARGUMENTS_FIRST) shape → IsTree abi (Kind ARGUMENT_LIST) shape }
+{}
+
+/// The table in which they aren't apart, `abi_joined`, has the same symbols as that of [`Abi`](crate::Abi): each has the same rows in
+/// both, is read in as many steps and stands for the same, and of what isn't well shaped the first bad byte is the same. The trees of
+/// each are those of the other, over its productions' parts.
+pub fn joined_symbols_stay()
+    ensures trees { (shape : Tree) → IsTree abi_joined (Kind 0) shape → IsTree abi (Kind 0) (tree_over parts_of shape) × (tree_over joined_parts (tree_over parts_of shape) ≡ shape) }
+    ensures joined_trees { (shape : Tree) → IsTree abi (Kind 0) shape → IsTree abi_joined (Kind 0) (tree_over joined_parts shape) × (tree_over parts_of (tree_over joined_parts shape) ≡ shape) }
+    ensures spelling { (parts : Production → List Sym) (shape : Tree) → spell (tree_over parts shape) ≡ spell shape }
+    ensures meaning { (parts : Production → List Sym) (shape : Tree) → unfold_cpp (tree_over parts shape) ≡ unfold_cpp shape }
+    ensures symbols { (s : List ℕ) → IsWellShaped abi_joined s ↔ IsWellShaped abi s }
+    ensures rows { (s : List ℕ) (rows : List Row) → AreRowsOf abi_joined s rows ↔ AreRowsOf abi s rows }
+    ensures steps { (s : List ℕ) (steps : ℕ) → AreStepsOf abi_joined s steps ↔ AreStepsOf abi s steps }
+    ensures prefixes { (front : List ℕ) → BeginsWellShaped abi_joined front ↔ BeginsWellShaped abi front }
+    ensures places { (s : List ℕ) (at : ℕ) → IsFirstBad abi_joined s at ↔ IsFirstBad abi s at }
+    ensures refusals { (s : List ℕ) (at : ℕ) → IsMalformed abi_joined s at ↔ IsMalformed abi s at }
 {}
 
 /// What a symbol that is well shaped in [`Abi`](crate::Abi) reads as, a refusal too, it reads as in [`Wide`](crate::Wide), and its

@@ -1,0 +1,453 @@
+#!/usr/bin/env python3
+"""Makes C++ symbols by random derivations of the grammar's table in tools/grammar.py.
+
+    tests/derive.py [--wide] [--seed N] [--count N] [--size BYTES]              prints symbols, one a line
+    tests/derive.py [--wide] .. --rules [PROGRAM]                               prints how many symbols have each rule
+
+With --wide the table is that of the wide grammar, and the rules that it alone has are taken more often. Each symbol goes on towards
+some rules, which are picked at random, so that a rule which is added to the table occurs as often as the others. References have the
+numbers of candidates and arguments that are there, now and then another one. In some symbols a kind stands many times within itself,
+as in a chain of tags, and some have lists of types each of which has the one before it twice. A symbol has at most BYTES bytes (200).
+With a PROGRAM, which has symfilt's command line, the second column says how many of them it answers with a text.
+"""
+
+import argparse
+import collections
+import os
+import random
+import subprocess
+import sys
+
+HERE = os.path.dirname(os.path.abspath(__file__))
+sys.path.insert(0, os.path.join(HERE, "..", "tools"))
+import grammar
+from compare import command_of
+
+DIGITS = b"0123456789ABCDEFGHIJKLMNOPQRSTUVWXYZ"
+NAMES = (b"a", b"b", b"B", b"C1", b"foo", b"_M_x", b"a.b$", b"operator", b"_GLOBAL__N_1", b"\xc3\xa9", b"_ZN1aE", b"S_", b"longer_name")
+NUMBERS = (0, 0, 0, 1, 2, 7, 9, 10, 16, 32, 64, 1000)
+EDGES = (2**31, 2**32 - 1, 2**64 - 3, 2**64 - 2, 2**64 - 1, 2**64, 10**40)
+# references, and the rules on the way from a type to them
+REFERENCES = {"Substitution", "Parameter", "NestParameter"}
+REFERRING = {"PlainType", "QualifiedPlain", "TypeWithS", "AbbreviatedType", *REFERENCES}
+NAMING = {"Anonymous", "Operator", "ConstructorDigit", "DestructorDigit"}
+TYPES = {"Type", "Plain", "Item", "ItemButRef"}
+BATCH = 200
+FAR = 10**6
+
+# a production that a kind takes at a byte, with its parts: nodes, bytes, tokens, and None for a kind that is empty
+Node = collections.namedtuple("Node", "kind cls production byte parts")
+# a number or a name of such a class, in a production
+Token = collections.namedtuple("Token", "cls production")
+# of a tree that a substitution may name: whether it has free parameters or packs, and the encoding in which it was made
+Candidate = collections.namedtuple("Candidate", "is_open is_packed encoding")
+# around a part: the encoding; which of the arguments that parameters name are packs, or None; where it stands
+Around = collections.namedtuple("Around", "encoding scope in_lambda in_expansion")
+
+
+class Table:
+    """The rules of each kind, by one of the grammars."""
+
+    def __init__(self, wide):
+        grammar.build(True, widened=wide)
+        faults, _, _, self.heights = grammar.laws()
+        assert not faults, faults
+        self.rules = {kind: [(cls, production, "".join(grammar.klass(cls, production))) for cls, production in rules] for kind, (_, rules) in grammar.K.items()}
+        self.parts = {production: symbols for production, (_, symbols) in grammar.P.items()}
+        self.may_be_empty = {kind for kind, (empty, _) in grammar.K.items() if empty}
+        self.own = {rule for rule, mark in grammar.MARKED.items() if mark == "wide"} if wide else set()
+        self.argument_lists = {kind for kind, rules in self.rules.items() if any(production == "TypeArgument" for _, production, _ in rules)}
+        self.kept_distances = {}
+        self.targets = [(kind, production) for kind, rules in self.rules.items() for _, production, _ in rules if "Symbol" in self.distances(kind)]
+
+    def height(self, production):
+        """The height of the lowest tree of a production."""
+        return 1 + max((self.heights[part] for part in self.parts[production] if part in self.rules), default=0)
+
+    def distances(self, target):
+        """How many rules lead from a kind to the target at least, of each kind that leads there."""
+        if target not in self.kept_distances:
+            reached = {target: 0}
+            grown = True
+            while grown:
+                grown = False
+                for kind, rules in self.rules.items():
+                    near = [reached[part] + 1 for _, production, _ in rules for part in self.parts[production] if part in reached]
+                    if near and min(near) < reached.get(kind, min(near) + 1):
+                        reached[kind] = min(near)
+                        grown = True
+            self.kept_distances[target] = reached
+        return self.kept_distances[target]
+
+    def is_own(self, node):
+        return (node.kind, node.cls, node.production) in self.own
+
+    def rule_name(self, node):
+        """A production, and where the wide grammar has it at a kind or at bytes of its own, these."""
+        return f"{node.production}, of {node.kind} {node.cls or ''} (wide)" if self.is_own(node) else node.production
+
+
+class Derivation:
+    """A random tree of the start kind, without the numbers of its references. It goes on towards some rules, which are picked at random."""
+
+    def __init__(self, table, rng):
+        self.table, self.rng = table, rng
+        self.depth = rng.choice((3, 5, 5, 8, 12))
+        self.empty = rng.choice((0.1, 0.3, 0.5, 0.8))
+        self.own_weight = rng.choice((1, 4, 12))
+        self.refers = rng.choice((1, 3, 10))
+        self.left = 0
+
+    def tree(self, size):
+        self.left = size
+        own = [(kind, production) for kind, _, production in sorted(self.table.own, key=str)]
+        targets = [self.rng.choice(own if own and self.rng.random() < 0.3 else self.table.targets) for _ in range(self.rng.choice((1, 2, 3)))]
+        return self.derived("Symbol", 0, targets)
+
+    def types_of_types(self, size):
+        """An encoding with a type that has two others, for a list in which each has the one before it twice."""
+        self.left = size
+        rule = self.rng.choice((("ArgumentList", "TypeArgument"), ("FunctionRest", "RestItem")))
+        return self.derived("Symbol", 0, [("Encoding", "Encoding"), ("Items", "Items"), rule, rule])
+
+    def weight(self, kind, cls, production):
+        own = self.own_weight if (kind, cls, production) in self.table.own else 1
+        return own * (self.refers if production in REFERRING else 1)
+
+    def distance(self, production, target):
+        """How far it is from the parts of a production to the target, and the number of the part on the way."""
+        if production == target[1]:
+            return 0, None
+        if production == "Encoding" and target[1] in REFERENCES:
+            return 0, 1
+        distances = self.table.distances(target[0])
+        return min(((distances[part], number) for number, part in enumerate(self.table.parts[production]) if part in distances), default=(FAR, None))
+
+    def rule(self, kind, depth, targets, without):
+        rules = [rule for rule in self.table.rules[kind] if rule[1] not in without]
+        if targets and kind == targets[0][0]:
+            rules = [rule for rule in rules if rule[1] == targets[0][1]] or rules
+        elif targets and self.rng.random() < 0.7:
+            near = min(self.distance(production, targets[0])[0] for _, production, _ in rules)
+            rules = [rule for rule in rules if self.distance(rule[1], targets[0])[0] <= near]
+        elif depth > self.depth or self.left < 0:
+            lowest = min(self.table.height(production) for _, production, _ in rules)
+            rules = [rule for rule in rules if self.table.height(rule[1]) == lowest]
+        return self.rng.choices(rules, [self.weight(kind, cls, production) for cls, production, _ in rules])[0]
+
+    def derived(self, kind, depth, targets=(), without=()):
+        leads = targets and kind in self.table.distances(targets[0][0])
+        may_end = depth > self.depth or self.left < 0 or self.rng.random() < self.empty
+        if kind in self.table.may_be_empty and may_end and not leads:
+            return None
+        cls, production, chosen_at = self.rule(kind, depth, targets if leads else (), without)
+        self.left -= 1
+        byte = self.rng.choice(chosen_at).encode() if cls is not None else b""
+        return Node(kind, cls, production, byte, self.parts(kind, production, depth, targets))
+
+    def parts(self, kind, production, depth, targets):
+        if targets and (kind, production) == targets[0]:
+            targets = targets[1:]
+        way = self.distance(production, targets[0])[1] if targets else None
+        parts = []
+        for number, part in enumerate(self.table.parts[production]):
+            if part[0] == "'":
+                parts.append(part[1].encode())
+            elif part not in self.table.rules:
+                self.left -= 2
+                parts.append(Token(part, production))
+            elif production == "Encoding" and number == 0 and way != 0 and (targets or self.rng.random() < 0.6):
+                # parameters are named only where the name ends in arguments
+                parts.append(self.derived(part, depth + 1, [("MaybeArguments", "Arguments"), ("ArgumentList", "TypeArgument")]))
+            else:
+                # the rest of a list is as deep as the list
+                parts.append(self.derived(part, depth if part == kind else depth + 1, targets if number == way else ()))
+        return tuple(parts)
+
+
+def parts_within(table, node):
+    """The ways to what stands within a node, each with its kind and what stands there."""
+    ways = [((), node.kind, node)]
+    while ways:
+        way, kind, part = ways.pop()
+        yield way, kind, part
+        if part is not None:
+            ways += [((*way, number), table.parts[part.production][number], inner) for number, inner in enumerate(part.parts) if inner is None or isinstance(inner, Node)]
+
+
+def replaced(node, way, new):
+    """The node with another one at the end of a way."""
+    if not way:
+        return new
+    parts = list(node.parts)
+    parts[way[0]] = replaced(parts[way[0]], way[1:], new)
+    return node._replace(parts=tuple(parts))
+
+
+def repeated(rng, table, tree, times, kind=None):
+    """The tree, in which some kind, or the one that is asked for, stands so many times more within itself; more often than not with
+    a rule of the wide grammar's own each time."""
+    nodes = [(way, part) for way, _, part in parts_within(table, tree) if part is not None]
+    own = [way for way, node in nodes if table.is_own(node)]
+    kept = rng.choice(own) if own and kind is None and rng.random() < 0.6 else None
+    rng.shuffle(nodes)
+    for way, node in nodes:
+        if kind not in (None, node.kind) or kept is not None and kept[: len(way)] != way:
+            continue
+        within = [inner for inner, found, _ in parts_within(table, node) if inner and len(inner) < 12 and found == node.kind]
+        within = [inner for inner in within if kept is None or kept[: len(way + inner)] != way + inner]
+        if within:
+            inner, deep = rng.choice(within), node
+            for _ in range(times):
+                deep = replaced(node, inner, deep)
+            return replaced(tree, way, deep)
+    return tree
+
+
+class Spelling:
+    """The bytes of a tree. Each reference is given a number when it is its turn; one that there is nothing for is derived anew."""
+
+    def __init__(self, derivation, again, newest):
+        self.derivation, self.table, self.rng = derivation, derivation.table, derivation.rng
+        self.wild = 0.01
+        self.edges = self.rng.choice((0, 0, 0, 0.05))
+        # how often a type within another one is a substitution, and how often that is the newest candidate
+        self.again, self.newest = again, newest
+        self.out = bytearray()
+        self.nodes = collections.Counter()
+        self.candidates = []
+        self.encodings = 0
+        # the packs among the arguments that a name just ended in, or None; whether the name so far is a candidate or never is one
+        self.arguments, self.listed = None, True
+        self.types_around = 0
+        # how many parameters and packs were named so far
+        self.open = self.packed = 0
+
+    def word(self, tree):
+        self.spell(tree, Around(0, None, False, False))
+        return bytes(self.out)
+
+    def append(self, around, since=(0, 0)):
+        self.candidates.append(Candidate(self.open > since[0], self.packed > since[1], around.encoding))
+
+    # ## References
+
+    def substitutions(self, around):
+        """The numbers of the candidates that can be named here."""
+        return [
+            number
+            for number, named in enumerate(self.candidates)
+            if (not named.is_open or named.encoding == around.encoding and around.scope and not around.in_lambda) and (around.in_expansion or not named.is_packed)
+        ]
+
+    def parameters(self, around):
+        """The numbers of the parameters that can be named here."""
+        return [number for number, is_pack in enumerate(around.scope or ()) if around.in_expansion or not is_pack]
+
+    def one_of(self, numbers):
+        if not numbers or self.rng.random() < self.wild:
+            return self.rng.randrange(len(self.candidates) + 2)
+        return numbers[-1] if self.rng.random() < self.newest else self.rng.choice(numbers)
+
+    def substitution(self, around):
+        number = self.one_of(self.substitutions(around))
+        if number < len(self.candidates):
+            self.open += self.candidates[number].is_open
+            self.packed += self.candidates[number].is_packed
+        return number
+
+    def parameter(self, around):
+        number = self.one_of(self.parameters(around))
+        self.open += 1
+        self.packed += number < len(around.scope or ()) and around.scope[number]
+        self.append(around)
+        self.listed = True
+        return number
+
+    def possible(self, node, around):
+        """The node, or another one of its kind where it would refer to what isn't there."""
+        if self.rng.random() < self.wild:
+            return node
+        if node.kind in TYPES and self.types_around and self.rng.random() < self.again and self.substitutions(around):
+            return self.derivation.derived(node.kind, self.derivation.depth + 1, [("Abbreviation", "Substitution")])
+        if node.production == "Substitution" and not self.substitutions(around):
+            return self.derivation.derived(node.kind, self.derivation.depth + 1, without={"Substitution"})
+        if node.production in ("Parameter", "NestParameter") and not self.parameters(around):
+            return self.derivation.derived(node.kind, self.derivation.depth + 1, without={"Parameter", "NestParameter", "TypeWithS"})
+        return node
+
+    # ## Tokens
+
+    def token(self, token, around):
+        if token.cls == grammar.NAME:
+            self.arguments, self.listed = None, False
+            name = self.rng.choice(NAMES)
+            self.out += str(len(name)).encode() + name
+        elif token.cls == grammar.SEQ36:
+            self.out += counted(self.substitution(around), 36)
+        elif token.production in ("Parameter", "NestParameter"):
+            self.out += counted(self.parameter(around), 10)
+        elif token.cls == grammar.DECIMAL:
+            self.out += counted(self.number(), 10)
+        else:
+            self.out += b"0" * (self.rng.random() < 0.1) + str(self.number()).encode()
+
+    def number(self):
+        return self.rng.choice(EDGES if self.rng.random() < self.edges else NUMBERS)
+
+    # ## Nodes
+
+    def spell(self, part, around):
+        """Writes a part. Answers of a list of arguments which of them are packs."""
+        if part is None:
+            return ()
+        if isinstance(part, bytes):
+            self.out += part
+            return ()
+        if isinstance(part, Token):
+            return self.token(part, around)
+        node = self.possible(part, around)
+        self.nodes[node._replace(byte=b"", parts=())] += 1
+        self.out += node.byte
+        began = self.open, self.packed
+        if node.production in ("Arguments", "NestArguments", "NestInstance", "NestNext") and not self.listed:
+            self.append(around, began)
+        self.types_around += node.kind in TYPES
+        values = self.spell_parts(node, self.inside(node, around))
+        self.types_around -= node.kind in TYPES
+        if node.kind in NAMING:
+            self.arguments, self.listed = None, False
+        elif node.kind == "Abbreviation":
+            self.arguments, self.listed = None, True
+        if leaves_candidate(node):
+            self.append(around, began)
+        if node.kind in self.table.argument_lists:
+            return ("PackList" in self.table.parts[node.production], *(values[-1] or ()))
+        return ()
+
+    def spell_parts(self, node, around):
+        values = []
+        for number, part in enumerate(node.parts):
+            if node.production == "Encoding" and number == 1:
+                around = around._replace(scope=self.arguments)
+            values.append(self.spell(part, around))
+            if self.table.parts[node.production][number] in self.table.argument_lists and node.kind not in self.table.argument_lists:
+                self.arguments = values[-1]
+                self.listed = node.production == "NestArguments"
+                if self.listed:
+                    self.append(around)
+        return values
+
+    def inside(self, node, around):
+        if node.production in ("Encoding", "Special", "Guard"):
+            self.encodings += 1
+            self.listed = True
+            return Around(self.encodings, None, False, False)
+        if node.production == "Lambda":
+            return around._replace(scope=None, in_lambda=True)
+        if node.production == "Expansion":
+            return around._replace(in_expansion=True)
+        return around
+
+
+def leaves_candidate(node):
+    """Whether a type is a candidate behind this node."""
+    if node.production in ("RestrictType", "VolatileType", "ConstType", "ReferenceType", "LvalueItem", "RvalueItem"):
+        return True
+    if node.production not in ("PlainType", "TypeWithD"):
+        return False
+    inner = node.parts[0]
+    if inner.production == "TypeWithS":
+        return inner.parts[0].production == "StdType" or inner.parts[1] is not None
+    if inner.production == "Parameter":
+        return inner.parts[1] is not None
+    return inner.production not in ("Builtin", "BuiltinWithD", "SizedFloat")
+
+
+def counted(number, base):
+    """A number with an underscore behind it, which alone is the first."""
+    digits = b""
+    while number > 0:
+        number, digit = divmod(number - 1, base) if not digits else divmod(number, base)
+        digits = DIGITS[digit : digit + 1] + digits
+    return digits + b"_"
+
+
+class Words:
+    """Symbols by one of the grammars."""
+
+    def __init__(self, wide, rng, size):
+        self.table, self.rng, self.size = Table(wide), rng, size
+
+    def word(self):
+        return self.word_and_rules()[0]
+
+    def word_and_rules(self):
+        """A symbol, and the names of the rules that it has."""
+        sys.setrecursionlimit(100_000)
+        while True:
+            derivation = Derivation(self.table, self.rng)
+            size, times = self.rng.choice((5, 20, self.size // 4, self.size // 2)), self.rng.choice((0, 0, 0, 0, 1, 4, 16, 64))
+            again, newest = self.rng.choice((0, 0, 0.3, 0.9)), self.rng.choice((0, 0.5, 0.9))
+            tree, kind = derivation.tree(size), None
+            if times and self.rng.random() < 0.2:
+                tree, kind, again, newest = derivation.types_of_types(size), "Items", 0.9, 1
+            while True:
+                spelling = Spelling(derivation, again, newest)
+                word = spelling.word(repeated(self.rng, self.table, tree, times, kind))
+                if len(word) <= self.size:
+                    return word, {self.table.rule_name(node) for node in spelling.nodes}
+                if times == 0:
+                    break
+                times //= 2
+
+
+def answers(program, wide, words):
+    """Of each word whether a program answers it with a text, and else its reason."""
+    command = [*command_of(program), *(["--wide"] if wide else []), "--", *words]
+    done = subprocess.run(command, stdout=subprocess.DEVNULL, stderr=subprocess.PIPE)
+    reasons = collections.deque(line for line in done.stderr.split(b"\n") if line)
+    found = []
+    for word in words:
+        beginning = b"symfilt: " + word + b": "
+        found.append(reasons.popleft()[len(beginning) :].decode() if reasons and reasons[0].startswith(beginning) else "text")
+    return found
+
+
+def print_rules(words, count, program, wide):
+    """Prints how many symbols have each rule, and how many of them are answered with a text."""
+    table = words.table
+    kinds = [Node(kind, cls, production, b"", ()) for kind, rules in table.rules.items() for cls, production, _ in rules]
+    within, read, reasons = collections.Counter(), collections.Counter(), collections.Counter()
+    for _ in range(0, count, BATCH):
+        made = [words.word_and_rules() for _ in range(min(BATCH, count))]
+        told = answers(program, wide, [word for word, _ in made]) if program else ["" for _ in made]
+        for (_, rules), reason in zip(made, told):
+            within.update(rules)
+            reasons[reason.split(" at ")[0]] += 1
+            if reason == "text":
+                read.update(rules)
+    for name in dict.fromkeys(table.rule_name(node) for node in kinds):
+        print(f"{within[name]:7} {read[name] if program else '':7} {name}")
+    told = ", ".join(f"{number} {reason}" for reason, number in reasons.most_common() if reason)
+    print(f"{sum(reasons.values())} symbols" + (f": {told}" if told else ""))
+
+
+def main():
+    parser = argparse.ArgumentParser(usage=__doc__)
+    parser.add_argument("--wide", action="store_true")
+    parser.add_argument("--seed", type=int, default=1)
+    parser.add_argument("--count", type=int, default=1000)
+    parser.add_argument("--size", type=int, default=200)
+    parser.add_argument("--rules", nargs="?", const="", metavar="PROGRAM")
+    asked = parser.parse_args()
+    words = Words(asked.wide, random.Random(asked.seed), asked.size)
+    if asked.rules is not None:
+        print_rules(words, asked.count, asked.rules, asked.wide)
+        return
+    for _ in range(asked.count):
+        sys.stdout.buffer.write(words.word() + b"\n")
+
+
+if __name__ == "__main__":
+    main()
