@@ -1,10 +1,10 @@
 -- Types that stand in functions, from their Z to their end.
-use Rattle.std.proofs.Common.{◌≡◌, ◌≢◌, refl, ap, sym, ◌∙◌, subst, inl, inr, ℕ, ◌+◌, List, [], ◌∷◌, ◌++◌, length, reverse, Bool, true, false, Option, None, Some, arith, codes, append-nil, append_assoc}
+use Rattle.std.proofs.Common.{◌≡◌, ◌≢◌, refl, ap, sym, ◌∙◌, subst, inl, inr, ℕ, ◌+◌, List, [], ◌∷◌, ◌++◌, length, reverse, true, false, Option, None, Some, arith, codes, append-nil, append_assoc}
 use Rattle.std.specs.Prelude.{decimal}
 use Rattle.std.proofs.lemmas.Fmt.{decimal_digit}
 use Rattle.cpp_grammar.specs.declared.kind.Kind.{Kind}
 use Rattle.cpp_grammar.specs.Grammar.{may_be_empty}
-use Rattle.cpp_grammar.specs.Term.{Term, any_value, function, alone, lambda, source, builtin, nil, list, absent}
+use Rattle.cpp_grammar.specs.Term.{Term, function, alone, lambda, source, builtin, nil, list, absent}
 use Rattle.cpp_grammar.specs.Items.{closed}
 use Rattle.cpp_grammar.specs.Parts.{source_text, types_of}
 use Rattle.cpp_grammar.specs.Scope.{has_return_type, arguments_of}
@@ -12,18 +12,22 @@ use Rattle.cpp_grammar.specs.References.{is_function_type}
 use Rattle.cpp_grammar.specs.Values.{State, Value, local_number, nothing_there, tree, named, tree_of, qualifiers_of, ref_of}
 use Rattle.cpp_grammar.specs.Between.{after, in_name, in_types, no_items}
 use Rattle.cpp_grammar.specs.Meaning.{encoding_of}
+use Rattle.cpp_direct.specs.declared.marks.MarkPlace.{MarkPlace}
+use Rattle.cpp_direct.specs.declared.open.Mark.{Mark}
+use Rattle.cpp_direct.specs.declared.open.Mark.TheVariants as marks
 use Rattle.cpp_direct.specs.declared.open.Open.{Open}
 use Rattle.cpp_direct.specs.declared.open.Open.TheVariants as opens
 use Rattle.cpp_direct.specs.declared.open.Purpose.TheVariants as purposes
 use Rattle.cpp_direct.specs.declared.open.Step.TheVariants as steps
 use Rattle.cpp_direct.specs.declared.direct.Direct.{Direct}
 use Rattle.cpp_direct.specs.Holes.{Opened, StandsAt, Comes, Expects, IsNameAt, with_candidate}
-use Rattle.cpp_direct.specs.HolesOfLists.{nest_marks}
+use Rattle.cpp_direct.specs.HolesOfLists.{mark_letters, nest_marks}
 use Rattle.cpp_direct.specs.HolesOfLocals.{Discriminator, IsDiscriminatorAt, IsLambdaDigit, IsPieceAt, lambda_digits, lambda_ending, lambda_number, lambda_with, local_in}
 use Rattle.cpp_direct.specs.Bytes.{short_numbers}
+use Rattle.cpp_direct.specs.Marks.{IsMarkPlace, has_const, called_on, mark_text}
 use Rattle.cpp_direct.specs.Prints.{Prints, PrintsName, PrintsPiece, Shows, Encloses, list_of}
 use Rattle.cpp_direct.specs.Stands.{AreCandidates, Below, IsFunction, IsNesting, IsWriting, ItemsGoOn, LambdaWithin, Serves, Stands, TypeWithin, in_front_of_next, qualifiers, IsScoped, nowhere}
-use Rattle.cpp_direct.specs.Ways.{AwaitsNamedType, AwaitsNest, AwaitsTypeName, IsElementRead, IsEnclosingNamed, IsEnclosingParameterRead, IsEnclosingRead, IsLambdaParameterRead, const_text}
+use Rattle.cpp_direct.specs.Ways.{AwaitsNamedType, AwaitsNest, AwaitsTypeName, IsElementRead, IsEnclosingNamed, IsEnclosingParameterRead, IsEnclosingRead, IsLambdaParameterRead}
 use Rattle.cpp_direct.specs.Written.{Writes, Reads, added}
 use Rattle.cpp_direct.proofs.Ending.{behind-two, behind-three, behind-five, list-ends, next-written, parameter-goes_on, plain-text, qualifiers-text, void-read}
 use Rattle.cpp_direct.proofs.FoundTokens.{reads-of, reads-then}
@@ -83,14 +87,14 @@ name-opens s w a letter =
       };
     }
 
--- a nested one is expected, of a member function that is const or not
-pub nest-within : (s : List ℕ) (old : Direct) (n : ℕ) (const : Bool) → AwaitsNamedType s old → StandsAt s old.at (90 ∷ [])
-    → StandsAt s (old.at + 1) (nest_marks const) → n ≡ old.at + 1 + length (nest_marks const)
-    → AwaitsNest s (record old { at = n }) (purposes.Enclosing const)
+-- a nested one is expected, of a member function with these qualifiers
+nest-marked : (s : List ℕ) (old : Direct) (n : ℕ) (mark : Mark) → AwaitsNamedType s old → StandsAt s old.at (90 ∷ [])
+    → StandsAt s (old.at + 1) (nest_marks (has_const mark) (called_on mark)) → n ≡ old.at + 1 + length (nest_marks (has_const mark) (called_on mark))
+    → AwaitsNest s (record old { at = n }) (purposes.Enclosing mark)
 unfolding in_name
-nest-within s old n const a letter marks at_is =
+nest-marked s old n mark a letter stands at_is =
     let e = name-opens s old a letter in
-    let nest = name-nested s e.inner (in_name (old.at + 1)) const (old.at + 1) a.state e.awaits marks in
+    let nest = name-nested s e.inner (in_name (old.at + 1)) (has_const mark) (called_on mark) (old.at + 1) a.state e.awaits stands in
     record {
       state = a.state;
       candidates = a.candidates;
@@ -98,29 +102,24 @@ nest-within s old n const a letter marks at_is =
       outside = refl;
       outer = nest.inner;
       awaits = subst (λ k. Expects s Kind.Nest (in_name (old.at + 1)) nest.inner k a.state) (sym at_is) nest.awaits;
-      serves = λ t listed at st comes. e.onward (named t (qualifiers const) any_value) at st (nest.onward t listed at st comes);
+      serves = λ t listed at st comes. e.onward (named t (qualifiers (has_const mark)) (called_on mark)) at st (nest.onward t listed at st comes);
     }
 
--- of one that isn't const
-pub plain-within : (s : List ℕ) (old : Direct) (first n : ℕ) → AwaitsNamedType s old → StandsAt s old.at (90 ∷ []) → first ≡ old.at + 1
-    → StandsAt s first (78 ∷ []) → n ≡ first + 1 → AwaitsNest s (record old { at = n }) (purposes.Enclosing false)
-plain-within s old first n a letter next mark at_is =
-    nest-within s old n false a letter (subst (λ k. StandsAt s k (78 ∷ [])) next mark) (omega (arith, next, at_is))
-
--- and of one that is
-pub const-within : (s : List ℕ) (old : Direct) (first second n : ℕ) → AwaitsNamedType s old → StandsAt s old.at (90 ∷ []) → first ≡ old.at + 1
-    → StandsAt s first (78 ∷ []) → second ≡ first + 1 → StandsAt s second (75 ∷ []) → n ≡ second + 1
-    → AwaitsNest s (record old { at = n }) (purposes.Enclosing true)
-const-within s old first second n a letter next mark then_ marked at_is =
-    nest-within s old n true a letter
-    (stands-join s (old.at + 1) (78 ∷ []) (75 ∷ []) (subst (λ k. StandsAt s k (78 ∷ [])) next mark)
-    (subst (λ k. StandsAt s k (75 ∷ [])) (then_ ∙ ap (λ k. k + 1) next) marked)) (omega (arith, next, then_, at_is))
+-- behind an N, where they stand
+pub nest-within : (s : List ℕ) (old : Direct) (first second : ℕ) (place : MarkPlace) → AwaitsNamedType s old → StandsAt s old.at (90 ∷ [])
+    → first ≡ old.at + 1 → StandsAt s first (78 ∷ []) → second ≡ first + 1 → IsMarkPlace s second place
+    → AwaitsNest s (record old { at = place.end }) (purposes.Enclosing place.mark)
+nest-within s old first second place a letter next nested then_ is =
+    let letters = mark_letters (has_const place.mark) (called_on place.mark) in
+    nest-marked s old place.end place.mark a letter
+    (stands-join s (old.at + 1) (78 ∷ []) letters (subst (λ k. StandsAt s k (78 ∷ [])) next nested)
+    (subst (λ k. StandsAt s k letters) (then_ ∙ ap (λ k. k + 1) next) is.stands)) (omega (arith, next, then_, is.ends))
 
 -- one by itself is read
 pub source-within : (s : List ℕ) (old start new : Direct) (name : List ℕ) (from : ℕ) → AwaitsNamedType s old → StandsAt s old.at (90 ∷ [])
     → start.text ≡ old.text → start.candidates ≡ old.candidates → start.waiting ≡ old.waiting → start.at ≡ old.at + 1
     → IsNameAt s start.at name new.at → name ≢ [] → Reads start new (source_text name) → from ≡ length start.text.list.items
-    → IsEnclosingNamed s new false from
+    → IsEnclosingNamed s new marks.Plain from
 unfolding may_be_empty tree_of qualifiers_of ref_of has_return_type arguments_of in_name
 source-within s old start new name from a letter same_text same_candidates same_waiting at_is is filled reads from_is =
     let own = alone (source false name) in
@@ -151,18 +150,18 @@ source-within s old start new name from a letter same_text same_candidates same_
     }
 
 -- a nested one is read
-pub name-within : (s : List ℕ) (old : Direct) (st : State) (t : Term) (is_const : Bool)
+pub name-within : (s : List ℕ) (old : Direct) (st : State) (t : Term) (mark : Mark)
     → AreCandidates old.text.list.items old.candidates.list.items st.candidates → IsNesting s Kind.NestTail old t st
     → has_return_type t ≡ false → StandsAt s old.at (69 ∷ [])
-    → old.nest.purpose ≡ purposes.Enclosing is_const → IsEnclosingNamed s (record old { at = old.at + 1 }) is_const old.nest.from
+    → old.nest.purpose ≡ purposes.Enclosing mark → IsEnclosingNamed s (record old { at = old.at + 1 }) mark old.nest.from
 unfolding tree_of qualifiers_of ref_of
-name-within s old st t is_const candidates n no_return here is_name =
+name-within s old st t mark candidates n no_return here is_name =
     let serves = subst (λ p. Serves s p (Stands s (reverse old.waiting.list.items)) n.outer n.front) is_name n.serves in
     record {
       state = st;
       candidates = candidates;
       own = t;
-      v = named t (qualifiers is_const) any_value;
+      v = named t (qualifiers (has_const mark)) (called_on mark);
       tree_is = refl;
       qualifiers_are = refl;
       mark_is = refl;
@@ -178,14 +177,14 @@ name-within s old st t is_const candidates n no_return here is_name =
 -- ## Parameters
 
 -- a parameter comes next
-parameter-expected : (s : List ℕ) (w : Direct) (st : State) (is_const : Bool) (from : ℕ) (rest : List Open) (front : List ℕ) (make : Term → Term)
+parameter-expected : (s : List ℕ) (w : Direct) (st : State) (mark : Mark) (from : ℕ) (rest : List Open) (front : List ℕ) (make : Term → Term)
     (ts : List Term) (name texts : List ℕ)
-    → AreCandidates w.text.list.items w.candidates.list.items st.candidates → reverse w.waiting.list.items ≡ opens.Enclosing is_const from ∷ rest
-    → IsFunction [] nowhere is_const make ts name texts → from ≡ length front → w.text.list.items ≡ front ++ name ++ codes "(" ++ in_front_of_next ts texts
+    → AreCandidates w.text.list.items w.candidates.list.items st.candidates → reverse w.waiting.list.items ≡ opens.Enclosing mark from ∷ rest
+    → IsFunction [] nowhere mark make ts name texts → from ≡ length front → w.text.list.items ≡ front ++ name ++ codes "(" ++ in_front_of_next ts texts
     → ItemsGoOn s nowhere (TypeWithin s (Stands s rest) front) make ts w.at st → IsWriting s w steps.Type
-parameter-expected s w st is_const from rest front make ts name texts candidates open_is is_function from_is written p =
+parameter-expected s w st mark from rest front make ts name texts candidates open_is is_function from_is written p =
     let element = element-awaits s Kind.Items p.inner p.around w.at st tt p.awaits in
-    let stands : Stands s (opens.Enclosing is_const from ∷ rest) element.inner w.text.list.items = (
+    let stands : Stands s (opens.Enclosing mark from ∷ rest) element.inner w.text.list.items = (
       front,
       make,
       ts,
@@ -205,39 +204,39 @@ parameter-expected s w st is_const from rest front make ts name texts candidates
         p.outside,
         inr (inl element.awaits),
         subst (λ os. Stands s os element.inner w.text.list.items) (sym open_is) stands,
-        subst (λ os. IsScoped p.around os) (sym open_is) (none-scoped p.around (opens.Enclosing is_const from ∷ rest) refl),
+        subst (λ os. IsScoped p.around os) (sym open_is) (none-scoped p.around (opens.Enclosing mark from ∷ rest) refl),
       );
     }
 
 -- the first one comes next
-pub first-within : (s : List ℕ) (w first last : Direct) (is_const : Bool) (from : ℕ) → IsEnclosingNamed s w is_const from → Writes w first (codes "(")
+pub first-within : (s : List ℕ) (w first last : Direct) (mark : Mark) (from : ℕ) → IsEnclosingNamed s w mark from → Writes w first (codes "(")
     → last.text ≡ first.text → last.candidates ≡ first.candidates → last.at ≡ first.at
-    → last.waiting.list.items ≡ first.waiting.list.items ++ opens.Enclosing is_const from ∷ [] → IsWriting s last steps.Type
-first-within s w first last is_const from p one text candidates at waiting =
+    → last.waiting.list.items ≡ first.waiting.list.items ++ opens.Enclosing mark from ∷ [] → IsWriting s last steps.Type
+first-within s w first last mark from p one text candidates at waiting =
     let known = candidates-written w first (codes "(") p.state.candidates one p.candidates in
     let moved : AreCandidates last.text.list.items last.candidates.list.items p.state.candidates =
     subst (λ l. AreCandidates l.list.items last.candidates.list.items p.state.candidates) (sym text)
     (subst (λ l. AreCandidates first.text.list.items l.list.items p.state.candidates) (sym candidates) known) in
     let make : Term → Term = λ l. encoding_of p.v l in
-    let is_function : IsFunction [] nowhere is_const make [] p.name [] = record {
+    let is_function : IsFunction [] nowhere mark make [] p.name [] = record {
       own = p.own;
-      makes = encoding-plain p.v is_const p.own p.tree_is p.qualifiers_are p.mark_is p.no_return;
+      makes = encoding-plain p.v mark p.own p.tree_is p.qualifiers_are p.mark_is p.no_return;
       prints = p.prints;
       elements = none-print-in (types_of p.own) 6;
       names = λ o. absurd (omega (arith, o));
     } in
-    parameter-expected s last p.state is_const from (reverse w.waiting.list.items) p.front make [] p.name [] moved
-    (ap reverse waiting ∙ reverse-last first.waiting.list.items (opens.Enclosing is_const from)
-    ∙ ap (λ v. opens.Enclosing is_const from ∷ reverse v.list.items) one.waiting) is_function p.from_is
+    parameter-expected s last p.state mark from (reverse w.waiting.list.items) p.front make [] p.name [] moved
+    (ap reverse waiting ∙ reverse-last first.waiting.list.items (opens.Enclosing mark from)
+    ∙ ap (λ v. opens.Enclosing mark from ∷ reverse v.list.items) one.waiting) is_function p.from_is
     (ap (λ l. l.list.items) text ∙ one.text ∙ ap (λ l. l ++ codes "(") p.written ∙ sym (append-nil (p.front ++ p.name ++ codes "(")))
     (subst (λ n. ItemsGoOn s nowhere (TypeWithin s (Stands s (reverse w.waiting.list.items)) p.front) make [] n p.state) (sym (at ∙ one.at)) p.goes)
 
 -- another one comes next
-pub next-within : (s : List ℕ) (w last : Direct) (is_const : Bool) (from : ℕ) → IsEnclosingParameterRead s w is_const from → Writes w last (codes ", ")
+pub next-within : (s : List ℕ) (w last : Direct) (mark : Mark) (from : ℕ) → IsEnclosingParameterRead s w mark from → Writes w last (codes ", ")
     → IsWriting s last steps.Type
-next-within s w last is_const from p one =
+next-within s w last mark from p one =
     let front = p.front ++ p.name ++ codes "(" in
-    parameter-expected s last p.state is_const from p.rest p.front p.make p.ts p.name p.texts
+    parameter-expected s last p.state mark from p.rest p.front p.make p.ts p.name p.texts
     (candidates-written w last (codes ", ") p.state.candidates one p.candidates)
     (ap (λ l. reverse l.list.items) one.waiting ∙ p.open_is) p.is_function p.from_is
     (one.text ∙ ap (λ l. l ++ codes ", ") p.written ∙ append_assoc front p.texts (codes ", ")
@@ -245,9 +244,9 @@ next-within s w last is_const from p one =
     (subst (λ n. ItemsGoOn s nowhere (TypeWithin s (Stands s p.rest) p.front) p.make p.ts n p.state) (sym one.at) p.goes)
 
 -- one is read
-pub parameter-read-within : (s : List ℕ) (w : Direct) (is_const : Bool) (from : ℕ) → IsElementRead s w (opens.Enclosing is_const from)
-    → IsEnclosingParameterRead s w is_const from
-parameter-read-within s w is_const from p =
+pub parameter-read-within : (s : List ℕ) (w : Direct) (mark : Mark) (from : ℕ) → IsElementRead s w (opens.Enclosing mark from)
+    → IsEnclosingParameterRead s w mark from
+parameter-read-within s w mark from p =
     let waits = p.stands in
     let front = waits.0 in
     let ts = waits.2 in
@@ -281,13 +280,13 @@ parameter-read-within s w is_const from p =
 -- ## Ends
 
 -- a name without items is read
-pub object-within : (s : List ℕ) (w : Direct) (is_const : Bool) (from : ℕ) → IsEnclosingNamed s w is_const from → IsEnclosingRead s w is_const from
+pub object-within : (s : List ℕ) (w : Direct) (mark : Mark) (from : ℕ) → IsEnclosingNamed s w mark from → IsEnclosingRead s w mark from
 unfolding no_items may_be_empty
-object-within s w is_const from p =
+object-within s w mark from p =
     let b = p.name in
-    let q = const_text is_const in
+    let q = mark_text mark in
     let shows : Shows (encoding_of p.v nil) (b ++ q) =
-    subst (λ l. Shows (encoding_of p.v nil) (b ++ l)) (qualifiers-text p.v is_const p.qualifiers_are p.mark_is)
+    subst (λ l. Shows (encoding_of p.v nil) (b ++ l)) (qualifiers-text p.v mark p.qualifiers_are p.mark_is)
     (object-encoded p.v b (subst (λ t. PrintsName t b) (sym p.tree_is) p.prints)) in
     record {
       state = p.state;
@@ -302,19 +301,19 @@ object-within s w is_const from p =
     }
 
 -- a function with a lone void is read
-pub void-within : (s : List ℕ) (w here new : Direct) (is_const : Bool) (from : ℕ) → IsEnclosingNamed s w is_const from → StandsAt s w.at (118 ∷ [])
+pub void-within : (s : List ℕ) (w here new : Direct) (mark : Mark) (from : ℕ) → IsEnclosingNamed s w mark from → StandsAt s w.at (118 ∷ [])
     → here.text ≡ w.text → here.candidates ≡ w.candidates → here.waiting ≡ w.waiting → here.at ≡ w.at + 1 → Writes here new (codes "()")
-    → IsEnclosingRead s new is_const from
-void-within s w here new is_const from p stands text candidates waiting at one =
+    → IsEnclosingRead s new mark from
+void-within s w here new mark from p stands text candidates waiting at one =
     let b = p.name in
-    let q = const_text is_const in
+    let q = mark_text mark in
     let make : Term → Term = λ l. encoding_of p.v l in
     let e = make (list_of (builtin (118 ∷ []) ∷ [])) in
-    let made = function p.own (qualifiers is_const) any_value absent nil in
-    let is : e ≡ made = made-void is_const p.own make (encoding-plain p.v is_const p.own p.tree_is p.qualifiers_are p.mark_is p.no_return) in
+    let made = function p.own (qualifiers (has_const mark)) (called_on mark) absent nil in
+    let is : e ≡ made = made-void mark p.own make (encoding-plain p.v mark p.own p.tree_is p.qualifiers_are p.mark_is p.no_return) in
     let below = Stands s (reverse w.waiting.list.items) in
     let shows : Shows made (b ++ codes "()" ++ q) =
-    subst (λ l. Shows made (b ++ codes "()" ++ l)) (plain-text is_const) (void-shows p.own b p.prints (qualifiers is_const) any_value) in
+    subst (λ l. Shows made (b ++ codes "()" ++ l)) (plain-text mark) (void-shows p.own b p.prints (qualifiers (has_const mark)) (called_on mark)) in
     record {
       state = p.state;
       candidates = candidates-written here new (codes "()") p.state.candidates one
@@ -327,31 +326,31 @@ void-within s w here new is_const from p stands text candidates waiting at one =
           ∙ behind-three p.front b (codes "()") q;
       from_is = p.from_is;
       encloses = subst (λ t. Encloses t (b ++ codes "()" ++ q)) (sym is)
-          (function-encloses p.own (qualifiers is_const) any_value nil (b ++ codes "()" ++ q) shows);
+          (function-encloses p.own (qualifiers (has_const mark)) (called_on mark) nil (b ++ codes "()" ++ q) shows);
       within = subst (λ v. TypeWithin s (Stands s (reverse v.list.items)) p.front e new.at p.state) (sym (one.waiting ∙ waiting))
           (subst (λ n. TypeWithin s below p.front e n p.state) (sym (one.at ∙ at)) (void-read s nowhere (TypeWithin s below p.front) make w.at p.state p.goes stands));
     }
 
 -- a function with its parameters is read, unless they are a lone void
-pub function-within : (s : List ℕ) (w last new : Direct) (is_const : Bool) (from : ℕ) (p : IsEnclosingParameterRead s w is_const from)
+pub function-within : (s : List ℕ) (w last new : Direct) (mark : Mark) (from : ℕ) (p : IsEnclosingParameterRead s w mark from)
     → p.texts ≢ codes "void" → Writes w last (codes ")") → new.text ≡ last.text → new.candidates ≡ last.candidates → new.at ≡ last.at
-    → reverse new.waiting.list.items ≡ p.rest → IsEnclosingRead s new is_const from
+    → reverse new.waiting.list.items ≡ p.rest → IsEnclosingRead s new mark from
 unfolding no_items may_be_empty
-function-within s w last new is_const from p apart one text candidates at waits =
+function-within s w last new mark from p apart one text candidates at waits =
     let f = p.is_function in
     let e = p.make (list_of p.ts) in
     let b = p.name in
     let l = p.texts in
-    let q = const_text is_const in
-    let made = function f.own (qualifiers is_const) any_value absent (list_of p.ts) in
-    let is : e ≡ made = made-with is_const f.own p.make f.makes p.ts p.some (parameters-kept (types_of f.own) 6 p.ts l f.elements apart) in
+    let q = mark_text mark in
+    let made = function f.own (qualifiers (has_const mark)) (called_on mark) absent (list_of p.ts) in
+    let is : e ≡ made = made-with mark f.own p.make f.makes p.ts p.some (parameters-kept (types_of f.own) 6 p.ts l f.elements apart) in
     let below = Stands s p.rest in
     let within_ : TypeWithin s below p.front e w.at p.state = subst (λ u. TypeWithin s below p.front (p.make u) w.at p.state) (list-ends p.ts)
     (p.goes.onward nothing_there w.at p.state (expects-empty s Kind.Items p.goes.around p.goes.inner w.at p.state p.goes.awaits refl)) in
     let known = candidates-written w last (codes ")") p.state.candidates one p.candidates in
     let shows : Shows made (b ++ codes "(" ++ l ++ codes ")" ++ q) =
-    subst (λ x. Shows made (b ++ codes "(" ++ l ++ codes ")" ++ x)) (plain-text is_const)
-    (function-shows f.own b f.prints p.ts l f.elements (qualifiers is_const) any_value) in
+    subst (λ x. Shows made (b ++ codes "(" ++ l ++ codes ")" ++ x)) (plain-text mark)
+    (function-shows f.own b f.prints p.ts l f.elements (qualifiers (has_const mark)) (called_on mark)) in
     record {
       state = p.state;
       candidates = subst (λ v. AreCandidates v.list.items new.candidates.list.items p.state.candidates) (sym text)
@@ -363,15 +362,17 @@ function-within s w last new is_const from p apart one text candidates at waits 
           ∙ behind-five p.front b (codes "(") l (codes ")") q;
       from_is = p.from_is;
       encloses = subst (λ t. Encloses t (b ++ codes "(" ++ l ++ codes ")" ++ q)) (sym is)
-          (function-encloses f.own (qualifiers is_const) any_value (list_of p.ts) (b ++ codes "(" ++ l ++ codes ")" ++ q) shows);
+          (function-encloses f.own (qualifiers (has_const mark)) (called_on mark) (list_of p.ts) (b ++ codes "(" ++ l ++ codes ")" ++ q) shows);
       within = subst (λ ws. TypeWithin s (Stands s ws) p.front e new.at p.state) (sym waits)
           (subst (λ n. TypeWithin s below p.front e n p.state) (sym (at ∙ one.at)) within_);
     }
 
-const-written : (s : List ℕ) (old new : Direct) (from : ℕ) → IsEnclosingRead s old true from → Writes old new (codes " const") → IsEnclosingRead s new false from
-const-written s old new from p writes = record {
+-- its qualifiers are written
+pub marks-written-within : (s : List ℕ) (old new : Direct) (mark : Mark) (from : ℕ) → IsEnclosingRead s old mark from → Writes old new (mark_text mark)
+    → IsEnclosingRead s new marks.Plain from
+marks-written-within s old new mark from p writes = record {
   state = p.state;
-  candidates = candidates-written old new (codes " const") p.state.candidates writes p.candidates;
+  candidates = candidates-written old new (mark_text mark) p.state.candidates writes p.candidates;
   e = p.e;
   front = p.front;
   bytes = p.bytes;
@@ -381,15 +382,6 @@ const-written s old new from p writes = record {
   within = subst (λ v. TypeWithin s (Stands s (reverse v.list.items)) p.front p.e new.at p.state) (sym writes.waiting)
       (subst (λ n. TypeWithin s (Stands s (reverse old.waiting.list.items)) p.front p.e n p.state) (sym writes.at) p.within);
 }
-
--- one that is const, with its qualifier
-pub const-added-within : (s : List ℕ) (old new : Direct) (is_const : Bool) (from : ℕ) → IsEnclosingRead s old is_const from → is_const ≡ true
-    → Writes old new (codes " const") → IsEnclosingRead s new false from
-const-added-within s old new is_const from p e writes = const-written s old new from (subst (λ b. IsEnclosingRead s old b from) e p) writes
-
--- one without
-pub const-kept-within : (s : List ℕ) (w : Direct) (is_const : Bool) (from : ℕ) → IsEnclosingRead s w is_const from → is_const ≡ false → IsEnclosingRead s w false from
-const-kept-within s w is_const from p e = subst (λ b. IsEnclosingRead s w b from) e p
 
 -- ## Lambdas
 

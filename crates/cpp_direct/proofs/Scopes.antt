@@ -1,7 +1,8 @@
 -- What a parameter of a template may name, and where it stands.
-use Rattle.std.proofs.Common.{◌≡◌, ℕ, ◌≤◌, List, ◌∷◌, ◌++◌, Bool, None, ap, sym, ◌∙◌, subst, append_assoc}
+use Rattle.std.proofs.Common.{◌≡◌, ℕ, ◌≤◌, List, ◌∷◌, ◌++◌, None, ap, sym, ◌∙◌, subst, append_assoc}
 use Rattle.cpp_grammar.specs.Term.{Term}
 use Rattle.cpp_grammar.specs.Values.{Around}
+use Rattle.cpp_direct.specs.declared.open.Mark.{Mark}
 use Rattle.cpp_direct.specs.declared.open.Open.{Open}
 use Rattle.cpp_direct.specs.declared.open.Open.TheVariants as opens
 use Rattle.cpp_direct.specs.declared.open.Argument.{Argument}
@@ -28,9 +29,9 @@ argument-stays text more p name h = record {
 }
 
 -- and a function's
-pub function-stays : (text more : List ℕ) (p : Argument) (is_const : Bool) (make : Term → Term) (ts : List Term) (name texts : List ℕ)
-    → IsFunction text p is_const make ts name texts → IsFunction (text ++ more) p is_const make ts name texts
-function-stays text more p is_const make ts name texts f = record {
+pub function-stays : (text more : List ℕ) (p : Argument) (mark : Mark) (make : Term → Term) (ts : List Term) (name texts : List ℕ)
+    → IsFunction text p mark make ts name texts → IsFunction (text ++ more) p mark make ts name texts
+function-stays text more p mark make ts name texts f = record {
   own = f.own;
   makes = f.makes;
   prints = f.prints;
@@ -43,14 +44,14 @@ scoped-by around p q e h ordered =
     subst (λ (k : Argument). IsScope k.is_pack around) (sym e) (h (subst (λ (k : Argument). k.from ≤ k.to) e ordered))
 
 -- a parameter of a function may name its argument
-pub parameters-scoped : (around : Around) (is_const : Bool) (start : ℕ) (p : Argument) (rest : List Open) → (p.from ≤ p.to → IsScope p.is_pack around)
-    → IsScoped around (opens.Parameters is_const start p ∷ rest)
-parameters-scoped around is_const start p rest h q e ordered = scoped-by around p q (cc e) h ordered
+pub parameters-scoped : (around : Around) (mark : Mark) (start : ℕ) (p : Argument) (rest : List Open) → (p.from ≤ p.to → IsScope p.is_pack around)
+    → IsScoped around (opens.Parameters mark start p ∷ rest)
+parameters-scoped around mark start p rest h q e ordered = scoped-by around p q (cc e) h ordered
 
 -- and so may its return type
-pub front-scoped : (around : Around) (is_const : Bool) (start : ℕ) (p : Argument) (rest : List Open) → (p.from ≤ p.to → IsScope p.is_pack around)
-    → IsScoped around (opens.Front is_const start p ∷ rest)
-front-scoped around is_const start p rest h q e ordered = scoped-by around p q (cc e) h ordered
+pub front-scoped : (around : Around) (mark : Mark) (start : ℕ) (p : Argument) (rest : List Open) → (p.from ≤ p.to → IsScope p.is_pack around)
+    → IsScoped around (opens.Front mark start p ∷ rest)
+front-scoped around mark start p rest h q e ordered = scoped-by around p q (cc e) h ordered
 
 -- elsewhere none does
 pub none-scoped : (around : Around) (open_ : List Open) → argument_of open_ ≡ None → IsScoped around open_

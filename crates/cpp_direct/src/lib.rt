@@ -15,6 +15,7 @@ mod functions;
 mod letters;
 mod lists;
 mod locals;
+mod marks;
 mod names;
 mod nested;
 mod open;

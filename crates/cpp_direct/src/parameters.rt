@@ -9,7 +9,7 @@ ghost use Rattle.cpp_direct.specs.Stands.{IsWriting, argument_of};
 ghost use Rattle.cpp_direct.specs.Ways.{AwaitsType, AwaitsDependentMark, AwaitsNextParameter, IsArgumentRead, IsPackElementRead};
 
 use crate::direct::Direct;
-use crate::open::{Argument, Open, Step};
+use crate::open::{Argument, Mark, Open, Step};
 use crate::tokens::{byte_at, may_end};
 
 /// The place, unless it is nowhere.
@@ -147,16 +147,16 @@ impl Direct {
     pub(crate) fn next_parameter(
         &mut self,
         s: &[u8],
-        is_const: bool,
+        mark: Mark,
         start: usize,
         argument: Argument,
     ) -> Option<Step>
         requires fits { IsReadable s.now }
-        requires awaits { AwaitsNextParameter s.now self.old is_const start argument }
+        requires awaits { AwaitsNextParameter s.now self.old mark start argument }
         ensures { IfSome result (IsWriting s.now self.new) }
     {
         if argument.is_pack {
-            return self.expansion(s, is_const, start, argument);
+            return self.expansion(s, mark, start, argument);
         }
         Some(Step::Type)
     }
@@ -164,10 +164,10 @@ impl Direct {
     /// The last parameter may be a reference to each type of the pack that the function's template has as its argument.
     // <type> ::= Dp <type>
     #[inline(never)]
-    fn expansion(&mut self, s: &[u8], is_const: bool, start: usize, pack: Argument) -> Option<Step>
+    fn expansion(&mut self, s: &[u8], mark: Mark, start: usize, pack: Argument) -> Option<Step>
         requires fits { IsReadable s.now }
         requires is_pack { pack.is_pack ≡ true }
-        requires awaits { AwaitsNextParameter s.now self.old is_const start pack }
+        requires awaits { AwaitsNextParameter s.now self.old mark start pack }
         ensures { IfSome result (IsWriting s.now self.new) }
     {
         let Some(end) = expansion_end(s, self.at) else {
@@ -183,7 +183,7 @@ impl Direct {
         self.add_hidden(false)?;
         self.add_hidden(false)?;
         self.add_hidden(false)?;
-        self.close_parameters(s, is_const, start, pack)
+        self.close_parameters(s, mark, start, pack)
     }
 
     /// The first argument of a name is read: others follow, or the end.
@@ -274,15 +274,15 @@ impl Direct {
         match *self.waiting.as_slice().last()? {
             Open::Pointer { .. } => self.mark_dependent(s, b"*", false),
             Open::Parameters {
-                is_const,
+                mark,
                 start,
                 argument,
-            } => self.parameter_ended(s, is_const, start, argument),
+            } => self.parameter_ended(s, mark, start, argument),
             Open::Front {
-                is_const,
+                mark,
                 start,
                 argument,
-            } => self.front_ended(s, is_const, start, argument),
+            } => self.front_ended(s, mark, start, argument),
             _ => {
                 // a reference to a reference, or a const one, prints otherwise
                 if is_reference {

@@ -11,18 +11,18 @@ use Rattle.cpp_direct.proofs.direct.Direct.pass_dependent.Goals as goal
 pub mark_dependent-requires : goal.mark_dependent-requires
 mark_dependent-requires c =
     dependent-marked c.args.s.now c.args.self.now c.args.is_reference false (opens.Pointer c.in-Pointer.from) c.in-Pointer.from pointer (codes "*")
-    c.requires.writing (waits-last _ _ _ _ c.as_slice.ensures c.in_ok-is_const.ensures.value c.in-Pointer.is) (λ rest os text h. h) (λ rest. refl)
+    c.requires.writing (waits-last _ _ _ _ c.as_slice.ensures c.in_ok-mark.ensures.value c.in-Pointer.is) (λ rest os text h. h) (λ rest. refl)
     (λ t m h. pointer-behind t m c.args.is_reference h)
 
 pub parameter_ended-requires-clause-ended : goal.parameter_ended-requires-clause-ended
 parameter_ended-requires-clause-ended c =
-    dependent-parameter c.args.s.now c.args.self.now c.args.is_reference c.in-Parameters.is_const c.in-Parameters.start c.in-Parameters.argument
-    c.requires.writing (waits-last _ _ _ _ c.as_slice.ensures c.in_ok-is_const.ensures.value c.in-Parameters.is)
+    dependent-parameter c.args.s.now c.args.self.now c.args.is_reference c.in-Parameters.mark c.in-Parameters.start c.in-Parameters.argument
+    c.requires.writing (waits-last _ _ _ _ c.as_slice.ensures c.in_ok-mark.ensures.value c.in-Parameters.is)
 
 pub front_ended-requires-clause-ended : goal.front_ended-requires-clause-ended
 front_ended-requires-clause-ended c =
-    dependent-front c.args.s.now c.args.self.now c.args.is_reference c.in-Front.is_const c.in-Front.start c.in-Front.argument
-    c.requires.writing (waits-last _ _ _ _ c.as_slice.ensures c.in_ok-is_const.ensures.value c.in-Front.is)
+    dependent-front c.args.s.now c.args.self.now c.args.is_reference c.in-Front.mark c.in-Front.start c.in-Front.argument
+    c.requires.writing (waits-last _ _ _ _ c.as_slice.ensures c.in_ok-mark.ensures.value c.in-Front.is)
 
 pub mark_plain-requires : goal.mark_plain-requires
 mark_plain-requires c = subst (λ r. IsWriting c.args.s.now c.args.self.now (steps.Dependent r)) c.if-is_reference.false c.requires.writing
