@@ -188,7 +188,7 @@ pub takes-elements : (o : Open) → ((x : ℕ) → o ≡ opens.Pointer x → ⊥
     → ((x : ℕ) → o ≡ opens.Rvalue x → ⊥) → ((x : ℕ) → o ≡ opens.Const x → ⊥) → ((x : Mark) (y : ℕ) (z : Argument) → o ≡ opens.Parameters x y z → ⊥)
     → ((x : Mark) (y : ℕ) (z : Argument) → o ≡ opens.Front x y z → ⊥)
     → ((x : Bool) → o ≡ opens.Returned x → ⊥) → ((x : Bool) → o ≡ opens.Signature x → ⊥)
-    → (o ≡ opens.Special → ⊥) → (o ≡ opens.Enumerator → ⊥) → ((x : Mark) (y : ℕ) → o ≡ opens.Enclosing x y → ⊥)
+    → (o ≡ opens.Special → ⊥) → (o ≡ opens.Enumerator → ⊥) → ((x : Mark) (y : ℕ) (z : Argument) → o ≡ opens.Enclosing x y z → ⊥)
     → ((x : ℕ) → o ≡ opens.Argument x → ⊥) → ((x : ℕ) → o ≡ opens.Lambda x → ⊥) → ((x : ℕ) → o ≡ opens.Element x → ⊥)
     → TakesElements o
 takes-elements (opens.Pointer x) p l r c f k u g z n m a q e = absurd (p x refl)
@@ -200,7 +200,7 @@ takes-elements (opens.Front x y w) p l r c f k u g z n m a q e = absurd (k x y w
 takes-elements (opens.Argument x) p l r c f k u g z n m a q e = absurd (a x refl)
 takes-elements (opens.Returned x) p l r c f k u g z n m a q e = absurd (u x refl)
 takes-elements (opens.Signature x) p l r c f k u g z n m a q e = absurd (g x refl)
-takes-elements (opens.Enclosing x y) p l r c f k u g z n m a q e = absurd (m x y refl)
+takes-elements (opens.Enclosing x y w) p l r c f k u g z n m a q e = absurd (m x y w refl)
 takes-elements (opens.Lambda x) p l r c f k u g z n m a q e = absurd (q x refl)
 takes-elements (opens.Element x) p l r c f k u g z n m a q e = absurd (e x refl)
 takes-elements opens.Special p l r c f k u g z n m a q e = absurd (z refl)

@@ -95,6 +95,7 @@ argument_of (opens.Rvalue from ∷ rest) = argument_of rest
 argument_of (opens.Const from ∷ rest) = argument_of rest
 argument_of (opens.Front mark start argument ∷ rest) = Some argument
 argument_of (opens.Parameters mark start argument ∷ rest) = Some argument
+argument_of (opens.Enclosing mark from argument ∷ rest) = Some argument
 argument_of _ = None
 
 -- if there is one, a parameter may name it
@@ -209,6 +210,15 @@ pub record IsFunction (text : List ℕ) (argument : Argument) (mark : Mark) (mak
   pub elements : PrintAllIn (types_of own) 6 ts texts
   pub names : argument.from ≤ argument.to → IsArgument text argument own
 
+-- The same of a function in which a type stands. All parameters make one that has some return type, or none.
+pub record IsEnclosing (text : List ℕ) (argument : Argument) (mark : Mark) (make : Term → Term) (ts : List Term) (name texts : List ℕ) : Type 0 where
+  pub own : Term
+  pub returned : Term
+  pub makes : (t rest : Term) → make (list t rest) ≡ function own (qualifiers (has_const mark)) (called_on mark) returned (parameters (list t rest))
+  pub prints : PrintsName own name
+  pub elements : PrintAllIn (types_of own) 6 ts texts
+  pub names : argument.from ≤ argument.to → IsArgument text argument own
+
 -- the name of a function that has a return type, and its text, and where the argument of its template stands
 pub record IsInstance (argument : Argument) (mark : Mark) (v : Value) (name : List ℕ) : Type 0 where
   pub own : Term
@@ -255,8 +265,9 @@ Serves s purposes.Type below os front =
 Serves s (purposes.Name mark) below os front =
     (t : Term) (listed : Bool) (at : ℕ) (st : State) → Comes s os (tree t listed) at st → AwaitsItems s front (named t (qualifiers (has_const mark)) (called_on mark)) at st
 Serves s (purposes.Enclosing mark) below os front =
-    (t : Term) (listed : Bool) (at : ℕ) (st : State) → Comes s os (tree t listed) at st
-    → ItemsGoOn s nowhere (TypeWithin s below front) (λ l. encoding_of (named t (qualifiers (has_const mark)) (called_on mark)) l) [] at st
+    (text : List ℕ) (argument : Argument) (t : Term) (listed : Bool) (at : ℕ) (st : State)
+    → (argument.from ≤ argument.to → IsArgument text argument t) → Comes s os (tree t listed) at st
+    → ItemsGoOn s argument (TypeWithin s below front) (λ l. encoding_of (named t (qualifiers (has_const mark)) (called_on mark)) l) [] at st
 
 -- An instance is read, behind this text: what becomes of it.
 abbrev pub Owns : (s : List ℕ) → Open → Below → (front : List ℕ) → Term → (at : ℕ) → State → Type 0
@@ -367,6 +378,12 @@ abbrev pub opening_text : (is_pointer : Bool) → List ℕ
 opening_text true = codes " (*)("
 opening_text false = codes " ("
 
+-- the arguments that are open last are those of a name
+abbrev pub EndsNamed : List Open → Type 0
+EndsNamed (opens.NestArguments nest ∷ rest) = Unit {0}
+EndsNamed (opens.NameArguments from ∷ rest) = Unit {0}
+EndsNamed _ = ⊥
+
 -- what takes an element or a parameter may take a function type, and so may a special object
 abbrev pub TakesFunction : List Open → Type 0
 TakesFunction (opens.TypeArguments from ∷ rest) = Unit {0}
@@ -376,7 +393,7 @@ TakesFunction (opens.NameArguments from ∷ rest) = Unit {0}
 TakesFunction (opens.Pack ∷ rest) = Unit {0}
 TakesFunction (opens.Parameters mark start argument ∷ rest) = Unit {0}
 TakesFunction (opens.Special ∷ rest) = Unit {0}
-TakesFunction (opens.Enclosing mark from ∷ rest) = Unit {0}
+TakesFunction (opens.Enclosing mark from argument ∷ rest) = Unit {0}
 TakesFunction _ = ⊥
 
 -- A type comes for the last of the open ones, behind what is written.
@@ -394,11 +411,11 @@ Stands s (opens.Parameters mark start argument ∷ rest) os text =
     × IsFunction text argument mark make ts name texts × (start ≡ length aside)
     × (text ≡ aside ++ lead ++ name ++ codes "(" ++ in_front_of_next ts texts)
     × ((t : Term) (at : ℕ) (st : State) → Comes s os (tree t true) at st → ParametersGoOn s argument lead make (ts ++ t ∷ []) at st)
-Stands s (opens.Enclosing mark from ∷ rest) os text =
+Stands s (opens.Enclosing mark from argument ∷ rest) os text =
     (front : List ℕ) × (make : Term → Term) × (ts : List Term) × (name : List ℕ) × (texts : List ℕ)
-    × IsFunction [] nowhere mark make ts name texts × (from ≡ length front) × (text ≡ front ++ name ++ codes "(" ++ in_front_of_next ts texts)
+    × IsEnclosing text argument mark make ts name texts × (from ≡ length front) × (text ≡ front ++ name ++ codes "(" ++ in_front_of_next ts texts)
     × ((t : Term) (at : ℕ) (st : State) → Comes s os (tree t true) at st
-    → ItemsGoOn s nowhere (TypeWithin s (Stands s rest) front) make (ts ++ t ∷ []) at st)
+    → ItemsGoOn s argument (TypeWithin s (Stands s rest) front) make (ts ++ t ∷ []) at st)
 Stands s (opens.Lambda from ∷ rest) os text =
     (front : List ℕ) × (e : Term) × (bytes : List ℕ) × (ts : List Term) × (texts : List ℕ)
     × Encloses e bytes × PrintAll 0 ts texts × (from ≡ length front)

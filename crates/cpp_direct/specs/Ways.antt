@@ -21,7 +21,7 @@ use Rattle.cpp_direct.specs.HolesOfFunctions.{SignatureGoesOn, plain_function, p
 use Rattle.cpp_direct.specs.HolesOfTypes.{IsNamedKind, NoReference, TreeOpens}
 use Rattle.cpp_direct.specs.Marks.{has_const, called_on, mark_text}
 use Rattle.cpp_direct.specs.Prints.{Prints, PrintsName, IsElement, PrintAll, Shows, Encloses, sign_text, PrintsIn, PrintsBehind}
-use Rattle.cpp_direct.specs.Stands.{AreCandidates, AwaitsItems, Encoded, EncodedBehind, IsFunction, IsInstance, IsListing, IsNest, IsTail, IsTemplate, GoesOn, EnumeratorGoesOn, ItemsGoOn, LambdaWithin, Owns, ParametersGoOn, Serves, Stands, TypeWithin, TakesFunction, opening_text, qualifiers, extra_of, led_by, list_with, in_front_of_next, IsPlaced, IsArgument, IsScoped, argument_of, nowhere, packed, of_pack, IsPlain, ArgumentsGoOn}
+use Rattle.cpp_direct.specs.Stands.{AreCandidates, AwaitsItems, Encoded, EncodedBehind, IsEnclosing, IsFunction, IsInstance, IsListing, IsNest, IsTail, IsTemplate, GoesOn, EnumeratorGoesOn, ItemsGoOn, LambdaWithin, Owns, ParametersGoOn, Serves, Stands, TypeWithin, TakesFunction, opening_text, qualifiers, extra_of, led_by, list_with, in_front_of_next, IsPlaced, IsArgument, IsScoped, argument_of, nowhere, packed, of_pack, IsPlain, ArgumentsGoOn}
 
 -- nothing is written yet
 pub record IsFresh (w : Direct) : Type 0 where
@@ -438,22 +438,53 @@ pub record IsEnclosingNamed (s : List ℕ) (w : Direct) (mark : Mark) (from : �
   pub no_return : has_return_type own ≡ false
   pub goes : ItemsGoOn s nowhere (TypeWithin s (Stands s (reverse w.waiting.list.items)) front) (λ l. encoding_of v l) [] w.at state
 
+-- The same of an instance of a function template. Its return type is expected, and the argument of the template stands where it was
+-- noted last, or it isn't known.
+pub record IsEnclosingInstance (s : List ℕ) (w : Direct) (mark : Mark) (from : ℕ) : Type 0 where
+  pub state : State
+  pub candidates : AreCandidates w.text.list.items w.candidates.list.items state.candidates
+  pub own : Term
+  pub v : Value
+  pub tree_is : tree_of v ≡ own
+  pub qualifiers_are : qualifiers_of v ≡ qualifiers (has_const mark)
+  pub mark_is : ref_of v ≡ called_on mark
+  pub front : List ℕ
+  pub name : List ℕ
+  pub written : w.text.list.items ≡ front ++ name
+  pub from_is : from ≡ length front
+  pub prints : PrintsName own name
+  pub returns : has_return_type own ≡ true
+  pub names : w.argument.from ≤ w.argument.to → IsArgument w.text.list.items w.argument own
+  pub goes : ItemsGoOn s w.argument (TypeWithin s (Stands s (reverse w.waiting.list.items)) front) (λ l. encoding_of v l) [] w.at state
+
+-- The name of a function in which a type stands was read, and its return type if it has one. Its parameters are expected.
+pub record AwaitsEnclosingParameters (s : List ℕ) (w : Direct) (mark : Mark) (from : ℕ) (argument : Argument) : Type 0 where
+  pub state : State
+  pub candidates : AreCandidates w.text.list.items w.candidates.list.items state.candidates
+  pub make : Term → Term
+  pub front : List ℕ
+  pub name : List ℕ
+  pub is_enclosing : IsEnclosing w.text.list.items argument mark make [] name []
+  pub written : w.text.list.items ≡ front ++ name
+  pub from_is : from ≡ length front
+  pub goes : ItemsGoOn s argument (TypeWithin s (Stands s (reverse w.waiting.list.items)) front) make [] w.at state
+
 -- A parameter of such a function was read.
-pub record IsEnclosingParameterRead (s : List ℕ) (w : Direct) (mark : Mark) (from : ℕ) : Type 0 where
+pub record IsEnclosingParameterRead (s : List ℕ) (w : Direct) (mark : Mark) (from : ℕ) (argument : Argument) : Type 0 where
   pub state : State
   pub candidates : AreCandidates w.text.list.items w.candidates.list.items state.candidates
   pub rest : List Open
-  pub open_is : reverse w.waiting.list.items ≡ opens.Enclosing mark from ∷ rest
+  pub open_is : reverse w.waiting.list.items ≡ opens.Enclosing mark from argument ∷ rest
   pub make : Term → Term
   pub ts : List Term
   pub some : ts ≢ []
   pub front : List ℕ
   pub name : List ℕ
   pub texts : List ℕ
-  pub is_function : IsFunction [] nowhere mark make ts name texts
+  pub is_enclosing : IsEnclosing w.text.list.items argument mark make ts name texts
   pub from_is : from ≡ length front
   pub written : w.text.list.items ≡ front ++ name ++ codes "(" ++ texts
-  pub goes : ItemsGoOn s nowhere (TypeWithin s (Stands s rest) front) make ts w.at state
+  pub goes : ItemsGoOn s argument (TypeWithin s (Stands s rest) front) make ts w.at state
 
 -- Such a function was read and written from a place on, but for its qualifier.
 pub record IsEnclosingRead (s : List ℕ) (w : Direct) (mark : Mark) (from : ℕ) : Type 0 where

@@ -9,12 +9,13 @@ ghost use Rattle.cpp_direct.specs.Holes.{StandsAt};
 ghost use Rattle.cpp_direct.specs.HolesOfLocals.{IsLambdaDigit, IsPieceAt, lambda_digits, lambda_number};
 ghost use Rattle.cpp_direct.specs.Prints.{PrintsPiece};
 ghost use Rattle.cpp_direct.specs.Stands.{IsWriting};
-ghost use Rattle.cpp_direct.specs.Ways.{AwaitsNamedType, AwaitsTypeName, IsEnclosingNamed, IsEnclosingParameterRead, IsEnclosingRead, IsLambdaParameterRead};
+ghost use Rattle.cpp_direct.specs.Ways.{AwaitsEnclosingParameters, AwaitsNamedType, AwaitsTypeName, IsEnclosingInstance, IsEnclosingNamed, IsEnclosingParameterRead, IsEnclosingRead, IsLambdaParameterRead};
 ghost use Rattle.cpp_direct.specs.Written.{Reads};
 
 use crate::direct::Direct;
 use crate::marks::mark_at;
-use crate::open::{Mark, Open, Purpose, Step};
+use crate::open::{Argument, Mark, Open, Purpose, Step};
+use crate::symbols::NOWHERE;
 use crate::tokens::{are_numbers_short, byte_at};
 
 /// The longest symbol in which lambdas with parameters are read, in bytes.
@@ -49,26 +50,66 @@ impl Direct {
         requires named { IsEnclosingNamed s.now self.old mark from }
         ensures { IfSome result (IsWriting s.now self.new) }
     {
-        let byte = byte_at(s, self.at);
-        if byte == b'E' {
+        if byte_at(s, self.at) == b'E' {
             return self.enclosing_ended(s, mark, from);
         }
+        self.enclosing_parameters(s, mark, from, NOWHERE)
+    }
+
+    /// The name of an instance of a function template is read in which a type stands. The function's return type follows, a builtin
+    /// one, of which nothing is written.
+    // <bare-function-type> ::= <return type> <parameter type>+
+    pub(crate) fn enclosing_instance(&mut self, s: &[u8], mark: Mark, from: usize) -> Option<Step>
+        requires fits { IsReadable s.now }
+        requires named { IsEnclosingInstance s.now self.old mark from }
+        ensures { IfSome result (IsWriting s.now self.new) }
+    {
+        if cpp_layout::builtin_text(byte_at(s, self.at)).is_empty() {
+            return None;
+        }
+        self.at = self.at.checked_add(1)?;
+        self.enclosing_parameters(s, mark, from, self.argument)
+    }
+
+    /// Reads the parameters of a function in which a type stands, up to the first type in them.
+    // <bare-function-type> ::= <parameter type>+ | v
+    fn enclosing_parameters(
+        &mut self,
+        s: &[u8],
+        mark: Mark,
+        from: usize,
+        argument: Argument,
+    ) -> Option<Step>
+        requires fits { IsReadable s.now }
+        requires awaits { AwaitsEnclosingParameters s.now self.old mark from argument }
+        ensures { IfSome result (IsWriting s.now self.new) }
+    {
         let behind = byte_at(s, self.at.checked_add(1)?);
-        if byte == b'v' && behind == b'E' {
+        if byte_at(s, self.at) == b'v' && behind == b'E' {
             self.at = self.at.checked_add(1)?;
             self.push_pair(b'(', b')')?;
             return self.enclosing_ended(s, mark, from);
         }
         self.push_byte(b'(')?;
-        self.waiting.push(Open::Enclosing { mark, from })?;
+        self.waiting.push(Open::Enclosing {
+            mark,
+            from,
+            argument,
+        })?;
         Some(Step::Type)
     }
 
     /// A parameter of a function is read in which a type stands: another one follows, or the type.
     // <bare-function-type> ::= <parameter type>+
-    pub(crate) fn enclosing_parameter(&mut self, s: &[u8], mark: Mark, from: usize) -> Option<Step>
+    pub(crate) fn enclosing_parameter(
+        &mut self,
+        s: &[u8],
+        mark: Mark,
+        from: usize,
+        _argument: Argument,
+    ) -> Option<Step>
         requires fits { IsReadable s.now }
-        requires read { IsEnclosingParameterRead s.now self.old mark from }
+        requires read { IsEnclosingParameterRead s.now self.old mark from _argument }
         ensures { IfSome result (IsWriting s.now self.new) }
     {
         if byte_at(s, self.at) != b'E' {

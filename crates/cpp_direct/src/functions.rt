@@ -131,7 +131,11 @@ impl Direct {
                 start,
                 argument,
             } => self.parameter_ended(s, mark, start, argument),
-            Open::Enclosing { mark, from } => self.enclosing_parameter(s, mark, from),
+            Open::Enclosing {
+                mark,
+                from,
+                argument,
+            } => self.enclosing_parameter(s, mark, from, argument),
             Open::Special => self.finish(s),
             _ => Some(Step::List { is_first: false }),
         }

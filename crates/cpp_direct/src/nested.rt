@@ -167,7 +167,7 @@ impl Direct {
             }
             Purpose::Enclosing { mark } => {
                 if self.nest.is_instance {
-                    return None;
+                    return self.enclosing_instance(s, mark, self.nest.from);
                 }
                 self.enclosing_named(s, mark, self.nest.from)
             }

@@ -102,6 +102,7 @@ pub enum Open {
     Enclosing {
         mark: Mark,
         from: usize,
+        argument: Argument,
     },
     /// the parameters of a lambda that stands in a function, whose text begins at this place
     Lambda {

@@ -197,7 +197,11 @@ impl Direct {
             } => self.front_ended(s, mark, start, argument),
             Open::Returned { is_pointer } => self.returned(s, is_pointer),
             Open::Signature { is_pointer } => self.parameter_at(s, is_pointer, false),
-            Open::Enclosing { mark, from } => self.enclosing_parameter(s, mark, from),
+            Open::Enclosing {
+                mark,
+                from,
+                argument,
+            } => self.enclosing_parameter(s, mark, from, argument),
             Open::Lambda { from } => self.lambda_parameter(s, from),
             Open::Special => self.finish(s),
             Open::Enumerator => self.enumerator(s),

@@ -24,8 +24,8 @@ enclosing_parameter-requires-clause-read c =
     let s = c.args.s.now in
     let w = c.args.self.now in
     let p = c.requires.ended in
-    parameter-read-within s _ c.in-Enclosing.mark c.in-Enclosing.from
-    (function-handed s w _ c.args.is_pointer (opens.Enclosing c.in-Enclosing.mark c.in-Enclosing.from) p
+    parameter-read-within s _ c.in-Enclosing.mark c.in-Enclosing.from c.in-Enclosing.argument
+    (function-handed s w _ c.args.is_pointer (opens.Enclosing c.in-Enclosing.mark c.in-Enclosing.from c.in-Enclosing.argument) p
     (ap (λ t. t.list.items) c.add_hidden.ensures.text ∙ c.in_ok-push_byte.ensures.text)
     (c.in_ok-add_hidden.ensures.candidates ∙ hidden-behind w c.push_byte.new.self c.args.is_pointer c.in_ok-push_byte.ensures.candidates)
     (still-popped s w c.add_hidden.new.self c.args.is_pointer p c.pop-open.new.self.list.items _ (c.add_hidden.ensures.open ∙ c.in_ok-push_byte.ensures.waiting) refl c.pop-open.ensures.rest)

@@ -59,8 +59,8 @@ parameter_at-requires-clause-awaits c =
 
 pub enclosing_parameter-requires-clause-read : goal.enclosing_parameter-requires-clause-read
 enclosing_parameter-requires-clause-read c =
-    parameter-read-within c.args.s.now c.args.self.now c.in-Enclosing.mark c.in-Enclosing.from
-    (value-element c.args.s.now c.args.self.now c.args.is_reference (opens.Enclosing c.in-Enclosing.mark c.in-Enclosing.from) c.requires.writing
+    parameter-read-within c.args.s.now c.args.self.now c.in-Enclosing.mark c.in-Enclosing.from c.in-Enclosing.argument
+    (value-element c.args.s.now c.args.self.now c.args.is_reference (opens.Enclosing c.in-Enclosing.mark c.in-Enclosing.from c.in-Enclosing.argument) c.requires.writing
     (waits-last _ _ _ _ c.as_slice.ensures c.in_ok-from.ensures.value c.in-Enclosing.is))
 
 pub lambda_parameter-requires-clause-read : goal.lambda_parameter-requires-clause-read
