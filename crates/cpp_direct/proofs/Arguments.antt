@@ -1,7 +1,7 @@
 -- The first argument of a name, which may be the only one.
-use Rattle.std.proofs.Common.{◌≡◌, ℕ, ◌+◌, ◌-◌, length, List, [], ◌∷◌, ◌++◌, reverse, slice_get, inr, inl, Bool, true, false, Some, refl, ap, sym, ◌∙◌, subst, arith, codes, append-nil}
+use Rattle.std.proofs.Common.{◌≡◌, ℕ, ◌+◌, ◌-◌, length, List, [], ◌∷◌, ◌++◌, reverse, slice_get, inr, inl, Bool, true, false, Some, refl, ap, sym, ◌∙◌, subst, codes, append-nil}
 use Rattle.std.proofs.lemmas.Bool.{false≢true}
-use Rattle.std.proofs.lemmas.List.{length-append, length-reverse}
+use Rattle.std.proofs.lemmas.List.{length-append}
 use Rattle.cpp_grammar.specs.declared.kind.Kind.{Kind}
 use Rattle.cpp_grammar.specs.Grammar.{may_be_empty}
 use Rattle.cpp_grammar.specs.Term.{Term, nil, list, instance}
@@ -13,7 +13,7 @@ use Rattle.cpp_direct.specs.declared.open.Step.TheVariants as steps
 use Rattle.cpp_direct.specs.declared.direct.Direct.{Direct}
 use Rattle.cpp_direct.specs.Holes.{Expects, StandsAt}
 use Rattle.cpp_direct.specs.Prints.{Prints, IsElement, PrintEachBy, PrintAllBy, joined}
-use Rattle.cpp_direct.specs.Stands.{AreCandidates, ArgumentsGoOn, Belongs, GoesOn, IsScoped, IsTemplate, IsWriting, Listing, of_template, of_pack, Owns, Stands, extra_of, led_by}
+use Rattle.cpp_direct.specs.Stands.{AreCandidates, ArgumentsGoOn, Belongs, EndsNamed, GoesOn, IsScoped, IsTemplate, IsWriting, Listing, of_template, of_pack, Owns, Stands, extra_of, led_by}
 use Rattle.cpp_direct.specs.Ways.{IsArgumentRead, IsListEnded}
 use Rattle.cpp_direct.proofs.Kept.{reverse-last, template-stays}
 use Rattle.cpp_direct.proofs.Listed.{last-found, element-goes-on}
@@ -32,19 +32,15 @@ none-text by l all = go all.0 all.1 all.2
 
 -- the first argument comes next
 pub argument-begins : (s : List ℕ) (old new : Direct) (from : ℕ) → IsWriting s old (steps.List true)
-    → length old.waiting.list.items ≡ 1 → from ≡ length old.text.list.items
+    → EndsNamed (reverse old.waiting.list.items) → from ≡ length old.text.list.items
     → new.waiting.list.items ≡ old.waiting.list.items ++ opens.Argument from ∷ [] → new.text ≡ old.text → new.candidates ≡ old.candidates → new.at ≡ old.at
     → IsWriting s new steps.Type
-argument-begins s old new from p one from_is waits text candidates at = go p.is_before.0.listing refl
+argument-begins s old new from p named from_is waits text candidates at = go p.is_before.0.listing refl
   where
     go : (l : Listing) → p.is_before.0.listing ≡ l → IsWriting s new steps.Type
     go (of_pack before written) is =
-        absurd (omega (
-          arith,
-          one,
-          length-reverse old.waiting.list.items,
-          ap length (subst (λ l. Belongs l (reverse old.waiting.list.items) p.is_before.0.owner p.is_before.0.rest) is p.is_before.0.belongs).0,
-        ))
+        absurd (subst (λ ws. EndsNamed ws)
+        (subst (λ l. Belongs l (reverse old.waiting.list.items) p.is_before.0.owner p.is_before.0.rest) is p.is_before.0.belongs).0 named)
     go of_template is =
         let place = p.is_before.0 in
         let o = place.owner in

@@ -7,22 +7,25 @@ use Rattle.sym_demangle.specs.Mangled.{shaped, answer_of_symbol}
 use Rattle.cpp_grammar.specs.declared.kind.Kind.{Kind}
 use Rattle.cpp_grammar.specs.Mangled.{cpp_mangled, IsAnswer}
 use Rattle.cpp_grammar.specs.Answer.{shown, root_item}
-use Rattle.cpp_grammar.specs.Term.{Term, any_value, Adjustment, non_virtual, by_table, adjusting, special, thunk}
+use Rattle.cpp_grammar.specs.Term.{Term, Adjustment, non_virtual, by_table, adjusting, special, thunk}
 use Rattle.cpp_grammar.specs.Parts.{thunk_text}
 use Rattle.cpp_grammar.specs.Texts.{Naming, look_up, special_texts, same_bytes}
 use Rattle.cpp_grammar.specs.Values.{State, Value, tree, named, tree_of, signed_digits}
 use Rattle.cpp_grammar.specs.Between.{in_name, in_types, no_items}
 use Rattle.cpp_grammar.specs.Meaning.{encoding_of}
 use Rattle.cpp_grammar.specs.Unfolding.{first_around, first_state}
+use Rattle.cpp_direct.specs.declared.marks.MarkPlace.{MarkPlace}
+use Rattle.cpp_direct.specs.declared.open.Mark.{Mark}
 use Rattle.cpp_direct.specs.declared.open.Purpose.TheVariants as purposes
 use Rattle.cpp_direct.specs.declared.open.Open.TheVariants as opens
 use Rattle.cpp_direct.specs.declared.open.Step.TheVariants as steps
 use Rattle.cpp_direct.specs.declared.direct.Direct.{Direct}
 use Rattle.cpp_direct.specs.Bytes.{is_local}
 use Rattle.cpp_direct.specs.Holes.{StandsAt, Comes, Expects}
-use Rattle.cpp_direct.specs.HolesOfLists.{SymbolOpened, EncodingOpened, IsOffsetAt, ThunkOpened, nest_marks}
+use Rattle.cpp_direct.specs.HolesOfLists.{SymbolOpened, EncodingOpened, IsOffsetAt, ThunkOpened, mark_letters, nest_marks}
 use Rattle.cpp_direct.specs.ItemBytes.{one_of, is_special_letter}
 use Rattle.cpp_direct.specs.Letters.{special_letters}
+use Rattle.cpp_direct.specs.Marks.{IsMarkPlace, has_const, called_on}
 use Rattle.cpp_direct.specs.Prints.{Shows}
 use Rattle.cpp_direct.specs.Stands.{AreCandidates, Encoded, EndsBehind, EncodedBehind, AwaitsItems, IsScoped, IsWhole, Stands, IsWriting, qualifiers}
 use Rattle.cpp_direct.specs.Ways.{IsFresh, AwaitsEncoding, AwaitsNest}
@@ -225,13 +228,14 @@ special-begins s w letter starts stands at_is written filled none_ waiting =
 
 -- ## Nested names
 
--- the nested name of an encoding begins, of a member function that is const or not
-nested-marked : (s : List ℕ) (old : Direct) (n : ℕ) (const : Bool) → AwaitsEncoding s old → StandsAt s old.at (nest_marks const)
-    → n ≡ old.at + length (nest_marks const) → AwaitsNest s (record old { at = n }) (purposes.Name const)
+-- the nested name of an encoding begins, of a member function with these qualifiers
+nested-marked : (s : List ℕ) (old : Direct) (n : ℕ) (mark : Mark) → AwaitsEncoding s old
+    → StandsAt s old.at (nest_marks (has_const mark) (called_on mark)) → n ≡ old.at + length (nest_marks (has_const mark) (called_on mark))
+    → AwaitsNest s (record old { at = n }) (purposes.Name mark)
 unfolding in_name
-nested-marked s old n const p stands at_is =
+nested-marked s old n mark p stands at_is =
     let encoding = encoding-expected s old p in
-    let nest = name-nested s encoding.inner (in_name old.at) const old.at p.state encoding.awaits stands in
+    let nest = name-nested s encoding.inner (in_name old.at) (has_const mark) (called_on mark) old.at p.state encoding.awaits stands in
     record {
       state = p.state;
       candidates = p.candidates;
@@ -239,17 +243,14 @@ nested-marked s old n const p stands at_is =
       outside = refl;
       outer = nest.inner;
       awaits = subst (λ k. Expects s Kind.Nest (in_name old.at) nest.inner k p.state) (sym at_is) nest.awaits;
-      serves = λ t listed at st comes. items-await s old p (named t (qualifiers const) any_value) at st (nest.onward t listed at st comes);
+      serves = λ t listed at st comes. items-await s old p (named t (qualifiers (has_const mark)) (called_on mark)) at st
+          (nest.onward t listed at st comes);
     }
 
--- one that isn't const
-pub nested-plain : (s : List ℕ) (old : Direct) (n : ℕ) → AwaitsEncoding s old → StandsAt s old.at (78 ∷ []) → n ≡ old.at + 1
-    → AwaitsNest s (record old { at = n }) (purposes.Name false)
-nested-plain s old n p letter at_is = nested-marked s old n false p letter at_is
-
--- and one that is
-pub nested-const : (s : List ℕ) (old : Direct) (inside_ n : ℕ) → AwaitsEncoding s old → StandsAt s old.at (78 ∷ []) → inside_ ≡ old.at + 1
-    → StandsAt s inside_ (75 ∷ []) → n ≡ inside_ + 1 → AwaitsNest s (record old { at = n }) (purposes.Name true)
-nested-const s old inside_ n p letter next mark at_is =
-    nested-marked s old n true p
-    (stands-join s old.at (78 ∷ []) (75 ∷ []) letter (subst (λ k. StandsAt s k (75 ∷ [])) next mark)) (omega (arith, next, at_is))
+-- behind an N, where they stand
+pub nested-begins : (s : List ℕ) (old : Direct) (first : ℕ) (place : MarkPlace) → AwaitsEncoding s old → StandsAt s old.at (78 ∷ []) → first ≡ old.at + 1
+    → IsMarkPlace s first place → AwaitsNest s (record old { at = place.end }) (purposes.Name place.mark)
+nested-begins s old first place p letter next is =
+    let letters = mark_letters (has_const place.mark) (called_on place.mark) in
+    nested-marked s old place.end place.mark p
+    (stands-join s old.at (78 ∷ []) letters letter (subst (λ k. StandsAt s k letters) next is.stands)) (omega (arith, next, is.ends))

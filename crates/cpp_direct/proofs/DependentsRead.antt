@@ -1,4 +1,5 @@
 -- A type that names the argument of a function's template is read, and handed on.
+use Rattle.cpp_direct.proofs.EnclosingFunctions.{parameter-got-within}
 use Rattle.cpp_direct.proofs.Handed.{front-got, parameter-got}
 use Rattle.cpp_direct.proofs.Kept.{candidates-stay, piece-found}
 use Rattle.cpp_direct.proofs.Listed.{last-found}
@@ -6,10 +7,11 @@ use Rattle.cpp_direct.proofs.Moves.{stands-join, stands-split, expects-number, e
 use Rattle.cpp_direct.proofs.MovesOfTypes.{solid-opens}
 use Rattle.cpp_direct.proofs.PrintedTypes.{parameter-prints, type-element-in}
 use Rattle.cpp_direct.proofs.Signatures.{hidden-candidates}
+use Rattle.cpp_direct.specs.declared.open.Mark.{Mark}
 use Rattle.cpp_direct.specs.Holes.{Opened, StandsAt, Comes, with_candidate, opened, Expects, IsTyped}
 use Rattle.cpp_direct.specs.Prints.{Prints, PrintsIn, PrintsBehind}
 use Rattle.cpp_direct.specs.Stands.{AreCandidates, IsArgument, IsPlaced, IsPlain, IsWriting, Marks, Stands, argument_of, IsScope, packed}
-use Rattle.cpp_direct.specs.Ways.{AwaitsType, AwaitsDependentMark, IsFrontRead, IsParameterEnded}
+use Rattle.cpp_direct.specs.Ways.{AwaitsType, AwaitsDependentMark, IsEnclosingParameterRead, IsFrontRead, IsParameterEnded}
 use Rattle.cpp_direct.specs.Written.{with_hidden}
 use Rattle.cpp_direct.specs.declared.direct.Direct.{Direct}
 use Rattle.cpp_direct.specs.declared.open.Open.TheVariants as opens
@@ -118,10 +120,12 @@ argument-placed s (opens.Pointer from ∷ rest) os text p stands found ordered =
 argument-placed s (opens.Lvalue from ∷ rest) os text p stands found ordered = argument-placed s rest stands.0 text p stands.4 found ordered
 argument-placed s (opens.Rvalue from ∷ rest) os text p stands found ordered = argument-placed s rest stands.0 text p stands.4 found ordered
 argument-placed s (opens.Const from ∷ rest) os text p stands found ordered = argument-placed s rest stands.0 text p stands.4 found ordered
-argument-placed s (opens.Front is_const start a ∷ rest) os text p stands found ordered =
+argument-placed s (opens.Front mark start a ∷ rest) os text p stands found ordered =
     placed-at text a p stands.1.own (same-place a p found) (stands.1.names (ordered-place a p (same-place a p found) ordered))
-argument-placed s (opens.Parameters is_const start a ∷ rest) os text p stands found ordered =
+argument-placed s (opens.Parameters mark start a ∷ rest) os text p stands found ordered =
     placed-at text a p stands.6.own (same-place a p found) (stands.6.names (ordered-place a p (same-place a p found) ordered))
+argument-placed s (opens.Enclosing mark from a ∷ rest) os text p stands found ordered =
+    placed-at text a p stands.5.own (same-place a p found) (stands.5.names (ordered-place a p (same-place a p found) ordered))
 argument-placed s _ os text p stands found ordered = cc found
 
 -- so it can be written once more
@@ -244,31 +248,46 @@ dependent-mark-done s old mid new mark r a waits text candidates at more same_te
 -- ## What it is handed to
 
 -- it is a parameter
-pub dependent-parameter : (s : List ℕ) (w : Direct) (is_reference is_const : Bool) (start : ℕ) (argument_ : Argument) → IsWriting s w (steps.Dependent is_reference)
-    → slice_get w.waiting.list.items (length w.waiting.list.items - 1) ≡ Some (opens.Parameters is_const start argument_)
-    → IsParameterEnded s w is_const start argument_
-dependent-parameter s w is_reference is_const start argument_ p found =
+pub dependent-parameter : (s : List ℕ) (w : Direct) (is_reference : Bool) (mark : Mark) (start : ℕ) (argument_ : Argument) → IsWriting s w (steps.Dependent is_reference)
+    → slice_get w.waiting.list.items (length w.waiting.list.items - 1) ≡ Some (opens.Parameters mark start argument_)
+    → IsParameterEnded s w mark start argument_
+dependent-parameter s w is_reference mark start argument_ p found =
     let b = p.is_before in
-    let last = last-found w.waiting.list.items (opens.Parameters is_const start argument_) found in
-    let waits : Stands s (opens.Parameters is_const start argument_ ∷ last.0) b.0 b.2 = subst (λ ws. Stands s ws b.0 b.2) last.1 b.12 in
+    let last = last-found w.waiting.list.items (opens.Parameters mark start argument_) found in
+    let waits : Stands s (opens.Parameters mark start argument_ ∷ last.0) b.0 b.2 = subst (λ ws. Stands s ws b.0 b.2) last.1 b.12 in
     let same = same-place argument_ b.5 (ap argument_of (sym last.1) ∙ b.8) in
     let names = waits.6.names (ordered-place argument_ b.5 same b.9.0) in
     let prints = behind-argument b.2 argument_ waits.6.own b.1 b.3 b.4 is_reference names (plain-place argument_ b.5 same b.9)
     (subst (λ (k : Argument). IsPlaced b.2 k b.3) (sym same) b.10) b.7 in
-    parameter-got s w is_const start argument_ p.state last.0 b.0 b.1 b.2 (b.3 ++ b.4) waits p.candidates last.1
+    parameter-got s w mark start argument_ p.state last.0 b.0 b.1 b.2 (b.3 ++ b.4) waits p.candidates last.1
     (b.6 ∙ append_assoc b.2 b.3 b.4) b.11 (type-element-in (types_of waits.6.own) b.1 (b.3 ++ b.4) is_reference prints)
 
--- it is the return type
-pub dependent-front : (s : List ℕ) (w : Direct) (is_reference is_const : Bool) (start : ℕ) (argument_ : Argument) → IsWriting s w (steps.Dependent is_reference)
-    → slice_get w.waiting.list.items (length w.waiting.list.items - 1) ≡ Some (opens.Front is_const start argument_)
-    → IsFrontRead s w is_const start argument_
-dependent-front s w is_reference is_const start argument_ p found =
+-- of a function in which a type stands
+pub dependent-within : (s : List ℕ) (w : Direct) (is_reference : Bool) (mark : Mark) (from : ℕ) (argument_ : Argument) → IsWriting s w (steps.Dependent is_reference)
+    → slice_get w.waiting.list.items (length w.waiting.list.items - 1) ≡ Some (opens.Enclosing mark from argument_)
+    → IsEnclosingParameterRead s w mark from argument_
+dependent-within s w is_reference mark from argument_ p found =
     let b = p.is_before in
-    let last = last-found w.waiting.list.items (opens.Front is_const start argument_) found in
-    let waits : Stands s (opens.Front is_const start argument_ ∷ last.0) b.0 b.2 = subst (λ ws. Stands s ws b.0 b.2) last.1 b.12 in
+    let last = last-found w.waiting.list.items (opens.Enclosing mark from argument_) found in
+    let waits : Stands s (opens.Enclosing mark from argument_ ∷ last.0) b.0 b.2 = subst (λ ws. Stands s ws b.0 b.2) last.1 b.12 in
+    let same = same-place argument_ b.5 (ap argument_of (sym last.1) ∙ b.8) in
+    let names = waits.5.names (ordered-place argument_ b.5 same b.9.0) in
+    let prints = behind-argument b.2 argument_ waits.5.own b.1 b.3 b.4 is_reference names (plain-place argument_ b.5 same b.9)
+    (subst (λ (k : Argument). IsPlaced b.2 k b.3) (sym same) b.10) b.7 in
+    parameter-got-within s w mark from argument_ p.state last.0 b.0 b.1 b.2 (b.3 ++ b.4) waits p.candidates last.1
+    (b.6 ∙ append_assoc b.2 b.3 b.4) b.11 (type-element-in (types_of waits.5.own) b.1 (b.3 ++ b.4) is_reference prints)
+
+-- it is the return type
+pub dependent-front : (s : List ℕ) (w : Direct) (is_reference : Bool) (mark : Mark) (start : ℕ) (argument_ : Argument) → IsWriting s w (steps.Dependent is_reference)
+    → slice_get w.waiting.list.items (length w.waiting.list.items - 1) ≡ Some (opens.Front mark start argument_)
+    → IsFrontRead s w mark start argument_
+dependent-front s w is_reference mark start argument_ p found =
+    let b = p.is_before in
+    let last = last-found w.waiting.list.items (opens.Front mark start argument_) found in
+    let waits : Stands s (opens.Front mark start argument_ ∷ last.0) b.0 b.2 = subst (λ ws. Stands s ws b.0 b.2) last.1 b.12 in
     let same = same-place argument_ b.5 (ap argument_of (sym last.1) ∙ b.8) in
     let names = waits.1.names (ordered-place argument_ b.5 same b.9.0) in
     let prints = behind-argument b.2 argument_ waits.1.own b.1 b.3 b.4 is_reference names (plain-place argument_ b.5 same b.9)
     (subst (λ (k : Argument). IsPlaced b.2 k b.3) (sym same) b.10) b.7 in
-    front-got s w is_reference is_const start argument_ p.state last.0 b.0 b.1 b.2 (b.3 ++ b.4) waits p.candidates
+    front-got s w is_reference mark start argument_ p.state last.0 b.0 b.1 b.2 (b.3 ++ b.4) waits p.candidates
     (b.6 ∙ append_assoc b.2 b.3 b.4) b.11 prints

@@ -1,29 +1,35 @@
 -- Types that stand in functions, from their Z to their end.
-use Rattle.std.proofs.Common.{◌≡◌, ◌≢◌, refl, ap, sym, ◌∙◌, subst, inl, inr, ℕ, ◌+◌, List, [], ◌∷◌, ◌++◌, length, reverse, Bool, true, false, Option, None, Some, arith, codes, append-nil, append_assoc}
+use Rattle.std.proofs.Common.{◌≡◌, ◌≢◌, refl, ap, sym, ◌∙◌, subst, inl, inr, ℕ, ◌+◌, ◌≤◌, List, [], ◌∷◌, ◌++◌, length, reverse, true, false, Option, None, Some, arith, codes, append-nil, append_assoc}
 use Rattle.std.specs.Prelude.{decimal}
 use Rattle.std.proofs.lemmas.Fmt.{decimal_digit}
 use Rattle.cpp_grammar.specs.declared.kind.Kind.{Kind}
 use Rattle.cpp_grammar.specs.Grammar.{may_be_empty}
-use Rattle.cpp_grammar.specs.Term.{Term, any_value, function, alone, lambda, source, builtin, nil, list, absent}
+use Rattle.cpp_grammar.specs.Term.{Term, function, alone, lambda, source, builtin, nil, list, absent}
 use Rattle.cpp_grammar.specs.Items.{closed}
 use Rattle.cpp_grammar.specs.Parts.{source_text, types_of}
+use Rattle.cpp_grammar.specs.Texts.{builtin_texts, look_up}
 use Rattle.cpp_grammar.specs.Scope.{has_return_type, arguments_of}
 use Rattle.cpp_grammar.specs.References.{is_function_type}
 use Rattle.cpp_grammar.specs.Values.{State, Value, local_number, nothing_there, tree, named, tree_of, qualifiers_of, ref_of}
 use Rattle.cpp_grammar.specs.Between.{after, in_name, in_types, no_items}
-use Rattle.cpp_grammar.specs.Meaning.{encoding_of}
+use Rattle.cpp_grammar.specs.Meaning.{encoding_of, is_nil, is_void, parameters}
+use Rattle.cpp_direct.specs.declared.marks.MarkPlace.{MarkPlace}
+use Rattle.cpp_direct.specs.declared.open.Mark.{Mark}
+use Rattle.cpp_direct.specs.declared.open.Mark.TheVariants as marks
+use Rattle.cpp_direct.specs.declared.open.Argument.{Argument}
 use Rattle.cpp_direct.specs.declared.open.Open.{Open}
 use Rattle.cpp_direct.specs.declared.open.Open.TheVariants as opens
 use Rattle.cpp_direct.specs.declared.open.Purpose.TheVariants as purposes
 use Rattle.cpp_direct.specs.declared.open.Step.TheVariants as steps
 use Rattle.cpp_direct.specs.declared.direct.Direct.{Direct}
 use Rattle.cpp_direct.specs.Holes.{Opened, StandsAt, Comes, Expects, IsNameAt, with_candidate}
-use Rattle.cpp_direct.specs.HolesOfLists.{nest_marks}
+use Rattle.cpp_direct.specs.HolesOfLists.{mark_letters, nest_marks}
 use Rattle.cpp_direct.specs.HolesOfLocals.{Discriminator, IsDiscriminatorAt, IsLambdaDigit, IsPieceAt, lambda_digits, lambda_ending, lambda_number, lambda_with, local_in}
 use Rattle.cpp_direct.specs.Bytes.{short_numbers}
-use Rattle.cpp_direct.specs.Prints.{Prints, PrintsName, PrintsPiece, Shows, Encloses, list_of}
-use Rattle.cpp_direct.specs.Stands.{AreCandidates, Below, IsFunction, IsNesting, IsWriting, ItemsGoOn, LambdaWithin, Serves, Stands, TypeWithin, in_front_of_next, qualifiers, IsScoped, nowhere}
-use Rattle.cpp_direct.specs.Ways.{AwaitsNamedType, AwaitsNest, AwaitsTypeName, IsElementRead, IsEnclosingNamed, IsEnclosingParameterRead, IsEnclosingRead, IsLambdaParameterRead, const_text}
+use Rattle.cpp_direct.specs.Marks.{IsMarkPlace, has_const, called_on, mark_text}
+use Rattle.cpp_direct.specs.Prints.{IsElementIn, Prints, PrintsName, PrintsPiece, Shows, Encloses, list_of}
+use Rattle.cpp_direct.specs.Stands.{AreCandidates, Below, IsArgument, IsEnclosing, IsNesting, IsWriting, ItemsGoOn, LambdaWithin, Serves, Stands, TypeWithin, in_front_of_next, qualifiers, IsScoped, nowhere}
+use Rattle.cpp_direct.specs.Ways.{AwaitsEnclosingParameters, AwaitsNamedType, AwaitsNest, AwaitsTypeName, IsElementRead, IsEnclosingInstance, IsEnclosingNamed, IsEnclosingParameterRead, IsEnclosingRead, IsLambdaParameterRead}
 use Rattle.cpp_direct.specs.Written.{Writes, Reads, added}
 use Rattle.cpp_direct.proofs.Ending.{behind-two, behind-three, behind-five, list-ends, next-written, parameter-goes_on, plain-text, qualifiers-text, void-read}
 use Rattle.cpp_direct.proofs.FoundTokens.{reads-of, reads-then}
@@ -35,11 +41,13 @@ use Rattle.cpp_direct.proofs.MovesOfLists.{element-awaits}
 use Rattle.cpp_direct.proofs.MovesOfLocals.{lambda-opens, lambda-piece, lambda_bytes, local-type-opens, number-is}
 use Rattle.cpp_direct.proofs.Nesting.{nest-comes}
 use Rattle.cpp_direct.proofs.PrintedLists.{all-in, element-in, next-prints, next-prints-in, none-print, none-print-in}
-use Rattle.cpp_direct.proofs.PrintedLocals.{function-encloses, object-enclosing}
+use Rattle.cpp_direct.proofs.PrintedLocals.{object-enclosing, returned-encloses}
 use Rattle.cpp_direct.proofs.PrintedNames.{as-name, source-prints}
-use Rattle.cpp_direct.proofs.PrintedSymbols.{encoding-plain, function-shows, made-void, made-with, object-encoded, parameters-kept, void-shows}
+use Rattle.cpp_direct.proofs.PrintedSymbols.{encoding-plain, function-shows, encoding-returned, object-encoded, parameters-kept, void-shows}
 use Rattle.cpp_direct.proofs.PrintedWithin.{lambda-prints, lambda-list-prints, local-prints}
-use Rattle.cpp_direct.proofs.Scopes.{none-scoped}
+use Rattle.cpp_direct.proofs.TypesRead.{builtin-listed, no-builtin}
+use Rattle.cpp_direct.proofs.MovesOfTypes.{builtin-comes}
+use Rattle.cpp_direct.proofs.Scopes.{argument-stays, enclosing-scoped, enclosing-stays, none-scoped}
 
 -- ## Names
 
@@ -47,8 +55,9 @@ use Rattle.cpp_direct.proofs.Scopes.{none-scoped}
 record NameOpened (s : List ℕ) (below : Below) (front : List ℕ) (at : ℕ) (st : State) : Type 0 where
   pub inner : List Opened
   pub awaits : Expects s Kind.CompleteName (in_name at) inner at st
-  pub onward : (v : Value) (here : ℕ) (now : State) → Comes s inner v here now
-      → ItemsGoOn s nowhere (TypeWithin s below front) (λ l. encoding_of v l) [] here now
+  pub onward : (text : List ℕ) (argument : Argument) (v : Value) (here : ℕ) (now : State)
+      → (argument.from ≤ argument.to → IsArgument text argument (tree_of v)) → Comes s inner v here now
+      → ItemsGoOn s argument (TypeWithin s below front) (λ l. encoding_of v l) [] here now
 
 name-opens : (s : List ℕ) (w : Direct) (a : AwaitsNamedType s w) → StandsAt s w.at (90 ∷ [])
     → NameOpened s (Stands s (reverse w.waiting.list.items)) w.text.list.items (w.at + 1) a.state
@@ -59,11 +68,11 @@ name-opens s w a letter =
     record {
       inner = encoding.inner;
       awaits = encoding.awaits;
-      onward = λ v at st comes. let items = encoding.onward v at st comes in record {
+      onward = λ text argument v at st names comes. let items = encoding.onward v at st comes in record {
         around = in_types (w.at + 1) (tree_of v);
         inner = items.inner;
         outside = refl;
-        scoped = λ o. absurd (omega (arith, o));
+        scoped = λ o. record { own = (names o).own; scope_is = (names o).alone; no_pack = (names o).prints.no_pack };
         awaits = items.awaits;
         onward = λ l there then_ last. (
           a.os,
@@ -83,14 +92,14 @@ name-opens s w a letter =
       };
     }
 
--- a nested one is expected, of a member function that is const or not
-pub nest-within : (s : List ℕ) (old : Direct) (n : ℕ) (const : Bool) → AwaitsNamedType s old → StandsAt s old.at (90 ∷ [])
-    → StandsAt s (old.at + 1) (nest_marks const) → n ≡ old.at + 1 + length (nest_marks const)
-    → AwaitsNest s (record old { at = n }) (purposes.Enclosing const)
-unfolding in_name
-nest-within s old n const a letter marks at_is =
+-- a nested one is expected, of a member function with these qualifiers
+nest-marked : (s : List ℕ) (old : Direct) (n : ℕ) (mark : Mark) → AwaitsNamedType s old → StandsAt s old.at (90 ∷ [])
+    → StandsAt s (old.at + 1) (nest_marks (has_const mark) (called_on mark)) → n ≡ old.at + 1 + length (nest_marks (has_const mark) (called_on mark))
+    → AwaitsNest s (record old { at = n }) (purposes.Enclosing mark)
+unfolding in_name tree_of
+nest-marked s old n mark a letter stands at_is =
     let e = name-opens s old a letter in
-    let nest = name-nested s e.inner (in_name (old.at + 1)) const (old.at + 1) a.state e.awaits marks in
+    let nest = name-nested s e.inner (in_name (old.at + 1)) (has_const mark) (called_on mark) (old.at + 1) a.state e.awaits stands in
     record {
       state = a.state;
       candidates = a.candidates;
@@ -98,29 +107,25 @@ nest-within s old n const a letter marks at_is =
       outside = refl;
       outer = nest.inner;
       awaits = subst (λ k. Expects s Kind.Nest (in_name (old.at + 1)) nest.inner k a.state) (sym at_is) nest.awaits;
-      serves = λ t listed at st comes. e.onward (named t (qualifiers const) any_value) at st (nest.onward t listed at st comes);
+      serves = λ text argument t listed at st names comes.
+          e.onward text argument (named t (qualifiers (has_const mark)) (called_on mark)) at st names (nest.onward t listed at st comes);
     }
 
--- of one that isn't const
-pub plain-within : (s : List ℕ) (old : Direct) (first n : ℕ) → AwaitsNamedType s old → StandsAt s old.at (90 ∷ []) → first ≡ old.at + 1
-    → StandsAt s first (78 ∷ []) → n ≡ first + 1 → AwaitsNest s (record old { at = n }) (purposes.Enclosing false)
-plain-within s old first n a letter next mark at_is =
-    nest-within s old n false a letter (subst (λ k. StandsAt s k (78 ∷ [])) next mark) (omega (arith, next, at_is))
-
--- and of one that is
-pub const-within : (s : List ℕ) (old : Direct) (first second n : ℕ) → AwaitsNamedType s old → StandsAt s old.at (90 ∷ []) → first ≡ old.at + 1
-    → StandsAt s first (78 ∷ []) → second ≡ first + 1 → StandsAt s second (75 ∷ []) → n ≡ second + 1
-    → AwaitsNest s (record old { at = n }) (purposes.Enclosing true)
-const-within s old first second n a letter next mark then_ marked at_is =
-    nest-within s old n true a letter
-    (stands-join s (old.at + 1) (78 ∷ []) (75 ∷ []) (subst (λ k. StandsAt s k (78 ∷ [])) next mark)
-    (subst (λ k. StandsAt s k (75 ∷ [])) (then_ ∙ ap (λ k. k + 1) next) marked)) (omega (arith, next, then_, at_is))
+-- behind an N, where they stand
+pub nest-within : (s : List ℕ) (old : Direct) (first second : ℕ) (place : MarkPlace) → AwaitsNamedType s old → StandsAt s old.at (90 ∷ [])
+    → first ≡ old.at + 1 → StandsAt s first (78 ∷ []) → second ≡ first + 1 → IsMarkPlace s second place
+    → AwaitsNest s (record old { at = place.end }) (purposes.Enclosing place.mark)
+nest-within s old first second place a letter next nested then_ is =
+    let letters = mark_letters (has_const place.mark) (called_on place.mark) in
+    nest-marked s old place.end place.mark a letter
+    (stands-join s (old.at + 1) (78 ∷ []) letters (subst (λ k. StandsAt s k (78 ∷ [])) next nested)
+    (subst (λ k. StandsAt s k letters) (then_ ∙ ap (λ k. k + 1) next) is.stands)) (omega (arith, next, then_, is.ends))
 
 -- one by itself is read
 pub source-within : (s : List ℕ) (old start new : Direct) (name : List ℕ) (from : ℕ) → AwaitsNamedType s old → StandsAt s old.at (90 ∷ [])
     → start.text ≡ old.text → start.candidates ≡ old.candidates → start.waiting ≡ old.waiting → start.at ≡ old.at + 1
     → IsNameAt s start.at name new.at → name ≢ [] → Reads start new (source_text name) → from ≡ length start.text.list.items
-    → IsEnclosingNamed s new false from
+    → IsEnclosingNamed s new marks.Plain from
 unfolding may_be_empty tree_of qualifiers_of ref_of has_return_type arguments_of in_name
 source-within s old start new name from a letter same_text same_candidates same_waiting at_is is filled reads from_is =
     let own = alone (source false name) in
@@ -146,23 +151,23 @@ source-within s old start new name from a letter same_text same_candidates same_
       no_return = refl;
       goes = subst (λ v. ItemsGoOn s nowhere (TypeWithin s (Stands s (reverse v.list.items)) front) (λ l. encoding_of (tree own false) l) [] new.at a.state)
           (sym (reads.waiting ∙ same_waiting))
-          (e.onward (tree own false) new.at a.state
+          (e.onward [] nowhere (tree own false) new.at a.state (λ o. absurd (omega (arith, o)))
           (named_.bare new.at a.state (expects-empty s Kind.MaybeArguments (after own false here) named_.inner new.at a.state named_.awaits refl)));
     }
 
 -- a nested one is read
-pub name-within : (s : List ℕ) (old : Direct) (st : State) (t : Term) (is_const : Bool)
+pub name-within : (s : List ℕ) (old : Direct) (st : State) (t : Term) (mark : Mark)
     → AreCandidates old.text.list.items old.candidates.list.items st.candidates → IsNesting s Kind.NestTail old t st
     → has_return_type t ≡ false → StandsAt s old.at (69 ∷ [])
-    → old.nest.purpose ≡ purposes.Enclosing is_const → IsEnclosingNamed s (record old { at = old.at + 1 }) is_const old.nest.from
+    → old.nest.purpose ≡ purposes.Enclosing mark → IsEnclosingNamed s (record old { at = old.at + 1 }) mark old.nest.from
 unfolding tree_of qualifiers_of ref_of
-name-within s old st t is_const candidates n no_return here is_name =
+name-within s old st t mark candidates n no_return here is_name =
     let serves = subst (λ p. Serves s p (Stands s (reverse old.waiting.list.items)) n.outer n.front) is_name n.serves in
     record {
       state = st;
       candidates = candidates;
       own = t;
-      v = named t (qualifiers is_const) any_value;
+      v = named t (qualifiers (has_const mark)) (called_on mark);
       tree_is = refl;
       qualifiers_are = refl;
       mark_is = refl;
@@ -172,29 +177,110 @@ name-within s old st t is_const candidates n no_return here is_name =
       from_is = n.is_nest.from_is;
       prints = as-name t n.bytes false n.is_nest.prints;
       no_return = no_return;
-      goes = serves t old.nest.is_listed (old.at + 1) st (nest-comes s old st t n here);
+      goes = serves [] nowhere t old.nest.is_listed (old.at + 1) st (λ o. absurd (omega (arith, o))) (nest-comes s old st t n here);
+    }
+
+-- an instance is read, whose return type is expected
+pub instance-within : (s : List ℕ) (old : Direct) (st : State) (t : Term) (mark : Mark)
+    → AreCandidates old.text.list.items old.candidates.list.items st.candidates → IsNesting s Kind.NestTail old t st
+    → has_return_type t ≡ true → (old.argument.from ≤ old.argument.to → IsArgument old.text.list.items old.argument t) → StandsAt s old.at (69 ∷ [])
+    → old.nest.purpose ≡ purposes.Enclosing mark → IsEnclosingInstance s (record old { at = old.at + 1 }) mark old.nest.from
+unfolding tree_of qualifiers_of ref_of
+instance-within s old st t mark candidates n returns names here is_name =
+    let serves = subst (λ p. Serves s p (Stands s (reverse old.waiting.list.items)) n.outer n.front) is_name n.serves in
+    record {
+      state = st;
+      candidates = candidates;
+      own = t;
+      v = named t (qualifiers (has_const mark)) (called_on mark);
+      tree_is = refl;
+      qualifiers_are = refl;
+      mark_is = refl;
+      front = n.front;
+      name = n.bytes;
+      written = n.written;
+      from_is = n.is_nest.from_is;
+      prints = as-name t n.bytes false n.is_nest.prints;
+      returns = returns;
+      names = names;
+      goes = serves old.text.list.items old.argument t old.nest.is_listed (old.at + 1) st names (nest-comes s old st t n here);
     }
 
 -- ## Parameters
 
+-- a function without a return type awaits its parameters
+pub plain-awaits : (s : List ℕ) (w : Direct) (mark : Mark) (from : ℕ) → IsEnclosingNamed s w mark from → AwaitsEnclosingParameters s w mark from nowhere
+plain-awaits s w mark from p = record {
+  state = p.state;
+  candidates = p.candidates;
+  make = λ l. encoding_of p.v l;
+  front = p.front;
+  name = p.name;
+  is_enclosing = record {
+    own = p.own;
+    returned = absent;
+    makes = encoding-plain p.v mark p.own p.tree_is p.qualifiers_are p.mark_is p.no_return;
+    prints = p.prints;
+    elements = none-print-in (types_of p.own) 6;
+    names = λ o. absurd (omega (arith, o));
+  };
+  written = p.written;
+  from_is = p.from_is;
+  goes = p.goes;
+}
+
+-- and so does one behind its return type, which is a builtin one
+pub returned-awaits : (s : List ℕ) (w : Direct) (n : ℕ) (mark : Mark) (from letter : ℕ) → IsEnclosingInstance s w mark from
+    → look_up (letter ∷ []) builtin_texts ≢ [] → (letter ≢ 0 → StandsAt s w.at (letter ∷ [])) → n ≡ w.at + 1
+    → AwaitsEnclosingParameters s (record w { at = n }) mark from w.argument
+returned-awaits s w n mark from letter p has stands at_is =
+    let r = builtin (letter ∷ []) in
+    let make : Term → Term = λ l. encoding_of p.v l in
+    let becomes : Term → ℕ → State → Type 0 = TypeWithin s (Stands s (reverse w.waiting.list.items)) p.front in
+    let listed = builtin-listed letter has in
+    let element = element-awaits s Kind.Items p.goes.inner p.goes.around w.at p.state tt p.goes.awaits in
+    let goes = parameter-goes_on s w.argument becomes make [] w.at p.state p.goes r (w.at + 1) p.state
+    (element.onward r (w.at + 1) p.state
+    (builtin-comes s Kind.Item p.goes.around element.inner w.at p.state letter tt listed element.awaits (stands (no-builtin letter listed)))) in
+    record {
+      state = p.state;
+      candidates = p.candidates;
+      make = λ l. make (list r l);
+      front = p.front;
+      name = p.name;
+      is_enclosing = record {
+        own = p.own;
+        returned = r;
+        makes = λ t rest. encoding-returned p.v mark p.own p.tree_is p.qualifiers_are p.mark_is p.returns r (list t rest);
+        prints = p.prints;
+        elements = none-print-in (types_of p.own) 6;
+        names = p.names;
+      };
+      written = p.written;
+      from_is = p.from_is;
+      goes = subst (λ k. ItemsGoOn s w.argument becomes (λ l. make (list r l)) [] k p.state) (sym at_is)
+          (record { around = goes.around; inner = goes.inner; outside = goes.outside; scoped = goes.scoped; awaits = goes.awaits; onward = goes.onward });
+    }
+
 -- a parameter comes next
-parameter-expected : (s : List ℕ) (w : Direct) (st : State) (is_const : Bool) (from : ℕ) (rest : List Open) (front : List ℕ) (make : Term → Term)
-    (ts : List Term) (name texts : List ℕ)
-    → AreCandidates w.text.list.items w.candidates.list.items st.candidates → reverse w.waiting.list.items ≡ opens.Enclosing is_const from ∷ rest
-    → IsFunction [] nowhere is_const make ts name texts → from ≡ length front → w.text.list.items ≡ front ++ name ++ codes "(" ++ in_front_of_next ts texts
-    → ItemsGoOn s nowhere (TypeWithin s (Stands s rest) front) make ts w.at st → IsWriting s w steps.Type
-parameter-expected s w st is_const from rest front make ts name texts candidates open_is is_function from_is written p =
+parameter-expected : (s : List ℕ) (w : Direct) (st : State) (mark : Mark) (from : ℕ) (argument : Argument) (rest : List Open) (front : List ℕ)
+    (make : Term → Term) (ts : List Term) (name texts : List ℕ)
+    → AreCandidates w.text.list.items w.candidates.list.items st.candidates → reverse w.waiting.list.items ≡ opens.Enclosing mark from argument ∷ rest
+    → IsEnclosing w.text.list.items argument mark make ts name texts → from ≡ length front
+    → w.text.list.items ≡ front ++ name ++ codes "(" ++ in_front_of_next ts texts
+    → ItemsGoOn s argument (TypeWithin s (Stands s rest) front) make ts w.at st → IsWriting s w steps.Type
+parameter-expected s w st mark from argument rest front make ts name texts candidates open_is is_enclosing from_is written p =
     let element = element-awaits s Kind.Items p.inner p.around w.at st tt p.awaits in
-    let stands : Stands s (opens.Enclosing is_const from ∷ rest) element.inner w.text.list.items = (
+    let stands : Stands s (opens.Enclosing mark from argument ∷ rest) element.inner w.text.list.items = (
       front,
       make,
       ts,
       name,
       texts,
-      is_function,
+      is_enclosing,
       from_is,
       written,
-      λ t here now comes. parameter-goes_on s nowhere (TypeWithin s (Stands s rest) front) make ts w.at st p t here now (element.onward t here now comes),
+      λ t here now comes. parameter-goes_on s argument (TypeWithin s (Stands s rest) front) make ts w.at st p t here now (element.onward t here now comes),
     ) in
     record {
       state = st;
@@ -205,89 +291,95 @@ parameter-expected s w st is_const from rest front make ts name texts candidates
         p.outside,
         inr (inl element.awaits),
         subst (λ os. Stands s os element.inner w.text.list.items) (sym open_is) stands,
-        subst (λ os. IsScoped p.around os) (sym open_is) (none-scoped p.around (opens.Enclosing is_const from ∷ rest) refl),
+        subst (λ os. IsScoped p.around os) (sym open_is) (enclosing-scoped p.around mark from argument rest p.scoped),
       );
     }
 
 -- the first one comes next
-pub first-within : (s : List ℕ) (w first last : Direct) (is_const : Bool) (from : ℕ) → IsEnclosingNamed s w is_const from → Writes w first (codes "(")
-    → last.text ≡ first.text → last.candidates ≡ first.candidates → last.at ≡ first.at
-    → last.waiting.list.items ≡ first.waiting.list.items ++ opens.Enclosing is_const from ∷ [] → IsWriting s last steps.Type
-first-within s w first last is_const from p one text candidates at waiting =
+pub first-within : (s : List ℕ) (w first last : Direct) (mark : Mark) (from : ℕ) (argument : Argument) → AwaitsEnclosingParameters s w mark from argument
+    → Writes w first (codes "(") → last.text ≡ first.text → last.candidates ≡ first.candidates → last.at ≡ first.at
+    → last.waiting.list.items ≡ first.waiting.list.items ++ opens.Enclosing mark from argument ∷ [] → IsWriting s last steps.Type
+first-within s w first last mark from argument p one text candidates at waiting =
     let known = candidates-written w first (codes "(") p.state.candidates one p.candidates in
     let moved : AreCandidates last.text.list.items last.candidates.list.items p.state.candidates =
     subst (λ l. AreCandidates l.list.items last.candidates.list.items p.state.candidates) (sym text)
     (subst (λ l. AreCandidates first.text.list.items l.list.items p.state.candidates) (sym candidates) known) in
-    let make : Term → Term = λ l. encoding_of p.v l in
-    let is_function : IsFunction [] nowhere is_const make [] p.name [] = record {
-      own = p.own;
-      makes = encoding-plain p.v is_const p.own p.tree_is p.qualifiers_are p.mark_is p.no_return;
-      prints = p.prints;
-      elements = none-print-in (types_of p.own) 6;
-      names = λ o. absurd (omega (arith, o));
-    } in
-    parameter-expected s last p.state is_const from (reverse w.waiting.list.items) p.front make [] p.name [] moved
-    (ap reverse waiting ∙ reverse-last first.waiting.list.items (opens.Enclosing is_const from)
-    ∙ ap (λ v. opens.Enclosing is_const from ∷ reverse v.list.items) one.waiting) is_function p.from_is
-    (ap (λ l. l.list.items) text ∙ one.text ∙ ap (λ l. l ++ codes "(") p.written ∙ sym (append-nil (p.front ++ p.name ++ codes "(")))
-    (subst (λ n. ItemsGoOn s nowhere (TypeWithin s (Stands s (reverse w.waiting.list.items)) p.front) make [] n p.state) (sym (at ∙ one.at)) p.goes)
+    let grown : last.text.list.items ≡ w.text.list.items ++ codes "(" = ap (λ l. l.list.items) text ∙ one.text in
+    parameter-expected s last p.state mark from argument (reverse w.waiting.list.items) p.front p.make [] p.name [] moved
+    (ap reverse waiting ∙ reverse-last first.waiting.list.items (opens.Enclosing mark from argument)
+    ∙ ap (λ v. opens.Enclosing mark from argument ∷ reverse v.list.items) one.waiting)
+    (subst (λ l. IsEnclosing l argument mark p.make [] p.name []) (sym grown)
+    (enclosing-stays w.text.list.items (codes "(") argument mark p.make [] p.name [] p.is_enclosing)) p.from_is
+    (grown ∙ ap (λ l. l ++ codes "(") p.written ∙ sym (append-nil (p.front ++ p.name ++ codes "(")))
+    (subst (λ n. ItemsGoOn s argument (TypeWithin s (Stands s (reverse w.waiting.list.items)) p.front) p.make [] n p.state) (sym (at ∙ one.at)) p.goes)
 
 -- another one comes next
-pub next-within : (s : List ℕ) (w last : Direct) (is_const : Bool) (from : ℕ) → IsEnclosingParameterRead s w is_const from → Writes w last (codes ", ")
-    → IsWriting s last steps.Type
-next-within s w last is_const from p one =
+pub next-within : (s : List ℕ) (w last : Direct) (mark : Mark) (from : ℕ) (argument : Argument) → IsEnclosingParameterRead s w mark from argument
+    → Writes w last (codes ", ") → IsWriting s last steps.Type
+next-within s w last mark from argument p one =
     let front = p.front ++ p.name ++ codes "(" in
-    parameter-expected s last p.state is_const from p.rest p.front p.make p.ts p.name p.texts
+    parameter-expected s last p.state mark from argument p.rest p.front p.make p.ts p.name p.texts
     (candidates-written w last (codes ", ") p.state.candidates one p.candidates)
-    (ap (λ l. reverse l.list.items) one.waiting ∙ p.open_is) p.is_function p.from_is
+    (ap (λ l. reverse l.list.items) one.waiting ∙ p.open_is)
+    (subst (λ l. IsEnclosing l argument mark p.make p.ts p.name p.texts) (sym one.text)
+    (enclosing-stays w.text.list.items (codes ", ") argument mark p.make p.ts p.name p.texts p.is_enclosing)) p.from_is
     (one.text ∙ ap (λ l. l ++ codes ", ") p.written ∙ append_assoc front p.texts (codes ", ")
     ∙ ap (λ l. front ++ l) (sym (next-written p.ts p.texts p.some)))
-    (subst (λ n. ItemsGoOn s nowhere (TypeWithin s (Stands s p.rest) p.front) p.make p.ts n p.state) (sym one.at) p.goes)
+    (subst (λ n. ItemsGoOn s argument (TypeWithin s (Stands s p.rest) p.front) p.make p.ts n p.state) (sym one.at) p.goes)
 
 -- one is read
-pub parameter-read-within : (s : List ℕ) (w : Direct) (is_const : Bool) (from : ℕ) → IsElementRead s w (opens.Enclosing is_const from)
-    → IsEnclosingParameterRead s w is_const from
-parameter-read-within s w is_const from p =
-    let waits = p.stands in
+pub parameter-got-within : (s : List ℕ) (w : Direct) (mark : Mark) (from : ℕ) (argument : Argument) (st : State) (rest : List Open) (os : List Opened)
+    (t : Term) (before bytes : List ℕ) (waits : Stands s (opens.Enclosing mark from argument ∷ rest) os before)
+    → AreCandidates w.text.list.items w.candidates.list.items st.candidates → reverse w.waiting.list.items ≡ opens.Enclosing mark from argument ∷ rest
+    → w.text.list.items ≡ before ++ bytes → Comes s os (tree t true) w.at st → IsElementIn (types_of waits.5.own) 6 t bytes
+    → IsEnclosingParameterRead s w mark from argument
+parameter-got-within s w mark from argument st rest os t before bytes waits candidates open_is written comes element =
     let front = waits.0 in
     let ts = waits.2 in
     let name = waits.3 in
     let texts = waits.4 in
-    let is_function = waits.5 in
+    let is_enclosing = waits.5 in
     record {
-      state = p.state;
-      candidates = p.candidates;
-      rest = p.rest;
-      open_is = p.open_is;
+      state = st;
+      candidates = candidates;
+      rest = rest;
+      open_is = open_is;
       make = waits.1;
-      ts = ts ++ p.own ∷ [];
-      some = some-elements ts p.own;
+      ts = ts ++ t ∷ [];
+      some = some-elements ts t;
       front = front;
       name = name;
-      texts = in_front_of_next ts texts ++ p.bytes;
-      is_function = record {
-        own = is_function.own;
-        makes = is_function.makes;
-        prints = is_function.prints;
-        elements = next-prints-in (types_of is_function.own) 6 ts texts p.own p.bytes is_function.elements
-            (element-in (types_of is_function.own) 6 p.own p.bytes (p.element 6));
-        names = is_function.names;
+      texts = in_front_of_next ts texts ++ bytes;
+      is_enclosing = record {
+        own = is_enclosing.own;
+        returned = is_enclosing.returned;
+        makes = is_enclosing.makes;
+        prints = is_enclosing.prints;
+        elements = next-prints-in (types_of is_enclosing.own) 6 ts texts t bytes is_enclosing.elements element;
+        names = λ o. subst (λ l. IsArgument l argument is_enclosing.own) (sym written)
+            (argument-stays before bytes argument is_enclosing.own (is_enclosing.names o));
       };
       from_is = waits.6;
-      written = p.written ∙ ap (λ l. l ++ p.bytes) waits.7 ∙ append_assoc (front ++ name ++ codes "(") (in_front_of_next ts texts) p.bytes;
-      goes = waits.8 p.own w.at p.state p.comes;
+      written = written ∙ ap (λ l. l ++ bytes) waits.7 ∙ append_assoc (front ++ name ++ codes "(") (in_front_of_next ts texts) bytes;
+      goes = waits.8 t w.at st comes;
     }
+
+pub parameter-read-within : (s : List ℕ) (w : Direct) (mark : Mark) (from : ℕ) (argument : Argument)
+    → IsElementRead s w (opens.Enclosing mark from argument) → IsEnclosingParameterRead s w mark from argument
+parameter-read-within s w mark from argument p =
+    parameter-got-within s w mark from argument p.state p.rest p.os p.own p.front p.bytes p.stands p.candidates p.open_is p.written p.comes
+    (element-in (types_of p.stands.5.own) 6 p.own p.bytes (p.element 6))
 
 -- ## Ends
 
 -- a name without items is read
-pub object-within : (s : List ℕ) (w : Direct) (is_const : Bool) (from : ℕ) → IsEnclosingNamed s w is_const from → IsEnclosingRead s w is_const from
+pub object-within : (s : List ℕ) (w : Direct) (mark : Mark) (from : ℕ) → IsEnclosingNamed s w mark from → IsEnclosingRead s w mark from
 unfolding no_items may_be_empty
-object-within s w is_const from p =
+object-within s w mark from p =
     let b = p.name in
-    let q = const_text is_const in
+    let q = mark_text mark in
     let shows : Shows (encoding_of p.v nil) (b ++ q) =
-    subst (λ l. Shows (encoding_of p.v nil) (b ++ l)) (qualifiers-text p.v is_const p.qualifiers_are p.mark_is)
+    subst (λ l. Shows (encoding_of p.v nil) (b ++ l)) (qualifiers-text p.v mark p.qualifiers_are p.mark_is)
     (object-encoded p.v b (subst (λ t. PrintsName t b) (sym p.tree_is) p.prints)) in
     record {
       state = p.state;
@@ -301,20 +393,36 @@ object-within s w is_const from p =
       within = p.goes.onward nothing_there w.at p.state (expects-empty s Kind.Items p.goes.around p.goes.inner w.at p.state p.goes.awaits refl);
     }
 
+-- a lone void makes a function without parameters
+enclosed-void : (own returned : Term) (mark : Mark) (make : Term → Term)
+    → ((t rest : Term) → make (list t rest) ≡ function own (qualifiers (has_const mark)) (called_on mark) returned (parameters (list t rest)))
+    → make (list_of (builtin (118 ∷ []) ∷ [])) ≡ function own (qualifiers (has_const mark)) (called_on mark) returned nil
+unfolding parameters is_void is_nil
+enclosed-void own returned mark make makes = makes (builtin (118 ∷ [])) nil
+
+-- parameters that aren't a lone void are those of the function that they make
+enclosed-with : (own returned : Term) (mark : Mark) (make : Term → Term)
+    → ((t rest : Term) → make (list t rest) ≡ function own (qualifiers (has_const mark)) (called_on mark) returned (parameters (list t rest)))
+    → (ts : List Term) → ts ≢ [] → parameters (list_of ts) ≡ list_of ts
+    → make (list_of ts) ≡ function own (qualifiers (has_const mark)) (called_on mark) returned (list_of ts)
+enclosed-with own returned mark make makes [] some kept = absurd (some refl)
+enclosed-with own returned mark make makes (t ∷ ts) some kept =
+    makes t (list_of ts) ∙ ap (function own (qualifiers (has_const mark)) (called_on mark) returned) kept
+
 -- a function with a lone void is read
-pub void-within : (s : List ℕ) (w here new : Direct) (is_const : Bool) (from : ℕ) → IsEnclosingNamed s w is_const from → StandsAt s w.at (118 ∷ [])
+pub void-within : (s : List ℕ) (w here new : Direct) (mark : Mark) (from : ℕ) (argument : Argument) → AwaitsEnclosingParameters s w mark from argument
+    → StandsAt s w.at (118 ∷ [])
     → here.text ≡ w.text → here.candidates ≡ w.candidates → here.waiting ≡ w.waiting → here.at ≡ w.at + 1 → Writes here new (codes "()")
-    → IsEnclosingRead s new is_const from
-void-within s w here new is_const from p stands text candidates waiting at one =
+    → IsEnclosingRead s new mark from
+void-within s w here new mark from argument p stands text candidates waiting at one =
+    let f = p.is_enclosing in
     let b = p.name in
-    let q = const_text is_const in
-    let make : Term → Term = λ l. encoding_of p.v l in
-    let e = make (list_of (builtin (118 ∷ []) ∷ [])) in
-    let made = function p.own (qualifiers is_const) any_value absent nil in
-    let is : e ≡ made = made-void is_const p.own make (encoding-plain p.v is_const p.own p.tree_is p.qualifiers_are p.mark_is p.no_return) in
+    let q = mark_text mark in
+    let e = p.make (list_of (builtin (118 ∷ []) ∷ [])) in
     let below = Stands s (reverse w.waiting.list.items) in
-    let shows : Shows made (b ++ codes "()" ++ q) =
-    subst (λ l. Shows made (b ++ codes "()" ++ l)) (plain-text is_const) (void-shows p.own b p.prints (qualifiers is_const) any_value) in
+    let shows : Shows (function f.own (qualifiers (has_const mark)) (called_on mark) absent nil) (b ++ codes "()" ++ q) =
+    subst (λ l. Shows (function f.own (qualifiers (has_const mark)) (called_on mark) absent nil) (b ++ codes "()" ++ l)) (plain-text mark)
+    (void-shows f.own b f.prints (qualifiers (has_const mark)) (called_on mark)) in
     record {
       state = p.state;
       candidates = candidates-written here new (codes "()") p.state.candidates one
@@ -326,32 +434,34 @@ void-within s w here new is_const from p stands text candidates waiting at one =
       written = ap (λ l. l ++ q) (one.text ∙ ap (λ v. v.list.items ++ codes "()") text ∙ ap (λ l. l ++ codes "()") p.written)
           ∙ behind-three p.front b (codes "()") q;
       from_is = p.from_is;
-      encloses = subst (λ t. Encloses t (b ++ codes "()" ++ q)) (sym is)
-          (function-encloses p.own (qualifiers is_const) any_value nil (b ++ codes "()" ++ q) shows);
+      encloses = subst (λ t. Encloses t (b ++ codes "()" ++ q)) (sym (enclosed-void f.own f.returned mark p.make f.makes))
+          (returned-encloses f.own (qualifiers (has_const mark)) (called_on mark) f.returned nil (b ++ codes "()" ++ q) shows);
       within = subst (λ v. TypeWithin s (Stands s (reverse v.list.items)) p.front e new.at p.state) (sym (one.waiting ∙ waiting))
-          (subst (λ n. TypeWithin s below p.front e n p.state) (sym (one.at ∙ at)) (void-read s nowhere (TypeWithin s below p.front) make w.at p.state p.goes stands));
+          (subst (λ n. TypeWithin s below p.front e n p.state) (sym (one.at ∙ at))
+          (void-read s argument (TypeWithin s below p.front) p.make w.at p.state p.goes stands));
     }
 
 -- a function with its parameters is read, unless they are a lone void
-pub function-within : (s : List ℕ) (w last new : Direct) (is_const : Bool) (from : ℕ) (p : IsEnclosingParameterRead s w is_const from)
+pub function-within : (s : List ℕ) (w last new : Direct) (mark : Mark) (from : ℕ) (argument : Argument) (p : IsEnclosingParameterRead s w mark from argument)
     → p.texts ≢ codes "void" → Writes w last (codes ")") → new.text ≡ last.text → new.candidates ≡ last.candidates → new.at ≡ last.at
-    → reverse new.waiting.list.items ≡ p.rest → IsEnclosingRead s new is_const from
+    → reverse new.waiting.list.items ≡ p.rest → IsEnclosingRead s new mark from
 unfolding no_items may_be_empty
-function-within s w last new is_const from p apart one text candidates at waits =
-    let f = p.is_function in
+function-within s w last new mark from argument p apart one text candidates at waits =
+    let f = p.is_enclosing in
     let e = p.make (list_of p.ts) in
     let b = p.name in
     let l = p.texts in
-    let q = const_text is_const in
-    let made = function f.own (qualifiers is_const) any_value absent (list_of p.ts) in
-    let is : e ≡ made = made-with is_const f.own p.make f.makes p.ts p.some (parameters-kept (types_of f.own) 6 p.ts l f.elements apart) in
+    let q = mark_text mark in
+    let made = function f.own (qualifiers (has_const mark)) (called_on mark) f.returned (list_of p.ts) in
+    let is : e ≡ made = enclosed-with f.own f.returned mark p.make f.makes p.ts p.some (parameters-kept (types_of f.own) 6 p.ts l f.elements apart) in
     let below = Stands s p.rest in
     let within_ : TypeWithin s below p.front e w.at p.state = subst (λ u. TypeWithin s below p.front (p.make u) w.at p.state) (list-ends p.ts)
     (p.goes.onward nothing_there w.at p.state (expects-empty s Kind.Items p.goes.around p.goes.inner w.at p.state p.goes.awaits refl)) in
     let known = candidates-written w last (codes ")") p.state.candidates one p.candidates in
-    let shows : Shows made (b ++ codes "(" ++ l ++ codes ")" ++ q) =
-    subst (λ x. Shows made (b ++ codes "(" ++ l ++ codes ")" ++ x)) (plain-text is_const)
-    (function-shows f.own b f.prints p.ts l f.elements (qualifiers is_const) any_value) in
+    let shows : Shows (function f.own (qualifiers (has_const mark)) (called_on mark) absent (list_of p.ts)) (b ++ codes "(" ++ l ++ codes ")" ++ q) =
+    subst (λ x. Shows (function f.own (qualifiers (has_const mark)) (called_on mark) absent (list_of p.ts)) (b ++ codes "(" ++ l ++ codes ")" ++ x))
+    (plain-text mark)
+    (function-shows f.own b f.prints p.ts l f.elements (qualifiers (has_const mark)) (called_on mark)) in
     record {
       state = p.state;
       candidates = subst (λ v. AreCandidates v.list.items new.candidates.list.items p.state.candidates) (sym text)
@@ -363,15 +473,17 @@ function-within s w last new is_const from p apart one text candidates at waits 
           ∙ behind-five p.front b (codes "(") l (codes ")") q;
       from_is = p.from_is;
       encloses = subst (λ t. Encloses t (b ++ codes "(" ++ l ++ codes ")" ++ q)) (sym is)
-          (function-encloses f.own (qualifiers is_const) any_value (list_of p.ts) (b ++ codes "(" ++ l ++ codes ")" ++ q) shows);
+          (returned-encloses f.own (qualifiers (has_const mark)) (called_on mark) f.returned (list_of p.ts) (b ++ codes "(" ++ l ++ codes ")" ++ q) shows);
       within = subst (λ ws. TypeWithin s (Stands s ws) p.front e new.at p.state) (sym waits)
           (subst (λ n. TypeWithin s below p.front e n p.state) (sym (at ∙ one.at)) within_);
     }
 
-const-written : (s : List ℕ) (old new : Direct) (from : ℕ) → IsEnclosingRead s old true from → Writes old new (codes " const") → IsEnclosingRead s new false from
-const-written s old new from p writes = record {
+-- its qualifiers are written
+pub marks-written-within : (s : List ℕ) (old new : Direct) (mark : Mark) (from : ℕ) → IsEnclosingRead s old mark from → Writes old new (mark_text mark)
+    → IsEnclosingRead s new marks.Plain from
+marks-written-within s old new mark from p writes = record {
   state = p.state;
-  candidates = candidates-written old new (codes " const") p.state.candidates writes p.candidates;
+  candidates = candidates-written old new (mark_text mark) p.state.candidates writes p.candidates;
   e = p.e;
   front = p.front;
   bytes = p.bytes;
@@ -381,15 +493,6 @@ const-written s old new from p writes = record {
   within = subst (λ v. TypeWithin s (Stands s (reverse v.list.items)) p.front p.e new.at p.state) (sym writes.waiting)
       (subst (λ n. TypeWithin s (Stands s (reverse old.waiting.list.items)) p.front p.e n p.state) (sym writes.at) p.within);
 }
-
--- one that is const, with its qualifier
-pub const-added-within : (s : List ℕ) (old new : Direct) (is_const : Bool) (from : ℕ) → IsEnclosingRead s old is_const from → is_const ≡ true
-    → Writes old new (codes " const") → IsEnclosingRead s new false from
-const-added-within s old new is_const from p e writes = const-written s old new from (subst (λ b. IsEnclosingRead s old b from) e p) writes
-
--- one without
-pub const-kept-within : (s : List ℕ) (w : Direct) (is_const : Bool) (from : ℕ) → IsEnclosingRead s w is_const from → is_const ≡ false → IsEnclosingRead s w false from
-const-kept-within s w is_const from p e = subst (λ b. IsEnclosingRead s w b from) e p
 
 -- ## Lambdas
 

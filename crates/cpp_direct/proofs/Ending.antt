@@ -6,22 +6,25 @@ use Rattle.std.proofs.lemmas.Bool.{false≢true}
 use Rattle.std.proofs.lemmas.List.{length-append, length-drop, take_rest}
 use Rattle.std.proofs.Math.Seq.{drop-append_seam}
 use Rattle.cpp_grammar.specs.declared.kind.Kind.{Kind}
-use Rattle.cpp_grammar.specs.Term.{Term, any_value, symbol, function, nil, list, builtin, absent}
+use Rattle.cpp_grammar.specs.Term.{Term, symbol, function, nil, list, builtin, absent}
 use Rattle.cpp_grammar.specs.Grammar.{may_be_empty, among}
-use Rattle.cpp_grammar.specs.Parts.{encoding_text, types_of}
+use Rattle.cpp_grammar.specs.Parts.{encoding_text, qualifier_text, ref_text, types_of}
 use Rattle.cpp_grammar.specs.Between.{no_items}
 use Rattle.cpp_grammar.specs.Meaning.{encoding_of}
 use Rattle.cpp_grammar.specs.Values.{State, Value, nothing_there, tree, tree_of, qualifiers_of, ref_of}
 use Rattle.cpp_direct.specs.declared.open.Argument.{Argument}
+use Rattle.cpp_direct.specs.declared.open.Mark.{Mark}
+use Rattle.cpp_direct.specs.declared.open.Mark.TheVariants as marks
 use Rattle.cpp_direct.specs.declared.open.Open.TheVariants as opens
 use Rattle.cpp_direct.specs.declared.open.Step.TheVariants as steps
 use Rattle.cpp_direct.specs.declared.direct.Direct.{Direct}
 use Rattle.cpp_direct.specs.Bytes.{is_builtin, is_local}
 use Rattle.cpp_direct.specs.Holes.{StandsAt, ListGoesOn}
 use Rattle.cpp_direct.specs.HolesOfLists.{IsSuffix}
+use Rattle.cpp_direct.specs.Marks.{has_const, called_on, mark_text}
 use Rattle.cpp_direct.specs.Prints.{PrintsName, Shows, Encloses, list_of}
 use Rattle.cpp_direct.specs.Stands.{AreCandidates, AwaitsItems, Encoded, EndsBehind, EncodedBehind, IsWhole, IsWriting, IsFunction, IsScope, IsScoped, ItemsGoOn, ParametersGoOn, Stands, nowhere, qualifiers, list_with, in_front_of_next}
-use Rattle.cpp_direct.specs.Ways.{AwaitsNextParameter, IsNameEnded, AwaitsParameters, IsParameterEnded, IsEncodingEnded, IsSymbolEnded, const_text}
+use Rattle.cpp_direct.specs.Ways.{AwaitsNextParameter, IsNameEnded, AwaitsParameters, IsParameterEnded, IsEncodingEnded, IsSymbolEnded}
 use Rattle.cpp_direct.specs.Written.{Writes, Cuts}
 use Rattle.cpp_direct.proofs.Kept.{candidates-written, reverse-last}
 use Rattle.cpp_direct.proofs.Moves.{expects-empty}
@@ -30,7 +33,7 @@ use Rattle.cpp_direct.proofs.MovesOfTypes.{builtin-comes}
 use Rattle.cpp_direct.proofs.PrintedLists.{none-print-in}
 use Rattle.cpp_direct.proofs.PrintedLocals.{object-enclosing, function-encloses}
 use Rattle.cpp_direct.proofs.Scopes.{function-stays, parameters-scoped}
-use Rattle.cpp_direct.proofs.PrintedSymbols.{function-shows, void-shows, object-encoded, encoding-plain, made-with, made-void, const-text, symbol-text, symbol-cost, suffix-text, suffix-cost, parameters-kept}
+use Rattle.cpp_direct.proofs.PrintedSymbols.{function-shows, void-shows, object-encoded, encoding-plain, made-with, made-void, symbol-text, symbol-cost, suffix-text, suffix-cost, parameters-kept}
 
 -- ## The end
 
@@ -61,11 +64,12 @@ rest-stands s suffix at inside is =
     let same : suffix ≡ drop at s = is ∙ take_rest s at in
     (([], sym same ∙ sym (append-nil suffix)), omega (arith, inside, ap length same, length-drop at s))
 
--- an encoding whose qualifier is written
-const-written : (s : List ℕ) (old new : Direct) → IsEncodingEnded s old true → Writes old new (codes " const") → IsEncodingEnded s new false
-const-written s old new p writes = record {
+-- an encoding whose qualifiers are written
+pub marks-written : (s : List ℕ) (old new : Direct) (mark : Mark) → IsEncodingEnded s old mark → Writes old new (mark_text mark)
+    → IsEncodingEnded s new marks.Plain
+marks-written s old new mark p writes = record {
   state = p.state;
-  candidates = candidates-written old new (codes " const") p.state.candidates writes p.candidates;
+  candidates = candidates-written old new (mark_text mark) p.state.candidates writes p.candidates;
   e = p.e;
   lead = p.lead;
   bytes = p.bytes;
@@ -75,17 +79,8 @@ const-written s old new p writes = record {
   behind = subst (λ n. EncodedBehind s p.lead p.e n) (sym writes.at) p.behind;
 }
 
--- an encoding without a qualifier
-pub const-kept : (s : List ℕ) (w : Direct) (is_const : Bool) → IsEncodingEnded s w is_const → is_const ≡ false → IsEncodingEnded s w false
-const-kept s w is_const p e = subst (λ b. IsEncodingEnded s w b) e p
-
--- an encoding that is const, with its qualifier
-pub const-added : (s : List ℕ) (old new : Direct) (is_const : Bool) → IsEncodingEnded s old is_const → is_const ≡ true
-    → Writes old new (codes " const") → IsEncodingEnded s new false
-const-added s old new is_const p e writes = const-written s old new (subst (λ b. IsEncodingEnded s old b) e p) writes
-
 -- an encoding in which no entity stands ends the symbol
-pub symbol-ended : (s : List ℕ) (w : Direct) → IsEncodingEnded s w false → is_local s ≡ false → IsSymbolEnded s w
+pub symbol-ended : (s : List ℕ) (w : Direct) → IsEncodingEnded s w marks.Plain → is_local s ≡ false → IsSymbolEnded s w
 symbol-ended s w p apart =
     let behind : EndsBehind s p.lead p.e w.at = p.behind.whole apart in
     record {
@@ -127,10 +122,18 @@ ends-suffixed s suffix w first second last p inside is is_suffix one two three =
 -- ## Names
 
 -- what stands behind an encoding with these qualifiers
-pub qualifiers-text : (v : Value) (is_const : Bool) → qualifiers_of v ≡ qualifiers is_const → ref_of v ≡ any_value
-    → encoding_text (qualifiers_of v) (ref_of v) ≡ const_text is_const
-qualifiers-text v true e f = rw (e, f) (const-text true)
-qualifiers-text v false e f = rw (e, f) (const-text false)
+pub plain-text : (mark : Mark) → encoding_text (qualifiers (has_const mark)) (called_on mark) ≡ mark_text mark
+unfolding encoding_text qualifier_text ref_text
+plain-text marks.Plain = refl
+plain-text marks.Const = refl
+plain-text marks.Lvalue = refl
+plain-text marks.ConstLvalue = refl
+plain-text marks.Rvalue = refl
+plain-text marks.ConstRvalue = refl
+
+pub qualifiers-text : (v : Value) (mark : Mark) → qualifiers_of v ≡ qualifiers (has_const mark) → ref_of v ≡ called_on mark
+    → encoding_text (qualifiers_of v) (ref_of v) ≡ mark_text mark
+qualifiers-text v mark e f = rw (e, f) (plain-text mark)
 
 -- what stands behind a text is written in two or more pieces
 pub behind-two : (lead a q : List ℕ) → lead ++ a ++ q ≡ lead ++ (a ++ q)
@@ -144,16 +147,16 @@ behind-five lead a b c d q =
     ap (λ l. l ++ d ++ q) (behind-three lead a b c) ∙ ap (λ l. l ++ q) (append_assoc lead (a ++ b ++ c) d) ∙ append_assoc lead (a ++ b ++ c ++ d) q
 
 -- a name without items is an encoding
-pub object-ended : (s : List ℕ) (w : Direct) (is_const is_instance : Bool) (from : ℕ) → IsNameEnded s w is_const is_instance from
-    → IsEncodingEnded s w is_const
+pub object-ended : (s : List ℕ) (w : Direct) (mark : Mark) (is_instance : Bool) (from : ℕ) → IsNameEnded s w mark is_instance from
+    → IsEncodingEnded s w mark
 unfolding no_items may_be_empty
-object-ended s w is_const is_instance from p =
+object-ended s w mark is_instance from p =
     let b = p.name in
-    let q = const_text is_const in
+    let q = mark_text mark in
     let behind : EncodedBehind s p.lead (encoding_of p.v nil) w.at = p.awaits.onward nothing_there w.at p.state
     (expects-empty s Kind.Items p.awaits.around p.awaits.inner w.at p.state p.awaits.awaits refl) in
     let shows : Shows (encoding_of p.v nil) (b ++ q) =
-    subst (λ l. Shows (encoding_of p.v nil) (b ++ l)) (qualifiers-text p.v is_const p.qualifiers_are p.mark_is)
+    subst (λ l. Shows (encoding_of p.v nil) (b ++ l)) (qualifiers-text p.v mark p.qualifiers_are p.mark_is)
     (object-encoded p.v b (subst (λ t. PrintsName t b) (sym p.tree_is) p.prints)) in
     record {
       state = p.state;
@@ -203,12 +206,12 @@ parameter-goes_on s argument becomes make ts at st p t here now goes = record {
 }
 
 -- a parameter comes next
-pub parameter-expected : (s : List ℕ) (w : Direct) (is_const : Bool) (start : ℕ) (argument : Argument) → AwaitsNextParameter s w is_const start argument
+pub parameter-expected : (s : List ℕ) (w : Direct) (mark : Mark) (start : ℕ) (argument : Argument) → AwaitsNextParameter s w mark start argument
     → IsWriting s w steps.Type
-parameter-expected s w is_const start argument a =
+parameter-expected s w mark start argument a =
     let p = a.goes in
     let element = element-awaits s Kind.Items p.inner p.around w.at a.state tt p.awaits in
-    let stands : Stands s (opens.Parameters is_const start argument ∷ a.rest) element.inner w.text.list.items = (
+    let stands : Stands s (opens.Parameters mark start argument ∷ a.rest) element.inner w.text.list.items = (
       a.aside,
       a.lead,
       a.make,
@@ -230,14 +233,14 @@ parameter-expected s w is_const start argument a =
         p.outside,
         inr (inl element.awaits),
         subst (λ os. Stands s os element.inner w.text.list.items) (sym a.open_is) stands,
-        subst (λ os. IsScoped p.around os) (sym a.open_is) (parameters-scoped p.around is_const start argument a.rest p.scoped),
+        subst (λ os. IsScoped p.around os) (sym a.open_is) (parameters-scoped p.around mark start argument a.rest p.scoped),
       );
     }
 
 -- the name of a function is read that has no return type
-pub parameters-begin : (s : List ℕ) (w : Direct) (is_const is_instance : Bool) (from : ℕ) → IsNameEnded s w is_const is_instance from → is_instance ≡ false
-    → AwaitsParameters s w is_const 0 nowhere
-parameters-begin s w is_const is_instance from p plain = record {
+pub parameters-begin : (s : List ℕ) (w : Direct) (mark : Mark) (is_instance : Bool) (from : ℕ) → IsNameEnded s w mark is_instance from → is_instance ≡ false
+    → AwaitsParameters s w mark 0 nowhere
+parameters-begin s w mark is_instance from p plain = record {
   state = p.state;
   candidates = p.candidates;
   make = λ l. encoding_of p.v l;
@@ -246,7 +249,7 @@ parameters-begin s w is_const is_instance from p plain = record {
   name = p.name;
   is_function = record {
     own = p.own;
-    makes = encoding-plain p.v is_const p.own p.tree_is p.qualifiers_are p.mark_is (p.no_return plain);
+    makes = encoding-plain p.v mark p.own p.tree_is p.qualifiers_are p.mark_is (p.no_return plain);
     prints = p.prints;
     elements = none-print-in (types_of p.own) 6;
     names = λ o. absurd (omega (arith, o));
@@ -257,12 +260,12 @@ parameters-begin s w is_const is_instance from p plain = record {
 }
 
 -- the first parameter comes next
-pub first-expected : (s : List ℕ) (w first last : Direct) (is_const : Bool) (start : ℕ) (argument : Argument)
-    → AwaitsParameters s w is_const start argument → Writes w first (codes "(")
+pub first-expected : (s : List ℕ) (w first last : Direct) (mark : Mark) (start : ℕ) (argument : Argument)
+    → AwaitsParameters s w mark start argument → Writes w first (codes "(")
     → last.text ≡ first.text → last.candidates ≡ first.candidates → last.at ≡ first.at
-    → last.waiting.list.items ≡ first.waiting.list.items ++ opens.Parameters is_const start argument ∷ []
-    → AwaitsNextParameter s last is_const start argument
-first-expected s w first last is_const start argument p one text candidates at waiting =
+    → last.waiting.list.items ≡ first.waiting.list.items ++ opens.Parameters mark start argument ∷ []
+    → AwaitsNextParameter s last mark start argument
+first-expected s w first last mark start argument p one text candidates at waiting =
     let known = candidates-written w first (codes "(") p.state.candidates one p.candidates in
     let moved : AreCandidates last.text.list.items last.candidates.list.items p.state.candidates =
     subst (λ l. AreCandidates l.list.items last.candidates.list.items p.state.candidates) (sym text)
@@ -272,24 +275,24 @@ first-expected s w first last is_const start argument p one text candidates at w
       state = p.state;
       candidates = moved;
       rest = reverse first.waiting.list.items;
-      open_is = ap reverse waiting ∙ reverse-last first.waiting.list.items (opens.Parameters is_const start argument);
+      open_is = ap reverse waiting ∙ reverse-last first.waiting.list.items (opens.Parameters mark start argument);
       make = p.make;
       ts = [];
       aside = p.aside;
       lead = p.lead;
       name = p.name;
       texts = [];
-      is_function = subst (λ l. IsFunction l argument is_const p.make [] p.name []) (sym grown)
-          (function-stays w.text.list.items (codes "(") argument is_const p.make [] p.name [] p.is_function);
+      is_function = subst (λ l. IsFunction l argument mark p.make [] p.name []) (sym grown)
+          (function-stays w.text.list.items (codes "(") argument mark p.make [] p.name [] p.is_function);
       start_is = p.start_is;
       written = grown ∙ ap (λ l. l ++ codes "(") p.written ∙ sym (append-nil (p.aside ++ p.lead ++ p.name ++ codes "("));
       goes = subst (λ n. ParametersGoOn s argument p.lead p.make [] n p.state) (sym (at ∙ one.at)) p.goes;
     }
 
 -- another parameter comes next
-pub next-expected : (s : List ℕ) (w last : Direct) (is_const : Bool) (start : ℕ) (argument : Argument) → IsParameterEnded s w is_const start argument → Writes w last (codes ", ")
-    → AwaitsNextParameter s last is_const start argument
-next-expected s w last is_const start argument p one =
+pub next-expected : (s : List ℕ) (w last : Direct) (mark : Mark) (start : ℕ) (argument : Argument) → IsParameterEnded s w mark start argument → Writes w last (codes ", ")
+    → AwaitsNextParameter s last mark start argument
+next-expected s w last mark start argument p one =
     let front = p.aside ++ p.lead ++ p.name ++ codes "(" in
     record {
       state = p.state;
@@ -302,8 +305,8 @@ next-expected s w last is_const start argument p one =
       lead = p.lead;
       name = p.name;
       texts = p.texts;
-      is_function = subst (λ l. IsFunction l argument is_const p.make p.ts p.name p.texts) (sym one.text)
-          (function-stays w.text.list.items (codes ", ") argument is_const p.make p.ts p.name p.texts p.is_function);
+      is_function = subst (λ l. IsFunction l argument mark p.make p.ts p.name p.texts) (sym one.text)
+          (function-stays w.text.list.items (codes ", ") argument mark p.make p.ts p.name p.texts p.is_function);
       start_is = p.start_is;
       written = one.text ∙ ap (λ l. l ++ codes ", ") p.written ∙ append_assoc front p.texts (codes ", ")
           ∙ ap (λ l. front ++ l) (sym (next-written p.ts p.texts p.some));
@@ -333,11 +336,6 @@ cut-text : (old new : Direct) (start : ℕ) (aside text : List ℕ) → Cuts old
 cut-text old new start aside text cuts start_is written =
     cuts.text ∙ ap (λ n. drop n old.text.list.items) start_is ∙ ap (λ l. drop (length aside) l) written ∙ drop-append_seam aside text
 
--- what stands behind an encoding that is const or not
-pub plain-text : (is_const : Bool) → encoding_text (qualifiers is_const) any_value ≡ const_text is_const
-plain-text true = const-text true
-plain-text false = const-text false
-
 -- ## The end of an encoding
 
 -- a lone void is read
@@ -352,17 +350,17 @@ void-read s argument becomes make at st p stands =
     (goes.passes nothing_there (at + 1) st (expects-empty s Kind.Items p.around goes.inner (at + 1) st goes.awaits refl))
 
 -- a name with a lone void is an encoding
-pub void-ended : (s : List ℕ) (w first here last new : Direct) (is_const : Bool) (start : ℕ) (argument : Argument) → AwaitsParameters s w is_const start argument
+pub void-ended : (s : List ℕ) (w first here last new : Direct) (mark : Mark) (start : ℕ) (argument : Argument) → AwaitsParameters s w mark start argument
     → StandsAt s w.at (118 ∷ [])
     → Writes w first (codes "(") → here.text ≡ first.text → here.candidates ≡ first.candidates → here.at ≡ first.at + 1
-    → Writes here last (codes ")") → Cuts last new start → IsEncodingEnded s new is_const
-void-ended s w first here last new is_const start argument p stands one text candidates at two cuts =
+    → Writes here last (codes ")") → Cuts last new start → IsEncodingEnded s new mark
+void-ended s w first here last new mark start argument p stands one text candidates at two cuts =
     let f = p.is_function in
     let b = p.name in
-    let q = const_text is_const in
+    let q = mark_text mark in
     let e = p.make (list_of (builtin (118 ∷ []) ∷ [])) in
-    let made = function f.own (qualifiers is_const) any_value absent nil in
-    let is : e ≡ made = made-void is_const f.own p.make f.makes in
+    let made = function f.own (qualifiers (has_const mark)) (called_on mark) absent nil in
+    let is : e ≡ made = made-void mark f.own p.make f.makes in
     let behind : EncodedBehind s p.lead e (w.at + 1) =
     void-read s argument (λ u there then_. EncodedBehind s p.lead u there) p.make w.at p.state p.goes stands in
     let written : last.text.list.items ≡ p.aside ++ p.lead ++ b ++ codes "()" =
@@ -376,7 +374,7 @@ void-ended s w first here last new is_const start argument p stands one text can
     (subst (λ l. AreCandidates first.text.list.items l.list.items p.state.candidates) (sym candidates) known) in
     let now = cut-candidates last new start p.state cuts (candidates-written here last (codes ")") p.state.candidates two moved) in
     let shows : Shows made (b ++ codes "()" ++ q) =
-    subst (λ l. Shows made (b ++ codes "()" ++ l)) (plain-text is_const) (void-shows f.own b f.prints (qualifiers is_const) any_value) in
+    subst (λ l. Shows made (b ++ codes "()" ++ l)) (plain-text mark) (void-shows f.own b f.prints (qualifiers (has_const mark)) (called_on mark)) in
     record {
       state = now.0;
       candidates = now.1;
@@ -386,22 +384,22 @@ void-ended s w first here last new is_const start argument p stands one text can
       written = ap (λ l. l ++ q) left_over ∙ behind-three p.lead b (codes "()") q;
       shows = subst (λ t. Shows t (b ++ codes "()" ++ q)) (sym is) shows;
       encloses = subst (λ t. Encloses t (b ++ codes "()" ++ q)) (sym is)
-          (function-encloses f.own (qualifiers is_const) any_value nil (b ++ codes "()" ++ q) shows);
+          (function-encloses f.own (qualifiers (has_const mark)) (called_on mark) nil (b ++ codes "()" ++ q) shows);
       behind = subst (λ n. EncodedBehind s p.lead e n) (omega (arith, cuts.at, two.at, at, one.at)) behind;
     }
 
 -- a function with its parameters is an encoding, unless they are a lone void
-pub function-ended : (s : List ℕ) (w last new : Direct) (is_const : Bool) (start : ℕ) (argument : Argument) (p : IsParameterEnded s w is_const start argument)
-    → p.texts ≢ codes "void" → Writes w last (codes ")") → Cuts last new start → IsEncodingEnded s new is_const
+pub function-ended : (s : List ℕ) (w last new : Direct) (mark : Mark) (start : ℕ) (argument : Argument) (p : IsParameterEnded s w mark start argument)
+    → p.texts ≢ codes "void" → Writes w last (codes ")") → Cuts last new start → IsEncodingEnded s new mark
 unfolding no_items may_be_empty
-function-ended s w last new is_const start argument p apart one cuts =
+function-ended s w last new mark start argument p apart one cuts =
     let f = p.is_function in
     let e = p.make (list_of p.ts) in
     let b = p.name in
     let l = p.texts in
-    let q = const_text is_const in
-    let made = function f.own (qualifiers is_const) any_value absent (list_of p.ts) in
-    let is : e ≡ made = made-with is_const f.own p.make f.makes p.ts p.some (parameters-kept (types_of f.own) 6 p.ts l f.elements apart) in
+    let q = mark_text mark in
+    let made = function f.own (qualifiers (has_const mark)) (called_on mark) absent (list_of p.ts) in
+    let is : e ≡ made = made-with mark f.own p.make f.makes p.ts p.some (parameters-kept (types_of f.own) 6 p.ts l f.elements apart) in
     let behind : EncodedBehind s p.lead e w.at = subst (λ u. EncodedBehind s p.lead (p.make u) w.at) (list-ends p.ts)
     (p.goes.onward nothing_there w.at p.state (expects-empty s Kind.Items p.goes.around p.goes.inner w.at p.state p.goes.awaits refl)) in
     let left_over : new.text.list.items ≡ p.lead ++ b ++ codes "(" ++ l ++ codes ")" =
@@ -409,8 +407,8 @@ function-ended s w last new is_const start argument p apart one cuts =
     (one.text ∙ ap (λ x. x ++ codes ")") p.written ∙ behind-five p.aside p.lead b (codes "(") l (codes ")")) in
     let now = cut-candidates last new start p.state cuts (candidates-written w last (codes ")") p.state.candidates one p.candidates) in
     let shows : Shows made (b ++ codes "(" ++ l ++ codes ")" ++ q) =
-    subst (λ x. Shows made (b ++ codes "(" ++ l ++ codes ")" ++ x)) (plain-text is_const)
-    (function-shows f.own b f.prints p.ts l f.elements (qualifiers is_const) any_value) in
+    subst (λ x. Shows made (b ++ codes "(" ++ l ++ codes ")" ++ x)) (plain-text mark)
+    (function-shows f.own b f.prints p.ts l f.elements (qualifiers (has_const mark)) (called_on mark)) in
     record {
       state = now.0;
       candidates = now.1;
@@ -420,7 +418,7 @@ function-ended s w last new is_const start argument p apart one cuts =
       written = ap (λ x. x ++ q) left_over ∙ behind-five p.lead b (codes "(") l (codes ")") q;
       shows = subst (λ t. Shows t (b ++ codes "(" ++ l ++ codes ")" ++ q)) (sym is) shows;
       encloses = subst (λ t. Encloses t (b ++ codes "(" ++ l ++ codes ")" ++ q)) (sym is)
-          (function-encloses f.own (qualifiers is_const) any_value (list_of p.ts) (b ++ codes "(" ++ l ++ codes ")" ++ q) shows);
+          (function-encloses f.own (qualifiers (has_const mark)) (called_on mark) (list_of p.ts) (b ++ codes "(" ++ l ++ codes ")" ++ q) shows);
       behind = subst (λ n. EncodedBehind s p.lead e n) (sym (cuts.at ∙ one.at)) behind;
     }
 

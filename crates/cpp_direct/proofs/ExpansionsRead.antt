@@ -1,10 +1,11 @@
 -- A reference to each type of a pack is a function's last parameter.
-use Rattle.std.proofs.Common.{◌≡◌, ℕ, ◌+◌, ◌-◌, ◌≤◌, length, List, [], ◌∷◌, ◌++◌, take, drop, Bool, true, Option, None, Some, reverse, codes, ap, sym, ◌∙◌, subst, arith, append_assoc}
+use Rattle.std.proofs.Common.{◌≡◌, ℕ, ◌+◌, ◌-◌, ◌≤◌, length, List, [], ◌∷◌, ◌++◌, take, drop, true, Option, None, Some, reverse, codes, ap, sym, ◌∙◌, subst, arith, append_assoc}
 use Rattle.std.specs.Option.{IfSome}
 use Rattle.cpp_grammar.specs.declared.kind.Kind.{Kind}
 use Rattle.cpp_grammar.specs.Parts.{types_of}
 use Rattle.cpp_grammar.specs.Scope.{arguments_of}
 use Rattle.cpp_grammar.specs.Term.{expansion, parameter, rvalue, list, nil}
+use Rattle.cpp_direct.specs.declared.open.Mark.{Mark}
 use Rattle.cpp_direct.specs.declared.direct.Direct.{Direct}
 use Rattle.cpp_direct.specs.declared.open.Argument.{Argument}
 use Rattle.cpp_direct.specs.declared.open.Candidate.{Candidate}
@@ -40,9 +41,9 @@ stands-so P None p = tt
 stands-so P (Some end) p = p
 
 -- its text is written
-pub pack-inside : (s : List ℕ) (w : Direct) (is_const : Bool) (start : ℕ) (argument : Argument) → AwaitsNextParameter s w is_const start argument
+pub pack-inside : (s : List ℕ) (w : Direct) (mark : Mark) (start : ℕ) (argument : Argument) → AwaitsNextParameter s w mark start argument
     → argument.from ≤ argument.to → argument.to ≤ length w.text.list.items
-pack-inside s w is_const start argument a ordered =
+pack-inside s w mark start argument a ordered =
     let h = (a.is_function.names ordered).placed in
     (piece-found w.text.list.items h.front (a.is_function.names ordered).bytes h.back argument.from argument.to h.written h.from_is h.to_is).1
 
@@ -51,13 +52,13 @@ abbrev pub with_three : List Candidate → List Candidate
 with_three ks = ((ks ++ hidden ∷ []) ++ hidden ∷ []) ++ hidden ∷ []
 
 -- it is read
-pub expansion-read : (s : List ℕ) (old new : Direct) (is_const : Bool) (start : ℕ) (argument : Argument) → AwaitsNextParameter s old is_const start argument
+pub expansion-read : (s : List ℕ) (old new : Direct) (mark : Mark) (start : ℕ) (argument : Argument) → AwaitsNextParameter s old mark start argument
     → argument.is_pack ≡ true → argument.from ≤ argument.to → StandsAt s old.at (68 ∷ 112 ∷ 79 ∷ 84 ∷ 95 ∷ [])
     → new.text.list.items
     ≡ (old.text.list.items ++ take (argument.to - argument.from) (drop argument.from old.text.list.items)) ++ forwarded argument.is_reference
     → new.candidates.list.items ≡ with_three old.candidates.list.items → new.waiting ≡ old.waiting → new.at ≡ old.at + 5
-    → IsParameterEnded s new is_const start argument
-expansion-read s old new is_const start argument a pack ordered stands text candidates waiting at =
+    → IsParameterEnded s new mark start argument
+expansion-read s old new mark start argument a pack ordered stands text candidates waiting at =
     let f = a.is_function in
     let n = f.names ordered in
     let h = n.placed in

@@ -3,10 +3,12 @@ use Rattle.std.proofs.Common.{◌≡◌, refl, ap, sym, ◌∙◌, subst, ℕ, �
 use Rattle.std.proofs.lemmas.Bool.{false≢true}
 use Rattle.std.proofs.Math.Seq.{take-append_seam}
 use Rattle.cpp_grammar.specs.declared.kind.Kind.{Kind}
-use Rattle.cpp_grammar.specs.Term.{Term, any_value, list}
+use Rattle.cpp_grammar.specs.Term.{Term, list}
 use Rattle.cpp_grammar.specs.Between.{no_items}
 use Rattle.cpp_grammar.specs.Meaning.{parameters, encoding_of}
 use Rattle.cpp_grammar.specs.Values.{Value}
+use Rattle.cpp_direct.specs.declared.open.Mark.{Mark}
+use Rattle.cpp_direct.specs.Marks.{has_const, called_on}
 use Rattle.cpp_direct.specs.declared.open.Open.TheVariants as opens
 use Rattle.cpp_direct.specs.declared.open.Argument.{Argument}
 use Rattle.cpp_grammar.specs.Parts.{types_of}
@@ -15,7 +17,7 @@ use Rattle.cpp_direct.specs.declared.open.Step.TheVariants as steps
 use Rattle.cpp_direct.specs.declared.direct.Direct.{Direct}
 use Rattle.cpp_direct.specs.Bytes.{is_local}
 use Rattle.cpp_direct.specs.Holes.{Expects}
-use Rattle.cpp_direct.specs.Prints.{Prints, PrintsName, PrintsIn, Shows}
+use Rattle.cpp_direct.specs.Prints.{PrintsName, PrintsIn, Shows}
 use Rattle.cpp_direct.specs.Stands.{AreCandidates, EncodedBehind, IsArgument, IsScoped, IsWriting, IsInstance, ParametersGoOn, Stands, qualifiers, plain_encoding}
 use Rattle.cpp_direct.specs.Ways.{IsNameEnded, IsFrontRead, AwaitsParameters}
 use Rattle.cpp_direct.specs.Written.{Writes}
@@ -31,13 +33,13 @@ no-text [] from is none = refl
 no-text (b ∷ bs) from is none = absurd (omega (arith, is, none))
 
 -- the return type of a function is expected behind its name
-pub front-begins : (s : List ℕ) (w new : Direct) (is_const : Bool) (from start : ℕ) → IsNameEnded s w is_const true from → from ≡ 0 → is_local s ≡ false
+pub front-begins : (s : List ℕ) (w new : Direct) (mark : Mark) (from start : ℕ) → IsNameEnded s w mark true from → from ≡ 0 → is_local s ≡ false
     → start ≡ length w.text.list.items → new.text ≡ w.text → new.candidates ≡ w.candidates → new.at ≡ w.at
-    → new.waiting.list.items ≡ w.waiting.list.items ++ opens.Front is_const start w.argument ∷ [] → IsWriting s new steps.Type
-front-begins s w new is_const from start p none apart start_is text candidates at waiting =
+    → new.waiting.list.items ≡ w.waiting.list.items ++ opens.Front mark start w.argument ∷ [] → IsWriting s new steps.Type
+front-begins s w new mark from start p none apart start_is text candidates at waiting =
     let lead_is : p.lead ≡ [] = no-text p.lead from p.from_is none in
     let named : w.text.list.items ≡ p.name = p.written ∙ ap (λ l. l ++ p.name) lead_is in
-    let instance_ : IsInstance w.argument is_const p.v w.text.list.items = record {
+    let instance_ : IsInstance w.argument mark p.v w.text.list.items = record {
       own = p.own;
       tree_is = p.tree_is;
       qualifiers_are = p.qualifiers_are;
@@ -54,7 +56,7 @@ front-begins s w new is_const from start p none apart start_is text candidates a
       no_pack = (p.names refl o).prints.no_pack;
     })) in
     let element = element-awaits s Kind.Items goes.inner goes.around w.at p.state tt goes.awaits in
-    let stands : Stands s (opens.Front is_const start w.argument ∷ reverse w.waiting.list.items) element.inner w.text.list.items = (
+    let stands : Stands s (opens.Front mark start w.argument ∷ reverse w.waiting.list.items) element.inner w.text.list.items = (
       p.v,
       instance_,
       apart,
@@ -73,33 +75,33 @@ front-begins s w new is_const from start p none apart start_is text candidates a
         inr (inl (subst (λ n. Expects s Kind.Item goes.around element.inner n p.state) (sym at) element.awaits)),
         subst (λ v. Stands s (reverse new.waiting.list.items) element.inner v.list.items) (sym text)
             (subst (λ ws. Stands s ws element.inner w.text.list.items)
-            (sym (ap reverse waiting ∙ reverse-last w.waiting.list.items (opens.Front is_const start w.argument))) stands),
-        subst (λ ws. IsScoped goes.around ws) (sym (ap reverse waiting ∙ reverse-last w.waiting.list.items (opens.Front is_const start w.argument)))
-            (front-scoped goes.around is_const start w.argument (reverse w.waiting.list.items) goes.scoped),
+            (sym (ap reverse waiting ∙ reverse-last w.waiting.list.items (opens.Front mark start w.argument))) stands),
+        subst (λ ws. IsScoped goes.around ws) (sym (ap reverse waiting ∙ reverse-last w.waiting.list.items (opens.Front mark start w.argument)))
+            (front-scoped goes.around mark start w.argument (reverse w.waiting.list.items) goes.scoped),
       );
     }
 
 -- a function's return type stands in front of what it shows without one
-turned : (s : List ℕ) (argument : Argument) (is_const : Bool) (v : Value) (name : List ℕ) (is : IsInstance argument is_const v name) (r : Term) (b : List ℕ)
+turned : (s : List ℕ) (argument : Argument) (mark : Mark) (v : Value) (name : List ℕ) (is : IsInstance argument mark v name) (r : Term) (b : List ℕ)
     (is_reference : Bool) → PrintsIn (types_of is.own) 2 r b is_reference → (items : Term) (at : ℕ) → is_local s ≡ false → EncodedBehind s [] (encoding_of v (list r items)) at
-    → EncodedBehind s (b ++ codes " ") (plain_encoding is_const is.own items) at
-turned s argument is_const v name is r b is_reference prints items at apart p = record {
+    → EncodedBehind s (b ++ codes " ") (plain_encoding mark is.own items) at
+turned s argument mark v name is r b is_reference prints items at apart p = record {
   whole = λ e. let w = p.whole e in record {
     made = w.made;
     encoded = w.encoded;
     shows = λ bytes shows. w.shows (b ++ codes " " ++ bytes)
         (subst (λ t. Shows t (b ++ codes " " ++ bytes))
-        (sym (encoding-returned v is_const is.own is.tree_is is.qualifiers_are is.mark_is is.returns r items))
-        (front-shows is.own (qualifiers is_const) any_value (parameters items) bytes shows r b is_reference prints));
+        (sym (encoding-returned v mark is.own is.tree_is is.qualifiers_are is.mark_is is.returns r items))
+        (front-shows is.own (qualifiers (has_const mark)) (called_on mark) (parameters items) bytes shows r b is_reference prints));
   };
   entity = λ e. absurd (false≢true (sym apart ∙ e));
 }
 
 -- the return type is read, and behind it the name is written once more
-pub front-turned : (s : List ℕ) (w here first last : Direct) (is_const : Bool) (start : ℕ) (argument : Argument) → IsFrontRead s w is_const start argument
+pub front-turned : (s : List ℕ) (w here first last : Direct) (mark : Mark) (start : ℕ) (argument : Argument) → IsFrontRead s w mark start argument
     → here.text ≡ w.text → here.candidates ≡ w.candidates → here.at ≡ w.at → Writes here first (codes " ")
-    → Writes first last (take (start - 0) (drop 0 first.text.list.items)) → AwaitsParameters s last is_const start argument
-front-turned s w here first last is_const start argument p text candidates at one two =
+    → Writes first last (take (start - 0) (drop 0 first.text.list.items)) → AwaitsParameters s last mark start argument
+front-turned s w here first last mark start argument p text candidates at one two =
     let is = p.is_instance in
     let lead = p.bytes ++ codes " " in
     let front : first.text.list.items ≡ p.name ++ lead =
@@ -114,7 +116,7 @@ front-turned s w here first last is_const start argument p text candidates at on
       state = p.state;
       candidates = candidates-written first last (take (start - 0) (drop 0 first.text.list.items)) p.state.candidates two
           (candidates-written here first (codes " ") p.state.candidates one known);
-      make = λ l. plain_encoding is_const is.own l;
+      make = λ l. plain_encoding mark is.own l;
       aside = p.name;
       lead = lead;
       name = p.name;
@@ -134,7 +136,7 @@ front-turned s w here first last is_const start argument p text candidates at on
         outside = p.goes.outside;
         scoped = p.goes.scoped;
         awaits = subst (λ n. Expects s Kind.Items p.goes.around p.goes.inner n p.state) (sym (two.at ∙ one.at ∙ at)) p.goes.awaits;
-        onward = λ l there then_ comes. turned s argument is_const p.v p.name is p.returned p.bytes p.is_reference p.prints (no_items l) there p.apart
+        onward = λ l there then_ comes. turned s argument mark p.v p.name is p.returned p.bytes p.is_reference p.prints (no_items l) there p.apart
             (p.goes.onward l there then_ comes);
       };
     }

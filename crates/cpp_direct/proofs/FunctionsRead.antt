@@ -2,6 +2,7 @@
 use Rattle.std.proofs.Common.{◌≡◌, ◌⊎◌, inl, inr, ℕ, ◌+◌, ◌-◌, List, [], ◌∷◌, ◌++◌, length, reverse, slice_get, Bool, true, false, Some, refl, ap, sym, subst, ◌∙◌, if◌then◌else◌}
 use Rattle.cpp_grammar.specs.declared.kind.Kind.{Kind}
 use Rattle.cpp_grammar.specs.Values.{State, Around, outermost}
+use Rattle.cpp_direct.specs.declared.open.Mark.{Mark}
 use Rattle.cpp_direct.specs.declared.open.Open.{Open}
 use Rattle.cpp_direct.specs.declared.open.Open.TheVariants as opens
 use Rattle.cpp_direct.specs.declared.open.Argument.{Argument}
@@ -22,7 +23,7 @@ use Rattle.cpp_direct.proofs.MovesOfFunctions.{function-opens, pointed-function-
 pub takes-function : (o : Open) (rest : List Open) → ((x : ℕ) → o ≡ opens.Pointer x → ⊥) → ((x : ℕ) → o ≡ opens.Lvalue x → ⊥)
     → ((x : ℕ) → o ≡ opens.Rvalue x → ⊥) → ((x : ℕ) → o ≡ opens.Const x → ⊥) → (o ≡ opens.Enumerator → ⊥)
     → ((x : Bool) → o ≡ opens.Returned x → ⊥) → ((x : Bool) → o ≡ opens.Signature x → ⊥)
-    → ((x : Bool) (y : ℕ) (z : Argument) → o ≡ opens.Front x y z → ⊥) → ((x : ℕ) → o ≡ opens.Argument x → ⊥)
+    → ((x : Mark) (y : ℕ) (z : Argument) → o ≡ opens.Front x y z → ⊥) → ((x : ℕ) → o ≡ opens.Argument x → ⊥)
     → ((x : ℕ) → o ≡ opens.Lambda x → ⊥) → ((x : ℕ) → o ≡ opens.Element x → ⊥) → TakesFunction (o ∷ rest)
 takes-function (opens.Pointer x) rest p l r c n f g k a m e = absurd (p x refl)
 takes-function (opens.Lvalue x) rest p l r c n f g k a m e = absurd (l x refl)
@@ -30,7 +31,7 @@ takes-function (opens.Rvalue x) rest p l r c n f g k a m e = absurd (r x refl)
 takes-function (opens.Const x) rest p l r c n f g k a m e = absurd (c x refl)
 takes-function opens.Special rest p l r c n f g k a m e = tt
 takes-function (opens.Lambda x) rest p l r c n f g k a m e = absurd (m x refl)
-takes-function (opens.Enclosing x y) rest p l r c n f g k a m e = tt
+takes-function (opens.Enclosing x y w) rest p l r c n f g k a m e = tt
 takes-function opens.Enumerator rest p l r c n f g k a m e = absurd (n refl)
 takes-function (opens.Returned x) rest p l r c n f g k a m e = absurd (f x refl)
 takes-function (opens.Signature x) rest p l r c n f g k a m e = absurd (g x refl)

@@ -4,6 +4,7 @@ use Rattle.std.proofs.lemmas.Bool.{false≢true}
 use Rattle.cpp_grammar.specs.Term.{Term, special}
 use Rattle.cpp_grammar.specs.Parts.{types_of}
 use Rattle.cpp_grammar.specs.Values.{State, tree}
+use Rattle.cpp_direct.specs.declared.open.Mark.{Mark}
 use Rattle.cpp_direct.specs.declared.open.Open.{Open}
 use Rattle.cpp_direct.specs.declared.open.Open.TheVariants as opens
 use Rattle.cpp_direct.specs.declared.open.Argument.{Argument}
@@ -76,12 +77,12 @@ value-element s w is_reference o p found =
     }
 
 -- a parameter was read
-pub parameter-got : (s : List ℕ) (w : Direct) (is_const : Bool) (start : ℕ) (argument : Argument) (st : State) (rest : List Open) (os : List Opened) (t : Term)
-    (front bytes : List ℕ) (waits : Stands s (opens.Parameters is_const start argument ∷ rest) os front)
-    → AreCandidates w.text.list.items w.candidates.list.items st.candidates → reverse w.waiting.list.items ≡ opens.Parameters is_const start argument ∷ rest
+pub parameter-got : (s : List ℕ) (w : Direct) (mark : Mark) (start : ℕ) (argument : Argument) (st : State) (rest : List Open) (os : List Opened) (t : Term)
+    (front bytes : List ℕ) (waits : Stands s (opens.Parameters mark start argument ∷ rest) os front)
+    → AreCandidates w.text.list.items w.candidates.list.items st.candidates → reverse w.waiting.list.items ≡ opens.Parameters mark start argument ∷ rest
     → w.text.list.items ≡ front ++ bytes → Comes s os (tree t true) w.at st → IsElementIn (types_of waits.6.own) 6 t bytes
-    → IsParameterEnded s w is_const start argument
-parameter-got s w is_const start argument st opened_ os t front bytes waits candidates open_is written comes element =
+    → IsParameterEnded s w mark start argument
+parameter-got s w mark start argument st opened_ os t front bytes waits candidates open_is written comes element =
     let aside = waits.0 in
     let lead = waits.1 in
     let ts = waits.3 in
@@ -113,10 +114,10 @@ parameter-got s w is_const start argument st opened_ os t front bytes waits cand
       goes = waits.9 t w.at st comes;
     }
 
-pub parameter-read : (s : List ℕ) (w : Direct) (is_const : Bool) (start : ℕ) (argument : Argument) → IsElementRead s w (opens.Parameters is_const start argument)
-    → IsParameterEnded s w is_const start argument
-parameter-read s w is_const start argument p =
-    parameter-got s w is_const start argument p.state p.rest p.os p.own p.front p.bytes p.stands p.candidates p.open_is p.written p.comes
+pub parameter-read : (s : List ℕ) (w : Direct) (mark : Mark) (start : ℕ) (argument : Argument) → IsElementRead s w (opens.Parameters mark start argument)
+    → IsParameterEnded s w mark start argument
+parameter-read s w mark start argument p =
+    parameter-got s w mark start argument p.state p.rest p.os p.own p.front p.bytes p.stands p.candidates p.open_is p.written p.comes
     (element-in (types_of p.stands.6.own) 6 p.own p.bytes (p.element 6))
 
 -- what a special object is of was read
@@ -184,10 +185,10 @@ value-enumerator s w is_reference p found =
 
 -- what is none of those that wait for something else
 pub takes-elements : (o : Open) → ((x : ℕ) → o ≡ opens.Pointer x → ⊥) → ((x : ℕ) → o ≡ opens.Lvalue x → ⊥)
-    → ((x : ℕ) → o ≡ opens.Rvalue x → ⊥) → ((x : ℕ) → o ≡ opens.Const x → ⊥) → ((x : Bool) (y : ℕ) (z : Argument) → o ≡ opens.Parameters x y z → ⊥)
-    → ((x : Bool) (y : ℕ) (z : Argument) → o ≡ opens.Front x y z → ⊥)
+    → ((x : ℕ) → o ≡ opens.Rvalue x → ⊥) → ((x : ℕ) → o ≡ opens.Const x → ⊥) → ((x : Mark) (y : ℕ) (z : Argument) → o ≡ opens.Parameters x y z → ⊥)
+    → ((x : Mark) (y : ℕ) (z : Argument) → o ≡ opens.Front x y z → ⊥)
     → ((x : Bool) → o ≡ opens.Returned x → ⊥) → ((x : Bool) → o ≡ opens.Signature x → ⊥)
-    → (o ≡ opens.Special → ⊥) → (o ≡ opens.Enumerator → ⊥) → ((x : Bool) (y : ℕ) → o ≡ opens.Enclosing x y → ⊥)
+    → (o ≡ opens.Special → ⊥) → (o ≡ opens.Enumerator → ⊥) → ((x : Mark) (y : ℕ) (z : Argument) → o ≡ opens.Enclosing x y z → ⊥)
     → ((x : ℕ) → o ≡ opens.Argument x → ⊥) → ((x : ℕ) → o ≡ opens.Lambda x → ⊥) → ((x : ℕ) → o ≡ opens.Element x → ⊥)
     → TakesElements o
 takes-elements (opens.Pointer x) p l r c f k u g z n m a q e = absurd (p x refl)
@@ -199,7 +200,7 @@ takes-elements (opens.Front x y w) p l r c f k u g z n m a q e = absurd (k x y w
 takes-elements (opens.Argument x) p l r c f k u g z n m a q e = absurd (a x refl)
 takes-elements (opens.Returned x) p l r c f k u g z n m a q e = absurd (u x refl)
 takes-elements (opens.Signature x) p l r c f k u g z n m a q e = absurd (g x refl)
-takes-elements (opens.Enclosing x y) p l r c f k u g z n m a q e = absurd (m x y refl)
+takes-elements (opens.Enclosing x y w) p l r c f k u g z n m a q e = absurd (m x y w refl)
 takes-elements (opens.Lambda x) p l r c f k u g z n m a q e = absurd (q x refl)
 takes-elements (opens.Element x) p l r c f k u g z n m a q e = absurd (e x refl)
 takes-elements opens.Special p l r c f k u g z n m a q e = absurd (z refl)
@@ -238,11 +239,11 @@ argument-read s w o p takes =
 -- ## Return types
 
 -- it is the return type of a function
-pub front-got : (s : List ℕ) (w : Direct) (is_reference is_const : Bool) (start : ℕ) (argument : Argument) (st : State) (rest : List Open) (os : List Opened)
-    (t : Term) (front bytes : List ℕ) (waits : Stands s (opens.Front is_const start argument ∷ rest) os front)
+pub front-got : (s : List ℕ) (w : Direct) (is_reference : Bool) (mark : Mark) (start : ℕ) (argument : Argument) (st : State) (rest : List Open) (os : List Opened)
+    (t : Term) (front bytes : List ℕ) (waits : Stands s (opens.Front mark start argument ∷ rest) os front)
     → AreCandidates w.text.list.items w.candidates.list.items st.candidates → w.text.list.items ≡ front ++ bytes → Comes s os (tree t true) w.at st
-    → PrintsIn (types_of waits.1.own) 2 t bytes is_reference → IsFrontRead s w is_const start argument
-front-got s w is_reference is_const start argument st rest os t front bytes waits candidates written comes prints = record {
+    → PrintsIn (types_of waits.1.own) 2 t bytes is_reference → IsFrontRead s w mark start argument
+front-got s w is_reference mark start argument st rest os t front bytes waits candidates written comes prints = record {
   state = st;
   candidates = candidates;
   v = waits.0;
@@ -258,14 +259,14 @@ front-got s w is_reference is_const start argument st rest os t front bytes wait
   goes = waits.4 t w.at st comes;
 }
 
-pub value-front : (s : List ℕ) (w : Direct) (is_reference is_const : Bool) (start : ℕ) (argument : Argument) → IsWriting s w (steps.Value is_reference)
-    → slice_get w.waiting.list.items (length w.waiting.list.items - 1) ≡ Some (opens.Front is_const start argument) → IsFrontRead s w is_const start argument
-value-front s w is_reference is_const start argument p found =
+pub value-front : (s : List ℕ) (w : Direct) (is_reference : Bool) (mark : Mark) (start : ℕ) (argument : Argument) → IsWriting s w (steps.Value is_reference)
+    → slice_get w.waiting.list.items (length w.waiting.list.items - 1) ≡ Some (opens.Front mark start argument) → IsFrontRead s w mark start argument
+value-front s w is_reference mark start argument p found =
     let os = p.is_before.0 in
     let front = p.is_before.2 in
-    let last = last-found w.waiting.list.items (opens.Front is_const start argument) found in
-    let waits : Stands s (opens.Front is_const start argument ∷ last.0) os front = subst (λ ws. Stands s ws os front) last.1 p.is_before.7 in
-    front-got s w is_reference is_const start argument p.state last.0 os p.is_before.1 front p.is_before.3 waits p.candidates p.is_before.4 p.is_before.6
+    let last = last-found w.waiting.list.items (opens.Front mark start argument) found in
+    let waits : Stands s (opens.Front mark start argument ∷ last.0) os front = subst (λ ws. Stands s ws os front) last.1 p.is_before.7 in
+    front-got s w is_reference mark start argument p.state last.0 os p.is_before.1 front p.is_before.3 waits p.candidates p.is_before.4 p.is_before.6
     (prints-in (types_of waits.1.own) 2 p.is_before.1 p.is_before.3 is_reference p.is_before.5)
 
 -- ## Function types

@@ -14,6 +14,7 @@ pub mod Kept
 pub mod LettersTested
 pub mod Listed
 pub mod Literals
+pub mod MarkPlaces
 pub mod Moves
 pub mod MovesOfComponents
 pub mod MovesOfEncodings

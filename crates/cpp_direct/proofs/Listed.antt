@@ -10,6 +10,7 @@ use Rattle.cpp_grammar.specs.Term.{Term, nil, list, instance, pack}
 use Rattle.cpp_grammar.specs.Scope.{arguments_of, before_arguments, is_structor, has_return_type}
 use Rattle.cpp_grammar.specs.Values.{State, tree, nothing_there, tree_of, qualifiers_of, ref_of}
 use Rattle.cpp_grammar.specs.Between.{no_items}
+use Rattle.cpp_direct.specs.declared.open.Mark.TheVariants as marks
 use Rattle.cpp_direct.specs.declared.open.Nest.{Nest}
 use Rattle.cpp_direct.specs.declared.open.Open.{Open}
 use Rattle.cpp_direct.specs.declared.open.Open.TheVariants as opens
@@ -312,7 +313,7 @@ first-closed s w new nest p candidates text waiting at =
     }
 
 -- the arguments of the name of an encoding
-pub name-closed : (s : List ℕ) (w : Direct) (from : ℕ) → IsClosed s w (opens.NameArguments from) → IsNameEnded s w false true from
+pub name-closed : (s : List ℕ) (w : Direct) (from : ℕ) → IsClosed s w (opens.NameArguments from) → IsNameEnded s w marks.Plain true from
 unfolding tree_of qualifiers_of ref_of
 name-closed s w from p =
     let t = instance p.template (list_with p.ts p.tail) in

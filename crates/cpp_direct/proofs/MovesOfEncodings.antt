@@ -1,6 +1,6 @@
 -- The moves in encodings and in whole symbols: a symbol begins and ends, with a suffix or without, an encoding has a name and items,
 -- and names are nested or not.
-use Rattle.std.proofs.Common.{◌≡◌, ℕ, ◌+◌, ◌<◌, length, List, [], ◌∷◌, take, ◌++◌, Bool, true, false, nat_le, ◌||◌, ◌&&◌, cond, None, Some, Ok, refl, ap, sym, subst, ◌∙◌, arith, codes}
+use Rattle.std.proofs.Common.{◌≡◌, ℕ, ◌+◌, ◌<◌, length, List, [], ◌∷◌, take, ◌++◌, Bool, true, false, nat_le, ◌||◌, ◌&&◌, cond, None, Some, Ok, refl, ap, sym, subst, ◌∙◌, arith, codes, length-append}
 use Rattle.std.specs.List.{AllByRecursion}
 use Rattle.std.proofs.Math.Nat.{zero-add}
 use Rattle.std.proofs.Math.Seq.{take-append_seam}
@@ -17,7 +17,7 @@ use Rattle.cpp_grammar.specs.KindNumbers.{SYMBOL}
 use Rattle.cpp_grammar.specs.Grammar.{in_ranges, among, is_in, pick, number_of_kind, alternatives, choose, parts_of, is_chain, may_be_empty, number_of}
 use Rattle.cpp_grammar.specs.Mangled.{cpp_mangled}
 use Rattle.cpp_grammar.specs.Table.{rule_of}
-use Rattle.cpp_grammar.specs.Term.{non_virtual, by_table, Term, symbol, special, alone, source}
+use Rattle.cpp_grammar.specs.Term.{RefQualifier, any_value, lvalue_only, rvalue_only, non_virtual, by_table, Term, symbol, special, alone, source}
 use Rattle.cpp_grammar.specs.Values.{State, outermost, Around, Value, nothing_there, letter, text, signed, tree, tree_of, text_of, signed_of, signed_digits, is_there, mark_of, part}
 use Rattle.cpp_grammar.specs.Between.{Going, between, after, in_name, in_types, extended, applied, piece_so_far, named_so_far}
 use Rattle.cpp_grammar.specs.Meaning.{meaning}
@@ -26,7 +26,7 @@ use Rattle.cpp_grammar.specs.Unfolding.{opening, close, byte_of, first_around, f
 use Rattle.cpp_direct.specs.Holes.{cpp_language, Opened, opened, StandsAt, Comes, Needs, Expects, IsNameAt, Named}
 use Rattle.sym_direct.specs.Holes as direct
 use Rattle.cpp_direct.specs.ItemBytes.{one_of, is_special_letter, is_suffix_byte}
-use Rattle.cpp_direct.specs.HolesOfLists.{EncodingOpened, SpecialOpened, IsOffsetAt, ThunkOpened, nest_marks, NestOpened, IsSuffix, SymbolOpened}
+use Rattle.cpp_direct.specs.HolesOfLists.{const_letter, EncodingOpened, SpecialOpened, IsOffsetAt, ThunkOpened, nest_marks, NestOpened, IsSuffix, SymbolOpened}
 use Rattle.cpp_direct.proofs.Moves.{stands-split, comes-moved, opens, opens-chain, needs-next, ends, expects-empty, expects-byte, expects-name}
 use Rattle.cpp_direct.proofs.MovesOfLists.{mark-comes, integer-comes}
 use Rattle.cpp_direct.specs.Letters.{special_letters}
@@ -162,34 +162,37 @@ virtual-thunk-opens s os around at middle end st expects first second is then_ =
 
 -- ## Names
 
--- the parts of a nested name, const where its third part is there
-nest-goes : (s : List ℕ) (os : List Opened) (around : Around) (q : Value) (at : ℕ) (st : State) (here : ℕ) (now : State)
-    → Needs s os (standing (rule_of Production.NestedName) (78 ∷ []) at around st) (nothing_there ∷ nothing_there ∷ q ∷ [])
-    (OfKind (number_of_kind Kind.MaybeRef) ∷ OfKind (number_of_kind Kind.Nest) ∷ []) here now
-    → NestOpened s os around (is_there q) here now
-unfolding parts_of between opening close unfolding_.behind meaning part tree_of is_there mark_of may_be_empty
-nest-goes s os around q at st here now needs =
+-- the parts of a nested name, const where its third part is there, and called on what its fourth says
+nest-goes : (s : List ℕ) (os : List Opened) (around : Around) (q r : Value) (at : ℕ) (st : State) (here : ℕ) (now : State)
+    → Comes s (opened (standing (rule_of Production.NestedName) (78 ∷ []) at around st) (nothing_there ∷ nothing_there ∷ q ∷ [])
+    (OfKind (number_of_kind Kind.Nest) ∷ []) ∷ os) r here now
+    → NestOpened s os around (is_there q) (mark_of r) here now
+unfolding parts_of between opening close unfolding_.behind meaning part tree_of is_there mark_of
+nest-goes s os around q r at st here now comes =
     let p = Production.NestedName in
-    let rule = standing (rule_of p) (78 ∷ []) at around st in
-    let before = nothing_there ∷ nothing_there ∷ q ∷ [] in
-    let known = nothing_there ∷ nothing_there ∷ q ∷ nothing_there ∷ [] in
-    let nest = OfKind (number_of_kind Kind.Nest) in
+    let known = nothing_there ∷ nothing_there ∷ q ∷ r ∷ [] in
     record {
-      inner = opened rule known [] ∷ os;
-      awaits = needs-next s p (78 ∷ []) at around st known nest [] os here now around known now refl
-          (expects-empty s Kind.MaybeRef around (opened rule before (nest ∷ []) ∷ os) here now
-          (needs-next s p (78 ∷ []) at around st before (OfKind (number_of_kind Kind.MaybeRef)) (nest ∷ []) os here now around before now refl
-          needs) refl);
-      onward = λ t listed there then_ last.
-          ends s p (78 ∷ []) at around st (nothing_there ∷ nothing_there ∷ q ∷ nothing_there ∷ tree t listed ∷ []) os there then_ _ then_ last refl;
+      inner = opened (standing (rule_of p) (78 ∷ []) at around st) known [] ∷ os;
+      awaits = needs-next s p (78 ∷ []) at around st known (OfKind (number_of_kind Kind.Nest)) [] os here now around known now refl comes;
+      onward = λ t listed there then_ last. ends s p (78 ∷ []) at around st (known ++ tree t listed ∷ []) os there then_ _ then_ last refl;
     }
 
--- a nested name begins with an N, and a K behind it if it is const
-pub name-nested : (s : List ℕ) (os : List Opened) (around : Around) (const : Bool) (at : ℕ) (st : State)
-    → Expects s Kind.CompleteName around os at st → StandsAt s at (nest_marks const)
-    → NestOpened s os around const (at + length (nest_marks const)) st
-unfolding choose alternatives pick is_in in_ranges among is_chain parts_of between opening close unfolding_.behind meaning part is_there may_be_empty
-name-nested s os around const at st expects stands = go const stands
+-- what says that a function is const
+abbrev quality : (const : Bool) → Value
+quality true = letter 75
+quality false = nothing_there
+
+quality-is : (const : Bool) → is_there (quality const) ≡ const
+unfolding is_there
+quality-is true = refl
+quality-is false = refl
+
+-- a nested name begins with an N, and its qualifiers behind it
+pub name-nested : (s : List ℕ) (os : List Opened) (around : Around) (const : Bool) (on : RefQualifier) (at : ℕ) (st : State)
+    → Expects s Kind.CompleteName around os at st → StandsAt s at (nest_marks const on)
+    → NestOpened s os around const on (at + length (nest_marks const on)) st
+unfolding choose alternatives pick is_in in_ranges among is_chain parts_of between opening close unfolding_.behind meaning part is_there mark_of may_be_empty
+name-nested s os around const on at st expects stands = go on stands
   where
     p : Production
     p = Production.NestedName
@@ -219,18 +222,46 @@ name-nested s os around const at st expects stands = go const stands
         needs-next s p (78 ∷ []) at around st (nothing_there ∷ nothing_there ∷ []) (part_of Kind.MaybeConst)
         (part_of Kind.MaybeRef ∷ part_of Kind.Nest ∷ []) os (at + 1) st around (nothing_there ∷ nothing_there ∷ []) st refl (unqualified first)
 
-    go : (c : Bool) → StandsAt s at (nest_marks c) → NestOpened s os around c (at + length (nest_marks c)) st
-    go true there =
+    const-comes : (c : Bool) → StandsAt s at (78 ∷ const_letter c)
+        → Comes s (opened rule (nothing_there ∷ nothing_there ∷ []) (part_of Kind.MaybeRef ∷ part_of Kind.Nest ∷ []) ∷ os) (quality c)
+        (at + length (78 ∷ const_letter c)) st
+    const-comes true there =
         let places = stands-split s at (78 ∷ []) (75 ∷ []) there in
-        subst (λ n. NestOpened s os around true n st) (omega arith)
-        (nest-goes s os around (letter 75) at st (at + 1 + 1) st
-        (mark-comes s (opened rule (nothing_there ∷ nothing_there ∷ []) (part_of Kind.MaybeRef ∷ part_of Kind.Nest ∷ []) ∷ os) Kind.MaybeConst 75
-        around (at + 1) st refl (omega arith) (awaits-const places.0) places.1))
-    go false there =
-        nest-goes s os around nothing_there at st (at + 1) st
-        (expects-empty s Kind.MaybeConst around
+        let above : List Opened = opened rule (nothing_there ∷ nothing_there ∷ []) (part_of Kind.MaybeRef ∷ part_of Kind.Nest ∷ []) ∷ os in
+        comes-moved s above (letter 75) (at + 1 + 1) (at + 2) st (omega arith)
+        (mark-comes s above Kind.MaybeConst 75 around (at + 1) st refl (omega arith) (awaits-const places.0) places.1)
+    const-comes false there =
+        expects-empty s Kind.MaybeConst around
         (opened rule (nothing_there ∷ nothing_there ∷ []) (part_of Kind.MaybeRef ∷ part_of Kind.Nest ∷ []) ∷ os) (at + 1) st
-        (awaits-const there) refl)
+        (awaits-const there) refl
+
+    awaits-ref : (c : Bool) → StandsAt s at (78 ∷ const_letter c) → Expects s Kind.MaybeRef around
+        (opened rule (nothing_there ∷ nothing_there ∷ quality c ∷ []) (part_of Kind.Nest ∷ []) ∷ os) (at + length (78 ∷ const_letter c)) st
+    awaits-ref c there =
+        needs-next s p (78 ∷ []) at around st (nothing_there ∷ nothing_there ∷ quality c ∷ []) (part_of Kind.MaybeRef) (part_of Kind.Nest ∷ []) os
+        (at + length (78 ∷ const_letter c)) st around (nothing_there ∷ nothing_there ∷ quality c ∷ []) st refl (const-comes c there)
+
+    -- with the letter of a reference, which is one of these
+    referred : (byte : ℕ) → choose Kind.MaybeRef byte ≡ Some Production.Mark → byte < 256
+        → StandsAt s at (78 ∷ (const_letter const ++ byte ∷ []))
+        → NestOpened s os around const (mark_of (letter byte)) (at + length (78 ∷ (const_letter const ++ byte ∷ []))) st
+    referred byte chosen below there =
+        let front : List ℕ = 78 ∷ const_letter const in
+        let places = stands-split s at front (byte ∷ []) there in
+        subst (λ n. NestOpened s os around const (mark_of (letter byte)) n st) (omega (arith, length-append front (byte ∷ [])))
+        (subst (λ c. NestOpened s os around c (mark_of (letter byte)) (at + length front + 1) st) (quality-is const)
+        (nest-goes s os around (quality const) (letter byte) at st (at + length front + 1) st
+        (mark-comes s (opened rule (nothing_there ∷ nothing_there ∷ quality const ∷ []) (part_of Kind.Nest ∷ []) ∷ os) Kind.MaybeRef byte
+        around (at + length front) st chosen below (awaits-ref const places.0) places.1)))
+
+    go : (ref : RefQualifier) → StandsAt s at (nest_marks const ref) → NestOpened s os around const ref (at + length (nest_marks const ref)) st
+    go any_value there =
+        subst (λ c. NestOpened s os around c any_value (at + length (78 ∷ const_letter const)) st) (quality-is const)
+        (nest-goes s os around (quality const) nothing_there at st (at + length (78 ∷ const_letter const)) st
+        (expects-empty s Kind.MaybeRef around (opened rule (nothing_there ∷ nothing_there ∷ quality const ∷ []) (part_of Kind.Nest ∷ []) ∷ os)
+        (at + length (78 ∷ const_letter const)) st (awaits-ref const there) refl))
+    go lvalue_only there = referred 82 refl (omega arith) there
+    go rvalue_only there = referred 79 refl (omega arith) there
 
 -- a name of its own, with or without arguments behind it
 pub name-source : (s : List ℕ) (os : List Opened) (around : Around) (at : ℕ) (name : List ℕ) (end : ℕ) (st : State)

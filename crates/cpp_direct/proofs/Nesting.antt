@@ -6,12 +6,14 @@ use Rattle.sym_core.specs.declared.NumberKind.TheVariants.{Seq36}
 use Rattle.sym_core.specs.Value.{counted_value}
 use Rattle.cpp_grammar.specs.declared.kind.Kind.{Kind}
 use Rattle.cpp_grammar.specs.Grammar.{among, may_be_empty}
-use Rattle.cpp_grammar.specs.Term.{Term, alone, in_std, source, abbreviation, instance, any_value}
+use Rattle.cpp_grammar.specs.Term.{Term, alone, in_std, source, abbreviation, instance}
 use Rattle.cpp_grammar.specs.Texts.{Naming, look_up, abbreviation_texts, same_bytes}
 use Rattle.cpp_grammar.specs.Parts.{source_text}
 use Rattle.cpp_grammar.specs.Scope.{has_return_type, arguments_of, is_structor}
 use Rattle.cpp_grammar.specs.Values.{State, Around, tree, named, tree_of, qualifiers_of, ref_of}
 use Rattle.cpp_grammar.specs.Between.{after, inside, no_items}
+use Rattle.cpp_direct.specs.declared.open.Mark.{Mark}
+use Rattle.cpp_direct.specs.Marks.{has_const, called_on}
 use Rattle.cpp_direct.specs.declared.open.Candidate.{Candidate}
 use Rattle.cpp_direct.specs.declared.open.Nest.{Nest}
 use Rattle.cpp_direct.specs.declared.open.Purpose.{Purpose}
@@ -232,20 +234,20 @@ type-ended s old new st t candidates n here is_type keeps =
     }
 
 -- it is the name of the encoding
-pub name-comes : (s : List ℕ) (old : Direct) (st : State) (t : Term) (is_const : Bool)
+pub name-comes : (s : List ℕ) (old : Direct) (st : State) (t : Term) (mark : Mark)
     → AreCandidates old.text.list.items old.candidates.list.items st.candidates → IsNesting s Kind.NestTail old t st
     → (old.nest.is_instance ≡ false → has_return_type t ≡ false) → (old.nest.is_instance ≡ true → has_return_type t ≡ true)
     → (old.nest.is_instance ≡ true → old.argument.from ≤ old.argument.to → IsArgument old.text.list.items old.argument t)
     → StandsAt s old.at (69 ∷ [])
-    → old.nest.purpose ≡ purposes.Name is_const → IsNameEnded s (record old { at = old.at + 1 }) is_const old.nest.is_instance old.nest.from
+    → old.nest.purpose ≡ purposes.Name mark → IsNameEnded s (record old { at = old.at + 1 }) mark old.nest.is_instance old.nest.from
 unfolding tree_of qualifiers_of ref_of
-name-comes s old st t is_const candidates n no_return returns names here is_name =
+name-comes s old st t mark candidates n no_return returns names here is_name =
     let serves = subst (λ p. Serves s p (Stands s (reverse old.waiting.list.items)) n.outer n.front) is_name n.serves in
     record {
       state = st;
       candidates = candidates;
       own = t;
-      v = named t (qualifiers is_const) any_value;
+      v = named t (qualifiers (has_const mark)) (called_on mark);
       tree_is = refl;
       qualifiers_are = refl;
       mark_is = refl;
@@ -261,10 +263,10 @@ name-comes s old st t is_const candidates n no_return returns names here is_name
     }
 
 -- the E of one that an operator ends
-pub operator-ends : (s : List ℕ) (w : Direct) (is_const : Bool) → IsOperatorRead s w → StandsAt s w.at (69 ∷ [])
-    → w.nest.purpose ≡ purposes.Name is_const → IsNameEnded s (record w { at = w.at + 1 }) is_const false w.nest.from
+pub operator-ends : (s : List ℕ) (w : Direct) (mark : Mark) → IsOperatorRead s w → StandsAt s w.at (69 ∷ [])
+    → w.nest.purpose ≡ purposes.Name mark → IsNameEnded s (record w { at = w.at + 1 }) mark false w.nest.from
 unfolding may_be_empty tree_of qualifiers_of ref_of
-operator-ends s w is_const p here is_name =
+operator-ends s w mark p here is_name =
     let t = p.own in
     let st = p.state in
     let serves = subst (λ u. Serves s u (Stands s (reverse w.waiting.list.items)) p.outer p.front) is_name p.serves in
@@ -273,7 +275,7 @@ operator-ends s w is_const p here is_name =
       state = st;
       candidates = p.candidates;
       own = t;
-      v = named t (qualifiers is_const) any_value;
+      v = named t (qualifiers (has_const mark)) (called_on mark);
       tree_is = refl;
       qualifiers_are = refl;
       mark_is = refl;

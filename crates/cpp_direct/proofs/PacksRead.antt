@@ -1,7 +1,7 @@
 -- The first element of a pack that is the first argument of a name: it may be alone.
-use Rattle.std.proofs.Common.{◌≡◌, ◌≢◌, ℕ, ◌+◌, ◌-◌, length, List, [], ◌∷◌, ◌++◌, reverse, slice_get, inr, inl, Bool, true, false, Some, refl, ap, sym, ◌∙◌, subst, arith, codes, append-nil}
+use Rattle.std.proofs.Common.{◌≡◌, ◌≢◌, ℕ, ◌+◌, ◌-◌, length, List, [], ◌∷◌, ◌++◌, reverse, slice_get, inr, inl, Bool, true, false, Some, refl, ap, sym, ◌∙◌, subst, codes, append-nil}
 use Rattle.std.proofs.lemmas.Bool.{false≢true}
-use Rattle.std.proofs.lemmas.List.{length-append, length-reverse}
+use Rattle.std.proofs.lemmas.List.{length-append}
 use Rattle.cpp_grammar.specs.declared.kind.Kind.{Kind}
 use Rattle.cpp_grammar.specs.Grammar.{may_be_empty}
 use Rattle.cpp_grammar.specs.Term.{Term, nil, list, instance, pack}
@@ -13,7 +13,7 @@ use Rattle.cpp_direct.specs.declared.open.Step.TheVariants as steps
 use Rattle.cpp_direct.specs.declared.direct.Direct.{Direct}
 use Rattle.cpp_direct.specs.Holes.{Expects, StandsAt}
 use Rattle.cpp_direct.specs.Prints.{IsElement, PrintAllBy}
-use Rattle.cpp_direct.specs.Stands.{AreCandidates, ArgumentsGoOn, Belongs, Closes, GoesOn, IsScoped, IsTemplate, IsWriting, Listing, of_template, of_pack, Owns, Stands, extra_of, led_by}
+use Rattle.cpp_direct.specs.Stands.{AreCandidates, ArgumentsGoOn, Belongs, EndsNamed, Closes, GoesOn, IsScoped, IsTemplate, IsWriting, Listing, of_template, of_pack, Owns, Stands, extra_of, led_by}
 use Rattle.cpp_direct.specs.Ways.{IsPackElementRead, IsListEnded}
 use Rattle.cpp_direct.proofs.Arguments.{none-text}
 use Rattle.cpp_direct.proofs.Kept.{reverse-last, template-stays}
@@ -25,20 +25,16 @@ use Rattle.cpp_direct.proofs.Scopes.{none-scoped}
 
 -- the first element of such a pack comes next
 pub element-begins : (s : List ℕ) (old new : Direct) (from : ℕ) → IsWriting s old (steps.List true)
-    → length old.waiting.list.items ≡ 1 → StandsAt s old.at (74 ∷ []) → from ≡ length old.text.list.items
+    → EndsNamed (reverse old.waiting.list.items) → StandsAt s old.at (74 ∷ []) → from ≡ length old.text.list.items
     → new.waiting.list.items ≡ (old.waiting.list.items ++ opens.Pack ∷ []) ++ opens.Element from ∷ [] → new.text ≡ old.text
     → new.candidates ≡ old.candidates → new.at ≡ old.at + 1 → IsWriting s new steps.Type
 unfolding no_items tree_of
-element-begins s old new from p one letter from_is waits text candidates at = go p.is_before.0.listing refl
+element-begins s old new from p named letter from_is waits text candidates at = go p.is_before.0.listing refl
   where
     go : (l : Listing) → p.is_before.0.listing ≡ l → IsWriting s new steps.Type
     go (of_pack before written) is =
-        absurd (omega (
-          arith,
-          one,
-          length-reverse old.waiting.list.items,
-          ap length (subst (λ l. Belongs l (reverse old.waiting.list.items) p.is_before.0.owner p.is_before.0.rest) is p.is_before.0.belongs).0,
-        ))
+        absurd (subst (λ ws. EndsNamed ws)
+        (subst (λ l. Belongs l (reverse old.waiting.list.items) p.is_before.0.owner p.is_before.0.rest) is p.is_before.0.belongs).0 named)
     go of_template is =
         let place = p.is_before.0 in
         let o = place.owner in

@@ -38,6 +38,22 @@ pub function-encloses : (name : Term) (q : Qualifiers) (ref : RefQualifier) (ite
 unfolding bare_parts full_parts function_full prefix_item is_open pack_length
 function-encloses name q ref items b p = encloses-as (function name q ref absent items) b refl (λ c. refl) refl (λ k. refl) p
 
+-- Of one that has a return type this isn't shown there.
+pub returned-encloses : (name : Term) (q : Qualifiers) (ref : RefQualifier) (returned items : Term) (b : List ℕ)
+    → Shows (function name q ref absent items) b → Encloses (function name q ref returned items) b
+unfolding bare_parts full_parts function_full prefix_item is_open pack_length parts_in
+returned-encloses name q ref returned items b p =
+    let e = function name q ref returned items in
+    let same : in_form bare closed e ≡ in_form full closed (function name q ref absent items) =
+    prints_parts bare closed e ∙ sym (prints_parts full closed (function name q ref absent items)) in
+    record {
+      as_prefix = λ c. refl;
+      bare_text = ap text_of same ∙ p.shown_text;
+      bare_cost = omega (arith, p.shown_cost, ap cost_of same);
+      is_closed = refl;
+      packless = λ scope. refl;
+    }
+
 object-encloses : (name : Term) (q : Qualifiers) (ref : RefQualifier) (b : List ℕ) → Shows (object name q ref) b → Encloses (object name q ref) b
 unfolding bare_parts full_parts prefix_item is_open pack_length
 object-encloses name q ref b p = encloses-as (object name q ref) b refl (λ c. refl) refl (λ k. refl) p

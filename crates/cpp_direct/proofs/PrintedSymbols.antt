@@ -1,17 +1,19 @@
 -- Encodings of which the text is known, and the symbols that they are.
-use Rattle.std.proofs.Common.{◌≡◌, ◌≢◌, refl, ap, sym, ◌∙◌, ℕ, ◌*◌, ◌≤◌, List, [], ◌∷◌, ◌++◌, length, Bool, true, false, cond, ◌&&◌, arith, codes, length-append, append-nil, append_assoc, subst}
+use Rattle.std.proofs.Common.{◌≡◌, ◌≢◌, refl, ap, sym, ◌∙◌, ℕ, ◌*◌, ◌≤◌, List, [], ◌∷◌, ◌++◌, length, Bool, true, false, ◌&&◌, arith, codes, length-append, append-nil, append_assoc, subst}
 use Rattle.sym_print.specs.declared.detail.Detail.TheVariants.{Full}
 use Rattle.sym_print.specs.Unfold.{text}
 use Rattle.sym_print.specs.Unshared.{text_of, cost_of}
-use Rattle.cpp_grammar.specs.Term.{Qualifiers, RefQualifier, any_value, non_virtual, by_table, Thunk, adjusting, covariant, Term, symbol, function, object, special, thunk, builtin, nil, list, absent}
+use Rattle.cpp_grammar.specs.Term.{Qualifiers, RefQualifier, non_virtual, by_table, Thunk, adjusting, covariant, Term, symbol, function, object, special, thunk, builtin, nil, list, absent}
 use Rattle.cpp_grammar.specs.Scope.{has_return_type}
 use Rattle.cpp_grammar.specs.Texts.{look_up, special_texts}
 use Rattle.cpp_grammar.specs.Items.{root, full, left, right, first, Context, closed}
 use Rattle.cpp_grammar.specs.Values.{Value, tree_of, qualifiers_of, ref_of}
 use Rattle.cpp_grammar.specs.Meaning.{is_void, is_nil, parameters, encoding_of}
-use Rattle.cpp_grammar.specs.Parts.{as_item, says, text_part, list_part, types_of, qualifier_text, ref_text, encoding_text, function_bare, function_full, thunk_text, full_parts, left_parts, root_parts, parts_in, not_empty}
+use Rattle.cpp_grammar.specs.Parts.{as_item, says, text_part, list_part, types_of, encoding_text, function_bare, function_full, thunk_text, full_parts, left_parts, root_parts, parts_in, not_empty}
 use Rattle.cpp_grammar.specs.Answer.{shown, root_item}
-use Rattle.cpp_direct.specs.Prints.{in_form, Prints, PrintsName, PrintsIn, IsElement, Shows, list_of, joined, PrintEachIn, PrintAllIn}
+use Rattle.cpp_direct.specs.declared.open.Mark.{Mark}
+use Rattle.cpp_direct.specs.Marks.{has_const, called_on}
+use Rattle.cpp_direct.specs.Prints.{in_form, PrintsName, PrintsIn, IsElement, Shows, list_of, joined, PrintEachIn, PrintAllIn}
 use Rattle.cpp_direct.specs.Stands.{qualifiers, plain_encoding}
 use Rattle.cpp_direct.proofs.PrintedParts.{printed_by, text_by, cost_by, text_first, cost_first, text_append, cost_append, part-text, part-cost, length-filled}
 use Rattle.cpp_direct.proofs.PrintedLists.{list-text-in, list-cost-in, none-print-in}
@@ -199,27 +201,27 @@ unfolding encoding_of
 returned-items v e r items = rw (e, encoding_of) refl
 
 -- A name that has no return type makes a function without one of its items.
-pub encoding-plain : (v : Value) (is_const : Bool) (own : Term) → tree_of v ≡ own → qualifiers_of v ≡ qualifiers is_const → ref_of v ≡ any_value
-    → has_return_type own ≡ false → (t rest : Term) → encoding_of v (list t rest) ≡ plain_encoding is_const own (list t rest)
-encoding-plain v is_const own e f g none t rest = plain-items v (ap has_return_type e ∙ none) t rest ∙ rw (e, f, g) refl
+pub encoding-plain : (v : Value) (mark : Mark) (own : Term) → tree_of v ≡ own → qualifiers_of v ≡ qualifiers (has_const mark) → ref_of v ≡ called_on mark
+    → has_return_type own ≡ false → (t rest : Term) → encoding_of v (list t rest) ≡ plain_encoding mark own (list t rest)
+encoding-plain v mark own e f g none t rest = plain-items v (ap has_return_type e ∙ none) t rest ∙ rw (e, f, g) refl
 
 -- Of a name that has one the first item is the return type.
-pub encoding-returned : (v : Value) (is_const : Bool) (own : Term) → tree_of v ≡ own → qualifiers_of v ≡ qualifiers is_const → ref_of v ≡ any_value
-    → has_return_type own ≡ true → (r items : Term) → encoding_of v (list r items) ≡ function own (qualifiers is_const) any_value r (parameters items)
-encoding-returned v is_const own e f g returns r items = returned-items v (ap has_return_type e ∙ returns) r items ∙ rw (e, f, g) refl
+pub encoding-returned : (v : Value) (mark : Mark) (own : Term) → tree_of v ≡ own → qualifiers_of v ≡ qualifiers (has_const mark) → ref_of v ≡ called_on mark
+    → has_return_type own ≡ true → (r items : Term) → encoding_of v (list r items) ≡ function own (qualifiers (has_const mark)) (called_on mark) r (parameters items)
+encoding-returned v mark own e f g returns r items = returned-items v (ap has_return_type e ∙ returns) r items ∙ rw (e, f, g) refl
 
 -- Parameters that aren't a lone void are those of the function that they make.
-pub made-with : (is_const : Bool) (own : Term) (make : Term → Term) → ((t rest : Term) → make (list t rest) ≡ plain_encoding is_const own (list t rest))
+pub made-with : (mark : Mark) (own : Term) (make : Term → Term) → ((t rest : Term) → make (list t rest) ≡ plain_encoding mark own (list t rest))
     → (ts : List Term) → ts ≢ [] → parameters (list_of ts) ≡ list_of ts
-    → make (list_of ts) ≡ function own (qualifiers is_const) any_value absent (list_of ts)
-made-with is_const own make makes [] some kept = absurd (some refl)
-made-with is_const own make makes (t ∷ ts) some kept = makes t (list_of ts) ∙ ap (function own (qualifiers is_const) any_value absent) kept
+    → make (list_of ts) ≡ function own (qualifiers (has_const mark)) (called_on mark) absent (list_of ts)
+made-with mark own make makes [] some kept = absurd (some refl)
+made-with mark own make makes (t ∷ ts) some kept = makes t (list_of ts) ∙ ap (function own (qualifiers (has_const mark)) (called_on mark) absent) kept
 
 -- A lone void makes a function without parameters.
-pub made-void : (is_const : Bool) (own : Term) (make : Term → Term) → ((t rest : Term) → make (list t rest) ≡ plain_encoding is_const own (list t rest))
-    → make (list_of (builtin (118 ∷ []) ∷ [])) ≡ function own (qualifiers is_const) any_value absent nil
+pub made-void : (mark : Mark) (own : Term) (make : Term → Term) → ((t rest : Term) → make (list t rest) ≡ plain_encoding mark own (list t rest))
+    → make (list_of (builtin (118 ∷ []) ∷ [])) ≡ function own (qualifiers (has_const mark)) (called_on mark) absent nil
 unfolding parameters is_void is_nil
-made-void is_const own make makes = makes (builtin (118 ∷ [])) nil
+made-void mark own make makes = makes (builtin (118 ∷ [])) nil
 
 -- A name without items is data.
 pub encoding-object : (v : Value) → encoding_of v nil ≡ object (tree_of v) (qualifiers_of v) (ref_of v)
@@ -240,12 +242,6 @@ pub object-encoded : (v : Value) (b : List ℕ) → PrintsName (tree_of v) b
     → Shows (encoding_of v nil) (b ++ encoding_text (qualifiers_of v) (ref_of v))
 object-encoded v b p = subst (λ f. Shows f (b ++ encoding_text (qualifiers_of v) (ref_of v))) (sym (encoding-object v))
     (object-shows (tree_of v) b p (qualifiers_of v) (ref_of v))
-
--- The qualifiers of a name: const, or none.
-pub const-text : (const : Bool) → encoding_text (record { restrict = false; volatile = false; const = const }) any_value ≡ cond const (codes " const") []
-unfolding encoding_text qualifier_text ref_text
-const-text true = refl
-const-text false = refl
 
 -- ## Symbols
 

@@ -1,11 +1,12 @@
 -- What a parameter of a template may name, and where it stands.
-use Rattle.std.proofs.Common.{◌≡◌, ℕ, ◌≤◌, List, ◌∷◌, ◌++◌, Bool, None, ap, sym, ◌∙◌, subst, append_assoc}
+use Rattle.std.proofs.Common.{◌≡◌, ℕ, ◌≤◌, List, ◌∷◌, ◌++◌, None, ap, sym, ◌∙◌, subst, append_assoc}
 use Rattle.cpp_grammar.specs.Term.{Term}
 use Rattle.cpp_grammar.specs.Values.{Around}
+use Rattle.cpp_direct.specs.declared.open.Mark.{Mark}
 use Rattle.cpp_direct.specs.declared.open.Open.{Open}
 use Rattle.cpp_direct.specs.declared.open.Open.TheVariants as opens
 use Rattle.cpp_direct.specs.declared.open.Argument.{Argument}
-use Rattle.cpp_direct.specs.Stands.{IsPlaced, IsArgument, IsFunction, IsScope, IsScoped, argument_of}
+use Rattle.cpp_direct.specs.Stands.{IsPlaced, IsArgument, IsEnclosing, IsFunction, IsScope, IsScoped, argument_of}
 
 -- what stands at a place stays there where more is written
 pub placed-stays : (text more : List ℕ) (p : Argument) (bytes : List ℕ) → IsPlaced text p bytes → IsPlaced (text ++ more) p bytes
@@ -28,10 +29,22 @@ argument-stays text more p name h = record {
 }
 
 -- and a function's
-pub function-stays : (text more : List ℕ) (p : Argument) (is_const : Bool) (make : Term → Term) (ts : List Term) (name texts : List ℕ)
-    → IsFunction text p is_const make ts name texts → IsFunction (text ++ more) p is_const make ts name texts
-function-stays text more p is_const make ts name texts f = record {
+pub function-stays : (text more : List ℕ) (p : Argument) (mark : Mark) (make : Term → Term) (ts : List Term) (name texts : List ℕ)
+    → IsFunction text p mark make ts name texts → IsFunction (text ++ more) p mark make ts name texts
+function-stays text more p mark make ts name texts f = record {
   own = f.own;
+  makes = f.makes;
+  prints = f.prints;
+  elements = f.elements;
+  names = λ o. argument-stays text more p f.own (f.names o);
+}
+
+-- and that of a function in which a type stands
+pub enclosing-stays : (text more : List ℕ) (p : Argument) (mark : Mark) (make : Term → Term) (ts : List Term) (name texts : List ℕ)
+    → IsEnclosing text p mark make ts name texts → IsEnclosing (text ++ more) p mark make ts name texts
+enclosing-stays text more p mark make ts name texts f = record {
+  own = f.own;
+  returned = f.returned;
   makes = f.makes;
   prints = f.prints;
   elements = f.elements;
@@ -43,14 +56,19 @@ scoped-by around p q e h ordered =
     subst (λ (k : Argument). IsScope k.is_pack around) (sym e) (h (subst (λ (k : Argument). k.from ≤ k.to) e ordered))
 
 -- a parameter of a function may name its argument
-pub parameters-scoped : (around : Around) (is_const : Bool) (start : ℕ) (p : Argument) (rest : List Open) → (p.from ≤ p.to → IsScope p.is_pack around)
-    → IsScoped around (opens.Parameters is_const start p ∷ rest)
-parameters-scoped around is_const start p rest h q e ordered = scoped-by around p q (cc e) h ordered
+pub parameters-scoped : (around : Around) (mark : Mark) (start : ℕ) (p : Argument) (rest : List Open) → (p.from ≤ p.to → IsScope p.is_pack around)
+    → IsScoped around (opens.Parameters mark start p ∷ rest)
+parameters-scoped around mark start p rest h q e ordered = scoped-by around p q (cc e) h ordered
 
 -- and so may its return type
-pub front-scoped : (around : Around) (is_const : Bool) (start : ℕ) (p : Argument) (rest : List Open) → (p.from ≤ p.to → IsScope p.is_pack around)
-    → IsScoped around (opens.Front is_const start p ∷ rest)
-front-scoped around is_const start p rest h q e ordered = scoped-by around p q (cc e) h ordered
+pub front-scoped : (around : Around) (mark : Mark) (start : ℕ) (p : Argument) (rest : List Open) → (p.from ≤ p.to → IsScope p.is_pack around)
+    → IsScoped around (opens.Front mark start p ∷ rest)
+front-scoped around mark start p rest h q e ordered = scoped-by around p q (cc e) h ordered
+
+-- a parameter of a function in which a type stands may name its argument, too
+pub enclosing-scoped : (around : Around) (mark : Mark) (from : ℕ) (p : Argument) (rest : List Open) → (p.from ≤ p.to → IsScope p.is_pack around)
+    → IsScoped around (opens.Enclosing mark from p ∷ rest)
+enclosing-scoped around mark from p rest h q e ordered = scoped-by around p q (cc e) h ordered
 
 -- elsewhere none does
 pub none-scoped : (around : Around) (open_ : List Open) → argument_of open_ ≡ None → IsScoped around open_

@@ -8,6 +8,7 @@ use Rattle.cpp_grammar.specs.Term.{Term, builtin, nil, list, pointer}
 use Rattle.cpp_grammar.specs.Values as values
 use Rattle.cpp_grammar.specs.Values.{Around, State, tree}
 use Rattle.cpp_grammar.specs.declared.kind.Kind.{Kind}
+use Rattle.cpp_direct.specs.declared.open.Mark.{Mark}
 use Rattle.cpp_direct.specs.declared.open.Candidate.{Candidate}
 use Rattle.cpp_direct.specs.declared.open.Open.{Open}
 use Rattle.cpp_direct.specs.declared.open.Open.TheVariants as opens
@@ -377,12 +378,12 @@ function-handed s old new is_pointer o p text candidates waits at found =
 
 -- what takes a function type, and isn't parameters or a special object, takes elements
 pub takes-as-element : (o : Open) (rest ws : List Open) → ws ≡ o ∷ rest → TakesFunction ws
-    → ((x : Bool) (y : ℕ) (z : Argument) → o ≡ opens.Parameters x y z → ⊥)
-    → (o ≡ opens.Special → ⊥) → ((x : Bool) (y : ℕ) → o ≡ opens.Enclosing x y → ⊥) → TakesElements o
+    → ((x : Mark) (y : ℕ) (z : Argument) → o ≡ opens.Parameters x y z → ⊥)
+    → (o ≡ opens.Special → ⊥) → ((x : Mark) (y : ℕ) (z : Argument) → o ≡ opens.Enclosing x y z → ⊥) → TakesElements o
 takes-as-element o rest ws is takes apart no_special within = go o (subst TakesFunction is takes) apart no_special within
   where
-    go : (o : Open) → TakesFunction (o ∷ rest) → ((x : Bool) (y : ℕ) (z : Argument) → o ≡ opens.Parameters x y z → ⊥) → (o ≡ opens.Special → ⊥)
-        → ((x : Bool) (y : ℕ) → o ≡ opens.Enclosing x y → ⊥) → TakesElements o
+    go : (o : Open) → TakesFunction (o ∷ rest) → ((x : Mark) (y : ℕ) (z : Argument) → o ≡ opens.Parameters x y z → ⊥) → (o ≡ opens.Special → ⊥)
+        → ((x : Mark) (y : ℕ) (z : Argument) → o ≡ opens.Enclosing x y z → ⊥) → TakesElements o
     go (opens.TypeArguments from) takes apart z m = tt
     go (opens.NestArguments nest) takes apart z m = tt
     go (opens.FirstArguments nest) takes apart z m = tt
@@ -390,5 +391,5 @@ takes-as-element o rest ws is takes apart no_special within = go o (subst TakesF
     go opens.Pack takes apart z m = tt
     go (opens.Parameters x y w) takes apart z m = absurd (apart x y w refl)
     go opens.Special takes apart z m = absurd (z refl)
-    go (opens.Enclosing x y) takes apart z m = absurd (m x y refl)
+    go (opens.Enclosing x y w) takes apart z m = absurd (m x y w refl)
     go _ takes apart z m = absurd takes

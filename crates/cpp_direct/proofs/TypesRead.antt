@@ -230,7 +230,7 @@ pub abbreviation-listed : (letter : ℕ) → look_up (letter ∷ []) abbreviatio
 unfolding is_abbreviated abbreviation_texts code_in codes_in among
 abbreviation-listed letter has = letter-listed abbreviation_texts abbreviation_letters letter refl has
 
-no-builtin : (letter : ℕ) → is_builtin letter ≡ true → letter ≢ 0
+pub no-builtin : (letter : ℕ) → is_builtin letter ≡ true → letter ≢ 0
 unfolding is_builtin among
 no-builtin letter is none = absurd (false≢true (subst (λ l. is_builtin l ≡ true) none is))
 

@@ -9,6 +9,7 @@ use Rattle.cpp_grammar.specs.Parts.{source_text}
 use Rattle.cpp_grammar.specs.Scope.{has_return_type, arguments_of, is_structor}
 use Rattle.cpp_grammar.specs.Values.{State, piece, tree, tree_of, qualifiers_of, ref_of}
 use Rattle.cpp_grammar.specs.Between.{after, in_name, inside, no_items}
+use Rattle.cpp_direct.specs.declared.open.Mark.TheVariants as marks
 use Rattle.cpp_direct.specs.declared.open.Open.TheVariants as opens
 use Rattle.cpp_direct.specs.declared.open.Step.{Step}
 use Rattle.cpp_direct.specs.declared.open.Step.TheVariants as steps
@@ -158,7 +159,7 @@ std-operator-unscoped s old marked read first second a b takes p letter next mar
 -- ## What stands behind it
 
 -- no arguments
-pub unscoped-bare : (s : List ℕ) (w : Direct) (from : ℕ) (takes : Bool) → IsUnscoped s w from takes → IsNameEnded s w false false from
+pub unscoped-bare : (s : List ℕ) (w : Direct) (from : ℕ) (takes : Bool) → IsUnscoped s w from takes → IsNameEnded s w marks.Plain false from
 unfolding may_be_empty tree_of qualifiers_of ref_of
 unscoped-bare s w from takes p = record {
   state = p.state;

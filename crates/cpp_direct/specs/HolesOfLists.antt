@@ -1,12 +1,12 @@
 -- What is expected in lists, in encodings and in whole symbols that are read from left to right, and what comes of it.
-use Rattle.std.specs.Prelude.{◌≡◌, ℕ, ◌+◌, List, [], ◌∷◌, length, Bool, true, false, Ok}
+use Rattle.std.specs.Prelude.{◌≡◌, ℕ, ◌+◌, List, [], ◌∷◌, ◌++◌, length, Bool, true, false, Ok}
 use Rattle.std.specs.List.{AllByRecursion}
 use Rattle.sym_core.specs.declared.NumberKind.TheVariants.{Digits}
 use Rattle.sym_core.specs.Token.{Token, bytes_of, IsNumberToken}
 use Rattle.sym_demangle.specs.Mangled.{StandsFor}
 use Rattle.cpp_grammar.specs.declared.kind.Kind.{Kind}
 use Rattle.cpp_grammar.specs.Mangled.{cpp_mangled}
-use Rattle.cpp_grammar.specs.Term.{any_value, Adjustment, adjusting, Term, symbol, special, thunk, integer, pack}
+use Rattle.cpp_grammar.specs.Term.{RefQualifier, any_value, lvalue_only, rvalue_only, Adjustment, adjusting, Term, symbol, special, thunk, integer, pack}
 use Rattle.cpp_grammar.specs.Values.{State, Around, Value, tree, named, tree_of, signed_digits}
 use Rattle.cpp_grammar.specs.Between.{in_name, in_types, inside, no_items}
 use Rattle.cpp_grammar.specs.Meaning.{encoding_of}
@@ -102,17 +102,27 @@ pub record ThunkOpened (s : List ℕ) (outer : List Opened) (encoding : ℕ) (by
   pub onward : (e : Term) (at : ℕ) (st : State) → Comes s inner (tree e true) at st
       → Comes s outer (tree (thunk (adjusting by) e) true) at st
 
--- what a nested name begins with, const or not
-abbrev pub nest_marks : (const : Bool) → List ℕ
-nest_marks true = 78 ∷ 75 ∷ []
-nest_marks false = 78 ∷ []
+-- the letter of a function that is const
+abbrev pub const_letter : (const : Bool) → List ℕ
+const_letter true = 75 ∷ []
+const_letter false = []
 
--- The parts of a nested name are expected, which is const or not.
-pub record NestOpened (s : List ℕ) (outer : List Opened) (around : Around) (const : Bool) (at : ℕ) (st : State) : Type 0 where
+-- and the one behind it that tells what the function may be called on
+abbrev pub mark_letters : (const : Bool) → RefQualifier → List ℕ
+mark_letters const any_value = const_letter const
+mark_letters const lvalue_only = const_letter const ++ 82 ∷ []
+mark_letters const rvalue_only = const_letter const ++ 79 ∷ []
+
+-- what a nested name begins with that has these qualifiers
+abbrev pub nest_marks : (const : Bool) → RefQualifier → List ℕ
+nest_marks const on = 78 ∷ mark_letters const on
+
+-- The parts of a nested name are expected, which has these qualifiers.
+pub record NestOpened (s : List ℕ) (outer : List Opened) (around : Around) (const : Bool) (on : RefQualifier) (at : ℕ) (st : State) : Type 0 where
   pub inner : List Opened
   pub awaits : Expects s Kind.Nest around inner at st
   pub onward : (t : Term) (listed : Bool) (at : ℕ) (st : State) → Comes s inner (tree t listed) at st
-      → Comes s outer (named t (record { restrict = false; volatile = false; const = const }) any_value) at st
+      → Comes s outer (named t (record { restrict = false; volatile = false; const = const }) on) at st
 
 -- ## Symbols
 

@@ -7,6 +7,7 @@ pub mod HolesOfNests
 pub mod HolesOfTypes
 pub mod ItemBytes
 pub mod Letters
+pub mod Marks
 pub mod Names
 pub mod Prints
 pub mod Stands

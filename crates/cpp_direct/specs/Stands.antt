@@ -6,7 +6,7 @@ use Rattle.sym_demangle.specs.Mangled.{StandsFor}
 use Rattle.cpp_grammar.specs.declared.kind.Kind.{Kind}
 use Rattle.cpp_grammar.specs.Mangled.{cpp_mangled}
 use Rattle.cpp_grammar.specs.Answer.{shown, root_item}
-use Rattle.cpp_grammar.specs.Term.{Term, Qualifiers, any_value, symbol, function, special, pointer, lvalue, rvalue, qualified, instance, integer, pack, nil, list, absent}
+use Rattle.cpp_grammar.specs.Term.{Term, Qualifiers, symbol, function, special, pointer, lvalue, rvalue, qualified, instance, integer, pack, nil, list, absent}
 use Rattle.cpp_grammar.specs.Parts.{source_text}
 use Rattle.cpp_grammar.specs.Texts.{look_up, special_texts}
 use Rattle.cpp_grammar.specs.Scope.{has_return_type, is_structor, arguments_of, length_if_pack}
@@ -17,6 +17,7 @@ use Rattle.cpp_grammar.specs.Between.{no_items}
 use Rattle.cpp_grammar.specs.Meaning.{parameters, encoding_of}
 use Rattle.cpp_direct.specs.declared.open.Candidate.{Candidate}
 use Rattle.cpp_direct.specs.declared.open.Nest.{Nest}
+use Rattle.cpp_direct.specs.declared.open.Mark.{Mark}
 use Rattle.cpp_direct.specs.declared.open.Purpose.{Purpose}
 use Rattle.cpp_direct.specs.declared.open.Purpose.TheVariants as purposes
 use Rattle.cpp_direct.specs.declared.open.Open.{Open}
@@ -31,6 +32,7 @@ use Rattle.cpp_direct.specs.HolesOfFunctions.{SignatureGoesOn, plain_function}
 use Rattle.cpp_direct.specs.HolesOfTypes.{NoReference}
 use Rattle.cpp_direct.specs.HolesOfLists.{IsSuffix, IsDigitsAt, minus_sign}
 use Rattle.cpp_direct.specs.HolesOfLocals.{Discriminator, EntityOpened, IsDiscriminatorAt, IsEntityAt, IsLambdaDigit, lambda_ending, lambda_with, local_in}
+use Rattle.cpp_direct.specs.Marks.{has_const, called_on}
 use Rattle.cpp_direct.specs.Prints.{Prints, PrintsName, Shows, Encloses, NamesClass, PrintAll, PrintsBehind, PrintAllIn}
 use Rattle.cpp_grammar.specs.Parts.{types_of}
 
@@ -91,8 +93,9 @@ argument_of (opens.Pointer from ∷ rest) = argument_of rest
 argument_of (opens.Lvalue from ∷ rest) = argument_of rest
 argument_of (opens.Rvalue from ∷ rest) = argument_of rest
 argument_of (opens.Const from ∷ rest) = argument_of rest
-argument_of (opens.Front is_const start argument ∷ rest) = Some argument
-argument_of (opens.Parameters is_const start argument ∷ rest) = Some argument
+argument_of (opens.Front mark start argument ∷ rest) = Some argument
+argument_of (opens.Parameters mark start argument ∷ rest) = Some argument
+argument_of (opens.Enclosing mark from argument ∷ rest) = Some argument
 argument_of _ = None
 
 -- if there is one, a parameter may name it
@@ -195,24 +198,33 @@ abbrev pub ParametersGoOn : (s : List ℕ) → (argument : Argument) → (lead :
 ParametersGoOn s argument lead make ts at st = ItemsGoOn s argument (λ e here now. EncodedBehind s lead e here) make ts at st
 
 -- a function of this name and these items, without a return type
-abbrev pub plain_encoding : (is_const : Bool) → (own : Term) → (items : Term) → Term
-plain_encoding is_const own items = function own (qualifiers is_const) any_value absent (parameters items)
+abbrev pub plain_encoding : (mark : Mark) → (own : Term) → (items : Term) → Term
+plain_encoding mark own items = function own (qualifiers (has_const mark)) (called_on mark) absent (parameters items)
 
 -- A function's name and the parameters so far, with their texts. All parameters make a function that has no return type. The argument
 -- of its template stands at a place, or it isn't known.
-pub record IsFunction (text : List ℕ) (argument : Argument) (is_const : Bool) (make : Term → Term) (ts : List Term) (name texts : List ℕ) : Type 0 where
+pub record IsFunction (text : List ℕ) (argument : Argument) (mark : Mark) (make : Term → Term) (ts : List Term) (name texts : List ℕ) : Type 0 where
   pub own : Term
-  pub makes : (t rest : Term) → make (list t rest) ≡ plain_encoding is_const own (list t rest)
+  pub makes : (t rest : Term) → make (list t rest) ≡ plain_encoding mark own (list t rest)
+  pub prints : PrintsName own name
+  pub elements : PrintAllIn (types_of own) 6 ts texts
+  pub names : argument.from ≤ argument.to → IsArgument text argument own
+
+-- The same of a function in which a type stands. All parameters make one that has some return type, or none.
+pub record IsEnclosing (text : List ℕ) (argument : Argument) (mark : Mark) (make : Term → Term) (ts : List Term) (name texts : List ℕ) : Type 0 where
+  pub own : Term
+  pub returned : Term
+  pub makes : (t rest : Term) → make (list t rest) ≡ function own (qualifiers (has_const mark)) (called_on mark) returned (parameters (list t rest))
   pub prints : PrintsName own name
   pub elements : PrintAllIn (types_of own) 6 ts texts
   pub names : argument.from ≤ argument.to → IsArgument text argument own
 
 -- the name of a function that has a return type, and its text, and where the argument of its template stands
-pub record IsInstance (argument : Argument) (is_const : Bool) (v : Value) (name : List ℕ) : Type 0 where
+pub record IsInstance (argument : Argument) (mark : Mark) (v : Value) (name : List ℕ) : Type 0 where
   pub own : Term
   pub tree_is : tree_of v ≡ own
-  pub qualifiers_are : qualifiers_of v ≡ qualifiers is_const
-  pub mark_is : ref_of v ≡ any_value
+  pub qualifiers_are : qualifiers_of v ≡ qualifiers (has_const mark)
+  pub mark_is : ref_of v ≡ called_on mark
   pub prints : PrintsName own name
   pub returns : has_return_type own ≡ true
   pub names : argument.from ≤ argument.to → IsArgument name argument own
@@ -250,11 +262,12 @@ Serves s purposes.Type below os front =
     × ((t : Term) (listed : Bool) (at : ℕ) (st : State) → is_function_type t ≡ false → Comes s os (tree t listed) at st
     → Comes s outer (tree t true) at (unless_listed listed e t st))
     × below outer front
-Serves s (purposes.Name is_const) below os front =
-    (t : Term) (listed : Bool) (at : ℕ) (st : State) → Comes s os (tree t listed) at st → AwaitsItems s front (named t (qualifiers is_const) any_value) at st
-Serves s (purposes.Enclosing is_const) below os front =
-    (t : Term) (listed : Bool) (at : ℕ) (st : State) → Comes s os (tree t listed) at st
-    → ItemsGoOn s nowhere (TypeWithin s below front) (λ l. encoding_of (named t (qualifiers is_const) any_value) l) [] at st
+Serves s (purposes.Name mark) below os front =
+    (t : Term) (listed : Bool) (at : ℕ) (st : State) → Comes s os (tree t listed) at st → AwaitsItems s front (named t (qualifiers (has_const mark)) (called_on mark)) at st
+Serves s (purposes.Enclosing mark) below os front =
+    (text : List ℕ) (argument : Argument) (t : Term) (listed : Bool) (at : ℕ) (st : State)
+    → (argument.from ≤ argument.to → IsArgument text argument t) → Comes s os (tree t listed) at st
+    → ItemsGoOn s argument (TypeWithin s below front) (λ l. encoding_of (named t (qualifiers (has_const mark)) (called_on mark)) l) [] at st
 
 -- An instance is read, behind this text: what becomes of it.
 abbrev pub Owns : (s : List ℕ) → Open → Below → (front : List ℕ) → Term → (at : ℕ) → State → Type 0
@@ -365,6 +378,12 @@ abbrev pub opening_text : (is_pointer : Bool) → List ℕ
 opening_text true = codes " (*)("
 opening_text false = codes " ("
 
+-- the arguments that are open last are those of a name
+abbrev pub EndsNamed : List Open → Type 0
+EndsNamed (opens.NestArguments nest ∷ rest) = Unit {0}
+EndsNamed (opens.NameArguments from ∷ rest) = Unit {0}
+EndsNamed _ = ⊥
+
 -- what takes an element or a parameter may take a function type, and so may a special object
 abbrev pub TakesFunction : List Open → Type 0
 TakesFunction (opens.TypeArguments from ∷ rest) = Unit {0}
@@ -372,9 +391,9 @@ TakesFunction (opens.NestArguments nest ∷ rest) = Unit {0}
 TakesFunction (opens.FirstArguments nest ∷ rest) = Unit {0}
 TakesFunction (opens.NameArguments from ∷ rest) = Unit {0}
 TakesFunction (opens.Pack ∷ rest) = Unit {0}
-TakesFunction (opens.Parameters is_const start argument ∷ rest) = Unit {0}
+TakesFunction (opens.Parameters mark start argument ∷ rest) = Unit {0}
 TakesFunction (opens.Special ∷ rest) = Unit {0}
-TakesFunction (opens.Enclosing is_const from ∷ rest) = Unit {0}
+TakesFunction (opens.Enclosing mark from argument ∷ rest) = Unit {0}
 TakesFunction _ = ⊥
 
 -- A type comes for the last of the open ones, behind what is written.
@@ -384,19 +403,19 @@ Stands s (opens.Pointer from ∷ rest) os text = Marks s (Stands s rest) os text
 Stands s (opens.Lvalue from ∷ rest) os text = Marks s (Stands s rest) os text from lvalue
 Stands s (opens.Rvalue from ∷ rest) os text = Marks s (Stands s rest) os text from rvalue
 Stands s (opens.Const from ∷ rest) os text = Marks s (Stands s rest) os text from (qualified (qualifiers true))
-Stands s (opens.Front is_const start argument ∷ rest) os text =
-    (v : Value) × IsInstance argument is_const v text × (is_local s ≡ false) × (start ≡ length text)
+Stands s (opens.Front mark start argument ∷ rest) os text =
+    (v : Value) × IsInstance argument mark v text × (is_local s ≡ false) × (start ≡ length text)
     × ((t : Term) (at : ℕ) (st : State) → Comes s os (tree t true) at st → ParametersGoOn s argument [] (encoding_of v) (t ∷ []) at st)
-Stands s (opens.Parameters is_const start argument ∷ rest) os text =
+Stands s (opens.Parameters mark start argument ∷ rest) os text =
     (aside : List ℕ) × (lead : List ℕ) × (make : Term → Term) × (ts : List Term) × (name : List ℕ) × (texts : List ℕ)
-    × IsFunction text argument is_const make ts name texts × (start ≡ length aside)
+    × IsFunction text argument mark make ts name texts × (start ≡ length aside)
     × (text ≡ aside ++ lead ++ name ++ codes "(" ++ in_front_of_next ts texts)
     × ((t : Term) (at : ℕ) (st : State) → Comes s os (tree t true) at st → ParametersGoOn s argument lead make (ts ++ t ∷ []) at st)
-Stands s (opens.Enclosing is_const from ∷ rest) os text =
+Stands s (opens.Enclosing mark from argument ∷ rest) os text =
     (front : List ℕ) × (make : Term → Term) × (ts : List Term) × (name : List ℕ) × (texts : List ℕ)
-    × IsFunction [] nowhere is_const make ts name texts × (from ≡ length front) × (text ≡ front ++ name ++ codes "(" ++ in_front_of_next ts texts)
+    × IsEnclosing text argument mark make ts name texts × (from ≡ length front) × (text ≡ front ++ name ++ codes "(" ++ in_front_of_next ts texts)
     × ((t : Term) (at : ℕ) (st : State) → Comes s os (tree t true) at st
-    → ItemsGoOn s nowhere (TypeWithin s (Stands s rest) front) make (ts ++ t ∷ []) at st)
+    → ItemsGoOn s argument (TypeWithin s (Stands s rest) front) make (ts ++ t ∷ []) at st)
 Stands s (opens.Lambda from ∷ rest) os text =
     (front : List ℕ) × (e : Term) × (bytes : List ℕ) × (ts : List Term) × (texts : List ℕ)
     × Encloses e bytes × PrintAll 0 ts texts × (from ≡ length front)

@@ -1,13 +1,15 @@
 -- Where a writer is between two of its functions, within a step.
 use Rattle.std.specs.Prelude.{◌≡◌, ◌≢◌, ◌⊎◌, ℕ, ◌+◌, List, [], ◌∷◌, ◌++◌, length, reverse, ◌≤◌, Bool, true, false, cond, Some, codes}
 use Rattle.cpp_grammar.specs.declared.kind.Kind.{Kind}
-use Rattle.cpp_grammar.specs.Term.{Term, Signed, any_value, instance, builtin, list, nil}
+use Rattle.cpp_grammar.specs.Term.{Term, Signed, instance, builtin, list, nil}
 use Rattle.cpp_grammar.specs.Texts.{look_up, builtin_texts, literal_endings}
 use Rattle.cpp_grammar.specs.Parts.{is_plain_integer, types_of}
 use Rattle.cpp_grammar.specs.Scope.{has_return_type, is_structor}
 use Rattle.cpp_grammar.specs.Between.{after, in_name}
 use Rattle.cpp_grammar.specs.Meaning.{encoding_of}
 use Rattle.cpp_grammar.specs.Values.{State, Around, Value, nothing_there, tree, outermost, tree_of, qualifiers_of, ref_of}
+use Rattle.cpp_direct.specs.declared.open.Mark.{Mark}
+use Rattle.cpp_direct.specs.declared.open.Mark.TheVariants as marks
 use Rattle.cpp_direct.specs.declared.open.Purpose.{Purpose}
 use Rattle.cpp_direct.specs.declared.open.Open.{Open}
 use Rattle.cpp_direct.specs.declared.open.Argument.{Argument}
@@ -17,13 +19,9 @@ use Rattle.cpp_direct.specs.Bytes.{is_local}
 use Rattle.cpp_direct.specs.Holes.{Opened, StandsAt, Comes, Expects, IsReferable, IsTyped, TypeNamed, NestNamed, with_candidate}
 use Rattle.cpp_direct.specs.HolesOfFunctions.{SignatureGoesOn, plain_function, pointed, with_pointed}
 use Rattle.cpp_direct.specs.HolesOfTypes.{IsNamedKind, NoReference, TreeOpens}
+use Rattle.cpp_direct.specs.Marks.{has_const, called_on, mark_text}
 use Rattle.cpp_direct.specs.Prints.{Prints, PrintsName, IsElement, PrintAll, Shows, Encloses, sign_text, PrintsIn, PrintsBehind}
-use Rattle.cpp_direct.specs.Stands.{AreCandidates, AwaitsItems, Encoded, EncodedBehind, IsFunction, IsInstance, IsListing, IsNest, IsTail, IsTemplate, GoesOn, EnumeratorGoesOn, ItemsGoOn, LambdaWithin, Owns, ParametersGoOn, Serves, Stands, TypeWithin, TakesFunction, opening_text, qualifiers, extra_of, led_by, list_with, in_front_of_next, IsPlaced, IsArgument, IsScoped, argument_of, nowhere, packed, of_pack, IsPlain, ArgumentsGoOn}
-
--- what stands behind the parameters of a member function
-abbrev pub const_text : (is_const : Bool) → List ℕ
-const_text true = codes " const"
-const_text false = []
+use Rattle.cpp_direct.specs.Stands.{AreCandidates, AwaitsItems, Encoded, EncodedBehind, IsEnclosing, IsFunction, IsInstance, IsListing, IsNest, IsTail, IsTemplate, GoesOn, EnumeratorGoesOn, ItemsGoOn, LambdaWithin, Owns, ParametersGoOn, Serves, Stands, TypeWithin, TakesFunction, opening_text, qualifiers, extra_of, led_by, list_with, in_front_of_next, IsPlaced, IsArgument, IsScoped, argument_of, nowhere, packed, of_pack, IsPlain, ArgumentsGoOn}
 
 -- nothing is written yet
 pub record IsFresh (w : Direct) : Type 0 where
@@ -308,14 +306,14 @@ pub record AwaitsNumber (s : List ℕ) (w : Direct) : Type 0 where
   pub goes : EnumeratorGoesOn s place.listing place.owner (Stands s place.rest) place.front place.template ts type w.at state
 
 -- The name of an encoding was read and written from a place on, but for its qualifier.
-pub record IsNameEnded (s : List ℕ) (w : Direct) (is_const is_instance : Bool) (from : ℕ) : Type 0 where
+pub record IsNameEnded (s : List ℕ) (w : Direct) (mark : Mark) (is_instance : Bool) (from : ℕ) : Type 0 where
   pub state : State
   pub candidates : AreCandidates w.text.list.items w.candidates.list.items state.candidates
   pub own : Term
   pub v : Value
   pub tree_is : tree_of v ≡ own
-  pub qualifiers_are : qualifiers_of v ≡ qualifiers is_const
-  pub mark_is : ref_of v ≡ any_value
+  pub qualifiers_are : qualifiers_of v ≡ qualifiers (has_const mark)
+  pub mark_is : ref_of v ≡ called_on mark
   pub lead : List ℕ
   pub name : List ℕ
   pub written : w.text.list.items ≡ lead ++ name
@@ -327,12 +325,12 @@ pub record IsNameEnded (s : List ℕ) (w : Direct) (is_const is_instance : Bool)
   pub awaits : AwaitsItems s lead v w.at state
 
 -- The return type of a function was read, and stands behind the function's name.
-pub record IsFrontRead (s : List ℕ) (w : Direct) (is_const : Bool) (start : ℕ) (argument : Argument) : Type 0 where
+pub record IsFrontRead (s : List ℕ) (w : Direct) (mark : Mark) (start : ℕ) (argument : Argument) : Type 0 where
   pub state : State
   pub candidates : AreCandidates w.text.list.items w.candidates.list.items state.candidates
   pub v : Value
   pub name : List ℕ
-  pub is_instance : IsInstance argument is_const v name
+  pub is_instance : IsInstance argument mark v name
   pub apart : is_local s ≡ false
   pub start_is : start ≡ length name
   pub returned : Term
@@ -343,41 +341,41 @@ pub record IsFrontRead (s : List ℕ) (w : Direct) (is_const : Bool) (start : �
   pub goes : ParametersGoOn s argument [] (encoding_of v) (returned ∷ []) w.at state
 
 -- A function's name was read and written, and what stands in front of it. Its parameters are expected.
-pub record AwaitsParameters (s : List ℕ) (w : Direct) (is_const : Bool) (start : ℕ) (argument : Argument) : Type 0 where
+pub record AwaitsParameters (s : List ℕ) (w : Direct) (mark : Mark) (start : ℕ) (argument : Argument) : Type 0 where
   pub state : State
   pub candidates : AreCandidates w.text.list.items w.candidates.list.items state.candidates
   pub make : Term → Term
   pub aside : List ℕ
   pub lead : List ℕ
   pub name : List ℕ
-  pub is_function : IsFunction w.text.list.items argument is_const make [] name []
+  pub is_function : IsFunction w.text.list.items argument mark make [] name []
   pub start_is : start ≡ length aside
   pub written : w.text.list.items ≡ aside ++ lead ++ name
   pub goes : ParametersGoOn s argument lead make [] w.at state
 
 -- A parameter of a function is expected.
-pub record AwaitsNextParameter (s : List ℕ) (w : Direct) (is_const : Bool) (start : ℕ) (argument : Argument) : Type 0 where
+pub record AwaitsNextParameter (s : List ℕ) (w : Direct) (mark : Mark) (start : ℕ) (argument : Argument) : Type 0 where
   pub state : State
   pub candidates : AreCandidates w.text.list.items w.candidates.list.items state.candidates
   pub rest : List Open
-  pub open_is : reverse w.waiting.list.items ≡ opens.Parameters is_const start argument ∷ rest
+  pub open_is : reverse w.waiting.list.items ≡ opens.Parameters mark start argument ∷ rest
   pub make : Term → Term
   pub ts : List Term
   pub aside : List ℕ
   pub lead : List ℕ
   pub name : List ℕ
   pub texts : List ℕ
-  pub is_function : IsFunction w.text.list.items argument is_const make ts name texts
+  pub is_function : IsFunction w.text.list.items argument mark make ts name texts
   pub start_is : start ≡ length aside
   pub written : w.text.list.items ≡ aside ++ lead ++ name ++ codes "(" ++ in_front_of_next ts texts
   pub goes : ParametersGoOn s argument lead make ts w.at state
 
 -- A parameter of a function was read.
-pub record IsParameterEnded (s : List ℕ) (w : Direct) (is_const : Bool) (start : ℕ) (argument : Argument) : Type 0 where
+pub record IsParameterEnded (s : List ℕ) (w : Direct) (mark : Mark) (start : ℕ) (argument : Argument) : Type 0 where
   pub state : State
   pub candidates : AreCandidates w.text.list.items w.candidates.list.items state.candidates
   pub rest : List Open
-  pub open_is : reverse w.waiting.list.items ≡ opens.Parameters is_const start argument ∷ rest
+  pub open_is : reverse w.waiting.list.items ≡ opens.Parameters mark start argument ∷ rest
   pub make : Term → Term
   pub ts : List Term
   pub some : ts ≢ []
@@ -385,19 +383,19 @@ pub record IsParameterEnded (s : List ℕ) (w : Direct) (is_const : Bool) (start
   pub lead : List ℕ
   pub name : List ℕ
   pub texts : List ℕ
-  pub is_function : IsFunction w.text.list.items argument is_const make ts name texts
+  pub is_function : IsFunction w.text.list.items argument mark make ts name texts
   pub start_is : start ≡ length aside
   pub written : w.text.list.items ≡ aside ++ lead ++ name ++ codes "(" ++ texts
   pub goes : ParametersGoOn s argument lead make ts w.at state
 
 -- An encoding was read and written behind a text, but for its qualifier.
-pub record IsEncodingEnded (s : List ℕ) (w : Direct) (is_const : Bool) : Type 0 where
+pub record IsEncodingEnded (s : List ℕ) (w : Direct) (mark : Mark) : Type 0 where
   pub state : State
   pub candidates : AreCandidates w.text.list.items w.candidates.list.items state.candidates
   pub e : Term
   pub lead : List ℕ
   pub bytes : List ℕ
-  pub written : w.text.list.items ++ const_text is_const ≡ lead ++ bytes
+  pub written : w.text.list.items ++ mark_text mark ≡ lead ++ bytes
   pub shows : Shows e bytes
   pub encloses : Encloses e bytes
   pub behind : EncodedBehind s lead e w.at
@@ -415,7 +413,7 @@ pub record IsSymbolEnded (s : List ℕ) (w : Direct) : Type 0 where
 -- The name of a local entity is expected behind the E of the encoding before it, and behind the L of internal linkage or without.
 pub record AwaitsEntity (s : List ℕ) (w : Direct) (is_internal : Bool) : Type 0 where
   pub before : ℕ
-  pub ended : IsEncodingEnded s (record w { at = before }) false
+  pub ended : IsEncodingEnded s (record w { at = before }) marks.Plain
   pub is_entity : is_local s ≡ true
   pub first : StandsAt s before (69 ∷ [])
   pub letter : is_internal ≡ true → StandsAt s (before + 1) (76 ∷ [])
@@ -424,14 +422,14 @@ pub record AwaitsEntity (s : List ℕ) (w : Direct) (is_internal : Bool) : Type 
 -- ## Types in functions
 
 -- The name of a function in which a type stands was read and written from a place on, but for its qualifier.
-pub record IsEnclosingNamed (s : List ℕ) (w : Direct) (is_const : Bool) (from : ℕ) : Type 0 where
+pub record IsEnclosingNamed (s : List ℕ) (w : Direct) (mark : Mark) (from : ℕ) : Type 0 where
   pub state : State
   pub candidates : AreCandidates w.text.list.items w.candidates.list.items state.candidates
   pub own : Term
   pub v : Value
   pub tree_is : tree_of v ≡ own
-  pub qualifiers_are : qualifiers_of v ≡ qualifiers is_const
-  pub mark_is : ref_of v ≡ any_value
+  pub qualifiers_are : qualifiers_of v ≡ qualifiers (has_const mark)
+  pub mark_is : ref_of v ≡ called_on mark
   pub front : List ℕ
   pub name : List ℕ
   pub written : w.text.list.items ≡ front ++ name
@@ -440,31 +438,62 @@ pub record IsEnclosingNamed (s : List ℕ) (w : Direct) (is_const : Bool) (from 
   pub no_return : has_return_type own ≡ false
   pub goes : ItemsGoOn s nowhere (TypeWithin s (Stands s (reverse w.waiting.list.items)) front) (λ l. encoding_of v l) [] w.at state
 
+-- The same of an instance of a function template. Its return type is expected, and the argument of the template stands where it was
+-- noted last, or it isn't known.
+pub record IsEnclosingInstance (s : List ℕ) (w : Direct) (mark : Mark) (from : ℕ) : Type 0 where
+  pub state : State
+  pub candidates : AreCandidates w.text.list.items w.candidates.list.items state.candidates
+  pub own : Term
+  pub v : Value
+  pub tree_is : tree_of v ≡ own
+  pub qualifiers_are : qualifiers_of v ≡ qualifiers (has_const mark)
+  pub mark_is : ref_of v ≡ called_on mark
+  pub front : List ℕ
+  pub name : List ℕ
+  pub written : w.text.list.items ≡ front ++ name
+  pub from_is : from ≡ length front
+  pub prints : PrintsName own name
+  pub returns : has_return_type own ≡ true
+  pub names : w.argument.from ≤ w.argument.to → IsArgument w.text.list.items w.argument own
+  pub goes : ItemsGoOn s w.argument (TypeWithin s (Stands s (reverse w.waiting.list.items)) front) (λ l. encoding_of v l) [] w.at state
+
+-- The name of a function in which a type stands was read, and its return type if it has one. Its parameters are expected.
+pub record AwaitsEnclosingParameters (s : List ℕ) (w : Direct) (mark : Mark) (from : ℕ) (argument : Argument) : Type 0 where
+  pub state : State
+  pub candidates : AreCandidates w.text.list.items w.candidates.list.items state.candidates
+  pub make : Term → Term
+  pub front : List ℕ
+  pub name : List ℕ
+  pub is_enclosing : IsEnclosing w.text.list.items argument mark make [] name []
+  pub written : w.text.list.items ≡ front ++ name
+  pub from_is : from ≡ length front
+  pub goes : ItemsGoOn s argument (TypeWithin s (Stands s (reverse w.waiting.list.items)) front) make [] w.at state
+
 -- A parameter of such a function was read.
-pub record IsEnclosingParameterRead (s : List ℕ) (w : Direct) (is_const : Bool) (from : ℕ) : Type 0 where
+pub record IsEnclosingParameterRead (s : List ℕ) (w : Direct) (mark : Mark) (from : ℕ) (argument : Argument) : Type 0 where
   pub state : State
   pub candidates : AreCandidates w.text.list.items w.candidates.list.items state.candidates
   pub rest : List Open
-  pub open_is : reverse w.waiting.list.items ≡ opens.Enclosing is_const from ∷ rest
+  pub open_is : reverse w.waiting.list.items ≡ opens.Enclosing mark from argument ∷ rest
   pub make : Term → Term
   pub ts : List Term
   pub some : ts ≢ []
   pub front : List ℕ
   pub name : List ℕ
   pub texts : List ℕ
-  pub is_function : IsFunction [] nowhere is_const make ts name texts
+  pub is_enclosing : IsEnclosing w.text.list.items argument mark make ts name texts
   pub from_is : from ≡ length front
   pub written : w.text.list.items ≡ front ++ name ++ codes "(" ++ texts
-  pub goes : ItemsGoOn s nowhere (TypeWithin s (Stands s rest) front) make ts w.at state
+  pub goes : ItemsGoOn s argument (TypeWithin s (Stands s rest) front) make ts w.at state
 
 -- Such a function was read and written from a place on, but for its qualifier.
-pub record IsEnclosingRead (s : List ℕ) (w : Direct) (is_const : Bool) (from : ℕ) : Type 0 where
+pub record IsEnclosingRead (s : List ℕ) (w : Direct) (mark : Mark) (from : ℕ) : Type 0 where
   pub state : State
   pub candidates : AreCandidates w.text.list.items w.candidates.list.items state.candidates
   pub e : Term
   pub front : List ℕ
   pub bytes : List ℕ
-  pub written : w.text.list.items ++ const_text is_const ≡ front ++ bytes
+  pub written : w.text.list.items ++ mark_text mark ≡ front ++ bytes
   pub from_is : from ≡ length front
   pub encloses : Encloses e bytes
   pub within : TypeWithin s (Stands s (reverse w.waiting.list.items)) front e w.at state
@@ -472,7 +501,7 @@ pub record IsEnclosingRead (s : List ℕ) (w : Direct) (is_const : Bool) (from :
 -- The name of a type is expected behind the E of the function that it stands in, which was written from a place on.
 pub record AwaitsTypeName (s : List ℕ) (w : Direct) (from : ℕ) : Type 0 where
   pub before : ℕ
-  pub read : IsEnclosingRead s (record w { at = before }) false from
+  pub read : IsEnclosingRead s (record w { at = before }) marks.Plain from
   pub letter : StandsAt s before (69 ∷ [])
   pub at_is : w.at ≡ before + 1
 

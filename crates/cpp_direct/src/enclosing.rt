@@ -4,15 +4,18 @@ ghost use Rattle.std.specs.Prelude.{◌≡◌, ◌+◌, ◌∷◌, ◌++◌, [],
 ghost use Rattle.std.specs.Option.{OnSome, IfSome};
 ghost use Rattle.cpp_grammar.specs.Term.{Term};
 ghost use Rattle.cpp_direct.specs.Names.{IsReadable};
+ghost use Rattle.cpp_direct.specs.declared.open.Mark.TheVariants as marks;
 ghost use Rattle.cpp_direct.specs.Holes.{StandsAt};
 ghost use Rattle.cpp_direct.specs.HolesOfLocals.{IsLambdaDigit, IsPieceAt, lambda_digits, lambda_number};
 ghost use Rattle.cpp_direct.specs.Prints.{PrintsPiece};
 ghost use Rattle.cpp_direct.specs.Stands.{IsWriting};
-ghost use Rattle.cpp_direct.specs.Ways.{AwaitsNamedType, AwaitsTypeName, IsEnclosingNamed, IsEnclosingParameterRead, IsEnclosingRead, IsLambdaParameterRead};
+ghost use Rattle.cpp_direct.specs.Ways.{AwaitsEnclosingParameters, AwaitsNamedType, AwaitsTypeName, IsEnclosingInstance, IsEnclosingNamed, IsEnclosingParameterRead, IsEnclosingRead, IsLambdaParameterRead};
 ghost use Rattle.cpp_direct.specs.Written.{Reads};
 
 use crate::direct::Direct;
-use crate::open::{Open, Purpose, Step};
+use crate::marks::mark_at;
+use crate::open::{Argument, Mark, Open, Purpose, Step};
+use crate::symbols::NOWHERE;
 use crate::tokens::{are_numbers_short, byte_at};
 
 /// The longest symbol in which lambdas with parameters are read, in bytes.
@@ -32,35 +35,67 @@ impl Direct {
         if byte_at(s, self.at) != b'N' {
             let from = self.text.len();
             self.name(s)?;
-            return self.enclosing_named(s, false, from);
+            return self.enclosing_named(s, Mark::Plain, from);
         }
         self.at = self.at.checked_add(1)?;
-        if byte_at(s, self.at) == b'K' {
-            self.at = self.at.checked_add(1)?;
-            return self.nest_at(s, Purpose::Enclosing { is_const: true });
-        }
-        self.nest_at(s, Purpose::Enclosing { is_const: false })
+        let place = mark_at(s, self.at)?;
+        self.at = place.end;
+        self.nest_at(s, Purpose::Enclosing { mark: place.mark })
     }
 
     /// The name of a function is read in which a type stands: its parameters follow, or the type.
     // <encoding> ::= <function name> <bare-function-type> | <data name>
-    pub(crate) fn enclosing_named(&mut self, s: &[u8], is_const: bool, from: usize) -> Option<Step>
+    pub(crate) fn enclosing_named(&mut self, s: &[u8], mark: Mark, from: usize) -> Option<Step>
         requires fits { IsReadable s.now }
-        requires named { IsEnclosingNamed s.now self.old is_const from }
+        requires named { IsEnclosingNamed s.now self.old mark from }
         ensures { IfSome result (IsWriting s.now self.new) }
     {
-        let byte = byte_at(s, self.at);
-        if byte == b'E' {
-            return self.enclosing_ended(s, is_const, from);
+        if byte_at(s, self.at) == b'E' {
+            return self.enclosing_ended(s, mark, from);
         }
+        self.enclosing_parameters(s, mark, from, NOWHERE)
+    }
+
+    /// The name of an instance of a function template is read in which a type stands. The function's return type follows, a builtin
+    /// one, of which nothing is written.
+    // <bare-function-type> ::= <return type> <parameter type>+
+    pub(crate) fn enclosing_instance(&mut self, s: &[u8], mark: Mark, from: usize) -> Option<Step>
+        requires fits { IsReadable s.now }
+        requires named { IsEnclosingInstance s.now self.old mark from }
+        ensures { IfSome result (IsWriting s.now self.new) }
+    {
+        if cpp_layout::builtin_text(byte_at(s, self.at)).is_empty() {
+            return None;
+        }
+        self.at = self.at.checked_add(1)?;
+        self.enclosing_parameters(s, mark, from, self.argument)
+    }
+
+    /// Reads the parameters of a function in which a type stands, up to the first type in them.
+    // <bare-function-type> ::= <parameter type>+ | v
+    fn enclosing_parameters(
+        &mut self,
+        s: &[u8],
+        mark: Mark,
+        from: usize,
+        argument: Argument,
+    ) -> Option<Step>
+        requires fits { IsReadable s.now }
+        requires awaits { AwaitsEnclosingParameters s.now self.old mark from argument }
+        ensures { IfSome result (IsWriting s.now self.new) }
+    {
         let behind = byte_at(s, self.at.checked_add(1)?);
-        if byte == b'v' && behind == b'E' {
+        if byte_at(s, self.at) == b'v' && behind == b'E' {
             self.at = self.at.checked_add(1)?;
             self.push_pair(b'(', b')')?;
-            return self.enclosing_ended(s, is_const, from);
+            return self.enclosing_ended(s, mark, from);
         }
         self.push_byte(b'(')?;
-        self.waiting.push(Open::Enclosing { is_const, from })?;
+        self.waiting.push(Open::Enclosing {
+            mark,
+            from,
+            argument,
+        })?;
         Some(Step::Type)
     }
 
@@ -69,11 +104,12 @@ impl Direct {
     pub(crate) fn enclosing_parameter(
         &mut self,
         s: &[u8],
-        is_const: bool,
+        mark: Mark,
         from: usize,
+        _argument: Argument,
     ) -> Option<Step>
         requires fits { IsReadable s.now }
-        requires read { IsEnclosingParameterRead s.now self.old is_const from }
+        requires read { IsEnclosingParameterRead s.now self.old mark from _argument }
         ensures { IfSome result (IsWriting s.now self.new) }
     {
         if byte_at(s, self.at) != b'E' {
@@ -86,18 +122,16 @@ impl Direct {
         }
         self.push_byte(b')')?;
         let _open = self.waiting.pop();
-        self.enclosing_ended(s, is_const, from)
+        self.enclosing_ended(s, mark, from)
     }
 
-    /// Writes the qualifier of a function in which a type stands.
-    fn enclosing_ended(&mut self, s: &[u8], is_const: bool, from: usize) -> Option<Step>
+    /// Writes the qualifiers of a function in which a type stands.
+    fn enclosing_ended(&mut self, s: &[u8], mark: Mark, from: usize) -> Option<Step>
         requires fits { IsReadable s.now }
-        requires read { IsEnclosingRead s.now self.old is_const from }
+        requires read { IsEnclosingRead s.now self.old mark from }
         ensures { IfSome result (IsWriting s.now self.new) }
     {
-        if is_const {
-            self.push(b" const")?;
-        }
+        self.push_mark(mark)?;
         self.enclosed(s, from)
     }
 
@@ -105,7 +139,7 @@ impl Direct {
     // <local-name> ::= Z <function encoding> E <entity name> [<discriminator>]
     fn enclosed(&mut self, s: &[u8], from: usize) -> Option<Step>
         requires fits { IsReadable s.now }
-        requires read { IsEnclosingRead s.now self.old false from }
+        requires read { IsEnclosingRead s.now self.old marks.Plain from }
         ensures { IfSome result (IsWriting s.now self.new) }
     {
         if byte_at(s, self.at) != b'E' {

@@ -127,11 +127,15 @@ impl Direct {
         let _open = self.waiting.pop();
         match *self.waiting.as_slice().last()? {
             Open::Parameters {
-                is_const,
+                mark,
                 start,
                 argument,
-            } => self.parameter_ended(s, is_const, start, argument),
-            Open::Enclosing { is_const, from } => self.enclosing_parameter(s, is_const, from),
+            } => self.parameter_ended(s, mark, start, argument),
+            Open::Enclosing {
+                mark,
+                from,
+                argument,
+            } => self.enclosing_parameter(s, mark, from, argument),
             Open::Special => self.finish(s),
             _ => Some(Step::List { is_first: false }),
         }

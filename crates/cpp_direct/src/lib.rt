@@ -2,7 +2,7 @@
 //!
 //! Functions, variables, their local entities, thunks and special objects are read so, with names, nested names,
 //! operators, constructors, template arguments, packs, literals, pointers, references and const; types that stand in
-//! functions, and lambdas there; function types where they are arguments, parameters or what a special object is of, by
+//! functions, and lambdas there, of instances of function templates in those that return a builtin type; function types where they are arguments, parameters or what a special object is of, by
 //! themselves or behind one pointer; instances of function templates whose types name no parameter of the template, or
 //! its one argument, by itself or behind pointers, references and const, or expand the one type of a pack. A symbol
 //! with anything else in it is given up, and is to be read by its grammar: no answer depends on this crate, which one
@@ -15,6 +15,7 @@ mod functions;
 mod letters;
 mod lists;
 mod locals;
+mod marks;
 mod names;
 mod nested;
 mod open;

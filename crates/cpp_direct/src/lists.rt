@@ -17,7 +17,7 @@ ghost use Rattle.cpp_direct.specs.Written.{Reads};
 
 use crate::direct::Direct;
 use crate::letters::is_integer_letter;
-use crate::open::{Argument, Nest, Open, Step};
+use crate::open::{Argument, Mark, Nest, Open, Step};
 use crate::symbols::NOWHERE;
 use crate::tokens::byte_at;
 use sym_core::{NumberKind, find_number};
@@ -184,7 +184,7 @@ impl Direct {
                 self.nest = nest;
                 Some(Step::Component)
             }
-            Open::NameArguments { from } => self.name_ended(s, false, true, from),
+            Open::NameArguments { from } => self.name_ended(s, Mark::Plain, true, from),
             _ => None,
         }
     }

@@ -3,6 +3,7 @@
 ghost use Rattle.std.specs.Prelude.{◌≡◌, ◌∷◌, [], ℕ, true, false};
 ghost use Rattle.std.specs.Option.{OnSome, IfSome};
 ghost use Rattle.cpp_direct.specs.Names.{IsReadable};
+ghost use Rattle.cpp_direct.specs.declared.open.Mark.TheVariants as marks;
 ghost use Rattle.cpp_direct.specs.Bytes.{is_local};
 ghost use Rattle.cpp_direct.specs.Holes.{StandsAt};
 ghost use Rattle.cpp_direct.specs.HolesOfLocals.{Discriminator, IsDiscriminatorAt};
@@ -50,7 +51,7 @@ impl Direct {
     // <local-name> ::= Z <function encoding> E <entity name> [<discriminator>]
     pub(crate) fn entity(&mut self, s: &[u8]) -> Option<Step>
         requires fits { IsReadable s.now }
-        requires ended { IsEncodingEnded s.now self.old false }
+        requires ended { IsEncodingEnded s.now self.old marks.Plain }
         requires local { is_local s.now ≡ true }
         ensures { IfSome result (IsWriting s.now self.new) }
     {

@@ -162,14 +162,14 @@ impl Direct {
                     is_reference: false,
                 })
             }
-            Purpose::Name { is_const } => {
-                self.name_ended(s, is_const, self.nest.is_instance, self.nest.from)
+            Purpose::Name { mark } => {
+                self.name_ended(s, mark, self.nest.is_instance, self.nest.from)
             }
-            Purpose::Enclosing { is_const } => {
+            Purpose::Enclosing { mark } => {
                 if self.nest.is_instance {
-                    return None;
+                    return self.enclosing_instance(s, mark, self.nest.from);
                 }
-                self.enclosing_named(s, is_const, self.nest.from)
+                self.enclosing_named(s, mark, self.nest.from)
             }
         }
     }
@@ -249,7 +249,7 @@ impl Direct {
         }
         self.at = self.at.checked_add(1)?;
         match self.nest.purpose {
-            Purpose::Name { is_const } => self.name_ended(s, is_const, false, self.nest.from),
+            Purpose::Name { mark } => self.name_ended(s, mark, false, self.nest.from),
             _ => None,
         }
     }

@@ -18,15 +18,26 @@ pub struct Argument {
     pub is_reference: bool,
 }
 
+/// The qualifiers of a member function: whether it is const, and what it may be called on.
+#[derive(Clone, Copy)]
+pub enum Mark {
+    Plain,
+    Const,
+    Lvalue,
+    ConstLvalue,
+    Rvalue,
+    ConstRvalue,
+}
+
 /// What a nested name is read as.
 #[derive(Clone, Copy)]
 pub enum Purpose {
     /// a type
     Type,
-    /// the name of the encoding, of a member function that is const or not
-    Name { is_const: bool },
-    /// the name of a function in which a type stands, const or not
-    Enclosing { is_const: bool },
+    /// the name of the encoding, of a member function with these qualifiers
+    Name { mark: Mark },
+    /// the name of a function in which a type stands, with these qualifiers
+    Enclosing { mark: Mark },
 }
 
 /// A nested name so far: where its text begins, and where that of the class is that a constructor would be named after.
@@ -77,20 +88,21 @@ pub enum Open {
     },
     /// the return type of a function, which is written behind its name; what was written up to this place is no part of the text
     Front {
-        is_const: bool,
+        mark: Mark,
         start: usize,
         argument: Argument,
     },
     /// the parameters of a function, whose text begins at this place
     Parameters {
-        is_const: bool,
+        mark: Mark,
         start: usize,
         argument: Argument,
     },
     /// the parameters of a function in which a type stands; the type's text begins at this place, with the function's
     Enclosing {
-        is_const: bool,
+        mark: Mark,
         from: usize,
+        argument: Argument,
     },
     /// the parameters of a lambda that stands in a function, whose text begins at this place
     Lambda {

@@ -5,11 +5,11 @@ ghost use Rattle.std.specs.Option.{IfSome};
 ghost use Rattle.cpp_direct.specs.Names.{IsReadable};
 ghost use Rattle.cpp_direct.specs.declared.open.Step.TheVariants as steps;
 ghost use Rattle.cpp_direct.specs.Holes.{StandsAt};
-ghost use Rattle.cpp_direct.specs.Stands.{IsWriting, argument_of};
+ghost use Rattle.cpp_direct.specs.Stands.{EndsNamed, IsWriting, argument_of};
 ghost use Rattle.cpp_direct.specs.Ways.{AwaitsType, AwaitsDependentMark, AwaitsNextParameter, IsArgumentRead, IsPackElementRead};
 
 use crate::direct::Direct;
-use crate::open::{Argument, Open, Step};
+use crate::open::{Argument, Mark, Open, Purpose, Step};
 use crate::tokens::{byte_at, may_end};
 
 /// The place, unless it is nowhere.
@@ -55,6 +55,21 @@ fn expansion_end(s: &[u8], at: usize) -> Option<usize>
 }
 
 impl Direct {
+    /// Whether the arguments that are open last are those of a function's name.
+    #[inline(always)]
+    fn is_named(&self) -> bool
+        ensures { result ≡ true → EndsNamed (reverse self.now.waiting.list.items) }
+    {
+        match self.waiting.as_slice().last() {
+            Some(Open::NestArguments { nest }) => match nest.purpose {
+                Purpose::Type => false,
+                _ => true,
+            },
+            Some(Open::NameArguments { .. }) => true,
+            _ => false,
+        }
+    }
+
     /// The first element of a list, which is a type. Where it is an argument of a name, and may be the only one, it is what T_
     /// stands for.
     // <template-args> ::= I <template-arg>* E
@@ -64,12 +79,8 @@ impl Direct {
         requires writing { IsWriting s.now self.old (steps.List true) }
         ensures { IfSome result (IsWriting s.now self.new) }
     {
-        if self.waiting.len() != 1 {
+        if !self.is_named() {
             return Some(Step::Type);
-        }
-        match *self.waiting.as_slice().last()? {
-            Open::NestArguments { .. } | Open::NameArguments { .. } => {}
-            _ => return Some(Step::Type),
         }
         if is_function_at(s, self.at) {
             return Some(Step::Type);
@@ -89,12 +100,8 @@ impl Direct {
         requires writing { IsWriting s.now self.old (steps.List true) }
         ensures { IfSome result (IsWriting s.now self.new) }
     {
-        if self.waiting.len() != 1 {
+        if !self.is_named() {
             return self.begin_pack(s);
-        }
-        match *self.waiting.as_slice().last()? {
-            Open::NestArguments { .. } | Open::NameArguments { .. } => {}
-            _ => return self.begin_pack(s),
         }
         let behind = self.at.checked_add(1)?;
         if byte_at(s, behind) == b'L' || is_function_at(s, behind) {
@@ -147,16 +154,16 @@ impl Direct {
     pub(crate) fn next_parameter(
         &mut self,
         s: &[u8],
-        is_const: bool,
+        mark: Mark,
         start: usize,
         argument: Argument,
     ) -> Option<Step>
         requires fits { IsReadable s.now }
-        requires awaits { AwaitsNextParameter s.now self.old is_const start argument }
+        requires awaits { AwaitsNextParameter s.now self.old mark start argument }
         ensures { IfSome result (IsWriting s.now self.new) }
     {
         if argument.is_pack {
-            return self.expansion(s, is_const, start, argument);
+            return self.expansion(s, mark, start, argument);
         }
         Some(Step::Type)
     }
@@ -164,10 +171,10 @@ impl Direct {
     /// The last parameter may be a reference to each type of the pack that the function's template has as its argument.
     // <type> ::= Dp <type>
     #[inline(never)]
-    fn expansion(&mut self, s: &[u8], is_const: bool, start: usize, pack: Argument) -> Option<Step>
+    fn expansion(&mut self, s: &[u8], mark: Mark, start: usize, pack: Argument) -> Option<Step>
         requires fits { IsReadable s.now }
         requires is_pack { pack.is_pack ≡ true }
-        requires awaits { AwaitsNextParameter s.now self.old is_const start pack }
+        requires awaits { AwaitsNextParameter s.now self.old mark start pack }
         ensures { IfSome result (IsWriting s.now self.new) }
     {
         let Some(end) = expansion_end(s, self.at) else {
@@ -183,7 +190,7 @@ impl Direct {
         self.add_hidden(false)?;
         self.add_hidden(false)?;
         self.add_hidden(false)?;
-        self.close_parameters(s, is_const, start, pack)
+        self.close_parameters(s, mark, start, pack)
     }
 
     /// The first argument of a name is read: others follow, or the end.
@@ -232,6 +239,7 @@ impl Direct {
                 Open::Const { .. } => open = rest,
                 Open::Front { argument, .. } => return known(argument),
                 Open::Parameters { argument, .. } => return known(argument),
+                Open::Enclosing { argument, .. } => return known(argument),
                 _ => return None,
             }
         }
@@ -274,15 +282,20 @@ impl Direct {
         match *self.waiting.as_slice().last()? {
             Open::Pointer { .. } => self.mark_dependent(s, b"*", false),
             Open::Parameters {
-                is_const,
+                mark,
                 start,
                 argument,
-            } => self.parameter_ended(s, is_const, start, argument),
+            } => self.parameter_ended(s, mark, start, argument),
             Open::Front {
-                is_const,
+                mark,
                 start,
                 argument,
-            } => self.front_ended(s, is_const, start, argument),
+            } => self.front_ended(s, mark, start, argument),
+            Open::Enclosing {
+                mark,
+                from,
+                argument,
+            } => self.enclosing_parameter(s, mark, from, argument),
             _ => {
                 // a reference to a reference, or a const one, prints otherwise
                 if is_reference {

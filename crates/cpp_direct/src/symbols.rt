@@ -11,8 +11,9 @@ ghost use Rattle.cpp_direct.specs.Stands.{IsWriting};
 ghost use Rattle.cpp_direct.specs.Ways.{IsFresh, AwaitsEncoding, IsNameEnded, IsFrontRead, AwaitsParameters, IsParameterEnded, IsEncodingEnded, IsSymbolEnded};
 
 use crate::direct::Direct;
+use crate::marks::mark_at;
 use crate::names::are_name_bytes;
-use crate::open::{Argument, Nest, Open, Purpose, Step};
+use crate::open::{Argument, Mark, Nest, Open, Purpose, Step};
 use crate::tokens::{byte_at, is_local, is_suffix, may_end};
 use std::alloc::Global;
 use sym_direct::Bounded;
@@ -243,11 +244,9 @@ impl Direct {
         ensures { IfSome result (IsWriting s.now self.new) }
     {
         self.at = self.at.checked_add(1)?;
-        if byte_at(s, self.at) == b'K' {
-            self.at = self.at.checked_add(1)?;
-            return self.nest_at(s, Purpose::Name { is_const: true });
-        }
-        self.nest_at(s, Purpose::Name { is_const: false })
+        let place = mark_at(s, self.at)?;
+        self.at = place.end;
+        self.nest_at(s, Purpose::Name { mark: place.mark })
     }
 
     /// The name of an encoding is read: nothing is left, or the function's types.
@@ -255,30 +254,30 @@ impl Direct {
     pub(crate) fn name_ended(
         &mut self,
         s: &[u8],
-        is_const: bool,
+        mark: Mark,
         is_instance: bool,
         from: usize,
     ) -> Option<Step>
         requires fits { IsReadable s.now }
-        requires ended { IsNameEnded s.now self.old is_const is_instance from }
+        requires ended { IsNameEnded s.now self.old mark is_instance from }
         ensures { IfSome result (IsWriting s.now self.new) }
     {
         if may_end(byte_at(s, self.at)) {
-            return self.end(s, is_const);
+            return self.end(s, mark);
         }
         if is_instance {
-            return self.begin_front(s, is_const, from);
+            return self.begin_front(s, mark, from);
         }
-        self.begin_parameters(s, is_const, 0, NOWHERE)
+        self.begin_parameters(s, mark, 0, NOWHERE)
     }
 
     /// The return type of a function is expected, which stands in front of its name in the text. It is written behind the name, and
     /// behind it the name once more.
     // <bare-function-type> ::= <return type> <parameter type>+
     #[inline(never)]
-    fn begin_front(&mut self, s: &[u8], is_const: bool, from: usize) -> Option<Step>
+    fn begin_front(&mut self, s: &[u8], mark: Mark, from: usize) -> Option<Step>
         requires fits { IsReadable s.now }
-        requires ended { IsNameEnded s.now self.old is_const true from }
+        requires ended { IsNameEnded s.now self.old mark true from }
         ensures { IfSome result (IsWriting s.now self.new) }
     {
         // in front of a local entity stands no return type, and behind a text it would have to be moved
@@ -288,7 +287,7 @@ impl Direct {
         let start = self.text.len();
         let argument = self.argument;
         self.waiting.push(Open::Front {
-            is_const,
+            mark,
             start,
             argument,
         })?;
@@ -301,12 +300,12 @@ impl Direct {
     pub(crate) fn front_ended(
         &mut self,
         s: &[u8],
-        is_const: bool,
+        mark: Mark,
         start: usize,
         argument: Argument,
     ) -> Option<Step>
         requires fits { IsReadable s.now }
-        requires ended { IsFrontRead s.now self.old is_const start argument }
+        requires ended { IsFrontRead s.now self.old mark start argument }
         ensures { IfSome result (IsWriting s.now self.new) }
     {
         if may_end(byte_at(s, self.at)) {
@@ -315,7 +314,7 @@ impl Direct {
         let _open = self.waiting.pop();
         self.push_byte(b' ')?;
         self.repeat(0, start)?;
-        self.begin_parameters(s, is_const, start, argument)
+        self.begin_parameters(s, mark, start, argument)
     }
 
     /// Reads the parameters of a function up to the first type in them. Its text begins at a place.
@@ -324,12 +323,12 @@ impl Direct {
     fn begin_parameters(
         &mut self,
         s: &[u8],
-        is_const: bool,
+        mark: Mark,
         start: usize,
         argument: Argument,
     ) -> Option<Step>
         requires fits { IsReadable s.now }
-        requires awaits { AwaitsParameters s.now self.old is_const start argument }
+        requires awaits { AwaitsParameters s.now self.old mark start argument }
         ensures { IfSome result (IsWriting s.now self.new) }
     {
         let byte = byte_at(s, self.at);
@@ -339,34 +338,34 @@ impl Direct {
             self.at = self.at.checked_add(1)?;
             self.push_byte(b')')?;
             self.cut(start)?;
-            return self.end(s, is_const);
+            return self.end(s, mark);
         }
         self.waiting.push(Open::Parameters {
-            is_const,
+            mark,
             start,
             argument,
         })?;
-        self.next_parameter(s, is_const, start, argument)
+        self.next_parameter(s, mark, start, argument)
     }
 
     /// A parameter is read: another one follows, or the end of the encoding.
     pub(crate) fn parameter_ended(
         &mut self,
         s: &[u8],
-        is_const: bool,
+        mark: Mark,
         start: usize,
         argument: Argument,
     ) -> Option<Step>
         requires fits { IsReadable s.now }
-        requires ended { IsParameterEnded s.now self.old is_const start argument }
+        requires ended { IsParameterEnded s.now self.old mark start argument }
         ensures { IfSome result (IsWriting s.now self.new) }
     {
         let byte = byte_at(s, self.at);
         if !may_end(byte) {
             self.push_pair(b',', b' ')?;
-            return self.next_parameter(s, is_const, start, argument);
+            return self.next_parameter(s, mark, start, argument);
         }
-        self.close_parameters(s, is_const, start, argument)
+        self.close_parameters(s, mark, start, argument)
     }
 
     /// The end of an encoding is reached behind a parameter.
@@ -375,12 +374,12 @@ impl Direct {
     pub(crate) fn close_parameters(
         &mut self,
         s: &[u8],
-        is_const: bool,
+        mark: Mark,
         start: usize,
         _argument: Argument,
     ) -> Option<Step>
         requires fits { IsReadable s.now }
-        requires ended { IsParameterEnded s.now self.old is_const start _argument }
+        requires ended { IsParameterEnded s.now self.old mark start _argument }
         ensures { IfSome result (IsWriting s.now self.new) }
     {
         // a lone void is no parameter
@@ -389,18 +388,16 @@ impl Direct {
         }
         self.push_byte(b')')?;
         self.cut(start)?;
-        self.end(s, is_const)
+        self.end(s, mark)
     }
 
     /// The end of an encoding, behind its text but for its qualifier: a local entity follows, or the end of the symbol.
-    pub(crate) fn end(&mut self, s: &[u8], is_const: bool) -> Option<Step>
+    pub(crate) fn end(&mut self, s: &[u8], mark: Mark) -> Option<Step>
         requires fits { IsReadable s.now }
-        requires ended { IsEncodingEnded s.now self.old is_const }
+        requires ended { IsEncodingEnded s.now self.old mark }
         ensures { IfSome result (IsWriting s.now self.new) }
     {
-        if is_const {
-            self.push(b" const")?;
-        }
+        self.push_mark(mark)?;
         if is_local(s) {
             return self.entity(s);
         }

@@ -186,18 +186,22 @@ impl Direct {
                 self.mark(s, b" const", from, false)
             }
             Open::Parameters {
-                is_const,
+                mark,
                 start,
                 argument,
-            } => self.parameter_ended(s, is_const, start, argument),
+            } => self.parameter_ended(s, mark, start, argument),
             Open::Front {
-                is_const,
+                mark,
                 start,
                 argument,
-            } => self.front_ended(s, is_const, start, argument),
+            } => self.front_ended(s, mark, start, argument),
             Open::Returned { is_pointer } => self.returned(s, is_pointer),
             Open::Signature { is_pointer } => self.parameter_at(s, is_pointer, false),
-            Open::Enclosing { is_const, from } => self.enclosing_parameter(s, is_const, from),
+            Open::Enclosing {
+                mark,
+                from,
+                argument,
+            } => self.enclosing_parameter(s, mark, from, argument),
             Open::Lambda { from } => self.lambda_parameter(s, from),
             Open::Special => self.finish(s),
             Open::Enumerator => self.enumerator(s),

@@ -9,7 +9,7 @@ ghost use Rattle.cpp_direct.specs.Ways.{AwaitsEncoding, AwaitsSource, IsUnscoped
 ghost use Rattle.cpp_direct.specs.Written.{Reads};
 
 use crate::direct::Direct;
-use crate::open::{Open, Step};
+use crate::open::{Mark, Open, Step};
 use crate::tokens::byte_at;
 
 impl Direct {
@@ -70,7 +70,7 @@ impl Direct {
         ensures { IfSome result (IsWriting s.now self.new) }
     {
         if byte_at(s, self.at) != b'I' {
-            return self.name_ended(s, false, false, from);
+            return self.name_ended(s, Mark::Plain, false, from);
         }
         if !takes {
             return None;

@@ -1,5 +1,5 @@
 use Rattle.std.proofs.Common.{arith, refl}
-use Rattle.cpp_direct.proofs.EnclosingFunctions.{const-within, plain-within, source-within}
+use Rattle.cpp_direct.proofs.EnclosingFunctions.{nest-within, source-within}
 use Rattle.cpp_direct.proofs.TypesRead.{there}
 use Rattle.cpp_direct.proofs.direct.Direct.begin_enclosing.Goals as goal
 
@@ -12,14 +12,6 @@ enclosing_named-requires-clause-named c =
 pub nest_at-requires-clause-awaits : goal.nest_at-requires-clause-awaits
 nest_at-requires-clause-awaits c =
     let s = c.args.s.now in
-    const-within s c.args.self.now c.in_ok-self.field-0 c.in_ok-self-2.field-0 c.in_ok-self-3.field-0 c.requires.awaits c.requires.letter
+    nest-within s c.args.self.now c.in_ok-self.field-0 c.in_ok-self-2.field-0 c.in_ok-place.place c.requires.awaits c.requires.letter
     c.in_ok-self.ensures.1 (there s c.in_ok-self.field-0 c.byte_at.result 78 c.if-byte_at-ne78.false (omega arith) c.byte_at.ensures)
-    c.in_ok-self-2.ensures.1 (there s c.in_ok-self-2.field-0 c.byte_at-2.result 75 c.if-byte_at-eq75.true (omega arith) c.byte_at-2.ensures)
-    c.in_ok-self-3.ensures.1
-
-pub nest_at-requires-2-clause-awaits : goal.nest_at-requires-2-clause-awaits
-nest_at-requires-2-clause-awaits c =
-    let s = c.args.s.now in
-    plain-within s c.args.self.now c.in_ok-self.field-0 c.in_ok-self-2.field-0 c.requires.awaits c.requires.letter
-    c.in_ok-self.ensures.1 (there s c.in_ok-self.field-0 c.byte_at.result 78 c.if-byte_at-ne78.false (omega arith) c.byte_at.ensures)
-    c.in_ok-self-2.ensures.1
+    c.in_ok-self-2.ensures.1 c.in_ok-place.ensures

@@ -8,6 +8,6 @@ pub name_ended-requires-clause-ended : goal.name_ended-requires-clause-ended
 name_ended-requires-clause-ended c =
     let s = c.args.s.now in
     let old = c.args.self.now in
-    subst (λ n. IsNameEnded s (record old { at = n }) c.in-Name.is_const false old.nest.from) (sym c.in_ok-self.ensures.1)
-    (operator-ends s old c.in-Name.is_const c.requires.read
+    subst (λ n. IsNameEnded s (record old { at = n }) c.in-Name.mark false old.nest.from) (sym c.in_ok-self.ensures.1)
+    (operator-ends s old c.in-Name.mark c.requires.read
     (there s old.at c.byte_at.result 69 c.if-byte_at-ne69.false (omega arith) c.byte_at.ensures) c.in-Name.is)

@@ -38,13 +38,13 @@ mark-requires-in-Const c =
 
 pub parameter_ended-requires-clause-ended : goal.parameter_ended-requires-clause-ended
 parameter_ended-requires-clause-ended c =
-    parameter-read c.args.s.now c.args.self.now c.in-Parameters.is_const c.in-Parameters.start c.in-Parameters.argument
-    (value-element c.args.s.now c.args.self.now c.args.is_reference (opens.Parameters c.in-Parameters.is_const c.in-Parameters.start c.in-Parameters.argument) c.requires.writing
+    parameter-read c.args.s.now c.args.self.now c.in-Parameters.mark c.in-Parameters.start c.in-Parameters.argument
+    (value-element c.args.s.now c.args.self.now c.args.is_reference (opens.Parameters c.in-Parameters.mark c.in-Parameters.start c.in-Parameters.argument) c.requires.writing
     (waits-last _ _ _ _ c.as_slice.ensures c.in_ok-from.ensures.value c.in-Parameters.is))
 
 pub front_ended-requires-clause-ended : goal.front_ended-requires-clause-ended
 front_ended-requires-clause-ended c =
-    value-front c.args.s.now c.args.self.now c.args.is_reference c.in-Front.is_const c.in-Front.start c.in-Front.argument
+    value-front c.args.s.now c.args.self.now c.args.is_reference c.in-Front.mark c.in-Front.start c.in-Front.argument
     c.requires.writing (waits-last _ _ _ _ c.as_slice.ensures c.in_ok-from.ensures.value c.in-Front.is)
 
 pub returned-requires-clause-returned : goal.returned-requires-clause-returned
@@ -59,8 +59,8 @@ parameter_at-requires-clause-awaits c =
 
 pub enclosing_parameter-requires-clause-read : goal.enclosing_parameter-requires-clause-read
 enclosing_parameter-requires-clause-read c =
-    parameter-read-within c.args.s.now c.args.self.now c.in-Enclosing.is_const c.in-Enclosing.from
-    (value-element c.args.s.now c.args.self.now c.args.is_reference (opens.Enclosing c.in-Enclosing.is_const c.in-Enclosing.from) c.requires.writing
+    parameter-read-within c.args.s.now c.args.self.now c.in-Enclosing.mark c.in-Enclosing.from c.in-Enclosing.argument
+    (value-element c.args.s.now c.args.self.now c.args.is_reference (opens.Enclosing c.in-Enclosing.mark c.in-Enclosing.from c.in-Enclosing.argument) c.requires.writing
     (waits-last _ _ _ _ c.as_slice.ensures c.in_ok-from.ensures.value c.in-Enclosing.is))
 
 pub lambda_parameter-requires-clause-read : goal.lambda_parameter-requires-clause-read
