@@ -456,13 +456,15 @@ unfolding rule_of is_chain
 branch_tree k rule taken parts lt takes trees = elim (chosen_rule k takes.byte rule lt takes.is_byte takes.found).here [
   | as_wide stays same ↦ subst (λ t. IsTree wide (OfKind k) t) (sym (same_branch k rule taken parts stays))
       (record { byte = takes.byte; is_byte = takes.is_byte; found = same; takes = takes.takes }, trees)
-  | aside stays other less same chains ↦ subst (λ t. IsTree wide (OfKind k) t) (sym (same_branch k rule taken parts stays))
-      (record {
-        byte = other;
-        is_byte = less;
-        found = same;
-        takes = takes.takes ∙ ap (λ b. cond b (takes.byte ∷ []) []) chains ∙ sym (ap (λ b. cond b (other ∷ []) []) chains);
-      }, trees)
+  | aside stays other less same chains ↦ subst (λ t. IsTree wide (OfKind k) t) (sym (same_branch k rule taken parts stays)) (
+    record {
+      byte = other;
+      is_byte = less;
+      found = same;
+      takes = takes.takes ∙ ap (λ b. cond b (takes.byte ∷ []) []) chains ∙ sym (ap (λ b. cond b (other ∷ []) []) chains);
+    },
+    trees,
+  )
   | behind_s is at ↦ rw (is, at) (nest_branch taken parts (takes_its rule (rule_of Production.NestAbbreviated) taken takes.byte false is refl takes.takes)
       (subst (λ r. AreTrees wide (symbols_of r) parts) is trees))
   | of_operator is at ↦ rw (is, at) (operator_branch_tree taken parts (takes_its rule (rule_of Production.OperatorName) taken takes.byte false is refl takes.takes)
