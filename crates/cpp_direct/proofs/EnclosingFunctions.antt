@@ -39,7 +39,7 @@ use Rattle.cpp_direct.proofs.PrintedLocals.{function-encloses, object-enclosing}
 use Rattle.cpp_direct.proofs.PrintedNames.{as-name, source-prints}
 use Rattle.cpp_direct.proofs.PrintedSymbols.{encoding-plain, function-shows, made-void, made-with, object-encoded, parameters-kept, void-shows}
 use Rattle.cpp_direct.proofs.PrintedWithin.{lambda-prints, lambda-list-prints, local-prints}
-use Rattle.cpp_direct.proofs.Scopes.{none-scoped}
+use Rattle.cpp_direct.proofs.Scopes.{none-known, none-scoped}
 
 -- ## Names
 
@@ -63,7 +63,7 @@ name-opens s w a letter =
         around = in_types (w.at + 1) (tree_of v);
         inner = items.inner;
         outside = refl;
-        scoped = λ o. absurd (omega (arith, o));
+        scoped = λ k o. absurd (none-known k o);
         awaits = items.awaits;
         onward = λ l there then_ last. (
           a.os,
@@ -224,7 +224,7 @@ first-within s w first last is_const from p one text candidates at waiting =
       makes = encoding-plain p.v is_const p.own p.tree_is p.qualifiers_are p.mark_is p.no_return;
       prints = p.prints;
       elements = none-print-in (types_of p.own) 6;
-      names = λ o. absurd (omega (arith, o));
+      names = λ k o. absurd (none-known k o);
     } in
     parameter-expected s last p.state is_const from (reverse w.waiting.list.items) p.front make [] p.name [] moved
     (ap reverse waiting ∙ reverse-last first.waiting.list.items (opens.Enclosing is_const from)
