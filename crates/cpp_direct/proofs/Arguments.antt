@@ -1,5 +1,5 @@
--- The first argument of a name, which may be the only one.
-use Rattle.std.proofs.Common.{◌≡◌, ℕ, ◌+◌, ◌-◌, length, List, [], ◌∷◌, ◌++◌, reverse, slice_get, inr, inl, Bool, true, false, Some, refl, ap, sym, ◌∙◌, subst, codes, append-nil}
+-- The arguments of a name, as long as they are types.
+use Rattle.std.proofs.Common.{◌≡◌, ℕ, zero, suc, ◌+◌, ◌-◌, length, List, [], ◌∷◌, ◌++◌, reverse, slice_get, inr, inl, Bool, true, false, Some, refl, ap, sym, ◌∙◌, subst, codes, append_assoc, append-nil}
 use Rattle.std.proofs.lemmas.Bool.{false≢true}
 use Rattle.std.proofs.lemmas.List.{length-append}
 use Rattle.cpp_grammar.specs.declared.kind.Kind.{Kind}
@@ -7,20 +7,24 @@ use Rattle.cpp_grammar.specs.Grammar.{may_be_empty}
 use Rattle.cpp_grammar.specs.Term.{Term, nil, list, instance}
 use Rattle.cpp_grammar.specs.Values.{nothing_there}
 use Rattle.cpp_grammar.specs.Between.{no_items}
+use Rattle.cpp_direct.specs.declared.open.Argument.{Argument}
+use Rattle.cpp_direct.specs.declared.open.Arguments.{Arguments}
 use Rattle.cpp_direct.specs.declared.open.Open.{Open}
 use Rattle.cpp_direct.specs.declared.open.Open.TheVariants as opens
 use Rattle.cpp_direct.specs.declared.open.Step.TheVariants as steps
 use Rattle.cpp_direct.specs.declared.direct.Direct.{Direct}
 use Rattle.cpp_direct.specs.Holes.{Expects, StandsAt}
 use Rattle.cpp_direct.specs.Prints.{Prints, IsElement, PrintEachBy, PrintAllBy, joined}
-use Rattle.cpp_direct.specs.Stands.{AreCandidates, ArgumentsGoOn, Belongs, EndsNamed, GoesOn, IsScoped, IsTemplate, IsWriting, Listing, of_template, of_pack, Owns, Stands, extra_of, led_by}
-use Rattle.cpp_direct.specs.Ways.{IsArgumentRead, IsListEnded}
-use Rattle.cpp_direct.proofs.Kept.{reverse-last, template-stays}
-use Rattle.cpp_direct.proofs.Listed.{last-found, element-goes-on}
+use Rattle.cpp_direct.specs.Stands.{AreAmong, AreCandidates, ArgumentsGoOn, Belongs, EndsNamed, GoesOn, IsAmong, IsKnown, IsScoped, IsTemplate, IsWriting, Listing, of_template, of_pack, Owns, Stands, extra_of, in_front_of_next, led_by, list_with, nowhere, packed, place_of}
+use Rattle.cpp_direct.specs.Ways.{AreKnown, AwaitsKnownArgument, IsArgumentRead, IsListEnded, KnowsMore}
+use Rattle.cpp_direct.specs.Written.{Writes}
+use Rattle.cpp_direct.proofs.Ending.{next-written}
+use Rattle.cpp_direct.proofs.Kept.{candidates-written, reverse-last, template-stays}
+use Rattle.cpp_direct.proofs.Listed.{last-found, element-goes-on, some-elements}
 use Rattle.cpp_direct.proofs.Moves.{expects-empty}
 use Rattle.cpp_direct.proofs.MovesOfLists.{element-awaits}
-use Rattle.cpp_direct.proofs.PrintedLists.{type-element}
-use Rattle.cpp_direct.proofs.Scopes.{none-scoped}
+use Rattle.cpp_direct.proofs.PrintedLists.{next-prints, none-print, type-element}
+use Rattle.cpp_direct.proofs.Scopes.{among-stay, none-known, none-scoped}
 
 -- no elements have no text
 pub none-text : (by : Term → List ℕ → Type 0) (l : List ℕ) → PrintAllBy by [] l → l ≡ []
@@ -33,7 +37,7 @@ none-text by l all = go all.0 all.1 all.2
 -- the first argument comes next
 pub argument-begins : (s : List ℕ) (old new : Direct) (from : ℕ) → IsWriting s old (steps.List true)
     → EndsNamed (reverse old.waiting.list.items) → from ≡ length old.text.list.items
-    → new.waiting.list.items ≡ old.waiting.list.items ++ opens.Argument from ∷ [] → new.text ≡ old.text → new.candidates ≡ old.candidates → new.at ≡ old.at
+    → new.waiting.list.items ≡ old.waiting.list.items ++ opens.Argument from 0 nowhere ∷ [] → new.text ≡ old.text → new.candidates ≡ old.candidates → new.at ≡ old.at
     → IsWriting s new steps.Type
 argument-begins s old new from p named from_is waits text candidates at = go p.is_before.0.listing refl
   where
@@ -51,21 +55,26 @@ argument-begins s old new from p named from_is waits text candidates at = go p.i
         let all : PrintAllBy (IsElement (extra_of place.listing)) [] p.is_before.2 =
         subst (λ ts. PrintAllBy (IsElement (extra_of place.listing)) ts p.is_before.2) ts_is p.is_before.3 in
         let texts_is : p.is_before.2 ≡ [] = none-text (IsElement (extra_of place.listing)) p.is_before.2 all in
-        let written : old.text.list.items ≡ place.front ++ place.name ++ codes "<" =
+        let written : old.text.list.items ≡ place.front ++ place.name ++ codes "<" ++ [] =
         subst (λ l. old.text.list.items ≡ led_by l place.front place.name ++ p.is_before.2) is p.is_before.4
-        ∙ ap (λ l. place.front ++ place.name ++ codes "<" ++ l) texts_is ∙ append-nil (place.front ++ place.name ++ codes "<") in
+        ∙ ap (λ l. place.front ++ place.name ++ codes "<" ++ l) texts_is in
         let element = element-awaits s Kind.ArgumentList goes.1 goes.0 old.at p.state tt goes.3 in
         let belongs : reverse old.waiting.list.items ≡ o ∷ place.rest =
         subst (λ l. Belongs l (reverse old.waiting.list.items) o place.rest) is place.belongs in
-        let opened : reverse new.waiting.list.items ≡ opens.Argument from ∷ o ∷ place.rest =
-        ap reverse waits ∙ reverse-last old.waiting.list.items (opens.Argument from) ∙ ap (λ ws. opens.Argument from ∷ ws) belongs in
-        let stands : Stands s (opens.Argument from ∷ o ∷ place.rest) element.inner old.text.list.items = (
+        let opened : reverse new.waiting.list.items ≡ opens.Argument from 0 nowhere ∷ o ∷ place.rest =
+        ap reverse waits ∙ reverse-last old.waiting.list.items (opens.Argument from 0 nowhere) ∙ ap (λ ws. opens.Argument from 0 nowhere ∷ ws) belongs in
+        let stands : Stands s (opens.Argument from 0 nowhere ∷ o ∷ place.rest) element.inner old.text.list.items = (
           place.front,
           place.template,
           place.name,
+          [],
+          [],
           place.is_template,
+          none-print 3,
           written,
           from_is,
+          refl,
+          (λ k known. absurd (none-known k known)),
           λ t here now comes. element-goes-on s Kind.ArgumentList
               (λ l there later. Owns s o (Stands s place.rest) place.front (instance place.template l) there later)
               [] t old.at here p.state now goes (element.onward t here now comes),
@@ -81,19 +90,20 @@ argument-begins s old new from p named from_is waits text candidates at = go p.i
             inr (inl (subst (λ n. Expects s Kind.Item goes.0 element.inner n p.state) (sym at) element.awaits)),
             subst (λ v. Stands s (reverse new.waiting.list.items) element.inner v.list.items) (sym text)
                 (subst (λ ws. Stands s ws element.inner old.text.list.items) (sym opened) stands),
-            subst (λ ws. IsScoped goes.0 ws) (sym opened) (none-scoped goes.0 (opens.Argument from ∷ o ∷ place.rest) refl),
+            subst (λ ws. IsScoped goes.0 ws) (sym opened) (none-scoped goes.0 (opens.Argument from 0 nowhere ∷ o ∷ place.rest) refl),
           );
         }
 
 -- it was read
-pub value-argument : (s : List ℕ) (w : Direct) (is_reference : Bool) (from : ℕ) → IsWriting s w (steps.Value is_reference)
-    → slice_get w.waiting.list.items (length w.waiting.list.items - 1) ≡ Some (opens.Argument from) → IsArgumentRead s w from is_reference
-value-argument s w is_reference from p found =
-    let last = last-found w.waiting.list.items (opens.Argument from) found in
+pub value-argument : (s : List ℕ) (w : Direct) (is_reference : Bool) (from number : ℕ) (known : Arguments) → IsWriting s w (steps.Value is_reference)
+    → slice_get w.waiting.list.items (length w.waiting.list.items - 1) ≡ Some (opens.Argument from number known)
+    → IsArgumentRead s w from number known is_reference
+value-argument s w is_reference from number known p found =
+    let last = last-found w.waiting.list.items (opens.Argument from number known) found in
     go last.0 last.1 (subst (λ ws. Stands s ws p.is_before.0 p.is_before.2) last.1 p.is_before.7)
   where
-    go : (rest : List Open) → reverse w.waiting.list.items ≡ opens.Argument from ∷ rest
-        → Stands s (opens.Argument from ∷ rest) p.is_before.0 p.is_before.2 → IsArgumentRead s w from is_reference
+    go : (rest : List Open) → reverse w.waiting.list.items ≡ opens.Argument from number known ∷ rest
+        → Stands s (opens.Argument from number known ∷ rest) p.is_before.0 p.is_before.2 → IsArgumentRead s w from number known is_reference
     go [] is waits = absurd waits
     go (owner ∷ rest) is waits =
         let bytes = p.is_before.3 in
@@ -106,74 +116,230 @@ value-argument s w is_reference from p found =
           front = waits.0;
           template = waits.1;
           name = waits.2;
+          ts = waits.3;
+          texts = waits.4;
           t = p.is_before.1;
           bytes = bytes;
           is_template = subst (λ l. IsTemplate owner waits.0 waits.1 waits.2 l) (sym p.is_before.4)
-              (template-stays owner waits.0 waits.1 waits.2 p.is_before.2 bytes waits.3);
-          written = p.is_before.4 ∙ ap (λ l. l ++ bytes) waits.4;
-          from_is = waits.5 ∙ ap length waits.4;
+              (template-stays owner waits.0 waits.1 waits.2 p.is_before.2 bytes waits.5);
+          elements = waits.6;
+          written = p.is_before.4 ∙ ap (λ l. l ++ bytes) waits.7;
+          from_is = waits.8 ∙ ap length waits.7;
+          number_is = waits.9;
+          among = subst (λ l. AreAmong l known waits.3) (sym p.is_before.4) (among-stay p.is_before.2 bytes known waits.3 waits.10);
           prints = p.is_before.5;
-          goes = waits.6 p.is_before.1 w.at p.state p.is_before.6;
+          goes = waits.11 p.is_before.1 w.at p.state p.is_before.6;
         }
 
 -- others may follow
-pub argument-passes : (s : List ℕ) (old new : Direct) (from : ℕ) (is_reference : Bool) (p : IsArgumentRead s old from is_reference)
+pub argument-passes : (s : List ℕ) (old new : Direct) (from number : ℕ) (known : Arguments) (is_reference : Bool)
+    (p : IsArgumentRead s old from number known is_reference)
     → reverse new.waiting.list.items ≡ p.owner ∷ p.rest → new.text ≡ old.text → new.candidates ≡ old.candidates → new.at ≡ old.at
     → IsWriting s new (steps.List false)
-argument-passes s old new from is_reference p waits text candidates at = record {
-  state = p.state;
-  candidates = subst (λ v. AreCandidates new.text.list.items v.list.items p.state.candidates) (sym candidates)
-      (subst (λ v. AreCandidates v.list.items old.candidates.list.items p.state.candidates) (sym text) p.candidates);
-  is_before = (
+argument-passes s old new from number known is_reference p waits text candidates at =
+    let ts = p.ts ++ p.t ∷ [] in
+    let texts = in_front_of_next p.ts p.texts ++ p.bytes in
     record {
-      listing = of_template;
+      state = p.state;
+      candidates = subst (λ v. AreCandidates new.text.list.items v.list.items p.state.candidates) (sym candidates)
+          (subst (λ v. AreCandidates v.list.items old.candidates.list.items p.state.candidates) (sym text) p.candidates);
+      is_before = (
+        record {
+          listing = of_template;
+          owner = p.owner;
+          rest = p.rest;
+          belongs = waits;
+          front = p.front;
+          template = p.template;
+          name = p.name;
+          is_template = subst (λ v. IsTemplate p.owner p.front p.template p.name v.list.items) (sym text) p.is_template;
+        },
+        ts,
+        texts,
+        next-prints 3 p.ts p.texts p.t p.bytes p.elements (type-element 3 p.t p.bytes is_reference p.prints),
+        ap (λ v. v.list.items) text ∙ p.written
+            ∙ append_assoc (p.front ++ p.name ++ codes "<") (in_front_of_next p.ts p.texts) p.bytes,
+        λ e. absurd (false≢true e),
+        λ e. some-elements p.ts p.t,
+        subst (λ n. ArgumentsGoOn s p.owner (Stands s p.rest) p.front p.template ts n p.state) (sym at) p.goes,
+      );
+    }
+
+-- ## What is known of them
+
+earlier-there : (ts : List Term) (t u : Term) (k : ℕ) → slice_get ts k ≡ Some u → slice_get (ts ++ t ∷ []) k ≡ Some u
+earlier-there [] t u k e = cc e
+earlier-there (v ∷ ts) t u zero e = e
+earlier-there (v ∷ ts) t u (suc k) e = earlier-there ts t u k e
+
+last-there : (ts : List Term) (t : Term) → slice_get (ts ++ t ∷ []) (length ts) ≡ Some t
+last-there [] t = refl
+last-there (v ∷ ts) t = last-there ts t
+
+-- one more is known
+pub known-more : (text : List ℕ) (from to number : ℕ) (is_reference : Bool) (place : Argument) (known more : Arguments) (ts : List Term) (t : Term)
+    (before bytes : List ℕ) → text ≡ before ++ bytes → from ≡ length before → to ≡ length text → number ≡ length ts → Prints t bytes is_reference
+    → (IsKnown place → place ≡ record { from = from; to = to; is_pack = false; is_reference = is_reference }) → KnowsMore known more number place
+    → AreAmong text known ts → AreAmong text more (ts ++ t ∷ [])
+known-more text from to number is_reference place known more ts t before bytes written from_is to_is number_is prints place_is knows among k o =
+    elim (knows k o) [
+      | inl h ↦
+          subst (λ j. IsAmong text (place_of more k) j (ts ++ t ∷ []) × ((place_of more k).is_pack ≡ false)) (sym h.0)
+          (subst (λ (q : Argument). IsAmong text q number (ts ++ t ∷ []) × (q.is_pack ≡ false)) (sym h.1) (here (subst IsKnown h.1 o)))
+      | inr h ↦
+          subst (λ (q : Argument). IsAmong text q k (ts ++ t ∷ []) × (q.is_pack ≡ false)) (sym h) (there (among k (subst IsKnown h o)))
+    ]
+  where
+    here : IsKnown place → IsAmong text place number (ts ++ t ∷ []) × (place.is_pack ≡ false)
+    here e = (
+      record {
+        bytes = bytes;
+        placed = record {
+          front = before;
+          back = [];
+          written = written ∙ sym (append-nil (before ++ bytes));
+          from_is = ap (λ (q : Argument). q.from) (place_is e) ∙ from_is;
+          to_is = ap (λ (q : Argument). q.to) (place_is e) ∙ to_is ∙ ap length written ∙ length-append before bytes;
+        };
+        own = t;
+        there = ap (λ n. slice_get (ts ++ t ∷ []) n) number_is ∙ last-there ts t ∙ ap (λ (q : Argument). Some (packed q.is_pack t)) (sym (place_is e));
+        prints = subst (λ (q : Argument). Prints t bytes q.is_reference) (sym (place_is e)) prints;
+      },
+      ap (λ (q : Argument). q.is_pack) (place_is e),
+    )
+
+    there : IsAmong text (place_of known k) k ts × ((place_of known k).is_pack ≡ false)
+        → IsAmong text (place_of known k) k (ts ++ t ∷ []) × ((place_of known k).is_pack ≡ false)
+    there g = (
+      record {
+        bytes = g.0.bytes;
+        placed = g.0.placed;
+        own = g.0.own;
+        there = earlier-there ts t (packed (place_of known k).is_pack g.0.own) k g.0.there;
+        prints = g.0.prints;
+      },
+      g.1,
+    )
+
+-- the one that was read is known
+argument-known : (s : List ℕ) (old : Direct) (from to number : ℕ) (place : Argument) (known more : Arguments) (is_reference : Bool)
+    (p : IsArgumentRead s old from number known is_reference) → to ≡ length old.text.list.items
+    → (IsKnown place → place ≡ record { from = from; to = to; is_pack = false; is_reference = is_reference }) → KnowsMore known more number place
+    → AreAmong old.text.list.items more (p.ts ++ p.t ∷ [])
+argument-known s old from to number place known more is_reference p to_is place_is knows =
+    known-more old.text.list.items from to number is_reference place known more p.ts p.t
+    (p.front ++ p.name ++ codes "<" ++ in_front_of_next p.ts p.texts) p.bytes p.written p.from_is to_is p.number_is p.prints place_is knows p.among
+
+-- the end of the arguments follows
+pub argument-closes : (s : List ℕ) (old new : Direct) (from to number : ℕ) (place : Argument) (known more : Arguments) (is_reference : Bool)
+    (p : IsArgumentRead s old from number known is_reference) → StandsAt s old.at (69 ∷ []) → reverse new.waiting.list.items ≡ p.owner ∷ p.rest
+    → new.text ≡ old.text → new.candidates ≡ old.candidates → new.at ≡ old.at + 1 → to ≡ length old.text.list.items
+    → (IsKnown place → place ≡ record { from = from; to = to; is_pack = false; is_reference = is_reference }) → KnowsMore known more number place
+    → IsListEnded s new more
+unfolding no_items may_be_empty
+argument-closes s old new from to number place known more is_reference p stands waits text candidates at to_is place_is knows =
+    let ts = p.ts ++ p.t ∷ [] in
+    let among = argument-known s old from to number place known more is_reference p to_is place_is knows in
+    record {
+      state = p.state;
+      candidates = subst (λ v. AreCandidates new.text.list.items v.list.items p.state.candidates) (sym candidates)
+          (subst (λ v. AreCandidates v.list.items old.candidates.list.items p.state.candidates) (sym text) p.candidates);
       owner = p.owner;
       rest = p.rest;
-      belongs = waits;
+      open_is = waits;
       front = p.front;
       template = p.template;
       name = p.name;
+      ts = ts;
+      tail = nil;
+      is_tail = inl refl;
+      arguments = in_front_of_next p.ts p.texts ++ p.bytes;
       is_template = subst (λ v. IsTemplate p.owner p.front p.template p.name v.list.items) (sym text) p.is_template;
-    },
-    p.t ∷ [],
-    p.bytes,
-    (p.bytes ∷ [], (type-element 3 p.t p.bytes is_reference p.prints, tt), refl),
-    ap (λ v. v.list.items) text ∙ p.written,
-    λ e. absurd (false≢true e),
-    λ e q. cc q,
-    subst (λ n. ArgumentsGoOn s p.owner (Stands s p.rest) p.front p.template (p.t ∷ []) n p.state) (sym at) p.goes,
-  );
-}
+      elements = next-prints 3 p.ts p.texts p.t p.bytes p.elements (type-element 3 p.t p.bytes is_reference p.prints);
+      written = ap (λ v. v.list.items) text ∙ p.written
+          ∙ append_assoc (p.front ++ p.name ++ codes "<") (in_front_of_next p.ts p.texts) p.bytes;
+      owns = subst (λ n. Owns s p.owner (Stands s p.rest) p.front (instance p.template (list_with ts nil)) n p.state) (sym at)
+          (p.goes.4 nothing_there old.at p.state (expects-empty s Kind.ArgumentList p.goes.0 p.goes.1 old.at p.state p.goes.3 refl) stands);
+      known = subst (λ v. AreKnown v.list.items more ts nil) (sym text)
+          (λ k o. let h = among k o in (h.0, λ e. absurd (false≢true (sym h.1 ∙ e))));
+    }
 
--- or the end: it is the only one
-pub argument-alone : (s : List ℕ) (old new : Direct) (from to : ℕ) (is_reference : Bool) (p : IsArgumentRead s old from is_reference) → is_reference ≡ false
-    → StandsAt s old.at (69 ∷ []) → reverse new.waiting.list.items ≡ p.owner ∷ p.rest → new.text ≡ old.text → new.candidates ≡ old.candidates
-    → new.at ≡ old.at + 1 → to ≡ length old.text.list.items → IsListEnded s new (record { from = from; to = to; is_pack = false; is_reference = false })
-unfolding no_items may_be_empty
-argument-alone s old new from to is_reference p plain stands waits text candidates at to_is = record {
-  state = p.state;
-  candidates = subst (λ v. AreCandidates new.text.list.items v.list.items p.state.candidates) (sym candidates)
-      (subst (λ v. AreCandidates v.list.items old.candidates.list.items p.state.candidates) (sym text) p.candidates);
-  owner = p.owner;
-  rest = p.rest;
-  open_is = waits;
-  front = p.front;
-  template = p.template;
-  name = p.name;
-  ts = p.t ∷ [];
-  tail = nil;
-  is_tail = inl refl;
-  arguments = p.bytes;
-  is_template = subst (λ v. IsTemplate p.owner p.front p.template p.name v.list.items) (sym text) p.is_template;
-  elements = (p.bytes ∷ [], (type-element 3 p.t p.bytes is_reference p.prints, tt), refl);
-  written = ap (λ v. v.list.items) text ∙ p.written;
-  owns = subst (λ n. Owns s p.owner (Stands s p.rest) p.front (instance p.template (list p.t nil)) n p.state) (sym at)
-      (p.goes.4 nothing_there old.at p.state (expects-empty s Kind.ArgumentList p.goes.0 p.goes.1 old.at p.state p.goes.3 refl) stands);
-  alone = λ o. (
-    p.t,
-    refl,
-    subst (λ r. Prints p.t p.bytes r) plain p.prints,
-    p.from_is,
-    to_is ∙ ap length p.written ∙ length-append (p.front ++ p.name ++ codes "<") p.bytes,
-  );
-}
+-- or another one
+pub argument-awaits : (s : List ℕ) (old new : Direct) (from to number : ℕ) (place : Argument) (known more : Arguments) (is_reference : Bool)
+    (p : IsArgumentRead s old from number known is_reference) → reverse new.waiting.list.items ≡ p.owner ∷ p.rest
+    → new.text ≡ old.text → new.candidates ≡ old.candidates → new.at ≡ old.at → to ≡ length old.text.list.items
+    → (IsKnown place → place ≡ record { from = from; to = to; is_pack = false; is_reference = is_reference }) → KnowsMore known more number place
+    → AwaitsKnownArgument s new number more
+argument-awaits s old new from to number place known more is_reference p waits text candidates at to_is place_is knows =
+    let ts = p.ts ++ p.t ∷ [] in
+    record {
+      state = p.state;
+      candidates = subst (λ v. AreCandidates new.text.list.items v.list.items p.state.candidates) (sym candidates)
+          (subst (λ v. AreCandidates v.list.items old.candidates.list.items p.state.candidates) (sym text) p.candidates);
+      owner = p.owner;
+      rest = p.rest;
+      open_is = waits;
+      front = p.front;
+      template = p.template;
+      name = p.name;
+      ts = ts;
+      texts = in_front_of_next p.ts p.texts ++ p.bytes;
+      is_template = subst (λ v. IsTemplate p.owner p.front p.template p.name v.list.items) (sym text) p.is_template;
+      elements = next-prints 3 p.ts p.texts p.t p.bytes p.elements (type-element 3 p.t p.bytes is_reference p.prints);
+      some = some-elements p.ts p.t;
+      written = ap (λ v. v.list.items) text ∙ p.written
+          ∙ append_assoc (p.front ++ p.name ++ codes "<") (in_front_of_next p.ts p.texts) p.bytes;
+      number_is = omega (arith, p.number_is, length-append p.ts (p.t ∷ []));
+      among = subst (λ v. AreAmong v.list.items more ts) (sym text)
+          (argument-known s old from to number place known more is_reference p to_is place_is knows);
+      goes = subst (λ n. ArgumentsGoOn s p.owner (Stands s p.rest) p.front p.template ts n p.state) (sym at) p.goes;
+    }
+
+-- which comes next
+pub next-argument-begins : (s : List ℕ) (old mid new : Direct) (before from number : ℕ) (known : Arguments) → AwaitsKnownArgument s old before known
+    → Writes old mid (codes ", ") → from ≡ length mid.text.list.items → number ≡ before + 1
+    → new.waiting.list.items ≡ mid.waiting.list.items ++ opens.Argument from number known ∷ [] → new.text ≡ mid.text → new.candidates ≡ mid.candidates
+    → new.at ≡ mid.at → IsWriting s new steps.Type
+next-argument-begins s old mid new before from number known p writes from_is number_is waits text candidates at =
+    let o = p.owner in
+    let entry = opens.Argument from number known in
+    let goes = p.goes in
+    let element = element-awaits s Kind.ArgumentList goes.1 goes.0 old.at p.state tt goes.3 in
+    let written : mid.text.list.items ≡ p.front ++ p.name ++ codes "<" ++ in_front_of_next p.ts p.texts =
+    writes.text ∙ ap (λ l. l ++ codes ", ") p.written ∙ append_assoc (p.front ++ p.name ++ codes "<") p.texts (codes ", ")
+    ∙ ap (λ l. p.front ++ p.name ++ codes "<" ++ l) (sym (next-written p.ts p.texts p.some)) in
+    let opened : reverse new.waiting.list.items ≡ entry ∷ o ∷ p.rest =
+    ap reverse waits ∙ reverse-last mid.waiting.list.items entry
+    ∙ ap (λ ws. entry ∷ ws) (ap (λ v. reverse v.list.items) writes.waiting ∙ p.open_is) in
+    let stands : Stands s (entry ∷ o ∷ p.rest) element.inner mid.text.list.items = (
+      p.front,
+      p.template,
+      p.name,
+      p.ts,
+      p.texts,
+      subst (λ l. IsTemplate o p.front p.template p.name l) (sym writes.text)
+          (template-stays o p.front p.template p.name old.text.list.items (codes ", ") p.is_template),
+      p.elements,
+      written,
+      from_is,
+      number_is ∙ p.number_is,
+      subst (λ l. AreAmong l known p.ts) (sym writes.text) (among-stay old.text.list.items (codes ", ") known p.ts p.among),
+      λ t here now comes. element-goes-on s Kind.ArgumentList
+          (λ l there later. Owns s o (Stands s p.rest) p.front (instance p.template l) there later)
+          p.ts t old.at here p.state now goes (element.onward t here now comes),
+    ) in
+    record {
+      state = p.state;
+      candidates = subst (λ v. AreCandidates new.text.list.items v.list.items p.state.candidates) (sym candidates)
+          (subst (λ v. AreCandidates v.list.items mid.candidates.list.items p.state.candidates) (sym text)
+          (candidates-written old mid (codes ", ") p.state.candidates writes p.candidates));
+      is_before = (
+        element.inner,
+        goes.0,
+        goes.2,
+        inr (inl (subst (λ n. Expects s Kind.Item goes.0 element.inner n p.state) (sym (at ∙ writes.at)) element.awaits)),
+        subst (λ v. Stands s (reverse new.waiting.list.items) element.inner v.list.items) (sym text)
+            (subst (λ ws. Stands s ws element.inner mid.text.list.items) (sym opened) stands),
+        subst (λ ws. IsScoped goes.0 ws) (sym opened) (none-scoped goes.0 (entry ∷ o ∷ p.rest) refl),
+      );
+    }

@@ -1,4 +1,4 @@
--- A type that names the argument of a function's template is read, and handed on.
+-- A type that names an argument of a function's template is read, and handed on.
 use Rattle.cpp_direct.proofs.EnclosingFunctions.{parameter-got-within}
 use Rattle.cpp_direct.proofs.Handed.{front-got, parameter-got}
 use Rattle.cpp_direct.proofs.Kept.{candidates-stay, piece-found}
@@ -10,13 +10,14 @@ use Rattle.cpp_direct.proofs.Signatures.{hidden-candidates}
 use Rattle.cpp_direct.specs.declared.open.Mark.{Mark}
 use Rattle.cpp_direct.specs.Holes.{Opened, StandsAt, Comes, with_candidate, opened, Expects, IsTyped}
 use Rattle.cpp_direct.specs.Prints.{Prints, PrintsIn, PrintsBehind}
-use Rattle.cpp_direct.specs.Stands.{AreCandidates, IsArgument, IsPlaced, IsPlain, IsWriting, Marks, Stands, argument_of, IsScope, packed}
-use Rattle.cpp_direct.specs.Ways.{AwaitsType, AwaitsDependentMark, IsEnclosingParameterRead, IsFrontRead, IsParameterEnded}
+use Rattle.cpp_direct.specs.Stands.{AreCandidates, HasArguments, IsArgument, IsKnown, IsPlaced, IsPlain, IsWriting, Marks, Stands, argument_of, IsScope, packed, place_of}
+use Rattle.cpp_direct.specs.Ways.{AwaitsType, AwaitsDependentMark, IsEnclosingParameterRead, IsFrontRead, IsParameterEnded, parameter_digits}
 use Rattle.cpp_direct.specs.Written.{with_hidden}
 use Rattle.cpp_direct.specs.declared.direct.Direct.{Direct}
 use Rattle.cpp_direct.specs.declared.open.Open.TheVariants as opens
 use Rattle.cpp_direct.specs.declared.open.Open.{Open}
 use Rattle.cpp_direct.specs.declared.open.Argument.{Argument}
+use Rattle.cpp_direct.specs.declared.open.Arguments.{Arguments}
 use Rattle.cpp_direct.specs.declared.open.Step.TheVariants as steps
 use Rattle.cpp_grammar.specs.Between.{Going, between, after, applied, listed_so_far, parameter_so_far, index_of}
 use Rattle.cpp_grammar.specs.Grammar.{in_ranges, among, is_in, pick, number_of_kind, alternatives, choose, parts_of, is_chain, may_be_empty}
@@ -25,7 +26,7 @@ use Rattle.cpp_grammar.specs.KindNumbers.{ARGUMENTS_ALONE}
 use Rattle.cpp_grammar.specs.Meaning.{meaning}
 use Rattle.cpp_grammar.specs.Parts.{types_of}
 use Rattle.cpp_grammar.specs.References.{appended, is_function_type, with_packs, parameter_named}
-use Rattle.cpp_grammar.specs.Scope.{arguments_of, element, count}
+use Rattle.cpp_grammar.specs.Scope.{arguments_of, element, count, length_if_pack}
 use Rattle.cpp_grammar.specs.Table.{rule_of}
 use Rattle.cpp_grammar.specs.Term.{Term, parameter, nil, list}
 use Rattle.cpp_grammar.specs.Unfolding as unfolding_
@@ -34,7 +35,8 @@ use Rattle.cpp_grammar.specs.Values as values
 use Rattle.cpp_grammar.specs.Values.{tree, State, Around, nothing_there, tree_of, is_there, text_of, part}
 use Rattle.cpp_grammar.specs.declared.kind.Kind.{Kind}
 use Rattle.cpp_grammar.specs.declared.production.Production.{Production}
-use Rattle.std.proofs.Common.{◌≡◌, ℕ, ◌+◌, ◌-◌, ◌≤◌, length, List, [], ◌∷◌, ◌++◌, take, drop, reverse, slice_get, Bool, true, false, Option, Some, refl, ap, sym, ◌∙◌, subst, arith, append_assoc, append-nil, Ok}
+use Rattle.std.proofs.Common.{◌≡◌, ℕ, zero, suc, ◌+◌, ◌-◌, ◌≤◌, ◌<◌, length, List, [], ◌∷◌, ◌++◌, take, drop, reverse, slice_get, Bool, true, false, Option, Some, None, refl, ap, sym, ◌∙◌, subst, arith, append_assoc, append-nil, Ok}
+use Rattle.std.proofs.lemmas.Bool.{lt-ltb}
 use Rattle.sym_core.specs.Token.{Token, IsNumberToken}
 use Rattle.sym_core.specs.declared.NumberKind.TheVariants.{Decimal}
 use Rattle.sym_link.specs.Unfold.{standing}
@@ -42,42 +44,76 @@ use Rattle.sym_shape.specs.declared.rule.Sym.TheVariants.{Kind as OfKind, Number
 
 -- ## Moves
 
--- the number of the first parameter, which has no digits
+-- the number of a parameter
+abbrev pub parameter_token : ℕ → Token
+parameter_token k = record { before = []; own = parameter_digits k; behind = 95 ∷ [] }
+
+-- the number of the first parameter has no digits
 abbrev pub first_token : Token
-first_token = record { before = []; own = []; behind = 95 ∷ [] }
+first_token = parameter_token 0
+
+pub parameter-number : (k : ℕ) → IsNumberToken Decimal (parameter_token k)
+parameter-number zero = record { bare = refl; digits = (tt, tt); ends = refl }
+parameter-number (suc zero) = record { bare = refl; digits = ((refl, tt), tt); ends = refl }
+parameter-number (suc (suc zero)) = record { bare = refl; digits = ((refl, tt), tt); ends = refl }
+parameter-number (suc (suc (suc k))) = record { bare = refl; digits = ((refl, tt), tt); ends = refl }
 
 pub first-number : IsNumberToken Decimal first_token
-first-number = record { bare = refl; digits = (tt, tt); ends = refl }
+first-number = parameter-number 0
+
+digits-count : (k : ℕ) → k ≤ 3 → index_of (values.text (parameter_digits k)) ≡ k
+unfolding index_of text_of
+digits-count zero few = refl
+digits-count (suc zero) few = refl
+digits-count (suc (suc zero)) few = refl
+digits-count (suc (suc (suc zero))) few = refl
+digits-count (suc (suc (suc (suc k)))) few = absurd (omega (arith, few))
+
+parameter-found : (around : Around) (k at : ℕ) (st : State) (all : Term) → around.scope ≡ Some all → k < count all → length_if_pack (element all k) ≡ None
+    → parameter_named around at k st ≡ Ok (with_candidate around.encoding (parameter k) st)
+unfolding parameter_named with_packs appended
+parameter-found around k at st all scope below none = rw (scope, lt-ltb k (count all) below, none, parameter_named) refl
 
 -- in its scope it is a candidate
-parameter-tested : (around : Around) (at : ℕ) (st : State) → IsScope false around
-    → ◌≡◌ {A = Going} (between Production.Parameter around at (values.text [] ∷ []) st)
-    (Ok (record { context = after (parameter 0) true around; values = tree (parameter 0) true ∷ []; state = with_candidate around.encoding (parameter 0) st }))
-unfolding between parameter_so_far parameter_named listed_so_far index_of text_of count element with_packs appended
-parameter-tested around at st scope = rw (scope.scope_is, scope.no_pack) refl
+parameter-tested : (around : Around) (k at : ℕ) (st : State) → k ≤ 3 → IsScope k false around
+    → ◌≡◌ {A = Going} (between Production.Parameter around at (values.text (parameter_digits k) ∷ []) st)
+    (Ok (record { context = after (parameter k) true around; values = tree (parameter k) true ∷ []; state = with_candidate around.encoding (parameter k) st }))
+unfolding between parameter_so_far listed_so_far
+parameter-tested around k at st few scope =
+    subst (λ n. ◌≡◌ {A = Going} (parameter_so_far around at n [] st)
+    (Ok (record { context = after (parameter k) true around; values = tree (parameter k) true ∷ []; state = with_candidate around.encoding (parameter k) st })))
+    (sym (digits-count k few))
+    (rw (parameter-found around k at st scope.all scope.scope_is scope.below (ap length_if_pack scope.there ∙ scope.no_pack)) refl)
 
--- the first parameter comes, and is a candidate
-pub first-parameter-comes : (s : List ℕ) (kind : Kind) (around : Around) (os : List Opened) (at : ℕ) (st : State) → IsTyped kind → IsScope false around
-    → Expects s kind around os at st → StandsAt s at (84 ∷ 95 ∷ [])
-    → Comes s os (tree (parameter 0) true) (at + 2) (with_candidate around.encoding (parameter 0) st)
+-- a parameter comes, and is a candidate
+pub parameter-comes : (s : List ℕ) (kind : Kind) (around : Around) (os : List Opened) (k at : ℕ) (st : State) → IsTyped kind → k ≤ 3
+    → IsScope k false around → Expects s kind around os at st → StandsAt s at (84 ∷ (parameter_digits k ++ 95 ∷ []))
+    → Comes s os (tree (parameter k) true) (at + 1 + length (parameter_digits k ++ 95 ∷ [])) (with_candidate around.encoding (parameter k) st)
 unfolding choose alternatives pick is_in in_ranges among is_chain parts_of number_of_kind between opening close unfolding_.behind meaning byte_of tree_of is_there part applied may_be_empty is_function_type
-first-parameter-comes s kind around os at st typed scope expects stands =
+parameter-comes s kind around os k at st typed few scope expects stands =
     let p = Production.Parameter in
-    let t = parameter 0 in
+    let t = parameter k in
     let v = tree t true in
     let later = with_candidate around.encoding t st in
-    let both = stands-split s at (84 ∷ []) (95 ∷ []) stands in
+    let digits = parameter_digits k in
+    let end = at + 1 + length (digits ++ 95 ∷ []) in
+    let both = stands-split s at (84 ∷ []) (digits ++ 95 ∷ []) stands in
     let solid = solid-opens s kind around os at st typed expects in
     let rule = standing (rule_of p) (84 ∷ []) at around st in
-    let number = expects-number s Decimal around (opened rule [] (OfKind ARGUMENTS_ALONE ∷ []) ∷ solid.inner) (at + 1) st first_token
+    let number = expects-number s Decimal around (opened rule [] (OfKind ARGUMENTS_ALONE ∷ []) ∷ solid.inner) (at + 1) st (parameter_token k)
     (first-of s Kind.Solid p 84 around solid.inner at st (Number Decimal) (OfKind ARGUMENTS_ALONE ∷ []) around [] st refl (omega arith) refl (λ f. refl)
-    refl refl solid.awaits both.0) first-number both.1 in
-    let behind = next-of s p (84 ∷ []) at around st [] (values.text []) (OfKind ARGUMENTS_ALONE) [] solid.inner (at + 1 + 1) st (after t true around) (v ∷ [])
-    later (parameter-tested around at st scope) number in
-    subst (λ k. Comes s os v k later) (omega arith)
-    (solid.passes t true (at + 1 + 1) later refl
-    (last-of s p (84 ∷ []) at around st (v ∷ []) nothing_there solid.inner (at + 1 + 1) later v later refl
-    (expects-empty s Kind.ArgumentsAlone (after t true around) (opened rule (v ∷ []) [] ∷ solid.inner) (at + 1 + 1) later behind refl)))
+    refl refl solid.awaits both.0) (parameter-number k) both.1 in
+    let behind = next-of s p (84 ∷ []) at around st [] (values.text digits) (OfKind ARGUMENTS_ALONE) [] solid.inner end st (after t true around) (v ∷ [])
+    later (parameter-tested around k at st few scope) number in
+    solid.passes t true end later refl
+    (last-of s p (84 ∷ []) at around st (v ∷ []) nothing_there solid.inner end later v later refl
+    (expects-empty s Kind.ArgumentsAlone (after t true around) (opened rule (v ∷ []) [] ∷ solid.inner) end later behind refl))
+
+-- the digits of a parameter's number stand in front of its line
+pub digit-stands : (s : List ℕ) (at k digit : ℕ) → parameter_digits k ≡ digit ∷ [] → StandsAt s at (digit ∷ []) → StandsAt s (at + 1) (95 ∷ [])
+    → StandsAt s at (parameter_digits k ++ 95 ∷ [])
+digit-stands s at k digit is first line =
+    subst (λ l. StandsAt s at (l ++ 95 ∷ [])) (sym is) (stands-join s at (digit ∷ []) (95 ∷ []) first line)
 
 -- ## The argument
 
@@ -87,92 +123,100 @@ same-placed text p a b h k =
     sym (piece-found text h.front a h.back p.from p.to h.written h.from_is h.to_is).2
     ∙ (piece-found text k.front b k.back p.from p.to k.written k.from_is k.to_is).2
 
-argument-is : (name own : Term) → arguments_of name ≡ Some (list own nil) → argument (types_of name) 0 ≡ own
-unfolding argument types_of indexed element
-argument-is name own e = rw e refl
+argument-is : (name all : Term) (k : ℕ) → arguments_of name ≡ Some all → argument (types_of name) k ≡ element all k
+unfolding argument types_of indexed
+argument-is name all k e = rw e refl
 
 -- what prints behind the argument prints so in the types of the name that has it
-behind-argument : (text : List ℕ) (p : Argument) (name t : Term) (bytes marks : List ℕ) (r : Bool) → IsArgument text p name → IsPlain p
-    → IsPlaced text p bytes → PrintsBehind t marks r → PrintsIn (types_of name) 2 t (bytes ++ marks) r
-behind-argument text p name t bytes marks r a plain placed behind =
+behind-argument : (text : List ℕ) (p : Argument) (number : ℕ) (name t : Term) (bytes marks : List ℕ) (r : Bool) → IsArgument text p number name → IsPlain p
+    → IsPlaced text p bytes → PrintsBehind number t marks r → PrintsIn (types_of name) 2 t (bytes ++ marks) r
+behind-argument text p number name t bytes marks r a plain placed behind =
     behind (types_of name) bytes
     (subst (λ own. Prints own bytes false)
-    (sym (argument-is name a.own (subst (λ k. arguments_of name ≡ Some (list (packed k a.own) nil)) plain.1 a.alone)))
+    (sym (argument-is name a.all number a.all_are ∙ a.there ∙ ap (λ b. packed b a.own) plain.1))
     (subst (λ k. Prints a.own bytes k) plain.2
     (subst (λ l. Prints a.own l p.is_reference) (same-placed text p a.bytes bytes a.placed placed) a.prints)))
 
-same-place : (p q : Argument) → ◌≡◌ {A = Option Argument} (Some p) (Some q) → p ≡ q
+same-place : (p q : Arguments) → ◌≡◌ {A = Option Arguments} (Some p) (Some q) → p ≡ q
 same-place p q e = cc e
 
-ordered-place : (p q : Argument) → p ≡ q → q.from ≤ q.to → p.from ≤ p.to
-ordered-place p q e o = subst (λ (k : Argument). k.from ≤ k.to) (sym e) o
+-- what is named is an argument of that name
+named-one : (text : List ℕ) (p q : Arguments) (k : ℕ) (name : Term) → p ≡ q → HasArguments text p name → IsKnown (place_of q k)
+    → IsArgument text (place_of q k) k name
+named-one text p q k name e has known = subst (λ (a : Arguments). HasArguments text a name) e has k known
 
-plain-place : (p q : Argument) → p ≡ q → IsPlain q → IsPlain p
-plain-place p q e o = subst (λ (k : Argument). IsPlain k) (sym e) o
-
-placed-at : (text : List ℕ) (p q : Argument) (name : Term) → p ≡ q → IsArgument text p name → (bytes : List ℕ) × IsPlaced text q bytes
-placed-at text p q name e a = (a.bytes, subst (λ (k : Argument). IsPlaced text k a.bytes) e a.placed)
+placed-at : (text : List ℕ) (p q : Arguments) (k : ℕ) (name : Term) → p ≡ q → HasArguments text p name → IsKnown (place_of q k)
+    → (bytes : List ℕ) × IsPlaced text (place_of q k) bytes
+placed-at text p q k name e has known = let h = named-one text p q k name e has known in (h.bytes, h.placed)
 
 -- where it stands in what is open, it stands in the text
-pub argument-placed : (s : List ℕ) (ws : List Open) (os : List Opened) (text : List ℕ) (p : Argument) → Stands s ws os text → argument_of ws ≡ Some p → p.from ≤ p.to
-    → (bytes : List ℕ) × IsPlaced text p bytes
-argument-placed s (opens.Pointer from ∷ rest) os text p stands found ordered = argument-placed s rest stands.0 text p stands.4 found ordered
-argument-placed s (opens.Lvalue from ∷ rest) os text p stands found ordered = argument-placed s rest stands.0 text p stands.4 found ordered
-argument-placed s (opens.Rvalue from ∷ rest) os text p stands found ordered = argument-placed s rest stands.0 text p stands.4 found ordered
-argument-placed s (opens.Const from ∷ rest) os text p stands found ordered = argument-placed s rest stands.0 text p stands.4 found ordered
-argument-placed s (opens.Front mark start a ∷ rest) os text p stands found ordered =
-    placed-at text a p stands.1.own (same-place a p found) (stands.1.names (ordered-place a p (same-place a p found) ordered))
-argument-placed s (opens.Parameters mark start a ∷ rest) os text p stands found ordered =
-    placed-at text a p stands.6.own (same-place a p found) (stands.6.names (ordered-place a p (same-place a p found) ordered))
-argument-placed s (opens.Enclosing mark from a ∷ rest) os text p stands found ordered =
-    placed-at text a p stands.5.own (same-place a p found) (stands.5.names (ordered-place a p (same-place a p found) ordered))
-argument-placed s _ os text p stands found ordered = cc found
+pub argument-placed : (s : List ℕ) (ws : List Open) (os : List Opened) (text : List ℕ) (p : Arguments) (k : ℕ) → Stands s ws os text → argument_of ws ≡ Some p
+    → IsKnown (place_of p k) → (bytes : List ℕ) × IsPlaced text (place_of p k) bytes
+argument-placed s (opens.Pointer from ∷ rest) os text p k stands found known = argument-placed s rest stands.0 text p k stands.4 found known
+argument-placed s (opens.Lvalue from ∷ rest) os text p k stands found known = argument-placed s rest stands.0 text p k stands.4 found known
+argument-placed s (opens.Rvalue from ∷ rest) os text p k stands found known = argument-placed s rest stands.0 text p k stands.4 found known
+argument-placed s (opens.Const from ∷ rest) os text p k stands found known = argument-placed s rest stands.0 text p k stands.4 found known
+argument-placed s (opens.Front mark start a ∷ rest) os text p k stands found known =
+    placed-at text a p k stands.1.own (same-place a p found) stands.1.names known
+argument-placed s (opens.Parameters mark start a ∷ rest) os text p k stands found known =
+    placed-at text a p k stands.6.own (same-place a p found) stands.6.names known
+argument-placed s (opens.Enclosing mark from a ∷ rest) os text p k stands found known =
+    placed-at text a p k stands.5.own (same-place a p found) stands.5.names known
+argument-placed s _ os text p k stands found known = cc found
 
 -- so it can be written once more
-pub argument-inside : (s : List ℕ) (w : Direct) (p : Argument) → AwaitsType s w → argument_of (reverse w.waiting.list.items) ≡ Some p → p.from ≤ p.to
-    → p.to ≤ length w.text.list.items
-argument-inside s w p a found ordered =
-    let h = argument-placed s (reverse w.waiting.list.items) a.os w.text.list.items p a.stands found ordered in
-    (piece-found w.text.list.items h.1.front h.0 h.1.back p.from p.to h.1.written h.1.from_is h.1.to_is).1
+pub argument-inside : (s : List ℕ) (w : Direct) (all : Arguments) (k : ℕ) (p : Argument) → AwaitsType s w
+    → argument_of (reverse w.waiting.list.items) ≡ Some all → p ≡ place_of all k → p.from ≤ p.to → p.to ≤ length w.text.list.items
+argument-inside s w all k p a found is known =
+    let h = argument-placed s (reverse w.waiting.list.items) a.os w.text.list.items all k a.stands found (subst IsKnown is known) in
+    let q = place_of all k in
+    let inside = (piece-found w.text.list.items h.1.front h.0 h.1.back q.from q.to h.1.written h.1.from_is h.1.to_is).1 in
+    subst (λ (j : Argument). j.to ≤ length w.text.list.items) (sym is) inside
 
 -- ## Parameters
 
 -- the parameter is read, and its argument is written once more
-pub parameter-done : (s : List ℕ) (old mid new : Direct) (p : Argument) → AwaitsType s old → StandsAt s old.at (84 ∷ []) → StandsAt s (old.at + 1) (95 ∷ [])
-    → argument_of (reverse old.waiting.list.items) ≡ Some p → IsPlain p
+pub parameter-done : (s : List ℕ) (old mid new : Direct) (all : Arguments) (k : ℕ) (p : Argument) → AwaitsType s old → k ≤ 3 → StandsAt s old.at (84 ∷ [])
+    → StandsAt s (old.at + 1) (parameter_digits k ++ 95 ∷ [])
+    → argument_of (reverse old.waiting.list.items) ≡ Some all → p ≡ place_of all k → IsPlain p
     → mid.text.list.items ≡ old.text.list.items ++ take (p.to - p.from) (drop p.from old.text.list.items) → mid.candidates ≡ old.candidates
-    → mid.waiting ≡ old.waiting → mid.at ≡ old.at + 1 + 1 → new.candidates.list.items ≡ with_hidden mid false → new.text ≡ mid.text
+    → mid.waiting ≡ old.waiting → mid.at ≡ old.at + 1 + length (parameter_digits k ++ 95 ∷ []) → new.candidates.list.items ≡ with_hidden mid false → new.text ≡ mid.text
     → new.waiting ≡ mid.waiting → new.at ≡ mid.at → IsWriting s new (steps.Dependent false)
-parameter-done s old mid new p a letter line found plain text candidates waits at more same_text same_waits same_at =
-    let ordered = plain.0 in
-    let h = argument-placed s (reverse old.waiting.list.items) a.os old.text.list.items p a.stands found ordered in
-    let piece = piece-found old.text.list.items h.1.front h.0 h.1.back p.from p.to h.1.written h.1.from_is h.1.to_is in
+parameter-done s old mid new all k p a few letter line found is plain_ text candidates waits at more same_text same_waits same_at =
+    let q = place_of all k in
+    let plain : IsPlain q = subst (λ (j : Argument). IsPlain j) is plain_ in
+    let h = argument-placed s (reverse old.waiting.list.items) a.os old.text.list.items all k a.stands found plain.0 in
+    let piece = piece-found old.text.list.items h.1.front h.0 h.1.back q.from q.to h.1.written h.1.from_is h.1.to_is in
     let written : new.text.list.items ≡ old.text.list.items ++ h.0 =
-    ap (λ v. v.list.items) same_text ∙ text ∙ ap (λ l. old.text.list.items ++ l) piece.2 in
-    let later = with_candidate a.around.encoding (parameter 0) a.state in
+    ap (λ v. v.list.items) same_text ∙ text
+    ∙ ap (λ (j : Argument). old.text.list.items ++ take (j.to - j.from) (drop j.from old.text.list.items)) is
+    ∙ ap (λ l. old.text.list.items ++ l) piece.2 in
+    let later = with_candidate a.around.encoding (parameter k) a.state in
     let open_is : new.waiting ≡ old.waiting = same_waits ∙ waits in
     record {
       state = later;
       candidates = subst (λ l. AreCandidates l new.candidates.list.items later.candidates) (sym written)
           (subst (λ ks. AreCandidates (old.text.list.items ++ h.0) ks later.candidates) (sym more)
-          (hidden-candidates mid false (old.text.list.items ++ h.0) a.around.encoding (parameter 0) a.state
+          (hidden-candidates mid false (old.text.list.items ++ h.0) a.around.encoding (parameter k) a.state
           (subst (λ v. AreCandidates (old.text.list.items ++ h.0) v.list.items a.state.candidates) (sym candidates)
           (candidates-stay old.text.list.items h.0 old.candidates.list.items a.state.candidates a.candidates))));
       is_before = (
         a.os,
-        parameter 0,
+        parameter k,
         old.text.list.items,
         h.0,
         [],
-        p,
+        all,
+        k,
         written ∙ sym (append-nil (old.text.list.items ++ h.0)),
-        parameter-prints,
-        subst (λ v. argument_of (reverse v.list.items) ≡ Some p) (sym open_is) found,
+        parameter-prints k,
+        subst (λ v. argument_of (reverse v.list.items) ≡ Some all) (sym open_is) found,
         plain,
         h.1,
-        subst (λ n. Comes s a.os (tree (parameter 0) true) n later) (omega (arith, same_at, at))
-            (first-parameter-comes s a.kind a.around a.os old.at a.state a.typed (subst (λ k. IsScope k a.around) plain.1 (a.scoped p found ordered)) a.awaits
-            (stands-join s old.at (84 ∷ []) (95 ∷ []) letter line)),
+        subst (λ n. Comes s a.os (tree (parameter k) true) n later) (sym (same_at ∙ at))
+            (parameter-comes s a.kind a.around a.os k old.at a.state a.typed few
+            (subst (λ j. IsScope k j a.around) plain.1 (a.scoped all found k plain.0)) a.awaits
+            (stands-join s old.at (84 ∷ []) (parameter_digits k ++ 95 ∷ []) letter line)),
         subst (λ v. Stands s (reverse v.list.items) a.os old.text.list.items) (sym open_is) a.stands,
       );
     }
@@ -184,12 +228,12 @@ pub dependent-marked : (s : List ℕ) (w : Direct) (is_reference marked_referenc
     → IsWriting s w (steps.Dependent is_reference) → slice_get w.waiting.list.items (length w.waiting.list.items - 1) ≡ Some entry
     → ((rest : List Open) (os : List Opened) (text : List ℕ) → Stands s (entry ∷ rest) os text → Marks s (Stands s rest) os text from made)
     → ((rest : List Open) → argument_of (entry ∷ rest) ≡ argument_of rest)
-    → ((t : Term) (m : List ℕ) → PrintsBehind t m is_reference → PrintsBehind (made t) (m ++ mark) marked_reference)
+    → ((k : ℕ) (t : Term) (m : List ℕ) → PrintsBehind k t m is_reference → PrintsBehind k (made t) (m ++ mark) marked_reference)
     → AwaitsDependentMark s w mark marked_reference
 dependent-marked s w is_reference marked_reference entry from made mark p found stands_as argument_as prints_as =
     let b = p.is_before in
     let last = last-found w.waiting.list.items entry found in
-    let marks = stands_as last.0 b.0 b.2 (subst (λ ws. Stands s ws b.0 b.2) last.1 b.12) in
+    let marks = stands_as last.0 b.0 b.2 (subst (λ ws. Stands s ws b.0 b.2) last.1 b.13) in
     record {
       state = p.state;
       candidates = p.candidates;
@@ -199,16 +243,17 @@ dependent-marked s w is_reference marked_reference entry from made mark p found 
       outer = marks.0;
       encoding = marks.1;
       made = made b.1;
-      comes = marks.3 b.1 w.at p.state b.11;
+      comes = marks.3 b.1 w.at p.state b.12;
       front = b.2;
       bytes = b.3;
       marks = b.4;
-      written = b.6;
-      prints = prints_as b.1 b.4 b.7;
       argument = b.5;
-      found = sym (argument_as last.0) ∙ ap argument_of (sym last.1) ∙ b.8;
-      plain = b.9;
-      placed = b.10;
+      number = b.6;
+      written = b.7;
+      prints = prints_as b.6 b.1 b.4 b.8;
+      found = sym (argument_as last.0) ∙ ap argument_of (sym last.1) ∙ b.9;
+      plain = b.10;
+      placed = b.11;
       stands = marks.4;
     }
 
@@ -235,6 +280,7 @@ dependent-mark-done s old mid new mark r a waits text candidates at more same_te
         a.bytes,
         a.marks ++ mark,
         a.argument,
+        a.number,
         written ∙ ap (λ l. l ++ mark) a.written ∙ append_assoc (a.front ++ a.bytes) a.marks mark,
         a.prints,
         ap argument_of open_is ∙ a.found,
@@ -248,46 +294,43 @@ dependent-mark-done s old mid new mark r a waits text candidates at more same_te
 -- ## What it is handed to
 
 -- it is a parameter
-pub dependent-parameter : (s : List ℕ) (w : Direct) (is_reference : Bool) (mark : Mark) (start : ℕ) (argument_ : Argument) → IsWriting s w (steps.Dependent is_reference)
+pub dependent-parameter : (s : List ℕ) (w : Direct) (is_reference : Bool) (mark : Mark) (start : ℕ) (argument_ : Arguments) → IsWriting s w (steps.Dependent is_reference)
     → slice_get w.waiting.list.items (length w.waiting.list.items - 1) ≡ Some (opens.Parameters mark start argument_)
     → IsParameterEnded s w mark start argument_
 dependent-parameter s w is_reference mark start argument_ p found =
     let b = p.is_before in
     let last = last-found w.waiting.list.items (opens.Parameters mark start argument_) found in
-    let waits : Stands s (opens.Parameters mark start argument_ ∷ last.0) b.0 b.2 = subst (λ ws. Stands s ws b.0 b.2) last.1 b.12 in
-    let same = same-place argument_ b.5 (ap argument_of (sym last.1) ∙ b.8) in
-    let names = waits.6.names (ordered-place argument_ b.5 same b.9.0) in
-    let prints = behind-argument b.2 argument_ waits.6.own b.1 b.3 b.4 is_reference names (plain-place argument_ b.5 same b.9)
-    (subst (λ (k : Argument). IsPlaced b.2 k b.3) (sym same) b.10) b.7 in
+    let waits : Stands s (opens.Parameters mark start argument_ ∷ last.0) b.0 b.2 = subst (λ ws. Stands s ws b.0 b.2) last.1 b.13 in
+    let same = same-place argument_ b.5 (ap argument_of (sym last.1) ∙ b.9) in
+    let names = named-one b.2 argument_ b.5 b.6 waits.6.own same waits.6.names b.10.0 in
+    let prints = behind-argument b.2 (place_of b.5 b.6) b.6 waits.6.own b.1 b.3 b.4 is_reference names b.10 b.11 b.8 in
     parameter-got s w mark start argument_ p.state last.0 b.0 b.1 b.2 (b.3 ++ b.4) waits p.candidates last.1
-    (b.6 ∙ append_assoc b.2 b.3 b.4) b.11 (type-element-in (types_of waits.6.own) b.1 (b.3 ++ b.4) is_reference prints)
+    (b.7 ∙ append_assoc b.2 b.3 b.4) b.12 (type-element-in (types_of waits.6.own) b.1 (b.3 ++ b.4) is_reference prints)
 
 -- of a function in which a type stands
-pub dependent-within : (s : List ℕ) (w : Direct) (is_reference : Bool) (mark : Mark) (from : ℕ) (argument_ : Argument) → IsWriting s w (steps.Dependent is_reference)
+pub dependent-within : (s : List ℕ) (w : Direct) (is_reference : Bool) (mark : Mark) (from : ℕ) (argument_ : Arguments) → IsWriting s w (steps.Dependent is_reference)
     → slice_get w.waiting.list.items (length w.waiting.list.items - 1) ≡ Some (opens.Enclosing mark from argument_)
     → IsEnclosingParameterRead s w mark from argument_
 dependent-within s w is_reference mark from argument_ p found =
     let b = p.is_before in
     let last = last-found w.waiting.list.items (opens.Enclosing mark from argument_) found in
-    let waits : Stands s (opens.Enclosing mark from argument_ ∷ last.0) b.0 b.2 = subst (λ ws. Stands s ws b.0 b.2) last.1 b.12 in
-    let same = same-place argument_ b.5 (ap argument_of (sym last.1) ∙ b.8) in
-    let names = waits.5.names (ordered-place argument_ b.5 same b.9.0) in
-    let prints = behind-argument b.2 argument_ waits.5.own b.1 b.3 b.4 is_reference names (plain-place argument_ b.5 same b.9)
-    (subst (λ (k : Argument). IsPlaced b.2 k b.3) (sym same) b.10) b.7 in
+    let waits : Stands s (opens.Enclosing mark from argument_ ∷ last.0) b.0 b.2 = subst (λ ws. Stands s ws b.0 b.2) last.1 b.13 in
+    let same = same-place argument_ b.5 (ap argument_of (sym last.1) ∙ b.9) in
+    let names = named-one b.2 argument_ b.5 b.6 waits.5.own same waits.5.names b.10.0 in
+    let prints = behind-argument b.2 (place_of b.5 b.6) b.6 waits.5.own b.1 b.3 b.4 is_reference names b.10 b.11 b.8 in
     parameter-got-within s w mark from argument_ p.state last.0 b.0 b.1 b.2 (b.3 ++ b.4) waits p.candidates last.1
-    (b.6 ∙ append_assoc b.2 b.3 b.4) b.11 (type-element-in (types_of waits.5.own) b.1 (b.3 ++ b.4) is_reference prints)
+    (b.7 ∙ append_assoc b.2 b.3 b.4) b.12 (type-element-in (types_of waits.5.own) b.1 (b.3 ++ b.4) is_reference prints)
 
 -- it is the return type
-pub dependent-front : (s : List ℕ) (w : Direct) (is_reference : Bool) (mark : Mark) (start : ℕ) (argument_ : Argument) → IsWriting s w (steps.Dependent is_reference)
+pub dependent-front : (s : List ℕ) (w : Direct) (is_reference : Bool) (mark : Mark) (start : ℕ) (argument_ : Arguments) → IsWriting s w (steps.Dependent is_reference)
     → slice_get w.waiting.list.items (length w.waiting.list.items - 1) ≡ Some (opens.Front mark start argument_)
     → IsFrontRead s w mark start argument_
 dependent-front s w is_reference mark start argument_ p found =
     let b = p.is_before in
     let last = last-found w.waiting.list.items (opens.Front mark start argument_) found in
-    let waits : Stands s (opens.Front mark start argument_ ∷ last.0) b.0 b.2 = subst (λ ws. Stands s ws b.0 b.2) last.1 b.12 in
-    let same = same-place argument_ b.5 (ap argument_of (sym last.1) ∙ b.8) in
-    let names = waits.1.names (ordered-place argument_ b.5 same b.9.0) in
-    let prints = behind-argument b.2 argument_ waits.1.own b.1 b.3 b.4 is_reference names (plain-place argument_ b.5 same b.9)
-    (subst (λ (k : Argument). IsPlaced b.2 k b.3) (sym same) b.10) b.7 in
+    let waits : Stands s (opens.Front mark start argument_ ∷ last.0) b.0 b.2 = subst (λ ws. Stands s ws b.0 b.2) last.1 b.13 in
+    let same = same-place argument_ b.5 (ap argument_of (sym last.1) ∙ b.9) in
+    let names = named-one b.2 argument_ b.5 b.6 waits.1.own same waits.1.names b.10.0 in
+    let prints = behind-argument b.2 (place_of b.5 b.6) b.6 waits.1.own b.1 b.3 b.4 is_reference names b.10 b.11 b.8 in
     front-got s w is_reference mark start argument_ p.state last.0 b.0 b.1 b.2 (b.3 ++ b.4) waits p.candidates
-    (b.6 ∙ append_assoc b.2 b.3 b.4) b.11 prints
+    (b.7 ∙ append_assoc b.2 b.3 b.4) b.12 prints

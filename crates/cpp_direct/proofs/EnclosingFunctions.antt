@@ -16,7 +16,7 @@ use Rattle.cpp_grammar.specs.Meaning.{encoding_of, is_nil, is_void, parameters}
 use Rattle.cpp_direct.specs.declared.marks.MarkPlace.{MarkPlace}
 use Rattle.cpp_direct.specs.declared.open.Mark.{Mark}
 use Rattle.cpp_direct.specs.declared.open.Mark.TheVariants as marks
-use Rattle.cpp_direct.specs.declared.open.Argument.{Argument}
+use Rattle.cpp_direct.specs.declared.open.Arguments.{Arguments}
 use Rattle.cpp_direct.specs.declared.open.Open.{Open}
 use Rattle.cpp_direct.specs.declared.open.Open.TheVariants as opens
 use Rattle.cpp_direct.specs.declared.open.Purpose.TheVariants as purposes
@@ -28,7 +28,7 @@ use Rattle.cpp_direct.specs.HolesOfLocals.{Discriminator, IsDiscriminatorAt, IsL
 use Rattle.cpp_direct.specs.Bytes.{short_numbers}
 use Rattle.cpp_direct.specs.Marks.{IsMarkPlace, has_const, called_on, mark_text}
 use Rattle.cpp_direct.specs.Prints.{IsElementIn, Prints, PrintsName, PrintsPiece, Shows, Encloses, list_of}
-use Rattle.cpp_direct.specs.Stands.{AreCandidates, Below, IsArgument, IsEnclosing, IsNesting, IsWriting, ItemsGoOn, LambdaWithin, Serves, Stands, TypeWithin, in_front_of_next, qualifiers, IsScoped, nowhere}
+use Rattle.cpp_direct.specs.Stands.{AreCandidates, Below, HasArguments, IsEnclosing, IsNesting, IsWriting, ItemsGoOn, LambdaWithin, Serves, Stands, TypeWithin, in_front_of_next, qualifiers, IsScoped, nowhere}
 use Rattle.cpp_direct.specs.Ways.{AwaitsEnclosingParameters, AwaitsNamedType, AwaitsNest, AwaitsTypeName, IsElementRead, IsEnclosingInstance, IsEnclosingNamed, IsEnclosingParameterRead, IsEnclosingRead, IsLambdaParameterRead}
 use Rattle.cpp_direct.specs.Written.{Writes, Reads, added}
 use Rattle.cpp_direct.proofs.Ending.{behind-two, behind-three, behind-five, list-ends, next-written, parameter-goes_on, plain-text, qualifiers-text, void-read}
@@ -47,7 +47,7 @@ use Rattle.cpp_direct.proofs.PrintedSymbols.{encoding-plain, function-shows, enc
 use Rattle.cpp_direct.proofs.PrintedWithin.{lambda-prints, lambda-list-prints, local-prints}
 use Rattle.cpp_direct.proofs.TypesRead.{builtin-listed, no-builtin}
 use Rattle.cpp_direct.proofs.MovesOfTypes.{builtin-comes}
-use Rattle.cpp_direct.proofs.Scopes.{argument-stays, enclosing-scoped, enclosing-stays, none-scoped}
+use Rattle.cpp_direct.proofs.Scopes.{arguments-stay, enclosing-scoped, enclosing-stays, none-known, none-scoped}
 
 -- ## Names
 
@@ -55,8 +55,8 @@ use Rattle.cpp_direct.proofs.Scopes.{argument-stays, enclosing-scoped, enclosing
 record NameOpened (s : List ℕ) (below : Below) (front : List ℕ) (at : ℕ) (st : State) : Type 0 where
   pub inner : List Opened
   pub awaits : Expects s Kind.CompleteName (in_name at) inner at st
-  pub onward : (text : List ℕ) (argument : Argument) (v : Value) (here : ℕ) (now : State)
-      → (argument.from ≤ argument.to → IsArgument text argument (tree_of v)) → Comes s inner v here now
+  pub onward : (text : List ℕ) (argument : Arguments) (v : Value) (here : ℕ) (now : State)
+      → HasArguments text argument (tree_of v) → Comes s inner v here now
       → ItemsGoOn s argument (TypeWithin s below front) (λ l. encoding_of v l) [] here now
 
 name-opens : (s : List ℕ) (w : Direct) (a : AwaitsNamedType s w) → StandsAt s w.at (90 ∷ [])
@@ -72,7 +72,15 @@ name-opens s w a letter =
         around = in_types (w.at + 1) (tree_of v);
         inner = items.inner;
         outside = refl;
-        scoped = λ o. record { own = (names o).own; scope_is = (names o).alone; no_pack = (names o).prints.no_pack };
+        scoped = λ k o. record {
+          own = (names k o).own;
+          all = (names k o).all;
+          scope_is = (names k o).all_are;
+          there = (names k o).there;
+          below = (names k o).below;
+          alone = (names k o).alone;
+          no_pack = (names k o).prints.no_pack;
+        };
         awaits = items.awaits;
         onward = λ l there then_ last. (
           a.os,
@@ -151,7 +159,7 @@ source-within s old start new name from a letter same_text same_candidates same_
       no_return = refl;
       goes = subst (λ v. ItemsGoOn s nowhere (TypeWithin s (Stands s (reverse v.list.items)) front) (λ l. encoding_of (tree own false) l) [] new.at a.state)
           (sym (reads.waiting ∙ same_waiting))
-          (e.onward [] nowhere (tree own false) new.at a.state (λ o. absurd (omega (arith, o)))
+          (e.onward [] nowhere (tree own false) new.at a.state (λ k o. absurd (none-known k o))
           (named_.bare new.at a.state (expects-empty s Kind.MaybeArguments (after own false here) named_.inner new.at a.state named_.awaits refl)));
     }
 
@@ -177,7 +185,7 @@ name-within s old st t mark candidates n no_return here is_name =
       from_is = n.is_nest.from_is;
       prints = as-name t n.bytes false n.is_nest.prints;
       no_return = no_return;
-      goes = serves [] nowhere t old.nest.is_listed (old.at + 1) st (λ o. absurd (omega (arith, o))) (nest-comes s old st t n here);
+      goes = serves [] nowhere t old.nest.is_listed (old.at + 1) st (λ k o. absurd (none-known k o)) (nest-comes s old st t n here);
     }
 
 -- an instance is read, whose return type is expected
@@ -222,7 +230,7 @@ plain-awaits s w mark from p = record {
     makes = encoding-plain p.v mark p.own p.tree_is p.qualifiers_are p.mark_is p.no_return;
     prints = p.prints;
     elements = none-print-in (types_of p.own) 6;
-    names = λ o. absurd (omega (arith, o));
+    names = λ k o. absurd (none-known k o);
   };
   written = p.written;
   from_is = p.from_is;
@@ -263,7 +271,7 @@ returned-awaits s w n mark from letter p has stands at_is =
     }
 
 -- a parameter comes next
-parameter-expected : (s : List ℕ) (w : Direct) (st : State) (mark : Mark) (from : ℕ) (argument : Argument) (rest : List Open) (front : List ℕ)
+parameter-expected : (s : List ℕ) (w : Direct) (st : State) (mark : Mark) (from : ℕ) (argument : Arguments) (rest : List Open) (front : List ℕ)
     (make : Term → Term) (ts : List Term) (name texts : List ℕ)
     → AreCandidates w.text.list.items w.candidates.list.items st.candidates → reverse w.waiting.list.items ≡ opens.Enclosing mark from argument ∷ rest
     → IsEnclosing w.text.list.items argument mark make ts name texts → from ≡ length front
@@ -296,7 +304,7 @@ parameter-expected s w st mark from argument rest front make ts name texts candi
     }
 
 -- the first one comes next
-pub first-within : (s : List ℕ) (w first last : Direct) (mark : Mark) (from : ℕ) (argument : Argument) → AwaitsEnclosingParameters s w mark from argument
+pub first-within : (s : List ℕ) (w first last : Direct) (mark : Mark) (from : ℕ) (argument : Arguments) → AwaitsEnclosingParameters s w mark from argument
     → Writes w first (codes "(") → last.text ≡ first.text → last.candidates ≡ first.candidates → last.at ≡ first.at
     → last.waiting.list.items ≡ first.waiting.list.items ++ opens.Enclosing mark from argument ∷ [] → IsWriting s last steps.Type
 first-within s w first last mark from argument p one text candidates at waiting =
@@ -314,7 +322,7 @@ first-within s w first last mark from argument p one text candidates at waiting 
     (subst (λ n. ItemsGoOn s argument (TypeWithin s (Stands s (reverse w.waiting.list.items)) p.front) p.make [] n p.state) (sym (at ∙ one.at)) p.goes)
 
 -- another one comes next
-pub next-within : (s : List ℕ) (w last : Direct) (mark : Mark) (from : ℕ) (argument : Argument) → IsEnclosingParameterRead s w mark from argument
+pub next-within : (s : List ℕ) (w last : Direct) (mark : Mark) (from : ℕ) (argument : Arguments) → IsEnclosingParameterRead s w mark from argument
     → Writes w last (codes ", ") → IsWriting s last steps.Type
 next-within s w last mark from argument p one =
     let front = p.front ++ p.name ++ codes "(" in
@@ -328,7 +336,7 @@ next-within s w last mark from argument p one =
     (subst (λ n. ItemsGoOn s argument (TypeWithin s (Stands s p.rest) p.front) p.make p.ts n p.state) (sym one.at) p.goes)
 
 -- one is read
-pub parameter-got-within : (s : List ℕ) (w : Direct) (mark : Mark) (from : ℕ) (argument : Argument) (st : State) (rest : List Open) (os : List Opened)
+pub parameter-got-within : (s : List ℕ) (w : Direct) (mark : Mark) (from : ℕ) (argument : Arguments) (st : State) (rest : List Open) (os : List Opened)
     (t : Term) (before bytes : List ℕ) (waits : Stands s (opens.Enclosing mark from argument ∷ rest) os before)
     → AreCandidates w.text.list.items w.candidates.list.items st.candidates → reverse w.waiting.list.items ≡ opens.Enclosing mark from argument ∷ rest
     → w.text.list.items ≡ before ++ bytes → Comes s os (tree t true) w.at st → IsElementIn (types_of waits.5.own) 6 t bytes
@@ -356,15 +364,15 @@ parameter-got-within s w mark from argument st rest os t before bytes waits cand
         makes = is_enclosing.makes;
         prints = is_enclosing.prints;
         elements = next-prints-in (types_of is_enclosing.own) 6 ts texts t bytes is_enclosing.elements element;
-        names = λ o. subst (λ l. IsArgument l argument is_enclosing.own) (sym written)
-            (argument-stays before bytes argument is_enclosing.own (is_enclosing.names o));
+        names = subst (λ l. HasArguments l argument is_enclosing.own) (sym written)
+            (arguments-stay before bytes argument is_enclosing.own is_enclosing.names);
       };
       from_is = waits.6;
       written = written ∙ ap (λ l. l ++ bytes) waits.7 ∙ append_assoc (front ++ name ++ codes "(") (in_front_of_next ts texts) bytes;
       goes = waits.8 t w.at st comes;
     }
 
-pub parameter-read-within : (s : List ℕ) (w : Direct) (mark : Mark) (from : ℕ) (argument : Argument)
+pub parameter-read-within : (s : List ℕ) (w : Direct) (mark : Mark) (from : ℕ) (argument : Arguments)
     → IsElementRead s w (opens.Enclosing mark from argument) → IsEnclosingParameterRead s w mark from argument
 parameter-read-within s w mark from argument p =
     parameter-got-within s w mark from argument p.state p.rest p.os p.own p.front p.bytes p.stands p.candidates p.open_is p.written p.comes
@@ -410,7 +418,7 @@ enclosed-with own returned mark make makes (t ∷ ts) some kept =
     makes t (list_of ts) ∙ ap (function own (qualifiers (has_const mark)) (called_on mark) returned) kept
 
 -- a function with a lone void is read
-pub void-within : (s : List ℕ) (w here new : Direct) (mark : Mark) (from : ℕ) (argument : Argument) → AwaitsEnclosingParameters s w mark from argument
+pub void-within : (s : List ℕ) (w here new : Direct) (mark : Mark) (from : ℕ) (argument : Arguments) → AwaitsEnclosingParameters s w mark from argument
     → StandsAt s w.at (118 ∷ [])
     → here.text ≡ w.text → here.candidates ≡ w.candidates → here.waiting ≡ w.waiting → here.at ≡ w.at + 1 → Writes here new (codes "()")
     → IsEnclosingRead s new mark from
@@ -442,7 +450,7 @@ void-within s w here new mark from argument p stands text candidates waiting at 
     }
 
 -- a function with its parameters is read, unless they are a lone void
-pub function-within : (s : List ℕ) (w last new : Direct) (mark : Mark) (from : ℕ) (argument : Argument) (p : IsEnclosingParameterRead s w mark from argument)
+pub function-within : (s : List ℕ) (w last new : Direct) (mark : Mark) (from : ℕ) (argument : Arguments) (p : IsEnclosingParameterRead s w mark from argument)
     → p.texts ≢ codes "void" → Writes w last (codes ")") → new.text ≡ last.text → new.candidates ≡ last.candidates → new.at ≡ last.at
     → reverse new.waiting.list.items ≡ p.rest → IsEnclosingRead s new mark from
 unfolding no_items may_be_empty

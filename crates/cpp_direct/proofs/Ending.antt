@@ -12,7 +12,7 @@ use Rattle.cpp_grammar.specs.Parts.{encoding_text, qualifier_text, ref_text, typ
 use Rattle.cpp_grammar.specs.Between.{no_items}
 use Rattle.cpp_grammar.specs.Meaning.{encoding_of}
 use Rattle.cpp_grammar.specs.Values.{State, Value, nothing_there, tree, tree_of, qualifiers_of, ref_of}
-use Rattle.cpp_direct.specs.declared.open.Argument.{Argument}
+use Rattle.cpp_direct.specs.declared.open.Arguments.{Arguments}
 use Rattle.cpp_direct.specs.declared.open.Mark.{Mark}
 use Rattle.cpp_direct.specs.declared.open.Mark.TheVariants as marks
 use Rattle.cpp_direct.specs.declared.open.Open.TheVariants as opens
@@ -23,7 +23,7 @@ use Rattle.cpp_direct.specs.Holes.{StandsAt, ListGoesOn}
 use Rattle.cpp_direct.specs.HolesOfLists.{IsSuffix}
 use Rattle.cpp_direct.specs.Marks.{has_const, called_on, mark_text}
 use Rattle.cpp_direct.specs.Prints.{PrintsName, Shows, Encloses, list_of}
-use Rattle.cpp_direct.specs.Stands.{AreCandidates, AwaitsItems, Encoded, EndsBehind, EncodedBehind, IsWhole, IsWriting, IsFunction, IsScope, IsScoped, ItemsGoOn, ParametersGoOn, Stands, nowhere, qualifiers, list_with, in_front_of_next}
+use Rattle.cpp_direct.specs.Stands.{AreCandidates, AwaitsItems, Encoded, EndsBehind, EncodedBehind, IsWhole, IsWriting, HasScope, IsFunction, IsScoped, ItemsGoOn, ParametersGoOn, Stands, nowhere, qualifiers, list_with, in_front_of_next}
 use Rattle.cpp_direct.specs.Ways.{AwaitsNextParameter, IsNameEnded, AwaitsParameters, IsParameterEnded, IsEncodingEnded, IsSymbolEnded}
 use Rattle.cpp_direct.specs.Written.{Writes, Cuts}
 use Rattle.cpp_direct.proofs.Kept.{candidates-written, reverse-last}
@@ -32,7 +32,7 @@ use Rattle.cpp_direct.proofs.MovesOfLists.{element-awaits}
 use Rattle.cpp_direct.proofs.MovesOfTypes.{builtin-comes}
 use Rattle.cpp_direct.proofs.PrintedLists.{none-print-in}
 use Rattle.cpp_direct.proofs.PrintedLocals.{object-enclosing, function-encloses}
-use Rattle.cpp_direct.proofs.Scopes.{function-stays, parameters-scoped}
+use Rattle.cpp_direct.proofs.Scopes.{function-stays, none-known, parameters-scoped}
 use Rattle.cpp_direct.proofs.PrintedSymbols.{function-shows, void-shows, object-encoded, encoding-plain, made-with, made-void, symbol-text, symbol-cost, suffix-text, suffix-cost, parameters-kept}
 
 -- ## The end
@@ -185,13 +185,13 @@ next-written [] l some = absurd (some refl)
 next-written (t ∷ ts) l some = refl
 
 -- a name is one where parameters go on behind none
-pub none-go_on : (s : List ℕ) (argument : Argument) (lead : List ℕ) (v : Value) (at : ℕ) (st : State) (p : AwaitsItems s lead v at st)
-    → (argument.from ≤ argument.to → IsScope argument.is_pack p.around) → ParametersGoOn s argument lead (λ l. encoding_of v l) [] at st
+pub none-go_on : (s : List ℕ) (argument : Arguments) (lead : List ℕ) (v : Value) (at : ℕ) (st : State) (p : AwaitsItems s lead v at st)
+    → HasScope argument p.around → ParametersGoOn s argument lead (λ l. encoding_of v l) [] at st
 none-go_on s argument lead v at st p scoped =
     record { around = p.around; inner = p.inner; outside = p.outside; scoped = scoped; awaits = p.awaits; onward = p.onward }
 
 -- a parameter is expected
-pub parameter-goes_on : (s : List ℕ) (argument : Argument) (becomes : Term → (at : ℕ) → State → Type 0) (make : Term → Term) (ts : List Term) (at : ℕ) (st : State)
+pub parameter-goes_on : (s : List ℕ) (argument : Arguments) (becomes : Term → (at : ℕ) → State → Type 0) (make : Term → Term) (ts : List Term) (at : ℕ) (st : State)
     (p : ItemsGoOn s argument becomes make ts at st) (t : Term) (here : ℕ) (now : State)
     → ListGoesOn s Kind.Items p.inner p.around t here now → ItemsGoOn s argument becomes make (ts ++ t ∷ []) here now
 unfolding no_items tree_of
@@ -206,7 +206,7 @@ parameter-goes_on s argument becomes make ts at st p t here now goes = record {
 }
 
 -- a parameter comes next
-pub parameter-expected : (s : List ℕ) (w : Direct) (mark : Mark) (start : ℕ) (argument : Argument) → AwaitsNextParameter s w mark start argument
+pub parameter-expected : (s : List ℕ) (w : Direct) (mark : Mark) (start : ℕ) (argument : Arguments) → AwaitsNextParameter s w mark start argument
     → IsWriting s w steps.Type
 parameter-expected s w mark start argument a =
     let p = a.goes in
@@ -252,15 +252,15 @@ parameters-begin s w mark is_instance from p plain = record {
     makes = encoding-plain p.v mark p.own p.tree_is p.qualifiers_are p.mark_is (p.no_return plain);
     prints = p.prints;
     elements = none-print-in (types_of p.own) 6;
-    names = λ o. absurd (omega (arith, o));
+    names = λ k o. absurd (none-known k o);
   };
   start_is = refl;
   written = p.written;
-  goes = none-go_on s nowhere p.lead p.v w.at p.state p.awaits (λ o. absurd (omega (arith, o)));
+  goes = none-go_on s nowhere p.lead p.v w.at p.state p.awaits (λ k o. absurd (none-known k o));
 }
 
 -- the first parameter comes next
-pub first-expected : (s : List ℕ) (w first last : Direct) (mark : Mark) (start : ℕ) (argument : Argument)
+pub first-expected : (s : List ℕ) (w first last : Direct) (mark : Mark) (start : ℕ) (argument : Arguments)
     → AwaitsParameters s w mark start argument → Writes w first (codes "(")
     → last.text ≡ first.text → last.candidates ≡ first.candidates → last.at ≡ first.at
     → last.waiting.list.items ≡ first.waiting.list.items ++ opens.Parameters mark start argument ∷ []
@@ -290,7 +290,7 @@ first-expected s w first last mark start argument p one text candidates at waiti
     }
 
 -- another parameter comes next
-pub next-expected : (s : List ℕ) (w last : Direct) (mark : Mark) (start : ℕ) (argument : Argument) → IsParameterEnded s w mark start argument → Writes w last (codes ", ")
+pub next-expected : (s : List ℕ) (w last : Direct) (mark : Mark) (start : ℕ) (argument : Arguments) → IsParameterEnded s w mark start argument → Writes w last (codes ", ")
     → AwaitsNextParameter s last mark start argument
 next-expected s w last mark start argument p one =
     let front = p.aside ++ p.lead ++ p.name ++ codes "(" in
@@ -339,7 +339,7 @@ cut-text old new start aside text cuts start_is written =
 -- ## The end of an encoding
 
 -- a lone void is read
-pub void-read : (s : List ℕ) (argument : Argument) (becomes : Term → (at : ℕ) → State → Type 0) (make : Term → Term) (at : ℕ) (st : State)
+pub void-read : (s : List ℕ) (argument : Arguments) (becomes : Term → (at : ℕ) → State → Type 0) (make : Term → Term) (at : ℕ) (st : State)
     → ItemsGoOn s argument becomes make [] at st → StandsAt s at (118 ∷ []) → becomes (make (list_of (builtin (118 ∷ []) ∷ []))) (at + 1) st
 unfolding no_items may_be_empty tree_of is_builtin among
 void-read s argument becomes make at st p stands =
@@ -350,7 +350,7 @@ void-read s argument becomes make at st p stands =
     (goes.passes nothing_there (at + 1) st (expects-empty s Kind.Items p.around goes.inner (at + 1) st goes.awaits refl))
 
 -- a name with a lone void is an encoding
-pub void-ended : (s : List ℕ) (w first here last new : Direct) (mark : Mark) (start : ℕ) (argument : Argument) → AwaitsParameters s w mark start argument
+pub void-ended : (s : List ℕ) (w first here last new : Direct) (mark : Mark) (start : ℕ) (argument : Arguments) → AwaitsParameters s w mark start argument
     → StandsAt s w.at (118 ∷ [])
     → Writes w first (codes "(") → here.text ≡ first.text → here.candidates ≡ first.candidates → here.at ≡ first.at + 1
     → Writes here last (codes ")") → Cuts last new start → IsEncodingEnded s new mark
@@ -389,7 +389,7 @@ void-ended s w first here last new mark start argument p stands one text candida
     }
 
 -- a function with its parameters is an encoding, unless they are a lone void
-pub function-ended : (s : List ℕ) (w last new : Direct) (mark : Mark) (start : ℕ) (argument : Argument) (p : IsParameterEnded s w mark start argument)
+pub function-ended : (s : List ℕ) (w last new : Direct) (mark : Mark) (start : ℕ) (argument : Arguments) (p : IsParameterEnded s w mark start argument)
     → p.texts ≢ codes "void" → Writes w last (codes ")") → Cuts last new start → IsEncodingEnded s new mark
 unfolding no_items may_be_empty
 function-ended s w last new mark start argument p apart one cuts =

@@ -10,7 +10,7 @@ use Rattle.cpp_grammar.specs.Values.{Value}
 use Rattle.cpp_direct.specs.declared.open.Mark.{Mark}
 use Rattle.cpp_direct.specs.Marks.{has_const, called_on}
 use Rattle.cpp_direct.specs.declared.open.Open.TheVariants as opens
-use Rattle.cpp_direct.specs.declared.open.Argument.{Argument}
+use Rattle.cpp_direct.specs.declared.open.Arguments.{Arguments}
 use Rattle.cpp_grammar.specs.Parts.{types_of}
 use Rattle.cpp_grammar.specs.Scope.{arguments_of}
 use Rattle.cpp_direct.specs.declared.open.Step.TheVariants as steps
@@ -18,14 +18,14 @@ use Rattle.cpp_direct.specs.declared.direct.Direct.{Direct}
 use Rattle.cpp_direct.specs.Bytes.{is_local}
 use Rattle.cpp_direct.specs.Holes.{Expects}
 use Rattle.cpp_direct.specs.Prints.{PrintsName, PrintsIn, Shows}
-use Rattle.cpp_direct.specs.Stands.{AreCandidates, EncodedBehind, IsArgument, IsScoped, IsWriting, IsInstance, ParametersGoOn, Stands, qualifiers, plain_encoding}
+use Rattle.cpp_direct.specs.Stands.{AreCandidates, EncodedBehind, HasArguments, IsScoped, IsWriting, IsInstance, ParametersGoOn, Stands, qualifiers, plain_encoding}
 use Rattle.cpp_direct.specs.Ways.{IsNameEnded, IsFrontRead, AwaitsParameters}
 use Rattle.cpp_direct.specs.Written.{Writes}
 use Rattle.cpp_direct.proofs.Ending.{none-go_on, parameter-goes_on}
 use Rattle.cpp_direct.proofs.Kept.{candidates-written, reverse-last}
 use Rattle.cpp_direct.proofs.MovesOfLists.{element-awaits}
 use Rattle.cpp_direct.proofs.PrintedLists.{none-print-in}
-use Rattle.cpp_direct.proofs.Scopes.{argument-stays, front-scoped}
+use Rattle.cpp_direct.proofs.Scopes.{arguments-stay, front-scoped}
 use Rattle.cpp_direct.proofs.PrintedSymbols.{encoding-returned, front-shows}
 
 no-text : (l : List ℕ) (from : ℕ) → from ≡ length l → from ≡ 0 → l ≡ []
@@ -50,10 +50,14 @@ front-begins s w new mark from start p none apart start_is text candidates at wa
     } in
     let goes : ParametersGoOn s w.argument [] (λ l. encoding_of p.v l) [] w.at p.state =
     subst (λ l. ParametersGoOn s w.argument l (λ i. encoding_of p.v i) [] w.at p.state) lead_is
-    (none-go_on s w.argument p.lead p.v w.at p.state p.awaits (λ o. record {
-      own = (p.names refl o).own;
-      scope_is = p.awaits.scope_is ∙ ap arguments_of p.tree_is ∙ (p.names refl o).alone;
-      no_pack = (p.names refl o).prints.no_pack;
+    (none-go_on s w.argument p.lead p.v w.at p.state p.awaits (λ k o. let n = p.names refl k o in record {
+      own = n.own;
+      all = n.all;
+      scope_is = p.awaits.scope_is ∙ ap arguments_of p.tree_is ∙ n.all_are;
+      there = n.there;
+      below = n.below;
+      alone = n.alone;
+      no_pack = n.prints.no_pack;
     })) in
     let element = element-awaits s Kind.Items goes.inner goes.around w.at p.state tt goes.awaits in
     let stands : Stands s (opens.Front mark start w.argument ∷ reverse w.waiting.list.items) element.inner w.text.list.items = (
@@ -82,7 +86,7 @@ front-begins s w new mark from start p none apart start_is text candidates at wa
     }
 
 -- a function's return type stands in front of what it shows without one
-turned : (s : List ℕ) (argument : Argument) (mark : Mark) (v : Value) (name : List ℕ) (is : IsInstance argument mark v name) (r : Term) (b : List ℕ)
+turned : (s : List ℕ) (argument : Arguments) (mark : Mark) (v : Value) (name : List ℕ) (is : IsInstance argument mark v name) (r : Term) (b : List ℕ)
     (is_reference : Bool) → PrintsIn (types_of is.own) 2 r b is_reference → (items : Term) (at : ℕ) → is_local s ≡ false → EncodedBehind s [] (encoding_of v (list r items)) at
     → EncodedBehind s (b ++ codes " ") (plain_encoding mark is.own items) at
 turned s argument mark v name is r b is_reference prints items at apart p = record {
@@ -98,7 +102,7 @@ turned s argument mark v name is r b is_reference prints items at apart p = reco
 }
 
 -- the return type is read, and behind it the name is written once more
-pub front-turned : (s : List ℕ) (w here first last : Direct) (mark : Mark) (start : ℕ) (argument : Argument) → IsFrontRead s w mark start argument
+pub front-turned : (s : List ℕ) (w here first last : Direct) (mark : Mark) (start : ℕ) (argument : Arguments) → IsFrontRead s w mark start argument
     → here.text ≡ w.text → here.candidates ≡ w.candidates → here.at ≡ w.at → Writes here first (codes " ")
     → Writes first last (take (start - 0) (drop 0 first.text.list.items)) → AwaitsParameters s last mark start argument
 front-turned s w here first last mark start argument p text candidates at one two =
@@ -125,8 +129,8 @@ front-turned s w here first last mark start argument p text candidates at one tw
         makes = λ t rest. refl;
         prints = is.prints;
         elements = none-print-in (types_of is.own) 6;
-        names = λ o. subst (λ l. IsArgument l argument is.own) (sym written)
-            (argument-stays (p.name ++ lead) p.name argument is.own (argument-stays p.name lead argument is.own (is.names o)));
+        names = subst (λ l. HasArguments l argument is.own) (sym written)
+            (arguments-stay (p.name ++ lead) p.name argument is.own (arguments-stay p.name lead argument is.own is.names));
       };
       start_is = p.start_is;
       written = written;

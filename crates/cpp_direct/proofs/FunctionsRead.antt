@@ -5,7 +5,7 @@ use Rattle.cpp_grammar.specs.Values.{State, Around, outermost}
 use Rattle.cpp_direct.specs.declared.open.Mark.{Mark}
 use Rattle.cpp_direct.specs.declared.open.Open.{Open}
 use Rattle.cpp_direct.specs.declared.open.Open.TheVariants as opens
-use Rattle.cpp_direct.specs.declared.open.Argument.{Argument}
+use Rattle.cpp_direct.specs.declared.open.Arguments.{Arguments}
 use Rattle.cpp_direct.specs.declared.open.Step.TheVariants as steps
 use Rattle.cpp_direct.specs.declared.direct.Direct.{Direct}
 use Rattle.cpp_direct.specs.Holes.{Opened, StandsAt, Expects}
@@ -23,7 +23,7 @@ use Rattle.cpp_direct.proofs.MovesOfFunctions.{function-opens, pointed-function-
 pub takes-function : (o : Open) (rest : List Open) → ((x : ℕ) → o ≡ opens.Pointer x → ⊥) → ((x : ℕ) → o ≡ opens.Lvalue x → ⊥)
     → ((x : ℕ) → o ≡ opens.Rvalue x → ⊥) → ((x : ℕ) → o ≡ opens.Const x → ⊥) → (o ≡ opens.Enumerator → ⊥)
     → ((x : Bool) → o ≡ opens.Returned x → ⊥) → ((x : Bool) → o ≡ opens.Signature x → ⊥)
-    → ((x : Mark) (y : ℕ) (z : Argument) → o ≡ opens.Front x y z → ⊥) → ((x : ℕ) → o ≡ opens.Argument x → ⊥)
+    → ((x : Mark) (y : ℕ) (z : Arguments) → o ≡ opens.Front x y z → ⊥) → ((x y : ℕ) (z : Arguments) → o ≡ opens.Argument x y z → ⊥)
     → ((x : ℕ) → o ≡ opens.Lambda x → ⊥) → ((x : ℕ) → o ≡ opens.Element x → ⊥) → TakesFunction (o ∷ rest)
 takes-function (opens.Pointer x) rest p l r c n f g k a m e = absurd (p x refl)
 takes-function (opens.Lvalue x) rest p l r c n f g k a m e = absurd (l x refl)
@@ -41,7 +41,7 @@ takes-function (opens.FirstArguments x) rest p l r c n f g k a m e = tt
 takes-function (opens.NameArguments x) rest p l r c n f g k a m e = tt
 takes-function (opens.Parameters x y w) rest p l r c n f g k a m e = tt
 takes-function (opens.Front x y w) rest p l r c n f g k a m e = absurd (k x y w refl)
-takes-function (opens.Argument x) rest p l r c n f g k a m e = absurd (a x refl)
+takes-function (opens.Argument x y z) rest p l r c n f g k a m e = absurd (a x y z refl)
 takes-function (opens.Element x) rest p l r c n f g k a m e = absurd (e x refl)
 takes-function opens.Pack rest p l r c n f g k a m e = tt
 

@@ -7,19 +7,19 @@ use Rattle.cpp_grammar.specs.Values.{State, tree}
 use Rattle.cpp_direct.specs.declared.open.Mark.{Mark}
 use Rattle.cpp_direct.specs.declared.open.Open.{Open}
 use Rattle.cpp_direct.specs.declared.open.Open.TheVariants as opens
-use Rattle.cpp_direct.specs.declared.open.Argument.{Argument}
+use Rattle.cpp_direct.specs.declared.open.Arguments.{Arguments}
 use Rattle.cpp_direct.specs.declared.open.Step.TheVariants as steps
 use Rattle.cpp_direct.specs.declared.direct.Direct.{Direct}
 use Rattle.cpp_direct.specs.Holes.{Opened, Comes}
 use Rattle.cpp_direct.specs.Prints.{Prints, PrintsIn, IsElementIn, Shows}
-use Rattle.cpp_direct.specs.Stands.{AreCandidates, IsArgument, IsTemplate, IsWriting, Marks, AwaitsEnumerator, Belongs, Listing, of_template, of_pack, Stands, opening_text, extra_of, led_by, in_front_of_next}
+use Rattle.cpp_direct.specs.Stands.{AreCandidates, HasArguments, IsTemplate, IsWriting, Marks, AwaitsEnumerator, Belongs, Listing, of_template, of_pack, Stands, opening_text, extra_of, led_by, in_front_of_next}
 use Rattle.cpp_direct.specs.Ways.{AwaitsMark, AwaitsNumber, AwaitsSignature, IsElementRead, IsFrontRead, IsParameterEnded, IsReturned, IsSymbolEnded}
 use Rattle.cpp_direct.proofs.Listed.{TakesElements, last-found, list-waits, listing-at, some-elements}
 use Rattle.cpp_direct.proofs.PrintedLists.{element-in, next-prints, next-prints-in, type-element}
 use Rattle.cpp_direct.proofs.PrintedTypes.{prints-in}
 use Rattle.cpp_direct.proofs.PrintedSymbols.{special-shows}
 use Rattle.cpp_direct.proofs.Kept.{template-stays}
-use Rattle.cpp_direct.proofs.Scopes.{argument-stays}
+use Rattle.cpp_direct.proofs.Scopes.{arguments-stay}
 
 -- it is marked
 pub value-marked : (s : List ℕ) (w : Direct) (is_reference marked_reference : Bool) (entry : Open) (from : ℕ) (made : Term → Term) (mark : List ℕ)
@@ -77,7 +77,7 @@ value-element s w is_reference o p found =
     }
 
 -- a parameter was read
-pub parameter-got : (s : List ℕ) (w : Direct) (mark : Mark) (start : ℕ) (argument : Argument) (st : State) (rest : List Open) (os : List Opened) (t : Term)
+pub parameter-got : (s : List ℕ) (w : Direct) (mark : Mark) (start : ℕ) (argument : Arguments) (st : State) (rest : List Open) (os : List Opened) (t : Term)
     (front bytes : List ℕ) (waits : Stands s (opens.Parameters mark start argument ∷ rest) os front)
     → AreCandidates w.text.list.items w.candidates.list.items st.candidates → reverse w.waiting.list.items ≡ opens.Parameters mark start argument ∷ rest
     → w.text.list.items ≡ front ++ bytes → Comes s os (tree t true) w.at st → IsElementIn (types_of waits.6.own) 6 t bytes
@@ -106,15 +106,15 @@ parameter-got s w mark start argument st opened_ os t front bytes waits candidat
         makes = is_function.makes;
         prints = is_function.prints;
         elements = next-prints-in (types_of is_function.own) 6 ts texts t bytes is_function.elements element;
-        names = λ o. subst (λ l. IsArgument l argument is_function.own) (sym written)
-            (argument-stays front bytes argument is_function.own (is_function.names o));
+        names = subst (λ l. HasArguments l argument is_function.own) (sym written)
+            (arguments-stay front bytes argument is_function.own is_function.names);
       };
       start_is = waits.7;
       written = written ∙ ap (λ l. l ++ bytes) waits.8 ∙ append_assoc (aside ++ lead ++ name ++ codes "(") (in_front_of_next ts texts) bytes;
       goes = waits.9 t w.at st comes;
     }
 
-pub parameter-read : (s : List ℕ) (w : Direct) (mark : Mark) (start : ℕ) (argument : Argument) → IsElementRead s w (opens.Parameters mark start argument)
+pub parameter-read : (s : List ℕ) (w : Direct) (mark : Mark) (start : ℕ) (argument : Arguments) → IsElementRead s w (opens.Parameters mark start argument)
     → IsParameterEnded s w mark start argument
 parameter-read s w mark start argument p =
     parameter-got s w mark start argument p.state p.rest p.os p.own p.front p.bytes p.stands p.candidates p.open_is p.written p.comes
@@ -185,11 +185,11 @@ value-enumerator s w is_reference p found =
 
 -- what is none of those that wait for something else
 pub takes-elements : (o : Open) → ((x : ℕ) → o ≡ opens.Pointer x → ⊥) → ((x : ℕ) → o ≡ opens.Lvalue x → ⊥)
-    → ((x : ℕ) → o ≡ opens.Rvalue x → ⊥) → ((x : ℕ) → o ≡ opens.Const x → ⊥) → ((x : Mark) (y : ℕ) (z : Argument) → o ≡ opens.Parameters x y z → ⊥)
-    → ((x : Mark) (y : ℕ) (z : Argument) → o ≡ opens.Front x y z → ⊥)
+    → ((x : ℕ) → o ≡ opens.Rvalue x → ⊥) → ((x : ℕ) → o ≡ opens.Const x → ⊥) → ((x : Mark) (y : ℕ) (z : Arguments) → o ≡ opens.Parameters x y z → ⊥)
+    → ((x : Mark) (y : ℕ) (z : Arguments) → o ≡ opens.Front x y z → ⊥)
     → ((x : Bool) → o ≡ opens.Returned x → ⊥) → ((x : Bool) → o ≡ opens.Signature x → ⊥)
     → (o ≡ opens.Special → ⊥) → (o ≡ opens.Enumerator → ⊥) → ((x : Mark) (y : ℕ) (z : Argument) → o ≡ opens.Enclosing x y z → ⊥)
-    → ((x : ℕ) → o ≡ opens.Argument x → ⊥) → ((x : ℕ) → o ≡ opens.Lambda x → ⊥) → ((x : ℕ) → o ≡ opens.Element x → ⊥)
+    → ((x y : ℕ) (z : Arguments) → o ≡ opens.Argument x y z → ⊥) → ((x : ℕ) → o ≡ opens.Lambda x → ⊥) → ((x : ℕ) → o ≡ opens.Element x → ⊥)
     → TakesElements o
 takes-elements (opens.Pointer x) p l r c f k u g z n m a q e = absurd (p x refl)
 takes-elements (opens.Lvalue x) p l r c f k u g z n m a q e = absurd (l x refl)
@@ -197,7 +197,7 @@ takes-elements (opens.Rvalue x) p l r c f k u g z n m a q e = absurd (r x refl)
 takes-elements (opens.Const x) p l r c f k u g z n m a q e = absurd (c x refl)
 takes-elements (opens.Parameters x y w) p l r c f k u g z n m a q e = absurd (f x y w refl)
 takes-elements (opens.Front x y w) p l r c f k u g z n m a q e = absurd (k x y w refl)
-takes-elements (opens.Argument x) p l r c f k u g z n m a q e = absurd (a x refl)
+takes-elements (opens.Argument x y v) p l r c f k u g z n m a q e = absurd (a x y v refl)
 takes-elements (opens.Returned x) p l r c f k u g z n m a q e = absurd (u x refl)
 takes-elements (opens.Signature x) p l r c f k u g z n m a q e = absurd (g x refl)
 takes-elements (opens.Enclosing x y w) p l r c f k u g z n m a q e = absurd (m x y w refl)
@@ -239,7 +239,7 @@ argument-read s w o p takes =
 -- ## Return types
 
 -- it is the return type of a function
-pub front-got : (s : List ℕ) (w : Direct) (is_reference : Bool) (mark : Mark) (start : ℕ) (argument : Argument) (st : State) (rest : List Open) (os : List Opened)
+pub front-got : (s : List ℕ) (w : Direct) (is_reference : Bool) (mark : Mark) (start : ℕ) (argument : Arguments) (st : State) (rest : List Open) (os : List Opened)
     (t : Term) (front bytes : List ℕ) (waits : Stands s (opens.Front mark start argument ∷ rest) os front)
     → AreCandidates w.text.list.items w.candidates.list.items st.candidates → w.text.list.items ≡ front ++ bytes → Comes s os (tree t true) w.at st
     → PrintsIn (types_of waits.1.own) 2 t bytes is_reference → IsFrontRead s w mark start argument
@@ -259,7 +259,7 @@ front-got s w is_reference mark start argument st rest os t front bytes waits ca
   goes = waits.4 t w.at st comes;
 }
 
-pub value-front : (s : List ℕ) (w : Direct) (is_reference : Bool) (mark : Mark) (start : ℕ) (argument : Argument) → IsWriting s w (steps.Value is_reference)
+pub value-front : (s : List ℕ) (w : Direct) (is_reference : Bool) (mark : Mark) (start : ℕ) (argument : Arguments) → IsWriting s w (steps.Value is_reference)
     → slice_get w.waiting.list.items (length w.waiting.list.items - 1) ≡ Some (opens.Front mark start argument) → IsFrontRead s w mark start argument
 value-front s w is_reference mark start argument p found =
     let os = p.is_before.0 in

@@ -1,5 +1,5 @@
 -- A writer at the end of arguments or a pack, and between two elements.
-use Rattle.std.proofs.Common.{◌≡◌, ◌≢◌, inl, inr, ℕ, ◌+◌, ◌-◌, length, List, [], ◌∷◌, ◌++◌, reverse, slice_get, get_or, ◌≤◌, Bool, true, false, Some, None, refl, ap, sym, ◌∙◌, subst, arith, codes, append_assoc, append-nil}
+use Rattle.std.proofs.Common.{◌≡◌, ◌≢◌, inl, inr, ℕ, zero, suc, ◌<◌, ◌+◌, ◌-◌, length, List, [], ◌∷◌, ◌++◌, reverse, slice_get, get_or, ◌≤◌, Bool, true, false, Some, None, refl, ap, sym, ◌∙◌, subst, arith, codes, append_assoc, append-nil}
 use Rattle.std.proofs.lemmas.Bool.{false≢true}
 use Rattle.std.proofs.lemmas.List.{length-append, reverse-reverse}
 use Rattle.std.proofs.lemmas.Option.{slice_get_within, get_or_from_slice_get}
@@ -7,10 +7,11 @@ use Rattle.std.proofs.Math.Seq.{get_or-append_seam}
 use Rattle.cpp_grammar.specs.declared.kind.Kind.{Kind}
 use Rattle.cpp_grammar.specs.Grammar.{may_be_empty}
 use Rattle.cpp_grammar.specs.Term.{Term, nil, list, instance, pack}
-use Rattle.cpp_grammar.specs.Scope.{arguments_of, before_arguments, is_structor, has_return_type}
+use Rattle.cpp_grammar.specs.Scope.{arguments_of, before_arguments, is_structor, has_return_type, element, count}
 use Rattle.cpp_grammar.specs.Values.{State, tree, nothing_there, tree_of, qualifiers_of, ref_of}
 use Rattle.cpp_grammar.specs.Between.{no_items}
 use Rattle.cpp_direct.specs.declared.open.Mark.TheVariants as marks
+use Rattle.cpp_direct.specs.declared.open.Arguments.{Arguments}
 use Rattle.cpp_direct.specs.declared.open.Nest.{Nest}
 use Rattle.cpp_direct.specs.declared.open.Open.{Open}
 use Rattle.cpp_direct.specs.declared.open.Open.TheVariants as opens
@@ -19,15 +20,15 @@ use Rattle.cpp_direct.specs.declared.direct.Direct.{Direct}
 use Rattle.cpp_direct.specs.Holes.{Opened, Comes, Expects, IsListKind, ListGoesOn, StandsAt, AwaitsComponent, with_candidate}
 use Rattle.cpp_direct.specs.HolesOfLists.{IsArgumentKind}
 use Rattle.cpp_direct.specs.Prints.{Prints, PrintAll, list_of}
-use Rattle.cpp_direct.specs.Stands.{IsArgument, argument_of, AreCandidates, IsListing, IsNest, IsTail, IsTemplate, IsWriting, Owns, Serves, ArgumentsGoOn, AwaitsElementOf, AwaitsEnumerator, Belongs, Closes, ElementsGoOn, EnumeratorGoesOn, GoesOn, Listing, of_template, of_pack, Stands, element_kind, extra_of, led_by, list_with, in_front_of_next, nowhere, packed}
-use Rattle.cpp_direct.specs.Ways.{IsListEnded, AwaitsNextArgument, IsNameEnded}
+use Rattle.cpp_direct.specs.Stands.{HasArguments, argument_of, AreCandidates, IsListing, IsNest, IsTail, IsTemplate, IsWriting, Owns, Serves, ArgumentsGoOn, AwaitsElementOf, AwaitsEnumerator, Belongs, Closes, ElementsGoOn, EnumeratorGoesOn, GoesOn, Listing, of_template, of_pack, Stands, element_kind, extra_of, led_by, list_with, in_front_of_next, nowhere, packed, place_of}
+use Rattle.cpp_direct.specs.Ways.{AreKnown, IsListEnded, AwaitsNextArgument, IsNameEnded}
 use Rattle.cpp_direct.specs.Written.{Writes, added}
 use Rattle.cpp_direct.proofs.Moves.{expects-empty, stands-split}
 use Rattle.cpp_direct.proofs.MovesOfLists.{element-awaits, pack-opens}
 use Rattle.cpp_direct.proofs.PrintedLists.{list-with-none, next-prints, none-print, pack-element}
 use Rattle.cpp_direct.proofs.PrintedNames.{as-name}
 use Rattle.cpp_direct.proofs.PrintedNests.{instance-prints, instance-class}
-use Rattle.cpp_direct.proofs.Scopes.{none-scoped}
+use Rattle.cpp_direct.proofs.Scopes.{none-known, none-scoped, placed-stays}
 use Rattle.cpp_direct.proofs.Kept.{candidates-stay, candidates-with, template-stays, reverse-last, last-reversed}
 
 -- ## What is open
@@ -119,6 +120,19 @@ in-front (t ∷ ts) l false none some = refl
 
 -- ## The end of arguments
 
+-- known ones stay so where more is written
+known-stay : (text more : List ℕ) (a : Arguments) (ts : List Term) (tail : Term) → AreKnown text a ts tail → AreKnown (text ++ more) a ts tail
+known-stay text more a ts tail known k o = let h = known k o in (
+  record {
+    bytes = h.0.bytes;
+    placed = placed-stays text more (place_of a k) h.0.bytes h.0.placed;
+    own = h.0.own;
+    there = h.0.there;
+    prints = h.0.prints;
+  },
+  h.1,
+)
+
 -- The arguments of what was opened last are read and written.
 pub record IsClosed (s : List ℕ) (w : Direct) (owner : Open) : Type 0 where
   pub state : State
@@ -134,9 +148,7 @@ pub record IsClosed (s : List ℕ) (w : Direct) (owner : Open) : Type 0 where
   pub elements : PrintAll 3 ts arguments
   pub written : w.text.list.items ≡ front ++ (name ++ codes "<" ++ arguments ++ codes ">")
   pub owns : Owns s owner (Stands s (reverse w.waiting.list.items)) front (instance template (list_with ts tail)) w.at state
-  pub alone : w.argument.from ≤ w.argument.to → (t : Term) × (list_with ts tail ≡ list (packed w.argument.is_pack t) nil)
-      × Prints t arguments w.argument.is_reference
-      × (w.argument.from ≡ length (front ++ name ++ codes "<")) × (w.argument.to ≡ length (front ++ name ++ codes "<") + length arguments)
+  pub known : AreKnown w.text.list.items w.argument ts tail
 
 closing : (a b d : List ℕ) → (a ++ b ++ codes "<" ++ d) ++ codes ">" ≡ a ++ (b ++ codes "<" ++ d ++ codes ">")
 closing a b d =
@@ -169,7 +181,7 @@ closes s old new owner p text candidates at opened =
       owns = subst (λ n. Owns s owner (Stands s (reverse new.waiting.list.items)) p.front made n p.state) (sym at)
           (subst (λ r. Owns s owner (Stands s r) p.front made old.at p.state) last.1
           (subst (λ o. Owns s o (Stands s p.rest) p.front made old.at p.state) last.0 p.owns));
-      alone = p.alone;
+      known = subst (λ l. AreKnown l new.argument p.ts p.tail) (sym text) (known-stay old.text.list.items (codes ">") new.argument p.ts p.tail p.known);
     }
 
 -- the same by what was written and taken away
@@ -181,24 +193,32 @@ closed-by s old mid new x owner p writes text candidates at items is =
     (subst (λ v. v.list.items ≡ old.candidates.list.items) (sym (candidates ∙ writes.candidates)) refl) (at ∙ writes.at)
     (subst (λ v. v.list.items ≡ new.waiting.list.items ++ owner ∷ []) writes.waiting (items ∙ ap (λ o. new.waiting.list.items ++ o ∷ []) is))
 
--- where they are one alone, it is the argument of what they make
-closed-argument : (s : List ℕ) (w : Direct) (owner : Open) (p : IsClosed s w owner) → w.argument.from ≤ w.argument.to
-    → IsArgument w.text.list.items w.argument (instance p.template (list_with p.ts p.tail))
+-- an element of the list of elements
+element-there : (ts : List Term) (tail : Term) (k : ℕ) (t : Term) → slice_get ts k ≡ Some t
+    → (element (list_with ts tail) k ≡ t) × (k < count (list_with ts tail))
+unfolding element count
+element-there [] tail k t e = cc e
+element-there (u ∷ ts) tail zero t e = (cc e, omega arith)
+element-there (u ∷ ts) tail (suc k) t e = let h = element-there ts tail k t e in (h.0, omega (arith, h.1))
+
+-- what is known of them is known of the arguments of what they make
+closed-arguments : (s : List ℕ) (w : Direct) (owner : Open) (p : IsClosed s w owner)
+    → HasArguments w.text.list.items w.argument (instance p.template (list_with p.ts p.tail))
 unfolding arguments_of
-closed-argument s w owner p ordered =
-    let alone = p.alone ordered in
+closed-arguments s w owner p k known =
+    let h = p.known k known in
+    let place = place_of w.argument k in
+    let there = element-there p.ts p.tail k (packed place.is_pack h.0.own) h.0.there in
     record {
-      bytes = p.arguments;
-      placed = record {
-        front = p.front ++ p.name ++ codes "<";
-        back = codes ">";
-        written = p.written ∙ sym (closing p.front p.name p.arguments);
-        from_is = alone.3;
-        to_is = alone.4;
-      };
-      own = alone.0;
-      alone = ap (λ l. Some l) alone.1;
-      prints = alone.2;
+      bytes = h.0.bytes;
+      placed = h.0.placed;
+      own = h.0.own;
+      all = list_with p.ts p.tail;
+      all_are = refl;
+      there = there.0;
+      below = there.1;
+      alone = h.1;
+      prints = h.0.prints;
     }
 
 -- the arguments of a type
@@ -277,7 +297,7 @@ nest-closed s w nest p =
         },
         (λ h. structor-returns p.template (list_with p.ts p.tail) (p.is_template.1 h)),
         (λ h. instance-returns p.template (list_with p.ts p.tail) (p.is_template.2 h)),
-        λ h. closed-argument s w (opens.NestArguments nest) p,
+        λ h. closed-arguments s w (opens.NestArguments nest) p,
       );
     }
 
@@ -333,7 +353,7 @@ name-closed s w from p =
       prints = as-name t bytes false (instance-prints p.template p.name p.is_template.1 p.ts p.tail p.arguments p.is_tail p.elements);
       no_return = λ h. absurd (false≢true (sym h));
       returns = λ h. instance-returns p.template (list_with p.ts p.tail) p.is_template.2;
-      names = λ h. closed-argument s w (opens.NameArguments from) p;
+      names = λ h. closed-arguments s w (opens.NameArguments from) p;
       awaits = p.owns;
     }
 
@@ -378,7 +398,7 @@ list-ends s w first owner p stands found other = go p.is_before.0.listing refl
           is_template = place.is_template;
           elements = subst (λ l. PrintAll (extra_of l) ts texts) is p.is_before.3;
           written = subst (λ l. w.text.list.items ≡ led_by l place.front place.name ++ texts) is p.is_before.4;
-          alone = λ o. absurd (omega (arith, o));
+          known = λ k o. absurd (none-known k o);
           owns = goes.4 nothing_there w.at p.state (expects-empty s Kind.ArgumentList goes.0 goes.1 w.at p.state goes.3 refl) stands;
         }
 
@@ -425,7 +445,7 @@ empty-pack-ends s w first owner p stands found other = go p.is_before.0.listing 
           is_template = place.is_template;
           elements = subst (λ l. PrintAll (extra_of l) ts texts) is p.is_before.3;
           written = subst (λ l. w.text.list.items ≡ led_by l place.front place.name ++ texts) is p.is_before.4;
-          alone = λ o. absurd (omega (arith, o));
+          known = λ k o. absurd (none-known k o);
           owns = subst (λ k. Owns s place.owner (Stands s place.rest) place.front (instance place.template (list_with ts (list (pack nil) nil))) k p.state)
               (omega arith)
               (subst (λ l. Owns s place.owner (Stands s place.rest) place.front (instance place.template l) (w.at + 1 + 1 + 1) p.state)

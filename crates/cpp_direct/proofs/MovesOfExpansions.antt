@@ -1,5 +1,5 @@
 -- A reference to each type of a pack is read, where a parameter of a function is expected.
-use Rattle.std.proofs.Common.{◌≡◌, ℕ, ◌+◌, List, [], ◌∷◌, true, false, None, Some, Ok, refl, subst, arith}
+use Rattle.std.proofs.Common.{◌≡◌, ◌∙◌, ap, ℕ, ◌+◌, List, [], ◌∷◌, true, false, None, Some, Ok, refl, subst, arith}
 use Rattle.sym_link.specs.Unfold.{standing}
 use Rattle.sym_shape.specs.declared.rule.Sym.TheVariants.{Kind as OfKind, Number}
 use Rattle.sym_core.specs.declared.NumberKind.TheVariants.{Decimal}
@@ -32,7 +32,7 @@ abbrev named_one : State → State
 named_one st = record st { packs = Some 1 }
 
 -- the parameter is a candidate there
-pack-tested : (around : Around) (at : ℕ) (st : State) → IsScope true around
+pack-tested : (around : Around) (at : ℕ) (st : State) → IsScope 0 true around
     → ◌≡◌ {A = Going} (between Production.Parameter (under_expansion around) at (values.text [] ∷ []) (begun st))
     (Ok (record {
       context = after (parameter 0) true (under_expansion around);
@@ -40,10 +40,10 @@ pack-tested : (around : Around) (at : ℕ) (st : State) → IsScope true around
       state = with_candidate around.encoding (parameter 0) (named_one st);
     }))
 unfolding between parameter_so_far parameter_named listed_so_far index_of text_of count element length_if_pack with_packs appended under_expansion after
-pack-tested around at st scope = rw scope.scope_is refl
+pack-tested around at st scope = rw (scope.scope_is ∙ ap (λ l. Some l) (scope.alone refl)) refl
 
 -- the parameter comes
-pack-comes : (s : List ℕ) (around : Around) (os : List Opened) (at : ℕ) (st : State) → IsScope true around
+pack-comes : (s : List ℕ) (around : Around) (os : List Opened) (at : ℕ) (st : State) → IsScope 0 true around
     → Expects s Kind.Type (under_expansion around) os at (begun st) → StandsAt s at (84 ∷ 95 ∷ [])
     → Comes s os (tree (parameter 0) true) (at + 2) (with_candidate around.encoding (parameter 0) (named_one st))
 unfolding choose alternatives pick is_in in_ranges among is_chain parts_of number_of_kind between opening close unfolding_.behind meaning byte_of tree_of is_there part applied may_be_empty is_function_type
@@ -73,7 +73,7 @@ with_expansion e st =
     with_candidate e (expansion each) (record (with_candidate e each (with_candidate e (parameter 0) (named_one st))) { packs = st.packs })
 
 -- a reference to each type of the pack comes, where a parameter is expected
-pub expansion-comes : (s : List ℕ) (around : Around) (os : List Opened) (at : ℕ) (st : State) → IsScope true around
+pub expansion-comes : (s : List ℕ) (around : Around) (os : List Opened) (at : ℕ) (st : State) → IsScope 0 true around
     → Expects s Kind.Item around os at st → StandsAt s at (68 ∷ 112 ∷ 79 ∷ 84 ∷ 95 ∷ [])
     → Comes s os (tree (expansion (rvalue (parameter 0))) true) (at + 5) (with_expansion around.encoding st)
 unfolding choose alternatives pick is_in in_ranges among is_chain parts_of number_of_kind between opening close unfolding_.behind meaning listed_value with_type byte_of tree_of is_there is_listed part appended under_expansion

@@ -26,6 +26,7 @@ use Rattle.sym_direct.proofs.Moves as moves
 use Rattle.cpp_direct.specs.HolesOfLocals.{Discriminator, unnumbered, by_digit, by_digits, discriminator_value, IsDiscriminatorAt, IsLambdaDigit, IsPieceAt, LocalOpened, LocalTypeOpened, GuardOpened, lambda_digits, lambda_ending, lambda_with}
 use Rattle.cpp_direct.specs.Bytes.{short_numbers}
 use Rattle.cpp_direct.specs.Stands.{ItemsGoOn, nowhere}
+use Rattle.cpp_direct.proofs.Scopes.{none-known}
 use Rattle.cpp_direct.proofs.ShortNumbers.{lambda-begins}
 use Rattle.cpp_direct.specs.HolesOfTypes.{IsNamedKind}
 use Rattle.cpp_direct.proofs.Moves.{stands-split, comes-moved, kind-at, reads-rule, joins, none-left, opens, opens-where, opens-chain, needs-next, ends, expects-empty, expects-byte, expects-name, expects-number}
@@ -349,7 +350,7 @@ lambda-opens s os around e at st short expects stands =
         around = c;
         inner = opened lambda_rule (tree t true ∷ []) rest ∷ above;
         outside = refl;
-        scoped = λ o. absurd (omega (arith, o));
+        scoped = λ k o. absurd (none-known k o);
         awaits = needs-next s q (108 ∷ []) (at + 1) here st (tree t true ∷ []) items rest above there now c (tree t true ∷ []) now refl comes;
         onward = λ l to then_ last number end is ending ends_.
             let two = tree t true ∷ l ∷ [] in

@@ -26,7 +26,7 @@ use Rattle.cpp_direct.specs.declared.direct.Direct.{Direct}
 use Rattle.cpp_direct.specs.Holes.{Opened, Comes, StandsAt, IsNameAt, IsSeqAt, SamePasses, NestGoesOn, AwaitsComponent, with_candidate, unless_listed}
 use Rattle.cpp_direct.specs.HolesOfNests.{IsRest}
 use Rattle.cpp_direct.specs.Prints.{Prints, NamesClass}
-use Rattle.cpp_direct.specs.Stands.{IsArgument, AreCandidates, IsNest, IsNesting, IsTemplate, ArgumentsGoOn, Serves, Stands, IsWriting, qualifiers}
+use Rattle.cpp_direct.specs.Stands.{HasArguments, AreCandidates, IsNest, IsNesting, IsTemplate, ArgumentsGoOn, Serves, Stands, IsWriting, qualifiers}
 use Rattle.cpp_direct.specs.Ways.{AwaitsNest, IsNestNamed, IsNameEnded, IsOperatorRead}
 use Rattle.cpp_direct.specs.Written.{Reads, added, added_unless}
 use Rattle.cpp_direct.proofs.Kept.{arguments-begun, candidates-stay, candidates-with, candidates-unless, candidate-found, piece-found, nest-stays, reverse-last}
@@ -237,7 +237,7 @@ type-ended s old new st t candidates n here is_type keeps =
 pub name-comes : (s : List ℕ) (old : Direct) (st : State) (t : Term) (mark : Mark)
     → AreCandidates old.text.list.items old.candidates.list.items st.candidates → IsNesting s Kind.NestTail old t st
     → (old.nest.is_instance ≡ false → has_return_type t ≡ false) → (old.nest.is_instance ≡ true → has_return_type t ≡ true)
-    → (old.nest.is_instance ≡ true → old.argument.from ≤ old.argument.to → IsArgument old.text.list.items old.argument t)
+    → (old.nest.is_instance ≡ true → HasArguments old.text.list.items old.argument t)
     → StandsAt s old.at (69 ∷ [])
     → old.nest.purpose ≡ purposes.Name mark → IsNameEnded s (record old { at = old.at + 1 }) mark old.nest.is_instance old.nest.from
 unfolding tree_of qualifiers_of ref_of

@@ -7,21 +7,23 @@ use Rattle.cpp_grammar.specs.Grammar.{may_be_empty}
 use Rattle.cpp_grammar.specs.Term.{Term, nil, list, instance, pack}
 use Rattle.cpp_grammar.specs.Values.{nothing_there, tree_of}
 use Rattle.cpp_grammar.specs.Between.{no_items}
+use Rattle.cpp_direct.specs.declared.open.Argument.{Argument}
+use Rattle.cpp_direct.specs.declared.open.Arguments.{Arguments}
 use Rattle.cpp_direct.specs.declared.open.Open.{Open}
 use Rattle.cpp_direct.specs.declared.open.Open.TheVariants as opens
 use Rattle.cpp_direct.specs.declared.open.Step.TheVariants as steps
 use Rattle.cpp_direct.specs.declared.direct.Direct.{Direct}
 use Rattle.cpp_direct.specs.Holes.{Expects, StandsAt}
-use Rattle.cpp_direct.specs.Prints.{IsElement, PrintAllBy}
-use Rattle.cpp_direct.specs.Stands.{AreCandidates, ArgumentsGoOn, Belongs, EndsNamed, Closes, GoesOn, IsScoped, IsTemplate, IsWriting, Listing, of_template, of_pack, Owns, Stands, extra_of, led_by}
-use Rattle.cpp_direct.specs.Ways.{IsPackElementRead, IsListEnded}
+use Rattle.cpp_direct.specs.Prints.{IsElement, Prints, PrintAllBy}
+use Rattle.cpp_direct.specs.Stands.{AreCandidates, ArgumentsGoOn, Belongs, EndsNamed, Closes, GoesOn, IsAmong, IsKnown, IsScoped, IsTemplate, IsWriting, Listing, of_template, of_pack, Owns, Stands, extra_of, led_by, list_with, nowhere, packed, place_of}
+use Rattle.cpp_direct.specs.Ways.{AreKnown, IsPackElementRead, IsListEnded, KnowsMore}
 use Rattle.cpp_direct.proofs.Arguments.{none-text}
 use Rattle.cpp_direct.proofs.Kept.{reverse-last, template-stays}
 use Rattle.cpp_direct.proofs.Listed.{last-found, element-goes-on}
 use Rattle.cpp_direct.proofs.Moves.{expects-empty}
 use Rattle.cpp_direct.proofs.MovesOfLists.{element-awaits, pack-opens}
 use Rattle.cpp_direct.proofs.PrintedLists.{none-print, pack-element, type-element}
-use Rattle.cpp_direct.proofs.Scopes.{none-scoped}
+use Rattle.cpp_direct.proofs.Scopes.{none-known, none-scoped}
 
 -- the first element of such a pack comes next
 pub element-begins : (s : List ℕ) (old new : Direct) (from : ℕ) → IsWriting s old (steps.List true)
@@ -156,16 +158,31 @@ element-passes s old new from is_reference p waits text candidates at = record {
   );
 }
 
+-- an only argument is known
+alone-known : (text : List ℕ) (place : Argument) (known : Arguments) (own : Term)
+    (among : IsKnown place → IsAmong text place 0 (own ∷ [])) → ((o : IsKnown place) → list own nil ≡ list (packed true (among o).own) nil)
+    → KnowsMore nowhere known 0 place → AreKnown text known (own ∷ []) nil
+alone-known text place known own among alone more k o = elim (more k o) [
+  | inl h ↦
+      subst (λ j. (h : IsAmong text (place_of known k) j (own ∷ []))
+      × ((place_of known k).is_pack ≡ true → list_with (own ∷ []) nil ≡ list (packed true h.own) nil)) (sym h.0)
+      (subst (λ (q : Argument). (h : IsAmong text q 0 (own ∷ [])) × (q.is_pack ≡ true → list_with (own ∷ []) nil ≡ list (packed true h.own) nil)) (sym h.1)
+      (let here = subst IsKnown h.1 o in (among here, λ e. alone here)))
+  | inr h ↦ absurd (none-known k (subst IsKnown h o))
+]
+
 one-element : (t : Term) → t ∷ [] ≢ []
 one-element t e = cc e
 
 -- or the end of the pack and that of the arguments: it is the only one
-pub element-alone : (s : List ℕ) (old new : Direct) (from to : ℕ) (is_reference : Bool) (p : IsPackElementRead s old from is_reference)
+pub element-alone : (s : List ℕ) (old new : Direct) (from to : ℕ) (is_reference : Bool) (place : Argument) (known : Arguments)
+    (p : IsPackElementRead s old from is_reference)
     → StandsAt s old.at (69 ∷ []) → StandsAt s (old.at + 1) (69 ∷ []) → reverse new.waiting.list.items ≡ p.owner ∷ p.rest → new.text ≡ old.text
     → new.candidates ≡ old.candidates → new.at ≡ old.at + 1 + 1 → to ≡ length old.text.list.items
-    → IsListEnded s new (record { from = from; to = to; is_pack = true; is_reference = is_reference })
+    → (IsKnown place → place ≡ record { from = from; to = to; is_pack = true; is_reference = is_reference }) → KnowsMore nowhere known 0 place
+    → IsListEnded s new known
 unfolding no_items may_be_empty
-element-alone s old new from to is_reference p ends stands waits text candidates at to_is =
+element-alone s old new from to is_reference place known p ends stands waits text candidates at to_is place_is more =
     let own = pack (list p.t nil) in
     let goes = p.goes.4 nothing_there old.at p.state (expects-empty s Kind.PackList p.goes.0 p.goes.1 old.at p.state p.goes.3 refl) ends in
     let here = goes.4 nothing_there (old.at + 1) p.state (expects-empty s Kind.ArgumentList goes.0 goes.1 (old.at + 1) p.state goes.3 refl) stands in
@@ -191,11 +208,17 @@ element-alone s old new from to is_reference p ends stands waits text candidates
       );
       written = ap (λ v. v.list.items) text ∙ p.written;
       owns = subst (λ n. Owns s p.owner (Stands s p.rest) p.front (instance p.template (list own nil)) n p.state) (sym at) here;
-      alone = λ o. (
-        p.t,
-        refl,
-        p.prints,
-        p.from_is,
-        to_is ∙ ap length p.written ∙ length-append (p.front ++ p.name ++ codes "<") p.bytes,
-      );
+      known = alone-known new.text.list.items place known own (λ o. record {
+        bytes = p.bytes;
+        placed = record {
+          front = p.front ++ p.name ++ codes "<";
+          back = [];
+          written = ap (λ v. v.list.items) text ∙ p.written ∙ sym (append-nil (p.front ++ p.name ++ codes "<" ++ p.bytes));
+          from_is = ap (λ (k : Argument). k.from) (place_is o) ∙ p.from_is;
+          to_is = ap (λ (k : Argument). k.to) (place_is o) ∙ to_is ∙ ap length p.written ∙ length-append (p.front ++ p.name ++ codes "<") p.bytes;
+        };
+        own = p.t;
+        there = ap (λ (k : Argument). Some (packed k.is_pack p.t)) (sym (place_is o));
+        prints = subst (λ (k : Argument). Prints p.t p.bytes k.is_reference) (sym (place_is o)) p.prints;
+      }) (λ o. refl) more;
     }

@@ -22,7 +22,7 @@ each = rvalue (parameter 0)
 each-prints : (own : Term) (b : List ℕ) (r : Bool) → Prints own b r → PrintsIn (at_index 0 (packed_in own)) 3 each (b ++ forwarded r) true
 unfolding argument indexed element at_index
 each-prints own b true p = subst (λ l. PrintsIn (at_index 0 (packed_in own)) 3 each l true) (sym (append-nil b)) (rvalue-again (at_index 0 (packed_in own)) b p)
-each-prints own b false p = go (rvalue-in (at_index 0 (packed_in own)) 2 (parameter 0) b (parameter-in (at_index 0 (packed_in own)) b false p))
+each-prints own b false p = go (rvalue-in (at_index 0 (packed_in own)) 2 (parameter 0) b (parameter-in (at_index 0 (packed_in own)) 0 b false p))
   where
     go : PrintsIn (at_index 0 (packed_in own)) 2 each (b ++ codes "&&") true → PrintsIn (at_index 0 (packed_in own)) 3 each (b ++ codes "&&") true
     go h = record {

@@ -240,11 +240,11 @@ type-element-in c t b r p = record {
 }
 
 -- A parameter prints the argument that it names.
-pub parameter-in : (c : Context) (b : List ℕ) (r : Bool) → Prints (argument c 0) b r → PrintsIn c 2 (parameter 0) b r
+pub parameter-in : (c : Context) (k : ℕ) (b : List ℕ) (r : Bool) → Prints (argument c k) b r → PrintsIn c 2 (parameter k) b r
 unfolding parts_in left_parts right_parts not_empty head head_closed head_with argument is_reference is_funarr is_empty is_function_type is_void
-parameter-in c b r p =
-    let t = parameter 0 in
-    let a = argument c 0 in
+parameter-in c k b r p =
+    let t = parameter k in
+    let a = argument c k in
     record {
       left_text = text_by left c t (as_item left closed a ∷ []) refl ∙ append-nil (text_of (in_form left closed a)) ∙ p.left_text closed;
       right_text = text_by right c t (as_item right closed a ∷ []) refl ∙ append-nil (text_of (in_form right closed a)) ∙ p.right_text closed;
@@ -261,8 +261,8 @@ parameter-in c b r p =
       void = λ e. cc e;
     }
 
-pub parameter-prints : PrintsBehind (parameter 0) [] false
-parameter-prints c b p = subst (λ l. PrintsIn c 2 (parameter 0) l false) (sym (append-nil b)) (parameter-in c b false p)
+pub parameter-prints : (k : ℕ) → PrintsBehind k (parameter k) [] false
+parameter-prints k c b p = subst (λ l. PrintsIn c 2 (parameter k) l false) (sym (append-nil b)) (parameter-in c k b false p)
 
 -- An rvalue reference to a reference prints what this does.
 pub rvalue-again : (c : Context) (b : List ℕ) → Prints (argument c 0) b true → PrintsIn c 3 (rvalue (parameter 0)) b true
@@ -270,7 +270,7 @@ unfolding parts_in left_parts right_parts not_empty head head_closed head_with a
 rvalue-again c b p =
     let u = parameter 0 in
     let a = argument c 0 in
-    let inner = parameter-in c b true p in
+    let inner = parameter-in c 0 b true p in
     let ps = as_item left c u ∷ [] in
     let is : reference_parts c left u "&&" ≡ ps = rw (p.is_reference_head closed, reference_parts) refl in
     record {
@@ -292,15 +292,15 @@ rvalue-again c b p =
     }
 
 -- With a mark behind it a type that names the argument prints that too.
-pub pointer-behind : (t : Term) (m : List ℕ) (r : Bool) → PrintsBehind t m r → PrintsBehind (pointer t) (m ++ codes "*") false
-pointer-behind t m r h c b p = subst (λ l. PrintsIn c 2 (pointer t) l false) (append_assoc b m (codes "*")) (pointer-in c 2 t (b ++ m) r (h c b p))
+pub pointer-behind : (k : ℕ) (t : Term) (m : List ℕ) (r : Bool) → PrintsBehind k t m r → PrintsBehind k (pointer t) (m ++ codes "*") false
+pointer-behind k t m r h c b p = subst (λ l. PrintsIn c 2 (pointer t) l false) (append_assoc b m (codes "*")) (pointer-in c 2 t (b ++ m) r (h c b p))
 
-pub lvalue-behind : (t : Term) (m : List ℕ) → PrintsBehind t m false → PrintsBehind (lvalue t) (m ++ codes "&") true
-lvalue-behind t m h c b p = subst (λ l. PrintsIn c 2 (lvalue t) l true) (append_assoc b m (codes "&")) (lvalue-in c 2 t (b ++ m) (h c b p))
+pub lvalue-behind : (k : ℕ) (t : Term) (m : List ℕ) → PrintsBehind k t m false → PrintsBehind k (lvalue t) (m ++ codes "&") true
+lvalue-behind k t m h c b p = subst (λ l. PrintsIn c 2 (lvalue t) l true) (append_assoc b m (codes "&")) (lvalue-in c 2 t (b ++ m) (h c b p))
 
-pub rvalue-behind : (t : Term) (m : List ℕ) → PrintsBehind t m false → PrintsBehind (rvalue t) (m ++ codes "&&") true
-rvalue-behind t m h c b p = subst (λ l. PrintsIn c 2 (rvalue t) l true) (append_assoc b m (codes "&&")) (rvalue-in c 2 t (b ++ m) (h c b p))
+pub rvalue-behind : (k : ℕ) (t : Term) (m : List ℕ) → PrintsBehind k t m false → PrintsBehind k (rvalue t) (m ++ codes "&&") true
+rvalue-behind k t m h c b p = subst (λ l. PrintsIn c 2 (rvalue t) l true) (append_assoc b m (codes "&&")) (rvalue-in c 2 t (b ++ m) (h c b p))
 
-pub const-behind : (t : Term) (m : List ℕ) → PrintsBehind t m false → PrintsBehind (qualified constant t) (m ++ codes " const") false
-const-behind t m h c b p =
+pub const-behind : (k : ℕ) (t : Term) (m : List ℕ) → PrintsBehind k t m false → PrintsBehind k (qualified constant t) (m ++ codes " const") false
+const-behind k t m h c b p =
     subst (λ l. PrintsIn c 2 (qualified constant t) l false) (append_assoc b m (codes " const")) (const-in c 2 t (b ++ m) (h c b p))

@@ -1,12 +1,13 @@
 -- What a parameter of a template may name, and where it stands.
-use Rattle.std.proofs.Common.{◌≡◌, ℕ, ◌≤◌, List, ◌∷◌, ◌++◌, None, ap, sym, ◌∙◌, subst, append_assoc}
+use Rattle.std.proofs.Common.{◌≡◌, ℕ, zero, suc, ◌≤◌, List, ◌∷◌, ◌++◌, None, arith, ap, sym, ◌∙◌, subst, append_assoc}
 use Rattle.cpp_grammar.specs.Term.{Term}
 use Rattle.cpp_grammar.specs.Values.{Around}
 use Rattle.cpp_direct.specs.declared.open.Mark.{Mark}
 use Rattle.cpp_direct.specs.declared.open.Open.{Open}
 use Rattle.cpp_direct.specs.declared.open.Open.TheVariants as opens
 use Rattle.cpp_direct.specs.declared.open.Argument.{Argument}
-use Rattle.cpp_direct.specs.Stands.{IsPlaced, IsArgument, IsEnclosing, IsFunction, IsScope, IsScoped, argument_of}
+use Rattle.cpp_direct.specs.declared.open.Arguments.{Arguments}
+use Rattle.cpp_direct.specs.Stands.{IsPlaced, IsAmong, AreAmong, IsArgument, IsEnclosing, HasArguments, HasScope, IsFunction, IsKnown, IsScope, IsScoped, argument_of, nowhere, place_of}
 
 -- what stands at a place stays there where more is written
 pub placed-stays : (text more : List ℕ) (p : Argument) (bytes : List ℕ) → IsPlaced text p bytes → IsPlaced (text ++ more) p bytes
@@ -18,29 +19,54 @@ placed-stays text more p bytes h = record {
   to_is = h.to_is;
 }
 
--- and so does the argument of a name
-pub argument-stays : (text more : List ℕ) (p : Argument) (name : Term) → IsArgument text p name → IsArgument (text ++ more) p name
-argument-stays text more p name h = record {
+-- and so do the arguments of a name
+pub arguments-stay : (text more : List ℕ) (a : Arguments) (name : Term) → HasArguments text a name → HasArguments (text ++ more) a name
+arguments-stay text more a name has k o = let h = has k o in record {
   bytes = h.bytes;
-  placed = placed-stays text more p h.bytes h.placed;
+  placed = placed-stays text more (place_of a k) h.bytes h.placed;
   own = h.own;
+  all = h.all;
+  all_are = h.all_are;
+  there = h.there;
+  below = h.below;
   alone = h.alone;
   prints = h.prints;
 }
 
+-- also while they are read
+one-stays : (text more : List ℕ) (p : Argument) (k : ℕ) (ts : List Term) → IsAmong text p k ts → IsAmong (text ++ more) p k ts
+one-stays text more p k ts h = record {
+  bytes = h.bytes;
+  placed = placed-stays text more p h.bytes h.placed;
+  own = h.own;
+  there = h.there;
+  prints = h.prints;
+}
+
+pub among-stay : (text more : List ℕ) (a : Arguments) (ts : List Term) → AreAmong text a ts → AreAmong (text ++ more) a ts
+among-stay text more a ts known k o = let h = known k o in (one-stays text more (place_of a k) k ts h.0, h.1)
+
+-- none is known
+pub none-known : (k : ℕ) → IsKnown (place_of nowhere k) → ⊥
+none-known zero o = absurd (omega (arith, o))
+none-known (suc zero) o = absurd (omega (arith, o))
+none-known (suc (suc zero)) o = absurd (omega (arith, o))
+none-known (suc (suc (suc zero))) o = absurd (omega (arith, o))
+none-known (suc (suc (suc (suc k)))) o = absurd (omega (arith, o))
+
 -- and a function's
-pub function-stays : (text more : List ℕ) (p : Argument) (mark : Mark) (make : Term → Term) (ts : List Term) (name texts : List ℕ)
+pub function-stays : (text more : List ℕ) (p : Arguments) (mark : Mark) (make : Term → Term) (ts : List Term) (name texts : List ℕ)
     → IsFunction text p mark make ts name texts → IsFunction (text ++ more) p mark make ts name texts
 function-stays text more p mark make ts name texts f = record {
   own = f.own;
   makes = f.makes;
   prints = f.prints;
   elements = f.elements;
-  names = λ o. argument-stays text more p f.own (f.names o);
+  names = arguments-stay text more p f.own f.names;
 }
 
 -- and that of a function in which a type stands
-pub enclosing-stays : (text more : List ℕ) (p : Argument) (mark : Mark) (make : Term → Term) (ts : List Term) (name texts : List ℕ)
+pub enclosing-stays : (text more : List ℕ) (p : Arguments) (mark : Mark) (make : Term → Term) (ts : List Term) (name texts : List ℕ)
     → IsEnclosing text p mark make ts name texts → IsEnclosing (text ++ more) p mark make ts name texts
 enclosing-stays text more p mark make ts name texts f = record {
   own = f.own;
@@ -48,28 +74,27 @@ enclosing-stays text more p mark make ts name texts f = record {
   makes = f.makes;
   prints = f.prints;
   elements = f.elements;
-  names = λ o. argument-stays text more p f.own (f.names o);
+  names = arguments-stay text more p f.own f.names;
 }
 
-scoped-by : (around : Around) (p q : Argument) → q ≡ p → (p.from ≤ p.to → IsScope p.is_pack around) → q.from ≤ q.to → IsScope q.is_pack around
-scoped-by around p q e h ordered =
-    subst (λ (k : Argument). IsScope k.is_pack around) (sym e) (h (subst (λ (k : Argument). k.from ≤ k.to) e ordered))
+scoped-by : (around : Around) (p q : Arguments) → q ≡ p → HasScope p around → HasScope q around
+scoped-by around p q e h = subst (λ (k : Arguments). HasScope k around) (sym e) h
 
--- a parameter of a function may name its argument
-pub parameters-scoped : (around : Around) (mark : Mark) (start : ℕ) (p : Argument) (rest : List Open) → (p.from ≤ p.to → IsScope p.is_pack around)
+-- a parameter of a function may name its arguments
+pub parameters-scoped : (around : Around) (mark : Mark) (start : ℕ) (p : Arguments) (rest : List Open) → HasScope p around
     → IsScoped around (opens.Parameters mark start p ∷ rest)
-parameters-scoped around mark start p rest h q e ordered = scoped-by around p q (cc e) h ordered
+parameters-scoped around mark start p rest h q e = scoped-by around p q (cc e) h
 
 -- and so may its return type
-pub front-scoped : (around : Around) (mark : Mark) (start : ℕ) (p : Argument) (rest : List Open) → (p.from ≤ p.to → IsScope p.is_pack around)
+pub front-scoped : (around : Around) (mark : Mark) (start : ℕ) (p : Arguments) (rest : List Open) → HasScope p around
     → IsScoped around (opens.Front mark start p ∷ rest)
-front-scoped around mark start p rest h q e ordered = scoped-by around p q (cc e) h ordered
+front-scoped around mark start p rest h q e = scoped-by around p q (cc e) h
 
 -- a parameter of a function in which a type stands may name its argument, too
-pub enclosing-scoped : (around : Around) (mark : Mark) (from : ℕ) (p : Argument) (rest : List Open) → (p.from ≤ p.to → IsScope p.is_pack around)
+pub enclosing-scoped : (around : Around) (mark : Mark) (from : ℕ) (p : Arguments) (rest : List Open) → HasScope p around
     → IsScoped around (opens.Enclosing mark from p ∷ rest)
-enclosing-scoped around mark from p rest h q e ordered = scoped-by around p q (cc e) h ordered
+enclosing-scoped around mark from p rest h q e = scoped-by around p q (cc e) h
 
 -- elsewhere none does
 pub none-scoped : (around : Around) (open_ : List Open) → argument_of open_ ≡ None → IsScoped around open_
-none-scoped around open_ none q e ordered = cc (none, e)
+none-scoped around open_ none q e k ordered = cc (none, e)

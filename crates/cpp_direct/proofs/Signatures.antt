@@ -12,7 +12,7 @@ use Rattle.cpp_direct.specs.declared.open.Mark.{Mark}
 use Rattle.cpp_direct.specs.declared.open.Candidate.{Candidate}
 use Rattle.cpp_direct.specs.declared.open.Open.{Open}
 use Rattle.cpp_direct.specs.declared.open.Open.TheVariants as opens
-use Rattle.cpp_direct.specs.declared.open.Argument.{Argument}
+use Rattle.cpp_direct.specs.declared.open.Arguments.{Arguments}
 use Rattle.cpp_direct.specs.declared.open.Step.{Step}
 use Rattle.cpp_direct.specs.declared.open.Step.TheVariants as steps
 use Rattle.cpp_direct.specs.declared.direct.Direct.{Direct}
@@ -378,11 +378,11 @@ function-handed s old new is_pointer o p text candidates waits at found =
 
 -- what takes a function type, and isn't parameters or a special object, takes elements
 pub takes-as-element : (o : Open) (rest ws : List Open) → ws ≡ o ∷ rest → TakesFunction ws
-    → ((x : Mark) (y : ℕ) (z : Argument) → o ≡ opens.Parameters x y z → ⊥)
+    → ((x : Mark) (y : ℕ) (z : Arguments) → o ≡ opens.Parameters x y z → ⊥)
     → (o ≡ opens.Special → ⊥) → ((x : Mark) (y : ℕ) (z : Argument) → o ≡ opens.Enclosing x y z → ⊥) → TakesElements o
 takes-as-element o rest ws is takes apart no_special within = go o (subst TakesFunction is takes) apart no_special within
   where
-    go : (o : Open) → TakesFunction (o ∷ rest) → ((x : Mark) (y : ℕ) (z : Argument) → o ≡ opens.Parameters x y z → ⊥) → (o ≡ opens.Special → ⊥)
+    go : (o : Open) → TakesFunction (o ∷ rest) → ((x : Mark) (y : ℕ) (z : Arguments) → o ≡ opens.Parameters x y z → ⊥) → (o ≡ opens.Special → ⊥)
         → ((x : Mark) (y : ℕ) (z : Argument) → o ≡ opens.Enclosing x y z → ⊥) → TakesElements o
     go (opens.TypeArguments from) takes apart z m = tt
     go (opens.NestArguments nest) takes apart z m = tt

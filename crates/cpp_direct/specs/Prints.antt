@@ -53,10 +53,10 @@ pub record PrintsIn (context : Context) (extra : ℕ) (t : Term) (bytes : List �
   pub no_function : is_function_type t ≡ false
   pub void : is_void t ≡ true → bytes ≡ codes "void"
 
--- A tree that names the first argument of its scope: wherever that is a type with a text, and no reference, it prints this behind it.
-abbrev pub PrintsBehind : Term → (marks : List ℕ) → (reference : Bool) → Type 0
-PrintsBehind t marks reference =
-    (context : Context) (bytes : List ℕ) → Prints (argument context 0) bytes false → PrintsIn context 2 t (bytes ++ marks) reference
+-- A tree that names an argument of its scope: wherever that is a type with a text, and no reference, it prints this behind it.
+abbrev pub PrintsBehind : (number : ℕ) → Term → (marks : List ℕ) → (reference : Bool) → Type 0
+PrintsBehind number t marks reference =
+    (context : Context) (bytes : List ℕ) → Prints (argument context number) bytes false → PrintsIn context 2 t (bytes ++ marks) reference
 
 -- what an rvalue reference to a type has behind its text, if it is no reference
 abbrev pub forwarded : (reference : Bool) → List ℕ

@@ -1,5 +1,5 @@
 -- What a writer's lists say while a symbol is read: what is open waits for what comes next, and what was written is its text.
-use Rattle.std.specs.Prelude.{◌≡◌, ◌≢◌, ◌⊎◌, ℕ, ◌+◌, ◌*◌, ◌≤◌, List, [], ◌∷◌, ◌++◌, length, reverse, Bool, true, false, Option, Some, None, Ok, codes}
+use Rattle.std.specs.Prelude.{◌≡◌, ◌≢◌, ◌⊎◌, ℕ, zero, suc, ◌+◌, ◌*◌, ◌≤◌, ◌<◌, List, [], ◌∷◌, ◌++◌, length, reverse, slice_get, Bool, true, false, Option, Some, None, Ok, codes}
 use Rattle.sym_print.specs.declared.detail.Detail.TheVariants.{Full}
 use Rattle.sym_print.specs.Unshared.{text_of, cost_of}
 use Rattle.sym_demangle.specs.Mangled.{StandsFor}
@@ -9,7 +9,7 @@ use Rattle.cpp_grammar.specs.Answer.{shown, root_item}
 use Rattle.cpp_grammar.specs.Term.{Term, Qualifiers, symbol, function, special, pointer, lvalue, rvalue, qualified, instance, integer, pack, nil, list, absent}
 use Rattle.cpp_grammar.specs.Parts.{source_text}
 use Rattle.cpp_grammar.specs.Texts.{look_up, special_texts}
-use Rattle.cpp_grammar.specs.Scope.{has_return_type, is_structor, arguments_of, length_if_pack}
+use Rattle.cpp_grammar.specs.Scope.{has_return_type, is_structor, arguments_of, length_if_pack, element, count}
 use Rattle.cpp_grammar.specs.References.{is_function_type}
 use Rattle.cpp_grammar.specs.Values as values
 use Rattle.cpp_grammar.specs.Values.{State, Around, Value, tree, named, outermost, tree_of, qualifiers_of, ref_of, signed_digits}
@@ -22,6 +22,7 @@ use Rattle.cpp_direct.specs.declared.open.Purpose.{Purpose}
 use Rattle.cpp_direct.specs.declared.open.Purpose.TheVariants as purposes
 use Rattle.cpp_direct.specs.declared.open.Open.{Open}
 use Rattle.cpp_direct.specs.declared.open.Argument.{Argument}
+use Rattle.cpp_direct.specs.declared.open.Arguments.{Arguments}
 use Rattle.cpp_direct.specs.declared.open.Open.TheVariants as opens
 use Rattle.cpp_direct.specs.declared.open.Step.{Step}
 use Rattle.cpp_direct.specs.declared.open.Step.TheVariants as steps
@@ -65,30 +66,61 @@ pub record IsPlaced (text : List ℕ) (p : Argument) (bytes : List ℕ) : Type 0
   pub to_is : p.to ≡ length front + length bytes
 
 -- what stands nowhere
-abbrev pub nowhere : Argument
-nowhere = record { from = 1; to = 0; is_pack = false; is_reference = false }
+abbrev pub no_place : Argument
+no_place = record { from = 1; to = 0; is_pack = false; is_reference = false }
+
+abbrev pub nowhere : Arguments
+nowhere = record { first = no_place; second = no_place; third = no_place; fourth = no_place }
+
+-- the argument with this number
+abbrev pub place_of : Arguments → (number : ℕ) → Argument
+place_of a zero = a.first
+place_of a (suc zero) = a.second
+place_of a (suc (suc zero)) = a.third
+place_of a (suc (suc (suc zero))) = a.fourth
+place_of a _ = no_place
+
+-- what stands somewhere
+abbrev pub IsKnown : Argument → Type 0
+IsKnown p = p.from ≤ p.to
 
 -- an argument: a type, or a pack of it alone
 abbrev pub packed : (is_pack : Bool) → (own : Term) → Term
 packed false own = own
 packed true own = pack (list own nil)
 
--- The arguments of a name are one alone, which stands at a place.
-pub record IsArgument (text : List ℕ) (p : Argument) (name : Term) : Type 0 where
+-- The argument of a name with this number stands at a place. A pack is the only one.
+pub record IsArgument (text : List ℕ) (p : Argument) (number : ℕ) (name : Term) : Type 0 where
   pub bytes : List ℕ
   pub placed : IsPlaced text p bytes
   pub own : Term
-  pub alone : arguments_of name ≡ Some (list (packed p.is_pack own) nil)
+  pub all : Term
+  pub all_are : arguments_of name ≡ Some all
+  pub there : element all number ≡ packed p.is_pack own
+  pub below : number < count all
+  pub alone : p.is_pack ≡ true → all ≡ list (packed true own) nil
   pub prints : Prints own bytes p.is_reference
 
+-- the known arguments of a name stand at their places
+abbrev pub HasArguments : (text : List ℕ) → Arguments → (name : Term) → Type 0
+HasArguments text a name = (number : ℕ) → IsKnown (place_of a number) → IsArgument text (place_of a number) number name
+
 -- a parameter may name that argument here
-pub record IsScope (is_pack : Bool) (around : Around) : Type 0 where
+pub record IsScope (number : ℕ) (is_pack : Bool) (around : Around) : Type 0 where
   pub own : Term
-  pub scope_is : around.scope ≡ Some (list (packed is_pack own) nil)
+  pub all : Term
+  pub scope_is : around.scope ≡ Some all
+  pub there : element all number ≡ packed is_pack own
+  pub below : number < count all
+  pub alone : is_pack ≡ true → all ≡ list (packed true own) nil
   pub no_pack : length_if_pack own ≡ None
 
--- where the argument stands that a type names, or one that is marked
-abbrev pub argument_of : List Open → Option Argument
+-- parameters may name the known arguments here
+abbrev pub HasScope : Arguments → Around → Type 0
+HasScope a around = (number : ℕ) → IsKnown (place_of a number) → IsScope number (place_of a number).is_pack around
+
+-- the arguments that a type names, or one that is marked
+abbrev pub argument_of : List Open → Option Arguments
 argument_of (opens.Pointer from ∷ rest) = argument_of rest
 argument_of (opens.Lvalue from ∷ rest) = argument_of rest
 argument_of (opens.Rvalue from ∷ rest) = argument_of rest
@@ -98,13 +130,13 @@ argument_of (opens.Parameters mark start argument ∷ rest) = Some argument
 argument_of (opens.Enclosing mark from argument ∷ rest) = Some argument
 argument_of _ = None
 
--- if there is one, a parameter may name it
+-- if there are any, parameters may name them
 abbrev pub IsScoped : Around → List Open → Type 0
-IsScoped around open_ = (p : Argument) → argument_of open_ ≡ Some p → p.from ≤ p.to → IsScope p.is_pack around
+IsScoped around open_ = (a : Arguments) → argument_of open_ ≡ Some a → HasScope a around
 
 -- it is a type, and no reference
 abbrev pub IsPlain : Argument → Type 0
-IsPlain p = (p.from ≤ p.to) × (p.is_pack ≡ false) × (p.is_reference ≡ false)
+IsPlain p = IsKnown p × (p.is_pack ≡ false) × (p.is_reference ≡ false)
 
 -- ## The end
 
@@ -184,50 +216,50 @@ abbrev pub in_front_of_next : List Term → List ℕ → List ℕ
 in_front_of_next [] l = l
 in_front_of_next (t ∷ ts) l = l ++ codes ", "
 
--- Parameters go on behind these. All of them make an encoding, of which something becomes. They may name an argument at a place.
-pub record ItemsGoOn (s : List ℕ) (argument : Argument) (becomes : Term → (at : ℕ) → State → Type 0) (make : Term → Term) (ts : List Term) (at : ℕ) (st : State) : Type 0 where
+-- Parameters go on behind these. All of them make an encoding, of which something becomes. They may name arguments.
+pub record ItemsGoOn (s : List ℕ) (argument : Arguments) (becomes : Term → (at : ℕ) → State → Type 0) (make : Term → Term) (ts : List Term) (at : ℕ) (st : State) : Type 0 where
   pub around : Around
   pub inner : List Opened
   pub outside : around.prefix ≡ outermost
-  pub scoped : argument.from ≤ argument.to → IsScope argument.is_pack around
+  pub scoped : HasScope argument around
   pub awaits : Expects s Kind.Items around inner at st
   pub onward : (l : Value) (at : ℕ) (st : State) → Comes s inner l at st → becomes (make (list_with ts (no_items l))) at st
 
 -- They are those of an encoding behind a text.
-abbrev pub ParametersGoOn : (s : List ℕ) → (argument : Argument) → (lead : List ℕ) → (make : Term → Term) → (ts : List Term) → (at : ℕ) → State → Type 0
+abbrev pub ParametersGoOn : (s : List ℕ) → (argument : Arguments) → (lead : List ℕ) → (make : Term → Term) → (ts : List Term) → (at : ℕ) → State → Type 0
 ParametersGoOn s argument lead make ts at st = ItemsGoOn s argument (λ e here now. EncodedBehind s lead e here) make ts at st
 
 -- a function of this name and these items, without a return type
 abbrev pub plain_encoding : (mark : Mark) → (own : Term) → (items : Term) → Term
 plain_encoding mark own items = function own (qualifiers (has_const mark)) (called_on mark) absent (parameters items)
 
--- A function's name and the parameters so far, with their texts. All parameters make a function that has no return type. The argument
--- of its template stands at a place, or it isn't known.
-pub record IsFunction (text : List ℕ) (argument : Argument) (mark : Mark) (make : Term → Term) (ts : List Term) (name texts : List ℕ) : Type 0 where
+-- A function's name and the parameters so far, with their texts. All parameters make a function that has no return type. The known
+-- arguments of its template stand at their places.
+pub record IsFunction (text : List ℕ) (argument : Arguments) (mark : Mark) (make : Term → Term) (ts : List Term) (name texts : List ℕ) : Type 0 where
   pub own : Term
   pub makes : (t rest : Term) → make (list t rest) ≡ plain_encoding mark own (list t rest)
   pub prints : PrintsName own name
   pub elements : PrintAllIn (types_of own) 6 ts texts
-  pub names : argument.from ≤ argument.to → IsArgument text argument own
+  pub names : HasArguments text argument own
 
 -- The same of a function in which a type stands. All parameters make one that has some return type, or none.
-pub record IsEnclosing (text : List ℕ) (argument : Argument) (mark : Mark) (make : Term → Term) (ts : List Term) (name texts : List ℕ) : Type 0 where
+pub record IsEnclosing (text : List ℕ) (argument : Arguments) (mark : Mark) (make : Term → Term) (ts : List Term) (name texts : List ℕ) : Type 0 where
   pub own : Term
   pub returned : Term
   pub makes : (t rest : Term) → make (list t rest) ≡ function own (qualifiers (has_const mark)) (called_on mark) returned (parameters (list t rest))
   pub prints : PrintsName own name
   pub elements : PrintAllIn (types_of own) 6 ts texts
-  pub names : argument.from ≤ argument.to → IsArgument text argument own
+  pub names : HasArguments text argument own
 
--- the name of a function that has a return type, and its text, and where the argument of its template stands
-pub record IsInstance (argument : Argument) (mark : Mark) (v : Value) (name : List ℕ) : Type 0 where
+-- the name of a function that has a return type, and its text, and where the arguments of its template stand
+pub record IsInstance (argument : Arguments) (mark : Mark) (v : Value) (name : List ℕ) : Type 0 where
   pub own : Term
   pub tree_is : tree_of v ≡ own
   pub qualifiers_are : qualifiers_of v ≡ qualifiers (has_const mark)
   pub mark_is : ref_of v ≡ called_on mark
   pub prints : PrintsName own name
   pub returns : has_return_type own ≡ true
-  pub names : argument.from ≤ argument.to → IsArgument name argument own
+  pub names : HasArguments name argument own
 
 -- ## What is open
 
@@ -265,8 +297,8 @@ Serves s purposes.Type below os front =
 Serves s (purposes.Name mark) below os front =
     (t : Term) (listed : Bool) (at : ℕ) (st : State) → Comes s os (tree t listed) at st → AwaitsItems s front (named t (qualifiers (has_const mark)) (called_on mark)) at st
 Serves s (purposes.Enclosing mark) below os front =
-    (text : List ℕ) (argument : Argument) (t : Term) (listed : Bool) (at : ℕ) (st : State)
-    → (argument.from ≤ argument.to → IsArgument text argument t) → Comes s os (tree t listed) at st
+    (text : List ℕ) (argument : Arguments) (t : Term) (listed : Bool) (at : ℕ) (st : State)
+    → HasArguments text argument t → Comes s os (tree t listed) at st
     → ItemsGoOn s argument (TypeWithin s below front) (λ l. encoding_of (named t (qualifiers (has_const mark)) (called_on mark)) l) [] at st
 
 -- An instance is read, behind this text: what becomes of it.
@@ -322,6 +354,19 @@ Closes s (of_pack before written) owner below front template l at st =
 abbrev pub GoesOn : (s : List ℕ) → Listing → Open → Below → (front : List ℕ) → (template : Term) → List Term → (at : ℕ) → State → Type 0
 GoesOn s listing owner below front template ts at st =
     ElementsGoOn s (element_kind listing) (λ l now then. Closes s listing owner below front template l now then) ts at st
+
+-- Arguments are these elements, and what is known of them so far. The one with this number stands at a place.
+pub record IsAmong (text : List ℕ) (p : Argument) (number : ℕ) (ts : List Term) : Type 0 where
+  pub bytes : List ℕ
+  pub placed : IsPlaced text p bytes
+  pub own : Term
+  pub there : slice_get ts number ≡ Some (packed p.is_pack own)
+  pub prints : Prints own bytes p.is_reference
+
+-- those that are known are no packs
+abbrev pub AreAmong : (text : List ℕ) → Arguments → List Term → Type 0
+AreAmong text a ts =
+    (number : ℕ) → IsKnown (place_of a number) → IsAmong text (place_of a number) number ts × ((place_of a number).is_pack ≡ false)
 
 -- this template stands before the arguments
 abbrev pub IsTemplate : Open → (front : List ℕ) → Term → (name : List ℕ) → (text : List ℕ) → Type 0
@@ -436,12 +481,13 @@ Stands s (opens.Signature is_pointer ∷ rest) os text =
 Stands s (opens.Special ∷ rest) os text =
     (letter : ℕ) × (text ≡ look_up (letter ∷ []) special_texts) × (text ≢ [])
     × ((t : Term) (at : ℕ) (st : State) → Comes s os (tree t true) at st → Encoded s (special letter t) at)
-Stands s (opens.Argument from ∷ []) os text = ⊥
-Stands s (opens.Argument from ∷ owner ∷ rest) os text =
-    (front : List ℕ) × (template : Term) × (name : List ℕ) × IsTemplate owner front template name text
-    × (text ≡ front ++ name ++ codes "<") × (from ≡ length text)
+Stands s (opens.Argument from number known ∷ []) os text = ⊥
+Stands s (opens.Argument from number known ∷ owner ∷ rest) os text =
+    (front : List ℕ) × (template : Term) × (name : List ℕ) × (ts : List Term) × (elements : List ℕ) × IsTemplate owner front template name text
+    × PrintAll 3 ts elements × (text ≡ front ++ name ++ codes "<" ++ in_front_of_next ts elements) × (from ≡ length text) × (number ≡ length ts)
+    × AreAmong text known ts
     × ((t : Term) (at : ℕ) (st : State) → Comes s os (tree t true) at st
-    → ArgumentsGoOn s owner (Stands s rest) front template (t ∷ []) at st)
+    → ArgumentsGoOn s owner (Stands s rest) front template (ts ++ t ∷ []) at st)
 Stands s (opens.Element from ∷ opens.Pack ∷ owner ∷ rest) os text =
     (front : List ℕ) × (template : Term) × (name : List ℕ) × IsTemplate owner front template name text
     × (text ≡ front ++ name ++ codes "<") × (from ≡ length text)
@@ -487,9 +533,9 @@ IsBefore s w st (steps.Value is_reference) =
     × (w.text.list.items ≡ front ++ bytes) × Prints t bytes is_reference
     × Comes s os (tree t true) w.at st × Stands s (reverse w.waiting.list.items) os front
 IsBefore s w st (steps.Dependent is_reference) =
-    (os : List Opened) × (t : Term) × (front : List ℕ) × (bytes : List ℕ) × (marks : List ℕ) × (p : Argument)
-    × (w.text.list.items ≡ front ++ bytes ++ marks) × PrintsBehind t marks is_reference
-    × (argument_of (reverse w.waiting.list.items) ≡ Some p) × IsPlain p × IsPlaced front p bytes
+    (os : List Opened) × (t : Term) × (front : List ℕ) × (bytes : List ℕ) × (marks : List ℕ) × (a : Arguments) × (number : ℕ)
+    × (w.text.list.items ≡ front ++ bytes ++ marks) × PrintsBehind number t marks is_reference
+    × (argument_of (reverse w.waiting.list.items) ≡ Some a) × IsPlain (place_of a number) × IsPlaced front (place_of a number) bytes
     × Comes s os (tree t true) w.at st × Stands s (reverse w.waiting.list.items) os front
 IsBefore s w st (steps.List is_first) =
     (place : IsListing (reverse w.waiting.list.items) w.text.list.items) × (ts : List Term) × (elements : List ℕ)
@@ -501,7 +547,7 @@ IsBefore s w st steps.Rest = (t : Term) × IsNesting s Kind.NestRest w t st
 IsBefore s w st steps.Tail =
     (t : Term) × IsNesting s Kind.NestTail w t st × (w.nest.is_instance ≡ false → has_return_type t ≡ false)
     × (w.nest.is_instance ≡ true → has_return_type t ≡ true)
-    × (w.nest.is_instance ≡ true → w.argument.from ≤ w.argument.to → IsArgument w.text.list.items w.argument t)
+    × (w.nest.is_instance ≡ true → HasArguments w.text.list.items w.argument t)
 IsBefore s w st steps.Component =
     (t : Term) × (front : List ℕ) × (bytes : List ℕ) × (around : Around) × (outer : List Opened)
     × (w.text.list.items ≡ front ++ bytes) × IsNest front bytes w.text.list.items w.nest t × AwaitsComponent s outer around t w.at st × Serves s w.nest.purpose (Stands s (reverse w.waiting.list.items)) outer front

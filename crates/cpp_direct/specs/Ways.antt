@@ -1,5 +1,5 @@
 -- Where a writer is between two of its functions, within a step.
-use Rattle.std.specs.Prelude.{◌≡◌, ◌≢◌, ◌⊎◌, ℕ, ◌+◌, List, [], ◌∷◌, ◌++◌, length, reverse, ◌≤◌, Bool, true, false, cond, Some, codes}
+use Rattle.std.specs.Prelude.{◌≡◌, ◌≢◌, ◌⊎◌, ℕ, zero, suc, ◌+◌, List, [], ◌∷◌, ◌++◌, length, reverse, ◌≤◌, Bool, true, false, cond, Some, codes}
 use Rattle.cpp_grammar.specs.declared.kind.Kind.{Kind}
 use Rattle.cpp_grammar.specs.Term.{Term, Signed, instance, builtin, list, nil}
 use Rattle.cpp_grammar.specs.Texts.{look_up, builtin_texts, literal_endings}
@@ -13,6 +13,7 @@ use Rattle.cpp_direct.specs.declared.open.Mark.TheVariants as marks
 use Rattle.cpp_direct.specs.declared.open.Purpose.{Purpose}
 use Rattle.cpp_direct.specs.declared.open.Open.{Open}
 use Rattle.cpp_direct.specs.declared.open.Argument.{Argument}
+use Rattle.cpp_direct.specs.declared.open.Arguments.{Arguments}
 use Rattle.cpp_direct.specs.declared.open.Open.TheVariants as opens
 use Rattle.cpp_direct.specs.declared.direct.Direct.{Direct}
 use Rattle.cpp_direct.specs.Bytes.{is_local}
@@ -21,7 +22,19 @@ use Rattle.cpp_direct.specs.HolesOfFunctions.{SignatureGoesOn, plain_function, p
 use Rattle.cpp_direct.specs.HolesOfTypes.{IsNamedKind, NoReference, TreeOpens}
 use Rattle.cpp_direct.specs.Marks.{has_const, called_on, mark_text}
 use Rattle.cpp_direct.specs.Prints.{Prints, PrintsName, IsElement, PrintAll, Shows, Encloses, sign_text, PrintsIn, PrintsBehind}
-use Rattle.cpp_direct.specs.Stands.{AreCandidates, AwaitsItems, Encoded, EncodedBehind, IsEnclosing, IsFunction, IsInstance, IsListing, IsNest, IsTail, IsTemplate, GoesOn, EnumeratorGoesOn, ItemsGoOn, LambdaWithin, Owns, ParametersGoOn, Serves, Stands, TypeWithin, TakesFunction, opening_text, qualifiers, extra_of, led_by, list_with, in_front_of_next, IsPlaced, IsArgument, IsScoped, argument_of, nowhere, packed, of_pack, IsPlain, ArgumentsGoOn}
+use Rattle.cpp_direct.specs.Stands.{AreCandidates, AwaitsItems, Encoded, EncodedBehind, IsEnclosing, IsFunction, IsInstance, IsListing, IsNest, IsTail, IsTemplate, GoesOn, EnumeratorGoesOn, ItemsGoOn, LambdaWithin, Owns, ParametersGoOn, Serves, Stands, TypeWithin, TakesFunction, opening_text, qualifiers, extra_of, led_by, list_with, in_front_of_next, IsPlaced, IsAmong, AreAmong, HasArguments, IsKnown, IsScoped, argument_of, place_of, nowhere, packed, of_pack, IsPlain, ArgumentsGoOn}
+
+-- the digits behind the T of a parameter with this number
+abbrev pub parameter_digits : (number : ℕ) → List ℕ
+parameter_digits zero = []
+parameter_digits (suc zero) = 48 ∷ []
+parameter_digits (suc (suc zero)) = 49 ∷ []
+parameter_digits _ = 50 ∷ []
+
+-- of these arguments those are known that were known before, and the one with this number, which is this
+abbrev pub KnowsMore : (old new : Arguments) → (number : ℕ) → Argument → Type 0
+KnowsMore old new number p =
+    (k : ℕ) → IsKnown (place_of new k) → ((k ≡ number) × (place_of new k ≡ p)) ⊎ (place_of new k ≡ place_of old k)
 
 -- nothing is written yet
 pub record IsFresh (w : Direct) : Type 0 where
@@ -143,31 +156,57 @@ pub record AwaitsDependentMark (s : List ℕ) (w : Direct) (mark : List ℕ) (is
   pub front : List ℕ
   pub bytes : List ℕ
   pub marks : List ℕ
+  pub argument : Arguments
+  pub number : ℕ
   pub written : w.text.list.items ≡ front ++ bytes ++ marks
-  pub prints : PrintsBehind made (marks ++ mark) is_reference
-  pub argument : Argument
+  pub prints : PrintsBehind number made (marks ++ mark) is_reference
   pub found : argument_of rest ≡ Some argument
-  pub plain : IsPlain argument
-  pub placed : IsPlaced front argument bytes
+  pub plain : IsPlain (place_of argument number)
+  pub placed : IsPlaced front (place_of argument number) bytes
   pub stands : Stands s rest outer front
 
--- The first argument of a name was read, which is a type.
-pub record IsArgumentRead (s : List ℕ) (w : Direct) (from : ℕ) (is_reference : Bool) : Type 0 where
+-- An argument of a name was read, which is a type, behind so many others.
+pub record IsArgumentRead (s : List ℕ) (w : Direct) (from number : ℕ) (known : Arguments) (is_reference : Bool) : Type 0 where
   pub state : State
   pub candidates : AreCandidates w.text.list.items w.candidates.list.items state.candidates
   pub owner : Open
   pub rest : List Open
-  pub open_is : reverse w.waiting.list.items ≡ opens.Argument from ∷ owner ∷ rest
+  pub open_is : reverse w.waiting.list.items ≡ opens.Argument from number known ∷ owner ∷ rest
   pub front : List ℕ
   pub template : Term
   pub name : List ℕ
+  pub ts : List Term
+  pub texts : List ℕ
   pub t : Term
   pub bytes : List ℕ
   pub is_template : IsTemplate owner front template name w.text.list.items
-  pub written : w.text.list.items ≡ front ++ name ++ codes "<" ++ bytes
-  pub from_is : from ≡ length (front ++ name ++ codes "<")
+  pub elements : PrintAll 3 ts texts
+  pub written : w.text.list.items ≡ (front ++ name ++ codes "<" ++ in_front_of_next ts texts) ++ bytes
+  pub from_is : from ≡ length (front ++ name ++ codes "<" ++ in_front_of_next ts texts)
+  pub number_is : number ≡ length ts
+  pub among : AreAmong w.text.list.items known ts
   pub prints : Prints t bytes is_reference
-  pub goes : ArgumentsGoOn s owner (Stands s rest) front template (t ∷ []) w.at state
+  pub goes : ArgumentsGoOn s owner (Stands s rest) front template (ts ++ t ∷ []) w.at state
+
+-- A type is expected as an argument of a name, behind these and so many, of which some are known.
+pub record AwaitsKnownArgument (s : List ℕ) (w : Direct) (before : ℕ) (known : Arguments) : Type 0 where
+  pub state : State
+  pub candidates : AreCandidates w.text.list.items w.candidates.list.items state.candidates
+  pub owner : Open
+  pub rest : List Open
+  pub open_is : reverse w.waiting.list.items ≡ owner ∷ rest
+  pub front : List ℕ
+  pub template : Term
+  pub name : List ℕ
+  pub ts : List Term
+  pub texts : List ℕ
+  pub is_template : IsTemplate owner front template name w.text.list.items
+  pub elements : PrintAll 3 ts texts
+  pub some : ts ≢ []
+  pub written : w.text.list.items ≡ front ++ name ++ codes "<" ++ texts
+  pub number_is : before + 1 ≡ length ts
+  pub among : AreAmong w.text.list.items known ts
+  pub goes : ArgumentsGoOn s owner (Stands s rest) front template ts w.at state
 
 -- The first element of a pack was read, which is the first argument of a name.
 pub record IsPackElementRead (s : List ℕ) (w : Direct) (from : ℕ) (is_reference : Bool) : Type 0 where
@@ -255,9 +294,14 @@ pub record AwaitsClass (s : List ℕ) (w : Direct) : Type 0 where
   pub structor : is_structor own ≡ true
   pub serves : Serves s w.nest.purpose (Stands s (reverse w.waiting.list.items)) outer front
 
--- The arguments of what was opened last are read and their E, but for their last bracket. Where a place is given they are one type
--- alone, or a pack of one, which stands there.
-pub record IsListEnded (s : List ℕ) (w : Direct) (argument : Argument) : Type 0 where
+-- the known ones among arguments stand at their places, and a pack is the only one
+abbrev pub AreKnown : (text : List ℕ) → Arguments → List Term → (tail : Term) → Type 0
+AreKnown text a ts tail =
+    (number : ℕ) → IsKnown (place_of a number) → (h : IsAmong text (place_of a number) number ts)
+    × ((place_of a number).is_pack ≡ true → list_with ts tail ≡ list (packed true h.own) nil)
+
+-- The arguments of what was opened last are read and their E, but for their last bracket. Those that are known stand at their places.
+pub record IsListEnded (s : List ℕ) (w : Direct) (argument : Arguments) : Type 0 where
   pub state : State
   pub candidates : AreCandidates w.text.list.items w.candidates.list.items state.candidates
   pub owner : Open
@@ -274,8 +318,7 @@ pub record IsListEnded (s : List ℕ) (w : Direct) (argument : Argument) : Type 
   pub elements : PrintAll 3 ts arguments
   pub written : w.text.list.items ≡ front ++ name ++ codes "<" ++ arguments
   pub owns : Owns s owner (Stands s rest) front (instance template (list_with ts tail)) w.at state
-  pub alone : argument.from ≤ argument.to → (t : Term) × (list_with ts tail ≡ list (packed argument.is_pack t) nil) × Prints t arguments argument.is_reference
-      × (argument.from ≡ length (front ++ name ++ codes "<")) × (argument.to ≡ length (front ++ name ++ codes "<") + length arguments)
+  pub known : AreKnown w.text.list.items argument ts tail
 
 -- An element is expected, and the comma before it is written.
 pub record AwaitsNextArgument (s : List ℕ) (w : Direct) : Type 0 where
@@ -321,11 +364,11 @@ pub record IsNameEnded (s : List ℕ) (w : Direct) (mark : Mark) (is_instance : 
   pub prints : PrintsName own name
   pub no_return : is_instance ≡ false → has_return_type own ≡ false
   pub returns : is_instance ≡ true → has_return_type own ≡ true
-  pub names : is_instance ≡ true → w.argument.from ≤ w.argument.to → IsArgument w.text.list.items w.argument own
+  pub names : is_instance ≡ true → HasArguments w.text.list.items w.argument own
   pub awaits : AwaitsItems s lead v w.at state
 
 -- The return type of a function was read, and stands behind the function's name.
-pub record IsFrontRead (s : List ℕ) (w : Direct) (mark : Mark) (start : ℕ) (argument : Argument) : Type 0 where
+pub record IsFrontRead (s : List ℕ) (w : Direct) (mark : Mark) (start : ℕ) (argument : Arguments) : Type 0 where
   pub state : State
   pub candidates : AreCandidates w.text.list.items w.candidates.list.items state.candidates
   pub v : Value
@@ -341,7 +384,7 @@ pub record IsFrontRead (s : List ℕ) (w : Direct) (mark : Mark) (start : ℕ) (
   pub goes : ParametersGoOn s argument [] (encoding_of v) (returned ∷ []) w.at state
 
 -- A function's name was read and written, and what stands in front of it. Its parameters are expected.
-pub record AwaitsParameters (s : List ℕ) (w : Direct) (mark : Mark) (start : ℕ) (argument : Argument) : Type 0 where
+pub record AwaitsParameters (s : List ℕ) (w : Direct) (mark : Mark) (start : ℕ) (argument : Arguments) : Type 0 where
   pub state : State
   pub candidates : AreCandidates w.text.list.items w.candidates.list.items state.candidates
   pub make : Term → Term
@@ -354,7 +397,7 @@ pub record AwaitsParameters (s : List ℕ) (w : Direct) (mark : Mark) (start : �
   pub goes : ParametersGoOn s argument lead make [] w.at state
 
 -- A parameter of a function is expected.
-pub record AwaitsNextParameter (s : List ℕ) (w : Direct) (mark : Mark) (start : ℕ) (argument : Argument) : Type 0 where
+pub record AwaitsNextParameter (s : List ℕ) (w : Direct) (mark : Mark) (start : ℕ) (argument : Arguments) : Type 0 where
   pub state : State
   pub candidates : AreCandidates w.text.list.items w.candidates.list.items state.candidates
   pub rest : List Open
@@ -371,7 +414,7 @@ pub record AwaitsNextParameter (s : List ℕ) (w : Direct) (mark : Mark) (start 
   pub goes : ParametersGoOn s argument lead make ts w.at state
 
 -- A parameter of a function was read.
-pub record IsParameterEnded (s : List ℕ) (w : Direct) (mark : Mark) (start : ℕ) (argument : Argument) : Type 0 where
+pub record IsParameterEnded (s : List ℕ) (w : Direct) (mark : Mark) (start : ℕ) (argument : Arguments) : Type 0 where
   pub state : State
   pub candidates : AreCandidates w.text.list.items w.candidates.list.items state.candidates
   pub rest : List Open
@@ -454,11 +497,11 @@ pub record IsEnclosingInstance (s : List ℕ) (w : Direct) (mark : Mark) (from :
   pub from_is : from ≡ length front
   pub prints : PrintsName own name
   pub returns : has_return_type own ≡ true
-  pub names : w.argument.from ≤ w.argument.to → IsArgument w.text.list.items w.argument own
+  pub names : HasArguments w.text.list.items w.argument own
   pub goes : ItemsGoOn s w.argument (TypeWithin s (Stands s (reverse w.waiting.list.items)) front) (λ l. encoding_of v l) [] w.at state
 
 -- The name of a function in which a type stands was read, and its return type if it has one. Its parameters are expected.
-pub record AwaitsEnclosingParameters (s : List ℕ) (w : Direct) (mark : Mark) (from : ℕ) (argument : Argument) : Type 0 where
+pub record AwaitsEnclosingParameters (s : List ℕ) (w : Direct) (mark : Mark) (from : ℕ) (argument : Arguments) : Type 0 where
   pub state : State
   pub candidates : AreCandidates w.text.list.items w.candidates.list.items state.candidates
   pub make : Term → Term
@@ -470,7 +513,7 @@ pub record AwaitsEnclosingParameters (s : List ℕ) (w : Direct) (mark : Mark) (
   pub goes : ItemsGoOn s argument (TypeWithin s (Stands s (reverse w.waiting.list.items)) front) make [] w.at state
 
 -- A parameter of such a function was read.
-pub record IsEnclosingParameterRead (s : List ℕ) (w : Direct) (mark : Mark) (from : ℕ) (argument : Argument) : Type 0 where
+pub record IsEnclosingParameterRead (s : List ℕ) (w : Direct) (mark : Mark) (from : ℕ) (argument : Arguments) : Type 0 where
   pub state : State
   pub candidates : AreCandidates w.text.list.items w.candidates.list.items state.candidates
   pub rest : List Open

@@ -1,6 +1,6 @@
 // The lists of a writer.
 
-use crate::open::{Argument, Candidate, Nest, Open};
+use crate::open::{Arguments, Candidate, Nest, Open};
 use sym_direct::Bounded;
 
 /// The lists with which texts are written, one after the other.
@@ -10,8 +10,9 @@ pub struct Direct {
     pub(crate) candidates: Bounded<Candidate>,
     pub(crate) waiting: Bounded<Open>,
     pub(crate) nest: Nest,
-    /// the argument of the name that was read last, if it has one alone, and this is a type or a pack of one, and no function type
-    pub(crate) argument: Argument,
+    /// the arguments of the name that was read last: the first of them, if they are types, but no function types, or a pack of one
+    /// type, if this is the only one
+    pub(crate) argument: Arguments,
     pub(crate) at: usize,
     pub(crate) rounds: usize,
 }

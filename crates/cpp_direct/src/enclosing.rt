@@ -14,7 +14,7 @@ ghost use Rattle.cpp_direct.specs.Written.{Reads};
 
 use crate::direct::Direct;
 use crate::marks::mark_at;
-use crate::open::{Argument, Mark, Open, Purpose, Step};
+use crate::open::{Arguments, Mark, Open, Purpose, Step};
 use crate::symbols::NOWHERE;
 use crate::tokens::{are_numbers_short, byte_at};
 
@@ -78,7 +78,7 @@ impl Direct {
         s: &[u8],
         mark: Mark,
         from: usize,
-        argument: Argument,
+        argument: Arguments,
     ) -> Option<Step>
         requires fits { IsReadable s.now }
         requires awaits { AwaitsEnclosingParameters s.now self.old mark from argument }
@@ -106,7 +106,7 @@ impl Direct {
         s: &[u8],
         mark: Mark,
         from: usize,
-        _argument: Argument,
+        _argument: Arguments,
     ) -> Option<Step>
         requires fits { IsReadable s.now }
         requires read { IsEnclosingParameterRead s.now self.old mark from _argument }

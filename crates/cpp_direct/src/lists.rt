@@ -17,7 +17,7 @@ ghost use Rattle.cpp_direct.specs.Written.{Reads};
 
 use crate::direct::Direct;
 use crate::letters::is_integer_letter;
-use crate::open::{Argument, Mark, Nest, Open, Step};
+use crate::open::{Arguments, Mark, Nest, Open, Step};
 use crate::symbols::NOWHERE;
 use crate::tokens::byte_at;
 use sym_core::{NumberKind, find_number};
@@ -156,8 +156,8 @@ impl Direct {
         }
     }
 
-    /// Ends arguments. Where they are one alone, a type or a pack of one, its text may stand at a place.
-    pub(crate) fn close_list(&mut self, s: &[u8], argument: Argument) -> Option<Step>
+    /// Ends arguments. Some of them may be known.
+    pub(crate) fn close_list(&mut self, s: &[u8], argument: Arguments) -> Option<Step>
         requires fits { IsReadable s.now }
         requires ended { IsListEnded s.now self.old argument }
         ensures { IfSome result (IsWriting s.now self.new) }

@@ -8,12 +8,12 @@ pub struct Candidate {
     pub is_reference: bool,
 }
 
-/// The one argument of a name, a type or a pack of one type, and where its text stands in what is written. One that ends before it
+/// An argument of a name, a type or a pack of one type, and where its text stands in what is written. One that ends before it
 /// begins is nowhere.
 #[derive(Clone, Copy)]
 pub struct Argument {
-    pub from: usize,
-    pub to: usize,
+    pub from: u16,
+    pub to: u16,
     pub is_pack: bool,
     pub is_reference: bool,
 }
@@ -27,6 +27,15 @@ pub enum Mark {
     ConstLvalue,
     Rvalue,
     ConstRvalue,
+}
+
+/// The first arguments of a name, those of them that are known.
+#[derive(Clone, Copy)]
+pub struct Arguments {
+    pub first: Argument,
+    pub second: Argument,
+    pub third: Argument,
+    pub fourth: Argument,
 }
 
 /// What a nested name is read as.
@@ -90,19 +99,19 @@ pub enum Open {
     Front {
         mark: Mark,
         start: usize,
-        argument: Argument,
+        argument: Arguments,
     },
     /// the parameters of a function, whose text begins at this place
     Parameters {
         mark: Mark,
         start: usize,
-        argument: Argument,
+        argument: Arguments,
     },
     /// the parameters of a function in which a type stands; the type's text begins at this place, with the function's
     Enclosing {
         mark: Mark,
         from: usize,
-        argument: Argument,
+        argument: Arguments,
     },
     /// the parameters of a lambda that stands in a function, whose text begins at this place
     Lambda {
@@ -118,9 +127,11 @@ pub enum Open {
     Signature {
         is_pointer: bool,
     },
-    /// the first argument of a name, whose text begins at this place: an element of what was opened before
+    /// an argument of a name, so many behind the first one, whose text begins at this place: an element of what was opened before
     Argument {
         from: usize,
+        number: u16,
+        known: Arguments,
     },
     /// the elements of a pack, an argument of what was opened before
     Pack,

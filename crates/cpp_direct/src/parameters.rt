@@ -1,15 +1,16 @@
-// The argument of a function's template, and the types that name it.
+// The arguments of a function's template, and the types that name them.
 
-ghost use Rattle.std.specs.Prelude.{◌≡◌, ◌≤◌, ◌+◌, ◌∷◌, [], reverse, true, false, Some};
+ghost use Rattle.std.specs.Prelude.{◌≡◌, ◌≤◌, ◌+◌, ◌∷◌, ◌++◌, [], length, reverse, true, false, Some};
 ghost use Rattle.std.specs.Option.{IfSome};
 ghost use Rattle.cpp_direct.specs.Names.{IsReadable};
 ghost use Rattle.cpp_direct.specs.declared.open.Step.TheVariants as steps;
 ghost use Rattle.cpp_direct.specs.Holes.{StandsAt};
-ghost use Rattle.cpp_direct.specs.Stands.{EndsNamed, IsWriting, argument_of};
-ghost use Rattle.cpp_direct.specs.Ways.{AwaitsType, AwaitsDependentMark, AwaitsNextParameter, IsArgumentRead, IsPackElementRead};
+ghost use Rattle.cpp_direct.specs.Stands.{EndsNamed, IsWriting, argument_of, place_of};
+ghost use Rattle.cpp_direct.specs.Ways.{AwaitsType, AwaitsDependentMark, AwaitsKnownArgument, AwaitsNextParameter, IsArgumentRead, IsPackElementRead, KnowsMore, parameter_digits};
 
 use crate::direct::Direct;
-use crate::open::{Argument, Mark, Open, Purpose, Step};
+use crate::open::{Argument, Mark, Arguments, Open, Purpose, Step};
+use crate::symbols::{NO_PLACE, NOWHERE};
 use crate::tokens::{byte_at, may_end};
 
 /// The place, unless it is nowhere.
@@ -21,6 +22,95 @@ fn known(place: Argument) -> Option<Argument>
         return None;
     }
     Some(place)
+}
+
+/// An argument with a text that stands from one place to another one.
+fn placed(from: usize, to: usize, is_pack: bool, is_reference: bool) -> Argument
+    ensures { result.from ≤ result.to
+        → result ≡ record { from = from; to = to; is_pack = is_pack; is_reference = is_reference } }
+{
+    if from > 65_535 || to > 65_535 {
+        return NO_PLACE;
+    }
+    Argument {
+        from: from as u16,
+        to: to as u16,
+        is_pack,
+        is_reference,
+    }
+}
+
+impl Arguments {
+    /// The argument with this number, if it is known.
+    fn at(self, number: u16) -> Argument
+        ensures { result.from ≤ result.to → result ≡ place_of self number }
+    {
+        match number {
+            0 => self.first,
+            1 => self.second,
+            2 => self.third,
+            3 => self.fourth,
+            _ => NO_PLACE,
+        }
+    }
+
+    /// The same, and the argument with this number is known.
+    fn with(self, number: u16, place: Argument) -> Arguments
+        ensures { KnowsMore self result number place }
+    {
+        match number {
+            0 => Arguments {
+                first: place,
+                ..self
+            },
+            1 => Arguments {
+                second: place,
+                ..self
+            },
+            2 => Arguments {
+                third: place,
+                ..self
+            },
+            3 => Arguments {
+                fourth: place,
+                ..self
+            },
+            _ => self,
+        }
+    }
+}
+
+/// The number that stands behind the T of a parameter, one digit at most, and the place behind it.
+#[derive(Clone, Copy)]
+struct ParameterNumber {
+    number: u16,
+    end: usize,
+}
+
+// <template-param> ::= T_ | T <parameter-2 non-negative number> _
+fn parameter_number(s: &[u8], at: usize) -> Option<ParameterNumber>
+    ensures stands { IfSome result (λ n. StandsAt s.now at (parameter_digits n.number ++ 95 ∷ [])) }
+    ensures end { IfSome result (λ n. n.end ≡ at + length (parameter_digits n.number ++ 95 ∷ [])) }
+    ensures few { IfSome result (λ n. n.number ≤ 3) }
+{
+    let behind = at.checked_add(1)?;
+    let number = match byte_at(s, at) {
+        b'_' => {
+            return Some(ParameterNumber {
+                number: 0,
+                end: behind,
+            });
+        }
+        b'0' => 1,
+        b'1' => 2,
+        b'2' => 3,
+        _ => return None,
+    };
+    if byte_at(s, behind) != b'_' {
+        return None;
+    }
+    let end = behind.checked_add(1)?;
+    Some(ParameterNumber { number, end })
 }
 
 /// Whether a function type stands at a place, or a pointer to one.
@@ -70,8 +160,7 @@ impl Direct {
         }
     }
 
-    /// The first element of a list, which is a type. Where it is an argument of a name, and may be the only one, it is what T_
-    /// stands for.
+    /// The first element of a list, which is a type. Where it is an argument of a name, it is what T_ stands for.
     // <template-args> ::= I <template-arg>* E
     #[inline(always)]
     pub(crate) fn first_type(&mut self, s: &[u8]) -> Option<Step>
@@ -86,7 +175,11 @@ impl Direct {
             return Some(Step::Type);
         }
         let from = self.text.len();
-        self.waiting.push(Open::Argument { from })?;
+        self.waiting.push(Open::Argument {
+            from,
+            number: 0,
+            known: NOWHERE,
+        })?;
         Some(Step::Type)
     }
 
@@ -138,15 +231,8 @@ impl Direct {
         let _pack = self.waiting.pop();
         self.at = behind.checked_add(1)?;
         let to = self.text.len();
-        self.close_list(
-            s,
-            Argument {
-                from,
-                to,
-                is_pack: true,
-                is_reference,
-            },
-        )
+        let place = placed(from, to, true, is_reference);
+        self.close_list(s, NOWHERE.with(0, place))
     }
 
     /// A parameter of a function comes next.
@@ -156,13 +242,13 @@ impl Direct {
         s: &[u8],
         mark: Mark,
         start: usize,
-        argument: Argument,
+        argument: Arguments,
     ) -> Option<Step>
         requires fits { IsReadable s.now }
         requires awaits { AwaitsNextParameter s.now self.old mark start argument }
         ensures { IfSome result (IsWriting s.now self.new) }
     {
-        if argument.is_pack {
+        if argument.first.is_pack {
             return self.expansion(s, mark, start, argument);
         }
         Some(Step::Type)
@@ -171,64 +257,85 @@ impl Direct {
     /// The last parameter may be a reference to each type of the pack that the function's template has as its argument.
     // <type> ::= Dp <type>
     #[inline(never)]
-    fn expansion(&mut self, s: &[u8], mark: Mark, start: usize, pack: Argument) -> Option<Step>
+    fn expansion(
+        &mut self,
+        s: &[u8],
+        mark: Mark,
+        start: usize,
+        argument: Arguments,
+    ) -> Option<Step>
         requires fits { IsReadable s.now }
-        requires is_pack { pack.is_pack ≡ true }
-        requires awaits { AwaitsNextParameter s.now self.old mark start pack }
+        requires is_pack { argument.first.is_pack ≡ true }
+        requires awaits { AwaitsNextParameter s.now self.old mark start argument }
         ensures { IfSome result (IsWriting s.now self.new) }
     {
         let Some(end) = expansion_end(s, self.at) else {
             return Some(Step::Type);
         };
+        let pack = argument.first;
         if pack.to < pack.from || !may_end(byte_at(s, end)) {
             return None;
         }
         self.at = end;
-        self.repeat(pack.from, pack.to)?;
+        self.repeat(pack.from as usize, pack.to as usize)?;
         // a reference to a reference is one to what this refers to
         self.push(if pack.is_reference { b"" } else { b"&&" })?;
         self.add_hidden(false)?;
         self.add_hidden(false)?;
         self.add_hidden(false)?;
-        self.close_parameters(s, mark, start, pack)
+        self.close_parameters(s, mark, start, argument)
     }
 
-    /// The first argument of a name is read: others follow, or the end.
+    /// An argument of a name is read, so many behind the first one: others follow, or the end.
     // <template-args> ::= I <template-arg>* E
     pub(crate) fn argument_ended(
         &mut self,
         s: &[u8],
         from: usize,
+        number: u16,
+        known: Arguments,
         is_reference: bool,
     ) -> Option<Step>
         requires fits { IsReadable s.now }
-        requires read { IsArgumentRead s.now self.old from is_reference }
+        requires read { IsArgumentRead s.now self.old from number known is_reference }
         ensures { IfSome result (IsWriting s.now self.new) }
     {
         let _open = self.waiting.pop();
-        if is_reference {
+        let byte = byte_at(s, self.at);
+        // a literal or a pack isn't known, nor is what stands behind it
+        if byte == b'L' || byte == b'J' || is_function_at(s, self.at) {
             return Some(Step::List { is_first: false });
         }
-        if byte_at(s, self.at) != b'E' {
-            return Some(Step::List { is_first: false });
+        let to = self.text.len();
+        let more = known.with(number, placed(from, to, false, is_reference));
+        if byte != b'E' {
+            return self.next_argument(s, number, more);
         }
         self.at = self.at.checked_add(1)?;
-        let to = self.text.len();
-        self.close_list(
-            s,
-            Argument {
-                from,
-                to,
-                is_pack: false,
-                is_reference: false,
-            },
-        )
+        self.close_list(s, more)
     }
 
-    /// Where the argument stands that T_ names in what is open, if it is known.
-    fn argument(&self) -> Option<Argument>
-        ensures is { IfSome result (λ p. argument_of (reverse self.now.waiting.list.items) ≡ Some p) }
-        ensures ordered { IfSome result (λ p. p.from ≤ p.to) }
+    /// An argument of a name comes next, behind so many others.
+    // <template-args> ::= I <template-arg>* E
+    fn next_argument(&mut self, s: &[u8], before: u16, known: Arguments) -> Option<Step>
+        requires fits { IsReadable s.now }
+        requires awaits { AwaitsKnownArgument s.now self.old before known }
+        ensures { IfSome result (IsWriting s.now self.new) }
+    {
+        self.push_pair(b',', b' ')?;
+        let from = self.text.len();
+        let number = before.checked_add(1)?;
+        self.waiting.push(Open::Argument {
+            from,
+            number,
+            known,
+        })?;
+        Some(Step::Type)
+    }
+
+    /// The arguments that are named in what is open.
+    fn argument(&self) -> Option<Arguments>
+        ensures { IfSome result (λ a. argument_of (reverse self.now.waiting.list.items) ≡ Some a) }
     {
         let mut open = self.waiting.as_slice();
         'marks: while let Some((last, rest)) = open.split_last() {
@@ -237,16 +344,16 @@ impl Direct {
                 Open::Lvalue { .. } => open = rest,
                 Open::Rvalue { .. } => open = rest,
                 Open::Const { .. } => open = rest,
-                Open::Front { argument, .. } => return known(argument),
-                Open::Parameters { argument, .. } => return known(argument),
-                Open::Enclosing { argument, .. } => return known(argument),
+                Open::Front { argument, .. } => return Some(argument),
+                Open::Parameters { argument, .. } => return Some(argument),
+                Open::Enclosing { argument, .. } => return Some(argument),
                 _ => return None,
             }
         }
         None
     }
 
-    // <template-param> ::= T_
+    // <template-param> ::= T_ | T <parameter-2 non-negative number> _
     #[inline(never)]
     pub(crate) fn template_parameter(&mut self, s: &[u8]) -> Option<Step>
         requires fits { IsReadable s.now }
@@ -254,17 +361,14 @@ impl Direct {
         requires awaits { AwaitsType s.now self.old }
         ensures { IfSome result (IsWriting s.now self.new) }
     {
-        self.at = self.at.checked_add(1)?;
-        if byte_at(s, self.at) != b'_' {
-            return None;
-        }
-        let argument = self.argument()?;
+        let read = parameter_number(s, self.at.checked_add(1)?)?;
+        let argument = known(self.argument()?.at(read.number))?;
         // a pack is named in what is expanded alone
         if argument.is_pack || argument.is_reference {
             return None;
         }
-        self.at = self.at.checked_add(1)?;
-        self.repeat(argument.from, argument.to)?;
+        self.at = read.end;
+        self.repeat(argument.from as usize, argument.to as usize)?;
         self.add_hidden(false)?;
         Some(Step::Dependent {
             is_reference: false,

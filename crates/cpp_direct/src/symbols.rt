@@ -13,7 +13,7 @@ ghost use Rattle.cpp_direct.specs.Ways.{IsFresh, AwaitsEncoding, IsNameEnded, Is
 use crate::direct::Direct;
 use crate::marks::mark_at;
 use crate::names::are_name_bytes;
-use crate::open::{Argument, Mark, Nest, Open, Purpose, Step};
+use crate::open::{Argument, Mark, Arguments, Nest, Open, Purpose, Step};
 use crate::tokens::{byte_at, is_local, is_suffix, may_end};
 use std::alloc::Global;
 use sym_direct::Bounded;
@@ -41,12 +41,20 @@ const NO_NEST: Nest = Nest {
     is_instance: false,
 };
 
-/// No argument that is known.
-pub const NOWHERE: Argument = Argument {
+/// An argument that isn't known.
+pub const NO_PLACE: Argument = Argument {
     from: 1,
     to: 0,
     is_pack: false,
     is_reference: false,
+};
+
+/// No argument that is known.
+pub const NOWHERE: Arguments = Arguments {
+    first: NO_PLACE,
+    second: NO_PLACE,
+    third: NO_PLACE,
+    fourth: NO_PLACE,
 };
 
 impl Direct {
@@ -302,7 +310,7 @@ impl Direct {
         s: &[u8],
         mark: Mark,
         start: usize,
-        argument: Argument,
+        argument: Arguments,
     ) -> Option<Step>
         requires fits { IsReadable s.now }
         requires ended { IsFrontRead s.now self.old mark start argument }
@@ -325,7 +333,7 @@ impl Direct {
         s: &[u8],
         mark: Mark,
         start: usize,
-        argument: Argument,
+        argument: Arguments,
     ) -> Option<Step>
         requires fits { IsReadable s.now }
         requires awaits { AwaitsParameters s.now self.old mark start argument }
@@ -354,7 +362,7 @@ impl Direct {
         s: &[u8],
         mark: Mark,
         start: usize,
-        argument: Argument,
+        argument: Arguments,
     ) -> Option<Step>
         requires fits { IsReadable s.now }
         requires ended { IsParameterEnded s.now self.old mark start argument }
@@ -376,7 +384,7 @@ impl Direct {
         s: &[u8],
         mark: Mark,
         start: usize,
-        _argument: Argument,
+        _argument: Arguments,
     ) -> Option<Step>
         requires fits { IsReadable s.now }
         requires ended { IsParameterEnded s.now self.old mark start _argument }

@@ -205,7 +205,11 @@ impl Direct {
             Open::Lambda { from } => self.lambda_parameter(s, from),
             Open::Special => self.finish(s),
             Open::Enumerator => self.enumerator(s),
-            Open::Argument { from } => self.argument_ended(s, from, is_reference),
+            Open::Argument {
+                from,
+                number,
+                known,
+            } => self.argument_ended(s, from, number, known, is_reference),
             Open::Element { from } => self.element_ended(s, from, is_reference),
             _ => Some(Step::List { is_first: false }),
         }

@@ -25,11 +25,11 @@ close_list-requires-clause-ended c =
     let s = c.args.s.now in
     let w = c.args.self.now in
     let left = c.pop-element.new.self.list.items in
-    element-alone s w _ c.args.from c.len-to.result c.args.is_reference p
+    element-alone s w _ c.args.from c.len-to.result c.args.is_reference c.placed-place.result c.with.result p
     (there s w.at c.byte_at.result 69 c.if-byte_at-ne69.false (omega arith) c.byte_at.ensures)
     (subst (λ n. StandsAt s n (69 ∷ [])) c.in_ok-behind.ensures.1
     (there s c.in_ok-behind.behind c.byte_at-2.result 69 c.if-byte_at-ne69-2.false (omega arith) c.byte_at-2.ensures))
     (popped left c.pop-pack.new.self.list.items (p.owner ∷ p.rest) opens.Pack _ refl
     (popped w.waiting.list.items left (opens.Pack ∷ p.owner ∷ p.rest) (opens.Element c.args.from) _ refl p.open_is c.pop-element.ensures.rest)
     c.pop-pack.ensures.rest)
-    refl refl (c.in_ok-self.ensures.1 ∙ ap (λ n. n + 1) c.in_ok-behind.ensures.1) c.len-to.ensures
+    refl refl (c.in_ok-self.ensures.1 ∙ ap (λ n. n + 1) c.in_ok-behind.ensures.1) c.len-to.ensures c.placed-place.ensures c.with.ensures

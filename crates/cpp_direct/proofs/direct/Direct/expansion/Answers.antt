@@ -8,23 +8,23 @@ use Rattle.cpp_direct.proofs.direct.Direct.expansion.Goals.{then-pack-2, else-pa
 
 pub repeat-requires-clause-to : goal.repeat-requires-clause-to
 repeat-requires-clause-to c =
-    pack-inside c.args.s.now c.args.self.now c.args.mark c.args.start c.args.pack c.requires.awaits c.if-pack.false
+    pack-inside c.args.s.now c.args.self.now c.args.mark c.args.start c.args.argument c.requires.awaits c.if-pack.false
 
 pub returns-in_default : goal.returns-in_default
-returns-in_default c = parameter-expected c.args.s.now c.args.self.now c.args.mark c.args.start c.args.pack c.requires.awaits
+returns-in_default c = parameter-expected c.args.s.now c.args.self.now c.args.mark c.args.start c.args.argument c.requires.awaits
 
 pub close_parameters-requires-clause-ended : goal.close_parameters-requires-clause-ended
 close_parameters-requires-clause-ended c =
     let old = c.args.self.now in
-    let r = c.args.pack.is_reference in
-    let piece = take (c.args.pack.to - c.args.pack.from) (drop c.args.pack.from old.text.list.items) in
+    let r = c.args.argument.first.is_reference in
+    let piece = take (c.args.argument.first.to - c.args.argument.first.from) (drop c.args.argument.first.from old.text.list.items) in
     let one = c.in_ok-repeat.ensures in
     let two = c.in_ok-push.ensures in
     let marks : c.if-pack-2.push.now ≡ forwarded r = elim c.if-pack-2.branch [
       | then-pack-2 b ↦ ap (λ t. t.now) b.push-is ∙ ap (λ k. forwarded k) (sym b.if-pack-2.true)
       | else-pack-2 b ↦ ap (λ t. t.now) b.push-is ∙ ap (λ k. forwarded k) (sym b.if-pack-2.false)
     ] in
-    expansion-read c.args.s.now old c.add_hidden-3.new.self c.args.mark c.args.start c.args.pack c.requires.awaits c.requires.is_pack
+    expansion-read c.args.s.now old c.add_hidden-3.new.self c.args.mark c.args.start c.args.argument c.requires.awaits c.requires.is_pack
     c.if-pack.false c.in-Some.ensures.stands
     (ap (λ v. v.list.items) (c.add_hidden-3.ensures.text ∙ c.add_hidden-2.ensures.text ∙ c.add_hidden.ensures.text) ∙ two.text
     ∙ ap (λ l. l ++ c.if-pack-2.push.now) one.text ∙ ap (λ l. (old.text.list.items ++ piece) ++ l) marks)

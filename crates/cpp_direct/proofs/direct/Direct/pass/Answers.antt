@@ -92,7 +92,7 @@ returns-in_default c =
 
 pub argument_ended-requires-clause-read : goal.argument_ended-requires-clause-read
 argument_ended-requires-clause-read c =
-    value-argument c.args.s.now c.args.self.now c.args.is_reference c.in-Argument.from
+    value-argument c.args.s.now c.args.self.now c.args.is_reference c.in-Argument.from c.in-Argument.number c.in-Argument.known
     c.requires.writing (waits-last _ _ _ _ c.as_slice.ensures c.in_ok-from.ensures.value c.in-Argument.is)
 
 pub element_ended-requires-clause-read : goal.element_ended-requires-clause-read

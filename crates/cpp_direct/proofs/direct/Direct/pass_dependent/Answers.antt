@@ -12,7 +12,7 @@ pub mark_dependent-requires : goal.mark_dependent-requires
 mark_dependent-requires c =
     dependent-marked c.args.s.now c.args.self.now c.args.is_reference false (opens.Pointer c.in-Pointer.from) c.in-Pointer.from pointer (codes "*")
     c.requires.writing (waits-last _ _ _ _ c.as_slice.ensures c.in_ok-mark.ensures.value c.in-Pointer.is) (λ rest os text h. h) (λ rest. refl)
-    (λ t m h. pointer-behind t m c.args.is_reference h)
+    (λ k t m h. pointer-behind k t m c.args.is_reference h)
 
 pub parameter_ended-requires-clause-ended : goal.parameter_ended-requires-clause-ended
 parameter_ended-requires-clause-ended c =
