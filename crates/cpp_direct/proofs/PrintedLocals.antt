@@ -9,7 +9,7 @@ use Rattle.cpp_grammar.specs.Texts.{look_up, same_bytes, named_special_texts}
 use Rattle.cpp_grammar.specs.Items.{full, bare, left, piece, Context, closed}
 use Rattle.cpp_grammar.specs.Values.{Value, unqualified, tree_of, qualifiers_of, ref_of}
 use Rattle.cpp_grammar.specs.Meaning.{encoding_of}
-use Rattle.cpp_grammar.specs.Parts.{as_item, says, text_part, source_text, prefix_item, within_parts, qualifier_text, ref_text, encoding_text, function_full, full_parts, bare_parts, left_parts, parts_in, not_empty}
+use Rattle.cpp_grammar.specs.Parts.{as_item, says, text_part, source_text, prefix_item, within_parts, qualifier_text, ref_text, encoding_text, function_full, full_parts, bare_parts, left_parts, entity_of, parts_in, not_empty}
 use Rattle.cpp_direct.specs.Prints.{in_form, Shows, Encloses}
 use Rattle.cpp_direct.proofs.PrintedParts.{printed_by, prints_parts, text_by, cost_by}
 use Rattle.cpp_direct.proofs.PrintedNames.{piece-text, piece-cost}
@@ -89,14 +89,14 @@ inside-cost e b p internal name =
 
 entity-text : (e : Term) (b : List ℕ) → Encloses e b → (internal : Bool) (name : List ℕ) (d : Option (List ℕ))
     → text_of (in_form left closed (local e (within e (source internal name)) d)) ≡ b ++ codes "::" ++ source_text name
-unfolding parts_in left_parts not_empty
+unfolding parts_in left_parts entity_of not_empty
 entity-text e b p internal name d =
     let w = within e (source internal name) in
     text_by left closed (local e w d) (as_item left closed w ∷ []) refl ∙ append-nil (text_of (in_form left closed w)) ∙ inside-text e b p internal name
 
 entity-cost : (e : Term) (b : List ℕ) → Encloses e b → (internal : Bool) (name : List ℕ) (d : Option (List ℕ))
     → 3 + cost_of (in_form left closed (local e (within e (source internal name)) d)) ≤ 4 * length (b ++ codes "::" ++ source_text name)
-unfolding parts_in left_parts not_empty
+unfolding parts_in left_parts entity_of not_empty
 entity-cost e b p internal name d =
     let w = within e (source internal name) in
     omega (

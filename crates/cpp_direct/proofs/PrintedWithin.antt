@@ -8,7 +8,7 @@ use Rattle.cpp_grammar.specs.Scope.{is_open, pack_length, length_if_pack, first_
 use Rattle.cpp_grammar.specs.References.{is_function_type}
 use Rattle.cpp_grammar.specs.Items.{bare, left, right, piece, first, Context, closed, head_with, head, is_reference, is_funarr, is_empty}
 use Rattle.cpp_grammar.specs.Meaning.{is_void}
-use Rattle.cpp_grammar.specs.Parts.{as_item, says, list_part, prefix_item, last_piece, opening_text, piece_parts, within_parts, left_parts, right_parts, parts_in, not_empty, is_plain_integer}
+use Rattle.cpp_grammar.specs.Parts.{as_item, says, list_part, prefix_item, last_piece, opening_text, piece_parts, within_parts, left_parts, entity_of, right_parts, parts_in, not_empty, is_plain_integer}
 use Rattle.cpp_direct.specs.HolesOfLocals.{Discriminator, local_in}
 use Rattle.cpp_direct.specs.Prints.{in_form, Prints, PrintsPiece, PrintAll, Encloses, list_of}
 use Rattle.cpp_direct.proofs.PrintedParts.{printed_by, text_by, cost_by, text_first, cost_first, text_append, cost_append}
@@ -116,7 +116,7 @@ within-cost c e b h p n q =
 -- A type in a function prints the function and its own name.
 pub local-prints : (e : Term) (b : List ℕ) → Encloses e b → (p : Term) (n : List ℕ) → PrintsPiece p n → (digit : Discriminator)
     → Prints (local_in e p digit) (b ++ codes "::" ++ n) false
-unfolding parts_in left_parts right_parts not_empty head head_with is_reference is_funarr is_empty is_open pack_length length_if_pack first_of is_function_type
+unfolding parts_in left_parts entity_of right_parts not_empty head head_with is_reference is_funarr is_empty is_open pack_length length_if_pack first_of is_function_type
     prefix_item last_piece is_void is_plain_integer
 local-prints e b h p n q digit = let t = local_in e p digit in record {
   left_text = λ c. text_by left c t (as_item left c (within e p) ∷ []) refl ∙ append-nil (text_of (in_form left c (within e p)))
