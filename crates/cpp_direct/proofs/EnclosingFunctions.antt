@@ -191,7 +191,7 @@ name-within s old st t mark candidates n no_return here is_name =
 -- an instance is read, whose return type is expected
 pub instance-within : (s : List ℕ) (old : Direct) (st : State) (t : Term) (mark : Mark)
     → AreCandidates old.text.list.items old.candidates.list.items st.candidates → IsNesting s Kind.NestTail old t st
-    → has_return_type t ≡ true → (old.argument.from ≤ old.argument.to → IsArgument old.text.list.items old.argument t) → StandsAt s old.at (69 ∷ [])
+    → has_return_type t ≡ true → HasArguments old.text.list.items old.argument t → StandsAt s old.at (69 ∷ [])
     → old.nest.purpose ≡ purposes.Enclosing mark → IsEnclosingInstance s (record old { at = old.at + 1 }) mark old.nest.from
 unfolding tree_of qualifiers_of ref_of
 instance-within s old st t mark candidates n returns names here is_name =

@@ -188,7 +188,7 @@ pub takes-elements : (o : Open) → ((x : ℕ) → o ≡ opens.Pointer x → ⊥
     → ((x : ℕ) → o ≡ opens.Rvalue x → ⊥) → ((x : ℕ) → o ≡ opens.Const x → ⊥) → ((x : Mark) (y : ℕ) (z : Arguments) → o ≡ opens.Parameters x y z → ⊥)
     → ((x : Mark) (y : ℕ) (z : Arguments) → o ≡ opens.Front x y z → ⊥)
     → ((x : Bool) → o ≡ opens.Returned x → ⊥) → ((x : Bool) → o ≡ opens.Signature x → ⊥)
-    → (o ≡ opens.Special → ⊥) → (o ≡ opens.Enumerator → ⊥) → ((x : Mark) (y : ℕ) (z : Argument) → o ≡ opens.Enclosing x y z → ⊥)
+    → (o ≡ opens.Special → ⊥) → (o ≡ opens.Enumerator → ⊥) → ((x : Mark) (y : ℕ) (z : Arguments) → o ≡ opens.Enclosing x y z → ⊥)
     → ((x y : ℕ) (z : Arguments) → o ≡ opens.Argument x y z → ⊥) → ((x : ℕ) → o ≡ opens.Lambda x → ⊥) → ((x : ℕ) → o ≡ opens.Element x → ⊥)
     → TakesElements o
 takes-elements (opens.Pointer x) p l r c f k u g z n m a q e = absurd (p x refl)

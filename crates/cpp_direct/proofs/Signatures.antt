@@ -379,11 +379,11 @@ function-handed s old new is_pointer o p text candidates waits at found =
 -- what takes a function type, and isn't parameters or a special object, takes elements
 pub takes-as-element : (o : Open) (rest ws : List Open) → ws ≡ o ∷ rest → TakesFunction ws
     → ((x : Mark) (y : ℕ) (z : Arguments) → o ≡ opens.Parameters x y z → ⊥)
-    → (o ≡ opens.Special → ⊥) → ((x : Mark) (y : ℕ) (z : Argument) → o ≡ opens.Enclosing x y z → ⊥) → TakesElements o
+    → (o ≡ opens.Special → ⊥) → ((x : Mark) (y : ℕ) (z : Arguments) → o ≡ opens.Enclosing x y z → ⊥) → TakesElements o
 takes-as-element o rest ws is takes apart no_special within = go o (subst TakesFunction is takes) apart no_special within
   where
     go : (o : Open) → TakesFunction (o ∷ rest) → ((x : Mark) (y : ℕ) (z : Arguments) → o ≡ opens.Parameters x y z → ⊥) → (o ≡ opens.Special → ⊥)
-        → ((x : Mark) (y : ℕ) (z : Argument) → o ≡ opens.Enclosing x y z → ⊥) → TakesElements o
+        → ((x : Mark) (y : ℕ) (z : Arguments) → o ≡ opens.Enclosing x y z → ⊥) → TakesElements o
     go (opens.TypeArguments from) takes apart z m = tt
     go (opens.NestArguments nest) takes apart z m = tt
     go (opens.FirstArguments nest) takes apart z m = tt

@@ -9,7 +9,7 @@ ghost use Rattle.cpp_direct.specs.Stands.{EndsNamed, IsWriting, argument_of, pla
 ghost use Rattle.cpp_direct.specs.Ways.{AwaitsType, AwaitsDependentMark, AwaitsKnownArgument, AwaitsNextParameter, IsArgumentRead, IsPackElementRead, KnowsMore, parameter_digits};
 
 use crate::direct::Direct;
-use crate::open::{Argument, Mark, Arguments, Open, Purpose, Step};
+use crate::open::{Argument, Arguments, Mark, Open, Purpose, Step};
 use crate::symbols::{NO_PLACE, NOWHERE};
 use crate::tokens::{byte_at, may_end};
 
@@ -257,13 +257,7 @@ impl Direct {
     /// The last parameter may be a reference to each type of the pack that the function's template has as its argument.
     // <type> ::= Dp <type>
     #[inline(never)]
-    fn expansion(
-        &mut self,
-        s: &[u8],
-        mark: Mark,
-        start: usize,
-        argument: Arguments,
-    ) -> Option<Step>
+    fn expansion(&mut self, s: &[u8], mark: Mark, start: usize, argument: Arguments) -> Option<Step>
         requires fits { IsReadable s.now }
         requires is_pack { argument.first.is_pack ≡ true }
         requires awaits { AwaitsNextParameter s.now self.old mark start argument }

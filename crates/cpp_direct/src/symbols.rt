@@ -13,7 +13,7 @@ ghost use Rattle.cpp_direct.specs.Ways.{IsFresh, AwaitsEncoding, IsNameEnded, Is
 use crate::direct::Direct;
 use crate::marks::mark_at;
 use crate::names::are_name_bytes;
-use crate::open::{Argument, Mark, Arguments, Nest, Open, Purpose, Step};
+use crate::open::{Argument, Arguments, Mark, Nest, Open, Purpose, Step};
 use crate::tokens::{byte_at, is_local, is_suffix, may_end};
 use std::alloc::Global;
 use sym_direct::Bounded;
