@@ -7,6 +7,7 @@ use Rattle.cpp_grammar.specs.Grammar.{may_be_empty}
 use Rattle.cpp_grammar.specs.Term.{Term, nil, list, instance}
 use Rattle.cpp_grammar.specs.Values.{nothing_there}
 use Rattle.cpp_grammar.specs.Between.{no_items}
+use Rattle.cpp_direct.specs.Symbol.{Symbol, plain}
 use Rattle.cpp_direct.specs.declared.open.Open.{Open}
 use Rattle.cpp_direct.specs.declared.open.Open.TheVariants as opens
 use Rattle.cpp_direct.specs.declared.open.Step.TheVariants as steps
@@ -31,7 +32,7 @@ none-text by l all = go all.0 all.1 all.2
     go (b ∷ bs) each is = absurd each
 
 -- the first argument comes next
-pub argument-begins : (s : List ℕ) (old new : Direct) (from : ℕ) → IsWriting s old (steps.List true)
+pub argument-begins : (s : Symbol) (old new : Direct) (from : ℕ) → IsWriting s old (steps.List true)
     → length old.waiting.list.items ≡ 1 → from ≡ length old.text.list.items
     → new.waiting.list.items ≡ old.waiting.list.items ++ opens.Argument from ∷ [] → new.text ≡ old.text → new.candidates ≡ old.candidates → new.at ≡ old.at
     → IsWriting s new steps.Type
@@ -90,7 +91,7 @@ argument-begins s old new from p one from_is waits text candidates at = go p.is_
         }
 
 -- it was read
-pub value-argument : (s : List ℕ) (w : Direct) (is_reference : Bool) (from : ℕ) → IsWriting s w (steps.Value is_reference)
+pub value-argument : (s : Symbol) (w : Direct) (is_reference : Bool) (from : ℕ) → IsWriting s w (steps.Value is_reference)
     → slice_get w.waiting.list.items (length w.waiting.list.items - 1) ≡ Some (opens.Argument from) → IsArgumentRead s w from is_reference
 value-argument s w is_reference from p found =
     let last = last-found w.waiting.list.items (opens.Argument from) found in
@@ -121,7 +122,7 @@ value-argument s w is_reference from p found =
         }
 
 -- others may follow
-pub argument-passes : (s : List ℕ) (old new : Direct) (from : ℕ) (is_reference : Bool) (p : IsArgumentRead s old from is_reference)
+pub argument-passes : (s : Symbol) (old new : Direct) (from : ℕ) (is_reference : Bool) (p : IsArgumentRead s old from is_reference)
     → reverse new.waiting.list.items ≡ p.owner ∷ p.rest → new.text ≡ old.text → new.candidates ≡ old.candidates → new.at ≡ old.at
     → IsWriting s new (steps.List false)
 argument-passes s old new from is_reference p waits text candidates at = record {
@@ -150,8 +151,8 @@ argument-passes s old new from is_reference p waits text candidates at = record 
 }
 
 -- or the end: it is the only one
-pub argument-alone : (s : List ℕ) (old new : Direct) (from to : ℕ) (is_reference : Bool) (p : IsArgumentRead s old from is_reference) → is_reference ≡ false
-    → StandsAt s old.at (69 ∷ []) → reverse new.waiting.list.items ≡ p.owner ∷ p.rest → new.text ≡ old.text → new.candidates ≡ old.candidates
+pub argument-alone : (s : Symbol) (old new : Direct) (from to : ℕ) (is_reference : Bool) (p : IsArgumentRead s old from is_reference) → is_reference ≡ false
+    → StandsAt s.bytes old.at (69 ∷ []) → reverse new.waiting.list.items ≡ p.owner ∷ p.rest → new.text ≡ old.text → new.candidates ≡ old.candidates
     → new.at ≡ old.at + 1 → to ≡ length old.text.list.items → IsListEnded s new (record { from = from; to = to; is_pack = false; is_reference = false })
 unfolding no_items may_be_empty
 argument-alone s old new from to is_reference p plain stands waits text candidates at to_is = record {

@@ -1,4 +1,5 @@
 -- A type that names the argument of a function's template is read, and handed on.
+use Rattle.cpp_direct.specs.Symbol.{Symbol, plain}
 use Rattle.cpp_direct.proofs.Handed.{front-got, parameter-got}
 use Rattle.cpp_direct.proofs.Kept.{candidates-stay, piece-found}
 use Rattle.cpp_direct.proofs.Listed.{last-found}
@@ -55,8 +56,8 @@ unfolding between parameter_so_far parameter_named listed_so_far index_of text_o
 parameter-tested around at st scope = rw (scope.scope_is, scope.no_pack) refl
 
 -- the first parameter comes, and is a candidate
-pub first-parameter-comes : (s : List ℕ) (kind : Kind) (around : Around) (os : List Opened) (at : ℕ) (st : State) → IsTyped kind → IsScope false around
-    → Expects s kind around os at st → StandsAt s at (84 ∷ 95 ∷ [])
+pub first-parameter-comes : (s : Symbol) (kind : Kind) (around : Around) (os : List Opened) (at : ℕ) (st : State) → IsTyped kind → IsScope false around
+    → Expects s kind around os at st → StandsAt s.bytes at (84 ∷ 95 ∷ [])
     → Comes s os (tree (parameter 0) true) (at + 2) (with_candidate around.encoding (parameter 0) st)
 unfolding choose alternatives pick is_in in_ranges among is_chain parts_of number_of_kind between opening close unfolding_.behind meaning byte_of tree_of is_there part applied may_be_empty is_function_type
 first-parameter-comes s kind around os at st typed scope expects stands =
@@ -64,7 +65,7 @@ first-parameter-comes s kind around os at st typed scope expects stands =
     let t = parameter 0 in
     let v = tree t true in
     let later = with_candidate around.encoding t st in
-    let both = stands-split s at (84 ∷ []) (95 ∷ []) stands in
+    let both = stands-split s.bytes at (84 ∷ []) (95 ∷ []) stands in
     let solid = solid-opens s kind around os at st typed expects in
     let rule = standing (rule_of p) (84 ∷ []) at around st in
     let number = expects-number s Decimal around (opened rule [] (OfKind ARGUMENTS_ALONE ∷ []) ∷ solid.inner) (at + 1) st first_token
@@ -112,7 +113,7 @@ placed-at : (text : List ℕ) (p q : Argument) (name : Term) → p ≡ q → IsA
 placed-at text p q name e a = (a.bytes, subst (λ (k : Argument). IsPlaced text k a.bytes) e a.placed)
 
 -- where it stands in what is open, it stands in the text
-pub argument-placed : (s : List ℕ) (ws : List Open) (os : List Opened) (text : List ℕ) (p : Argument) → Stands s ws os text → argument_of ws ≡ Some p → p.from ≤ p.to
+pub argument-placed : (s : Symbol) (ws : List Open) (os : List Opened) (text : List ℕ) (p : Argument) → Stands s ws os text → argument_of ws ≡ Some p → p.from ≤ p.to
     → (bytes : List ℕ) × IsPlaced text p bytes
 argument-placed s (opens.Pointer from ∷ rest) os text p stands found ordered = argument-placed s rest stands.0 text p stands.4 found ordered
 argument-placed s (opens.Lvalue from ∷ rest) os text p stands found ordered = argument-placed s rest stands.0 text p stands.4 found ordered
@@ -125,7 +126,7 @@ argument-placed s (opens.Parameters is_const start a ∷ rest) os text p stands 
 argument-placed s _ os text p stands found ordered = cc found
 
 -- so it can be written once more
-pub argument-inside : (s : List ℕ) (w : Direct) (p : Argument) → AwaitsType s w → argument_of (reverse w.waiting.list.items) ≡ Some p → p.from ≤ p.to
+pub argument-inside : (s : Symbol) (w : Direct) (p : Argument) → AwaitsType s w → argument_of (reverse w.waiting.list.items) ≡ Some p → p.from ≤ p.to
     → p.to ≤ length w.text.list.items
 argument-inside s w p a found ordered =
     let h = argument-placed s (reverse w.waiting.list.items) a.os w.text.list.items p a.stands found ordered in
@@ -134,7 +135,7 @@ argument-inside s w p a found ordered =
 -- ## Parameters
 
 -- the parameter is read, and its argument is written once more
-pub parameter-done : (s : List ℕ) (old mid new : Direct) (p : Argument) → AwaitsType s old → StandsAt s old.at (84 ∷ []) → StandsAt s (old.at + 1) (95 ∷ [])
+pub parameter-done : (s : Symbol) (old mid new : Direct) (p : Argument) → AwaitsType s old → StandsAt s.bytes old.at (84 ∷ []) → StandsAt s.bytes (old.at + 1) (95 ∷ [])
     → argument_of (reverse old.waiting.list.items) ≡ Some p → IsPlain p
     → mid.text.list.items ≡ old.text.list.items ++ take (p.to - p.from) (drop p.from old.text.list.items) → mid.candidates ≡ old.candidates
     → mid.waiting ≡ old.waiting → mid.at ≡ old.at + 1 + 1 → new.candidates.list.items ≡ with_hidden mid false → new.text ≡ mid.text
@@ -168,7 +169,7 @@ parameter-done s old mid new p a letter line found plain text candidates waits a
         h.1,
         subst (λ n. Comes s a.os (tree (parameter 0) true) n later) (omega (arith, same_at, at))
             (first-parameter-comes s a.kind a.around a.os old.at a.state a.typed (subst (λ k. IsScope k a.around) plain.1 (a.scoped p found ordered)) a.awaits
-            (stands-join s old.at (84 ∷ []) (95 ∷ []) letter line)),
+            (stands-join s.bytes old.at (84 ∷ []) (95 ∷ []) letter line)),
         subst (λ v. Stands s (reverse v.list.items) a.os old.text.list.items) (sym open_is) a.stands,
       );
     }
@@ -176,7 +177,7 @@ parameter-done s old mid new p a letter line found plain text candidates waits a
 -- ## Marks
 
 -- it is marked
-pub dependent-marked : (s : List ℕ) (w : Direct) (is_reference marked_reference : Bool) (entry : Open) (from : ℕ) (made : Term → Term) (mark : List ℕ)
+pub dependent-marked : (s : Symbol) (w : Direct) (is_reference marked_reference : Bool) (entry : Open) (from : ℕ) (made : Term → Term) (mark : List ℕ)
     → IsWriting s w (steps.Dependent is_reference) → slice_get w.waiting.list.items (length w.waiting.list.items - 1) ≡ Some entry
     → ((rest : List Open) (os : List Opened) (text : List ℕ) → Stands s (entry ∷ rest) os text → Marks s (Stands s rest) os text from made)
     → ((rest : List Open) → argument_of (entry ∷ rest) ≡ argument_of rest)
@@ -209,7 +210,7 @@ dependent-marked s w is_reference marked_reference entry from made mark p found 
     }
 
 -- the mark is written
-pub dependent-mark-done : (s : List ℕ) (old mid new : Direct) (mark : List ℕ) (r : Bool) (a : AwaitsDependentMark s old mark r)
+pub dependent-mark-done : (s : Symbol) (old mid new : Direct) (mark : List ℕ) (r : Bool) (a : AwaitsDependentMark s old mark r)
     → reverse mid.waiting.list.items ≡ a.rest → mid.text.list.items ≡ old.text.list.items ++ mark → mid.candidates ≡ old.candidates → mid.at ≡ old.at
     → new.candidates.list.items ≡ with_hidden mid false → new.text ≡ mid.text → new.waiting ≡ mid.waiting → new.at ≡ mid.at
     → IsWriting s new (steps.Dependent r)
@@ -244,7 +245,7 @@ dependent-mark-done s old mid new mark r a waits text candidates at more same_te
 -- ## What it is handed to
 
 -- it is a parameter
-pub dependent-parameter : (s : List ℕ) (w : Direct) (is_reference is_const : Bool) (start : ℕ) (argument_ : Argument) → IsWriting s w (steps.Dependent is_reference)
+pub dependent-parameter : (s : Symbol) (w : Direct) (is_reference is_const : Bool) (start : ℕ) (argument_ : Argument) → IsWriting s w (steps.Dependent is_reference)
     → slice_get w.waiting.list.items (length w.waiting.list.items - 1) ≡ Some (opens.Parameters is_const start argument_)
     → IsParameterEnded s w is_const start argument_
 dependent-parameter s w is_reference is_const start argument_ p found =
@@ -259,7 +260,7 @@ dependent-parameter s w is_reference is_const start argument_ p found =
     (b.6 ∙ append_assoc b.2 b.3 b.4) b.11 (type-element-in (types_of waits.6.own) b.1 (b.3 ++ b.4) is_reference prints)
 
 -- it is the return type
-pub dependent-front : (s : List ℕ) (w : Direct) (is_reference is_const : Bool) (start : ℕ) (argument_ : Argument) → IsWriting s w (steps.Dependent is_reference)
+pub dependent-front : (s : Symbol) (w : Direct) (is_reference is_const : Bool) (start : ℕ) (argument_ : Argument) → IsWriting s w (steps.Dependent is_reference)
     → slice_get w.waiting.list.items (length w.waiting.list.items - 1) ≡ Some (opens.Front is_const start argument_)
     → IsFrontRead s w is_const start argument_
 dependent-front s w is_reference is_const start argument_ p found =

@@ -12,6 +12,7 @@ use Rattle.cpp_grammar.specs.References.{is_function_type}
 use Rattle.cpp_grammar.specs.Values.{State, Value, local_number, nothing_there, tree, named, tree_of, qualifiers_of, ref_of}
 use Rattle.cpp_grammar.specs.Between.{after, in_name, in_types, no_items}
 use Rattle.cpp_grammar.specs.Meaning.{encoding_of}
+use Rattle.cpp_direct.specs.Symbol.{Symbol, plain}
 use Rattle.cpp_direct.specs.declared.open.Open.{Open}
 use Rattle.cpp_direct.specs.declared.open.Open.TheVariants as opens
 use Rattle.cpp_direct.specs.declared.open.Purpose.TheVariants as purposes
@@ -44,13 +45,13 @@ use Rattle.cpp_direct.proofs.Scopes.{none-scoped}
 -- ## Names
 
 -- The name of a function in which a type stands is expected, behind this text.
-record NameOpened (s : List ℕ) (below : Below) (front : List ℕ) (at : ℕ) (st : State) : Type 0 where
+record NameOpened (s : Symbol) (below : Below) (front : List ℕ) (at : ℕ) (st : State) : Type 0 where
   pub inner : List Opened
   pub awaits : Expects s Kind.CompleteName (in_name at) inner at st
   pub onward : (v : Value) (here : ℕ) (now : State) → Comes s inner v here now
       → ItemsGoOn s nowhere (TypeWithin s below front) (λ l. encoding_of v l) [] here now
 
-name-opens : (s : List ℕ) (w : Direct) (a : AwaitsNamedType s w) → StandsAt s w.at (90 ∷ [])
+name-opens : (s : Symbol) (w : Direct) (a : AwaitsNamedType s w) → StandsAt s.bytes w.at (90 ∷ [])
     → NameOpened s (Stands s (reverse w.waiting.list.items)) w.text.list.items (w.at + 1) a.state
 unfolding in_types is_function_type
 name-opens s w a letter =
@@ -84,8 +85,8 @@ name-opens s w a letter =
     }
 
 -- a nested one is expected, of a member function that is const or not
-pub nest-within : (s : List ℕ) (old : Direct) (n : ℕ) (const : Bool) → AwaitsNamedType s old → StandsAt s old.at (90 ∷ [])
-    → StandsAt s (old.at + 1) (nest_marks const) → n ≡ old.at + 1 + length (nest_marks const)
+pub nest-within : (s : Symbol) (old : Direct) (n : ℕ) (const : Bool) → AwaitsNamedType s old → StandsAt s.bytes old.at (90 ∷ [])
+    → StandsAt s.bytes (old.at + 1) (nest_marks const) → n ≡ old.at + 1 + length (nest_marks const)
     → AwaitsNest s (record old { at = n }) (purposes.Enclosing const)
 unfolding in_name
 nest-within s old n const a letter marks at_is =
@@ -102,31 +103,31 @@ nest-within s old n const a letter marks at_is =
     }
 
 -- of one that isn't const
-pub plain-within : (s : List ℕ) (old : Direct) (first n : ℕ) → AwaitsNamedType s old → StandsAt s old.at (90 ∷ []) → first ≡ old.at + 1
-    → StandsAt s first (78 ∷ []) → n ≡ first + 1 → AwaitsNest s (record old { at = n }) (purposes.Enclosing false)
+pub plain-within : (s : Symbol) (old : Direct) (first n : ℕ) → AwaitsNamedType s old → StandsAt s.bytes old.at (90 ∷ []) → first ≡ old.at + 1
+    → StandsAt s.bytes first (78 ∷ []) → n ≡ first + 1 → AwaitsNest s (record old { at = n }) (purposes.Enclosing false)
 plain-within s old first n a letter next mark at_is =
-    nest-within s old n false a letter (subst (λ k. StandsAt s k (78 ∷ [])) next mark) (omega (arith, next, at_is))
+    nest-within s old n false a letter (subst (λ k. StandsAt s.bytes k (78 ∷ [])) next mark) (omega (arith, next, at_is))
 
 -- and of one that is
-pub const-within : (s : List ℕ) (old : Direct) (first second n : ℕ) → AwaitsNamedType s old → StandsAt s old.at (90 ∷ []) → first ≡ old.at + 1
-    → StandsAt s first (78 ∷ []) → second ≡ first + 1 → StandsAt s second (75 ∷ []) → n ≡ second + 1
+pub const-within : (s : Symbol) (old : Direct) (first second n : ℕ) → AwaitsNamedType s old → StandsAt s.bytes old.at (90 ∷ []) → first ≡ old.at + 1
+    → StandsAt s.bytes first (78 ∷ []) → second ≡ first + 1 → StandsAt s.bytes second (75 ∷ []) → n ≡ second + 1
     → AwaitsNest s (record old { at = n }) (purposes.Enclosing true)
 const-within s old first second n a letter next mark then_ marked at_is =
     nest-within s old n true a letter
-    (stands-join s (old.at + 1) (78 ∷ []) (75 ∷ []) (subst (λ k. StandsAt s k (78 ∷ [])) next mark)
-    (subst (λ k. StandsAt s k (75 ∷ [])) (then_ ∙ ap (λ k. k + 1) next) marked)) (omega (arith, next, then_, at_is))
+    (stands-join s.bytes (old.at + 1) (78 ∷ []) (75 ∷ []) (subst (λ k. StandsAt s.bytes k (78 ∷ [])) next mark)
+    (subst (λ k. StandsAt s.bytes k (75 ∷ [])) (then_ ∙ ap (λ k. k + 1) next) marked)) (omega (arith, next, then_, at_is))
 
 -- one by itself is read
-pub source-within : (s : List ℕ) (old start new : Direct) (name : List ℕ) (from : ℕ) → AwaitsNamedType s old → StandsAt s old.at (90 ∷ [])
+pub source-within : (s : Symbol) (old start new : Direct) (name : List ℕ) (from : ℕ) → AwaitsNamedType s old → StandsAt s.bytes old.at (90 ∷ [])
     → start.text ≡ old.text → start.candidates ≡ old.candidates → start.waiting ≡ old.waiting → start.at ≡ old.at + 1
-    → IsNameAt s start.at name new.at → name ≢ [] → Reads start new (source_text name) → from ≡ length start.text.list.items
+    → IsNameAt s.bytes start.at name new.at → name ≢ [] → Reads start new (source_text name) → from ≡ length start.text.list.items
     → IsEnclosingNamed s new false from
 unfolding may_be_empty tree_of qualifiers_of ref_of has_return_type arguments_of in_name
 source-within s old start new name from a letter same_text same_candidates same_waiting at_is is filled reads from_is =
     let own = alone (source false name) in
     let e = name-opens s old a letter in
     let here = in_name (old.at + 1) in
-    let named_ = name-source s e.inner here (old.at + 1) name new.at a.state e.awaits refl (subst (λ k. IsNameAt s k name new.at) at_is is) in
+    let named_ = name-source s e.inner here (old.at + 1) name new.at a.state e.awaits refl (subst (λ k. IsNameAt s.bytes k name new.at) at_is is) in
     let front = old.text.list.items in
     record {
       state = a.state;
@@ -147,13 +148,13 @@ source-within s old start new name from a letter same_text same_candidates same_
       goes = subst (λ v. ItemsGoOn s nowhere (TypeWithin s (Stands s (reverse v.list.items)) front) (λ l. encoding_of (tree own false) l) [] new.at a.state)
           (sym (reads.waiting ∙ same_waiting))
           (e.onward (tree own false) new.at a.state
-          (named_.bare new.at a.state (expects-empty s Kind.MaybeArguments (after own false here) named_.inner new.at a.state named_.awaits refl)));
+          (named_.bare new.at a.state (expects-empty s Kind.ArgumentsAlone (after own false here) named_.inner new.at a.state named_.awaits refl)));
     }
 
 -- a nested one is read
-pub name-within : (s : List ℕ) (old : Direct) (st : State) (t : Term) (is_const : Bool)
+pub name-within : (s : Symbol) (old : Direct) (st : State) (t : Term) (is_const : Bool)
     → AreCandidates old.text.list.items old.candidates.list.items st.candidates → IsNesting s Kind.NestTail old t st
-    → has_return_type t ≡ false → StandsAt s old.at (69 ∷ [])
+    → has_return_type t ≡ false → StandsAt s.bytes old.at (69 ∷ [])
     → old.nest.purpose ≡ purposes.Enclosing is_const → IsEnclosingNamed s (record old { at = old.at + 1 }) is_const old.nest.from
 unfolding tree_of qualifiers_of ref_of
 name-within s old st t is_const candidates n no_return here is_name =
@@ -178,7 +179,7 @@ name-within s old st t is_const candidates n no_return here is_name =
 -- ## Parameters
 
 -- a parameter comes next
-parameter-expected : (s : List ℕ) (w : Direct) (st : State) (is_const : Bool) (from : ℕ) (rest : List Open) (front : List ℕ) (make : Term → Term)
+parameter-expected : (s : Symbol) (w : Direct) (st : State) (is_const : Bool) (from : ℕ) (rest : List Open) (front : List ℕ) (make : Term → Term)
     (ts : List Term) (name texts : List ℕ)
     → AreCandidates w.text.list.items w.candidates.list.items st.candidates → reverse w.waiting.list.items ≡ opens.Enclosing is_const from ∷ rest
     → IsFunction [] nowhere is_const make ts name texts → from ≡ length front → w.text.list.items ≡ front ++ name ++ codes "(" ++ in_front_of_next ts texts
@@ -210,7 +211,7 @@ parameter-expected s w st is_const from rest front make ts name texts candidates
     }
 
 -- the first one comes next
-pub first-within : (s : List ℕ) (w first last : Direct) (is_const : Bool) (from : ℕ) → IsEnclosingNamed s w is_const from → Writes w first (codes "(")
+pub first-within : (s : Symbol) (w first last : Direct) (is_const : Bool) (from : ℕ) → IsEnclosingNamed s w is_const from → Writes w first (codes "(")
     → last.text ≡ first.text → last.candidates ≡ first.candidates → last.at ≡ first.at
     → last.waiting.list.items ≡ first.waiting.list.items ++ opens.Enclosing is_const from ∷ [] → IsWriting s last steps.Type
 first-within s w first last is_const from p one text candidates at waiting =
@@ -233,7 +234,7 @@ first-within s w first last is_const from p one text candidates at waiting =
     (subst (λ n. ItemsGoOn s nowhere (TypeWithin s (Stands s (reverse w.waiting.list.items)) p.front) make [] n p.state) (sym (at ∙ one.at)) p.goes)
 
 -- another one comes next
-pub next-within : (s : List ℕ) (w last : Direct) (is_const : Bool) (from : ℕ) → IsEnclosingParameterRead s w is_const from → Writes w last (codes ", ")
+pub next-within : (s : Symbol) (w last : Direct) (is_const : Bool) (from : ℕ) → IsEnclosingParameterRead s w is_const from → Writes w last (codes ", ")
     → IsWriting s last steps.Type
 next-within s w last is_const from p one =
     let front = p.front ++ p.name ++ codes "(" in
@@ -245,7 +246,7 @@ next-within s w last is_const from p one =
     (subst (λ n. ItemsGoOn s nowhere (TypeWithin s (Stands s p.rest) p.front) p.make p.ts n p.state) (sym one.at) p.goes)
 
 -- one is read
-pub parameter-read-within : (s : List ℕ) (w : Direct) (is_const : Bool) (from : ℕ) → IsElementRead s w (opens.Enclosing is_const from)
+pub parameter-read-within : (s : Symbol) (w : Direct) (is_const : Bool) (from : ℕ) → IsElementRead s w (opens.Enclosing is_const from)
     → IsEnclosingParameterRead s w is_const from
 parameter-read-within s w is_const from p =
     let waits = p.stands in
@@ -281,7 +282,7 @@ parameter-read-within s w is_const from p =
 -- ## Ends
 
 -- a name without items is read
-pub object-within : (s : List ℕ) (w : Direct) (is_const : Bool) (from : ℕ) → IsEnclosingNamed s w is_const from → IsEnclosingRead s w is_const from
+pub object-within : (s : Symbol) (w : Direct) (is_const : Bool) (from : ℕ) → IsEnclosingNamed s w is_const from → IsEnclosingRead s w is_const from
 unfolding no_items may_be_empty
 object-within s w is_const from p =
     let b = p.name in
@@ -302,7 +303,7 @@ object-within s w is_const from p =
     }
 
 -- a function with a lone void is read
-pub void-within : (s : List ℕ) (w here new : Direct) (is_const : Bool) (from : ℕ) → IsEnclosingNamed s w is_const from → StandsAt s w.at (118 ∷ [])
+pub void-within : (s : Symbol) (w here new : Direct) (is_const : Bool) (from : ℕ) → IsEnclosingNamed s w is_const from → StandsAt s.bytes w.at (118 ∷ [])
     → here.text ≡ w.text → here.candidates ≡ w.candidates → here.waiting ≡ w.waiting → here.at ≡ w.at + 1 → Writes here new (codes "()")
     → IsEnclosingRead s new is_const from
 void-within s w here new is_const from p stands text candidates waiting at one =
@@ -333,7 +334,7 @@ void-within s w here new is_const from p stands text candidates waiting at one =
     }
 
 -- a function with its parameters is read, unless they are a lone void
-pub function-within : (s : List ℕ) (w last new : Direct) (is_const : Bool) (from : ℕ) (p : IsEnclosingParameterRead s w is_const from)
+pub function-within : (s : Symbol) (w last new : Direct) (is_const : Bool) (from : ℕ) (p : IsEnclosingParameterRead s w is_const from)
     → p.texts ≢ codes "void" → Writes w last (codes ")") → new.text ≡ last.text → new.candidates ≡ last.candidates → new.at ≡ last.at
     → reverse new.waiting.list.items ≡ p.rest → IsEnclosingRead s new is_const from
 unfolding no_items may_be_empty
@@ -368,7 +369,7 @@ function-within s w last new is_const from p apart one text candidates at waits 
           (subst (λ n. TypeWithin s below p.front e n p.state) (sym (at ∙ one.at)) within_);
     }
 
-const-written : (s : List ℕ) (old new : Direct) (from : ℕ) → IsEnclosingRead s old true from → Writes old new (codes " const") → IsEnclosingRead s new false from
+const-written : (s : Symbol) (old new : Direct) (from : ℕ) → IsEnclosingRead s old true from → Writes old new (codes " const") → IsEnclosingRead s new false from
 const-written s old new from p writes = record {
   state = p.state;
   candidates = candidates-written old new (codes " const") p.state.candidates writes p.candidates;
@@ -383,12 +384,12 @@ const-written s old new from p writes = record {
 }
 
 -- one that is const, with its qualifier
-pub const-added-within : (s : List ℕ) (old new : Direct) (is_const : Bool) (from : ℕ) → IsEnclosingRead s old is_const from → is_const ≡ true
+pub const-added-within : (s : Symbol) (old new : Direct) (is_const : Bool) (from : ℕ) → IsEnclosingRead s old is_const from → is_const ≡ true
     → Writes old new (codes " const") → IsEnclosingRead s new false from
 const-added-within s old new is_const from p e writes = const-written s old new from (subst (λ b. IsEnclosingRead s old b from) e p) writes
 
 -- one without
-pub const-kept-within : (s : List ℕ) (w : Direct) (is_const : Bool) (from : ℕ) → IsEnclosingRead s w is_const from → is_const ≡ false → IsEnclosingRead s w false from
+pub const-kept-within : (s : Symbol) (w : Direct) (is_const : Bool) (from : ℕ) → IsEnclosingRead s w is_const from → is_const ≡ false → IsEnclosingRead s w false from
 const-kept-within s w is_const from p e = subst (λ b. IsEnclosingRead s w b from) e p
 
 -- ## Lambdas
@@ -412,7 +413,7 @@ number-text (Some d) is =
     decimal_digit n (number-is (Some d) is) ∙ ap (λ k. k ∷ []) (omega (arith, is.0))
 
 -- it is read, and written
-pub lambda-told : (s : List ℕ) (old new : Direct) (digit : Option ℕ) → IsLambdaDigit digit → StandsAt s old.at (85 ∷ lambda_bytes (lambda_digits digit))
+pub lambda-told : (s : Symbol) (old new : Direct) (digit : Option ℕ) → IsLambdaDigit digit → StandsAt s.bytes old.at (85 ∷ lambda_bytes (lambda_digits digit))
     → new.at ≡ old.at + length (85 ∷ lambda_bytes (lambda_digits digit)) → Reads old new (codes "{lambda()#" ++ lambda_number digit ++ codes "}")
     → (p : Term) × (n : List ℕ) × IsPieceAt s old.at p new.at × PrintsPiece p n × Reads old new n
 lambda-told s old new digit is stands ends reads = (
@@ -428,7 +429,7 @@ abbrev lambda_front : List ℕ
 lambda_front = codes "::{lambda("
 
 -- the first parameter of one comes next
-pub lambda-begun : (s : List ℕ) (old new : Direct) (from : ℕ) → AwaitsTypeName s old from → short_numbers 0 s ≡ true → StandsAt s old.at (85 ∷ 108 ∷ [])
+pub lambda-begun : (s : Symbol) (old new : Direct) (from : ℕ) → AwaitsTypeName s old from → short_numbers 0 s.bytes ≡ true → StandsAt s.bytes old.at (85 ∷ 108 ∷ [])
     → new.text.list.items ≡ old.text.list.items ++ lambda_front → new.candidates ≡ old.candidates → new.at ≡ old.at + 2
     → new.waiting.list.items ≡ old.waiting.list.items ++ opens.Lambda from ∷ [] → IsWriting s new steps.Type
 lambda-begun s old new from a short stands text candidates at waiting =
@@ -436,7 +437,7 @@ lambda-begun s old new from a short stands text candidates at waiting =
     let w = r.within in
     let entity = w.2 a.letter in
     let first = lambda-opens s entity.inner entity.around r.e (a.before + 1) r.state short entity.awaits
-    (subst (λ k. StandsAt s k (85 ∷ 108 ∷ [])) a.at_is stands) in
+    (subst (λ k. StandsAt s.bytes k (85 ∷ 108 ∷ [])) a.at_is stands) in
     let rest = reverse old.waiting.list.items in
     let opened_ = ap reverse waiting ∙ reverse-last old.waiting.list.items (opens.Lambda from) in
     let front_written : old.text.list.items ≡ r.front ++ r.bytes = sym (append-nil old.text.list.items) ∙ r.written in
@@ -488,7 +489,7 @@ lambda-begun s old new from a short stands text candidates at waiting =
     }
 
 -- a parameter of one is read
-pub lambda-parameter-read : (s : List ℕ) (w : Direct) (from : ℕ) → IsElementRead s w (opens.Lambda from) → IsLambdaParameterRead s w from
+pub lambda-parameter-read : (s : Symbol) (w : Direct) (from : ℕ) → IsElementRead s w (opens.Lambda from) → IsLambdaParameterRead s w from
 lambda-parameter-read s w from p =
     let waits = p.stands in
     let ts = waits.3 in
@@ -512,7 +513,7 @@ lambda-parameter-read s w from p =
     }
 
 -- another one comes next
-pub lambda-next : (s : List ℕ) (w last : Direct) (from : ℕ) → IsLambdaParameterRead s w from → Writes w last (codes ", ") → IsWriting s last steps.Type
+pub lambda-next : (s : Symbol) (w last : Direct) (from : ℕ) → IsLambdaParameterRead s w from → Writes w last (codes ", ") → IsWriting s last steps.Type
 lambda-next s w last from p one =
     let led = p.front ++ (p.bytes ++ lambda_front) in
     let below = Stands s p.rest in
@@ -559,12 +560,12 @@ lambda-bracket f b l =
     ∙ sym (append_assoc f (b ++ codes "::{lambda") (codes "(")))
 
 -- its end is read
-pub lambda-done : (s : List ℕ) (w begun pushed numbered popped_ last new : Direct) (from : ℕ) (p : IsLambdaParameterRead s w from) → p.texts ≢ codes "void"
-    → StandsAt s w.at (69 ∷ []) → begun.text ≡ w.text → begun.candidates ≡ w.candidates → begun.waiting ≡ w.waiting → begun.at ≡ w.at + 1
-    → Writes begun pushed (codes ")#") → (number : Option ℕ) → IsLambdaDigit number → StandsAt s pushed.at (lambda_digits number ++ 95 ∷ [])
+pub lambda-done : (s : Symbol) (w begun pushed numbered popped_ last new : Direct) (from : ℕ) (p : IsLambdaParameterRead s w from) → p.texts ≢ codes "void"
+    → StandsAt s.bytes w.at (69 ∷ []) → begun.text ≡ w.text → begun.candidates ≡ w.candidates → begun.waiting ≡ w.waiting → begun.at ≡ w.at + 1
+    → Writes begun pushed (codes ")#") → (number : Option ℕ) → IsLambdaDigit number → StandsAt s.bytes pushed.at (lambda_digits number ++ 95 ∷ [])
     → numbered.at ≡ pushed.at + length (lambda_digits number ++ 95 ∷ []) → Reads pushed numbered (lambda_number number ++ codes "}")
     → popped_.text ≡ numbered.text → popped_.candidates ≡ numbered.candidates → popped_.at ≡ numbered.at → reverse popped_.waiting.list.items ≡ p.rest
-    → (digit : Discriminator) → IsDiscriminatorAt s popped_.at digit last.at → Reads popped_ last []
+    → (digit : Discriminator) → IsDiscriminatorAt s.bytes popped_.at digit last.at → Reads popped_ last []
     → new.candidates.list.items ≡ added last from false → new.text ≡ last.text → new.waiting ≡ last.waiting → new.at ≡ last.at
     → IsWriting s new (steps.Value false)
 unfolding no_items may_be_empty
@@ -583,8 +584,8 @@ lambda-done s w begun pushed numbered popped_ last new from p apart ends same_te
     (local-prints p.e p.bytes p.encloses (lambda items n) (codes "{lambda(" ++ p.texts ++ codes ")#" ++ num ++ codes "}")
     (lambda-list-prints p.ts p.texts p.elements n num (number-text number is)) digit) in
     let place : pushed.at ≡ w.at + 1 = one.at ∙ at in
-    let ending : StandsAt s w.at (lambda_ending number) =
-    stands-join s w.at (69 ∷ []) (lambda_digits number ++ 95 ∷ []) ends (subst (λ k. StandsAt s k (lambda_digits number ++ 95 ∷ [])) place digits_) in
+    let ending : StandsAt s.bytes w.at (lambda_ending number) =
+    stands-join s.bytes w.at (69 ∷ []) (lambda_digits number ++ 95 ∷ []) ends (subst (λ k. StandsAt s.bytes k (lambda_digits number ++ 95 ∷ [])) place digits_) in
     let middle : popped_.at ≡ w.at + length (lambda_ending number) = omega (arith, popped_at, numbered_at, place) in
     let written : last.text.list.items ≡ p.front ++ bytes =
     three.text ∙ append-nil popped_.text.list.items ∙ ap (λ v. v.list.items) popped_text ∙ two.text
@@ -620,9 +621,9 @@ lambda-done s w begun pushed numbered popped_ last new from p apart ends same_te
 -- ## The type
 
 -- its name and its discriminator are read
-pub type-within : (s : List ℕ) (old pushed read last new : Direct) (from : ℕ) → AwaitsTypeName s old from → Writes old pushed (codes "::")
+pub type-within : (s : Symbol) (old pushed read last new : Direct) (from : ℕ) → AwaitsTypeName s old from → Writes old pushed (codes "::")
     → (p : Term) (n : List ℕ) → IsPieceAt s pushed.at p read.at → PrintsPiece p n → Reads pushed read n
-    → (digit : Discriminator) → IsDiscriminatorAt s read.at digit last.at → Reads read last []
+    → (digit : Discriminator) → IsDiscriminatorAt s.bytes read.at digit last.at → Reads read last []
     → new.candidates.list.items ≡ added last from false → new.text ≡ last.text → new.waiting ≡ last.waiting → new.at ≡ last.at
     → IsWriting s new (steps.Value false)
 type-within s old pushed read last new from awaits one p n is prints two digit told three candidates text waiting here =

@@ -5,6 +5,7 @@ use Rattle.cpp_grammar.specs.declared.kind.Kind.{Kind}
 use Rattle.cpp_grammar.specs.Parts.{types_of}
 use Rattle.cpp_grammar.specs.Scope.{arguments_of}
 use Rattle.cpp_grammar.specs.Term.{expansion, parameter, rvalue, list, nil}
+use Rattle.cpp_direct.specs.Symbol.{Symbol}
 use Rattle.cpp_direct.specs.declared.direct.Direct.{Direct}
 use Rattle.cpp_direct.specs.declared.open.Argument.{Argument}
 use Rattle.cpp_direct.specs.declared.open.Candidate.{Candidate}
@@ -40,7 +41,7 @@ stands-so P None p = tt
 stands-so P (Some end) p = p
 
 -- its text is written
-pub pack-inside : (s : List ℕ) (w : Direct) (is_const : Bool) (start : ℕ) (argument : Argument) → AwaitsNextParameter s w is_const start argument
+pub pack-inside : (s : Symbol) (w : Direct) (is_const : Bool) (start : ℕ) (argument : Argument) → AwaitsNextParameter s w is_const start argument
     → argument.from ≤ argument.to → argument.to ≤ length w.text.list.items
 pack-inside s w is_const start argument a ordered =
     let h = (a.is_function.names ordered).placed in
@@ -51,8 +52,8 @@ abbrev pub with_three : List Candidate → List Candidate
 with_three ks = ((ks ++ hidden ∷ []) ++ hidden ∷ []) ++ hidden ∷ []
 
 -- it is read
-pub expansion-read : (s : List ℕ) (old new : Direct) (is_const : Bool) (start : ℕ) (argument : Argument) → AwaitsNextParameter s old is_const start argument
-    → argument.is_pack ≡ true → argument.from ≤ argument.to → StandsAt s old.at (68 ∷ 112 ∷ 79 ∷ 84 ∷ 95 ∷ [])
+pub expansion-read : (s : Symbol) (old new : Direct) (is_const : Bool) (start : ℕ) (argument : Argument) → AwaitsNextParameter s old is_const start argument
+    → argument.is_pack ≡ true → argument.from ≤ argument.to → StandsAt s.bytes old.at (68 ∷ 112 ∷ 79 ∷ 84 ∷ 95 ∷ [])
     → new.text.list.items
     ≡ (old.text.list.items ++ take (argument.to - argument.from) (drop argument.from old.text.list.items)) ++ forwarded argument.is_reference
     → new.candidates.list.items ≡ with_three old.candidates.list.items → new.waiting ≡ old.waiting → new.at ≡ old.at + 5

@@ -6,6 +6,7 @@ use Rattle.cpp_grammar.specs.Parts.{is_plain_integer}
 use Rattle.cpp_grammar.specs.Term.{Signed, builtin}
 use Rattle.cpp_grammar.specs.Texts.{look_up, builtin_texts, literal_endings}
 use Rattle.cpp_grammar.specs.Values.{normal, is_zero, signed_digits}
+use Rattle.cpp_direct.specs.Symbol.{plain}
 use Rattle.cpp_direct.specs.declared.direct.Direct.{Direct}
 use Rattle.cpp_direct.specs.Holes.{StandsAt}
 use Rattle.cpp_direct.specs.HolesOfLists.{IsDigitsAt, IsOffsetAt, minus_sign}

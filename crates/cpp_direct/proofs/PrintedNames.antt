@@ -11,6 +11,7 @@ use Rattle.cpp_grammar.specs.Texts.{look_up, abbreviation_texts, builtin_texts, 
 use Rattle.cpp_grammar.specs.Items.{left, right, base, piece, Context, head_with, head, is_reference, is_funarr, is_empty}
 use Rattle.cpp_grammar.specs.Meaning.{is_void}
 use Rattle.cpp_grammar.specs.Parts.{as_item, says, source_text, prefix_item, last_piece, opening_text, piece_parts, left_parts, right_parts, base_parts, parts_in, not_empty, is_plain_integer}
+use Rattle.cpp_direct.specs.Symbol.{plain}
 use Rattle.cpp_direct.specs.Names.{is_angle, operator_text}
 use Rattle.cpp_direct.specs.Prints.{in_form, EndsAsInteger, Prints, PrintsName, NamesClass}
 use Rattle.cpp_direct.proofs.PrintedParts.{text_by, cost_by, text_alone, cost_first, length-filled}

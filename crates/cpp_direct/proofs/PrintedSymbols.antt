@@ -11,6 +11,7 @@ use Rattle.cpp_grammar.specs.Values.{Value, tree_of, qualifiers_of, ref_of}
 use Rattle.cpp_grammar.specs.Meaning.{is_void, is_nil, parameters, encoding_of}
 use Rattle.cpp_grammar.specs.Parts.{as_item, says, text_part, list_part, types_of, qualifier_text, ref_text, encoding_text, function_bare, function_full, thunk_text, full_parts, left_parts, root_parts, parts_in, not_empty}
 use Rattle.cpp_grammar.specs.Answer.{shown, root_item}
+use Rattle.cpp_direct.specs.Symbol.{plain}
 use Rattle.cpp_direct.specs.Prints.{in_form, Prints, PrintsName, PrintsIn, IsElement, Shows, list_of, joined, PrintEachIn, PrintAllIn}
 use Rattle.cpp_direct.specs.Stands.{qualifiers, plain_encoding}
 use Rattle.cpp_direct.proofs.PrintedParts.{printed_by, text_by, cost_by, text_first, cost_first, text_append, cost_append, part-text, part-cost, length-filled}

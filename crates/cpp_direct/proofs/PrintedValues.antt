@@ -10,6 +10,7 @@ use Rattle.cpp_grammar.specs.Items.{left, right, Context, Item, head_with, head,
 use Rattle.cpp_grammar.specs.Values.{normal}
 use Rattle.cpp_grammar.specs.Meaning.{is_void}
 use Rattle.cpp_grammar.specs.Parts.{as_item, says, text_part, sign_part, is_plain_integer, builtin_code, integer_parts, prefix_item, last_piece, opening_text, left_parts, right_parts, parts_in, not_empty}
+use Rattle.cpp_direct.specs.Symbol.{plain}
 use Rattle.cpp_direct.specs.Prints.{in_form, EndsAsInteger, Prints, sign_text}
 use Rattle.cpp_direct.proofs.PrintedParts.{printed_by, text_by, cost_by, text_alone, text_first, cost_first, text_append, cost_append, part-text, part-cost, length-filled}
 use Rattle.cpp_direct.proofs.PrintedNames.{builtin-prints}

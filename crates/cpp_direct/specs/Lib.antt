@@ -10,5 +10,6 @@ pub mod Letters
 pub mod Names
 pub mod Prints
 pub mod Stands
+pub mod Symbol
 pub mod Ways
 pub mod Written

@@ -6,6 +6,7 @@ use Rattle.sym_core.specs.Number.{AreDigitsOf, FitsSymbol}
 use Rattle.sym_core.specs.Scan.{ReachesNameBytes}
 use Rattle.sym_core.specs.Value.{value_of}
 use Rattle.cpp_grammar.specs.Texts.{look_up, operator_texts, same_bytes}
+use Rattle.cpp_direct.specs.Symbol.{plain}
 use Rattle.cpp_direct.specs.declared.names.NamePlace.{NamePlace}
 use Rattle.cpp_direct.specs.Holes.{StandsAt, IsNameAt}
 

@@ -8,6 +8,7 @@ use Rattle.cpp_grammar.specs.Scope.{has_return_type, is_structor}
 use Rattle.cpp_grammar.specs.Between.{after, in_name}
 use Rattle.cpp_grammar.specs.Meaning.{encoding_of}
 use Rattle.cpp_grammar.specs.Values.{State, Around, Value, nothing_there, tree, outermost, tree_of, qualifiers_of, ref_of}
+use Rattle.cpp_direct.specs.Symbol.{Symbol, plain}
 use Rattle.cpp_direct.specs.declared.open.Purpose.{Purpose}
 use Rattle.cpp_direct.specs.declared.open.Open.{Open}
 use Rattle.cpp_direct.specs.declared.open.Argument.{Argument}
@@ -32,7 +33,7 @@ pub record IsFresh (w : Direct) : Type 0 where
   pub none_open : w.waiting.list.items ≡ []
 
 -- an encoding is expected behind what is written
-pub record AwaitsEncoding (s : List ℕ) (w : Direct) : Type 0 where
+pub record AwaitsEncoding (s : Symbol) (w : Direct) : Type 0 where
   pub state : State
   pub candidates : AreCandidates w.text.list.items w.candidates.list.items state.candidates
   pub around : Around
@@ -41,21 +42,21 @@ pub record AwaitsEncoding (s : List ℕ) (w : Direct) : Type 0 where
   pub onward : (e : Term) (at : ℕ) (st : State) → Comes s outer (tree e true) at st → EncodedBehind s w.text.list.items e at
 
 -- the name of an encoding that began before is expected, behind the L of internal linkage or without
-pub record AwaitsSource (s : List ℕ) (w : Direct) (is_internal : Bool) : Type 0 where
+pub record AwaitsSource (s : Symbol) (w : Direct) (is_internal : Bool) : Type 0 where
   pub before : ℕ
   pub awaits : AwaitsEncoding s (record w { at = before })
-  pub letter : is_internal ≡ true → StandsAt s before (76 ∷ [])
+  pub letter : is_internal ≡ true → StandsAt s.bytes before (76 ∷ [])
   pub at_is : w.at ≡ before + cond is_internal 1 0
 
 -- the name of an encoding was read behind a text, with or without arguments behind it
-pub record HasName (s : List ℕ) (lead : List ℕ) (encoding : ℕ) (t : Term) (at : ℕ) (st : State) : Type 0 where
+pub record HasName (s : Symbol) (lead : List ℕ) (encoding : ℕ) (t : Term) (at : ℕ) (st : State) : Type 0 where
   pub inner : List Opened
-  pub awaits : Expects s Kind.MaybeArguments (after t false (in_name encoding)) inner at st
+  pub awaits : Expects s Kind.ArgumentsAlone (after t false (in_name encoding)) inner at st
   pub bare : (at : ℕ) (st : State) → Comes s inner nothing_there at st → AwaitsItems s lead (tree t false) at st
   pub argued : (a : Term) (at : ℕ) (st : State) → Comes s inner (tree a true) at st → AwaitsItems s lead (tree (instance t a) false) at st
 
 -- The name of an encoding that stands in no class was read, and written from a place on. It takes arguments behind it, or may have none.
-pub record IsUnscoped (s : List ℕ) (w : Direct) (from : ℕ) (takes : Bool) : Type 0 where
+pub record IsUnscoped (s : Symbol) (w : Direct) (from : ℕ) (takes : Bool) : Type 0 where
   pub state : State
   pub candidates : AreCandidates w.text.list.items w.candidates.list.items state.candidates
   pub encoding : ℕ
@@ -71,12 +72,12 @@ pub record IsUnscoped (s : List ℕ) (w : Direct) (from : ℕ) (takes : Bool) : 
   pub no_structor : is_structor own ≡ false
 
 -- a type is expected
-pub record AwaitsType (s : List ℕ) (w : Direct) : Type 0 where
+pub record AwaitsType (s : Symbol) (w : Direct) : Type 0 where
   pub state : State
   pub candidates : AreCandidates w.text.list.items w.candidates.list.items state.candidates
   pub kind : Kind
   pub typed : IsTyped kind
-  pub referable : IsReferable kind ⊎ NoReference s w.at
+  pub referable : IsReferable kind ⊎ NoReference s.bytes w.at
   pub around : Around
   pub outside : around.prefix ≡ outermost
   pub os : List Opened
@@ -85,7 +86,7 @@ pub record AwaitsType (s : List ℕ) (w : Direct) : Type 0 where
   pub scoped : IsScoped around (reverse w.waiting.list.items)
 
 -- a type is expected that is a name
-pub record AwaitsNamedType (s : List ℕ) (w : Direct) : Type 0 where
+pub record AwaitsNamedType (s : Symbol) (w : Direct) : Type 0 where
   pub state : State
   pub candidates : AreCandidates w.text.list.items w.candidates.list.items state.candidates
   pub kind : Kind
@@ -97,7 +98,7 @@ pub record AwaitsNamedType (s : List ℕ) (w : Direct) : Type 0 where
   pub stands : Stands s (reverse w.waiting.list.items) os w.text.list.items
 
 -- the name of a type was read, which is a candidate already or not, and was written from a place on
-pub record IsTypeNamed (s : List ℕ) (w : Direct) (from : ℕ) (is_listed is_reference : Bool) : Type 0 where
+pub record IsTypeNamed (s : Symbol) (w : Direct) (from : ℕ) (is_listed is_reference : Bool) : Type 0 where
   pub state : State
   pub candidates : AreCandidates w.text.list.items w.candidates.list.items state.candidates
   pub around : Around
@@ -114,7 +115,7 @@ pub record IsTypeNamed (s : List ℕ) (w : Direct) (from : ℕ) (is_listed is_re
   pub stands : Stands s (reverse w.waiting.list.items) outer front
 
 -- A type was read that what waits for it marks. It was written from a place on, but for its mark.
-pub record AwaitsMark (s : List ℕ) (w : Direct) (mark : List ℕ) (from : ℕ) (is_reference : Bool) : Type 0 where
+pub record AwaitsMark (s : Symbol) (w : Direct) (mark : List ℕ) (from : ℕ) (is_reference : Bool) : Type 0 where
   pub state : State
   pub candidates : AreCandidates w.text.list.items w.candidates.list.items state.candidates
   pub entry : Open
@@ -132,7 +133,7 @@ pub record AwaitsMark (s : List ℕ) (w : Direct) (mark : List ℕ) (from : ℕ)
   pub stands : Stands s rest outer front
 
 -- A type that names the argument of the function's template was read, and what waits for it marks it. It was written, but for its mark.
-pub record AwaitsDependentMark (s : List ℕ) (w : Direct) (mark : List ℕ) (is_reference : Bool) : Type 0 where
+pub record AwaitsDependentMark (s : Symbol) (w : Direct) (mark : List ℕ) (is_reference : Bool) : Type 0 where
   pub state : State
   pub candidates : AreCandidates w.text.list.items w.candidates.list.items state.candidates
   pub entry : Open
@@ -154,7 +155,7 @@ pub record AwaitsDependentMark (s : List ℕ) (w : Direct) (mark : List ℕ) (is
   pub stands : Stands s rest outer front
 
 -- The first argument of a name was read, which is a type.
-pub record IsArgumentRead (s : List ℕ) (w : Direct) (from : ℕ) (is_reference : Bool) : Type 0 where
+pub record IsArgumentRead (s : Symbol) (w : Direct) (from : ℕ) (is_reference : Bool) : Type 0 where
   pub state : State
   pub candidates : AreCandidates w.text.list.items w.candidates.list.items state.candidates
   pub owner : Open
@@ -172,7 +173,7 @@ pub record IsArgumentRead (s : List ℕ) (w : Direct) (from : ℕ) (is_reference
   pub goes : ArgumentsGoOn s owner (Stands s rest) front template (t ∷ []) w.at state
 
 -- The first element of a pack was read, which is the first argument of a name.
-pub record IsPackElementRead (s : List ℕ) (w : Direct) (from : ℕ) (is_reference : Bool) : Type 0 where
+pub record IsPackElementRead (s : Symbol) (w : Direct) (from : ℕ) (is_reference : Bool) : Type 0 where
   pub state : State
   pub candidates : AreCandidates w.text.list.items w.candidates.list.items state.candidates
   pub owner : Open
@@ -190,7 +191,7 @@ pub record IsPackElementRead (s : List ℕ) (w : Direct) (from : ℕ) (is_refere
   pub goes : GoesOn s (of_pack [] []) owner (Stands s rest) front template (t ∷ []) w.at state
 
 -- the first piece of a nested name is expected
-pub record AwaitsNest (s : List ℕ) (w : Direct) (purpose : Purpose) : Type 0 where
+pub record AwaitsNest (s : Symbol) (w : Direct) (purpose : Purpose) : Type 0 where
   pub state : State
   pub candidates : AreCandidates w.text.list.items w.candidates.list.items state.candidates
   pub around : Around
@@ -200,7 +201,7 @@ pub record AwaitsNest (s : List ℕ) (w : Direct) (purpose : Purpose) : Type 0 w
   pub serves : Serves s purpose (Stands s (reverse w.waiting.list.items)) outer w.text.list.items
 
 -- A component of a nested name was read, or a name in std. Arguments may stand behind it.
-pub record IsNestNamed (s : List ℕ) (w : Direct) : Type 0 where
+pub record IsNestNamed (s : Symbol) (w : Direct) : Type 0 where
   pub state : State
   pub candidates : AreCandidates w.text.list.items w.candidates.list.items state.candidates
   pub around : Around
@@ -219,7 +220,7 @@ pub record IsNestNamed (s : List ℕ) (w : Direct) : Type 0 where
   pub serves : Serves s w.nest.purpose (Stands s (reverse w.waiting.list.items)) outer front
 
 -- An operator was read that ends a nested name: no arguments are read behind it.
-pub record IsOperatorRead (s : List ℕ) (w : Direct) : Type 0 where
+pub record IsOperatorRead (s : Symbol) (w : Direct) : Type 0 where
   pub state : State
   pub candidates : AreCandidates w.text.list.items w.candidates.list.items state.candidates
   pub around : Around
@@ -235,7 +236,7 @@ pub record IsOperatorRead (s : List ℕ) (w : Direct) : Type 0 where
   pub serves : Serves s w.nest.purpose (Stands s (reverse w.waiting.list.items)) outer front
 
 -- A constructor or a destructor was read, and was written but for the name of its class.
-pub record AwaitsClass (s : List ℕ) (w : Direct) : Type 0 where
+pub record AwaitsClass (s : Symbol) (w : Direct) : Type 0 where
   pub state : State
   pub candidates : AreCandidates w.text.list.items w.candidates.list.items state.candidates
   pub around : Around
@@ -259,7 +260,7 @@ pub record AwaitsClass (s : List ℕ) (w : Direct) : Type 0 where
 
 -- The arguments of what was opened last are read and their E, but for their last bracket. Where a place is given they are one type
 -- alone, or a pack of one, which stands there.
-pub record IsListEnded (s : List ℕ) (w : Direct) (argument : Argument) : Type 0 where
+pub record IsListEnded (s : Symbol) (w : Direct) (argument : Argument) : Type 0 where
   pub state : State
   pub candidates : AreCandidates w.text.list.items w.candidates.list.items state.candidates
   pub owner : Open
@@ -280,7 +281,7 @@ pub record IsListEnded (s : List ℕ) (w : Direct) (argument : Argument) : Type 
       × (argument.from ≡ length (front ++ name ++ codes "<")) × (argument.to ≡ length (front ++ name ++ codes "<") + length arguments)
 
 -- An element is expected, and the comma before it is written.
-pub record AwaitsNextArgument (s : List ℕ) (w : Direct) : Type 0 where
+pub record AwaitsNextArgument (s : Symbol) (w : Direct) : Type 0 where
   pub state : State
   pub candidates : AreCandidates w.text.list.items w.candidates.list.items state.candidates
   pub place : IsListing (reverse w.waiting.list.items) w.text.list.items
@@ -291,7 +292,7 @@ pub record AwaitsNextArgument (s : List ℕ) (w : Direct) : Type 0 where
   pub goes : GoesOn s place.listing place.owner (Stands s place.rest) place.front place.template ts w.at state
 
 -- The type of an enumerator was read, which is an element. Its number is expected.
-pub record AwaitsNumber (s : List ℕ) (w : Direct) : Type 0 where
+pub record AwaitsNumber (s : Symbol) (w : Direct) : Type 0 where
   pub state : State
   pub candidates : AreCandidates w.text.list.items w.candidates.list.items state.candidates
   pub opened : List Open
@@ -308,7 +309,7 @@ pub record AwaitsNumber (s : List ℕ) (w : Direct) : Type 0 where
   pub goes : EnumeratorGoesOn s place.listing place.owner (Stands s place.rest) place.front place.template ts type w.at state
 
 -- The name of an encoding was read and written from a place on, but for its qualifier.
-pub record IsNameEnded (s : List ℕ) (w : Direct) (is_const is_instance : Bool) (from : ℕ) : Type 0 where
+pub record IsNameEnded (s : Symbol) (w : Direct) (is_const is_instance : Bool) (from : ℕ) : Type 0 where
   pub state : State
   pub candidates : AreCandidates w.text.list.items w.candidates.list.items state.candidates
   pub own : Term
@@ -327,13 +328,13 @@ pub record IsNameEnded (s : List ℕ) (w : Direct) (is_const is_instance : Bool)
   pub awaits : AwaitsItems s lead v w.at state
 
 -- The return type of a function was read, and stands behind the function's name.
-pub record IsFrontRead (s : List ℕ) (w : Direct) (is_const : Bool) (start : ℕ) (argument : Argument) : Type 0 where
+pub record IsFrontRead (s : Symbol) (w : Direct) (is_const : Bool) (start : ℕ) (argument : Argument) : Type 0 where
   pub state : State
   pub candidates : AreCandidates w.text.list.items w.candidates.list.items state.candidates
   pub v : Value
   pub name : List ℕ
   pub is_instance : IsInstance argument is_const v name
-  pub apart : is_local s ≡ false
+  pub apart : is_local s.bytes ≡ false
   pub start_is : start ≡ length name
   pub returned : Term
   pub bytes : List ℕ
@@ -343,7 +344,7 @@ pub record IsFrontRead (s : List ℕ) (w : Direct) (is_const : Bool) (start : �
   pub goes : ParametersGoOn s argument [] (encoding_of v) (returned ∷ []) w.at state
 
 -- A function's name was read and written, and what stands in front of it. Its parameters are expected.
-pub record AwaitsParameters (s : List ℕ) (w : Direct) (is_const : Bool) (start : ℕ) (argument : Argument) : Type 0 where
+pub record AwaitsParameters (s : Symbol) (w : Direct) (is_const : Bool) (start : ℕ) (argument : Argument) : Type 0 where
   pub state : State
   pub candidates : AreCandidates w.text.list.items w.candidates.list.items state.candidates
   pub make : Term → Term
@@ -356,7 +357,7 @@ pub record AwaitsParameters (s : List ℕ) (w : Direct) (is_const : Bool) (start
   pub goes : ParametersGoOn s argument lead make [] w.at state
 
 -- A parameter of a function is expected.
-pub record AwaitsNextParameter (s : List ℕ) (w : Direct) (is_const : Bool) (start : ℕ) (argument : Argument) : Type 0 where
+pub record AwaitsNextParameter (s : Symbol) (w : Direct) (is_const : Bool) (start : ℕ) (argument : Argument) : Type 0 where
   pub state : State
   pub candidates : AreCandidates w.text.list.items w.candidates.list.items state.candidates
   pub rest : List Open
@@ -373,7 +374,7 @@ pub record AwaitsNextParameter (s : List ℕ) (w : Direct) (is_const : Bool) (st
   pub goes : ParametersGoOn s argument lead make ts w.at state
 
 -- A parameter of a function was read.
-pub record IsParameterEnded (s : List ℕ) (w : Direct) (is_const : Bool) (start : ℕ) (argument : Argument) : Type 0 where
+pub record IsParameterEnded (s : Symbol) (w : Direct) (is_const : Bool) (start : ℕ) (argument : Argument) : Type 0 where
   pub state : State
   pub candidates : AreCandidates w.text.list.items w.candidates.list.items state.candidates
   pub rest : List Open
@@ -391,7 +392,7 @@ pub record IsParameterEnded (s : List ℕ) (w : Direct) (is_const : Bool) (start
   pub goes : ParametersGoOn s argument lead make ts w.at state
 
 -- An encoding was read and written behind a text, but for its qualifier.
-pub record IsEncodingEnded (s : List ℕ) (w : Direct) (is_const : Bool) : Type 0 where
+pub record IsEncodingEnded (s : Symbol) (w : Direct) (is_const : Bool) : Type 0 where
   pub state : State
   pub candidates : AreCandidates w.text.list.items w.candidates.list.items state.candidates
   pub e : Term
@@ -403,7 +404,7 @@ pub record IsEncodingEnded (s : List ℕ) (w : Direct) (is_const : Bool) : Type 
   pub behind : EncodedBehind s lead e w.at
 
 -- The encoding of a symbol was read and written.
-pub record IsSymbolEnded (s : List ℕ) (w : Direct) : Type 0 where
+pub record IsSymbolEnded (s : Symbol) (w : Direct) : Type 0 where
   pub state : State
   pub candidates : AreCandidates w.text.list.items w.candidates.list.items state.candidates
   pub e : Term
@@ -413,18 +414,18 @@ pub record IsSymbolEnded (s : List ℕ) (w : Direct) : Type 0 where
 -- ## Local entities
 
 -- The name of a local entity is expected behind the E of the encoding before it, and behind the L of internal linkage or without.
-pub record AwaitsEntity (s : List ℕ) (w : Direct) (is_internal : Bool) : Type 0 where
+pub record AwaitsEntity (s : Symbol) (w : Direct) (is_internal : Bool) : Type 0 where
   pub before : ℕ
   pub ended : IsEncodingEnded s (record w { at = before }) false
-  pub is_entity : is_local s ≡ true
-  pub first : StandsAt s before (69 ∷ [])
-  pub letter : is_internal ≡ true → StandsAt s (before + 1) (76 ∷ [])
+  pub is_entity : is_local s.bytes ≡ true
+  pub first : StandsAt s.bytes before (69 ∷ [])
+  pub letter : is_internal ≡ true → StandsAt s.bytes (before + 1) (76 ∷ [])
   pub at_is : w.at ≡ before + 1 + cond is_internal 1 0
 
 -- ## Types in functions
 
 -- The name of a function in which a type stands was read and written from a place on, but for its qualifier.
-pub record IsEnclosingNamed (s : List ℕ) (w : Direct) (is_const : Bool) (from : ℕ) : Type 0 where
+pub record IsEnclosingNamed (s : Symbol) (w : Direct) (is_const : Bool) (from : ℕ) : Type 0 where
   pub state : State
   pub candidates : AreCandidates w.text.list.items w.candidates.list.items state.candidates
   pub own : Term
@@ -441,7 +442,7 @@ pub record IsEnclosingNamed (s : List ℕ) (w : Direct) (is_const : Bool) (from 
   pub goes : ItemsGoOn s nowhere (TypeWithin s (Stands s (reverse w.waiting.list.items)) front) (λ l. encoding_of v l) [] w.at state
 
 -- A parameter of such a function was read.
-pub record IsEnclosingParameterRead (s : List ℕ) (w : Direct) (is_const : Bool) (from : ℕ) : Type 0 where
+pub record IsEnclosingParameterRead (s : Symbol) (w : Direct) (is_const : Bool) (from : ℕ) : Type 0 where
   pub state : State
   pub candidates : AreCandidates w.text.list.items w.candidates.list.items state.candidates
   pub rest : List Open
@@ -458,7 +459,7 @@ pub record IsEnclosingParameterRead (s : List ℕ) (w : Direct) (is_const : Bool
   pub goes : ItemsGoOn s nowhere (TypeWithin s (Stands s rest) front) make ts w.at state
 
 -- Such a function was read and written from a place on, but for its qualifier.
-pub record IsEnclosingRead (s : List ℕ) (w : Direct) (is_const : Bool) (from : ℕ) : Type 0 where
+pub record IsEnclosingRead (s : Symbol) (w : Direct) (is_const : Bool) (from : ℕ) : Type 0 where
   pub state : State
   pub candidates : AreCandidates w.text.list.items w.candidates.list.items state.candidates
   pub e : Term
@@ -470,14 +471,14 @@ pub record IsEnclosingRead (s : List ℕ) (w : Direct) (is_const : Bool) (from :
   pub within : TypeWithin s (Stands s (reverse w.waiting.list.items)) front e w.at state
 
 -- The name of a type is expected behind the E of the function that it stands in, which was written from a place on.
-pub record AwaitsTypeName (s : List ℕ) (w : Direct) (from : ℕ) : Type 0 where
+pub record AwaitsTypeName (s : Symbol) (w : Direct) (from : ℕ) : Type 0 where
   pub before : ℕ
   pub read : IsEnclosingRead s (record w { at = before }) false from
-  pub letter : StandsAt s before (69 ∷ [])
+  pub letter : StandsAt s.bytes before (69 ∷ [])
   pub at_is : w.at ≡ before + 1
 
 -- A parameter of a lambda was read, which is a type that stands in a function.
-pub record IsLambdaParameterRead (s : List ℕ) (w : Direct) (from : ℕ) : Type 0 where
+pub record IsLambdaParameterRead (s : Symbol) (w : Direct) (from : ℕ) : Type 0 where
   pub state : State
   pub candidates : AreCandidates w.text.list.items w.candidates.list.items state.candidates
   pub rest : List Open
@@ -497,7 +498,7 @@ pub record IsLambdaParameterRead (s : List ℕ) (w : Direct) (from : ℕ) : Type
 -- ## Function types
 
 -- A type was read behind a text, as an element or a parameter of what is open.
-pub record IsElementRead (s : List ℕ) (w : Direct) (o : Open) : Type 0 where
+pub record IsElementRead (s : Symbol) (w : Direct) (o : Open) : Type 0 where
   pub state : State
   pub candidates : AreCandidates w.text.list.items w.candidates.list.items state.candidates
   pub rest : List Open
@@ -512,7 +513,7 @@ pub record IsElementRead (s : List ℕ) (w : Direct) (o : Open) : Type 0 where
   pub stands : Stands s (o ∷ rest) os front
 
 -- Of a function type the return type was read, or a parameter.
-pub record AwaitsSignature (s : List ℕ) (w : Direct) (is_pointer is_first : Bool) : Type 0 where
+pub record AwaitsSignature (s : Symbol) (w : Direct) (is_pointer is_first : Bool) : Type 0 where
   pub state : State
   pub candidates : AreCandidates w.text.list.items w.candidates.list.items state.candidates
   pub rest : List Open
@@ -535,7 +536,7 @@ pub record AwaitsSignature (s : List ℕ) (w : Direct) (is_pointer is_first : Bo
   pub stands : Stands s rest outer front
 
 -- A parameter of a function type comes next.
-pub record AwaitsParameter (s : List ℕ) (w : Direct) (is_pointer : Bool) : Type 0 where
+pub record AwaitsParameter (s : Symbol) (w : Direct) (is_pointer : Bool) : Type 0 where
   pub state : State
   pub candidates : AreCandidates w.text.list.items w.candidates.list.items state.candidates
   pub rest : List Open
@@ -556,7 +557,7 @@ pub record AwaitsParameter (s : List ℕ) (w : Direct) (is_pointer : Bool) : Typ
   pub stands : Stands s rest outer front
 
 -- The return type of a function type was read.
-pub record IsReturned (s : List ℕ) (w : Direct) (is_pointer : Bool) : Type 0 where
+pub record IsReturned (s : Symbol) (w : Direct) (is_pointer : Bool) : Type 0 where
   pub state : State
   pub candidates : AreCandidates w.text.list.items w.candidates.list.items state.candidates
   pub rest : List Open
@@ -574,7 +575,7 @@ pub record IsReturned (s : List ℕ) (w : Direct) (is_pointer : Bool) : Type 0 w
   pub stands : Stands s rest outer front
 
 -- A function type was read, or a pointer to one, and written but for its last bracket.
-pub record IsFunctionRead (s : List ℕ) (w : Direct) (is_pointer : Bool) : Type 0 where
+pub record IsFunctionRead (s : Symbol) (w : Direct) (is_pointer : Bool) : Type 0 where
   pub state : State
   pub candidates : AreCandidates w.text.list.items w.candidates.list.items state.candidates
   pub rest : List Open

@@ -7,6 +7,7 @@ ghost use Rattle.cpp_direct.specs.declared.open.Step.TheVariants as steps;
 ghost use Rattle.cpp_direct.specs.Holes.{StandsAt};
 ghost use Rattle.cpp_direct.specs.Stands.{IsWriting, argument_of};
 ghost use Rattle.cpp_direct.specs.Ways.{AwaitsType, AwaitsDependentMark, AwaitsNextParameter, IsArgumentRead, IsPackElementRead};
+ghost use Rattle.cpp_direct.specs.Symbol.{plain};
 
 use crate::direct::Direct;
 use crate::open::{Argument, Open, Step};
@@ -61,8 +62,8 @@ impl Direct {
     #[inline(always)]
     pub(crate) fn first_type(&mut self, s: &[u8]) -> Option<Step>
         requires fits { IsReadable s.now }
-        requires writing { IsWriting s.now self.old (steps.List true) }
-        ensures { IfSome result (IsWriting s.now self.new) }
+        requires writing { IsWriting (plain s.now) self.old (steps.List true) }
+        ensures { IfSome result (IsWriting (plain s.now) self.new) }
     {
         if self.waiting.len() != 1 {
             return Some(Step::Type);
@@ -86,8 +87,8 @@ impl Direct {
     pub(crate) fn first_pack(&mut self, s: &[u8]) -> Option<Step>
         requires fits { IsReadable s.now }
         requires letter { StandsAt s.now self.old.at (74 ∷ []) }
-        requires writing { IsWriting s.now self.old (steps.List true) }
-        ensures { IfSome result (IsWriting s.now self.new) }
+        requires writing { IsWriting (plain s.now) self.old (steps.List true) }
+        ensures { IfSome result (IsWriting (plain s.now) self.new) }
     {
         if self.waiting.len() != 1 {
             return self.begin_pack(s);
@@ -117,8 +118,8 @@ impl Direct {
         is_reference: bool,
     ) -> Option<Step>
         requires fits { IsReadable s.now }
-        requires read { IsPackElementRead s.now self.old from is_reference }
-        ensures { IfSome result (IsWriting s.now self.new) }
+        requires read { IsPackElementRead (plain s.now) self.old from is_reference }
+        ensures { IfSome result (IsWriting (plain s.now) self.new) }
     {
         let _element = self.waiting.pop();
         if byte_at(s, self.at) != b'E' {
@@ -152,8 +153,8 @@ impl Direct {
         argument: Argument,
     ) -> Option<Step>
         requires fits { IsReadable s.now }
-        requires awaits { AwaitsNextParameter s.now self.old is_const start argument }
-        ensures { IfSome result (IsWriting s.now self.new) }
+        requires awaits { AwaitsNextParameter (plain s.now) self.old is_const start argument }
+        ensures { IfSome result (IsWriting (plain s.now) self.new) }
     {
         if argument.is_pack {
             return self.expansion(s, is_const, start, argument);
@@ -167,8 +168,8 @@ impl Direct {
     fn expansion(&mut self, s: &[u8], is_const: bool, start: usize, pack: Argument) -> Option<Step>
         requires fits { IsReadable s.now }
         requires is_pack { pack.is_pack ≡ true }
-        requires awaits { AwaitsNextParameter s.now self.old is_const start pack }
-        ensures { IfSome result (IsWriting s.now self.new) }
+        requires awaits { AwaitsNextParameter (plain s.now) self.old is_const start pack }
+        ensures { IfSome result (IsWriting (plain s.now) self.new) }
     {
         let Some(end) = expansion_end(s, self.at) else {
             return Some(Step::Type);
@@ -195,8 +196,8 @@ impl Direct {
         is_reference: bool,
     ) -> Option<Step>
         requires fits { IsReadable s.now }
-        requires read { IsArgumentRead s.now self.old from is_reference }
-        ensures { IfSome result (IsWriting s.now self.new) }
+        requires read { IsArgumentRead (plain s.now) self.old from is_reference }
+        ensures { IfSome result (IsWriting (plain s.now) self.new) }
     {
         let _open = self.waiting.pop();
         if is_reference {
@@ -243,8 +244,8 @@ impl Direct {
     pub(crate) fn template_parameter(&mut self, s: &[u8]) -> Option<Step>
         requires fits { IsReadable s.now }
         requires letter { StandsAt s.now self.old.at (84 ∷ []) }
-        requires awaits { AwaitsType s.now self.old }
-        ensures { IfSome result (IsWriting s.now self.new) }
+        requires awaits { AwaitsType (plain s.now) self.old }
+        ensures { IfSome result (IsWriting (plain s.now) self.new) }
     {
         self.at = self.at.checked_add(1)?;
         if byte_at(s, self.at) != b'_' {
@@ -268,8 +269,8 @@ impl Direct {
     #[inline(never)]
     pub(crate) fn pass_dependent(&mut self, s: &[u8], is_reference: bool) -> Option<Step>
         requires fits { IsReadable s.now }
-        requires writing { IsWriting s.now self.old (steps.Dependent is_reference) }
-        ensures { IfSome result (IsWriting s.now self.new) }
+        requires writing { IsWriting (plain s.now) self.old (steps.Dependent is_reference) }
+        ensures { IfSome result (IsWriting (plain s.now) self.new) }
     {
         match *self.waiting.as_slice().last()? {
             Open::Pointer { .. } => self.mark_dependent(s, b"*", false),
@@ -296,8 +297,8 @@ impl Direct {
     /// Ends a type that names the argument, and is no reference, with a mark.
     // <type> ::= R <type> | O <type> | <CV-qualifiers> <type>
     fn mark_plain(&mut self, s: &[u8]) -> Option<Step>
-        requires { IsWriting s.now self.old (steps.Dependent false) }
-        ensures { IfSome result (IsWriting s.now self.new) }
+        requires { IsWriting (plain s.now) self.old (steps.Dependent false) }
+        ensures { IfSome result (IsWriting (plain s.now) self.new) }
     {
         match *self.waiting.as_slice().last()? {
             Open::Lvalue { .. } => self.mark_dependent(s, b"&", true),
@@ -309,8 +310,8 @@ impl Direct {
 
     /// Ends a type that names the argument with a mark.
     fn mark_dependent(&mut self, _s: &[u8], mark: &[u8], is_reference: bool) -> Option<Step>
-        requires { AwaitsDependentMark _s.now self.old mark.now is_reference }
-        ensures { IfSome result (IsWriting _s.now self.new) }
+        requires { AwaitsDependentMark (plain _s.now) self.old mark.now is_reference }
+        ensures { IfSome result (IsWriting (plain _s.now) self.new) }
     {
         let _open = self.waiting.pop();
         self.push(mark)?;

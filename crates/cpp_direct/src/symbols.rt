@@ -9,6 +9,7 @@ ghost use Rattle.cpp_direct.specs.Holes.{StandsAt};
 ghost use Rattle.cpp_direct.specs.Names.{IsReadable};
 ghost use Rattle.cpp_direct.specs.Stands.{IsWriting};
 ghost use Rattle.cpp_direct.specs.Ways.{IsFresh, AwaitsEncoding, IsNameEnded, IsFrontRead, AwaitsParameters, IsParameterEnded, IsEncodingEnded, IsSymbolEnded};
+ghost use Rattle.cpp_direct.specs.Symbol.{plain};
 
 use crate::direct::Direct;
 use crate::names::are_name_bytes;
@@ -157,8 +158,8 @@ impl Direct {
     #[inline(always)]
     fn take(&mut self, s: &[u8], step: Step) -> Option<Step>
         requires fits { IsReadable s.now }
-        requires writing { IsWriting s.now self.old step }
-        ensures { IfSome result (IsWriting s.now self.new) }
+        requires writing { IsWriting (plain s.now) self.old step }
+        ensures { IfSome result (IsWriting (plain s.now) self.new) }
     {
         match step {
             Step::Type => self.type_at(s, false),
@@ -178,7 +179,7 @@ impl Direct {
     fn begin(&mut self, s: &[u8]) -> Option<Step>
         requires fits { IsReadable s.now }
         requires fresh { IsFresh self.old }
-        ensures { IfSome result (IsWriting s.now self.new) }
+        ensures { IfSome result (IsWriting (plain s.now) self.new) }
     {
         if byte_at(s, 0) != b'_' || byte_at(s, 1) != b'Z' {
             return None;
@@ -201,8 +202,8 @@ impl Direct {
     // <encoding> ::= <function name> <bare-function-type> | <data name>
     pub(crate) fn begin_encoding(&mut self, s: &[u8]) -> Option<Step>
         requires fits { IsReadable s.now }
-        requires awaits { AwaitsEncoding s.now self.old }
-        ensures { IfSome result (IsWriting s.now self.new) }
+        requires awaits { AwaitsEncoding (plain s.now) self.old }
+        ensures { IfSome result (IsWriting (plain s.now) self.new) }
     {
         match byte_at(s, self.at) {
             b'N' => self.begin_nested(s),
@@ -223,7 +224,7 @@ impl Direct {
         requires fresh { IsFresh self.old }
         requires starts { StandsAt s.now 0 (95 ∷ 90 ∷ []) }
         requires letter { StandsAt s.now 2 (84 ∷ []) }
-        ensures { IfSome result (IsWriting s.now self.new) }
+        ensures { IfSome result (IsWriting (plain s.now) self.new) }
     {
         let text = cpp_layout::special_text(byte_at(s, 3));
         if text.is_empty() {
@@ -238,9 +239,9 @@ impl Direct {
     // <nested-name> ::= N [<CV-qualifiers>] [<ref-qualifier>] <prefix> <unqualified-name> E
     fn begin_nested(&mut self, s: &[u8]) -> Option<Step>
         requires fits { IsReadable s.now }
-        requires awaits { AwaitsEncoding s.now self.old }
+        requires awaits { AwaitsEncoding (plain s.now) self.old }
         requires letter { StandsAt s.now self.old.at (78 ∷ []) }
-        ensures { IfSome result (IsWriting s.now self.new) }
+        ensures { IfSome result (IsWriting (plain s.now) self.new) }
     {
         self.at = self.at.checked_add(1)?;
         if byte_at(s, self.at) == b'K' {
@@ -260,8 +261,8 @@ impl Direct {
         from: usize,
     ) -> Option<Step>
         requires fits { IsReadable s.now }
-        requires ended { IsNameEnded s.now self.old is_const is_instance from }
-        ensures { IfSome result (IsWriting s.now self.new) }
+        requires ended { IsNameEnded (plain s.now) self.old is_const is_instance from }
+        ensures { IfSome result (IsWriting (plain s.now) self.new) }
     {
         if may_end(byte_at(s, self.at)) {
             return self.end(s, is_const);
@@ -278,8 +279,8 @@ impl Direct {
     #[inline(never)]
     fn begin_front(&mut self, s: &[u8], is_const: bool, from: usize) -> Option<Step>
         requires fits { IsReadable s.now }
-        requires ended { IsNameEnded s.now self.old is_const true from }
-        ensures { IfSome result (IsWriting s.now self.new) }
+        requires ended { IsNameEnded (plain s.now) self.old is_const true from }
+        ensures { IfSome result (IsWriting (plain s.now) self.new) }
     {
         // in front of a local entity stands no return type, and behind a text it would have to be moved
         if from != 0 || is_local(s) {
@@ -306,8 +307,8 @@ impl Direct {
         argument: Argument,
     ) -> Option<Step>
         requires fits { IsReadable s.now }
-        requires ended { IsFrontRead s.now self.old is_const start argument }
-        ensures { IfSome result (IsWriting s.now self.new) }
+        requires ended { IsFrontRead (plain s.now) self.old is_const start argument }
+        ensures { IfSome result (IsWriting (plain s.now) self.new) }
     {
         if may_end(byte_at(s, self.at)) {
             return None;
@@ -329,8 +330,8 @@ impl Direct {
         argument: Argument,
     ) -> Option<Step>
         requires fits { IsReadable s.now }
-        requires awaits { AwaitsParameters s.now self.old is_const start argument }
-        ensures { IfSome result (IsWriting s.now self.new) }
+        requires awaits { AwaitsParameters (plain s.now) self.old is_const start argument }
+        ensures { IfSome result (IsWriting (plain s.now) self.new) }
     {
         let byte = byte_at(s, self.at);
         self.push_byte(b'(')?;
@@ -358,8 +359,8 @@ impl Direct {
         argument: Argument,
     ) -> Option<Step>
         requires fits { IsReadable s.now }
-        requires ended { IsParameterEnded s.now self.old is_const start argument }
-        ensures { IfSome result (IsWriting s.now self.new) }
+        requires ended { IsParameterEnded (plain s.now) self.old is_const start argument }
+        ensures { IfSome result (IsWriting (plain s.now) self.new) }
     {
         let byte = byte_at(s, self.at);
         if !may_end(byte) {
@@ -380,8 +381,8 @@ impl Direct {
         _argument: Argument,
     ) -> Option<Step>
         requires fits { IsReadable s.now }
-        requires ended { IsParameterEnded s.now self.old is_const start _argument }
-        ensures { IfSome result (IsWriting s.now self.new) }
+        requires ended { IsParameterEnded (plain s.now) self.old is_const start _argument }
+        ensures { IfSome result (IsWriting (plain s.now) self.new) }
     {
         // a lone void is no parameter
         if self.text.as_slice().ends_with(b"(void") {
@@ -395,8 +396,8 @@ impl Direct {
     /// The end of an encoding, behind its text but for its qualifier: a local entity follows, or the end of the symbol.
     pub(crate) fn end(&mut self, s: &[u8], is_const: bool) -> Option<Step>
         requires fits { IsReadable s.now }
-        requires ended { IsEncodingEnded s.now self.old is_const }
-        ensures { IfSome result (IsWriting s.now self.new) }
+        requires ended { IsEncodingEnded (plain s.now) self.old is_const }
+        ensures { IfSome result (IsWriting (plain s.now) self.new) }
     {
         if is_const {
             self.push(b" const")?;
@@ -410,8 +411,8 @@ impl Direct {
     /// The end of a symbol, behind the text of its encoding.
     // <mangled-name> ::= _Z <encoding> . <vendor-specific suffix>
     pub(crate) fn finish(&mut self, s: &[u8]) -> Option<Step>
-        requires { IsSymbolEnded s.now self.old }
-        ensures { IfSome result (IsWriting s.now self.new) }
+        requires { IsSymbolEnded (plain s.now) self.old }
+        ensures { IfSome result (IsWriting (plain s.now) self.new) }
     {
         let suffix = s.get(self.at..)?;
         if suffix.is_empty() {

@@ -13,12 +13,13 @@ use Rattle.sym_shape.specs.Tree.{Tree, Forest, branch, empty, token, fixed, noth
 use Rattle.sym_core.specs.declared.NameClass.TheVariants.{Cpp}
 use Rattle.cpp_grammar.specs.declared.kind.Kind.{Kind}
 use Rattle.cpp_grammar.specs.declared.production.Production.{Production}
-use Rattle.cpp_grammar.specs.Grammar.{Alternative, in_ranges, among, is_in, pick, alternatives, kinds, productions, number_of, is_chain}
+use Rattle.cpp_grammar.specs.Grammar.{Alternative, in_ranges, among, is_in, pick, alternatives, kinds, productions, number_of, is_chain, may_be_empty}
 use Rattle.cpp_grammar.specs.Before.{alternatives_before}
 use Rattle.cpp_grammar.specs.Wide.{wide_alternatives}
 use Rattle.cpp_grammar.specs.Either.{either_alternatives}
+use Rattle.cpp_grammar.specs.KindNumbers.{MAYBE_ARGUMENTS, ARGUMENTS_ALONE, NEST_REST, NEST_REST_ALONE}
 use Rattle.cpp_grammar.specs.Table.{rule_of, rule_taken, sheet_with, sheet, blank, abi, sheet_before, abi_before, wide_sheet, wide, either_sheet, either}
-use Rattle.cpp_grammar.proofs.Choosing.{sheet_at, picked}
+use Rattle.cpp_grammar.proofs.Choosing.{sheet_at, picked, either_empty_at}
 
 -- the later choice is the earlier one
 unfoldable pub same_choice : (earlier later : Option Production) → Bool
@@ -135,35 +136,44 @@ empty_keeps was now k is = elim (slice_get_cases kinds k).1 [
   | inr past ↦ absurd (false≢true (sym (full_past was k past.1) ∙ is))
 ]
 
-rule_kept : (was now : Kind → List Alternative) (k byte : ℕ) (rule : Rule) → Keeps was now → byte < 256 → (table_with was).rule k byte ≡ Some rule
+-- a rule that one kind takes in a table is one that another kind takes in another, where this one keeps what that one chooses
+across : (was now : Kind → List Alternative) (j k byte : ℕ) (small big : Kind) (rule : Rule) → slice_get kinds j ≡ Some small → slice_get kinds k ≡ Some big
+    → keeps_choices (was small) (now big) ≡ true → byte < 256 → (table_with was).rule j byte ≡ Some rule
     → ((table_with now).rule k byte ≡ Some rule) ⊎ ((rule.eats ≡ false) × ((table_with now).rule k 33 ≡ Some rule))
 unfolding rule_taken rule_of
-rule_kept was now k byte rule each lt found = elim (slice_get_cases kinds k).1 [
-  | inl there ↦ by there.0 there.2 (pick (was there.0) byte) refl (sym (rule_with was k there.0 byte there.2) ∙ found)
-  | inr past ↦ (let clash : None ≡ Some rule = sym (none_past was k byte past.1) ∙ found in absurd cc)
-]
+across was now j k byte small big rule at_small at_big keeps lt found = by (pick (was small) byte) refl (sym (rule_with was j small byte at_small) ∙ found)
   where
-    by : (kind : Kind) → slice_get kinds k ≡ Some kind → (chosen : Option Production) → pick (was kind) byte ≡ chosen → rule_taken chosen ≡ Some rule
+    by : (chosen : Option Production) → pick (was small) byte ≡ chosen → rule_taken chosen ≡ Some rule
         → ((table_with now).rule k byte ≡ Some rule) ⊎ ((rule.eats ≡ false) × ((table_with now).rule k 33 ≡ Some rule))
-    by kind at None is h = let clash : None ≡ Some rule = h in absurd cc
-    by kind at (Some p) is h = elim (kept_choice (was kind) (now kind) byte p (each kind) lt is) [
-      | inl here ↦ inl (rule_with now k kind byte at ∙ ap rule_taken here ∙ h)
+    by None is h = let clash : None ≡ Some rule = h in absurd cc
+    by (Some p) is h = elim (kept_choice (was small) (now big) byte p keeps lt is) [
+      | inl here ↦ inl (rule_with now k big byte at_big ∙ ap rule_taken here ∙ h)
       | inr apart ↦ inr (
         sym (ap (λ r. r.eats) (let same : ◌≡◌ {A = Option Rule} (Some (rule_of p)) (Some rule) = h in let own : rule_of p ≡ rule = cc in own)) ∙ ap not apart.0,
-        rule_with now k kind 33 at ∙ ap rule_taken apart.1 ∙ h,
+        rule_with now k big 33 at_big ∙ ap rule_taken apart.1 ∙ h,
       )
     ]
 
-takes : (was now : Kind → List Alternative) (k : ℕ) (rule : Rule) (taken : List ℕ) → Keeps was now → TakesRule (table_with was) k rule taken → TakesRule (table_with now) k rule taken
-takes was now k rule taken each t = elim (rule_kept was now k t.byte rule each t.is_byte t.found) [
-  | inl here ↦ record { byte = t.byte; is_byte = t.is_byte; found = here; takes = t.takes }
-  | inr apart ↦ record {
-    byte = 33;
-    is_byte = lit≤ tt;
-    found = apart.1;
-    takes = t.takes ∙ ap (λ b. cond b (t.byte ∷ []) []) apart.0 ∙ sym (ap (λ b. cond b (33 ∷ []) []) apart.0);
-  }
+rule_kept : (was now : Kind → List Alternative) (k byte : ℕ) (rule : Rule) → Keeps was now → byte < 256 → (table_with was).rule k byte ≡ Some rule
+    → ((table_with now).rule k byte ≡ Some rule) ⊎ ((rule.eats ≡ false) × ((table_with now).rule k 33 ≡ Some rule))
+rule_kept was now k byte rule each lt found = elim (slice_get_cases kinds k).1 [
+  | inl there ↦ across was now k k byte there.0 there.0 rule there.2 there.2 (each there.0) lt found
+  | inr past ↦ (let clash : None ≡ Some rule = sym (none_past was k byte past.1) ∙ found in absurd cc)
 ]
+
+-- a rule that is taken at a byte is taken at another table's, there or at the byte that no symbol has
+taken_there : (g h : Table) (j k : ℕ) (rule : Rule) (taken : List ℕ) (t : TakesRule g j rule taken)
+    → (h.rule k t.byte ≡ Some rule) ⊎ ((rule.eats ≡ false) × (h.rule k 33 ≡ Some rule)) → TakesRule h k rule taken
+taken_there g h j k rule taken t (inl here) = record { byte = t.byte; is_byte = t.is_byte; found = here; takes = t.takes }
+taken_there g h j k rule taken t (inr apart) = record {
+  byte = 33;
+  is_byte = lit≤ tt;
+  found = apart.1;
+  takes = t.takes ∙ ap (λ b. cond b (t.byte ∷ []) []) apart.0 ∙ sym (ap (λ b. cond b (33 ∷ []) []) apart.0);
+}
+
+takes : (was now : Kind → List Alternative) (k : ℕ) (rule : Rule) (taken : List ℕ) → Keeps was now → TakesRule (table_with was) k rule taken → TakesRule (table_with now) k rule taken
+takes was now k rule taken each t = taken_there (table_with was) (table_with now) k k rule taken t (rule_kept was now k t.byte rule each t.is_byte t.found)
 
 mutual
   tree_keeps : (was now : Kind → List Alternative) → Keeps was now → (x : Sym) (t : Tree) → IsTree (table_with was) x t → IsTree (table_with now) x t
@@ -196,3 +206,35 @@ abi_either x t is = tree_keeps alternatives either_alternatives abi_kept x t is
 pub wide_either : (x : Sym) (t : Tree) → IsTree wide x t → IsTree either x t
 unfolding wide either wide_sheet either_sheet
 wide_either x t is = tree_keeps wide_alternatives either_alternatives wide_kept x t is
+
+-- and each of their rules is one of its
+pub abi_takes : (k : ℕ) (rule : Rule) (taken : List ℕ) → TakesRule abi k rule taken → TakesRule either k rule taken
+unfolding abi either sheet either_sheet
+abi_takes k rule taken t = takes alternatives either_alternatives k rule taken abi_kept t
+
+-- a kind that keeps what another one chooses has its trees
+widens : (j k : ℕ) (small big : Kind) → slice_get kinds j ≡ Some small → slice_get kinds k ≡ Some big → keeps_choices (either_alternatives small) (either_alternatives big) ≡ true
+    → either.may_be_empty j ≡ either.may_be_empty k → (t : Tree) → IsTree either (OfKind j) t → IsTree either (OfKind k) t
+unfolding either either_sheet
+widens j k small big at_small at_big keeps empties (branch rule taken parts) is =
+    (taken_there _ _ j k rule taken is.0 (across either_alternatives either_alternatives j k is.0.byte small big rule at_small at_big keeps is.0.is_byte is.0.found), is.1)
+widens j k small big at_small at_big keeps empties empty is = sym empties ∙ is
+widens j k small big at_small at_big keeps empties (token t) is = absurd is
+widens j k small big at_small at_big keeps empties (fixed byte) is = absurd is
+
+arguments_missing : either.may_be_empty ARGUMENTS_ALONE ≡ either.may_be_empty MAYBE_ARGUMENTS
+unfolding kinds may_be_empty
+arguments_missing = either_empty_at ARGUMENTS_ALONE Kind.ArgumentsAlone refl ∙ sym (either_empty_at MAYBE_ARGUMENTS Kind.MaybeArguments refl)
+
+rests_missing : either.may_be_empty NEST_REST_ALONE ≡ either.may_be_empty NEST_REST
+unfolding kinds may_be_empty
+rests_missing = either_empty_at NEST_REST_ALONE Kind.NestRestAlone refl ∙ sym (either_empty_at NEST_REST Kind.NestRest refl)
+
+-- what may stand behind a parameter or a substitution may stand behind any name
+pub either_arguments : (t : Tree) → IsTree either (OfKind ARGUMENTS_ALONE) t → IsTree either (OfKind MAYBE_ARGUMENTS) t
+unfolding kinds in_ranges among is_in pick number_of either_alternatives wide_alternatives same_choice each_below takes_no_byte is_chain keeps_choices
+either_arguments t is = widens ARGUMENTS_ALONE MAYBE_ARGUMENTS Kind.ArgumentsAlone Kind.MaybeArguments refl refl refl arguments_missing t is
+
+pub either_rest : (t : Tree) → IsTree either (OfKind NEST_REST_ALONE) t → IsTree either (OfKind NEST_REST) t
+unfolding kinds in_ranges among is_in pick number_of either_alternatives wide_alternatives same_choice each_below takes_no_byte is_chain keeps_choices
+either_rest t is = widens NEST_REST_ALONE NEST_REST Kind.NestRestAlone Kind.NestRest refl refl refl rests_missing t is

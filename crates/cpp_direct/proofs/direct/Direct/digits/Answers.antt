@@ -1,6 +1,7 @@
 use Rattle.std.proofs.Common.{arith, refl, ◌∙◌}
 use Rattle.sym_core.specs.declared.NumberKind.TheVariants.{Digits}
 use Rattle.sym_core.specs.Token.{IsNumberToken}
+use Rattle.cpp_direct.specs.Symbol.{plain}
 use Rattle.cpp_direct.proofs.FoundTokens.{place-found, own-found, some-by, reads-written, reads-then, reads-of, digits-read}
 use Rattle.cpp_direct.proofs.Literals.{plain-digits, zero-digits, minus-digits}
 use Rattle.cpp_direct.proofs.direct.Direct.digits.Goals as goal

@@ -1,4 +1,5 @@
 use Rattle.std.proofs.Common.{sym, subst, false}
+use Rattle.cpp_direct.specs.Symbol.{plain}
 use Rattle.cpp_direct.specs.Ways.{IsEnclosingRead}
 use Rattle.cpp_direct.proofs.EnclosingFunctions.{const-added-within, const-kept-within}
 use Rattle.cpp_direct.proofs.direct.Direct.enclosing_ended.Goals as goal
@@ -6,7 +7,7 @@ use Rattle.cpp_direct.proofs.direct.Direct.enclosing_ended.Goals.{then-is_const+
 
 pub enclosed-requires-clause-read : goal.enclosed-requires-clause-read
 enclosed-requires-clause-read c =
-    let s = c.args.s.now in
+    let s = plain c.args.s.now in
     let w = c.args.self.now in
     elim c.if-is_const.branch [
       | then-is_const+in_ok-push b ↦ subst (λ d. IsEnclosingRead s d false c.args.from) (sym b.self-is)

@@ -1,4 +1,5 @@
 use Rattle.std.proofs.Common.{sym, ◌∙◌, subst, false}
+use Rattle.cpp_direct.specs.Symbol.{plain}
 use Rattle.cpp_direct.specs.Ways.{IsEncodingEnded}
 use Rattle.cpp_direct.proofs.Ending.{const-kept, const-added, symbol-ended}
 use Rattle.cpp_direct.proofs.direct.Direct.end.Goals as goal
@@ -6,7 +7,7 @@ use Rattle.cpp_direct.proofs.direct.Direct.end.Goals.{then-is_const+in_ok-push, 
 
 pub entity-requires-clause-ended : goal.entity-requires-clause-ended
 entity-requires-clause-ended c =
-    let s = c.args.s.now in
+    let s = plain c.args.s.now in
     let w = c.args.self.now in
     elim c.if-is_const.branch [
       | then-is_const+in_ok-push b ↦ subst (λ d. IsEncodingEnded s d false) (sym b.self-is)
@@ -17,7 +18,7 @@ entity-requires-clause-ended c =
 
 pub finish-requires : goal.finish-requires
 finish-requires c =
-    let s = c.args.s.now in
+    let s = plain c.args.s.now in
     let w = c.args.self.now in
     let now : IsEncodingEnded s c.if-is_const.self false = elim c.if-is_const.branch [
       | then-is_const+in_ok-push b ↦ subst (λ d. IsEncodingEnded s d false) (sym b.self-is)

@@ -1,4 +1,5 @@
 use Rattle.std.proofs.Common.{subst, sym, ◌∙◌}
+use Rattle.cpp_direct.specs.Symbol.{plain}
 use Rattle.cpp_direct.specs.Ways.{IsEnclosingNamed, IsNameEnded}
 use Rattle.cpp_direct.proofs.EnclosingFunctions.{name-within}
 use Rattle.cpp_direct.proofs.Nesting.{type-ended, name-comes}
@@ -9,16 +10,16 @@ name_ended-requires-clause-ended c =
     let old = c.args.self.now in
     let writing = c.requires.writing in
     let before = writing.is_before in
-    subst (λ n. IsNameEnded c.args.s.now (record old { at = n }) c.in-Name.is_const old.nest.is_instance old.nest.from) (sym c.in_ok-self.ensures.1)
-    (name-comes c.args.s.now old writing.state before.0 c.in-Name.is_const writing.candidates before.1 before.2 before.3 before.4 c.requires.end c.in-Name.is)
+    subst (λ n. IsNameEnded (plain c.args.s.now) (record old { at = n }) c.in-Name.is_const old.nest.is_instance old.nest.from) (sym c.in_ok-self.ensures.1)
+    (name-comes (plain c.args.s.now) old writing.state before.0 c.in-Name.is_const writing.candidates before.1 before.2 before.3 before.4 c.requires.end c.in-Name.is)
 
 pub enclosing_named-requires-clause-named : goal.enclosing_named-requires-clause-named
 enclosing_named-requires-clause-named c =
     let old = c.args.self.now in
     let writing = c.requires.writing in
     let before = writing.is_before in
-    subst (λ n. IsEnclosingNamed c.args.s.now (record old { at = n }) c.in-Enclosing.is_const old.nest.from) (sym c.in_ok-self.ensures.1)
-    (name-within c.args.s.now old writing.state before.0 c.in-Enclosing.is_const writing.candidates before.1 (before.2 c.if-self.false) c.requires.end
+    subst (λ n. IsEnclosingNamed (plain c.args.s.now) (record old { at = n }) c.in-Enclosing.is_const old.nest.from) (sym c.in_ok-self.ensures.1)
+    (name-within (plain c.args.s.now) old writing.state before.0 c.in-Enclosing.is_const writing.candidates before.1 (before.2 c.if-self.false) c.requires.end
     c.in-Enclosing.is)
 
 pub returns-in_ok-add_unless-in-Type : goal.returns-in_ok-add_unless-in-Type
@@ -26,7 +27,7 @@ returns-in_ok-add_unless-in-Type c =
     let writing = c.requires.writing in
     let before = writing.is_before in
     let added = c.in_ok-add_unless-in-Type.ensures in
-    type-ended c.args.s.now c.args.self.now c.add_unless.new.self writing.state before.0 writing.candidates before.1 c.requires.end c.in-Type.is
+    type-ended (plain c.args.s.now) c.args.self.now c.add_unless.new.self writing.state before.0 writing.candidates before.1 c.requires.end c.in-Type.is
     (record {
       candidates = added.candidates;
       text = added.text;

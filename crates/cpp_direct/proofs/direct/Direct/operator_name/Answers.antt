@@ -1,5 +1,6 @@
 use Rattle.std.proofs.Common.{◌≢◌, ◌+◌, ◌∷◌, ◌++◌, [], length, codes, refl, ap, ◌∙◌, arith}
 use Rattle.cpp_grammar.specs.Texts.{look_up, operator_texts}
+use Rattle.cpp_direct.specs.Symbol.{plain}
 use Rattle.cpp_direct.proofs.FoundTokens.{reads-written}
 use Rattle.cpp_direct.proofs.Moves.{stands-join, stands-moved}
 use Rattle.cpp_direct.proofs.Operators.{operator-listed}
@@ -8,7 +9,7 @@ use Rattle.cpp_direct.proofs.direct.Direct.operator_name.Goals as goal
 
 pub returns : goal.returns
 returns c =
-    let s = c.args.s.now in
+    let s = plain c.args.s.now in
     let old = c.args.self.now in
     let first = c.byte_at-first.result in
     let second = c.byte_at-second.result in
@@ -21,8 +22,8 @@ returns c =
       second,
       record {
         known = known;
-        stands = stands-join s old.at (first ∷ []) (second ∷ []) (c.byte_at-first.ensures is.first_filled)
-            (stands-moved s c.in_ok-self.field-0 (old.at + 1) (second ∷ []) c.in_ok-self.ensures.1 (c.byte_at-second.ensures is.second_filled));
+        stands = stands-join s.bytes old.at (first ∷ []) (second ∷ []) (c.byte_at-first.ensures is.first_filled)
+            (stands-moved s.bytes c.in_ok-self.field-0 (old.at + 1) (second ∷ []) c.in_ok-self.ensures.1 (c.byte_at-second.ensures is.second_filled));
         ends = omega (arith, wrote.at, c.in_ok-self-2.ensures.1, c.in_ok-self.ensures.1);
       },
       not-so c.is_angle_code.result _ c.is_angle_code.ensures,
