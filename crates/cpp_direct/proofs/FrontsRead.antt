@@ -56,6 +56,8 @@ front-begins s w new is_const from start p none apart start_is text candidates a
       below = n.below;
       alone = n.alone;
       no_pack = n.prints.no_pack;
+      encoding_is = p.awaits.encoding_is lead_is apart;
+      no_lambda = p.awaits.no_lambda;
     })) in
     let element = element-awaits s Kind.Items goes.inner goes.around w.at p.state tt goes.awaits in
     let stands : Stands s (opens.Front is_const start w.argument ∷ reverse w.waiting.list.items) element.inner w.text.list.items = (

@@ -6,7 +6,7 @@ use Rattle.cpp_direct.specs.declared.open.Open.{Open}
 use Rattle.cpp_direct.specs.declared.open.Open.TheVariants as opens
 use Rattle.cpp_direct.specs.declared.open.Argument.{Argument}
 use Rattle.cpp_direct.specs.declared.open.Arguments.{Arguments}
-use Rattle.cpp_direct.specs.Stands.{IsPlaced, IsAmong, AreAmong, IsArgument, HasArguments, HasScope, IsFunction, IsKnown, IsScope, IsScoped, argument_of, nowhere, place_of}
+use Rattle.cpp_direct.specs.Stands.{IsPlaced, IsAmong, AreAmong, IsArgument, HasArguments, HasScope, IsEncodingOf, IsFunction, IsKnown, IsScope, IsScoped, argument_of, nowhere, place_of}
 
 -- what stands at a place stays there where more is written
 pub placed-stays : (text more : List ℕ) (p : Argument) (bytes : List ℕ) → IsPlaced text p bytes → IsPlaced (text ++ more) p bytes
@@ -76,6 +76,10 @@ parameters-scoped around is_const start p rest h q e = scoped-by around p q (cc 
 pub front-scoped : (around : Around) (is_const : Bool) (start : ℕ) (p : Arguments) (rest : List Open) → HasScope p around
     → IsScoped around (opens.Front is_const start p ∷ rest)
 front-scoped around is_const start p rest h q e = scoped-by around p q (cc e) h
+
+-- where one may be named, the encoding is that of the symbol
+pub scoped-encoding : (around : Around) (open_ : List Open) → IsScoped around open_ → IsEncodingOf (argument_of open_) around.encoding
+scoped-encoding around open_ scoped a k e known = (scoped a e k known).encoding_is
 
 -- elsewhere none does
 pub none-scoped : (around : Around) (open_ : List Open) → argument_of open_ ≡ None → IsScoped around open_

@@ -6,10 +6,10 @@ ghost use Rattle.cpp_direct.specs.Names.{IsReadable};
 ghost use Rattle.cpp_direct.specs.declared.open.Step.TheVariants as steps;
 ghost use Rattle.cpp_direct.specs.Holes.{StandsAt};
 ghost use Rattle.cpp_direct.specs.Stands.{IsWriting, argument_of, place_of};
-ghost use Rattle.cpp_direct.specs.Ways.{AwaitsType, AwaitsDependentMark, AwaitsKnownArgument, AwaitsNextParameter, IsArgumentRead, IsPackElementRead, KnowsMore, parameter_digits};
+ghost use Rattle.cpp_direct.specs.Ways.{AwaitsType, AwaitsDependentMark, AwaitsKnownArgument, AwaitsNextParameter, IsArgumentRead, IsNamedAgain, IsPackElementRead, KnowsMore, parameter_digits};
 
 use crate::direct::Direct;
-use crate::open::{Argument, Arguments, Open, Step};
+use crate::open::{Argument, Arguments, Candidate, Open, Step};
 use crate::symbols::{NO_PLACE, NOWHERE};
 use crate::tokens::{byte_at, may_end};
 
@@ -361,22 +361,53 @@ impl Direct {
         }
         self.at = read.end;
         self.repeat(argument.from as usize, argument.to as usize)?;
-        self.add_hidden(false)?;
+        let begins = self.text.len();
+        self.add_dependent(begins, false, read.number)?;
         Some(Step::Dependent {
             is_reference: false,
+            begins,
+            number: read.number,
         })
     }
 
-    /// Hands a type that names the argument on to what waits for it.
+    /// A type that names an argument is named once more.
+    // <substitution> ::= S <seq-id> _ | S_
+    #[inline(never)]
+    pub(crate) fn dependent_again(&mut self, s: &[u8], candidate: Candidate) -> Option<Step>
+        requires fits { IsReadable s.now }
+        requires again { IsNamedAgain s.now self.old candidate }
+        ensures { IfSome result (IsWriting s.now self.new) }
+    {
+        let named = known(self.argument()?.at(candidate.number))?;
+        if named.is_pack || named.is_reference {
+            return None;
+        }
+        self.repeat(named.from as usize, named.to as usize)?;
+        let begins = self.text.len();
+        self.repeat(candidate.from, candidate.to)?;
+        Some(Step::Dependent {
+            is_reference: candidate.is_reference,
+            begins,
+            number: candidate.number,
+        })
+    }
+
+    /// Hands a type that names an argument on to what waits for it.
     // <type> ::= P <type>
     #[inline(never)]
-    pub(crate) fn pass_dependent(&mut self, s: &[u8], is_reference: bool) -> Option<Step>
+    pub(crate) fn pass_dependent(
+        &mut self,
+        s: &[u8],
+        is_reference: bool,
+        begins: usize,
+        number: u16,
+    ) -> Option<Step>
         requires fits { IsReadable s.now }
-        requires writing { IsWriting s.now self.old (steps.Dependent is_reference) }
+        requires writing { IsWriting s.now self.old (steps.Dependent is_reference begins number) }
         ensures { IfSome result (IsWriting s.now self.new) }
     {
         match *self.waiting.as_slice().last()? {
-            Open::Pointer { .. } => self.mark_dependent(s, b"*", false),
+            Open::Pointer { .. } => self.mark_dependent(s, b"*", false, begins, number),
             Open::Parameters {
                 is_const,
                 start,
@@ -392,33 +423,44 @@ impl Direct {
                 if is_reference {
                     return None;
                 }
-                self.mark_plain(s)
+                self.mark_plain(s, begins, number)
             }
         }
     }
 
     /// Ends a type that names the argument, and is no reference, with a mark.
     // <type> ::= R <type> | O <type> | <CV-qualifiers> <type>
-    fn mark_plain(&mut self, s: &[u8]) -> Option<Step>
-        requires { IsWriting s.now self.old (steps.Dependent false) }
+    fn mark_plain(&mut self, s: &[u8], begins: usize, number: u16) -> Option<Step>
+        requires { IsWriting s.now self.old (steps.Dependent false begins number) }
         ensures { IfSome result (IsWriting s.now self.new) }
     {
         match *self.waiting.as_slice().last()? {
-            Open::Lvalue { .. } => self.mark_dependent(s, b"&", true),
-            Open::Rvalue { .. } => self.mark_dependent(s, b"&&", true),
-            Open::Const { .. } => self.mark_dependent(s, b" const", false),
+            Open::Lvalue { .. } => self.mark_dependent(s, b"&", true, begins, number),
+            Open::Rvalue { .. } => self.mark_dependent(s, b"&&", true, begins, number),
+            Open::Const { .. } => self.mark_dependent(s, b" const", false, begins, number),
             _ => None,
         }
     }
 
     /// Ends a type that names the argument with a mark.
-    fn mark_dependent(&mut self, _s: &[u8], mark: &[u8], is_reference: bool) -> Option<Step>
-        requires { AwaitsDependentMark _s.now self.old mark.now is_reference }
+    fn mark_dependent(
+        &mut self,
+        _s: &[u8],
+        mark: &[u8],
+        is_reference: bool,
+        begins: usize,
+        number: u16,
+    ) -> Option<Step>
+        requires { AwaitsDependentMark _s.now self.old mark.now is_reference begins number }
         ensures { IfSome result (IsWriting _s.now self.new) }
     {
         let _open = self.waiting.pop();
         self.push(mark)?;
-        self.add_hidden(false)?;
-        Some(Step::Dependent { is_reference })
+        self.add_dependent(begins, is_reference, number)?;
+        Some(Step::Dependent {
+            is_reference,
+            begins,
+            number,
+        })
     }
 }

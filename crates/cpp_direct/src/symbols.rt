@@ -172,7 +172,11 @@ impl Direct {
             Step::Type => self.type_at(s, false),
             Step::Plain => self.type_at(s, true),
             Step::Value { is_reference } => self.pass(s, is_reference),
-            Step::Dependent { is_reference } => self.pass_dependent(s, is_reference),
+            Step::Dependent {
+                is_reference,
+                begins,
+                number,
+            } => self.pass_dependent(s, is_reference, begins, number),
             Step::List { is_first } => self.list_at(s, is_first),
             Step::Rest => self.rest_at(s),
             Step::Tail => self.tail_at(s),
