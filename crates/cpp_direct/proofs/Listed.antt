@@ -1,5 +1,5 @@
 -- A writer at the end of arguments or a pack, and between two elements.
-use Rattle.std.proofs.Common.{◌≡◌, ◌≢◌, inl, inr, ℕ, zero, suc, ◌<◌, ◌+◌, ◌-◌, length, List, [], ◌∷◌, ◌++◌, reverse, slice_get, get_or, ◌≤◌, Bool, true, false, Some, None, refl, ap, sym, ◌∙◌, subst, arith, codes, append_assoc, append-nil}
+use Rattle.std.proofs.Common.{◌≡◌, ◌≢◌, inl, inr, ℕ, ◌+◌, ◌-◌, length, List, [], ◌∷◌, ◌++◌, reverse, slice_get, get_or, ◌≤◌, Bool, true, false, Some, None, refl, ap, sym, ◌∙◌, subst, arith, codes, append_assoc, append-nil}
 use Rattle.std.proofs.lemmas.Bool.{false≢true}
 use Rattle.std.proofs.lemmas.List.{length-append, reverse-reverse}
 use Rattle.std.proofs.lemmas.Option.{slice_get_within, get_or_from_slice_get}
@@ -7,11 +7,10 @@ use Rattle.std.proofs.Math.Seq.{get_or-append_seam}
 use Rattle.cpp_grammar.specs.declared.kind.Kind.{Kind}
 use Rattle.cpp_grammar.specs.Grammar.{may_be_empty}
 use Rattle.cpp_grammar.specs.Term.{Term, nil, list, instance, pack}
-use Rattle.cpp_grammar.specs.Scope.{arguments_of, before_arguments, is_structor, has_return_type, element, count}
+use Rattle.cpp_grammar.specs.Scope.{arguments_of, before_arguments, is_structor, has_return_type}
 use Rattle.cpp_grammar.specs.Values.{State, tree, nothing_there, tree_of, qualifiers_of, ref_of}
 use Rattle.cpp_grammar.specs.Between.{no_items}
 use Rattle.cpp_direct.specs.declared.open.Mark.TheVariants as marks
-use Rattle.cpp_direct.specs.declared.open.Arguments.{Arguments}
 use Rattle.cpp_direct.specs.declared.open.Nest.{Nest}
 use Rattle.cpp_direct.specs.declared.open.Open.{Open}
 use Rattle.cpp_direct.specs.declared.open.Open.TheVariants as opens
@@ -28,7 +27,7 @@ use Rattle.cpp_direct.proofs.MovesOfLists.{element-awaits, pack-opens}
 use Rattle.cpp_direct.proofs.PrintedLists.{list-with-none, next-prints, none-print, pack-element}
 use Rattle.cpp_direct.proofs.PrintedNames.{as-name}
 use Rattle.cpp_direct.proofs.PrintedNests.{instance-prints, instance-class}
-use Rattle.cpp_direct.proofs.Scopes.{none-known, none-scoped, placed-stays}
+use Rattle.cpp_direct.proofs.Scopes.{element-there, known-stay, none-known, none-scoped}
 use Rattle.cpp_direct.proofs.Kept.{candidates-stay, candidates-with, template-stays, reverse-last, last-reversed}
 
 -- ## What is open
@@ -120,19 +119,6 @@ in-front (t ∷ ts) l false none some = refl
 
 -- ## The end of arguments
 
--- known ones stay so where more is written
-known-stay : (text more : List ℕ) (a : Arguments) (ts : List Term) (tail : Term) → AreKnown text a ts tail → AreKnown (text ++ more) a ts tail
-known-stay text more a ts tail known k o = let h = known k o in (
-  record {
-    bytes = h.0.bytes;
-    placed = placed-stays text more (place_of a k) h.0.bytes h.0.placed;
-    own = h.0.own;
-    there = h.0.there;
-    prints = h.0.prints;
-  },
-  h.1,
-)
-
 -- The arguments of what was opened last are read and written.
 pub record IsClosed (s : List ℕ) (w : Direct) (owner : Open) : Type 0 where
   pub state : State
@@ -192,14 +178,6 @@ closed-by s old mid new x owner p writes text candidates at items is =
     closes s old new owner p (subst (λ v. v.list.items ≡ old.text.list.items ++ codes ">") (sym text) writes.text)
     (subst (λ v. v.list.items ≡ old.candidates.list.items) (sym (candidates ∙ writes.candidates)) refl) (at ∙ writes.at)
     (subst (λ v. v.list.items ≡ new.waiting.list.items ++ owner ∷ []) writes.waiting (items ∙ ap (λ o. new.waiting.list.items ++ o ∷ []) is))
-
--- an element of the list of elements
-element-there : (ts : List Term) (tail : Term) (k : ℕ) (t : Term) → slice_get ts k ≡ Some t
-    → (element (list_with ts tail) k ≡ t) × (k < count (list_with ts tail))
-unfolding element count
-element-there [] tail k t e = cc e
-element-there (u ∷ ts) tail zero t e = (cc e, omega arith)
-element-there (u ∷ ts) tail (suc k) t e = let h = element-there ts tail k t e in (h.0, omega (arith, h.1))
 
 -- what is known of them is known of the arguments of what they make
 closed-arguments : (s : List ℕ) (w : Direct) (owner : Open) (p : IsClosed s w owner)

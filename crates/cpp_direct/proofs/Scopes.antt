@@ -1,5 +1,6 @@
 -- What a parameter of a template may name, and where it stands.
-use Rattle.std.proofs.Common.{◌≡◌, ℕ, zero, suc, ◌≤◌, List, ◌∷◌, ◌++◌, None, arith, ap, sym, ◌∙◌, subst, append_assoc}
+use Rattle.std.proofs.Common.{◌≡◌, ℕ, zero, suc, ◌≤◌, ◌<◌, List, [], ◌∷◌, ◌++◌, slice_get, Some, None, arith, ap, sym, ◌∙◌, subst, append_assoc}
+use Rattle.cpp_grammar.specs.Scope.{count, element}
 use Rattle.cpp_grammar.specs.Term.{Term}
 use Rattle.cpp_grammar.specs.Values.{Around}
 use Rattle.cpp_direct.specs.declared.open.Mark.{Mark}
@@ -7,7 +8,8 @@ use Rattle.cpp_direct.specs.declared.open.Open.{Open}
 use Rattle.cpp_direct.specs.declared.open.Open.TheVariants as opens
 use Rattle.cpp_direct.specs.declared.open.Argument.{Argument}
 use Rattle.cpp_direct.specs.declared.open.Arguments.{Arguments}
-use Rattle.cpp_direct.specs.Stands.{IsPlaced, IsAmong, AreAmong, IsArgument, IsEnclosing, HasArguments, HasScope, IsFunction, IsKnown, IsScope, IsScoped, argument_of, nowhere, place_of}
+use Rattle.cpp_direct.specs.Stands.{IsPlaced, IsAmong, AreAmong, IsArgument, IsEnclosing, HasArguments, HasScope, IsFunction, IsKnown, IsScope, IsScoped, argument_of, list_with, nowhere, place_of}
+use Rattle.cpp_direct.specs.Ways.{AreKnown}
 
 -- what stands at a place stays there where more is written
 pub placed-stays : (text more : List ℕ) (p : Argument) (bytes : List ℕ) → IsPlaced text p bytes → IsPlaced (text ++ more) p bytes
@@ -45,6 +47,27 @@ one-stays text more p k ts h = record {
 
 pub among-stay : (text more : List ℕ) (a : Arguments) (ts : List Term) → AreAmong text a ts → AreAmong (text ++ more) a ts
 among-stay text more a ts known k o = let h = known k o in (one-stays text more (place_of a k) k ts h.0, h.1)
+
+-- and behind the last of them
+pub known-stay : (text more : List ℕ) (a : Arguments) (ts : List Term) (tail : Term) → AreKnown text a ts tail → AreKnown (text ++ more) a ts tail
+known-stay text more a ts tail known k o = let h = known k o in (
+  record {
+    bytes = h.0.bytes;
+    placed = placed-stays text more (place_of a k) h.0.bytes h.0.placed;
+    own = h.0.own;
+    there = h.0.there;
+    prints = h.0.prints;
+  },
+  h.1,
+)
+
+-- an element of the list of elements
+pub element-there : (ts : List Term) (tail : Term) (k : ℕ) (t : Term) → slice_get ts k ≡ Some t
+    → (element (list_with ts tail) k ≡ t) × (k < count (list_with ts tail))
+unfolding element count
+element-there [] tail k t e = cc e
+element-there (u ∷ ts) tail zero t e = (cc e, omega arith)
+element-there (u ∷ ts) tail (suc k) t e = let h = element-there ts tail k t e in (h.0, omega (arith, h.1))
 
 -- none is known
 pub none-known : (k : ℕ) → IsKnown (place_of nowhere k) → ⊥
