@@ -168,6 +168,7 @@ IsNoType (Node.Qualified q t) = ⊥
 IsNoType (Node.Vector digits t) = ⊥
 IsNoType (Node.Complex t) = ⊥
 IsNoType (Node.SizedFloat digits end) = ⊥
+IsNoType (Node.GenericParameter number) = ⊥
 IsNoType _ = Unit {0}
 
 -- ## A symbol as a layout
