@@ -11,7 +11,7 @@ use Rattle.cpp_grammar.specs.Texts.{look_up, literal_endings, builtin_texts, ope
 use Rattle.cpp_term.specs.Term as term
 use Rattle.cpp_term.specs.Term.{Term}
 use Rattle.cpp_term.specs.Items as items
-use Rattle.cpp_term.specs.Parts.{as_item, text_part, says, qualified_left, reference_parts, marked_parts, sign_part, is_plain_integer, builtin_code, integer_parts, left_parts, low_parts, base_parts, piece_parts}
+use Rattle.cpp_term.specs.Parts.{as_item, text_part, says, qualified_left, reference_parts, marked_parts, sign_part, is_plain_integer, builtin_code, integer_parts, left_parts, low_parts, base_parts, own_piece, piece_parts}
 use Rattle.cpp_tree.specs.declared.node.Piece.{Piece}
 use Rattle.cpp_tree.specs.declared.node.Node.{Node}
 use Rattle.cpp_tree.specs.declared.node.Thunk.{Thunk}
@@ -22,7 +22,7 @@ use Rattle.cpp_tree.specs.Nodes.{tree_of, signed_of, qualifiers_of}
 use Rattle.cpp_tree.specs.Fields.{bit, qualifiers_number}
 use Rattle.cpp_layout.specs.Texts.{fixed_text, suffix_of}
 use Rattle.cpp_layout.specs.declared.texts.TheConstants.{BLANKED, FALSE, LEFT, MINUS, RIGHT, TRUE}
-use Rattle.cpp_layout.specs.Layout.{own_piece, marked, referred, text_if, qualifiers_behind, IsNoName, IsNoType}
+use Rattle.cpp_layout.specs.Layout.{marked, referred, text_if, qualifiers_behind, IsNoName, IsNoType}
 
 -- ## Qualifiers
 
