@@ -201,7 +201,9 @@ impl Symbol {
             }
             Node::Holder(name) => self.push_item(parts, name, form::BASE, 0, ctx),
             Node::Tagged {
-                of_structor, name, ..
+                of_structor,
+                name,
+                ..
             } => self.fill_base_tagged(parts, of_structor, name, ctx),
             Node::Abbreviation(letter) => self.push_some(parts, last_of_abbreviation(letter)),
             Node::Parameter { argument, .. } => {
