@@ -9,6 +9,7 @@ ghost use Rattle.cpp_direct.specs.Holes.{StandsAt};
 ghost use Rattle.cpp_direct.specs.Names.{IsReadable};
 ghost use Rattle.cpp_direct.specs.Stands.{IsWriting};
 ghost use Rattle.cpp_direct.specs.Ways.{IsFresh, AwaitsEncoding, IsNameEnded, IsFrontRead, AwaitsParameters, IsParameterEnded, IsEncodingEnded, IsSymbolEnded};
+ghost use Rattle.cpp_direct.specs.Symbol.{plain};
 
 use crate::direct::Direct;
 use crate::marks::mark_at;
@@ -166,8 +167,8 @@ impl Direct {
     #[inline(always)]
     fn take(&mut self, s: &[u8], step: Step) -> Option<Step>
         requires fits { IsReadable s.now }
-        requires writing { IsWriting s.now self.old step }
-        ensures { IfSome result (IsWriting s.now self.new) }
+        requires writing { IsWriting (plain s.now) self.old step }
+        ensures { IfSome result (IsWriting (plain s.now) self.new) }
     {
         match step {
             Step::Type => self.type_at(s, false),
@@ -187,7 +188,7 @@ impl Direct {
     fn begin(&mut self, s: &[u8]) -> Option<Step>
         requires fits { IsReadable s.now }
         requires fresh { IsFresh self.old }
-        ensures { IfSome result (IsWriting s.now self.new) }
+        ensures { IfSome result (IsWriting (plain s.now) self.new) }
     {
         if byte_at(s, 0) != b'_' || byte_at(s, 1) != b'Z' {
             return None;
@@ -210,8 +211,8 @@ impl Direct {
     // <encoding> ::= <function name> <bare-function-type> | <data name>
     pub(crate) fn begin_encoding(&mut self, s: &[u8]) -> Option<Step>
         requires fits { IsReadable s.now }
-        requires awaits { AwaitsEncoding s.now self.old }
-        ensures { IfSome result (IsWriting s.now self.new) }
+        requires awaits { AwaitsEncoding (plain s.now) self.old }
+        ensures { IfSome result (IsWriting (plain s.now) self.new) }
     {
         match byte_at(s, self.at) {
             b'N' => self.begin_nested(s),
@@ -232,7 +233,7 @@ impl Direct {
         requires fresh { IsFresh self.old }
         requires starts { StandsAt s.now 0 (95 ∷ 90 ∷ []) }
         requires letter { StandsAt s.now 2 (84 ∷ []) }
-        ensures { IfSome result (IsWriting s.now self.new) }
+        ensures { IfSome result (IsWriting (plain s.now) self.new) }
     {
         let text = cpp_layout::special_text(byte_at(s, 3));
         if text.is_empty() {
@@ -247,9 +248,9 @@ impl Direct {
     // <nested-name> ::= N [<CV-qualifiers>] [<ref-qualifier>] <prefix> <unqualified-name> E
     fn begin_nested(&mut self, s: &[u8]) -> Option<Step>
         requires fits { IsReadable s.now }
-        requires awaits { AwaitsEncoding s.now self.old }
+        requires awaits { AwaitsEncoding (plain s.now) self.old }
         requires letter { StandsAt s.now self.old.at (78 ∷ []) }
-        ensures { IfSome result (IsWriting s.now self.new) }
+        ensures { IfSome result (IsWriting (plain s.now) self.new) }
     {
         self.at = self.at.checked_add(1)?;
         let place = mark_at(s, self.at)?;
@@ -267,8 +268,8 @@ impl Direct {
         from: usize,
     ) -> Option<Step>
         requires fits { IsReadable s.now }
-        requires ended { IsNameEnded s.now self.old mark is_instance from }
-        ensures { IfSome result (IsWriting s.now self.new) }
+        requires ended { IsNameEnded (plain s.now) self.old mark is_instance from }
+        ensures { IfSome result (IsWriting (plain s.now) self.new) }
     {
         if may_end(byte_at(s, self.at)) {
             return self.end(s, mark);
@@ -285,8 +286,8 @@ impl Direct {
     #[inline(never)]
     fn begin_front(&mut self, s: &[u8], mark: Mark, from: usize) -> Option<Step>
         requires fits { IsReadable s.now }
-        requires ended { IsNameEnded s.now self.old mark true from }
-        ensures { IfSome result (IsWriting s.now self.new) }
+        requires ended { IsNameEnded (plain s.now) self.old mark true from }
+        ensures { IfSome result (IsWriting (plain s.now) self.new) }
     {
         // in front of a local entity stands no return type, and behind a text it would have to be moved
         if from != 0 || is_local(s) {
@@ -313,8 +314,8 @@ impl Direct {
         argument: Arguments,
     ) -> Option<Step>
         requires fits { IsReadable s.now }
-        requires ended { IsFrontRead s.now self.old mark start argument }
-        ensures { IfSome result (IsWriting s.now self.new) }
+        requires ended { IsFrontRead (plain s.now) self.old mark start argument }
+        ensures { IfSome result (IsWriting (plain s.now) self.new) }
     {
         if may_end(byte_at(s, self.at)) {
             return None;
@@ -336,8 +337,8 @@ impl Direct {
         argument: Arguments,
     ) -> Option<Step>
         requires fits { IsReadable s.now }
-        requires awaits { AwaitsParameters s.now self.old mark start argument }
-        ensures { IfSome result (IsWriting s.now self.new) }
+        requires awaits { AwaitsParameters (plain s.now) self.old mark start argument }
+        ensures { IfSome result (IsWriting (plain s.now) self.new) }
     {
         let byte = byte_at(s, self.at);
         self.push_byte(b'(')?;
@@ -365,8 +366,8 @@ impl Direct {
         argument: Arguments,
     ) -> Option<Step>
         requires fits { IsReadable s.now }
-        requires ended { IsParameterEnded s.now self.old mark start argument }
-        ensures { IfSome result (IsWriting s.now self.new) }
+        requires ended { IsParameterEnded (plain s.now) self.old mark start argument }
+        ensures { IfSome result (IsWriting (plain s.now) self.new) }
     {
         let byte = byte_at(s, self.at);
         if !may_end(byte) {
@@ -387,8 +388,8 @@ impl Direct {
         _argument: Arguments,
     ) -> Option<Step>
         requires fits { IsReadable s.now }
-        requires ended { IsParameterEnded s.now self.old mark start _argument }
-        ensures { IfSome result (IsWriting s.now self.new) }
+        requires ended { IsParameterEnded (plain s.now) self.old mark start _argument }
+        ensures { IfSome result (IsWriting (plain s.now) self.new) }
     {
         // a lone void is no parameter
         if self.text.as_slice().ends_with(b"(void") {
@@ -402,8 +403,8 @@ impl Direct {
     /// The end of an encoding, behind its text but for its qualifier: a local entity follows, or the end of the symbol.
     pub(crate) fn end(&mut self, s: &[u8], mark: Mark) -> Option<Step>
         requires fits { IsReadable s.now }
-        requires ended { IsEncodingEnded s.now self.old mark }
-        ensures { IfSome result (IsWriting s.now self.new) }
+        requires ended { IsEncodingEnded (plain s.now) self.old mark }
+        ensures { IfSome result (IsWriting (plain s.now) self.new) }
     {
         self.push_mark(mark)?;
         if is_local(s) {
@@ -415,8 +416,8 @@ impl Direct {
     /// The end of a symbol, behind the text of its encoding.
     // <mangled-name> ::= _Z <encoding> . <vendor-specific suffix>
     pub(crate) fn finish(&mut self, s: &[u8]) -> Option<Step>
-        requires { IsSymbolEnded s.now self.old }
-        ensures { IfSome result (IsWriting s.now self.new) }
+        requires { IsSymbolEnded (plain s.now) self.old }
+        ensures { IfSome result (IsWriting (plain s.now) self.new) }
     {
         let suffix = s.get(self.at..)?;
         if suffix.is_empty() {
