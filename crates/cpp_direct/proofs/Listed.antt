@@ -274,7 +274,7 @@ nest-closed s w nest p =
           goes = p.owns.2;
           serves = p.owns.3;
         },
-        (λ h. structor-returns p.template (list_with p.ts p.tail) (p.is_template.1 h)),
+        (λ own h. structor-returns p.template (list_with p.ts p.tail) (p.is_template.1 own h)),
         (λ h. instance-returns p.template (list_with p.ts p.tail) (p.is_template.2 h)),
         λ h. closed-arguments s w (opens.NestArguments nest) p,
       );

@@ -1,5 +1,5 @@
 -- The components of a nested name are read one behind another.
-use Rattle.std.proofs.Common.{◌≡◌, ℕ, ◌+◌, ◌≤◌, List, [], ◌∷◌, Some, Bool, true, false, Ok, refl, arith}
+use Rattle.std.proofs.Common.{◌≡◌, ℕ, ◌+◌, ◌≤◌, ◌<◌, ◌⊎◌, List, [], ◌∷◌, Option, Some, inl, inr, Bool, true, false, Ok, refl, arith}
 use Rattle.std.proofs.lemmas.Bool.{le-leb}
 use Rattle.sym_shape.specs.declared.rule.Sym.TheVariants.{Kind as OfKind, Name, Byte}
 use Rattle.sym_link.specs.Unfold.{found, standing}
@@ -7,6 +7,8 @@ use Rattle.cpp_grammar.specs.declared.kind.Kind.{Kind}
 use Rattle.cpp_grammar.specs.declared.production.Production.{Production}
 use Rattle.cpp_grammar.specs.KindNumbers.{NEST_TAIL, COMPONENT, CONSTRUCTOR_DIGIT, DESTRUCTOR_DIGIT, MAYBE_ARGUMENTS, ARGUMENTS_FIRST, OPERATOR}
 use Rattle.cpp_grammar.specs.Grammar.{in_ranges, among, is_in, pick, alternatives, number_of_kind, choose, parts_of, is_chain}
+use Rattle.cpp_grammar.specs.Wide.{wide_alternatives}
+use Rattle.cpp_grammar.specs.Either.{either_alternatives, either_choose}
 use Rattle.cpp_grammar.specs.Table.{rule_of}
 use Rattle.cpp_grammar.specs.Term.{Term, within, instance, source, operator, constructor, destructor}
 use Rattle.cpp_grammar.specs.Values.{State, Around, prefix_tree, prefix_listed, Value, nothing_there, text, letter, tree, piece}
@@ -18,9 +20,10 @@ use Rattle.cpp_grammar.specs.Unfolding as unfolding_
 use Rattle.cpp_grammar.specs.Unfolding.{opening, close, byte_of}
 use Rattle.cpp_direct.specs.Symbol.{Symbol}
 use Rattle.cpp_direct.specs.Holes.{Opened, opened, StandsAt, Comes, Expects, with_candidate, unless_listed, IsNameAt, Named, AwaitsComponent}
-use Rattle.cpp_direct.specs.HolesOfNests.{IsRest, AwaitsArguments}
+use Rattle.cpp_direct.specs.Names.{IsConstructorDigit, IsDestructorDigit}
+use Rattle.cpp_direct.specs.HolesOfNests.{IsRest, AwaitsArguments, AwaitsInstance}
 use Rattle.cpp_direct.proofs.Alone.{any-list}
-use Rattle.cpp_direct.proofs.Moves.{stands-split, comes-moved, first-of, first-of-chain, next-of, last-of, expects-byte, expects-name, letter-comes}
+use Rattle.cpp_direct.proofs.Moves.{stands-split, comes-moved, first-of, first-of-chain, next-of, last-of, expects-byte, expects-name, letter-comes, wide-letter}
 use Rattle.cpp_direct.proofs.MovesOfNests.{last-passes}
 use Rattle.cpp_direct.proofs.Alone.{alone-arguments}
 use Rattle.cpp_direct.proofs.Operators.{IsOperator}
@@ -89,6 +92,34 @@ first-arguments s os around t listed at st expects stands =
                   (after w false around) (tree u true ∷ nothing_there ∷ tree w false ∷ []) newer refl came;
               passes = last-passes s p (73 ∷ []) at here st (tree u true ∷ nothing_there ∷ tree w false ∷ []) os (λ v x. refl);
             };
+          };
+    }
+
+-- arguments of the name so far, behind which it may end
+pub instance-arguments : (s : Symbol) (os : List Opened) (around : Around) (t : Term) (listed : Bool) (at : ℕ) (st : State)
+    → Expects s Kind.NestRestOrEnd (after t listed around) os at st → StandsAt s.bytes at (73 ∷ [])
+    → AwaitsInstance s os around t listed at st
+unfolding choose alternatives pick is_in in_ranges among is_chain parts_of number_of_kind between opening close unfolding_.behind meaning after inside named_so_far prefix_tree prefix_listed tree_of part
+instance-arguments s os around t listed at st expects stands =
+    let p : Production = Production.NestInstance in
+    let here : Around = after t listed around in
+    record {
+      inner = opened (standing (rule_of p) (73 ∷ []) at here st) [] (Byte 69 ∷ OfKind NEST_TAIL ∷ []) ∷ os;
+      awaits = any-list s (inside around) (opened (standing (rule_of p) (73 ∷ []) at here st) [] (Byte 69 ∷ OfKind NEST_TAIL ∷ []) ∷ os) (at + 1)
+          (unless_listed listed around.encoding t st)
+          (first-of s Kind.NestRestOrEnd p 73 here os at st (OfKind ARGUMENTS_FIRST) (Byte 69 ∷ OfKind NEST_TAIL ∷ []) (inside around) []
+          (unless_listed listed around.encoding t st) refl (omega arith) refl (λ f. refl) refl
+          (rw (prefix-appended around t listed st) refl) expects stands);
+      onward = λ l to later comes ended.
+          let u : Term = instance t (no_items l) in
+          record {
+            inner = opened (standing (rule_of p) (73 ∷ []) at here st) (tree u false ∷ nothing_there ∷ []) [] ∷ os;
+            awaits = next-of s p (73 ∷ []) at here st (l ∷ []) nothing_there (OfKind NEST_TAIL) [] os (to + 1) later (after u false around)
+                (tree u false ∷ nothing_there ∷ []) later refl
+                (expects-byte s 69 here (opened (standing (rule_of p) (73 ∷ []) at here st) (l ∷ []) (OfKind NEST_TAIL ∷ []) ∷ os) to later
+                (next-of s p (73 ∷ []) at here st [] l (Byte 69) (OfKind NEST_TAIL ∷ []) os to later here (l ∷ []) later refl comes)
+                ended);
+            passes = last-passes s p (73 ∷ []) at here st (tree u false ∷ nothing_there ∷ []) os (λ v x. refl);
           };
     }
 
@@ -172,12 +203,38 @@ component-operator s os around t at st first second is expects stands =
     two.0)
     two.1))))
 
+-- the digit of a constructor
+constructor-digit : (s : Symbol) (os : List Opened) (around : Around) (at : ℕ) (st : State) (digit : ℕ) → IsConstructorDigit s.is_wide digit
+    → Expects s Kind.ConstructorDigit around os at st → StandsAt s.bytes at (digit ∷ []) → Comes s os (letter digit) (at + 1) st
+unfolding choose alternatives either_choose either_alternatives wide_alternatives pick is_in in_ranges among is_chain parts_of opening close unfolding_.behind meaning
+constructor-digit s os around at st digit (inl (low, high)) expects stands =
+    letter-comes s Kind.ConstructorDigit Production.Mark digit around os at st (letter digit) st
+    (rw (le-leb 49 digit low, le-leb digit 51 high) refl) (omega (arith, high)) refl (λ f. refl) refl refl expects stands
+constructor-digit s os around at st digit (inr (wide, is)) expects stands =
+    let last : (d : ℕ) → (d ≡ 52) ⊎ (d ≡ 53) → ◌≡◌ {A = Option Production} (either_choose Kind.ConstructorDigit d) (Some Production.Mark) =
+    λ d e. elim e [ inl four ↦ rw four refl | inr five ↦ rw five refl ] in
+    let small : digit < 256 = elim is [ inl four ↦ omega (arith, four) | inr five ↦ omega (arith, five) ] in
+    wide-letter s Kind.ConstructorDigit Production.Mark digit around os at st (letter digit) st wide (last digit is) small refl (λ f. refl) refl refl expects stands
+
+-- that of a destructor
+destructor-digit : (s : Symbol) (os : List Opened) (around : Around) (at : ℕ) (st : State) (digit : ℕ) → IsDestructorDigit s.is_wide digit
+    → Expects s Kind.DestructorDigit around os at st → StandsAt s.bytes at (digit ∷ []) → Comes s os (letter digit) (at + 1) st
+unfolding choose alternatives either_choose either_alternatives wide_alternatives pick is_in in_ranges among is_chain parts_of opening close unfolding_.behind meaning
+destructor-digit s os around at st digit (inl (low, high)) expects stands =
+    letter-comes s Kind.DestructorDigit Production.Mark digit around os at st (letter digit) st
+    (rw (le-leb 48 digit low, le-leb digit 50 high) refl) (omega (arith, high)) refl (λ f. refl) refl refl expects stands
+destructor-digit s os around at st digit (inr (wide, is)) expects stands =
+    let last : (d : ℕ) → (d ≡ 52) ⊎ (d ≡ 53) → ◌≡◌ {A = Option Production} (either_choose Kind.DestructorDigit d) (Some Production.Mark) =
+    λ d e. elim e [ inl four ↦ rw four refl | inr five ↦ rw five refl ] in
+    let small : digit < 256 = elim is [ inl four ↦ omega (arith, four) | inr five ↦ omega (arith, five) ] in
+    wide-letter s Kind.DestructorDigit Production.Mark digit around os at st (letter digit) st wide (last digit is) small refl (λ f. refl) refl refl expects stands
+
 -- a constructor
 pub component-constructor : (s : Symbol) (os : List Opened) (around : Around) (t : Term) (at : ℕ) (st : State) (digit : ℕ)
-    → Expects s Kind.Component (after t true around) os at st → StandsAt s.bytes at (67 ∷ digit ∷ []) → 49 ≤ digit → digit ≤ 51
+    → Expects s Kind.Component (after t true around) os at st → StandsAt s.bytes at (67 ∷ digit ∷ []) → IsConstructorDigit s.is_wide digit
     → Named s os around (within t (constructor digit)) (at + 2) st
 unfolding choose alternatives pick is_in in_ranges among is_chain parts_of number_of_kind between opening close unfolding_.behind meaning piece_so_far named_so_far extended after letter_of tree_of part
-component-constructor s os around t at st digit expects stands low high =
+component-constructor s os around t at st digit expects stands is =
     let p : Production = Production.Constructor in
     let here : Around = after t true around in
     let u : Term = within t (constructor digit) in
@@ -186,17 +243,16 @@ component-constructor s os around t at st digit expects stands low high =
     named-by s os p (67 ∷ []) at here st u (at + 2) st (λ byte now began later v. refl) around
     (next-of s p (67 ∷ []) at here st [] (letter digit) (OfKind MAYBE_ARGUMENTS) [] os (at + 2) st (after u false around) (tree u false ∷ []) st refl
     (comes-moved s os1 (letter digit) (at + 1 + 1) (at + 2) st (omega arith)
-    (letter-comes s Kind.ConstructorDigit Production.Mark digit here os1 (at + 1) st (letter digit) st
-    (rw (le-leb 49 digit low, le-leb digit 51 high) refl) (omega (arith, high)) refl (λ f. refl) refl refl
+    (constructor-digit s os1 here (at + 1) st digit is
     (first-of s Kind.Component p 67 here os at st (OfKind CONSTRUCTOR_DIGIT) (OfKind MAYBE_ARGUMENTS ∷ []) here [] st refl (omega arith) refl (λ f. refl) refl refl expects two.0)
     two.1)))
 
 -- a destructor
 pub component-destructor : (s : Symbol) (os : List Opened) (around : Around) (t : Term) (at : ℕ) (st : State) (digit : ℕ)
-    → Expects s Kind.Component (after t true around) os at st → StandsAt s.bytes at (68 ∷ digit ∷ []) → 48 ≤ digit → digit ≤ 50
+    → Expects s Kind.Component (after t true around) os at st → StandsAt s.bytes at (68 ∷ digit ∷ []) → IsDestructorDigit s.is_wide digit
     → Named s os around (within t (destructor digit)) (at + 2) st
 unfolding choose alternatives pick is_in in_ranges among is_chain parts_of number_of_kind between opening close unfolding_.behind meaning piece_so_far named_so_far extended after letter_of tree_of part
-component-destructor s os around t at st digit expects stands low high =
+component-destructor s os around t at st digit expects stands is =
     let p : Production = Production.Destructor in
     let here : Around = after t true around in
     let u : Term = within t (destructor digit) in
@@ -205,7 +261,6 @@ component-destructor s os around t at st digit expects stands low high =
     named-by s os p (68 ∷ []) at here st u (at + 2) st (λ byte now began later v. refl) around
     (next-of s p (68 ∷ []) at here st [] (letter digit) (OfKind MAYBE_ARGUMENTS) [] os (at + 2) st (after u false around) (tree u false ∷ []) st refl
     (comes-moved s os1 (letter digit) (at + 1 + 1) (at + 2) st (omega arith)
-    (letter-comes s Kind.DestructorDigit Production.Mark digit here os1 (at + 1) st (letter digit) st
-    (rw (le-leb 48 digit low, le-leb digit 50 high) refl) (omega (arith, high)) refl (λ f. refl) refl refl
+    (destructor-digit s os1 here (at + 1) st digit is
     (first-of s Kind.Component p 68 here os at st (OfKind DESTRUCTOR_DIGIT) (OfKind MAYBE_ARGUMENTS ∷ []) here [] st refl (omega arith) refl (λ f. refl) refl refl expects two.0)
     two.1)))

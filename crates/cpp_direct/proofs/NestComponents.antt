@@ -1,5 +1,5 @@
 -- A component of a nested name is written: where the writer is then.
-use Rattle.std.proofs.Common.{◌≡◌, ◌≢◌, ℕ, ◌+◌, ◌-◌, ◌≤◌, length, List, [], ◌∷◌, ◌++◌, take, drop, reverse, Bool, true, false, refl, ap, sym, ◌∙◌, subst, arith, codes, append_assoc, append-nil}
+use Rattle.std.proofs.Common.{◌≡◌, ◌≢◌, ℕ, ◌+◌, ◌-◌, ◌≤◌, inl, inr, length, List, [], ◌∷◌, ◌++◌, take, drop, reverse, Bool, true, false, refl, ap, sym, ◌∙◌, subst, arith, codes, append_assoc, append-nil}
 use Rattle.std.proofs.lemmas.Bool.{false≢true}
 use Rattle.std.proofs.lemmas.List.{length-append}
 use Rattle.cpp_grammar.specs.Term.{Term, within, instance, source, operator, constructor, destructor}
@@ -13,7 +13,7 @@ use Rattle.cpp_direct.specs.declared.open.Purpose.{Purpose}
 use Rattle.cpp_direct.specs.declared.open.Step.TheVariants as steps
 use Rattle.cpp_direct.specs.declared.direct.Direct.{Direct}
 use Rattle.cpp_direct.specs.Holes.{Opened, StandsAt, IsNameAt, Named, NestNamed, AwaitsComponent}
-use Rattle.cpp_direct.specs.Names.{IsOperatorAt, is_angle, operator_text}
+use Rattle.cpp_direct.specs.Names.{IsConstructorDigit, IsDestructorDigit, IsOperatorAt, is_angle, operator_text}
 use Rattle.cpp_direct.specs.Prints.{Prints}
 use Rattle.cpp_direct.specs.Stands.{AreCandidates, IsNest, IsWriting, Serves, Stands}
 use Rattle.cpp_direct.specs.Ways.{AwaitsClass, IsNestNamed, IsOperatorRead}
@@ -113,30 +113,41 @@ component-named s outer around t u at st a to end same n = subst (λ k. NestName
   argued = λ v k later comes. a.onward (instance u v) k later (n.argued v k later comes);
 })
 
+-- the digit of a constructor isn't 0
+pub constructor-digit-some : (is_wide : Bool) (digit : ℕ) → IsConstructorDigit is_wide digit → digit ≢ 0
+constructor-digit-some is_wide digit (inl (low, high)) e = omega (arith, low, e)
+constructor-digit-some is_wide digit (inr (wide, inl four)) e = omega (arith, four, e)
+constructor-digit-some is_wide digit (inr (wide, inr five)) e = omega (arith, five, e)
+
+pub destructor-digit-some : (is_wide : Bool) (digit : ℕ) → IsDestructorDigit is_wide digit → digit ≢ 0
+destructor-digit-some is_wide digit (inl (low, high)) e = omega (arith, low, e)
+destructor-digit-some is_wide digit (inr (wide, inl four)) e = omega (arith, four, e)
+destructor-digit-some is_wide digit (inr (wide, inr five)) e = omega (arith, five, e)
+
 -- a constructor was read, and was written but for its class
 pub constructor-awaits : (s : Symbol) (old between new : Direct) (digit : ℕ) → Writes between new (codes "::") → Moves old between 2
-    → IsWriting s old steps.Component → StandsAt s.bytes old.at (67 ∷ []) → StandsAt s.bytes (old.at + 1) (digit ∷ []) → 49 ≤ digit → digit ≤ 51
+    → IsWriting s old steps.Component → StandsAt s.bytes old.at (67 ∷ []) → StandsAt s.bytes (old.at + 1) (digit ∷ []) → IsConstructorDigit s.is_wide digit
     → old.nest.has_class ≡ true → AwaitsClass s new
 unfolding has_return_type is_structor arguments_of
-constructor-awaits s old between new digit w m p letter next low high has =
+constructor-awaits s old between new digit w m p letter next is has =
     let b = p.is_before in
     class-awaits s old new p.state b.0 (within b.0 (constructor digit)) b.1 b.2 (codes "::") b.3 b.4 p.candidates b.5 b.6 b.8
     (goes-marked old between new 2 (codes "::") m w) (rw (w.nest, m.nest) refl)
     (component-named s b.4 b.3 b.0 (within b.0 (constructor digit)) old.at p.state b.7 (old.at + 2) new.at (w.at ∙ m.at)
-    (component-constructor s b.7.inner b.3 b.0 old.at p.state digit b.7.awaits (stands-join s.bytes old.at (67 ∷ []) (digit ∷ []) letter next) low high))
+    (component-constructor s b.7.inner b.3 b.0 old.at p.state digit b.7.awaits (stands-join s.bytes old.at (67 ∷ []) (digit ∷ []) letter next) is))
     (constructor-prints b.0 b.2 b.6.class b.6.prints (b.6.names_class has) digit) refl refl
 
 -- the same of a destructor
 pub destructor-awaits : (s : Symbol) (old between new : Direct) (digit : ℕ) → Writes between new (codes "::~") → Moves old between 2
-    → IsWriting s old steps.Component → StandsAt s.bytes old.at (68 ∷ []) → StandsAt s.bytes (old.at + 1) (digit ∷ []) → 48 ≤ digit → digit ≤ 50
+    → IsWriting s old steps.Component → StandsAt s.bytes old.at (68 ∷ []) → StandsAt s.bytes (old.at + 1) (digit ∷ []) → IsDestructorDigit s.is_wide digit
     → old.nest.has_class ≡ true → AwaitsClass s new
 unfolding has_return_type is_structor arguments_of
-destructor-awaits s old between new digit w m p letter next low high has =
+destructor-awaits s old between new digit w m p letter next is has =
     let b = p.is_before in
     class-awaits s old new p.state b.0 (within b.0 (destructor digit)) b.1 b.2 (codes "::~") b.3 b.4 p.candidates b.5 b.6 b.8
     (goes-marked old between new 2 (codes "::~") m w) (rw (w.nest, m.nest) refl)
     (component-named s b.4 b.3 b.0 (within b.0 (destructor digit)) old.at p.state b.7 (old.at + 2) new.at (w.at ∙ m.at)
-    (component-destructor s b.7.inner b.3 b.0 old.at p.state digit b.7.awaits (stands-join s.bytes old.at (68 ∷ []) (digit ∷ []) letter next) low high))
+    (component-destructor s b.7.inner b.3 b.0 old.at p.state digit b.7.awaits (stands-join s.bytes old.at (68 ∷ []) (digit ∷ []) letter next) is))
     (destructor-prints b.0 b.2 b.6.class b.6.prints (b.6.names_class has) digit) refl refl
 
 -- The class is written: the component is named.

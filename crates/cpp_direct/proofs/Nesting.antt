@@ -25,14 +25,14 @@ use Rattle.cpp_direct.specs.declared.open.Step.{Step}
 use Rattle.cpp_direct.specs.declared.open.Step.TheVariants as steps
 use Rattle.cpp_direct.specs.declared.direct.Direct.{Direct}
 use Rattle.cpp_direct.specs.Holes.{Opened, Comes, StandsAt, IsNameAt, IsSeqAt, SamePasses, NestGoesOn, AwaitsComponent, with_candidate, unless_listed}
-use Rattle.cpp_direct.specs.HolesOfNests.{IsRest}
+use Rattle.cpp_direct.specs.HolesOfNests.{IsRest, NestKnown}
 use Rattle.cpp_direct.specs.Prints.{Prints, NamesClass}
-use Rattle.cpp_direct.specs.Stands.{HasArguments, AreCandidates, IsNest, IsNesting, IsTemplate, ArgumentsGoOn, Serves, Stands, IsWriting, qualifiers}
-use Rattle.cpp_direct.specs.Ways.{AwaitsNest, IsNestNamed, IsNameEnded, IsOperatorRead}
+use Rattle.cpp_direct.specs.Stands.{HasArguments, AreCandidates, IsNest, IsNesting, IsOwn, IsTemplate, ArgumentsGoOn, Serves, Stands, IsWriting, qualifiers}
+use Rattle.cpp_direct.specs.Ways.{AwaitsNest, IsNestKnown, IsNestNamed, IsNameEnded, IsOperatorRead}
 use Rattle.cpp_direct.specs.Written.{Reads, added, added_unless}
 use Rattle.cpp_direct.proofs.Kept.{arguments-begun, candidates-stay, candidates-with, candidates-unless, candidate-found, piece-found, nest-stays, reverse-last}
 use Rattle.cpp_direct.proofs.Moves.{expects-empty, stands-join, comes-moved}
-use Rattle.cpp_direct.proofs.MovesOfComponents.{component-awaits, first-arguments, nest-end}
+use Rattle.cpp_direct.proofs.MovesOfComponents.{component-awaits, first-arguments, instance-arguments, nest-end}
 use Rattle.cpp_direct.proofs.MovesOfLists.{arguments-open}
 use Rattle.cpp_direct.proofs.MovesOfNests.{nest-source, nest-abbreviation, nest-substitution, nest-std}
 use Rattle.cpp_direct.proofs.PrintedNames.{as-name, source-prints, source-class, std-prints, std-class, abbreviation-prints}
@@ -101,7 +101,7 @@ named-goes-on s w n = record {
           (n.named.bare w.at n.state (expects-empty s Kind.ArgumentsAlone (after n.own false n.around) n.named.inner w.at n.state n.named.awaits refl));
       serves = n.serves;
     },
-    (λ e. n.no_return),
+    (λ own e. n.no_return),
     (λ e. absurd (false≢true (sym n.no_instance ∙ e))),
     (λ e. absurd (false≢true (sym n.no_instance ∙ e))),
   );
@@ -117,12 +117,66 @@ named-opens s old mid new n here keeps opening_ =
     list-begins s old mid new (added old old.nest.from false) (with_candidate e n.own n.state) (opens.NestArguments old.nest) n.front n.bytes n.own
     keeps (subst (λ x. OpensArguments mid new (opens.NestArguments x)) keeps.nest opening_)
     (candidates-with old n.state n.front n.bytes old.nest.from n.own e false n.candidates n.written n.is_nest.from_is n.is_nest.prints)
-    (nest-stays n.front n.bytes old.text.list.items (codes "<") old.nest n.own n.is_nest, n.structor, n.no_structor) n.written (
+    (nest-stays n.front n.bytes old.text.list.items (codes "<") old.nest n.own n.is_nest, (λ own. n.structor), n.no_structor) n.written (
       inside n.around,
       begun.inner,
       refl,
       begun.awaits,
       (λ l at st comes ended. (n.around, n.outer, n.named.argued (no_items l) (at + 1) st (begun.onward l at st comes ended), n.serves)),
+    )
+
+-- ## A name that an S stands for
+
+-- what stands behind it is read
+pub known-goes-on : (s : Symbol) (w : Direct) → IsNestKnown s w → IsWriting s w steps.Rest
+known-goes-on s w n = record {
+  state = n.state;
+  candidates = n.candidates;
+  is_before = (
+    n.own,
+    record {
+      front = n.front;
+      around = n.around;
+      outer = n.outer;
+      bytes = n.bytes;
+      written = n.written;
+      is_nest = n.is_nest;
+      goes = subst (λ b. NestGoesOn s Kind.NestRestAlone n.outer n.around n.own b w.at n.state) (sym n.listed) n.known.goes;
+      serves = n.serves;
+    },
+  );
+}
+
+-- what comes inside comes outside
+nest-outside : (s : Symbol) (kind : Kind) (inner outer : List Opened) (around : Around) (t : Term) (listed : Bool) (at : ℕ) (st : State)
+    → SamePasses s inner outer → NestGoesOn s kind inner around t listed at st → NestGoesOn s kind outer around t listed at st
+nest-outside s kind inner outer around t listed at st passes g =
+    record { inner = g.inner; awaits = g.awaits; passes = λ v to later came. passes v to later (g.passes v to later came) }
+
+-- by the wide grammar arguments stand behind it, where it is a type
+pub known-opens : (s : Symbol) (old new : Direct) → IsNestKnown s old → s.is_wide ≡ true → old.nest.purpose ≡ purposes.Type → StandsAt s.bytes old.at (73 ∷ [])
+    → OpensArguments old new (opens.NestArguments old.nest) → IsWriting s new (steps.List true)
+unfolding inside
+known-opens s old new n wide is_type here opening_ =
+    let g = n.known.may_end wide in
+    let begun = instance-arguments s g.inner n.around n.own true old.at n.state g.awaits here in
+    let not_own : IsOwn old.nest.purpose → ⊥ = λ own. subst IsOwn is_type own in
+    list-begins s old old new old.candidates.list.items n.state (opens.NestArguments old.nest) n.front n.bytes n.own
+    (record { candidates = refl; text = refl; waiting = refl; nest = refl; at = refl }) opening_ n.candidates (
+      nest-stays n.front n.bytes old.text.list.items (codes "<") old.nest n.own n.is_nest,
+      (λ own. absurd (not_own own)),
+      (λ e. absurd (false≢true (sym n.classless ∙ e))),
+    ) n.written (
+      inside n.around,
+      begun.inner,
+      refl,
+      begun.awaits,
+      (λ l at st comes ended. (
+        n.around,
+        n.outer,
+        nest-outside s Kind.NestTail g.inner n.outer n.around (instance n.own (no_items l)) false (at + 1) st g.passes (begun.onward l at st comes ended),
+        n.serves,
+      )),
     )
 
 -- ## Behind a name so far
@@ -356,6 +410,30 @@ nest-begins s old new purpose a t bytes text_is candidates_are waiting_is purpos
   );
 }
 
+-- and behind one that an S stands for
+known-begins : (s : Symbol) (old new : Direct) (purpose : Purpose) (a : AwaitsNest s old purpose) (t : Term) (bytes : List ℕ)
+    → new.text.list.items ≡ old.text.list.items ++ bytes → new.candidates ≡ old.candidates → new.waiting ≡ old.waiting → new.nest.purpose ≡ purpose
+    → IsNest old.text.list.items bytes (old.text.list.items ++ bytes) new.nest t → new.nest.is_listed ≡ true → new.nest.has_class ≡ false
+    → NestKnown s a.outer a.around t new.at a.state → IsNestKnown s new
+known-begins s old new purpose a t bytes text_is candidates_are waiting_is purpose_is is_nest listed classless known = record {
+  state = a.state;
+  candidates = subst (λ l. AreCandidates l new.candidates.list.items a.state.candidates) (sym text_is)
+      (subst (λ k. AreCandidates (old.text.list.items ++ bytes) k.list.items a.state.candidates) (sym candidates_are)
+      (candidates-stay old.text.list.items bytes old.candidates.list.items a.state.candidates a.candidates));
+  around = a.around;
+  outer = a.outer;
+  own = t;
+  known = known;
+  front = old.text.list.items;
+  bytes = bytes;
+  written = text_is;
+  is_nest = subst (λ l. IsNest old.text.list.items bytes l new.nest t) (sym text_is) is_nest;
+  listed = listed;
+  classless = classless;
+  serves = subst (λ p. Serves s p (Stands s (reverse new.waiting.list.items)) a.outer old.text.list.items) (sym purpose_is)
+      (subst (λ o. Serves s purpose (Stands s (reverse o.list.items)) a.outer old.text.list.items) (sym waiting_is) a.serves);
+}
+
 -- a nest whose class is written at these places
 abbrev pub nest_of : (from class_from class_to : ℕ) → Purpose → (is_listed has_class : Bool) → Nest
 nest_of from class_from class_to purpose is_listed has_class = record {
@@ -416,16 +494,16 @@ pub abbreviation-begins : (s : Symbol) (old mid : Direct) (purpose : Purpose) (l
     → (letter ≢ 0 → StandsAt s.bytes (old.at + 1) (letter ∷ [])) → look_up (letter ∷ []) abbreviation_texts ≢ []
     → mid.text.list.items ≡ old.text.list.items ++ look_up (letter ∷ []) abbreviation_texts → mid.candidates ≡ old.candidates → mid.waiting ≡ old.waiting
     → mid.at ≡ old.at + 1 + 1 → (from : ℕ) → from ≡ length old.text.list.items
-    → IsWriting s (record mid { nest = nest_of from from from purpose true false }) steps.Rest
+    → IsNestKnown s (record mid { nest = nest_of from from from purpose true false })
 unfolding look_up abbreviation_texts same_bytes
 abbreviation-begins s old mid purpose letter a here behind there text_is candidates_are waiting_is at_is from from_is =
     let nest = nest_of from from from purpose true false in
     let t : Term = abbreviation letter in
     let bytes = look_up (letter ∷ []) abbreviation_texts in
     let some : letter ≢ 0 = λ e. there (ap (λ l. look_up (l ∷ []) abbreviation_texts) e) in
-    nest-begins s old (record mid { nest = nest }) purpose a t bytes text_is candidates_are waiting_is refl
+    known-begins s old (record mid { nest = nest }) purpose a t bytes text_is candidates_are waiting_is refl
     (classless-nest old.text.list.items bytes nest t from_is from_is from_is refl (abbreviation-prints letter there))
-    (subst (λ n. NestGoesOn s Kind.NestRestAlone a.outer a.around t true n a.state) (omega (arith, at_is))
+    refl refl (subst (λ n. NestKnown s a.outer a.around t n a.state) (omega (arith, at_is))
     (nest-abbreviation s a.outer a.around old.at a.state letter a.awaits (stands-join s.bytes old.at (83 ∷ []) (letter ∷ []) here (behind some))
     (abbreviation-letter letter there)))
 
@@ -444,7 +522,7 @@ pub reference-begins : (s : Symbol) (old mid : Direct) (purpose : Purpose) (digi
     → k.from ≤ k.to → slice_get old.candidates.list.items (counted_value Seq36 digits) ≡ Some k → k.is_reference ≡ false
     → mid.text.list.items ≡ old.text.list.items ++ take (k.to - k.from) (drop k.from old.text.list.items) → mid.candidates ≡ old.candidates
     → mid.waiting ≡ old.waiting → (from : ℕ) → from ≡ length old.text.list.items
-    → IsWriting s (record mid { nest = nest_of from from from purpose true false }) steps.Rest
+    → IsNestKnown s (record mid { nest = nest_of from from from purpose true false })
 reference-begins s old mid purpose digits k a here is ordered found plain text_is candidates_are waiting_is from from_is =
     let nest = nest_of from from from purpose true false in
     let one = candidate-found old.text.list.items old.candidates.list.items a.state.candidates (counted_value Seq36 digits) k a.candidates ordered found in
@@ -452,9 +530,9 @@ reference-begins s old mid purpose digits k a here is ordered found plain text_i
     let it = one.2 in
     let piece = piece-found old.text.list.items it.front it.bytes it.back k.from k.to it.written it.from_is it.to_is in
     let prints = subst (λ b. Prints c.tree it.bytes b) plain it.prints in
-    nest-begins s old (record mid { nest = nest }) purpose a c.tree it.bytes (text_is ∙ ap (λ l. old.text.list.items ++ l) piece.2) candidates_are
+    known-begins s old (record mid { nest = nest }) purpose a c.tree it.bytes (text_is ∙ ap (λ l. old.text.list.items ++ l) piece.2) candidates_are
     waiting_is refl (classless-nest old.text.list.items it.bytes nest c.tree from_is from_is from_is refl prints)
-    (nest-substitution s a.outer a.around old.at a.state digits mid.at c a.awaits here is one.1 prints.is_closed prints.packless)
+    refl refl (nest-substitution s a.outer a.around old.at a.state digits mid.at c a.awaits here is one.1 prints.is_closed prints.packless)
 
 -- a name in std begins a nested one
 pub std-begins : (s : Symbol) (old mid : Direct) (purpose : Purpose) (before : ℕ) (name : List ℕ)

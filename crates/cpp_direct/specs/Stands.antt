@@ -368,11 +368,16 @@ abbrev pub AreAmong : (text : List ℕ) → Arguments → List Term → Type 0
 AreAmong text a ts =
     (number : ℕ) → IsKnown (place_of a number) → IsAmong text (place_of a number) number ts × ((place_of a number).is_pack ≡ false)
 
+-- a nested name is that of a function or of data
+abbrev pub IsOwn : Purpose → Type 0
+IsOwn purposes.Type = ⊥
+IsOwn _ = Unit {0}
+
 -- this template stands before the arguments
 abbrev pub IsTemplate : Open → (front : List ℕ) → Term → (name : List ℕ) → (text : List ℕ) → Type 0
 IsTemplate (opens.TypeArguments from) front template name text = (from ≡ length front) × Prints template name false
 IsTemplate (opens.NestArguments nest) front template name text =
-    IsNest front name text nest template × (nest.has_class ≡ false → is_structor template ≡ true)
+    IsNest front name text nest template × (IsOwn nest.purpose → nest.has_class ≡ false → is_structor template ≡ true)
     × (nest.has_class ≡ true → is_structor template ≡ false)
 IsTemplate (opens.FirstArguments nest) front template name text = IsNest front name text nest template
 IsTemplate (opens.NameArguments from) front template name text =
@@ -545,7 +550,7 @@ IsBefore s w st (steps.List is_first) =
     × GoesOn s place.listing place.owner (Stands s place.rest) place.front place.template ts w.at st
 IsBefore s w st steps.Rest = (t : Term) × IsNesting s Kind.NestRestAlone w t st
 IsBefore s w st steps.Tail =
-    (t : Term) × IsNesting s Kind.NestTail w t st × (w.nest.is_instance ≡ false → has_return_type t ≡ false)
+    (t : Term) × IsNesting s Kind.NestTail w t st × (IsOwn w.nest.purpose → w.nest.is_instance ≡ false → has_return_type t ≡ false)
     × (w.nest.is_instance ≡ true → has_return_type t ≡ true)
     × (w.nest.is_instance ≡ true → HasArguments w.text.list.items w.argument t)
 IsBefore s w st steps.Component =

@@ -11,9 +11,8 @@ pub record Symbol : Type 0 where
   pub bytes : List ℕ
   pub is_wide : Bool
 
--- a symbol that isn't
-abbrev pub plain : List ℕ → Symbol
-plain s = record { bytes = s; is_wide = false }
+abbrev pub symbol_by : (is_wide : Bool) → (bytes : List ℕ) → Symbol
+symbol_by is_wide bytes = record { bytes = bytes; is_wide = is_wide }
 
 -- The table whose trees are read: by the wide grammar that of both, whose trees are, widened, those of the wide one.
 abbrev pub table_by : (is_wide : Bool) → Table

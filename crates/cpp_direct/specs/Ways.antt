@@ -20,6 +20,7 @@ use Rattle.cpp_direct.specs.declared.direct.Direct.{Direct}
 use Rattle.cpp_direct.specs.Bytes.{is_local}
 use Rattle.cpp_direct.specs.Holes.{Opened, StandsAt, Comes, Expects, IsReferable, IsTyped, TypeNamed, NestNamed, with_candidate}
 use Rattle.cpp_direct.specs.HolesOfFunctions.{SignatureGoesOn, plain_function, pointed, with_pointed}
+use Rattle.cpp_direct.specs.HolesOfNests.{NestKnown}
 use Rattle.cpp_direct.specs.HolesOfTypes.{IsNamedKind, NoReference, TreeOpens}
 use Rattle.cpp_direct.specs.Marks.{has_const, called_on, mark_text}
 use Rattle.cpp_direct.specs.Prints.{Prints, PrintsName, IsElement, PrintAll, Shows, Encloses, sign_text, PrintsIn, PrintsBehind}
@@ -236,6 +237,22 @@ pub record AwaitsNest (s : Symbol) (w : Direct) (purpose : Purpose) : Type 0 whe
   pub outer : List Opened
   pub awaits : Expects s Kind.Nest around outer w.at state
   pub serves : Serves s purpose (Stands s (reverse w.waiting.list.items)) outer w.text.list.items
+
+-- A name that an S stands for was read at the front of a nested one.
+pub record IsNestKnown (s : Symbol) (w : Direct) : Type 0 where
+  pub state : State
+  pub candidates : AreCandidates w.text.list.items w.candidates.list.items state.candidates
+  pub around : Around
+  pub outer : List Opened
+  pub own : Term
+  pub known : NestKnown s outer around own w.at state
+  pub front : List ℕ
+  pub bytes : List ℕ
+  pub written : w.text.list.items ≡ front ++ bytes
+  pub is_nest : IsNest front bytes w.text.list.items w.nest own
+  pub listed : w.nest.is_listed ≡ true
+  pub classless : w.nest.has_class ≡ false
+  pub serves : Serves s w.nest.purpose (Stands s (reverse w.waiting.list.items)) outer front
 
 -- A component of a nested name was read, or a name in std. Arguments may stand behind it.
 pub record IsNestNamed (s : Symbol) (w : Direct) : Type 0 where

@@ -13,6 +13,7 @@
 mod direct;
 mod enclosing;
 mod functions;
+mod grammar;
 mod letters;
 mod lists;
 mod locals;

@@ -1,5 +1,5 @@
 use Rattle.std.proofs.Common.{◌+◌, ◌∷◌, ◌++◌, [], ap, arith, ◌∙◌}
-use Rattle.cpp_direct.specs.Symbol.{plain}
+use Rattle.cpp_direct.specs.Symbol.{symbol_by}
 use Rattle.cpp_direct.specs.declared.open.Open.TheVariants as opens
 use Rattle.cpp_direct.proofs.EnclosingFunctions.{lambda-begun}
 use Rattle.cpp_direct.proofs.Moves.{stands-join, stands-moved}
@@ -7,8 +7,8 @@ use Rattle.cpp_direct.proofs.TypesRead.{there}
 use Rattle.cpp_direct.proofs.direct.Direct.begin_lambda.Goals as goal
 
 pub returns : goal.returns
-returns c =
-    let s = plain c.args.s.now in
+returns g c =
+    let s = symbol_by g.G.Grammar.IS_WIDE c.args.s.now in
     let w = c.args.self.now in
     let one = c.in_ok-push.ensures in
     lambda-begun s w _ c.args.from c.requires.awaits (c.are_numbers_short.ensures c.if-not-are_numbers_short.false)

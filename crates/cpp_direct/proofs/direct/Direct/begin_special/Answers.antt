@@ -1,14 +1,14 @@
 use Rattle.std.proofs.Common.{◌≢◌, ◌∷◌, ◌++◌, [], length, ◌==◌, ap, ◌∙◌, refl}
 use Rattle.std.proofs.lemmas.Bool.{false≢true}
 use Rattle.cpp_grammar.specs.Texts.{look_up, special_texts}
-use Rattle.cpp_direct.specs.Symbol.{plain}
+use Rattle.cpp_direct.specs.Symbol.{symbol_by}
 use Rattle.cpp_direct.specs.declared.open.Open.TheVariants as opens
 use Rattle.cpp_direct.proofs.Begins.{special-begins, special-stands}
 use Rattle.cpp_direct.proofs.direct.Direct.begin_special.Goals as goal
 
 pub returns : goal.returns
-returns c =
-    let s = plain c.args.s.now in
+returns g c =
+    let s = symbol_by g.G.Grammar.IS_WIDE c.args.s.now in
     let letter = c.byte_at.result in
     let text_is = c.special_text-text.ensures in
     let fresh = c.requires.fresh in

@@ -1,5 +1,5 @@
 use Rattle.std.proofs.Common.{◌∷◌, [], arith, refl, subst}
-use Rattle.cpp_direct.specs.Symbol.{plain}
+use Rattle.cpp_direct.specs.Symbol.{symbol_by}
 use Rattle.cpp_direct.specs.Holes.{StandsAt}
 use Rattle.cpp_direct.specs.Ways.{IsListEnded}
 use Rattle.cpp_direct.specs.Stands.{nowhere}
@@ -8,8 +8,8 @@ use Rattle.cpp_direct.proofs.Moves.{stands-join}
 use Rattle.cpp_direct.proofs.direct.Direct.empty_pack.Goals as goal
 
 pub close_list-requires-clause-ended : goal.close_list-requires-clause-ended
-close_list-requires-clause-ended c =
-    let s = plain c.args.s.now in
+close_list-requires-clause-ended g c =
+    let s = symbol_by g.G.Grammar.IS_WIDE c.args.s.now in
     let w = c.args.self.now in
     let ended = subst (λ b. StandsAt s.bytes c.in_ok-self.field-0 (b ∷ [])) c.if-byte_at-ne69.false
     (c.byte_at.ensures (λ e. omega (arith, e, c.if-byte_at-ne69.false))) in

@@ -1,5 +1,5 @@
 use Rattle.std.proofs.Common.{◌∷◌, ◌++◌, [], append_assoc, arith, codes, refl, sym, subst, ◌∙◌}
-use Rattle.cpp_direct.specs.Symbol.{plain}
+use Rattle.cpp_direct.specs.Symbol.{symbol_by}
 use Rattle.cpp_direct.specs.HolesOfLocals.{lambda_digits, lambda_number}
 use Rattle.cpp_direct.specs.Written.{Reads}
 use Rattle.cpp_direct.proofs.EnclosingFunctions.{lambda-stands, lambda-told}
@@ -8,8 +8,8 @@ use Rattle.cpp_direct.proofs.TypesRead.{there}
 use Rattle.cpp_direct.proofs.direct.Direct.lambda.Goals as goal
 
 pub returns : goal.returns
-returns c =
-    let s = plain c.args.s.now in
+returns g c =
+    let s = symbol_by g.G.Grammar.IS_WIDE c.args.s.now in
     let old = c.args.self.now in
     some-by c.lambda_number.result c.lambda_number.ensures
     (λ r. lambda-told s old c.lambda_number.new.self r.0 r.1

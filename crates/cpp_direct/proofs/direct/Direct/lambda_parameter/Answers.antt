@@ -1,5 +1,5 @@
 use Rattle.std.proofs.Common.{◌++◌, reverse, ap, arith, codes, refl, sym, ◌∙◌}
-use Rattle.cpp_direct.specs.Symbol.{plain}
+use Rattle.cpp_direct.specs.Symbol.{symbol_by}
 use Rattle.cpp_direct.specs.declared.open.Open.TheVariants as opens
 use Rattle.cpp_direct.proofs.EnclosingFunctions.{lambda-bracket, lambda-done, lambda-next}
 use Rattle.cpp_direct.proofs.Ending.{no-void}
@@ -7,12 +7,12 @@ use Rattle.cpp_direct.proofs.TypesRead.{popped, there}
 use Rattle.cpp_direct.proofs.direct.Direct.lambda_parameter.Goals as goal
 
 pub returns-then-byte_at-ne69 : goal.returns-then-byte_at-ne69
-returns-then-byte_at-ne69 c =
-    lambda-next (plain c.args.s.now) c.args.self.now c.push_pair.new.self c.args.from c.requires.read c.in_ok-push_pair.ensures
+returns-then-byte_at-ne69 g c =
+    lambda-next (symbol_by g.G.Grammar.IS_WIDE c.args.s.now) c.args.self.now c.push_pair.new.self c.args.from c.requires.read c.in_ok-push_pair.ensures
 
 pub returns : goal.returns
-returns c =
-    let s = plain c.args.s.now in
+returns g c =
+    let s = symbol_by g.G.Grammar.IS_WIDE c.args.s.now in
     let w = c.args.self.now in
     let p = c.requires.read in
     let number = c.in_ok-lambda_number.ensures in

@@ -1,13 +1,13 @@
 use Rattle.std.proofs.Common.{◌≡◌, ◌+◌, ◌++◌, length, subst, ap, ◌∙◌, arith}
 use Rattle.cpp_grammar.specs.Parts.{source_text}
-use Rattle.cpp_direct.specs.Symbol.{plain}
+use Rattle.cpp_direct.specs.Symbol.{symbol_by}
 use Rattle.cpp_direct.specs.Holes.{IsNameAt}
 use Rattle.cpp_direct.proofs.Nesting.{std-begins}
 use Rattle.cpp_direct.proofs.direct.Direct.nest_in_std.Goals as goal
 
 pub nest_named-requires : goal.nest_named-requires
-nest_named-requires c =
-    let s = plain c.args.s.now in
+nest_named-requires g c =
+    let s = symbol_by g.G.Grammar.IS_WIDE c.args.s.now in
     let old = c.args.self.now in
     let a = c.requires.awaits in
     let wrote = c.in_ok-push.ensures in

@@ -1,14 +1,14 @@
 use Rattle.std.proofs.Common.{◌∷◌, [], subst}
 use Rattle.cpp_grammar.specs.declared.kind.Kind.{Kind}
-use Rattle.cpp_direct.specs.Symbol.{plain}
+use Rattle.cpp_direct.specs.Symbol.{symbol_by}
 use Rattle.cpp_direct.specs.declared.open.Open.TheVariants as opens
 use Rattle.cpp_direct.specs.Holes.{StandsAt}
 use Rattle.cpp_direct.proofs.Nesting.{component-next, first-opens, byte-there, opened-by}
 use Rattle.cpp_direct.proofs.direct.Direct.rest_at.Goals as goal
 
 pub returns-then-byte_at-eq73 : goal.returns-then-byte_at-eq73
-returns-then-byte_at-eq73 c =
-    let s = plain c.args.s.now in
+returns-then-byte_at-eq73 g c =
+    let s = symbol_by g.G.Grammar.IS_WIDE c.args.s.now in
     let mid = c.add_unless.new.self in
     let writing = c.requires.writing in
     let added = c.in_ok-add_unless.ensures in
@@ -20,9 +20,9 @@ returns-then-byte_at-eq73 c =
     (record { candidates = added.candidates; text = added.text; waiting = added.«open»; nest = added.nest; at = added.at }))
 
 pub component_at-requires-clause-writing : goal.component_at-requires-clause-writing
-component_at-requires-clause-writing c =
+component_at-requires-clause-writing g c =
     let writing = c.requires.writing in
     let added = c.in_ok-add_unless.ensures in
-    component-next (plain c.args.s.now) Kind.NestRestAlone c.args.self.now c.add_unless.new.self writing.state writing.is_before.0 tt writing.candidates
+    component-next (symbol_by g.G.Grammar.IS_WIDE c.args.s.now) Kind.NestRestAlone c.args.self.now c.add_unless.new.self writing.state writing.is_before.0 tt writing.candidates
     writing.is_before.1
     (record { candidates = added.candidates; text = added.text; waiting = added.«open»; nest = added.nest; at = added.at })

@@ -1,5 +1,5 @@
 use Rattle.std.proofs.Common.{◌+◌, ◌++◌, ◌∷◌, [], length, ◌∙◌, ap, subst}
-use Rattle.cpp_direct.specs.Symbol.{plain}
+use Rattle.cpp_direct.specs.Symbol.{symbol_by}
 use Rattle.cpp_direct.specs.Holes.{StandsAt}
 use Rattle.cpp_direct.specs.Stands.{IsKnown}
 use Rattle.cpp_direct.specs.Ways.{parameter_digits}
@@ -7,14 +7,14 @@ use Rattle.cpp_direct.proofs.DependentsRead.{argument-inside, parameter-done}
 use Rattle.cpp_direct.proofs.direct.Direct.template_parameter.Goals as goal
 
 pub repeat-requires-clause-to : goal.repeat-requires-clause-to
-repeat-requires-clause-to c =
+repeat-requires-clause-to g c =
     let is = c.in_ok-argument-2.ensures.is in
-    argument-inside (plain c.args.s.now) c.args.self.now c.in_ok-argument.field-0 c.in_ok-read.read.number c.in_ok-argument-2.argument c.requires.awaits
+    argument-inside (symbol_by g.G.Grammar.IS_WIDE c.args.s.now) c.args.self.now c.in_ok-argument.field-0 c.in_ok-read.read.number c.in_ok-argument-2.argument c.requires.awaits
     c.in_ok-argument.ensures (is ∙ c.at.ensures (subst IsKnown is c.in_ok-argument-2.ensures.ordered)) c.in_ok-argument-2.ensures.ordered
 
 pub returns : goal.returns
-returns c =
-    let s = plain c.args.s.now in
+returns g c =
+    let s = symbol_by g.G.Grammar.IS_WIDE c.args.s.now in
     let k = c.in_ok-read.read.number in
     let is = c.in_ok-argument-2.ensures.is in
     let known = c.in_ok-argument-2.ensures.ordered in

@@ -1,15 +1,15 @@
 use Rattle.std.proofs.Common.{arith}
-use Rattle.cpp_direct.specs.Symbol.{plain}
+use Rattle.cpp_direct.specs.Symbol.{symbol_by}
 use Rattle.cpp_direct.proofs.TypesRead.{there}
 use Rattle.cpp_direct.proofs.UnscopedNames.{unscoped-argued, unscoped-bare}
 use Rattle.cpp_direct.proofs.direct.Direct.unscoped_named.Goals as goal
 
 pub name_ended-requires-clause-ended : goal.name_ended-requires-clause-ended
-name_ended-requires-clause-ended c = unscoped-bare (plain c.args.s.now) c.args.self.now c.args.from c.args.takes c.requires.named
+name_ended-requires-clause-ended g c = unscoped-bare (symbol_by g.G.Grammar.IS_WIDE c.args.s.now) c.args.self.now c.args.from c.args.takes c.requires.named
 
 pub returns : goal.returns
-returns c =
-    let s = plain c.args.s.now in
+returns g c =
+    let s = symbol_by g.G.Grammar.IS_WIDE c.args.s.now in
     let old = c.args.self.now in
     let added = c.add_candidate.ensures in
     let opened = c.open_arguments.ensures in
