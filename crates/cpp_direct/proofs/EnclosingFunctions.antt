@@ -1,5 +1,5 @@
 -- Types that stand in functions, from their Z to their end.
-use Rattle.std.proofs.Common.{◌≡◌, ◌≢◌, refl, ap, sym, ◌∙◌, subst, inl, inr, ℕ, ◌+◌, ◌≤◌, List, [], ◌∷◌, ◌++◌, length, reverse, true, false, Option, None, Some, arith, codes, append-nil, append_assoc}
+use Rattle.std.proofs.Common.{◌≡◌, ◌≢◌, refl, ap, sym, ◌∙◌, subst, inl, inr, ℕ, ◌+◌, List, [], ◌∷◌, ◌++◌, length, reverse, true, false, Option, None, Some, arith, codes, append-nil, append_assoc}
 use Rattle.std.specs.Prelude.{decimal}
 use Rattle.std.proofs.lemmas.Fmt.{decimal_digit}
 use Rattle.cpp_grammar.specs.declared.kind.Kind.{Kind}
@@ -161,7 +161,7 @@ source-within s old start new name from a letter same_text same_candidates same_
       goes = subst (λ v. ItemsGoOn s nowhere (TypeWithin s (Stands s (reverse v.list.items)) front) (λ l. encoding_of (tree own false) l) [] new.at a.state)
           (sym (reads.waiting ∙ same_waiting))
           (e.onward [] nowhere (tree own false) new.at a.state (λ k o. absurd (none-known k o))
-          (named_.bare new.at a.state (expects-empty s Kind.ArgumentsAlone (after own false here) named_.inner new.at a.state named_.awaits refl)));
+          (named_.bare new.at a.state (expects-empty s Kind.MaybeArguments (after own false here) named_.inner new.at a.state named_.awaits refl)));
     }
 
 -- a nested one is read

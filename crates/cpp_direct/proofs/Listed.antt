@@ -1,5 +1,5 @@
 -- A writer at the end of arguments or a pack, and between two elements.
-use Rattle.std.proofs.Common.{◌≡◌, ◌≢◌, inl, inr, ℕ, ◌+◌, ◌-◌, length, List, [], ◌∷◌, ◌++◌, reverse, slice_get, get_or, ◌≤◌, Bool, true, false, Some, None, refl, ap, sym, ◌∙◌, subst, arith, codes, append_assoc, append-nil}
+use Rattle.std.proofs.Common.{◌≡◌, ◌≢◌, inl, inr, ℕ, ◌+◌, ◌-◌, length, List, [], ◌∷◌, ◌++◌, reverse, slice_get, get_or, Bool, true, false, Some, None, refl, ap, sym, ◌∙◌, subst, arith, codes, append_assoc, append-nil}
 use Rattle.std.proofs.lemmas.Bool.{false≢true}
 use Rattle.std.proofs.lemmas.List.{length-append, reverse-reverse}
 use Rattle.std.proofs.lemmas.Option.{slice_get_within, get_or_from_slice_get}
@@ -19,7 +19,7 @@ use Rattle.cpp_direct.specs.declared.open.Step.TheVariants as steps
 use Rattle.cpp_direct.specs.declared.direct.Direct.{Direct}
 use Rattle.cpp_direct.specs.Holes.{Opened, Comes, Expects, IsListKind, ListGoesOn, StandsAt, AwaitsComponent, with_candidate}
 use Rattle.cpp_direct.specs.HolesOfLists.{IsArgumentKind}
-use Rattle.cpp_direct.specs.Prints.{Prints, PrintAll, list_of}
+use Rattle.cpp_direct.specs.Prints.{PrintAll, list_of}
 use Rattle.cpp_direct.specs.Stands.{HasArguments, argument_of, AreCandidates, IsListing, IsNest, IsTail, IsTemplate, IsWriting, Owns, Serves, ArgumentsGoOn, AwaitsElementOf, AwaitsEnumerator, Belongs, Closes, ElementsGoOn, EnumeratorGoesOn, GoesOn, Listing, of_template, of_pack, Stands, element_kind, extra_of, led_by, list_with, in_front_of_next, nowhere, packed, place_of}
 use Rattle.cpp_direct.specs.Ways.{AreKnown, IsListEnded, AwaitsNextArgument, IsNameEnded}
 use Rattle.cpp_direct.specs.Written.{Writes, added}

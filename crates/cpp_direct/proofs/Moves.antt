@@ -303,6 +303,18 @@ wide-letter s kind p byte around os at st w after wide chosen small chain begins
     (opens-by s kind p (byte ∷ []) around os at st (takes-wide s kind p byte (byte ∷ []) wide chosen small (takes-byte p byte chain)) begins expects stands))
     closes
 
+-- the first part of one that takes its byte
+pub wide-first-of : (s : Symbol) (kind : Kind) (p : Production) (byte : ℕ) (around : Around) (os : List Opened) (at : ℕ) (st : State) (x : Sym)
+    (todo : List Sym) (context : Around) (values : List Value) (state : State)
+    → s.is_wide ≡ true → either_choose kind byte ≡ Some p → byte < 256 → is_chain p ≡ false → ((f : Forest) → opening p f at st ≡ Ok st) → parts_of p ≡ x ∷ todo
+    → ◌≡◌ {A = Going} (between p around at [] st) (Ok (record { context = context; values = values; state = state }))
+    → Expects s kind around os at st → StandsAt s.bytes at (byte ∷ [])
+    → ExpectsSym s x context (opened (standing (rule_of p) (byte ∷ []) at around st) values todo ∷ os) (at + 1) state
+wide-first-of s kind p byte around os at st x todo context values state wide chosen small chain begins parts goes expects stands =
+    needs-next s p (byte ∷ []) at around st [] x todo os (at + 1) st context values state goes
+    (subst (λ l. Needs s os (standing (rule_of p) (byte ∷ []) at around st) [] l (at + 1) st) parts
+    (opens-by s kind p (byte ∷ []) around os at st (takes-wide s kind p byte (byte ∷ []) wide chosen small (takes-byte p byte chain)) begins expects stands))
+
 -- The first part of one that takes no byte; the byte is any at which it is taken.
 pub wide-first-of-chain : (s : Symbol) (kind : Kind) (p : Production) (byte : ℕ) (around : Around) (os : List Opened) (at : ℕ) (st : State) (x : Sym)
     (todo : List Sym) (context : Around) (values : List Value) (state : State)

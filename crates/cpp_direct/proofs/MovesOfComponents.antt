@@ -1,5 +1,5 @@
 -- The components of a nested name are read one behind another.
-use Rattle.std.proofs.Common.{◌≡◌, ℕ, ◌+◌, ◌≤◌, ◌<◌, ◌⊎◌, List, [], ◌∷◌, Option, Some, inl, inr, Bool, true, false, Ok, refl, arith}
+use Rattle.std.proofs.Common.{◌≡◌, ℕ, ◌+◌, ◌<◌, ◌⊎◌, List, [], ◌∷◌, Option, Some, inl, inr, Bool, true, false, Ok, refl, arith}
 use Rattle.std.proofs.lemmas.Bool.{le-leb}
 use Rattle.sym_shape.specs.declared.rule.Sym.TheVariants.{Kind as OfKind, Name, Byte}
 use Rattle.sym_link.specs.Unfold.{found, standing}
@@ -19,13 +19,12 @@ use Rattle.cpp_grammar.specs.Meaning.{meaning}
 use Rattle.cpp_grammar.specs.Unfolding as unfolding_
 use Rattle.cpp_grammar.specs.Unfolding.{opening, close, byte_of}
 use Rattle.cpp_direct.specs.Symbol.{Symbol}
-use Rattle.cpp_direct.specs.Holes.{Opened, opened, StandsAt, Comes, Expects, with_candidate, unless_listed, IsNameAt, Named, AwaitsComponent}
+use Rattle.cpp_direct.specs.Holes.{Opened, opened, StandsAt, Comes, Expects, with_candidate, unless_listed, IsNameAt, Named, AwaitsComponent, bare_name}
 use Rattle.cpp_direct.specs.Names.{IsConstructorDigit, IsDestructorDigit}
 use Rattle.cpp_direct.specs.HolesOfNests.{IsRest, AwaitsArguments, AwaitsInstance}
 use Rattle.cpp_direct.proofs.Alone.{any-list}
 use Rattle.cpp_direct.proofs.Moves.{stands-split, comes-moved, first-of, first-of-chain, next-of, last-of, expects-byte, expects-name, letter-comes, wide-letter}
 use Rattle.cpp_direct.proofs.MovesOfNests.{last-passes}
-use Rattle.cpp_direct.proofs.Alone.{alone-arguments}
 use Rattle.cpp_direct.proofs.Operators.{IsOperator}
 
 -- ## Behind the name so far
@@ -144,11 +143,13 @@ pub named-by : (s : Symbol) (os : List Opened) (p : Production) (taken : List �
 unfolding applied is_there tree_of
 named-by s os p taken at0 around before u at st closes outer expects = record {
   inner = opened (standing (rule_of p) taken at0 around before) (tree u false ∷ []) [] ∷ os;
-  awaits = alone-arguments s (after u false outer) (opened (standing (rule_of p) taken at0 around before) (tree u false ∷ []) [] ∷ os) at st expects;
+  awaits = expects;
   bare = λ to later comes. last-of s p taken at0 around before (tree u false ∷ []) nothing_there os to later (tree u false) later
       (closes (byte_of taken) around before later nothing_there) comes;
   argued = λ a to later comes. last-of s p taken at0 around before (tree u false ∷ []) (tree a true) os to later (tree (instance u a) false) later
       (closes (byte_of taken) around before later (tree a true)) comes;
+  renamed = λ w to later comes. last-of s p taken at0 around before (tree u false ∷ []) (bare_name w) os to later (tree w false) later
+      (closes (byte_of taken) around before later (bare_name w)) comes;
 }
 
 -- a name

@@ -23,7 +23,7 @@ use Rattle.cpp_grammar.specs.Meaning.{meaning}
 use Rattle.cpp_grammar.specs.Unfolding as unfolding_
 use Rattle.cpp_grammar.specs.Unfolding.{opening, close, byte_of, first_around, first_state, first_tree, unfold_cpp}
 use Rattle.cpp_direct.specs.Symbol.{Symbol, mangled_of}
-use Rattle.cpp_direct.specs.Holes.{cpp_language, Opened, opened, StandsAt, Comes, Needs, Expects, IsNameAt, Named}
+use Rattle.cpp_direct.specs.Holes.{cpp_language, Opened, opened, StandsAt, Comes, Needs, Expects, IsNameAt, Named, bare_name}
 use Rattle.sym_direct.specs.Holes as direct
 use Rattle.cpp_direct.specs.ItemBytes.{one_of, is_special_letter, is_suffix_byte}
 use Rattle.cpp_direct.specs.HolesOfLists.{const_letter, EncodingOpened, SpecialOpened, IsOffsetAt, ThunkOpened, nest_marks, NestOpened, IsSuffix, SymbolOpened}
@@ -31,7 +31,6 @@ use Rattle.cpp_direct.proofs.Moves.{stands-split, comes-moved, opens, opens-chai
 use Rattle.cpp_direct.proofs.MovesOfLists.{mark-comes, integer-comes}
 use Rattle.cpp_direct.specs.Letters.{special_letters}
 use Rattle.cpp_direct.proofs.LettersTested.{each_passes, tested-one, is_small, small, takes, taken}
-use Rattle.cpp_direct.proofs.Alone.{alone-arguments}
 use Rattle.cpp_direct.proofs.Tables.{stands-by}
 
 -- ## Encodings
@@ -277,14 +276,14 @@ name-source s os around at name end st expects first is =
     let arguments = OfKind (number_of_kind Kind.MaybeArguments) in
     record {
       inner = opened rule (tree t false ∷ []) [] ∷ os;
-      awaits = alone-arguments s (after t false around) (opened rule (tree t false ∷ []) [] ∷ os) end st
-          (needs-next s p [] at around st (text name ∷ []) arguments [] os end st (after t false around) (tree t false ∷ []) st
+      awaits = needs-next s p [] at around st (text name ∷ []) arguments [] os end st (after t false around) (tree t false ∷ []) st
           (ap (λ x. named_so_far around (extended x (source false name)) [] st) first)
           (expects-name s around (opened rule [] (arguments ∷ []) ∷ os) at st name end
           (needs-next s p [] at around st [] Name (arguments ∷ []) os at st around [] st refl
-          (opens-chain s Kind.CompleteName p 48 around os at st refl (omega arith) refl (λ f. refl) expects)) is));
+          (opens-chain s Kind.CompleteName p 48 around os at st refl (omega arith) refl (λ f. refl) expects)) is);
       bare = λ here now comes. ends s p [] at around st (tree t false ∷ nothing_there ∷ []) os here now _ now comes refl;
       argued = λ a here now comes. ends s p [] at around st (tree t false ∷ tree a true ∷ []) os here now _ now comes refl;
+      renamed = λ u here now comes. ends s p [] at around st (tree t false ∷ bare_name u ∷ []) os here now _ now comes refl;
     }
 
 -- one with internal linkage, behind an L
@@ -299,14 +298,14 @@ name-internal s os around at name end st expects first stands is =
     let arguments = OfKind (number_of_kind Kind.MaybeArguments) in
     record {
       inner = opened rule (tree t false ∷ []) [] ∷ os;
-      awaits = alone-arguments s (after t false around) (opened rule (tree t false ∷ []) [] ∷ os) end st
-          (needs-next s p (76 ∷ []) at around st (text name ∷ []) arguments [] os end st (after t false around) (tree t false ∷ []) st
+      awaits = needs-next s p (76 ∷ []) at around st (text name ∷ []) arguments [] os end st (after t false around) (tree t false ∷ []) st
           (ap (λ x. named_so_far around (extended x (source true name)) [] st) first)
           (expects-name s around (opened rule [] (arguments ∷ []) ∷ os) (at + 1) st name end
           (needs-next s p (76 ∷ []) at around st [] Name (arguments ∷ []) os (at + 1) st around [] st refl
-          (opens s Kind.CompleteName p 76 (76 ∷ []) around os at st refl (omega arith) refl (λ f. refl) expects stands)) is));
+          (opens s Kind.CompleteName p 76 (76 ∷ []) around os at st refl (omega arith) refl (λ f. refl) expects stands)) is);
       bare = λ here now comes. ends s p (76 ∷ []) at around st (tree t false ∷ nothing_there ∷ []) os here now _ now comes refl;
       argued = λ a here now comes. ends s p (76 ∷ []) at around st (tree t false ∷ tree a true ∷ []) os here now _ now comes refl;
+      renamed = λ u here now comes. ends s p (76 ∷ []) at around st (tree t false ∷ bare_name u ∷ []) os here now _ now comes refl;
     }
 
 -- ## Suffixes

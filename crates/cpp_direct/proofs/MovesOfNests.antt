@@ -25,9 +25,9 @@ use Rattle.cpp_grammar.specs.Meaning.{meaning}
 use Rattle.cpp_grammar.specs.Unfolding as unfolding_
 use Rattle.cpp_grammar.specs.Unfolding.{opening, close, byte_of}
 use Rattle.cpp_direct.specs.Symbol.{Symbol}
-use Rattle.cpp_direct.specs.Holes.{Opened, opened, StandsAt, Comes, Expects, IsNameAt, IsSeqAt, SamePasses, NestGoesOn, NestNamed}
+use Rattle.cpp_direct.specs.Holes.{Opened, opened, StandsAt, Comes, Expects, IsNameAt, IsSeqAt, SamePasses, NestGoesOn, NestNamed, bare_name}
 use Rattle.cpp_direct.specs.HolesOfNests.{NestKnown}
-use Rattle.cpp_direct.proofs.Alone.{alone-arguments, alone-rest}
+use Rattle.cpp_direct.proofs.Alone.{alone-rest}
 use Rattle.cpp_direct.proofs.Moves.{stands-split, comes-moved, expects-name, expects-seq, first-of, first-of-chain, wide-first-of-chain, next-of, last-of, letter-comes}
 
 -- ## Productions
@@ -217,13 +217,13 @@ nest-std s os around at st name end expects here is =
     (λ f. refl) refl refl (behind-s s os around at st expects two.0) two.1) in
     record {
       inner = opened (standing (rule_of p) (116 ∷ []) (at + 1) around st) (tree u false ∷ []) (OfKind NEST_TAIL ∷ []) ∷ os1;
-      awaits = alone-arguments s (after u false around) (opened (standing (rule_of p) (116 ∷ []) (at + 1) around st) (tree u false ∷ []) (OfKind NEST_TAIL ∷ []) ∷ os1) end st
-          (next-of s p (116 ∷ []) (at + 1) around st [] (piece (source false name)) (OfKind MAYBE_ARGUMENTS) (OfKind NEST_TAIL ∷ []) os1 end st
+      awaits = next-of s p (116 ∷ []) (at + 1) around st [] (piece (source false name)) (OfKind MAYBE_ARGUMENTS) (OfKind NEST_TAIL ∷ []) os1 end st
           (after u false around) (tree u false ∷ []) st refl
           (piece-comes s (opened (standing (rule_of p) (116 ∷ []) (at + 1) around st) [] (OfKind MAYBE_ARGUMENTS ∷ OfKind NEST_TAIL ∷ []) ∷ os1) around (at + 2) st name
-          end piece_expected is));
+          end piece_expected is);
       bare = λ to later comes. goes-on nothing_there to later comes;
       argued = λ a to later comes. goes-on (tree a true) to later comes;
+      renamed = λ v to later comes. goes-on (bare_name v) to later comes;
     }
   where
     goes-on : (last : Value) (to : ℕ) (later : State)

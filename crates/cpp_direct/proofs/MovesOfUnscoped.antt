@@ -15,11 +15,10 @@ use Rattle.cpp_grammar.specs.Meaning.{meaning}
 use Rattle.cpp_grammar.specs.Unfolding as unfolding_
 use Rattle.cpp_grammar.specs.Unfolding.{opening, close, byte_of}
 use Rattle.cpp_direct.specs.Symbol.{Symbol}
-use Rattle.cpp_direct.specs.Holes.{Opened, opened, StandsAt, Comes, Expects, Named}
+use Rattle.cpp_direct.specs.Holes.{Opened, opened, StandsAt, Comes, Expects, Named, bare_name}
 use Rattle.cpp_direct.proofs.Moves.{stands-split, comes-moved, first-of, first-of-chain, next-of, last-of, letter-comes}
 use Rattle.cpp_direct.proofs.MovesOfComponents.{named-by}
 use Rattle.cpp_direct.proofs.Operators.{IsOperator}
-use Rattle.cpp_direct.proofs.Alone.{alone-arguments}
 
 -- an operator is read
 operator-comes : (s : Symbol) (os : List Opened) (around : Around) (at : ℕ) (st : State) (first second : ℕ) → IsOperator first second
@@ -86,11 +85,12 @@ name-std s os around at q end st expects here comes =
     two.1) in
     record {
       inner = opened rule (tree u false ∷ []) [] ∷ os1;
-      awaits = alone-arguments s (after u false around) (opened rule (tree u false ∷ []) [] ∷ os1) end st
-          (next-of s p (116 ∷ []) (at + 1) around st [] (piece q) (OfKind MAYBE_ARGUMENTS) [] os1 end st (after u false around) (tree u false ∷ []) st refl
-          (comes os2 expected));
+      awaits = next-of s p (116 ∷ []) (at + 1) around st [] (piece q) (OfKind MAYBE_ARGUMENTS) [] os1 end st (after u false around) (tree u false ∷ []) st refl
+          (comes os2 expected);
       bare = λ to later came. last-of s o (83 ∷ []) at around st [] (tree u false) os to later (tree u false) later refl
           (last-of s p (116 ∷ []) (at + 1) around st (tree u false ∷ []) nothing_there os1 to later (tree u false) later refl came);
       argued = λ a to later came. last-of s o (83 ∷ []) at around st [] (tree (instance u a) false) os to later (tree (instance u a) false) later refl
           (last-of s p (116 ∷ []) (at + 1) around st (tree u false ∷ []) (tree a true) os1 to later (tree (instance u a) false) later refl came);
+      renamed = λ v to later came. last-of s o (83 ∷ []) at around st [] (tree v false) os to later (tree v false) later refl
+          (last-of s p (116 ∷ []) (at + 1) around st (tree u false ∷ []) (bare_name v) os1 to later (tree v false) later refl came);
     }

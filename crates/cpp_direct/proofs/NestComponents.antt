@@ -1,5 +1,5 @@
 -- A component of a nested name is written: where the writer is then.
-use Rattle.std.proofs.Common.{◌≡◌, ◌≢◌, ℕ, ◌+◌, ◌-◌, ◌≤◌, inl, inr, length, List, [], ◌∷◌, ◌++◌, take, drop, reverse, Bool, true, false, refl, ap, sym, ◌∙◌, subst, arith, codes, append_assoc, append-nil}
+use Rattle.std.proofs.Common.{◌≡◌, ◌≢◌, ℕ, ◌+◌, ◌-◌, inl, inr, length, List, [], ◌∷◌, ◌++◌, take, drop, reverse, Bool, true, false, refl, ap, sym, ◌∙◌, subst, arith, codes, append_assoc, append-nil}
 use Rattle.std.proofs.lemmas.Bool.{false≢true}
 use Rattle.std.proofs.lemmas.List.{length-append}
 use Rattle.cpp_grammar.specs.Term.{Term, within, instance, source, operator, constructor, destructor}
@@ -22,6 +22,7 @@ use Rattle.cpp_direct.proofs.Kept.{piece-found, candidates-stay}
 use Rattle.cpp_direct.proofs.Moves.{stands-join}
 use Rattle.cpp_direct.proofs.MovesOfComponents.{component-source, component-internal, component-operator, component-constructor, component-destructor}
 use Rattle.cpp_direct.proofs.Operators.{IsOperator, operator-listed}
+use Rattle.cpp_direct.proofs.PrintedTags.{within-tagged}
 use Rattle.cpp_direct.proofs.PrintedNests.{IsPiece, source-opening, source-piece, operator-opening, operator-piece, within-names, within-prints, within-class, constructor-prints, destructor-prints}
 
 -- ## Pieces of a text
@@ -111,6 +112,7 @@ component-named s outer around t u at st a to end same n = subst (λ k. NestName
   awaits = n.awaits;
   bare = λ k later comes. a.onward u k later (n.bare k later comes);
   argued = λ v k later comes. a.onward (instance u v) k later (n.argued v k later comes);
+  renamed = λ v k later comes. a.onward v k later (n.renamed v k later comes);
 })
 
 -- the digit of a constructor isn't 0
@@ -180,6 +182,7 @@ named-again s old new p g at from to unlisted classless no_instance =
         class_to = to ∙ p.class_to;
         names_class = λ e. absurd (false≢true (sym classless ∙ e));
       };
+      names_tagged = λ e tag. absurd (false≢true (sym classless ∙ e));
       unlisted = unlisted;
       no_instance = no_instance;
       no_return = p.no_return;
@@ -246,6 +249,7 @@ piece-named s old new st t piece x front bytes around outer candidates before is
         class_to = to ∙ ap length class_written ∙ length-append (old.text.list.items ++ m) x;
         names_class = λ e. within-class t bytes is.prints piece x is_piece;
       };
+      names_tagged = λ e tag. within-tagged t bytes is.prints piece x is_piece opening tag;
       unlisted = unlisted;
       no_instance = no_instance;
       no_return = refl;

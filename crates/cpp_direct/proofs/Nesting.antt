@@ -11,7 +11,7 @@ use Rattle.cpp_grammar.specs.Texts.{Naming, look_up, abbreviation_texts, same_by
 use Rattle.cpp_grammar.specs.Parts.{source_text}
 use Rattle.cpp_grammar.specs.Scope.{has_return_type, arguments_of, is_structor}
 use Rattle.cpp_grammar.specs.Values.{State, Around, tree, named, tree_of, qualifiers_of, ref_of}
-use Rattle.cpp_grammar.specs.Between.{after, inside, no_items}
+use Rattle.cpp_grammar.specs.Between.{with_tag, after, inside, no_items}
 use Rattle.cpp_direct.specs.Symbol.{Symbol}
 use Rattle.cpp_direct.specs.declared.open.Mark.{Mark}
 use Rattle.cpp_direct.specs.Marks.{has_const, called_on}
@@ -24,18 +24,22 @@ use Rattle.cpp_direct.specs.declared.open.Open.TheVariants as opens
 use Rattle.cpp_direct.specs.declared.open.Step.{Step}
 use Rattle.cpp_direct.specs.declared.open.Step.TheVariants as steps
 use Rattle.cpp_direct.specs.declared.direct.Direct.{Direct}
-use Rattle.cpp_direct.specs.Holes.{Opened, Comes, StandsAt, IsNameAt, IsSeqAt, SamePasses, NestGoesOn, AwaitsComponent, with_candidate, unless_listed}
+use Rattle.cpp_direct.specs.Holes.{Opened, Comes, StandsAt, IsNameAt, IsSeqAt, SamePasses, NestGoesOn, AwaitsComponent, with_candidate, unless_listed, IsTagAt}
 use Rattle.cpp_direct.specs.HolesOfNests.{IsRest, NestKnown}
+use Rattle.cpp_direct.specs.Names.{tag_text}
 use Rattle.cpp_direct.specs.Prints.{Prints, NamesClass}
 use Rattle.cpp_direct.specs.Stands.{HasArguments, AreCandidates, IsNest, IsNesting, IsOwn, IsTemplate, ArgumentsGoOn, Serves, Stands, IsWriting, qualifiers}
 use Rattle.cpp_direct.specs.Ways.{AwaitsNest, IsNestKnown, IsNestNamed, IsNameEnded, IsOperatorRead}
 use Rattle.cpp_direct.specs.Written.{Reads, added, added_unless}
-use Rattle.cpp_direct.proofs.Kept.{arguments-begun, candidates-stay, candidates-with, candidates-unless, candidate-found, piece-found, nest-stays, reverse-last}
+use Rattle.cpp_direct.proofs.Alone.{alone-arguments}
+use Rattle.cpp_direct.proofs.Kept.{arguments-begun, candidates-read, candidates-stay, candidates-with, candidates-unless, candidate-found, piece-found, nest-stays, reverse-last}
 use Rattle.cpp_direct.proofs.Moves.{expects-empty, stands-join, comes-moved}
 use Rattle.cpp_direct.proofs.MovesOfComponents.{component-awaits, first-arguments, instance-arguments, nest-end}
 use Rattle.cpp_direct.proofs.MovesOfLists.{arguments-open}
 use Rattle.cpp_direct.proofs.MovesOfNests.{nest-source, nest-abbreviation, nest-substitution, nest-std}
 use Rattle.cpp_direct.proofs.PrintedNames.{as-name, source-prints, source-class, std-prints, std-class, abbreviation-prints}
+use Rattle.cpp_direct.proofs.PrintedTags.{tagged-prints, std-tagged, again-tagged}
+use Rattle.cpp_direct.proofs.MovesOfTags.{tag-follows}
 
 -- ## What small functions did
 
@@ -98,7 +102,7 @@ named-goes-on s w n = record {
       written = n.written;
       is_nest = n.is_nest;
       goes = subst (λ b. NestGoesOn s Kind.NestTail n.outer n.around n.own b w.at n.state) (sym n.unlisted)
-          (n.named.bare w.at n.state (expects-empty s Kind.ArgumentsAlone (after n.own false n.around) n.named.inner w.at n.state n.named.awaits refl));
+          (n.named.bare w.at n.state (expects-empty s Kind.MaybeArguments (after n.own false n.around) n.named.inner w.at n.state n.named.awaits refl));
       serves = n.serves;
     },
     (λ own e. n.no_return),
@@ -107,13 +111,67 @@ named-goes-on s w n = record {
   );
 }
 
+-- a tag stands behind it
+pub named-tagged : (s : Symbol) (old new : Direct) (tag : List ℕ) → s.is_wide ≡ true → IsNestNamed s old → IsTagAt s.bytes old.at tag new.at
+    → Reads old new (tag_text tag) → IsNestNamed s new
+unfolding with_tag has_return_type arguments_of is_structor
+named-tagged s old new tag wide n is reads =
+    let g = tag-follows s n.named.inner n.around n.own old.at n.state tag new.at wide n.named.awaits is in
+    let own : Term = with_tag n.own tag in
+    let prints = tagged-prints (is_structor n.own) n.own n.bytes n.is_nest.prints tag in
+    let written : new.text.list.items ≡ n.front ++ (n.bytes ++ tag_text tag)
+    = reads.text ∙ ap (λ l. l ++ tag_text tag) n.written ∙ append_assoc n.front n.bytes (tag_text tag) in
+    let nest = sym reads.nest in
+    let classed : new.nest.has_class ≡ true → old.nest.has_class ≡ true = λ e. ap (λ x. x.has_class) nest ∙ e in
+    let is_nest : IsNest n.front (n.bytes ++ tag_text tag) new.text.list.items new.nest own = record {
+      back = [];
+      written = written ∙ sym (append-nil (n.front ++ (n.bytes ++ tag_text tag)));
+      from_is = ap (λ x. x.from) reads.nest ∙ n.is_nest.from_is;
+      prints = prints;
+      class_front = n.is_nest.class_front;
+      class = n.is_nest.class;
+      class_back = n.is_nest.class_back ++ tag_text tag;
+      class_written = reads.text ∙ ap (λ l. l ++ tag_text tag) n.is_nest.class_written
+          ∙ append_assoc (n.is_nest.class_front ++ n.is_nest.class) n.is_nest.class_back (tag_text tag);
+      class_from = ap (λ x. x.class_from) reads.nest ∙ n.is_nest.class_from;
+      class_to = ap (λ x. x.class_to) reads.nest ∙ n.is_nest.class_to;
+      names_class = λ e. n.names_tagged (classed e) tag;
+    } in
+    record {
+      state = n.state;
+      candidates = candidates-read old new (tag_text tag) n.state.candidates reads n.candidates;
+      around = n.around;
+      outer = n.outer;
+      own = own;
+      named = record {
+        inner = g.inner;
+        awaits = g.awaits;
+        bare = λ at st comes. n.named.renamed own at st (g.bare at st comes);
+        argued = λ a at st comes. n.named.renamed (instance own a) at st (g.argued a at st comes);
+        renamed = λ u at st comes. n.named.renamed u at st (g.renamed u at st comes);
+      };
+      front = n.front;
+      bytes = n.bytes ++ tag_text tag;
+      written = written;
+      is_nest = is_nest;
+      names_tagged = λ e more. again-tagged (is_structor n.own) n.own n.bytes n.is_nest.prints tag more n.is_nest.class (n.names_tagged (classed e) tag);
+      unlisted = ap (λ x. x.is_listed) reads.nest ∙ n.unlisted;
+      no_instance = ap (λ x. x.is_instance) reads.nest ∙ n.no_instance;
+      no_return = refl;
+      structor = λ e. n.structor (ap (λ x. x.has_class) nest ∙ e);
+      no_structor = λ e. n.no_structor (classed e);
+      serves = subst (λ x. Serves s x.purpose (Stands s (reverse new.waiting.list.items)) n.outer n.front) nest
+          (subst (λ v. Serves s old.nest.purpose (Stands s (reverse v.list.items)) n.outer n.front) (sym reads.waiting) n.serves);
+    }
+
 -- arguments stand behind it
 pub named-opens : (s : Symbol) (old mid new : Direct) → IsNestNamed s old → StandsAt s.bytes old.at (73 ∷ [])
     → Keeps old mid (added old old.nest.from false) → OpensArguments mid new (opens.NestArguments mid.nest) → IsWriting s new (steps.List true)
 unfolding inside
 named-opens s old mid new n here keeps opening_ =
     let e = n.around.encoding in
-    let begun = arguments-open s n.named.inner n.around n.own false old.at n.state n.named.awaits here in
+    let begun = arguments-open s n.named.inner n.around n.own false old.at n.state
+    (alone-arguments s (after n.own false n.around) n.named.inner old.at n.state n.named.awaits) here in
     list-begins s old mid new (added old old.nest.from false) (with_candidate e n.own n.state) (opens.NestArguments old.nest) n.front n.bytes n.own
     keeps (subst (λ x. OpensArguments mid new (opens.NestArguments x)) keeps.nest opening_)
     (candidates-with old n.state n.front n.bytes old.nest.from n.own e false n.candidates n.written n.is_nest.from_is n.is_nest.prints)
@@ -325,7 +383,7 @@ operator-ends s w mark p here is_name =
     let t = p.own in
     let st = p.state in
     let serves = subst (λ u. Serves s u (Stands s (reverse w.waiting.list.items)) p.outer p.front) is_name p.serves in
-    let goes = p.named.bare w.at st (expects-empty s Kind.ArgumentsAlone (after t false p.around) p.named.inner w.at st p.named.awaits refl) in
+    let goes = p.named.bare w.at st (expects-empty s Kind.MaybeArguments (after t false p.around) p.named.inner w.at st p.named.awaits refl) in
     record {
       state = st;
       candidates = p.candidates;
@@ -558,10 +616,20 @@ std-begins s old mid purpose before name a here is filled text_is candidates_are
       front = old.text.list.items;
       bytes = bytes;
       written = written;
-      is_nest = subst (λ l. IsNest old.text.list.items bytes l nest t) (sym written)
-          (class-nest old.text.list.items (codes "std::") (source_text name) nest t from_is class_from_is
-          (omega (arith, to_is, ap length text_is, length-append (old.text.list.items ++ codes "std::") (source_text name)))
-          (std-prints false name filled) (std-class false name filled));
+      is_nest = record {
+        back = [];
+        written = written ∙ sym (append-nil (old.text.list.items ++ bytes));
+        from_is = from_is;
+        prints = std-prints false name filled;
+        class_front = old.text.list.items ++ codes "std::";
+        class = source_text name;
+        class_back = [];
+        class_written = text_is ∙ sym (append-nil (old.text.list.items ++ codes "std::" ++ source_text name));
+        class_from = class_from_is;
+        class_to = omega (arith, to_is, ap length text_is, length-append (old.text.list.items ++ codes "std::") (source_text name));
+        names_class = λ e. std-class false name filled;
+      };
+      names_tagged = λ e tag. std-tagged false name filled tag;
       unlisted = refl;
       no_instance = refl;
       no_return = refl;

@@ -1,5 +1,5 @@
 -- Names of encodings that stand in no class: where a writer is behind them.
-use Rattle.std.proofs.Common.{◌≡◌, ◌≢◌, ℕ, ◌+◌, length, List, [], ◌∷◌, ◌++◌, reverse, Bool, true, false, not, cond, Option, Some, None, refl, ap, sym, subst, ◌∙◌, arith, codes}
+use Rattle.std.proofs.Common.{◌≡◌, ◌≢◌, ℕ, ◌+◌, length, List, [], ◌∷◌, ◌++◌, reverse, Bool, true, false, not, cond, Option, Some, None, refl, ap, sym, subst, ◌∙◌, arith, append_assoc, codes}
 use Rattle.std.specs.Option.{IfSome, OnSome}
 use Rattle.std.proofs.lemmas.Bool.{false≢true}
 use Rattle.cpp_grammar.specs.declared.kind.Kind.{Kind}
@@ -8,20 +8,23 @@ use Rattle.cpp_grammar.specs.Term.{Term, alone, in_std, source, operator, instan
 use Rattle.cpp_grammar.specs.Parts.{source_text}
 use Rattle.cpp_grammar.specs.Scope.{has_return_type, arguments_of, is_structor}
 use Rattle.cpp_grammar.specs.Values.{State, piece, tree, tree_of, qualifiers_of, ref_of}
-use Rattle.cpp_grammar.specs.Between.{after, in_name, inside, no_items}
+use Rattle.cpp_grammar.specs.Between.{after, in_name, inside, no_items, with_tag}
 use Rattle.cpp_direct.specs.Symbol.{Symbol}
 use Rattle.cpp_direct.specs.declared.open.Mark.TheVariants as marks
 use Rattle.cpp_direct.specs.declared.open.Open.TheVariants as opens
 use Rattle.cpp_direct.specs.declared.open.Step.{Step}
 use Rattle.cpp_direct.specs.declared.open.Step.TheVariants as steps
 use Rattle.cpp_direct.specs.declared.direct.Direct.{Direct}
-use Rattle.cpp_direct.specs.Holes.{StandsAt, Comes, Expects, IsNameAt, Named, with_candidate}
-use Rattle.cpp_direct.specs.Names.{IsOperatorAt, is_angle, operator_text}
+use Rattle.cpp_direct.specs.Holes.{StandsAt, Comes, Expects, IsNameAt, Named, with_candidate, IsTagAt}
+use Rattle.cpp_direct.specs.Names.{IsOperatorAt, is_angle, operator_text, tag_text}
 use Rattle.cpp_direct.specs.Prints.{Prints, PrintsName}
 use Rattle.cpp_direct.specs.Stands.{AreCandidates, IsWriting}
 use Rattle.cpp_direct.specs.Ways.{AwaitsEncoding, AwaitsSource, HasName, IsNameEnded, IsUnscoped}
 use Rattle.cpp_direct.specs.Written.{Writes, Reads, added}
 use Rattle.cpp_direct.proofs.Begins.{encoding-expected, items-await}
+use Rattle.cpp_direct.proofs.Alone.{alone-arguments}
+use Rattle.cpp_direct.proofs.MovesOfTags.{tag-follows}
+use Rattle.cpp_direct.proofs.PrintedTags.{tagged-names, tagged-prints}
 use Rattle.cpp_direct.proofs.Kept.{arguments-begun, candidates-stay, candidates-with, candidates-read, reverse-last}
 use Rattle.cpp_direct.proofs.FoundTokens.{reads-then}
 use Rattle.cpp_direct.proofs.Moves.{expects-empty, stands-join}
@@ -47,6 +50,7 @@ named-has s w p t at is = record {
   awaits = is.awaits;
   bare = λ here now comes. items-await s w p (tree t false) here now (is.bare here now comes);
   argued = λ a here now comes. items-await s w p (tree (instance t a) false) here now (is.argued a here now comes);
+  renamed = λ u here now comes. items-await s w p (tree u false) here now (is.renamed u here now comes);
 }
 
 name-has : (s : Symbol) (internal : Bool) (w : Direct) (p : AwaitsEncoding s w) (at : ℕ) (name : List ℕ) (end : ℕ)
@@ -179,8 +183,37 @@ unscoped-bare s w from takes p = record {
   returns = λ e. absurd (false≢true e);
   names = λ e. absurd (false≢true e);
   awaits = p.has.bare w.at p.state
-      (expects-empty s Kind.ArgumentsAlone (after p.own false (in_name p.encoding)) p.has.inner w.at p.state p.has.awaits refl);
+      (expects-empty s Kind.MaybeArguments (after p.own false (in_name p.encoding)) p.has.inner w.at p.state p.has.awaits refl);
 }
+
+-- a tag stands behind it
+pub unscoped-tagged : (s : Symbol) (old new : Direct) (from : ℕ) (takes : Bool) (tag : List ℕ) → s.is_wide ≡ true → IsUnscoped s old from takes
+    → IsTagAt s.bytes old.at tag new.at → Reads old new (tag_text tag) → IsUnscoped s new from takes
+unfolding with_tag has_return_type arguments_of is_structor
+unscoped-tagged s old new from takes tag wide p is reads =
+    let g = tag-follows s p.has.inner (in_name p.encoding) p.own old.at p.state tag new.at wide p.has.awaits is in
+    let own : Term = with_tag p.own tag in
+    record {
+      state = p.state;
+      candidates = candidates-read old new (tag_text tag) p.state.candidates reads p.candidates;
+      encoding = p.encoding;
+      own = own;
+      front = p.front;
+      bytes = p.bytes ++ tag_text tag;
+      has = record {
+        inner = g.inner;
+        awaits = g.awaits;
+        bare = λ at st comes. p.has.renamed own at st (g.bare at st comes);
+        argued = λ a at st comes. p.has.renamed (instance own a) at st (g.argued a at st comes);
+        renamed = λ u at st comes. p.has.renamed u at st (g.renamed u at st comes);
+      };
+      written = reads.text ∙ ap (λ l. l ++ tag_text tag) p.written ∙ append_assoc p.front p.bytes (tag_text tag);
+      from_is = p.from_is;
+      names = tagged-names (is_structor p.own) p.own p.bytes p.names tag;
+      prints = λ e. tagged-prints (is_structor p.own) p.own p.bytes (p.prints e) tag;
+      no_return = refl;
+      no_structor = p.no_structor;
+    }
 
 -- where arguments were opened behind it
 list-stands : (s : Symbol) (read new : Direct) (from : ℕ) (takes : Bool) → IsUnscoped s read from takes → takes ≡ true → StandsAt s.bytes read.at (73 ∷ [])
@@ -192,7 +225,8 @@ list-stands s read new from takes p some there candidates_are text_is waiting_is
     let st = p.state in
     let place = p.encoding in
     let has = p.has in
-    let list = arguments-open s has.inner (in_name place) own false read.at st has.awaits there in
+    let list = arguments-open s has.inner (in_name place) own false read.at st
+    (alone-arguments s (after own false (in_name place)) has.inner read.at st has.awaits) there in
     let prints = p.prints some in
     let state = with_candidate place own st in
     record {

@@ -11,8 +11,8 @@ use Rattle.sym_direct.specs.Holes as direct
 use Rattle.sym_direct.specs.Holes.{Language}
 use Rattle.cpp_grammar.specs.declared.kind.Kind.{Kind}
 use Rattle.cpp_grammar.specs.Grammar.{number_of_kind}
-use Rattle.cpp_grammar.specs.Term.{Term, instance, list}
-use Rattle.cpp_grammar.specs.Values.{State, Around, Value, nothing_there, tree}
+use Rattle.cpp_grammar.specs.Term.{Term, any_value, instance, list}
+use Rattle.cpp_grammar.specs.Values.{State, Around, Value, nothing_there, tree, named, unqualified}
 use Rattle.cpp_grammar.specs.References.{is_function_type}
 use Rattle.cpp_grammar.specs.Between.{after, no_items}
 use Rattle.cpp_grammar.specs.Unfolding.{cpp, first_around, first_state}
@@ -70,6 +70,10 @@ pub record IsNameAt (s : List ℕ) (at : ℕ) (name : List ℕ) (end : ℕ) : Ty
   pub stands : StandsAt s at (bytes_of token)
   pub ends : end ≡ at + length (bytes_of token)
 
+-- a tag stands at the place, and this is the place behind it
+abbrev pub IsTagAt : (s : List ℕ) → (at : ℕ) → (tag : List ℕ) → (end : ℕ) → Type 0
+IsTagAt s at tag end = StandsAt s at (66 ∷ []) × IsNameAt s (at + 1) tag end
+
 -- the number of a substitution stands at the place, and this is the place behind it
 pub record IsSeqAt (s : List ℕ) (at : ℕ) (digits : List ℕ) (end : ℕ) : Type 0 where
   pub token : Token
@@ -118,12 +122,17 @@ pub record TypeNamed (s : Symbol) (outer : List Opened) (around : Around) (t : T
   pub argued : (a : Term) (at : ℕ) (st : State) → Comes s inner (tree a true) at st
       → Comes s outer (tree (instance t a) true) at (with_candidate around.encoding (instance t a) st)
 
--- A name was read that is the name of an encoding or a component, with or without arguments behind it.
+-- a name with its tags
+abbrev pub bare_name : Term → Value
+bare_name u = named u unqualified any_value
+
+-- A name was read that is the name of an encoding or a component, with or without arguments behind it, or tags.
 pub record Named (s : Symbol) (outer : List Opened) (around : Around) (t : Term) (at : ℕ) (st : State) : Type 0 where
   pub inner : List Opened
-  pub awaits : Expects s Kind.ArgumentsAlone (after t false around) inner at st
+  pub awaits : Expects s Kind.MaybeArguments (after t false around) inner at st
   pub bare : (at : ℕ) (st : State) → Comes s inner nothing_there at st → Comes s outer (tree t false) at st
   pub argued : (a : Term) (at : ℕ) (st : State) → Comes s inner (tree a true) at st → Comes s outer (tree (instance t a) false) at st
+  pub renamed : (u : Term) (at : ℕ) (st : State) → Comes s inner (bare_name u) at st → Comes s outer (tree u false) at st
 
 -- Of a nested name this much is read, and what comes of it comes outside.
 pub record NestGoesOn (s : Symbol) (kind : Kind) (outer : List Opened) (around : Around) (t : Term) (listed : Bool) (at : ℕ) (st : State) : Type 0 where
@@ -137,12 +146,13 @@ pub record AwaitsComponent (s : Symbol) (outer : List Opened) (around : Around) 
   pub awaits : Expects s Kind.Component (after t true around) inner at st
   pub onward : (u : Term) (at : ℕ) (st : State) → Comes s inner (tree u false) at st → NestGoesOn s Kind.NestTail outer around u false at st
 
--- A std name was read at the front of a nested one, with or without arguments behind it.
+-- A std name was read at the front of a nested one, or a component, with or without arguments behind it, or tags.
 pub record NestNamed (s : Symbol) (outer : List Opened) (around : Around) (t : Term) (at : ℕ) (st : State) : Type 0 where
   pub inner : List Opened
-  pub awaits : Expects s Kind.ArgumentsAlone (after t false around) inner at st
+  pub awaits : Expects s Kind.MaybeArguments (after t false around) inner at st
   pub bare : (at : ℕ) (st : State) → Comes s inner nothing_there at st → NestGoesOn s Kind.NestTail outer around t false at st
   pub argued : (a : Term) (at : ℕ) (st : State) → Comes s inner (tree a true) at st → NestGoesOn s Kind.NestTail outer around (instance t a) false at st
+  pub renamed : (u : Term) (at : ℕ) (st : State) → Comes s inner (bare_name u) at st → NestGoesOn s Kind.NestTail outer around u false at st
 
 -- A list goes on behind an element.
 pub record ListGoesOn (s : Symbol) (kind : Kind) (outer : List Opened) (around : Around) (t : Term) (at : ℕ) (st : State) : Type 0 where

@@ -45,6 +45,10 @@ IsConstructorDigit is_wide digit = ((49 ≤ digit) × (digit ≤ 51)) ⊎ ((is_w
 abbrev pub IsDestructorDigit : (is_wide : Bool) → (digit : ℕ) → Type 0
 IsDestructorDigit is_wide digit = ((48 ≤ digit) × (digit ≤ 50)) ⊎ ((is_wide ≡ true) × ((digit ≡ 52) ⊎ (digit ≡ 53)))
 
+-- the text of a tag
+abbrev pub tag_text : (tag : List ℕ) → List ℕ
+tag_text tag = codes "[abi:" ++ tag ++ codes "]"
+
 -- A name stands at the place, and its own bytes are those from here to there.
 pub record IsNamePlace (s : List ℕ) (at : ℕ) (place : NamePlace) : Type 0 where
   pub name : List ℕ

@@ -1,11 +1,11 @@
 -- Where a writer is between two of its functions, within a step.
-use Rattle.std.specs.Prelude.{◌≡◌, ◌≢◌, ◌⊎◌, ℕ, zero, suc, ◌+◌, List, [], ◌∷◌, ◌++◌, length, reverse, ◌≤◌, Bool, true, false, cond, Some, codes}
+use Rattle.std.specs.Prelude.{◌≡◌, ◌≢◌, ◌⊎◌, ℕ, zero, suc, ◌+◌, List, [], ◌∷◌, ◌++◌, length, reverse, Bool, true, false, cond, Some, codes}
 use Rattle.cpp_grammar.specs.declared.kind.Kind.{Kind}
 use Rattle.cpp_grammar.specs.Term.{Term, Signed, instance, builtin, list, nil}
 use Rattle.cpp_grammar.specs.Texts.{look_up, builtin_texts, literal_endings}
 use Rattle.cpp_grammar.specs.Parts.{is_plain_integer, types_of}
 use Rattle.cpp_grammar.specs.Scope.{has_return_type, is_structor}
-use Rattle.cpp_grammar.specs.Between.{after, in_name}
+use Rattle.cpp_grammar.specs.Between.{after, in_name, with_tag}
 use Rattle.cpp_grammar.specs.Meaning.{encoding_of}
 use Rattle.cpp_grammar.specs.Values.{State, Around, Value, nothing_there, tree, outermost, tree_of, qualifiers_of, ref_of}
 use Rattle.cpp_direct.specs.Symbol.{Symbol}
@@ -18,12 +18,12 @@ use Rattle.cpp_direct.specs.declared.open.Arguments.{Arguments}
 use Rattle.cpp_direct.specs.declared.open.Open.TheVariants as opens
 use Rattle.cpp_direct.specs.declared.direct.Direct.{Direct}
 use Rattle.cpp_direct.specs.Bytes.{is_local}
-use Rattle.cpp_direct.specs.Holes.{Opened, StandsAt, Comes, Expects, IsReferable, IsTyped, TypeNamed, NestNamed, with_candidate}
+use Rattle.cpp_direct.specs.Holes.{Opened, StandsAt, Comes, Expects, IsReferable, IsTyped, TypeNamed, NestNamed, bare_name, with_candidate}
 use Rattle.cpp_direct.specs.HolesOfFunctions.{SignatureGoesOn, plain_function, pointed, with_pointed}
 use Rattle.cpp_direct.specs.HolesOfNests.{NestKnown}
 use Rattle.cpp_direct.specs.HolesOfTypes.{IsNamedKind, NoReference, TreeOpens}
 use Rattle.cpp_direct.specs.Marks.{has_const, called_on, mark_text}
-use Rattle.cpp_direct.specs.Prints.{Prints, PrintsName, IsElement, PrintAll, Shows, Encloses, sign_text, PrintsIn, PrintsBehind}
+use Rattle.cpp_direct.specs.Prints.{NamesClass, Prints, PrintsName, IsElement, PrintAll, Shows, Encloses, sign_text, PrintsIn, PrintsBehind}
 use Rattle.cpp_direct.specs.Stands.{AreCandidates, AwaitsItems, Encoded, EncodedBehind, IsEnclosing, IsFunction, IsInstance, IsListing, IsNest, IsTail, IsTemplate, GoesOn, EnumeratorGoesOn, ItemsGoOn, LambdaWithin, Owns, ParametersGoOn, Serves, Stands, TypeWithin, TakesFunction, opening_text, qualifiers, extra_of, led_by, list_with, in_front_of_next, IsPlaced, IsAmong, AreAmong, HasArguments, IsKnown, IsScoped, argument_of, place_of, nowhere, packed, of_pack, IsPlain, ArgumentsGoOn}
 
 -- the digits behind the T of a parameter with this number
@@ -60,12 +60,13 @@ pub record AwaitsSource (s : Symbol) (w : Direct) (is_internal : Bool) : Type 0 
   pub letter : is_internal ≡ true → StandsAt s.bytes before (76 ∷ [])
   pub at_is : w.at ≡ before + cond is_internal 1 0
 
--- the name of an encoding was read behind a text, with or without arguments behind it
+-- the name of an encoding was read behind a text, with or without arguments behind it, or tags
 pub record HasName (s : Symbol) (lead : List ℕ) (encoding : ℕ) (t : Term) (at : ℕ) (st : State) : Type 0 where
   pub inner : List Opened
-  pub awaits : Expects s Kind.ArgumentsAlone (after t false (in_name encoding)) inner at st
+  pub awaits : Expects s Kind.MaybeArguments (after t false (in_name encoding)) inner at st
   pub bare : (at : ℕ) (st : State) → Comes s inner nothing_there at st → AwaitsItems s lead (tree t false) at st
   pub argued : (a : Term) (at : ℕ) (st : State) → Comes s inner (tree a true) at st → AwaitsItems s lead (tree (instance t a) false) at st
+  pub renamed : (u : Term) (at : ℕ) (st : State) → Comes s inner (bare_name u) at st → AwaitsItems s lead (tree u false) at st
 
 -- The name of an encoding that stands in no class was read, and written from a place on. It takes arguments behind it, or may have none.
 pub record IsUnscoped (s : Symbol) (w : Direct) (from : ℕ) (takes : Bool) : Type 0 where
@@ -254,7 +255,7 @@ pub record IsNestKnown (s : Symbol) (w : Direct) : Type 0 where
   pub classless : w.nest.has_class ≡ false
   pub serves : Serves s w.nest.purpose (Stands s (reverse w.waiting.list.items)) outer front
 
--- A component of a nested name was read, or a name in std. Arguments may stand behind it.
+-- A component of a nested name was read, or a name in std. Arguments may stand behind it, or tags.
 pub record IsNestNamed (s : Symbol) (w : Direct) : Type 0 where
   pub state : State
   pub candidates : AreCandidates w.text.list.items w.candidates.list.items state.candidates
@@ -266,6 +267,7 @@ pub record IsNestNamed (s : Symbol) (w : Direct) : Type 0 where
   pub bytes : List ℕ
   pub written : w.text.list.items ≡ front ++ bytes
   pub is_nest : IsNest front bytes w.text.list.items w.nest own
+  pub names_tagged : w.nest.has_class ≡ true → (tag : List ℕ) → NamesClass (with_tag own tag) is_nest.class
   pub unlisted : w.nest.is_listed ≡ false
   pub no_instance : w.nest.is_instance ≡ false
   pub no_return : has_return_type own ≡ false

@@ -155,10 +155,25 @@ impl Direct {
         self.nest_named::<G>(s)
     }
 
-    /// The name of a component is read. Arguments may stand behind it.
-    // <prefix> ::= <template-prefix> <template-args>
+    /// The name of a component is read. Arguments may stand behind it, and by the wide grammar a tag before them.
+    // <unqualified-name> ::= <unqualified-name> <abi-tags>
     #[inline(always)]
     fn nest_named<G: Grammar>(&mut self, s: &[u8]) -> Option<Step>
+        requires fits { IsReadable s.now }
+        requires named { IsNestNamed (symbol_by G.IS_WIDE s.now) self.old }
+        ensures { IfSome result (IsWriting (symbol_by G.IS_WIDE s.now) self.new) }
+    {
+        if G::IS_WIDE && byte_at(s, self.at) == b'B' {
+            self.tag(s)?;
+            return self.nest_tagged::<G>(s);
+        }
+        self.nest_tagged::<G>(s)
+    }
+
+    /// The name of a component is read, with its tag. Arguments may stand behind it.
+    // <prefix> ::= <template-prefix> <template-args>
+    #[inline(always)]
+    fn nest_tagged<G: Grammar>(&mut self, s: &[u8]) -> Option<Step>
         requires { IsNestNamed (symbol_by G.IS_WIDE s.now) self.old }
         ensures { IfSome result (IsWriting (symbol_by G.IS_WIDE s.now) self.new) }
     {
@@ -339,7 +354,8 @@ impl Direct {
     /// Writes the name of the class again, as that of its constructor or destructor.
     #[inline(always)]
     fn class_again<G: Grammar>(&mut self, s: &[u8]) -> Option<Step>
-        requires { AwaitsClass (symbol_by G.IS_WIDE s.now) self.old }
+        requires fits { IsReadable s.now }
+        requires awaits { AwaitsClass (symbol_by G.IS_WIDE s.now) self.old }
         ensures { IfSome result (IsWriting (symbol_by G.IS_WIDE s.now) self.new) }
     {
         self.repeat(self.nest.class_from, self.nest.class_to)?;

@@ -64,9 +64,25 @@ impl Direct {
         self.unscoped_named::<G>(s, from, true)
     }
 
-    /// The name of an encoding is read, which was written from a place on. Arguments may stand behind it, if it is one that takes them.
-    // <encoding> ::= <unscoped-template-name> <template-args> <bare-function-type>
+    /// The name of an encoding is read, which was written from a place on. Arguments may stand behind it, if it is one that takes them,
+    /// and by the wide grammar a tag before them.
+    // <unqualified-name> ::= <unqualified-name> <abi-tags>
     fn unscoped_named<G: Grammar>(&mut self, s: &[u8], from: usize, takes: bool) -> Option<Step>
+        requires fits { IsReadable s.now }
+        requires named { IsUnscoped (symbol_by G.IS_WIDE s.now) self.old from takes }
+        ensures { IfSome result (IsWriting (symbol_by G.IS_WIDE s.now) self.new) }
+    {
+        if G::IS_WIDE && byte_at(s, self.at) == b'B' {
+            self.tag(s)?;
+            return self.unscoped_tagged::<G>(s, from, takes);
+        }
+        self.unscoped_tagged::<G>(s, from, takes)
+    }
+
+    /// The name of an encoding is read, with its tag.
+    // <encoding> ::= <unscoped-template-name> <template-args> <bare-function-type>
+    #[inline(always)]
+    fn unscoped_tagged<G: Grammar>(&mut self, s: &[u8], from: usize, takes: bool) -> Option<Step>
         requires fits { IsReadable s.now }
         requires named { IsUnscoped (symbol_by G.IS_WIDE s.now) self.old from takes }
         ensures { IfSome result (IsWriting (symbol_by G.IS_WIDE s.now) self.new) }

@@ -4,8 +4,8 @@ use Rattle.cpp_direct.proofs.Moves.{stands-moved}
 use Rattle.cpp_direct.proofs.NestComponents.{constructor-awaits, constructor-digit-some}
 use Rattle.cpp_direct.proofs.direct.Direct.constructor.Goals as goal
 
-pub class_again-requires : goal.class_again-requires
-class_again-requires g c =
+pub class_again-requires-clause-awaits : goal.class_again-requires-clause-awaits
+class_again-requires-clause-awaits g c =
     let is = c.is_constructor_digit.ensures c.if-not-is_constructor_digit.false in
     constructor-awaits (symbol_by g.G.Grammar.IS_WIDE c.args.s.now) c.args.self.now _ c.push.new.self c.byte_at-digit.result c.in_ok-push.ensures
     (record { text = refl; candidates = refl; waiting = refl; nest = refl; at = omega (arith, c.in_ok-self.ensures, c.in_ok-self-2.ensures) })

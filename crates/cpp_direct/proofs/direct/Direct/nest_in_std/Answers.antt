@@ -5,8 +5,8 @@ use Rattle.cpp_direct.specs.Holes.{IsNameAt}
 use Rattle.cpp_direct.proofs.Nesting.{std-begins}
 use Rattle.cpp_direct.proofs.direct.Direct.nest_in_std.Goals as goal
 
-pub nest_named-requires : goal.nest_named-requires
-nest_named-requires g c =
+pub nest_named-requires-clause-named : goal.nest_named-requires-clause-named
+nest_named-requires-clause-named g c =
     let s = symbol_by g.G.Grammar.IS_WIDE c.args.s.now in
     let old = c.args.self.now in
     let a = c.requires.awaits in

@@ -1,4 +1,4 @@
-use Rattle.std.proofs.Common.{◌≡◌, Ok, sym, subst}
+use Rattle.std.proofs.Common.{Ok, sym, subst}
 use Rattle.sym_print.specs.declared.detail.Detail.TheVariants as details
 use Rattle.sym_demangle.specs.Mangled.{IsAnswer}
 use Rattle.cpp_direct.specs.Symbol.{mangled_by}

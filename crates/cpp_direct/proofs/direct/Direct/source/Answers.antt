@@ -4,8 +4,8 @@ use Rattle.cpp_direct.proofs.NestComponents.{Moves, letters, moves-to, source-fo
 use Rattle.cpp_direct.proofs.direct.Direct.source.Goals.{then-is_internal+in_ok-self, else-is_internal}
 use Rattle.cpp_direct.proofs.direct.Direct.source.Goals as goal
 
-pub nest_named-requires : goal.nest_named-requires
-nest_named-requires g c =
+pub nest_named-requires-clause-named : goal.nest_named-requires-clause-named
+nest_named-requires-clause-named g c =
     let n = c.in_ok-name.ensures in
     let moved : Moves c.args.self.now c.if-is_internal.self (letters c.args.is_internal) = elim c.if-is_internal.branch [
       | then-is_internal+in_ok-self b ↦ subst (λ i. Moves c.args.self.now c.if-is_internal.self (letters i)) (sym b.if-is_internal.true)
