@@ -1,14 +1,14 @@
 -- Names with tags.
-use Rattle.std.proofs.Common.{◌≡◌, ◌≢◌, refl, ap, ◌∙◌, ℕ, ◌+◌, ◌*◌, ◌≤◌, List, [], ◌∷◌, ◌++◌, length, Bool, false, arith, codes, length-append, append-nil}
+use Rattle.std.proofs.Common.{◌≡◌, ◌≢◌, refl, ap, sym, ◌∙◌, ℕ, ◌+◌, ◌*◌, ◌≤◌, List, [], ◌∷◌, ◌++◌, length, Bool, true, false, arith, codes, length-append, append-nil}
 use Rattle.sym_print.specs.Unfold.{text}
 use Rattle.sym_print.specs.Unshared.{text_of, cost_of}
 use Rattle.cpp_grammar.specs.Term.{Term, in_std, within, source, tagged}
-use Rattle.cpp_grammar.specs.Scope.{is_open, pack_length, length_if_pack, is_structor}
+use Rattle.cpp_grammar.specs.Scope.{is_open, pack_length, length_if_pack, is_structor, without_tags}
 use Rattle.cpp_grammar.specs.References.{is_function_type}
 use Rattle.cpp_grammar.specs.Items.{left, right, base, Context, head_with, head, is_reference, is_funarr, is_empty}
 use Rattle.cpp_grammar.specs.Meaning.{is_void}
 use Rattle.cpp_grammar.specs.Between.{with_tag}
-use Rattle.cpp_grammar.specs.Parts.{as_item, says, source_text, prefix_item, last_piece, opening_text, piece_parts, base_tagged, left_parts, right_parts, base_parts, parts_in, not_empty, is_plain_integer}
+use Rattle.cpp_grammar.specs.Parts.{as_item, says, source_text, prefix_item, last_piece, opening_text, own_piece, piece_parts, base_tagged, left_parts, right_parts, base_parts, parts_in, not_empty, is_plain_integer}
 use Rattle.cpp_direct.specs.Names.{tag_text}
 use Rattle.cpp_direct.specs.Prints.{in_form, Prints, PrintsName, NamesClass}
 use Rattle.cpp_direct.proofs.PrintedParts.{printed_by, text_by, cost_by, text_alone, text_first, cost_first}
@@ -111,7 +111,7 @@ within-tagged t b prints p x is opening tag =
 
 -- one in std
 pub std-tagged : (internal : Bool) (name : List ℕ) → name ≢ [] → (tag : List ℕ) → NamesClass (with_tag (in_std (source internal name)) tag) (source_text name)
-unfolding with_tag parts_in base_parts base_tagged piece_parts not_empty
+unfolding with_tag parts_in base_parts base_tagged own_piece without_tags is_structor piece_parts not_empty
 std-tagged internal name filled tag =
     let own : Term = in_std (source internal name) in
     names-by (is_structor own) own (codes "std::" ++ source_text name) (std-prints internal name filled) tag (source_text name)
@@ -121,21 +121,41 @@ std-tagged internal name filled tag =
 -- one with a tag already, which names its class so
 pub again-tagged : (of_structor : Bool) (t : Term) (b : List ℕ) → Prints t b false → (first tag class : List ℕ) → NamesClass (tagged of_structor t first) class
     → NamesClass (with_tag (tagged of_structor t first) tag) class
-unfolding with_tag parts_in right_parts base_parts base_tagged not_empty
-again-tagged of_structor t b p first tag class n =
-    let own : Term = tagged of_structor t first in
-    let all : Term = tagged (is_structor own) own tag in
-    let prints = tagged-prints of_structor t b p first in
+unfolding with_tag parts_in right_parts base_parts base_tagged without_tags is_structor not_empty
+again-tagged true t b p first tag class n =
+    let own : Term = tagged true t first in
+    let all : Term = tagged true own tag in
+    let prints = tagged-prints true t b p first in
     record {
       base_text = λ c. text_by base c all (as_item base c own ∷ []) refl ∙ append-nil (text_of (in_form base c own)) ∙ n.base_text c;
       base_cost = λ c. omega (
         arith,
         n.base_cost c,
-        tagged-cost (is_structor own) own tag c,
+        tagged-cost true own tag c,
         cost_by right c all [] refl,
         cost_by right c own [] refl,
         cost_by base c all (as_item base c own ∷ []) refl,
-        ap length (tagged-left (is_structor own) own (b ++ tag_text first) tag prints.left_text c),
+        ap length (tagged-left true own (b ++ tag_text first) tag prints.left_text c),
+        ap length (prints.left_text c),
+        tag-length (b ++ tag_text first) tag,
+      );
+    }
+again-tagged false t b p first tag class n =
+    let own : Term = tagged false t first in
+    let all : Term = tagged false own tag in
+    let prints = tagged-prints false t b p first in
+    record {
+      base_text = λ c. text_by base c all (piece_parts c (own_piece (without_tags t))) refl
+          ∙ sym (text_by base c own (piece_parts c (own_piece (without_tags t))) refl) ∙ n.base_text c;
+      base_cost = λ c. omega (
+        arith,
+        n.base_cost c,
+        tagged-cost false own tag c,
+        cost_by right c all [] refl,
+        cost_by right c own [] refl,
+        cost_by base c all (piece_parts c (own_piece (without_tags t))) refl,
+        cost_by base c own (piece_parts c (own_piece (without_tags t))) refl,
+        ap length (tagged-left false own (b ++ tag_text first) tag prints.left_text c),
         ap length (prints.left_text c),
         tag-length (b ++ tag_text first) tag,
       );
