@@ -496,9 +496,11 @@ def declarations():
     yield "cpp_tree/proofs/Noting.antt", "node-open", through("node-open", "at {0} {1}", "piece-open {0} {1}", "refl", without=["Parameter"])
     yield "cpp_tree/proofs/Noting.antt", "node-pack", through("node-pack", "pack-at {0} {1}", "piece-pack {0} {1}", "refl", {"Parameter": "argument-pack a b"}, without=["Expansion"])
     yield "cpp_grammar/specs/Scope.antt", "is_open", fold("is_open", [], either, "false", {"parameter": "true"}, SCOPED, trees=named(SCOPES, ["parameter"]))
+    yield "cpp_grammar/specs/Scope.antt", "is_generic", fold("is_generic", [], either, "false", {"generic_parameter": "true", "lambda": None}, SCOPED, trees=named(SCOPES, ["generic_parameter"]))
     yield "cpp_grammar/specs/Scope.antt", "pack_length", fold("pack_length", ["scope"], first_of, "None",
         {"parameter": "length_if_pack (element scope number)", **no_expansion}, SCOPED, trees=named(SCOPES, ["parameter"]))
     yield "cpp_term/proofs/Notes.antt", "open_noted", fold("open_noted", ["s"], both_by("(λ x y. x || y)"), "refl", {}, SCOPED)
+    yield "cpp_term/proofs/Notes.antt", "generic_noted", fold("generic_noted", ["s"], both_by("(λ x y. x || y)"), "refl", {"lambda": None}, SCOPED)
     yield "cpp_term/proofs/Notes.antt", "closed_noted", closed_noted()
     yield "cpp_term/proofs/Notes.antt", "pack_none", fold("pack_none", [], both_by("first_of"), "refl", {"parameter": "refl", **no_expansion}, SCOPED)
     yield "cpp_term/proofs/Notes.antt", "pack_some", fold("pack_some", ["all"], both_by("first_of"), "refl",

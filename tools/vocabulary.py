@@ -277,6 +277,7 @@ TREES = [
     ("conversion", ("t", TREE)),
     ("builtin", ("code", BYTES)),
     ("sized_float", ("digits", BYTES), ("end", NUMBER)),
+    ("generic_parameter", ("number", NUMBER)),
     ("vendor", ("bytes", BYTES)),
     ("pointer", ("t", TREE)),
     ("lvalue", ("t", TREE)),

@@ -5,7 +5,7 @@ use Rattle.sym_print.specs.declared.detail.Detail.{Detail}
 use Rattle.sym_print.specs.Details.{has_arguments, has_parameters}
 use Rattle.sym_print.specs.Unfold.{PartOf, text, sub}
 use Rattle.cpp_grammar.specs.Texts.{same_bytes, look_up, builtin_texts, operator_texts, abbreviation_texts, special_texts, named_special_texts, literal_endings}
-use Rattle.cpp_grammar.specs.Term.{Qualifiers, RefQualifier, any_value, lvalue_only, rvalue_only, Signed, non_virtual, by_table, Thunk, adjusting, covariant, Term, symbol, function, object, special, thunk, of_name, construction, clone, alone, in_std, within, instance, local, holder, tagged, of_default, abbreviation, parameter, source, operator, literal_operator, constructor, destructor, lambda, unnamed, string_literal, conversion, builtin, sized_float, vendor, pointer, lvalue, rvalue, array, member_pointer, function_type, qualified, vector, complex, expansion, integer, boolean, null_pointer, encoding_literal, address_of, pack, nil, list, absent}
+use Rattle.cpp_grammar.specs.Term.{Qualifiers, RefQualifier, any_value, lvalue_only, rvalue_only, Signed, non_virtual, by_table, Thunk, adjusting, covariant, Term, symbol, function, object, special, thunk, of_name, construction, clone, alone, in_std, within, instance, local, holder, tagged, of_default, abbreviation, parameter, source, operator, literal_operator, constructor, destructor, lambda, unnamed, string_literal, conversion, builtin, sized_float, generic_parameter, vendor, pointer, lvalue, rvalue, array, member_pointer, function_type, qualified, vector, complex, expansion, integer, boolean, null_pointer, encoding_literal, address_of, pack, nil, list, absent}
 use Rattle.cpp_grammar.specs.Scope.{arguments_of}
 use Rattle.cpp_grammar.specs.Items.{Form, root, full, bare, left, right, low, base, piece, first, more, expand, Context, Item, closed, argument, head, is_reference, is_funarr, packs_of, is_empty}
 
@@ -175,6 +175,7 @@ left_parts d context (abbreviation letter) = text (look_up (letter ∷ []) abbre
 left_parts d context (parameter k) = as_item left closed (argument context k) ∷ []
 left_parts d context (builtin code) = text (look_up code builtin_texts) ∷ []
 left_parts d context (sized_float digits end) = float_parts digits end
+left_parts d context (generic_parameter number) = text (look_up (codes "Da") builtin_texts) ∷ []
 left_parts d context (vendor name) = text (source_text name) ∷ []
 left_parts d context (pointer t) = marked_parts context t "*"
 left_parts d context (lvalue t) = reference_parts context low t "&"

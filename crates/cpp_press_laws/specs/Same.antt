@@ -66,6 +66,7 @@ same_tree string_literal string_literal = true
 same_tree (conversion a0) (conversion b0) = same_tree a0 b0
 same_tree (builtin a0) (builtin b0) = same_bytes a0 b0
 same_tree (sized_float a0 a1) (sized_float b0 b1) = same_bytes a0 b0 && nat_eq a1 b1
+same_tree (generic_parameter a0) (generic_parameter b0) = nat_eq a0 b0
 same_tree (vendor a0) (vendor b0) = same_bytes a0 b0
 same_tree (pointer a0) (pointer b0) = same_tree a0 b0
 same_tree (lvalue a0) (lvalue b0) = same_tree a0 b0

@@ -45,6 +45,8 @@ pub data Term : Type 0 where
   builtin : (code : List ℕ) → Term
   -- a floating type of so many bits, and the byte behind their digits
   sized_float : (digits : List ℕ) → (end : ℕ) → Term
+  -- a lambda's own parameter: what a parameter's code stands for in the signature of the lambda
+  generic_parameter : (number : ℕ) → Term
   vendor : (bytes : List ℕ) → Term
   pointer : Term → Term
   lvalue : Term → Term

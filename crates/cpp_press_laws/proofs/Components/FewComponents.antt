@@ -701,6 +701,7 @@ counts string_literal = few-string-literal
 counts (conversion type) = few-nowhere (conversion type) _
 counts (builtin code) = few-builtin code
 counts (sized_float digits end) = few-nowhere (sized_float digits end) _
+counts (generic_parameter number) = few-generic-parameter number
 counts (vendor name) = few-vendor name
 counts (pointer type) = few-pointer type (counts type)
 counts (lvalue type) = few-lvalue type (counts type)

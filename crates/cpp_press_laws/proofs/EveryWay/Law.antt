@@ -71,6 +71,7 @@ reads c string_literal = reads-string-literal
 reads c (conversion type) = reads-nowhere (conversion type) _
 reads c (builtin code) = reads-builtin code
 reads c (sized_float digits end) = reads-nowhere (sized_float digits end) _
+reads c (generic_parameter number) = reads-generic-parameter number
 reads c (vendor name) = reads-vendor name
 reads c (pointer type) = reads-pointer type (reads c type)
 reads c (lvalue type) = reads-lvalue type (reads c type)
