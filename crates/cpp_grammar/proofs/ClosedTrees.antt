@@ -594,7 +594,7 @@ module _ (w : Way) (keeps : KeepsClosed w) where
 
 -- ## Each reading
 
-abi_keeps : KeepsClosed abi_way
+pub abi_keeps : KeepsClosed abi_way
 unfolding abi_way
 abi_keeps = record { plain = abi_plain; goes = between_goes; comes = close_good }
 

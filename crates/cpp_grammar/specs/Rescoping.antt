@@ -1,7 +1,7 @@
 -- The reading of the wide grammar (ABI 5.1.8, 5.1.10). It differs from that of the ABI's grammar in the parameters of a lambda's
 -- signature, which are the lambda's own, and in substitutions of trees whose parameter isn't the one that is meant where they are
 -- named.
-use Rattle.std.specs.Prelude.{ℕ, ◌-◌, ◌^◌, List, [], ◌∷◌, Bool, true, false, not, ◌||◌, ◌&&◌, nat_eq, nat_lt, if◌then◌else◌, slice_get, Option, Some, None, Result, Ok, Err}
+use Rattle.std.specs.Prelude.{ℕ, ◌-◌, ◌^◌, List, [], ◌∷◌, Bool, true, false, not, ◌||◌, ◌&&◌, nat_eq, nat_lt, cond, slice_get, Option, Some, None, Result, Ok, Err}
 use Rattle.sym_core.specs.declared.refusal.Refusal.{Refusal}
 use Rattle.sym_core.specs.declared.refusal.Refusal.TheVariants.{BadReference}
 use Rattle.sym_core.specs.declared.NumberKind.TheVariants.{Seq36}
@@ -21,7 +21,7 @@ use Rattle.cpp_grammar.specs.Unfolding.{opening, close, production_at, byte_of, 
 
 -- the number of a lambda's own parameter: all that are past any argument are one
 unfoldable pub generic_number : ℕ → ℕ
-generic_number k = if nat_lt k (2 ^ 32) then k else (2 ^ 32 - 1)
+generic_number k = cond (nat_lt k (2 ^ 32)) k (2 ^ 32 - 1)
 
 -- a parameter of the lambda in whose signature it stands is good whatever its number, and a candidate
 unfoldable pub generic_so_far : Around → ℕ → List Value → State → Going

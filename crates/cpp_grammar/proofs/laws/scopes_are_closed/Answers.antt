@@ -8,3 +8,6 @@ returns-clause-wide c = λ shape t is. closed.scopes_are_closed shape t (wide_ei
 
 pub returns-clause-abi : goal.returns-clause-abi
 returns-clause-abi c = λ shape t is. closed.scopes_are_closed shape t (abi_either (Kind 0) shape is)
+
+pub returns-clause-rescoped : goal.returns-clause-rescoped
+returns-clause-rescoped c = λ shape t is. closed.wide_scopes_are_closed shape t (wide_either (Kind 0) shape is)
