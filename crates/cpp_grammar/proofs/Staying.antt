@@ -61,7 +61,7 @@ prefixed_none : (around : Around) (state : State) → Settled around → AllHave
 unfolding with_prefix
 prefixed_none around state settled all = go (prefix_listed around.prefix)
   where
-    go : (b : Bool) → AllHaveNone (elim b [ true ↦ state | false ↦ appended around (prefix_tree around.prefix) state ]).candidates
+    go : (b : Bool) → AllHaveNone (elim b as (λ _. State) [ true ↦ state | false ↦ appended around (prefix_tree around.prefix) state ]).candidates
     go true = all
     go false = appended_none around (prefix_tree around.prefix) state (none_prefix around.prefix settled.prefix) all
 
@@ -69,7 +69,7 @@ typed_none : (around : Around) (v : Value) (state : State) → HasNone (tree_of 
 unfolding with_type
 typed_none around v state g all = go (is_listed v)
   where
-    go : (b : Bool) → AllHaveNone (elim b [ true ↦ state | false ↦ appended around (tree_of v) state ]).candidates
+    go : (b : Bool) → AllHaveNone (elim b as (λ _. State) [ true ↦ state | false ↦ appended around (tree_of v) state ]).candidates
     go true = all
     go false = appended_none around (tree_of v) state g all
 
@@ -77,7 +77,7 @@ unqualified_none : (around : Around) (v : Value) (state : State) → HasNone (tr
 unfolding with_unqualified
 unqualified_none around v state g all = go (is_function_type (tree_of v))
   where
-    go : (b : Bool) → AllHaveNone (elim b [ true ↦ state | false ↦ with_type around v state ]).candidates
+    go : (b : Bool) → AllHaveNone (elim b as (λ _. State) [ true ↦ state | false ↦ with_type around v state ]).candidates
     go true = all
     go false = typed_none around v state g all
 

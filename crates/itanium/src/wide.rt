@@ -15,8 +15,8 @@ ghost use Rattle.cpp_link.specs.NodeCount.{cpp_counted, nodes_of_shape};
 use crate::grammar::Wide;
 use crate::mangling::finished;
 use cpp_layout::{Context, Detail, Symbol};
-use cpp_link::linked::Linked;
 use cpp_link::part::Part;
+use cpp_link::rescoping::Rescoping;
 use std::alloc::Global;
 use sym_core::Refusal;
 use sym_demangle::Mangling;
@@ -32,7 +32,7 @@ impl Mangling for Wide {
     ghost use Rattle.itanium.specs.Counting.{cpp_counts, node_count};
     ghost use Rattle.itanium.specs.Failing.{wide_grows, wide_fails};
 
-    type Linked = Linked;
+    type Linked = Rescoping;
 
     type Symbol = Symbol;
 
@@ -60,20 +60,20 @@ impl Mangling for Wide {
         Wide
     }
 
-    fn idle(alloc: Global) -> Linked {
-        Linked::new(alloc)
+    fn idle(alloc: Global) -> Rescoping {
+        Rescoping::new(alloc)
     }
 
-    fn restart(linked: &mut Linked, _symbol: &[u8]) -> Result<(), Refusal>
+    fn restart(linked: &mut Rescoping, _symbol: &[u8]) -> Result<(), Refusal>
         requires { FitsSymbol _symbol.now }
         ensures begins { OnOk result (Begins (cpp_counted _symbol.now) linked.new) }
         ensures memory { IfErr result (λ e. e ≡ refusals.Memory) }
     {
-        linked.restart()?;
+        linked.linked.restart()?;
         Ok(())
     }
 
-    fn finish(bytes: Vec<u8>, linked: &mut Linked, parts: &[Part], rows: u32, steps: u32) -> Symbol
+    fn finish(bytes: Vec<u8>, linked: &mut Rescoping, parts: &[Part], rows: u32, steps: u32) -> Symbol
         requires { (shape : Tree) × IsLinked wide (cpp_counted bytes.items) bytes.items linked.old parts.now rows steps shape }
         ensures bytes { result.bytes ≡ bytes.items }
         ensures whole { (shape : Tree) → IsLinked wide (cpp_counted bytes.items) bytes.items linked.old parts.now rows steps shape → Ok (whole_of result) ≡ unfold_cpp shape }
@@ -81,7 +81,7 @@ impl Mangling for Wide {
         ensures steps { result.steps ≡ steps }
         ensures nodes { (shape : Tree) → IsLinked wide (cpp_counted bytes.items) bytes.items linked.old parts.now rows steps shape → length result.table.nodes ≡ nodes_of_shape shape }
     {
-        finished(bytes, linked, parts, rows, steps)
+        finished(bytes, &mut linked.linked, parts, rows, steps)
     }
 
     fn root(symbol: &Symbol, detail: Detail) -> Item<Context>
@@ -91,9 +91,9 @@ impl Mangling for Wide {
         symbol.root_as(detail)
     }
 
-    fn recycle(linked: &mut Linked, symbol: Symbol) -> Vec<u8> {
+    fn recycle(linked: &mut Rescoping, symbol: Symbol) -> Vec<u8> {
         let (bytes, nodes) = symbol.into_lists();
-        linked.nodes = nodes;
+        linked.linked.nodes = nodes;
         bytes
     }
 
