@@ -272,11 +272,13 @@ here_goes around x y place v packs = go around.in_lambda
 pub wide_between_noted : (production : Production) (around : Around) (place : ℕ) (vs : List Value) (x : State) (y : value_.State) → StaysInside production → y.packs ≡ x.packs →
     Alike (Goes around x y) (between_wide production around place vs x) (wide_.between_wide production (noted_around around) place (noted_values (noted_scope around.scope) vs) y)
 unfolding between_wide wide_.between_wide noted_values
+wide_between_noted Production.Parameter around place [] x y stays packs = between_noted Production.Parameter around place [] x y stays packs
 wide_between_noted Production.Parameter around place (v ∷ []) x y stays packs = here_goes around x y place v packs
+wide_between_noted Production.Parameter around place (v ∷ w ∷ vs) x y stays packs = between_noted Production.Parameter around place (v ∷ w ∷ vs) x y stays packs
+wide_between_noted Production.NestParameter around place [] x y stays packs = between_noted Production.NestParameter around place [] x y stays packs
 wide_between_noted Production.NestParameter around place (v ∷ []) x y stays packs = here_goes around x y place v packs
-wide_between_noted p around place [] x y stays packs = between_noted p around place [] x y stays packs
-wide_between_noted p around place (v ∷ []) x y stays packs = between_noted p around place (v ∷ []) x y stays packs
-wide_between_noted p around place (v ∷ w ∷ vs) x y stays packs = between_noted p around place (v ∷ w ∷ vs) x y stays packs
+wide_between_noted Production.NestParameter around place (v ∷ w ∷ vs) x y stays packs = between_noted Production.NestParameter around place (v ∷ w ∷ vs) x y stays packs
+wide_between_noted p around place vs x y stays packs = between_noted p around place vs x y stays packs
 
 pub wide_close_noted : (production : Production) (byte : ℕ) (around : Around) (place : ℕ) (began : State) (first : value_.State) (vs : List Value) (x : State) (y : value_.State) → Inside production vs →
     Same around x y → first.packs ≡ began.packs →

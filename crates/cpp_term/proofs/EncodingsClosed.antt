@@ -327,7 +327,7 @@ module _ (way : Way) (keeps : KeepsClosed way) where
   pub insides : (p : Production) (rule : Rule) (taken : List ℕ) (parts : Forest) (k : ℕ) (around : Around) (at : ℕ) (state : State) (inner : Found (List Value) State) → rule ≡ rule_of p → opens p ≡ false → k < either.kinds →
       IsTree either (OfKind k) (branch rule taken parts) → around.encoding ≤ at → (is_special_kind k ≡ true → Bare around) → GoodPrefix (Bare around) around.prefix → AllOld around at state.candidates →
       unfold_forest (reading_by way) (Whole rule taken at around state) [] (at + length taken) parts state ≡ Ok inner → Inside p inner.value
-  insides way keeps p rule taken parts k around at state inner is plain lt tree le special pre old e =
+  insides p rule taken parts k around at state inner is plain lt tree le special pre old e =
       let whole = Whole rule taken at around state in
       let number : production_at rule.number ≡ p = ap (λ x. production_at x.number) is ∙ at_number p in
       let inside_ : StaysInside (production_at rule.number) = subst (λ q. StaysInside q) (sym number) (stays p plain) in

@@ -362,20 +362,20 @@ restated_noted : (around : Around) (place : ℕ) (by : Option term_.Term) (t : T
 unfolding restated wide_.restated noted_around noted_value annotate
 restated_noted around place by t x y packs = go (number_behind_mark t) (wide_.number_behind_mark (annotate by t)) (number_noted by t)
   where
-    tested : (k : ℕ) (b : Bool) → Alike (Comes around x y)
+    tested : (k j : ℕ) → j ≡ k → (b : Bool) → Alike (Comes around x y)
         (elim b [
           | true ↦ Ok (found (leaf_.tree (with_parameter t (generic_parameter k)) true) x)
           | false ↦ in_scope around place t k x
         ])
         (elim b [
-          | true ↦ Ok (found (value_.tree (wide_.with_parameter (annotate by t) (term_.generic_parameter k)) true) y)
-          | false ↦ wide_.in_scope (noted_around around) place (annotate by t) k y
+          | true ↦ Ok (found (value_.tree (wide_.with_parameter (annotate by t) (term_.generic_parameter j)) true) y)
+          | false ↦ wide_.in_scope (noted_around around) place (annotate by t) j y
         ])
-    tested k true = record {
-      value = ap (λ u. value_.tree u true) (with_noted by (noted_scope around.scope) t (generic_parameter k) (term_.generic_parameter k) refl);
+    tested k j same true = record {
+      value = ap (λ u. value_.tree u true) (with_noted by (noted_scope around.scope) t (generic_parameter k) (term_.generic_parameter j) (ap term_.generic_parameter same));
       moves = moves_none around x x y y refl refl packs;
     }
-    tested k false = in_scope_noted around place by t k x y packs
+    tested k j same false = subst (λ i. Alike (Comes around x y) (in_scope around place t k x) (wide_.in_scope (noted_around around) place (annotate by t) i y)) (sym same) (in_scope_noted around place by t k x y packs)
 
     go : (o p : Option ℕ) → p ≡ o → Alike (Comes around x y)
         (elim o [
@@ -393,7 +393,7 @@ restated_noted around place by t x y packs = go (number_behind_mark t) (wide_.nu
           ]
         ])
     go None None e = refl
-    go (Some k) (Some j) e = let same : j ≡ k = cc in rw same (tested k around.in_lambda)
+    go (Some k) (Some j) e = let same : j ≡ k = cc in tested k j same around.in_lambda
     go None (Some j) e = absurd cc
     go (Some k) None e = absurd cc
 
