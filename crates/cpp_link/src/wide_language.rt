@@ -9,18 +9,28 @@ ghost use Rattle.sym_link.specs.Tally.{Tally};
 ghost use Rattle.sym_link.specs.Threads.{IsOpenAt, GoesOn, BeginsIn, ClosesAll, IsTaken, IsAhead, IsAheadToken, IsCount, AddsBefore};
 ghost use Rattle.cpp_link.specs.declared.part.Part.TheVariants as variants;
 ghost use Rattle.cpp_term.specs.Values.{Value, State, Around};
+ghost use Rattle.cpp_link.specs.Parts.{is_lambda};
 ghost use Rattle.cpp_link.specs.View.{Surrounds};
-ghost use Rattle.cpp_link.specs.LinkRescoping.{wide_counted};
+ghost use Rattle.cpp_link.specs.LinkRescoping.{names_generic, wide_counted};
 ghost use Rattle.cpp_link.specs.RescopingLaws.{wide_laws, wide_threads};
 ghost use Rattle.cpp_link.specs.declared.rescoping.Rescoping.{Rescoping};
 
 use crate::language::OUTSIDE;
 use crate::part::{Kept, Part};
-use crate::rescoping::{Rescoping, is_parameter, is_substitution};
+use crate::dispatch::production_of;
+use crate::rescoping::{Rescoping, is_parameter};
+use cpp_grammar::production::Production;
 use sym_core::Refusal;
 use sym_link::language::{Frame, Linking};
 use sym_link::threads::{Threading, close_by, enter_by, token_by};
 use sym_shape::rule::Row;
+
+/// Whether before the part behind so many a parameter of a lambda is named.
+fn names_generic(production: Production, kept: Kept, held: usize) -> bool
+    ensures { result ≡ names_generic production (is_lambda kept.scope) held }
+{
+    kept.in_lambda() && is_parameter(production) && held == 1
+}
 
 impl Threading for Rescoping {
     type Part = Part;
@@ -63,7 +73,7 @@ impl Threading for Rescoping {
         ensures keeps { KeepsRoom (wide_counted symbol.now) self.old self.new parts.old parts.new }
         ensures full { NeedsRoom (wide_counted symbol.now) self.old self.new parts.old parts.new result }
     {
-        if frame.kept.in_lambda() && is_parameter(frame.rule) && parts.len() - frame.base == 1 {
+        if names_generic(production_of(frame.rule), frame.kept, parts.len() - frame.base) {
             return self.linked.go_generic(symbol, frame, parts);
         }
         self.linked.go_on(symbol, frame, parts)
@@ -106,10 +116,10 @@ impl Threading for Rescoping {
         ensures keeps { KeepsRoom (wide_counted symbol.now) self.old self.new parts.old parts.new }
         ensures full { NeedsRoom (wide_counted symbol.now) self.old self.new parts.old parts.new result }
     {
-        if is_substitution(frame.rule) {
-            return self.linked.finish_substitution(symbol, frame, parts);
+        match production_of(frame.rule) {
+            Production::Substitution => self.linked.finish_substitution(symbol, frame, parts),
+            _ => self.linked.finish_rule(symbol, frame, parts),
         }
-        self.linked.finish_rule(symbol, frame, parts)
     }
 
     fn ahead(
