@@ -165,7 +165,7 @@ module _ (way : NotedWay) (plain_way : IsPlainNoted way) where
       → unfold_forest (reading_noted_by way) rule known at (grown first rest) state
       ≡ (between p rule.context rule.place known state >>= λ next. unfold_tree (reading_noted_by way) next.context at first next.state
       >>= λ one. unfold_forest (reading_noted_by way) rule (next.values ++ one.value) (at + length (spell first)) rest one.state)
-  unfolding reading_noted_by
+  unfolding cpp reading_noted_by
   plain_step rule p number apart known at first rest state =
       ap (λ m. m >>= λ next. unfold_tree (reading_noted_by way) next.context at first next.state
       >>= λ one. unfold_forest (reading_noted_by way) rule (next.values ++ one.value) (at + length (spell first)) rest one.state)
@@ -179,7 +179,7 @@ module _ (way : NotedWay) (plain_way : IsPlainNoted way) where
 
   byte_read : (byte place : ℕ) (around : Around) (inner : Tree) (state : State) (v : Value) → unfold_tree (reading_noted_by way) around (place + 1) inner state ≡ Ok (found (v ∷ []) state)
       → unfold_tree (reading_noted_by way) around place (branch (rule_of Production.SuffixByte) (byte ∷ []) (grown inner nothing)) state ≡ Ok (found (text (byte ∷ text_of v) ∷ []) state)
-  unfolding is_reference reading_noted_by opening between close behind meaning production_at productions rule_of number_of byte_of part text_of
+  unfolding is_reference cpp reading_noted_by opening between close behind meaning production_at productions rule_of number_of byte_of part text_of
   byte_read byte place around inner state v is =
       let closes : Found (List Value) State → Result (Found (List Value) State) Refusal = λ all. way.close Production.SuffixByte byte around place state all.value all.state >>= alone in
       ap (λ m. m >>= closes) (plain_step (standing (rule_of Production.SuffixByte) (byte ∷ []) place around state) Production.SuffixByte refl refl [] (place + 1) inner nothing state)
@@ -187,7 +187,7 @@ module _ (way : NotedWay) (plain_way : IsPlainNoted way) where
       ∙ ap (λ m. m >>= alone) (plain_way.close Production.SuffixByte refl byte around place state (v ∷ []) state)
 
   suffix_read : (kind : ℕ) → OfSuffix kind → (tree : Tree) (around : Around) (place : ℕ) (state : State) → IsTree either (OfKind kind) tree → SuffixRead around place tree state
-  unfolding reading_noted_by text_of
+  unfolding cpp reading_noted_by text_of
   suffix_read kind one empty around place state is = record { value = nothing_there; is = refl; text_is = refl }
   suffix_read kind one (token t) around place state is = absurd is
   suffix_read kind one (fixed byte) around place state is = absurd is
@@ -210,7 +210,7 @@ module _ (way : NotedWay) (plain_way : IsPlainNoted way) where
       → p ≡ Production.Suffix ⊎ p ≡ Production.SuffixByte
       → unfold_tree (reading_noted_by way) context at tree begun ≡ Ok (found (v ∷ []) begun)
       → unfold_forest (reading_noted_by way) (standing (rule_of p) taken place context before) [] at (grown tree nothing) begun ≡ Ok inner → inner.value ≡ v ∷ []
-  unfolding is_reference reading_noted_by between production_at productions rule_of number_of
+  unfolding is_reference cpp reading_noted_by between production_at productions rule_of number_of
   suffix_forest Production.Suffix taken place at context before begun inner v tree one read is =
       values_same (found (v ∷ []) begun) inner (sym (plain_step (standing (rule_of Production.Suffix) taken place context before) Production.Suffix refl refl [] at tree nothing begun ∙ ap (λ m. m >>= λ one. Ok (found one.value one.state)) read) ∙ is)
   suffix_forest Production.SuffixByte taken place at context before begun inner v tree one read is =
@@ -219,7 +219,7 @@ module _ (way : NotedWay) (plain_way : IsPlainNoted way) where
   suffix_forest p taken place at context before begun inner v tree (inr same) read is = absurd cc
 
   suffix_closes : (s : List ℕ) → ClosesRule way s Production.Suffix
-  unfolding reading_noted_by link_close link_meaning close behind meaning production_at productions rule_of number_of byte_of parts_of number_of_kind is_chain
+  unfolding cpp reading_noted_by link_close link_meaning close behind meaning production_at productions rule_of number_of byte_of parts_of number_of_kind is_chain
   suffix_closes s kind taken (grown tree nothing) place context before begun inner rest takes trees at is_begun is_inner =
       let eaten : taken ≡ takes.byte ∷ [] = takes_byte takes.byte (rule_of Production.Suffix) taken Production.Suffix refl refl takes.takes in
       let read = suffix_read SUFFIX_FIRST in_front tree context (place + length taken) begun trees.0 in
@@ -232,7 +232,7 @@ module _ (way : NotedWay) (plain_way : IsPlainNoted way) where
   suffix_closes s kind taken (grown tree (grown second others)) place context before begun inner rest takes trees at is_begun is_inner = absurd trees.1
 
   byte_closes : (s : List ℕ) → ClosesRule way s Production.SuffixByte
-  unfolding reading_noted_by link_close link_meaning close behind meaning production_at productions rule_of number_of byte_of parts_of number_of_kind is_chain
+  unfolding cpp reading_noted_by link_close link_meaning close behind meaning production_at productions rule_of number_of byte_of parts_of number_of_kind is_chain
   byte_closes s kind taken (grown tree nothing) place context before begun inner rest takes trees at is_begun is_inner =
       let eaten : taken ≡ takes.byte ∷ [] = takes_byte takes.byte (rule_of Production.SuffixByte) taken Production.SuffixByte refl refl takes.takes in
       let read = suffix_read SUFFIX_MORE behind_it tree context (place + length taken) begun trees.0 in
@@ -246,7 +246,7 @@ module _ (way : NotedWay) (plain_way : IsPlainNoted way) where
 
   -- an unnamed type
   unnamed_closes : (s : List ℕ) → ClosesRule way s Production.Unnamed
-  unfolding is_reference reading_noted_by opening between link_close link_meaning close behind meaning production_at productions rule_of number_of last_token part text_of parts_of
+  unfolding is_reference cpp reading_noted_by opening between link_close link_meaning close behind meaning production_at productions rule_of number_of last_token part text_of parts_of
   unnamed_closes s kind taken (grown (token t) nothing) place context before begun inner rest takes trees at is_begun is_inner =
       let less : nat_lt (local_number t.own) (2 ^ 64) ≡ true = number_less (place - 1) t.own before begun is_begun in
       let values : inner.value ≡ text t.own ∷ [] = values_same (found (text t.own ∷ []) begun) inner
@@ -261,7 +261,7 @@ module _ (way : NotedWay) (plain_way : IsPlainNoted way) where
   -- what a tree comes to is one value
   one_value : (tree : Tree) (context : Around) (place : ℕ) (state : State) (one : Found (List Value) State) → unfold_tree (reading_noted_by way) context place tree state ≡ Ok one
       → (v : Value) × (one.value ≡ v ∷ [])
-  unfolding reading_noted_by
+  unfolding cpp reading_noted_by
   one_value empty context place state one is = (nothing_there, values_same (found (nothing_there ∷ []) state) one is)
   one_value (fixed b) context place state one is = (nothing_there, values_same (found (nothing_there ∷ []) state) one is)
   one_value (token t) context place state one is = (text t.own, values_same (found (text t.own ∷ []) state) one is)
@@ -276,7 +276,7 @@ module _ (way : NotedWay) (plain_way : IsPlainNoted way) where
   lambda_part : (taken : List ℕ) (place : ℕ) (context : Around) (before : State) (known : List Value) (at : ℕ) (first : Tree) (rest : Forest) (state : State) (inner : Found (List Value) State)
       → unfold_forest (reading_noted_by way) (lambda_open taken place context before) known at (grown first rest) state ≡ Ok inner
       → (v : Value) × (after : State) × (unfold_forest (reading_noted_by way) (lambda_open taken place context before) (known ++ v ∷ []) (at + length (spell first)) rest after ≡ Ok inner)
-  unfolding is_reference reading_noted_by between production_at productions rule_of number_of
+  unfolding is_reference cpp reading_noted_by between production_at productions rule_of number_of
   lambda_part taken place context before known at first rest state inner is =
       let o = lambda_open taken place context before in
       let part_is = both_ok (unfold_tree (reading_noted_by way) (in_signature context) at first state) (λ one. unfold_forest (reading_noted_by way) o (known ++ one.value) (at + length (spell first)) rest one.state) inner
@@ -287,7 +287,7 @@ module _ (way : NotedWay) (plain_way : IsPlainNoted way) where
   lambda_values : (taken : List ℕ) (place : ℕ) (context : Around) (before begun : State) (at : ℕ) (a b c : Tree) (t : Token) (inner : Found (List Value) State)
       → unfold_forest (reading_noted_by way) (lambda_open taken place context before) [] at (grown a (grown b (grown c (grown (token t) nothing)))) begun ≡ Ok inner
       → text_of (part inner.value 3) ≡ t.own
-  unfolding is_reference reading_noted_by between production_at productions rule_of number_of
+  unfolding is_reference cpp reading_noted_by between production_at productions rule_of number_of
   lambda_values taken place context before begun at a b c t inner is =
       let x = lambda_part taken place context before [] at a (grown b (grown c (grown (token t) nothing))) begun inner is in
       let y = lambda_part taken place context before (x.0 ∷ []) (at + length (spell a)) b (grown c (grown (token t) nothing)) x.1 inner x.2 in
@@ -297,7 +297,7 @@ module _ (way : NotedWay) (plain_way : IsPlainNoted way) where
       fourth inner.value x.0 y.0 z.0 t.own values
 
   lambda_closes : (s : List ℕ) → ClosesRule way s Production.Lambda
-  unfolding reading_noted_by opening link_close link_meaning close behind meaning production_at productions rule_of number_of last_token parts_of number_of_kind
+  unfolding cpp reading_noted_by opening link_close link_meaning close behind meaning production_at productions rule_of number_of last_token parts_of number_of_kind
   lambda_closes s kind taken (grown a (grown b (grown c (grown (token t) nothing)))) place context before begun inner rest takes trees at is_begun is_inner =
       let own : text_of (part inner.value 3) ≡ t.own = lambda_values taken place context before begun (place + length taken) a b c t inner is_inner in
       let last : last_token (grown a (grown b (grown c (grown (token t) nothing)))) [] ≡ t.own = last_of a b c t in

@@ -49,6 +49,10 @@ is_parameter Production.Parameter = true
 is_parameter Production.NestParameter = true
 is_parameter _ = false
 
+unfoldable pub is_substitution : Production → Bool
+is_substitution Production.Substitution = true
+is_substitution _ = false
+
 -- before the part behind these a parameter of a lambda is named
 abbrev pub names_generic : Production → (in_lambda : Bool) → (held : ℕ) → Bool
 names_generic p in_lambda held = in_lambda && is_parameter p && nat_eq held 1

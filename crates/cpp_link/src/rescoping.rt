@@ -10,6 +10,7 @@ ghost use Rattle.sym_link.specs.Linking.{HasRoom, Adds, AddsFew, Pays, owed_behi
 ghost use Rattle.sym_link.specs.Threads.{IsOpenAt, GoesOn, ClosesAll, AddsBefore};
 ghost use Rattle.sym_link.specs.Unfold.{found};
 ghost use Rattle.cpp_grammar.specs.declared.production.Production.TheVariants as productions;
+ghost use Rattle.cpp_grammar.specs.declared.production.Production.{Production as Production-type};
 ghost use Rattle.cpp_grammar.specs.Rescoping.{generic_number};
 ghost use Rattle.cpp_grammar.specs.Unfolding.{production_at};
 ghost use Rattle.cpp_term.specs.Term.{Term};
@@ -20,13 +21,13 @@ ghost use Rattle.cpp_tree.specs.Nodes.{over, tree_at, tree_of, bytes_at, IsWithi
 ghost use Rattle.cpp_tree.specs.declared.node.Thunk.{Thunk};
 ghost use Rattle.cpp_link.specs.declared.part.Part.TheVariants as variants;
 ghost use Rattle.cpp_link.specs.Grows.{Grows, HasPlace};
-ghost use Rattle.cpp_link.specs.LinkRescoping.{is_parameter, type_behind_mark, with_meant, meant_read, named_by, restated_nodes, substituted_nodes, wide_view};
+ghost use Rattle.cpp_link.specs.LinkRescoping.{is_parameter, is_substitution, type_behind_mark, with_meant, meant_read, named_by, restated_nodes, substituted_nodes, wide_view};
 ghost use Rattle.cpp_link.specs.Making.{state_of};
 ghost use Rattle.cpp_link.specs.NodeCount.{makes_before};
 ghost use Rattle.cpp_link.specs.Parts.{trees_in, tree_of_node, value_in, values_in, is_lambda, around_of, candidate_of, IsThere, AreThere, IsKeptThere, IsStepThere};
 ghost use Rattle.cpp_link.specs.Reads.{goes_on};
 ghost use Rattle.cpp_link.specs.Room.{KeepsRoom, LacksRoom, IsRoomy};
-ghost use Rattle.cpp_link.specs.Stepping.{nodes_of_step};
+ghost use Rattle.cpp_link.specs.Stepping.{IsStepOf, nodes_of_step};
 ghost use Rattle.cpp_link.specs.View as view;
 ghost use Rattle.cpp_link.specs.View.{IsPaid, IsWhole, Surrounds, cpp_view};
 
@@ -63,6 +64,17 @@ pub fn is_parameter(production: Production) -> bool
     match production {
         Production::Parameter => true,
         Production::NestParameter => true,
+        _ => false,
+    }
+}
+
+/// Whether a production is a substitution.
+#[tactic(auto, unfolding(crate::specs::LinkRescoping::is_substitution))]
+pub fn is_substitution(production: Production) -> bool
+    ensures { result ≡ is_substitution production }
+{
+    match production {
+        Production::Substitution => true,
         _ => false,
     }
 }
@@ -132,7 +144,8 @@ impl Linked {
         ensures is { (v : values.Value) (cs : List values.Candidate) → generic_so_far (around_of (trees_in symbol.now self.now.nodes) kept) (counted_value kinds.Decimal (bytes_at symbol.now digits)) [] (record { candidates = cs; packs = self.now.packs })
             ≡ goes_on symbol.now self.now.nodes kept (v ∷ []) cs self.now.packs result }
         ensures there { IsStepThere symbol.now (length self.now.nodes.thunks) (length self.now.nodes.nodes) result }
-        ensures one { nodes_of_step result ≡ 1 }
+        ensures of { (production : Production-type) → is_parameter production ≡ true → IsStepOf production 1 result }
+        ensures makes { (production : Production-type) (known : List values.Value) → is_parameter production ≡ true → length known ≡ 1 → nodes_of_step result ≡ makes_before production known }
     {
         let counted = value10(&symbol[digits.from as usize..digits.to as usize]);
         Step::Made {

@@ -18,7 +18,7 @@ ghost use Rattle.cpp_link.specs.declared.rescoping.Rescoping.{Rescoping};
 use crate::language::OUTSIDE;
 use crate::part::{Kept, Part};
 use crate::dispatch::production_of;
-use crate::rescoping::{Rescoping, is_parameter};
+use crate::rescoping::{Rescoping, is_parameter, is_substitution};
 use cpp_grammar::production::Production;
 use sym_core::Refusal;
 use sym_link::language::{Frame, Linking};
@@ -116,10 +116,10 @@ impl Threading for Rescoping {
         ensures keeps { KeepsRoom (wide_counted symbol.now) self.old self.new parts.old parts.new }
         ensures full { NeedsRoom (wide_counted symbol.now) self.old self.new parts.old parts.new result }
     {
-        match production_of(frame.rule) {
-            Production::Substitution => self.linked.finish_substitution(symbol, frame, parts),
-            _ => self.linked.finish_rule(symbol, frame, parts),
+        if is_substitution(production_of(frame.rule)) {
+            return self.linked.finish_substitution(symbol, frame, parts);
         }
+        self.linked.finish_rule(symbol, frame, parts)
     }
 
     fn ahead(

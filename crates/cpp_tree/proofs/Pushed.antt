@@ -3,7 +3,7 @@ use Rattle.std.proofs.Common.{◌≡◌, refl, sym, ◌∙◌, ap, subst, arith,
 use Rattle.std.proofs.lemmas.List.Elements.{All-push}
 use Rattle.cpp_term.specs.Term.{Term, absent}
 use Rattle.cpp_term.specs.Items as items
-use Rattle.cpp_term.specs.Scope.{pack_length, is_open, arguments_of, has_return_type, count, element}
+use Rattle.cpp_term.specs.Scope.{pack_length, is_open, is_generic, arguments_of, has_return_type, count, element}
 use Rattle.cpp_tree.specs.declared.node.Node.{Node}
 use Rattle.cpp_tree.specs.declared.node.Piece.{Piece}
 use Rattle.cpp_tree.specs.declared.node.Thunk.{Thunk}
@@ -126,6 +126,7 @@ module _ (y : Table) (e : Entry) (table : IsTable y) (noted : IsNoted y e) where
         below = was.below;
         packs = was.packs ∙ ap pack_length (sym here);
         free = was.free ∙ ap is_open (sym here);
+        generic = was.generic ∙ ap is_generic (sym here);
         empty = was.empty ∙ ap (λ t. items.is_empty items.closed t) (sym here);
         class = class-stays y.bytes y.thunks (trees y) own i most (entry_at y.nodes i).class was.class_below ∙ was.class ∙ ap items.class_of (sym here);
         class_below = was.class_below;
@@ -149,6 +150,7 @@ module _ (y : Table) (e : Entry) (table : IsTable y) (noted : IsNoted y e) where
         below = noted.below;
         packs = noted.packs ∙ ap pack_length (sym last);
         free = noted.free ∙ ap is_open (sym last);
+        generic = noted.generic ∙ ap is_generic (sym last);
         empty = noted.empty ∙ ap (λ t. items.is_empty items.closed t) (sym last);
         class = class-stays y.bytes y.thunks (trees y) own (length y.nodes) most e.class noted.class_below ∙ noted.class ∙ ap items.class_of (sym last);
         class_below = noted.class_below;
@@ -162,7 +164,7 @@ module _ (y : Table) (e : Entry) (table : IsTable y) (noted : IsNoted y e) where
       }
 
   abbrev none : Entry
-  none = record { node = Node.Absent; packs = None; is_open = false; is_empty = false; class = HeadClass.Known Head.Plain; arguments = None; returns = false; count = 0; run = 0 }
+  none = record { node = Node.Absent; packs = None; is_open = false; is_generic = false; is_empty = false; class = HeadClass.Known Head.Plain; arguments = None; returns = false; count = 0; run = 0 }
 
   each-here : (i : ℕ) → (i < length y.nodes) ⊎ (i ≡ length y.nodes) → IsEntry (with_entry y e) (trees y ++ own ∷ []) i (entry_at (y.nodes ++ e ∷ []) i)
   each-here i (inl less) = subst (λ x. IsEntry (with_entry y e) (trees y ++ own ∷ []) i x) (sym (get-early y.nodes e none i less)) (old i less)
@@ -208,10 +210,10 @@ abbrev first-three : List ℕ → List Thunk → Table
 first-three s us = record { bytes = s; nodes = bare_entry Node.Absent false ∷ bare_entry Node.Nil true ∷ bare_entry (Node.Pack 1) true ∷ []; thunks = us }
 
 each-begins : (s : List ℕ) (us : List Thunk) (i : ℕ) → i < 3 → IsEntry (first-three s us) (trees (first-three s us)) i (entry_at (first-three s us).nodes i)
-unfolding trees_onto tree_of pack_length is_open arguments_of arguments_are has_return_type count items.is_empty items.class_of class_is head_of
-each-begins s us zero less = record { built = refl; below = tt; packs = refl; free = refl; empty = refl; class = refl; class_below = tt; arguments = refl; arguments_below = tt; returns = refl; counted = refl; count_below = omega arith; runs = λ k n most. absurd (omega (arith, most)); run_below = omega arith }
-each-begins s us (suc zero) less = record { built = refl; below = tt; packs = refl; free = refl; empty = refl; class = refl; class_below = tt; arguments = refl; arguments_below = tt; returns = refl; counted = refl; count_below = omega arith; runs = λ k n most. absurd (omega (arith, most)); run_below = omega arith }
-each-begins s us (suc (suc zero)) less = record { built = refl; below = omega arith; packs = refl; free = refl; empty = refl; class = refl; class_below = tt; arguments = refl; arguments_below = tt; returns = refl; counted = refl; count_below = omega arith; runs = λ k n most. absurd (omega (arith, most)); run_below = omega arith }
+unfolding trees_onto tree_of pack_length is_open is_generic arguments_of arguments_are has_return_type count items.is_empty items.class_of class_is head_of
+each-begins s us zero less = record { built = refl; below = tt; packs = refl; free = refl; generic = refl; empty = refl; class = refl; class_below = tt; arguments = refl; arguments_below = tt; returns = refl; counted = refl; count_below = omega arith; runs = λ k n most. absurd (omega (arith, most)); run_below = omega arith }
+each-begins s us (suc zero) less = record { built = refl; below = tt; packs = refl; free = refl; generic = refl; empty = refl; class = refl; class_below = tt; arguments = refl; arguments_below = tt; returns = refl; counted = refl; count_below = omega arith; runs = λ k n most. absurd (omega (arith, most)); run_below = omega arith }
+each-begins s us (suc (suc zero)) less = record { built = refl; below = omega arith; packs = refl; free = refl; generic = refl; empty = refl; class = refl; class_below = tt; arguments = refl; arguments_below = tt; returns = refl; counted = refl; count_below = omega arith; runs = λ k n most. absurd (omega (arith, most)); run_below = omega arith }
 each-begins s us (suc (suc (suc i))) less = absurd (omega (arith, less))
 
 begins : (s : List ℕ) → IsTable (first-three s [])
@@ -256,6 +258,7 @@ module _ (y : Table) (u : Thunk) (table : IsTable y) (within : IsThunkWithin y.b
         below = below-adjusts y.bytes y.thunks u (entry_at y.nodes i).node i was.below;
         packs = was.packs;
         free = was.free;
+        generic = was.generic;
         empty = was.empty;
         class = was.class;
         class_below = was.class_below;

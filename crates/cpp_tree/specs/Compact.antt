@@ -1,5 +1,5 @@
 -- The entries that a table holds in few bytes.
-use Rattle.std.specs.Prelude.{ℕ, Bool, true, false, Option, None, Some}
+use Rattle.std.specs.Prelude.{ℕ, zero, suc, Bool, true, false, Option, None, Some}
 use Rattle.cpp_tree.specs.declared.node.Entry.{Entry}
 use Rattle.cpp_tree.specs.declared.node.Node.{Node}
 use Rattle.cpp_tree.specs.declared.node.Head.{Head}
@@ -7,9 +7,10 @@ use Rattle.cpp_tree.specs.declared.node.HeadClass.{HeadClass}
 use Rattle.cpp_tree.specs.declared.compact.Words.{Words}
 use Rattle.cpp_tree.specs.declared.compact.Compact.{Compact}
 
-unfoldable pub packs_kept : Bool → ℕ → Option ℕ
-packs_kept true n = Some n
-packs_kept false n = None
+-- of the length of packs the next number, and 0 for none
+unfoldable pub packs_kept : ℕ → Option ℕ
+packs_kept zero = None
+packs_kept (suc n) = Some n
 
 unfoldable pub class_kept : Words → ℕ → HeadClass
 class_kept Words.FunctionOrArray n = HeadClass.Known Head.FunctionOrArray
@@ -37,11 +38,12 @@ run_kept Words.Elements n = n
 run_kept _ n = 0
 
 -- an entry, by what is shared in two words
-abbrev pub kept : (n : Node) (packs : Option ℕ) (is_open is_empty : Bool) (words : Words) (first second : ℕ) → Entry
-kept n packs is_open is_empty words first second = record {
+abbrev pub kept : (n : Node) (packs : Option ℕ) (is_open is_generic is_empty : Bool) (words : Words) (first second : ℕ) → Entry
+kept n packs is_open is_generic is_empty words first second = record {
   node = n;
   packs = packs;
   is_open = is_open;
+  is_generic = is_generic;
   is_empty = is_empty;
   class = class_kept words first;
   arguments = arguments_kept words first;
@@ -51,15 +53,16 @@ kept n packs is_open is_empty words first second = record {
 }
 
 -- the entry of a type with this head
-abbrev pub with_head : (n : Node) (packs : Option ℕ) (is_open : Bool) (class : HeadClass) → Entry
-with_head n packs is_open class = record { node = n; packs = packs; is_open = is_open; is_empty = false; class = class; arguments = None; returns = false; count = 0; run = 0 }
+abbrev pub with_head : (n : Node) (packs : Option ℕ) (is_open is_generic : Bool) (class : HeadClass) → Entry
+with_head n packs is_open is_generic class = record { node = n; packs = packs; is_open = is_open; is_generic = is_generic; is_empty = false; class = class; arguments = None; returns = false; count = 0; run = 0 }
 
 -- the entry of a name that ends in these arguments
-abbrev pub with_arguments : (n : Node) (packs : Option ℕ) (is_open : Bool) (arguments : Option ℕ) (returns : Bool) → Entry
-with_arguments n packs is_open arguments returns = record {
+abbrev pub with_arguments : (n : Node) (packs : Option ℕ) (is_open is_generic : Bool) (arguments : Option ℕ) (returns : Bool) → Entry
+with_arguments n packs is_open is_generic arguments returns = record {
   node = n;
   packs = packs;
   is_open = is_open;
+  is_generic = is_generic;
   is_empty = false;
   class = HeadClass.Known Head.Plain;
   arguments = arguments;
@@ -70,4 +73,4 @@ with_arguments n packs is_open arguments returns = record {
 
 -- the entry that is held
 abbrev pub entry_of : Compact → Entry
-entry_of c = kept c.node (packs_kept c.has_packs c.packs) c.is_open c.is_empty c.words c.first c.second
+entry_of c = kept c.node (packs_kept c.packs) c.is_open c.is_generic c.is_empty c.words c.first c.second

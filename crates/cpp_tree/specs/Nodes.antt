@@ -6,7 +6,7 @@ use Rattle.cpp_grammar.specs.Term as values
 use Rattle.cpp_grammar.specs.Items as heads
 use Rattle.cpp_term.specs.Term as term
 use Rattle.cpp_term.specs.Term.{Term}
-use Rattle.cpp_term.specs.Scope.{pack_length, is_open, arguments_of, has_return_type, count, element}
+use Rattle.cpp_term.specs.Scope.{pack_length, is_open, is_generic, arguments_of, has_return_type, count, element}
 use Rattle.cpp_term.specs.Items as items
 use Rattle.cpp_tree.specs.declared.node.Qualifiers.{Qualifiers}
 use Rattle.cpp_tree.specs.declared.node.Mark.{Mark}
@@ -234,7 +234,7 @@ IsArgumentsBelow n None = Unit {0}
 IsArgumentsBelow n (Some a) = a < n
 
 abbrev pub entry_at : List Entry → ℕ → Entry
-entry_at es i = get_or es i (record { node = Node.Absent; packs = None; is_open = false; is_empty = false; class = HeadClass.Known Head.Plain; arguments = None; returns = false; count = 0; run = 0 })
+entry_at es i = get_or es i (record { node = Node.Absent; packs = None; is_open = false; is_generic = false; is_empty = false; class = HeadClass.Known Head.Plain; arguments = None; returns = false; count = 0; run = 0 })
 
 -- What holds of the node at a place: all that is noted follows from its tree. A cell's run is how many of the nodes before it are
 -- the cells behind it, so that an element is found by a subtraction.
@@ -243,6 +243,7 @@ pub record IsEntry (y : Table) (ts : List Term) (i : ℕ) (e : Entry) : Type 0 w
   pub below : IsBelow y.bytes (length y.thunks) i e.node
   pub packs : e.packs ≡ pack_length (tree_at ts i)
   pub free : e.is_open ≡ is_open (tree_at ts i)
+  pub generic : e.is_generic ≡ is_generic (tree_at ts i)
   pub empty : e.is_empty ≡ items.is_empty items.closed (tree_at ts i)
   pub class : class_is ts e.class ≡ items.class_of (tree_at ts i)
   pub class_below : IsClassBelow i e.class
@@ -271,6 +272,7 @@ pub record IsNoted (y : Table) (e : Entry) : Type 0 where
   pub below : IsBelow y.bytes (length y.thunks) (length y.nodes) e.node
   pub packs : e.packs ≡ pack_length (tree_of y.bytes y.thunks (trees y) e.node)
   pub free : e.is_open ≡ is_open (tree_of y.bytes y.thunks (trees y) e.node)
+  pub generic : e.is_generic ≡ is_generic (tree_of y.bytes y.thunks (trees y) e.node)
   pub empty : e.is_empty ≡ items.is_empty items.closed (tree_of y.bytes y.thunks (trees y) e.node)
   pub class : class_is (trees y) e.class ≡ items.class_of (tree_of y.bytes y.thunks (trees y) e.node)
   pub class_below : IsClassBelow (length y.nodes) e.class

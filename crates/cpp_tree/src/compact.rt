@@ -26,11 +26,12 @@ pub enum Words {
 #[derive(Clone, Copy)]
 pub struct Compact {
     pub node: Node,
+    /// The length of the packs and one more, 0 where there are none.
     pub packs: u32,
     pub first: u32,
     pub second: u32,
-    pub has_packs: bool,
     pub is_open: bool,
+    pub is_generic: bool,
     pub is_empty: bool,
     pub words: Words,
 }
@@ -38,10 +39,10 @@ pub struct Compact {
 /// The length of the packs.
 #[inline(always)]
 #[tactic(auto, unfolding(crate::specs::Compact::packs_kept))]
-fn packs(has_packs: bool, packs: u32) -> Option<u32>
-    ensures { result ≡ packs_kept has_packs packs }
+fn packs(kept: u32) -> Option<u32>
+    ensures { result ≡ packs_kept kept }
 {
-    if has_packs { Some(packs) } else { None }
+    if kept == 0 { None } else { Some(kept - 1) }
 }
 
 /// The head of a type.
@@ -117,8 +118,9 @@ impl Compact {
     {
         Entry {
             node: self.node,
-            packs: packs(self.has_packs, self.packs),
+            packs: packs(self.packs),
             is_open: self.is_open,
+            is_generic: self.is_generic,
             is_empty: self.is_empty,
             class: class(self.words, self.first),
             arguments: arguments(self.words, self.first),
@@ -140,8 +142,8 @@ pub(crate) fn bare(node: Node, is_empty: bool) -> Compact
         packs: 0,
         first: 0,
         second: 0,
-        has_packs: false,
         is_open: false,
+        is_generic: false,
         is_empty,
         words: Words::Plain,
     }

@@ -172,6 +172,8 @@ pub enum Node {
         digits: Span,
         end: u8,
     },
+    /// A lambda's own parameter, by its number.
+    GenericParameter(u32),
     Vendor(Span),
     Pointer(u32),
     Lvalue(u32),
@@ -284,6 +286,8 @@ pub struct Entry {
     pub packs: Option<u32>,
     /// Whether it has free parameters.
     pub is_open: bool,
+    /// Whether it has a lambda's own parameter that stands under no lambda of it.
+    pub is_generic: bool,
     /// Whether it prints nothing.
     pub is_empty: bool,
     pub class: HeadClass,

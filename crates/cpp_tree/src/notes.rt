@@ -8,7 +8,7 @@ ghost use Rattle.cpp_tree.specs.declared.node.Node.{Node};
 ghost use Rattle.cpp_tree.specs.declared.compact.Words.{Words};
 ghost use Rattle.cpp_tree.specs.Compact.{packs_kept, class_kept, arguments_kept, returns_kept, entry_of, kept, with_head, with_arguments};
 ghost use Rattle.cpp_tree.specs.Nodes.{over, entry_at, IsBelow, IsPieceBelow, IsTable};
-ghost use Rattle.cpp_tree.specs.Notes.{piece_opens, piece_packs, argument_packs, argument_class, collapses, is_structor_node, noting};
+ghost use Rattle.cpp_tree.specs.Notes.{piece_opens, piece_has_generic, piece_packs, argument_packs, argument_class, collapses, is_structor_node, noting};
 
 use crate::compact::{Compact, Words, bare};
 use crate::node::{Node, Piece};
@@ -18,7 +18,7 @@ use crate::nodes::Nodes;
 #[inline(always)]
 #[tactic(auto, unfolding(crate::specs::Compact::class_kept, crate::specs::Compact::arguments_kept, crate::specs::Compact::returns_kept, crate::specs::Compact::count_kept, crate::specs::Compact::run_kept, crate::specs::Notes::collapses))]
 fn collapsed(words: Words) -> Words
-    ensures { (n : Node) (packs : Option ℕ) (is_open : Bool) (first : ℕ) → kept n packs is_open false result first 0 ≡ with_head n packs is_open (collapses (class_kept words first)) }
+    ensures { (n : Node) (packs : Option ℕ) (is_open is_generic : Bool) (first : ℕ) → kept n packs is_open is_generic false result first 0 ≡ with_head n packs is_open is_generic (collapses (class_kept words first)) }
 {
     match words {
         Words::Lvalue => Words::Lvalue,
@@ -32,7 +32,7 @@ fn collapsed(words: Words) -> Words
 #[inline(always)]
 #[tactic(auto, unfolding(crate::specs::Compact::class_kept, crate::specs::Compact::arguments_kept, crate::specs::Compact::returns_kept, crate::specs::Compact::count_kept, crate::specs::Compact::run_kept))]
 fn of_type(words: Words) -> Words
-    ensures { (n : Node) (packs : Option ℕ) (is_open : Bool) (first : ℕ) → kept n packs is_open false result first 0 ≡ with_head n packs is_open (class_kept words first) }
+    ensures { (n : Node) (packs : Option ℕ) (is_open is_generic : Bool) (first : ℕ) → kept n packs is_open is_generic false result first 0 ≡ with_head n packs is_open is_generic (class_kept words first) }
 {
     match words {
         Words::Arguments => Words::Plain,
@@ -46,7 +46,7 @@ fn of_type(words: Words) -> Words
 #[inline(always)]
 #[tactic(auto, unfolding(crate::specs::Compact::class_kept, crate::specs::Compact::arguments_kept, crate::specs::Compact::returns_kept, crate::specs::Compact::count_kept, crate::specs::Compact::run_kept))]
 fn of_name(words: Words) -> Words
-    ensures { (n : Node) (packs : Option ℕ) (is_open : Bool) (first : ℕ) → kept n packs is_open false result first 0 ≡ with_arguments n packs is_open (arguments_kept words first) (returns_kept words) }
+    ensures { (n : Node) (packs : Option ℕ) (is_open is_generic : Bool) (first : ℕ) → kept n packs is_open is_generic false result first 0 ≡ with_arguments n packs is_open is_generic (arguments_kept words first) (returns_kept words) }
 {
     match words {
         Words::Arguments => Words::Arguments,
@@ -59,7 +59,7 @@ fn of_name(words: Words) -> Words
 #[inline(always)]
 #[tactic(auto, unfolding(crate::specs::Compact::class_kept, crate::specs::Compact::arguments_kept, crate::specs::Compact::returns_kept, crate::specs::Compact::count_kept, crate::specs::Compact::run_kept))]
 fn of_instance(template: Node) -> Words
-    ensures { (n : Node) (packs : Option ℕ) (is_open : Bool) (first : ℕ) → kept n packs is_open false result first 0 ≡ with_arguments n packs is_open (Some first) (not (is_structor_node template)) }
+    ensures { (n : Node) (packs : Option ℕ) (is_open is_generic : Bool) (first : ℕ) → kept n packs is_open is_generic false result first 0 ≡ with_arguments n packs is_open is_generic (Some first) (not (is_structor_node template)) }
 {
     if template.is_structor() {
         Words::Arguments
@@ -71,15 +71,15 @@ fn of_instance(template: Node) -> Words
 /// A node whose parameters are those of a part.
 #[inline(always)]
 fn noted_over(node: Node, part: Compact, words: Words, first: u32) -> Compact
-    ensures { entry_of result ≡ kept node (packs_kept part.has_packs part.packs) part.is_open false words first 0 }
+    ensures { entry_of result ≡ kept node (packs_kept part.packs) part.is_open part.is_generic false words first 0 }
 {
     Compact {
         node,
         packs: part.packs,
         first,
         second: 0,
-        has_packs: part.has_packs,
         is_open: part.is_open,
+        is_generic: part.is_generic,
         is_empty: false,
         words,
     }
@@ -88,12 +88,12 @@ fn noted_over(node: Node, part: Compact, words: Words, first: u32) -> Compact
 /// The length of the packs of the first of two parts that has some.
 #[inline(always)]
 fn packs_of_two(one: Compact, other: Compact) -> u32
-    ensures { result ≡ if one.has_packs then one.packs else other.packs }
+    ensures { packs_kept result ≡ first_of (packs_kept one.packs) (packs_kept other.packs) }
 {
-    if one.has_packs {
-        one.packs
-    } else {
+    if one.packs == 0 {
         other.packs
+    } else {
+        one.packs
     }
 }
 
@@ -101,9 +101,9 @@ fn packs_of_two(one: Compact, other: Compact) -> u32
 #[inline(always)]
 #[tactic(auto, unfolding(crate::specs::Compact::packs_kept, cpp_grammar::specs::Items::is_none_of))]
 fn has_empty_packs(part: Compact) -> bool
-    ensures { result ≡ heads.is_none_of (packs_kept part.has_packs part.packs) }
+    ensures { result ≡ heads.is_none_of (packs_kept part.packs) }
 {
-    part.has_packs && part.packs == 0
+    part.packs == 1
 }
 
 /// A node whose parameters are those of two parts.
@@ -117,15 +117,15 @@ fn noted_over_two(
     first: u32,
     second: u32,
 ) -> Compact
-    ensures { entry_of result ≡ kept node (first_of (packs_kept one.has_packs one.packs) (packs_kept other.has_packs other.packs)) (one.is_open || other.is_open) is_empty words first second }
+    ensures { entry_of result ≡ kept node (first_of (packs_kept one.packs) (packs_kept other.packs)) (one.is_open || other.is_open) (one.is_generic || other.is_generic) is_empty words first second }
 {
     Compact {
         node,
         packs: packs_of_two(one, other),
         first,
         second,
-        has_packs: one.has_packs | other.has_packs,
         is_open: one.is_open | other.is_open,
+        is_generic: one.is_generic | other.is_generic,
         is_empty,
         words,
     }
@@ -136,15 +136,13 @@ impl Nodes {
     #[inline(always)]
     fn noted_piece(&self, symbol: &[u8], node: Node, piece: Piece) -> Compact
         requires below { IsPieceBelow symbol.now (length self.now.nodes) piece }
-        ensures { entry_of result ≡ kept node (piece_packs self.now.nodes piece) (piece_opens self.now.nodes piece) false Words.Plain 0 0 }
+        ensures { entry_of result ≡ kept node (piece_packs self.now.nodes piece) (piece_opens self.now.nodes piece) (piece_has_generic self.now.nodes piece) false Words.Plain 0 0 }
     {
         match piece {
-            Piece::Lambda { parameters, .. } => noted_over(
-                node,
-                self.at(parameters),
-                Words::Plain,
-                0,
-            ),
+            Piece::Lambda { parameters, .. } => Compact {
+                is_generic: false,
+                ..noted_over(node, self.at(parameters), Words::Plain, 0)
+            },
             Piece::Conversion(ty) => noted_over(node, self.at(ty), Words::Plain, 0),
             _ => bare(node, false),
         }
@@ -155,28 +153,32 @@ impl Nodes {
     fn noted_within(&self, symbol: &[u8], node: Node, prefix: u32, piece: Piece) -> Compact
         requires prefix { prefix < length self.now.nodes }
         requires below { IsPieceBelow symbol.now (length self.now.nodes) piece }
-        ensures { entry_of result ≡ kept node (first_of (entry_at self.now.nodes prefix).packs (piece_packs self.now.nodes piece)) ((entry_at self.now.nodes prefix).is_open || piece_opens self.now.nodes piece) false Words.Plain 0 0 }
+        ensures { entry_of result ≡ kept node (first_of (entry_at self.now.nodes prefix).packs (piece_packs self.now.nodes piece)) ((entry_at self.now.nodes prefix).is_open || piece_opens self.now.nodes piece) ((entry_at self.now.nodes prefix).is_generic || piece_has_generic self.now.nodes piece) false Words.Plain 0 0 }
     {
+        let before = self.at(prefix);
         match piece {
-            Piece::Lambda { parameters, .. } => noted_over_two(
-                node,
-                self.at(prefix),
-                self.at(parameters),
-                false,
-                Words::Plain,
-                0,
-                0,
-            ),
+            Piece::Lambda { parameters, .. } => Compact {
+                is_generic: before.is_generic,
+                ..noted_over_two(
+                    node,
+                    before,
+                    self.at(parameters),
+                    false,
+                    Words::Plain,
+                    0,
+                    0,
+                )
+            },
             Piece::Conversion(ty) => noted_over_two(
                 node,
-                self.at(prefix),
+                before,
                 self.at(ty),
                 false,
                 Words::Plain,
                 0,
                 0,
             ),
-            _ => noted_over(node, self.at(prefix), Words::Plain, 0),
+            _ => noted_over(node, before, Words::Plain, 0),
         }
     }
 
@@ -185,17 +187,17 @@ impl Nodes {
     fn noted_parameter(&self, symbol: &[u8], node: Node, argument: u32) -> Compact
         requires table { IsTable (over symbol.now self.now) }
         requires argument { argument < length self.now.nodes }
-        ensures { entry_of result ≡ with_head node (argument_packs self.now.nodes (entry_at self.now.nodes argument).node) true (argument_class (entry_at self.now.nodes argument).node (entry_at self.now.nodes argument).class) }
+        ensures { entry_of result ≡ with_head node (argument_packs self.now.nodes (entry_at self.now.nodes argument).node) true false (argument_class (entry_at self.now.nodes argument).node (entry_at self.now.nodes argument).class) }
     {
         let held = self.at(argument);
         match self.node(symbol, argument) {
             Node::Pack(elements) => Compact {
                 node,
-                packs: self.at(elements).entry().count,
+                packs: self.at(elements).entry().count + 1,
                 first: elements,
                 second: 0,
-                has_packs: true,
                 is_open: true,
+                is_generic: false,
                 is_empty: false,
                 words: Words::OfElement,
             },
@@ -204,8 +206,8 @@ impl Nodes {
                 packs: 0,
                 first: held.first,
                 second: 0,
-                has_packs: false,
                 is_open: true,
+                is_generic: false,
                 is_empty: false,
                 words: of_type(held.words),
             },
@@ -216,11 +218,12 @@ impl Nodes {
     #[inline(always)]
     fn noted_expansion(&self, node: Node, pattern: u32) -> Compact
         requires pattern { pattern < length self.now.nodes }
-        ensures { entry_of result ≡ kept node None (entry_at self.now.nodes pattern).is_open (heads.is_none_of (entry_at self.now.nodes pattern).packs) Words.Plain 0 0 }
+        ensures { entry_of result ≡ kept node None (entry_at self.now.nodes pattern).is_open (entry_at self.now.nodes pattern).is_generic (heads.is_none_of (entry_at self.now.nodes pattern).packs) Words.Plain 0 0 }
     {
         let held = self.at(pattern);
         Compact {
             is_open: held.is_open,
+            is_generic: held.is_generic,
             ..bare(node, has_empty_packs(held))
         }
     }
@@ -229,7 +232,7 @@ impl Nodes {
     #[inline(always)]
     fn noted_pack(&self, node: Node, elements: u32) -> Compact
         requires elements { elements < length self.now.nodes }
-        ensures { entry_of result ≡ kept node (entry_at self.now.nodes elements).packs (entry_at self.now.nodes elements).is_open (entry_at self.now.nodes elements).is_empty Words.Plain 0 0 }
+        ensures { entry_of result ≡ kept node (entry_at self.now.nodes elements).packs (entry_at self.now.nodes elements).is_open (entry_at self.now.nodes elements).is_generic (entry_at self.now.nodes elements).is_empty Words.Plain 0 0 }
     {
         let held = self.at(elements);
         Compact {
@@ -260,7 +263,7 @@ impl Nodes {
         requires first { first < length self.now.nodes }
         requires rest { rest < length self.now.nodes }
         requires room { length self.now.nodes + 1 < 2 ^ 32 }
-        ensures { entry_of result ≡ kept node (first_of (entry_at self.now.nodes first).packs (entry_at self.now.nodes rest).packs) ((entry_at self.now.nodes first).is_open || (entry_at self.now.nodes rest).is_open)
+        ensures { entry_of result ≡ kept node (first_of (entry_at self.now.nodes first).packs (entry_at self.now.nodes rest).packs) ((entry_at self.now.nodes first).is_open || (entry_at self.now.nodes rest).is_open) ((entry_at self.now.nodes first).is_generic || (entry_at self.now.nodes rest).is_generic)
             ((entry_at self.now.nodes first).is_empty && (entry_at self.now.nodes rest).is_empty) Words.Elements ((entry_at self.now.nodes rest).count + 1) (cond (nat_eq (rest + 1) (length self.now.nodes)) ((entry_at self.now.nodes rest).run + 1) 0) }
     {
         let one = self.at(first);
@@ -282,7 +285,7 @@ impl Nodes {
     #[inline(always)]
     fn noted_type(&self, node: Node, ty: u32, words: Words) -> Compact
         requires { ty < length self.now.nodes }
-        ensures { entry_of result ≡ kept node (entry_at self.now.nodes ty).packs (entry_at self.now.nodes ty).is_open false words 0 0 }
+        ensures { entry_of result ≡ kept node (entry_at self.now.nodes ty).packs (entry_at self.now.nodes ty).is_open (entry_at self.now.nodes ty).is_generic false words 0 0 }
     {
         noted_over(node, self.at(ty), words, 0)
     }
@@ -292,7 +295,7 @@ impl Nodes {
     fn noted_types(&self, node: Node, one: u32, other: u32, words: Words) -> Compact
         requires one { one < length self.now.nodes }
         requires other { other < length self.now.nodes }
-        ensures { entry_of result ≡ kept node (first_of (entry_at self.now.nodes one).packs (entry_at self.now.nodes other).packs) ((entry_at self.now.nodes one).is_open || (entry_at self.now.nodes other).is_open) false words 0 0 }
+        ensures { entry_of result ≡ kept node (first_of (entry_at self.now.nodes one).packs (entry_at self.now.nodes other).packs) ((entry_at self.now.nodes one).is_open || (entry_at self.now.nodes other).is_open) ((entry_at self.now.nodes one).is_generic || (entry_at self.now.nodes other).is_generic) false words 0 0 }
     {
         noted_over_two(node, self.at(one), self.at(other), false, words, 0, 0)
     }
@@ -301,7 +304,7 @@ impl Nodes {
     #[inline(always)]
     fn noted_rvalue(&self, node: Node, ty: u32) -> Compact
         requires { ty < length self.now.nodes }
-        ensures { entry_of result ≡ with_head node (entry_at self.now.nodes ty).packs (entry_at self.now.nodes ty).is_open (collapses (entry_at self.now.nodes ty).class) }
+        ensures { entry_of result ≡ with_head node (entry_at self.now.nodes ty).packs (entry_at self.now.nodes ty).is_open (entry_at self.now.nodes ty).is_generic (collapses (entry_at self.now.nodes ty).class) }
     {
         let held = self.at(ty);
         noted_over(node, held, collapsed(held.words), held.first)
@@ -311,7 +314,7 @@ impl Nodes {
     #[inline(always)]
     fn noted_qualified(&self, node: Node, ty: u32) -> Compact
         requires { ty < length self.now.nodes }
-        ensures { entry_of result ≡ with_head node (entry_at self.now.nodes ty).packs (entry_at self.now.nodes ty).is_open (entry_at self.now.nodes ty).class }
+        ensures { entry_of result ≡ with_head node (entry_at self.now.nodes ty).packs (entry_at self.now.nodes ty).is_open (entry_at self.now.nodes ty).is_generic (entry_at self.now.nodes ty).class }
     {
         let held = self.at(ty);
         noted_over(node, held, of_type(held.words), held.first)
@@ -321,7 +324,7 @@ impl Nodes {
     #[inline(always)]
     fn noted_local(&self, node: Node, entity: u32) -> Compact
         requires { entity < length self.now.nodes }
-        ensures { entry_of result ≡ with_arguments node (entry_at self.now.nodes entity).packs (entry_at self.now.nodes entity).is_open (entry_at self.now.nodes entity).arguments (entry_at self.now.nodes entity).returns }
+        ensures { entry_of result ≡ with_arguments node (entry_at self.now.nodes entity).packs (entry_at self.now.nodes entity).is_open (entry_at self.now.nodes entity).is_generic (entry_at self.now.nodes entity).arguments (entry_at self.now.nodes entity).returns }
     {
         let held = self.at(entity);
         noted_over(node, held, of_name(held.words), held.first)
@@ -332,7 +335,7 @@ impl Nodes {
     fn noted_instance(&self, node: Node, template: u32, arguments: u32) -> Compact
         requires template { template < length self.now.nodes }
         requires arguments { arguments < length self.now.nodes }
-        ensures { entry_of result ≡ with_arguments node (first_of (entry_at self.now.nodes template).packs (entry_at self.now.nodes arguments).packs) ((entry_at self.now.nodes template).is_open || (entry_at self.now.nodes arguments).is_open)
+        ensures { entry_of result ≡ with_arguments node (first_of (entry_at self.now.nodes template).packs (entry_at self.now.nodes arguments).packs) ((entry_at self.now.nodes template).is_open || (entry_at self.now.nodes arguments).is_open) ((entry_at self.now.nodes template).is_generic || (entry_at self.now.nodes arguments).is_generic)
             (Some arguments) (not (is_structor_node (entry_at self.now.nodes template).node)) }
     {
         let held = self.at(template);
@@ -349,7 +352,7 @@ impl Nodes {
 
     /// A node with what is noted of it.
     #[inline(always)]
-    #[tactic(auto, unfolding(crate::specs::Compact::packs_kept, crate::specs::Compact::class_kept, crate::specs::Compact::arguments_kept, crate::specs::Compact::returns_kept, crate::specs::Compact::count_kept, crate::specs::Compact::run_kept, crate::specs::Notes::opens, crate::specs::Notes::empties, crate::specs::Notes::ends_in, crate::specs::Notes::classes, crate::specs::Notes::packing, crate::specs::Notes::returning, crate::specs::Notes::counting, crate::specs::Notes::running))]
+    #[tactic(auto, unfolding(crate::specs::Compact::packs_kept, crate::specs::Compact::class_kept, crate::specs::Compact::arguments_kept, crate::specs::Compact::returns_kept, crate::specs::Compact::count_kept, crate::specs::Compact::run_kept, crate::specs::Notes::opens, crate::specs::Notes::has_generic, crate::specs::Notes::empties, crate::specs::Notes::ends_in, crate::specs::Notes::classes, crate::specs::Notes::packing, crate::specs::Notes::returning, crate::specs::Notes::counting, crate::specs::Notes::running))]
     pub(crate) fn noted(&self, symbol: &[u8], node: Node) -> Compact
         requires table { IsTable (over symbol.now self.now) }
         requires below { IsBelow symbol.now (length self.now.thunks) (length self.now.nodes) node }
@@ -369,6 +372,10 @@ impl Nodes {
             Node::Tagged { name, .. } => self.noted_type(node, name, Words::Plain),
             Node::OfDefault { entity, .. } => self.noted_local(node, entity),
             Node::Parameter { argument, .. } => self.noted_parameter(symbol, node, argument),
+            Node::GenericParameter(_) => Compact {
+                is_generic: true,
+                ..bare(node, false)
+            },
             Node::Pointer(ty) => self.noted_type(node, ty, Words::Plain),
             Node::Lvalue(ty) => self.noted_type(node, ty, Words::Lvalue),
             Node::Rvalue(ty) => self.noted_rvalue(node, ty),

@@ -237,3 +237,6 @@ pub const CLONE: u16 = 72;
 /// The entity of a local name that stands in a default argument. Texts: the digits that say in which. Parts: the entity. Symbols of
 /// the wide grammar alone have it.
 pub const OF_DEFAULT: u16 = 73;
+
+/// A lambda's own parameter, in the lambda's signature. Numbers: its number, counted from 0. Symbols of the wide grammar alone have it.
+pub const GENERIC_PARAMETER: u16 = 74;

@@ -12,7 +12,7 @@ use crate::node::{Adjustment, Mark, Piece, Qualifiers, Signed, Thunk, bit};
 use crate::tree_production::{
     ABBREVIATION, ABSENT, ADDRESS_OF, ARRAY, BOOLEAN, BUILTIN, BUILTIN_WITH_D, CLONE, COMPLEX,
     CONSTRUCTION, CONSTRUCTOR, CONVERSION, COVARIANT_THUNK, DESTRUCTOR, ENCODING_LITERAL,
-    EXPANSION, FUNCTION, FUNCTION_TYPE, GUARD, HOLDER, INSTANCE, INTEGER, LAMBDA, LIST,
+    EXPANSION, FUNCTION, FUNCTION_TYPE, GENERIC_PARAMETER, GUARD, HOLDER, INSTANCE, INTEGER, LAMBDA, LIST,
     LITERAL_OPERATOR, LOCAL, LVALUE, MEMBER_POINTER, NESTED_CONSTRUCTOR, NESTED_CONVERSION,
     NESTED_DESTRUCTOR, NESTED_LAMBDA, NESTED_LITERAL_OPERATOR, NESTED_NO_PIECE, NESTED_OPERATOR,
     NESTED_SOURCE, NESTED_STRING_LITERAL, NESTED_UNNAMED, NIL, NO_PIECE, NULL_POINTER,
@@ -380,6 +380,7 @@ pub fn view_of(symbol: &[u8], nodes: &Nodes, node: node::Node) -> NodeView
         node::Node::SizedFloat { digits, end } => {
             seen(SIZED_FLOAT, [end as u64, 0], [digits, NO_TEXT], 0, [0; 3])
         }
+        node::Node::GenericParameter(number) => leaf(GENERIC_PARAMETER, number as u64),
         node::Node::Vendor(name) => seen(VENDOR, none, [name, NO_TEXT], 0, [0; 3]),
         node::Node::Pointer(ty) => one(POINTER, none, NO_TEXT, ty),
         node::Node::Lvalue(ty) => one(LVALUE, none, NO_TEXT, ty),

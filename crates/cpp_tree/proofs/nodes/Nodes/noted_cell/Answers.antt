@@ -12,8 +12,9 @@ returns c =
     let f = entry_at c.args.self.now.nodes c.args.rest in
     let packs = first_of e.packs f.packs in
     let is_open = e.is_open || f.is_open in
+    let is_generic = e.is_generic || f.is_generic in
     over-two-is c.args.node (c.at-one.result.is_empty && c.at-other.result.is_empty) Words.Elements (c.entry-count.result.count + 1) c.run_to.result c.noted_over_two.result c.at-one.result c.at-other.result e f c.at-one.ensures c.at-other.ensures c.noted_over_two.ensures
-    ∙ ap (λ x. kept c.args.node packs is_open (x.is_empty && c.at-other.result.is_empty) Words.Elements (c.entry-count.result.count + 1) c.run_to.result) c.at-one.ensures
-    ∙ ap (λ x. kept c.args.node packs is_open (e.is_empty && x.is_empty) Words.Elements (c.entry-count.result.count + 1) c.run_to.result) c.at-other.ensures
-    ∙ ap (λ n. kept c.args.node packs is_open (e.is_empty && f.is_empty) Words.Elements (n + 1) c.run_to.result) (ap (λ x. x.count) (c.entry-count.ensures ∙ c.at-other.ensures))
-    ∙ ap (λ n. kept c.args.node packs is_open (e.is_empty && f.is_empty) Words.Elements (f.count + 1) n) c.run_to.ensures
+    ∙ ap (λ x. kept c.args.node packs is_open is_generic (x.is_empty && c.at-other.result.is_empty) Words.Elements (c.entry-count.result.count + 1) c.run_to.result) c.at-one.ensures
+    ∙ ap (λ x. kept c.args.node packs is_open is_generic (e.is_empty && x.is_empty) Words.Elements (c.entry-count.result.count + 1) c.run_to.result) c.at-other.ensures
+    ∙ ap (λ n. kept c.args.node packs is_open is_generic (e.is_empty && f.is_empty) Words.Elements (n + 1) c.run_to.result) (ap (λ x. x.count) (c.entry-count.ensures ∙ c.at-other.ensures))
+    ∙ ap (λ n. kept c.args.node packs is_open is_generic (e.is_empty && f.is_empty) Words.Elements (f.count + 1) n) c.run_to.ensures

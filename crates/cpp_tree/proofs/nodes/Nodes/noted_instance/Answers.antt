@@ -12,6 +12,7 @@ returns c =
     let f = entry_at c.args.self.now.nodes c.args.arguments in
     let packs = first_of e.packs f.packs in
     let is_open = e.is_open || f.is_open in
+    let is_generic = e.is_generic || f.is_generic in
     over-two-is c.args.node false c.of_instance.result c.args.arguments 0 c.noted_over_two.result c.at-held.result c.at.result e f c.at-held.ensures c.at.ensures c.noted_over_two.ensures
-    ∙ c.of_instance.ensures c.args.node packs is_open c.args.arguments
-    ∙ ap (λ x. with_arguments c.args.node packs is_open (Some c.args.arguments) (not (is_structor_node x.node))) c.at-held.ensures
+    ∙ c.of_instance.ensures c.args.node packs is_open is_generic c.args.arguments
+    ∙ ap (λ x. with_arguments c.args.node packs is_open is_generic (Some c.args.arguments) (not (is_structor_node x.node))) c.at-held.ensures

@@ -6,8 +6,8 @@ use Rattle.cpp_tree.proofs.nodes.Nodes.noted_piece.Goals as goal
 
 pub returns-in-Lambda : goal.returns-in-Lambda
 returns-in-Lambda c =
-    over-is c.args.node Words.Plain 0 c.noted_over.result c.at.result (entry_at c.args.self.now.nodes c.in-Lambda.parameters) c.at.ensures c.noted_over.ensures
-    ∙ lambda-alone c.args.self.now.nodes c.args.node c.args.piece c.in-Lambda.parameters c.in-Lambda.number c.in-Lambda.is
+    lambda-alone c.args.self.now.nodes c.args.node c.args.piece c.noted_over.result c.in-Lambda.parameters c.in-Lambda.number c.in-Lambda.is
+    (over-is c.args.node Words.Plain 0 c.noted_over.result c.at.result (entry_at c.args.self.now.nodes c.in-Lambda.parameters) c.at.ensures c.noted_over.ensures)
 
 pub returns-in-Conversion : goal.returns-in-Conversion
 returns-in-Conversion c =

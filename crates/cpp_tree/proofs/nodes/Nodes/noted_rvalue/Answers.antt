@@ -9,5 +9,5 @@ pub returns : goal.returns
 returns c =
     let e = entry_at c.args.self.now.nodes c.args.ty in
     over-is c.args.node c.collapsed.result c.at-held.result.first c.noted_over.result c.at-held.result e c.at-held.ensures c.noted_over.ensures
-    ∙ c.collapsed.ensures c.args.node e.packs e.is_open c.at-held.result.first
-    ∙ ap (λ x. with_head c.args.node e.packs e.is_open (collapses x.class)) c.at-held.ensures
+    ∙ c.collapsed.ensures c.args.node e.packs e.is_open e.is_generic c.at-held.result.first
+    ∙ ap (λ x. with_head c.args.node e.packs e.is_open e.is_generic (collapses x.class)) c.at-held.ensures
