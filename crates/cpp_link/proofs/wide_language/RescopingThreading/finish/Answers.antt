@@ -1,4 +1,4 @@
-use Rattle.std.proofs.Common.{refl, sym, ◌∙◌, ap}
+use Rattle.std.proofs.Common.{sym, ◌∙◌, ap}
 use Rattle.sym_link.specs.Tally.{tallied_view}
 use Rattle.sym_link.proofs.Tally.{finish_tallied}
 use Rattle.cpp_link.specs.declared.rescoping.Rescoping.{Rescoping}
@@ -6,6 +6,10 @@ use Rattle.cpp_link.specs.LinkRescoping.{is_substitution, wide_view, wide_makes}
 use Rattle.cpp_link.proofs.Rescoped.{apart_closes, apart_end_read, substitution_end_read, substitution_alone, no_substitution}
 use Rattle.cpp_link.proofs.Within.{closes_within}
 use Rattle.cpp_link.proofs.wide_language.RescopingThreading.finish.Goals as goal
+
+pub finish_substitution-requires-clause-substitution : goal.finish_substitution-requires-clause-substitution
+finish_substitution-requires-clause-substitution c =
+    substitution_alone _ (ap is_substitution (sym c.production_of.ensures) ∙ sym c.is_substitution.ensures ∙ c.if-is_substitution.true)
 
 pub returns-then-is_substitution-clause-closes : goal.returns-then-is_substitution-clause-closes
 returns-then-is_substitution-clause-closes c =
