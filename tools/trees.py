@@ -380,7 +380,7 @@ def first_of(parts): return parts[0] if len(parts) == 1 else applied("first_of",
 
 # nodes of which something is noted, by their arguments: numbers of nodes are i and j here
 NOTED = ["nil", "alone", "in_std", "within", "instance", "local", "holder", "tagged", "of_default", "parameter", "pointer", "lvalue", "rvalue", "array", "member_pointer", "function_type", "qualified",
-         "vector", "complex", "expansion", "integer", "pack", "list"]
+         "generic_parameter", "vector", "complex", "expansion", "integer", "pack", "list"]
 SORTS = {PIECE: ("p", "Piece"), BYTES: ("d", "Span"), NUMBER: ("k", "ℕ"), MARK: ("m", "Mark"), QUALIFIERS: ("q", "Qualifiers"), SIGNED: ("v", "Signed"), DISCRIMINATOR: ("d", "Option Span")}
 def noted_nodes():
     """each with its name, and its arguments with their types"""
@@ -468,7 +468,7 @@ def declarations():
     yield "cpp_press_laws/proofs/Components/Growing.antt", "size", fold("size", [], lambda parts: f"suc ({' + '.join(parts)})", "1", trees=named(PRESSED))
     yield "cpp_press_laws/specs/Apart.antt", "IsNeverReferred", never_referred()
     yield "cpp_press/specs/Weight.antt", "weight", fold("weight", [], summed("12"), "12", trees=named(PRESSED))
-    nowhere = {"symbol": None, "construction": None, "clone": None, "holder": None, "sized_float": None, "of_default": None, "conversion": None, "absent": None, ("order", "function"): ["name", "returned", "parameters", "q", "ref"]}
+    nowhere = {"symbol": None, "construction": None, "clone": None, "holder": None, "sized_float": None, "generic_parameter": None, "of_default": None, "conversion": None, "absent": None, ("order", "function"): ["name", "returned", "parameters", "q", "ref"]}
     yield "cpp_press_laws/proofs/Components/FewComponents.antt", "counts", by_each("counts", "few", [], nowhere, {"local": "local-name", "address_of": "address"})
     yield "cpp_press_laws/proofs/EveryWay/Law.antt", "reads", by_each("reads", "reads", ["c"], {**nowhere, ("before", "function"): ["c"]}, {"address_of": "address"})
     yield "cpp_press_laws/proofs/Fits/Packs.antt", "closed-packs", closed_packs()
@@ -492,8 +492,10 @@ def declarations():
     yield "cpp_tree/proofs/Compacting.antt", "other-node", other_node()
     yield "cpp_tree/proofs/Pushed.antt", "node-stays", node_stays()
     yield "cpp_tree/specs/Notes.antt", "opens", noted("opens", "open_at es {0}", "piece_opens es {0}", either, "false", {"Parameter": "true"})
+    yield "cpp_tree/specs/Notes.antt", "has_generic", noted("has_generic", "generic_at es {0}", "piece_has_generic es {0}", either, "false", {"GenericParameter": "true"})
     yield "cpp_tree/specs/Notes.antt", "packing", noted("packing", "packs_at es {0}", "piece_packs es {0}", first_of, "None", {"Parameter": "argument_packs es (entry_at es a).node"}, ["Expansion"])
     yield "cpp_tree/proofs/Noting.antt", "node-open", through("node-open", "at {0} {1}", "piece-open {0} {1}", "refl", without=["Parameter"])
+    yield "cpp_tree/proofs/Noting.antt", "node-generic", through("node-generic", "generic-at {0} {1}", "piece-generic {0} {1}", "refl", without=["Parameter"])
     yield "cpp_tree/proofs/Noting.antt", "node-pack", through("node-pack", "pack-at {0} {1}", "piece-pack {0} {1}", "refl", {"Parameter": "argument-pack a b"}, without=["Expansion"])
     yield "cpp_grammar/specs/Scope.antt", "is_open", fold("is_open", [], either, "false", {"parameter": "true"}, SCOPED, trees=named(SCOPES, ["parameter"]))
     yield "cpp_grammar/specs/Scope.antt", "is_generic", fold("is_generic", [], either, "false", {"generic_parameter": "true", "lambda": None}, SCOPED, trees=named(SCOPES, ["generic_parameter"]))

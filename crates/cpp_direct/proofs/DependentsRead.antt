@@ -1,4 +1,5 @@
 -- A type that names an argument of a function's template is read, and handed on.
+use Rattle.cpp_direct.specs.Symbol.{Symbol}
 use Rattle.cpp_direct.proofs.EnclosingFunctions.{parameter-got-within}
 use Rattle.cpp_direct.proofs.Handed.{front-got, parameter-got}
 use Rattle.cpp_direct.proofs.Kept.{candidates-stay, piece-found}
@@ -28,7 +29,7 @@ use Rattle.cpp_grammar.specs.Parts.{types_of}
 use Rattle.cpp_grammar.specs.References.{appended, is_function_type, with_packs, parameter_named}
 use Rattle.cpp_grammar.specs.Scope.{arguments_of, element, count, length_if_pack}
 use Rattle.cpp_grammar.specs.Table.{rule_of}
-use Rattle.cpp_grammar.specs.Term.{Term, parameter, nil, list}
+use Rattle.cpp_grammar.specs.Term.{Term, parameter}
 use Rattle.cpp_grammar.specs.Unfolding as unfolding_
 use Rattle.cpp_grammar.specs.Unfolding.{opening, close, byte_of}
 use Rattle.cpp_grammar.specs.Values as values
@@ -86,8 +87,8 @@ parameter-tested around k at st few scope =
     (rw (parameter-found around k at st scope.all scope.scope_is scope.below (ap length_if_pack scope.there ∙ scope.no_pack)) refl)
 
 -- a parameter comes, and is a candidate
-pub parameter-comes : (s : List ℕ) (kind : Kind) (around : Around) (os : List Opened) (k at : ℕ) (st : State) → IsTyped kind → k ≤ 3
-    → IsScope k false around → Expects s kind around os at st → StandsAt s at (84 ∷ (parameter_digits k ++ 95 ∷ []))
+pub parameter-comes : (s : Symbol) (kind : Kind) (around : Around) (os : List Opened) (k at : ℕ) (st : State) → IsTyped kind → k ≤ 3
+    → IsScope k false around → Expects s kind around os at st → StandsAt s.bytes at (84 ∷ (parameter_digits k ++ 95 ∷ []))
     → Comes s os (tree (parameter k) true) (at + 1 + length (parameter_digits k ++ 95 ∷ [])) (with_candidate around.encoding (parameter k) st)
 unfolding choose alternatives pick is_in in_ranges among is_chain parts_of number_of_kind between opening close unfolding_.behind meaning byte_of tree_of is_there part applied may_be_empty is_function_type
 parameter-comes s kind around os k at st typed few scope expects stands =
@@ -97,7 +98,7 @@ parameter-comes s kind around os k at st typed few scope expects stands =
     let later = with_candidate around.encoding t st in
     let digits = parameter_digits k in
     let end = at + 1 + length (digits ++ 95 ∷ []) in
-    let both = stands-split s at (84 ∷ []) (digits ++ 95 ∷ []) stands in
+    let both = stands-split s.bytes at (84 ∷ []) (digits ++ 95 ∷ []) stands in
     let solid = solid-opens s kind around os at st typed expects in
     let rule = standing (rule_of p) (84 ∷ []) at around st in
     let number = expects-number s Decimal around (opened rule [] (OfKind ARGUMENTS_ALONE ∷ []) ∷ solid.inner) (at + 1) st (parameter_token k)
@@ -150,7 +151,7 @@ placed-at : (text : List ℕ) (p q : Arguments) (k : ℕ) (name : Term) → p �
 placed-at text p q k name e has known = let h = named-one text p q k name e has known in (h.bytes, h.placed)
 
 -- where it stands in what is open, it stands in the text
-pub argument-placed : (s : List ℕ) (ws : List Open) (os : List Opened) (text : List ℕ) (p : Arguments) (k : ℕ) → Stands s ws os text → argument_of ws ≡ Some p
+pub argument-placed : (s : Symbol) (ws : List Open) (os : List Opened) (text : List ℕ) (p : Arguments) (k : ℕ) → Stands s ws os text → argument_of ws ≡ Some p
     → IsKnown (place_of p k) → (bytes : List ℕ) × IsPlaced text (place_of p k) bytes
 argument-placed s (opens.Pointer from ∷ rest) os text p k stands found known = argument-placed s rest stands.0 text p k stands.4 found known
 argument-placed s (opens.Lvalue from ∷ rest) os text p k stands found known = argument-placed s rest stands.0 text p k stands.4 found known
@@ -165,7 +166,7 @@ argument-placed s (opens.Enclosing mark from a ∷ rest) os text p k stands foun
 argument-placed s _ os text p k stands found known = cc found
 
 -- so it can be written once more
-pub argument-inside : (s : List ℕ) (w : Direct) (all : Arguments) (k : ℕ) (p : Argument) → AwaitsType s w
+pub argument-inside : (s : Symbol) (w : Direct) (all : Arguments) (k : ℕ) (p : Argument) → AwaitsType s w
     → argument_of (reverse w.waiting.list.items) ≡ Some all → p ≡ place_of all k → p.from ≤ p.to → p.to ≤ length w.text.list.items
 argument-inside s w all k p a found is known =
     let h = argument-placed s (reverse w.waiting.list.items) a.os w.text.list.items all k a.stands found (subst IsKnown is known) in
@@ -176,8 +177,8 @@ argument-inside s w all k p a found is known =
 -- ## Parameters
 
 -- the parameter is read, and its argument is written once more
-pub parameter-done : (s : List ℕ) (old mid new : Direct) (all : Arguments) (k : ℕ) (p : Argument) → AwaitsType s old → k ≤ 3 → StandsAt s old.at (84 ∷ [])
-    → StandsAt s (old.at + 1) (parameter_digits k ++ 95 ∷ [])
+pub parameter-done : (s : Symbol) (old mid new : Direct) (all : Arguments) (k : ℕ) (p : Argument) → AwaitsType s old → k ≤ 3 → StandsAt s.bytes old.at (84 ∷ [])
+    → StandsAt s.bytes (old.at + 1) (parameter_digits k ++ 95 ∷ [])
     → argument_of (reverse old.waiting.list.items) ≡ Some all → p ≡ place_of all k → IsPlain p
     → mid.text.list.items ≡ old.text.list.items ++ take (p.to - p.from) (drop p.from old.text.list.items) → mid.candidates ≡ old.candidates
     → mid.waiting ≡ old.waiting → mid.at ≡ old.at + 1 + length (parameter_digits k ++ 95 ∷ []) → new.candidates.list.items ≡ with_hidden mid false → new.text ≡ mid.text
@@ -216,7 +217,7 @@ parameter-done s old mid new all k p a few letter line found is plain_ text cand
         subst (λ n. Comes s a.os (tree (parameter k) true) n later) (sym (same_at ∙ at))
             (parameter-comes s a.kind a.around a.os k old.at a.state a.typed few
             (subst (λ j. IsScope k j a.around) plain.1 (a.scoped all found k plain.0)) a.awaits
-            (stands-join s old.at (84 ∷ []) (parameter_digits k ++ 95 ∷ []) letter line)),
+            (stands-join s.bytes old.at (84 ∷ []) (parameter_digits k ++ 95 ∷ []) letter line)),
         subst (λ v. Stands s (reverse v.list.items) a.os old.text.list.items) (sym open_is) a.stands,
       );
     }
@@ -224,7 +225,7 @@ parameter-done s old mid new all k p a few letter line found is plain_ text cand
 -- ## Marks
 
 -- it is marked
-pub dependent-marked : (s : List ℕ) (w : Direct) (is_reference marked_reference : Bool) (entry : Open) (from : ℕ) (made : Term → Term) (mark : List ℕ)
+pub dependent-marked : (s : Symbol) (w : Direct) (is_reference marked_reference : Bool) (entry : Open) (from : ℕ) (made : Term → Term) (mark : List ℕ)
     → IsWriting s w (steps.Dependent is_reference) → slice_get w.waiting.list.items (length w.waiting.list.items - 1) ≡ Some entry
     → ((rest : List Open) (os : List Opened) (text : List ℕ) → Stands s (entry ∷ rest) os text → Marks s (Stands s rest) os text from made)
     → ((rest : List Open) → argument_of (entry ∷ rest) ≡ argument_of rest)
@@ -258,7 +259,7 @@ dependent-marked s w is_reference marked_reference entry from made mark p found 
     }
 
 -- the mark is written
-pub dependent-mark-done : (s : List ℕ) (old mid new : Direct) (mark : List ℕ) (r : Bool) (a : AwaitsDependentMark s old mark r)
+pub dependent-mark-done : (s : Symbol) (old mid new : Direct) (mark : List ℕ) (r : Bool) (a : AwaitsDependentMark s old mark r)
     → reverse mid.waiting.list.items ≡ a.rest → mid.text.list.items ≡ old.text.list.items ++ mark → mid.candidates ≡ old.candidates → mid.at ≡ old.at
     → new.candidates.list.items ≡ with_hidden mid false → new.text ≡ mid.text → new.waiting ≡ mid.waiting → new.at ≡ mid.at
     → IsWriting s new (steps.Dependent r)
@@ -294,7 +295,7 @@ dependent-mark-done s old mid new mark r a waits text candidates at more same_te
 -- ## What it is handed to
 
 -- it is a parameter
-pub dependent-parameter : (s : List ℕ) (w : Direct) (is_reference : Bool) (mark : Mark) (start : ℕ) (argument_ : Arguments) → IsWriting s w (steps.Dependent is_reference)
+pub dependent-parameter : (s : Symbol) (w : Direct) (is_reference : Bool) (mark : Mark) (start : ℕ) (argument_ : Arguments) → IsWriting s w (steps.Dependent is_reference)
     → slice_get w.waiting.list.items (length w.waiting.list.items - 1) ≡ Some (opens.Parameters mark start argument_)
     → IsParameterEnded s w mark start argument_
 dependent-parameter s w is_reference mark start argument_ p found =
@@ -308,7 +309,7 @@ dependent-parameter s w is_reference mark start argument_ p found =
     (b.7 ∙ append_assoc b.2 b.3 b.4) b.12 (type-element-in (types_of waits.6.own) b.1 (b.3 ++ b.4) is_reference prints)
 
 -- of a function in which a type stands
-pub dependent-within : (s : List ℕ) (w : Direct) (is_reference : Bool) (mark : Mark) (from : ℕ) (argument_ : Arguments) → IsWriting s w (steps.Dependent is_reference)
+pub dependent-within : (s : Symbol) (w : Direct) (is_reference : Bool) (mark : Mark) (from : ℕ) (argument_ : Arguments) → IsWriting s w (steps.Dependent is_reference)
     → slice_get w.waiting.list.items (length w.waiting.list.items - 1) ≡ Some (opens.Enclosing mark from argument_)
     → IsEnclosingParameterRead s w mark from argument_
 dependent-within s w is_reference mark from argument_ p found =
@@ -322,7 +323,7 @@ dependent-within s w is_reference mark from argument_ p found =
     (b.7 ∙ append_assoc b.2 b.3 b.4) b.12 (type-element-in (types_of waits.5.own) b.1 (b.3 ++ b.4) is_reference prints)
 
 -- it is the return type
-pub dependent-front : (s : List ℕ) (w : Direct) (is_reference : Bool) (mark : Mark) (start : ℕ) (argument_ : Arguments) → IsWriting s w (steps.Dependent is_reference)
+pub dependent-front : (s : Symbol) (w : Direct) (is_reference : Bool) (mark : Mark) (start : ℕ) (argument_ : Arguments) → IsWriting s w (steps.Dependent is_reference)
     → slice_get w.waiting.list.items (length w.waiting.list.items - 1) ≡ Some (opens.Front mark start argument_)
     → IsFrontRead s w mark start argument_
 dependent-front s w is_reference mark start argument_ p found =

@@ -7,6 +7,7 @@ use Rattle.cpp_grammar.specs.Term.{Term, list}
 use Rattle.cpp_grammar.specs.Between.{no_items}
 use Rattle.cpp_grammar.specs.Meaning.{parameters, encoding_of}
 use Rattle.cpp_grammar.specs.Values.{Value}
+use Rattle.cpp_direct.specs.Symbol.{Symbol}
 use Rattle.cpp_direct.specs.declared.open.Mark.{Mark}
 use Rattle.cpp_direct.specs.Marks.{has_const, called_on}
 use Rattle.cpp_direct.specs.declared.open.Open.TheVariants as opens
@@ -33,7 +34,7 @@ no-text [] from is none = refl
 no-text (b ∷ bs) from is none = absurd (omega (arith, is, none))
 
 -- the return type of a function is expected behind its name
-pub front-begins : (s : List ℕ) (w new : Direct) (mark : Mark) (from start : ℕ) → IsNameEnded s w mark true from → from ≡ 0 → is_local s ≡ false
+pub front-begins : (s : Symbol) (w new : Direct) (mark : Mark) (from start : ℕ) → IsNameEnded s w mark true from → from ≡ 0 → is_local s.bytes ≡ false
     → start ≡ length w.text.list.items → new.text ≡ w.text → new.candidates ≡ w.candidates → new.at ≡ w.at
     → new.waiting.list.items ≡ w.waiting.list.items ++ opens.Front mark start w.argument ∷ [] → IsWriting s new steps.Type
 front-begins s w new mark from start p none apart start_is text candidates at waiting =
@@ -86,8 +87,8 @@ front-begins s w new mark from start p none apart start_is text candidates at wa
     }
 
 -- a function's return type stands in front of what it shows without one
-turned : (s : List ℕ) (argument : Arguments) (mark : Mark) (v : Value) (name : List ℕ) (is : IsInstance argument mark v name) (r : Term) (b : List ℕ)
-    (is_reference : Bool) → PrintsIn (types_of is.own) 2 r b is_reference → (items : Term) (at : ℕ) → is_local s ≡ false → EncodedBehind s [] (encoding_of v (list r items)) at
+turned : (s : Symbol) (argument : Arguments) (mark : Mark) (v : Value) (name : List ℕ) (is : IsInstance argument mark v name) (r : Term) (b : List ℕ)
+    (is_reference : Bool) → PrintsIn (types_of is.own) 2 r b is_reference → (items : Term) (at : ℕ) → is_local s.bytes ≡ false → EncodedBehind s [] (encoding_of v (list r items)) at
     → EncodedBehind s (b ++ codes " ") (plain_encoding mark is.own items) at
 turned s argument mark v name is r b is_reference prints items at apart p = record {
   whole = λ e. let w = p.whole e in record {
@@ -102,7 +103,7 @@ turned s argument mark v name is r b is_reference prints items at apart p = reco
 }
 
 -- the return type is read, and behind it the name is written once more
-pub front-turned : (s : List ℕ) (w here first last : Direct) (mark : Mark) (start : ℕ) (argument : Arguments) → IsFrontRead s w mark start argument
+pub front-turned : (s : Symbol) (w here first last : Direct) (mark : Mark) (start : ℕ) (argument : Arguments) → IsFrontRead s w mark start argument
     → here.text ≡ w.text → here.candidates ≡ w.candidates → here.at ≡ w.at → Writes here first (codes " ")
     → Writes first last (take (start - 0) (drop 0 first.text.list.items)) → AwaitsParameters s last mark start argument
 front-turned s w here first last mark start argument p text candidates at one two =

@@ -24,7 +24,8 @@ pub mod MovesOfLists
 pub mod MovesOfLocals
 pub mod MovesOfNests
 pub mod Alone
-pub mod MovesOfTypes
+pub mod MovesOfTags
+mod MovesOfTypes
 mod MovesOfUnscoped
 pub mod NamePlaces
 pub mod NestComponents
@@ -40,11 +41,13 @@ pub mod PrintedNames
 pub mod PrintedNests
 pub mod PrintedParts
 pub mod PrintedSymbols
-pub mod PrintedTypes
+pub mod PrintedTags
+mod PrintedTypes
 pub mod PrintedValues
 mod PrintedWithin
 pub mod Scopes
 pub mod ShortNumbers
 pub mod Signatures
+pub mod Tables
 pub mod TypesRead
 pub mod UnscopedNames

@@ -1,5 +1,5 @@
 -- Where names stand.
-use Rattle.std.proofs.Common.{◌≡◌, ◌≢◌, ℕ, ◌+◌, ◌-◌, ◌*◌, ◌≤◌, ◌<◌, suc, List, [], ◌∷◌, ◌++◌, length, take, drop, get_or, Bool, true, false, ◌&&◌, not, nat_eq, nat_lt, refl, ap, sym, subst, ◌∙◌, arith, append_assoc, append-nil}
+use Rattle.std.proofs.Common.{◌≡◌, ◌≢◌, ℕ, ◌+◌, ◌-◌, ◌*◌, ◌≤◌, ◌<◌, suc, List, [], ◌∷◌, ◌++◌, length, take, drop, get_or, codes, Bool, true, false, ◌&&◌, not, nat_eq, nat_lt, refl, ap, sym, subst, ◌∙◌, arith, append_assoc, append-nil}
 use Rattle.std.proofs.lemmas.List.{get_or-drop, get_or-take, length-append, length-drop, length-take-le, take-append-drop, drop-drop}
 use Rattle.std.proofs.lemmas.Bool.{and_parts, le-leb, ltb-false, ltb-true}
 use Rattle.std.proofs.lemmas.Bool.Decides.{nat_tests}
@@ -13,8 +13,8 @@ use Rattle.cpp_grammar.specs.Parts.{source_text}
 use Rattle.cpp_direct.specs.declared.direct.Direct.{Direct}
 use Rattle.cpp_direct.specs.declared.names.NamePlace.{NamePlace}
 use Rattle.sym_direct.proofs.Moves.{stands-join}
-use Rattle.cpp_direct.specs.Holes.{StandsAt, IsNameAt}
-use Rattle.cpp_direct.specs.Names.{IsLengthRead, IsNamePlace}
+use Rattle.cpp_direct.specs.Holes.{StandsAt, IsNameAt, IsTagAt}
+use Rattle.cpp_direct.specs.Names.{IsLengthRead, IsNamePlace, tag_text}
 use Rattle.cpp_direct.specs.Written.{Writes, Reads}
 use Rattle.cpp_direct.proofs.FoundTokens.{name-found, own-found, reads-written}
 
@@ -174,3 +174,23 @@ name-read s old middle new place bytes n is there same_text same_candidates same
   n.some,
   reads-written old middle new bytes (source_text n.name) w same_text same_candidates same_waiting same_nest same_rounds (is ∙ ap source_text n.own),
 )
+
+-- a tag was read, and its text written
+pub tag-read : (s : List ℕ) (old first second third : Direct) (place : NamePlace) (at : ℕ) → StandsAt s old.at (66 ∷ []) → at ≡ old.at + 1
+    → IsNamePlace s at place → Writes (record old { at = at }) first (codes "[abi:") → Writes first second (take (place.to - place.from) (drop place.from s))
+    → Writes second third (codes "]")
+    → (tag : List ℕ) × IsTagAt s old.at tag place.to × Reads old (record third { at = place.to }) (tag_text tag)
+tag-read s old first second third place at letter here n a b c =
+    let text = old.text.list.items in (
+      n.name,
+      (letter, subst (λ k. IsNameAt s k n.name place.to) here n.is),
+      record {
+        text = c.text ∙ ap (λ l. l ++ codes "]") (b.text ∙ ap (λ l. first.text.list.items ++ l) n.own ∙ ap (λ l. l ++ n.name) a.text
+            ∙ append_assoc text (codes "[abi:") n.name)
+            ∙ append_assoc text (codes "[abi:" ++ n.name) (codes "]");
+        candidates = c.candidates ∙ b.candidates ∙ a.candidates;
+        waiting = c.waiting ∙ b.waiting ∙ a.waiting;
+        nest = c.nest ∙ b.nest ∙ a.nest;
+        rounds = c.rounds ∙ b.rounds ∙ a.rounds;
+      },
+    )

@@ -11,7 +11,8 @@ use Rattle.cpp_grammar.specs.Texts.{Naming, look_up, abbreviation_texts, same_by
 use Rattle.cpp_grammar.specs.Parts.{source_text}
 use Rattle.cpp_grammar.specs.Scope.{has_return_type, arguments_of, is_structor}
 use Rattle.cpp_grammar.specs.Values.{State, Around, tree, named, tree_of, qualifiers_of, ref_of}
-use Rattle.cpp_grammar.specs.Between.{after, inside, no_items}
+use Rattle.cpp_grammar.specs.Between.{with_tag, after, inside, no_items}
+use Rattle.cpp_direct.specs.Symbol.{Symbol}
 use Rattle.cpp_direct.specs.declared.open.Mark.{Mark}
 use Rattle.cpp_direct.specs.Marks.{has_const, called_on}
 use Rattle.cpp_direct.specs.declared.open.Candidate.{Candidate}
@@ -23,18 +24,22 @@ use Rattle.cpp_direct.specs.declared.open.Open.TheVariants as opens
 use Rattle.cpp_direct.specs.declared.open.Step.{Step}
 use Rattle.cpp_direct.specs.declared.open.Step.TheVariants as steps
 use Rattle.cpp_direct.specs.declared.direct.Direct.{Direct}
-use Rattle.cpp_direct.specs.Holes.{Opened, Comes, StandsAt, IsNameAt, IsSeqAt, SamePasses, NestGoesOn, AwaitsComponent, with_candidate, unless_listed}
-use Rattle.cpp_direct.specs.HolesOfNests.{IsRest}
+use Rattle.cpp_direct.specs.Holes.{Opened, Comes, StandsAt, IsNameAt, IsSeqAt, SamePasses, NestGoesOn, AwaitsComponent, with_candidate, unless_listed, IsTagAt}
+use Rattle.cpp_direct.specs.HolesOfNests.{IsRest, NestKnown}
+use Rattle.cpp_direct.specs.Names.{tag_text}
 use Rattle.cpp_direct.specs.Prints.{Prints, NamesClass}
-use Rattle.cpp_direct.specs.Stands.{HasArguments, AreCandidates, IsNest, IsNesting, IsTemplate, ArgumentsGoOn, Serves, Stands, IsWriting, qualifiers}
-use Rattle.cpp_direct.specs.Ways.{AwaitsNest, IsNestNamed, IsNameEnded, IsOperatorRead}
+use Rattle.cpp_direct.specs.Stands.{HasArguments, AreCandidates, IsNest, IsNesting, IsOwn, IsTemplate, ArgumentsGoOn, Serves, Stands, IsWriting, qualifiers}
+use Rattle.cpp_direct.specs.Ways.{AwaitsNest, IsNestKnown, IsNestNamed, IsNameEnded, IsOperatorRead}
 use Rattle.cpp_direct.specs.Written.{Reads, added, added_unless}
-use Rattle.cpp_direct.proofs.Kept.{arguments-begun, candidates-stay, candidates-with, candidates-unless, candidate-found, piece-found, nest-stays, reverse-last}
+use Rattle.cpp_direct.proofs.Alone.{alone-arguments}
+use Rattle.cpp_direct.proofs.Kept.{arguments-begun, candidates-read, candidates-stay, candidates-with, candidates-unless, candidate-found, piece-found, nest-stays, reverse-last}
 use Rattle.cpp_direct.proofs.Moves.{expects-empty, stands-join, comes-moved}
-use Rattle.cpp_direct.proofs.MovesOfComponents.{component-awaits, first-arguments, nest-end}
+use Rattle.cpp_direct.proofs.MovesOfComponents.{component-awaits, first-arguments, instance-arguments, nest-end}
 use Rattle.cpp_direct.proofs.MovesOfLists.{arguments-open}
 use Rattle.cpp_direct.proofs.MovesOfNests.{nest-source, nest-abbreviation, nest-substitution, nest-std}
 use Rattle.cpp_direct.proofs.PrintedNames.{as-name, source-prints, source-class, std-prints, std-class, abbreviation-prints}
+use Rattle.cpp_direct.proofs.PrintedTags.{tagged-prints, std-tagged, again-tagged}
+use Rattle.cpp_direct.proofs.MovesOfTags.{tag-follows}
 
 -- ## What small functions did
 
@@ -58,7 +63,7 @@ pub byte-there : (s : List ℕ) (at byte known : ℕ) → byte ≡ known → kno
 byte-there s at byte known is some there = subst (λ b. StandsAt s at (b ∷ [])) is (there (λ e. some (sym is ∙ e)))
 
 -- arguments begin behind a name
-list-begins : (s : List ℕ) (old mid new : Direct) (ks : List Candidate) (st : State) (owner : Open) (front name : List ℕ) (t : Term)
+list-begins : (s : Symbol) (old mid new : Direct) (ks : List Candidate) (st : State) (owner : Open) (front name : List ℕ) (t : Term)
     → Keeps old mid ks → OpensArguments mid new owner → AreCandidates old.text.list.items ks st.candidates
     → IsTemplate owner front t name (old.text.list.items ++ codes "<") → old.text.list.items ≡ front ++ name
     → ArgumentsGoOn s owner (Stands s (reverse old.waiting.list.items)) front t [] (old.at + 1) st
@@ -82,7 +87,7 @@ list-begins s old mid new ks st owner front name t keeps opening_ candidates tem
 -- ## A name with or without arguments
 
 -- no arguments stand behind a name
-pub named-goes-on : (s : List ℕ) (w : Direct) → IsNestNamed s w → IsWriting s w steps.Tail
+pub named-goes-on : (s : Symbol) (w : Direct) → IsNestNamed s w → IsWriting s w steps.Tail
 unfolding may_be_empty
 named-goes-on s w n = record {
   state = n.state;
@@ -100,23 +105,77 @@ named-goes-on s w n = record {
           (n.named.bare w.at n.state (expects-empty s Kind.MaybeArguments (after n.own false n.around) n.named.inner w.at n.state n.named.awaits refl));
       serves = n.serves;
     },
-    (λ e. n.no_return),
+    (λ own e. n.no_return),
     (λ e. absurd (false≢true (sym n.no_instance ∙ e))),
     (λ e. absurd (false≢true (sym n.no_instance ∙ e))),
   );
 }
 
+-- a tag stands behind it
+pub named-tagged : (s : Symbol) (old new : Direct) (tag : List ℕ) → s.is_wide ≡ true → IsNestNamed s old → IsTagAt s.bytes old.at tag new.at
+    → Reads old new (tag_text tag) → IsNestNamed s new
+unfolding with_tag has_return_type arguments_of is_structor
+named-tagged s old new tag wide n is reads =
+    let g = tag-follows s n.named.inner n.around n.own old.at n.state tag new.at wide n.named.awaits is in
+    let own : Term = with_tag n.own tag in
+    let prints = tagged-prints (is_structor n.own) n.own n.bytes n.is_nest.prints tag in
+    let written : new.text.list.items ≡ n.front ++ (n.bytes ++ tag_text tag)
+    = reads.text ∙ ap (λ l. l ++ tag_text tag) n.written ∙ append_assoc n.front n.bytes (tag_text tag) in
+    let nest = sym reads.nest in
+    let classed : new.nest.has_class ≡ true → old.nest.has_class ≡ true = λ e. ap (λ x. x.has_class) nest ∙ e in
+    let is_nest : IsNest n.front (n.bytes ++ tag_text tag) new.text.list.items new.nest own = record {
+      back = [];
+      written = written ∙ sym (append-nil (n.front ++ (n.bytes ++ tag_text tag)));
+      from_is = ap (λ x. x.from) reads.nest ∙ n.is_nest.from_is;
+      prints = prints;
+      class_front = n.is_nest.class_front;
+      class = n.is_nest.class;
+      class_back = n.is_nest.class_back ++ tag_text tag;
+      class_written = reads.text ∙ ap (λ l. l ++ tag_text tag) n.is_nest.class_written
+          ∙ append_assoc (n.is_nest.class_front ++ n.is_nest.class) n.is_nest.class_back (tag_text tag);
+      class_from = ap (λ x. x.class_from) reads.nest ∙ n.is_nest.class_from;
+      class_to = ap (λ x. x.class_to) reads.nest ∙ n.is_nest.class_to;
+      names_class = λ e. n.names_tagged (classed e) tag;
+    } in
+    record {
+      state = n.state;
+      candidates = candidates-read old new (tag_text tag) n.state.candidates reads n.candidates;
+      around = n.around;
+      outer = n.outer;
+      own = own;
+      named = record {
+        inner = g.inner;
+        awaits = g.awaits;
+        bare = λ at st comes. n.named.renamed own at st (g.bare at st comes);
+        argued = λ a at st comes. n.named.renamed (instance own a) at st (g.argued a at st comes);
+        renamed = λ u at st comes. n.named.renamed u at st (g.renamed u at st comes);
+      };
+      front = n.front;
+      bytes = n.bytes ++ tag_text tag;
+      written = written;
+      is_nest = is_nest;
+      names_tagged = λ e more. again-tagged (is_structor n.own) n.own n.bytes n.is_nest.prints tag more n.is_nest.class (n.names_tagged (classed e) tag);
+      unlisted = ap (λ x. x.is_listed) reads.nest ∙ n.unlisted;
+      no_instance = ap (λ x. x.is_instance) reads.nest ∙ n.no_instance;
+      no_return = refl;
+      structor = λ e. n.structor (ap (λ x. x.has_class) nest ∙ e);
+      no_structor = λ e. n.no_structor (classed e);
+      serves = subst (λ x. Serves s x.purpose (Stands s (reverse new.waiting.list.items)) n.outer n.front) nest
+          (subst (λ v. Serves s old.nest.purpose (Stands s (reverse v.list.items)) n.outer n.front) (sym reads.waiting) n.serves);
+    }
+
 -- arguments stand behind it
-pub named-opens : (s : List ℕ) (old mid new : Direct) → IsNestNamed s old → StandsAt s old.at (73 ∷ [])
+pub named-opens : (s : Symbol) (old mid new : Direct) → IsNestNamed s old → StandsAt s.bytes old.at (73 ∷ [])
     → Keeps old mid (added old old.nest.from false) → OpensArguments mid new (opens.NestArguments mid.nest) → IsWriting s new (steps.List true)
 unfolding inside
 named-opens s old mid new n here keeps opening_ =
     let e = n.around.encoding in
-    let begun = arguments-open s n.named.inner n.around n.own false old.at n.state n.named.awaits here in
+    let begun = arguments-open s n.named.inner n.around n.own false old.at n.state
+    (alone-arguments s (after n.own false n.around) n.named.inner old.at n.state n.named.awaits) here in
     list-begins s old mid new (added old old.nest.from false) (with_candidate e n.own n.state) (opens.NestArguments old.nest) n.front n.bytes n.own
     keeps (subst (λ x. OpensArguments mid new (opens.NestArguments x)) keeps.nest opening_)
     (candidates-with old n.state n.front n.bytes old.nest.from n.own e false n.candidates n.written n.is_nest.from_is n.is_nest.prints)
-    (nest-stays n.front n.bytes old.text.list.items (codes "<") old.nest n.own n.is_nest, n.structor, n.no_structor) n.written (
+    (nest-stays n.front n.bytes old.text.list.items (codes "<") old.nest n.own n.is_nest, (λ own. n.structor), n.no_structor) n.written (
       inside n.around,
       begun.inner,
       refl,
@@ -124,10 +183,64 @@ named-opens s old mid new n here keeps opening_ =
       (λ l at st comes ended. (n.around, n.outer, n.named.argued (no_items l) (at + 1) st (begun.onward l at st comes ended), n.serves)),
     )
 
+-- ## A name that an S stands for
+
+-- what stands behind it is read
+pub known-goes-on : (s : Symbol) (w : Direct) → IsNestKnown s w → IsWriting s w steps.Rest
+known-goes-on s w n = record {
+  state = n.state;
+  candidates = n.candidates;
+  is_before = (
+    n.own,
+    record {
+      front = n.front;
+      around = n.around;
+      outer = n.outer;
+      bytes = n.bytes;
+      written = n.written;
+      is_nest = n.is_nest;
+      goes = subst (λ b. NestGoesOn s Kind.NestRestAlone n.outer n.around n.own b w.at n.state) (sym n.listed) n.known.goes;
+      serves = n.serves;
+    },
+  );
+}
+
+-- what comes inside comes outside
+nest-outside : (s : Symbol) (kind : Kind) (inner outer : List Opened) (around : Around) (t : Term) (listed : Bool) (at : ℕ) (st : State)
+    → SamePasses s inner outer → NestGoesOn s kind inner around t listed at st → NestGoesOn s kind outer around t listed at st
+nest-outside s kind inner outer around t listed at st passes g =
+    record { inner = g.inner; awaits = g.awaits; passes = λ v to later came. passes v to later (g.passes v to later came) }
+
+-- by the wide grammar arguments stand behind it, where it is a type
+pub known-opens : (s : Symbol) (old new : Direct) → IsNestKnown s old → s.is_wide ≡ true → old.nest.purpose ≡ purposes.Type → StandsAt s.bytes old.at (73 ∷ [])
+    → OpensArguments old new (opens.NestArguments old.nest) → IsWriting s new (steps.List true)
+unfolding inside
+known-opens s old new n wide is_type here opening_ =
+    let g = n.known.may_end wide in
+    let begun = instance-arguments s g.inner n.around n.own true old.at n.state g.awaits here in
+    let not_own : IsOwn old.nest.purpose → ⊥ = λ own. subst IsOwn is_type own in
+    list-begins s old old new old.candidates.list.items n.state (opens.NestArguments old.nest) n.front n.bytes n.own
+    (record { candidates = refl; text = refl; waiting = refl; nest = refl; at = refl }) opening_ n.candidates (
+      nest-stays n.front n.bytes old.text.list.items (codes "<") old.nest n.own n.is_nest,
+      (λ own. absurd (not_own own)),
+      (λ e. absurd (false≢true (sym n.classless ∙ e))),
+    ) n.written (
+      inside n.around,
+      begun.inner,
+      refl,
+      begun.awaits,
+      (λ l at st comes ended. (
+        n.around,
+        n.outer,
+        nest-outside s Kind.NestTail g.inner n.outer n.around (instance n.own (no_items l)) false (at + 1) st g.passes (begun.onward l at st comes ended),
+        n.serves,
+      )),
+    )
+
 -- ## Behind a name so far
 
 -- what is awaited within what comes is awaited of it
-component-outside : (s : List ℕ) (inner outer : List Opened) (around : Around) (t : Term) (at : ℕ) (st : State)
+component-outside : (s : Symbol) (inner outer : List Opened) (around : Around) (t : Term) (at : ℕ) (st : State)
     → SamePasses s inner outer → AwaitsComponent s inner around t at st → AwaitsComponent s outer around t at st
 component-outside s inner outer around t at st passes a = record {
   inner = a.inner;
@@ -138,7 +251,7 @@ component-outside s inner outer around t at st passes a = record {
 }
 
 -- a component follows
-pub component-next : (s : List ℕ) (kind : Kind) (old new : Direct) (st : State) (t : Term) → IsRest kind
+pub component-next : (s : Symbol) (kind : Kind) (old new : Direct) (st : State) (t : Term) → IsRest kind
     → AreCandidates old.text.list.items old.candidates.list.items st.candidates → IsNesting s kind old t st
     → Keeps old new (added_unless old old.nest.is_listed old.nest.from) → IsWriting s new steps.Component
 component-next s kind old new st t rest candidates n keeps =
@@ -170,8 +283,8 @@ component-next s kind old new st t rest candidates n keeps =
     }
 
 -- arguments of the first piece follow
-pub first-opens : (s : List ℕ) (old mid new : Direct) (st : State) (t : Term)
-    → AreCandidates old.text.list.items old.candidates.list.items st.candidates → IsNesting s Kind.NestRest old t st → StandsAt s old.at (73 ∷ [])
+pub first-opens : (s : Symbol) (old mid new : Direct) (st : State) (t : Term)
+    → AreCandidates old.text.list.items old.candidates.list.items st.candidates → IsNesting s Kind.NestRestAlone old t st → StandsAt s.bytes old.at (73 ∷ [])
     → Keeps old mid (added_unless old old.nest.is_listed old.nest.from) → OpensArguments mid new (opens.FirstArguments mid.nest)
     → IsWriting s new (steps.List true)
 unfolding inside
@@ -199,14 +312,14 @@ first-opens s old mid new st t candidates n here keeps opening_ =
 -- ## The end of a nested name
 
 -- a name that ends comes outside
-pub nest-comes : (s : List ℕ) (old : Direct) (st : State) (t : Term) (n : IsNesting s Kind.NestTail old t st) → StandsAt s old.at (69 ∷ [])
+pub nest-comes : (s : Symbol) (old : Direct) (st : State) (t : Term) (n : IsNesting s Kind.NestTail old t st) → StandsAt s.bytes old.at (69 ∷ [])
     → Comes s n.outer (tree t old.nest.is_listed) (old.at + 1) st
 nest-comes s old st t n here = n.goes.passes (tree t old.nest.is_listed) (old.at + 1) st
     (nest-end s n.goes.inner n.around t old.nest.is_listed old.at st n.goes.awaits here)
 
 -- it is a type
-pub type-ended : (s : List ℕ) (old new : Direct) (st : State) (t : Term)
-    → AreCandidates old.text.list.items old.candidates.list.items st.candidates → IsNesting s Kind.NestTail old t st → StandsAt s old.at (69 ∷ [])
+pub type-ended : (s : Symbol) (old new : Direct) (st : State) (t : Term)
+    → AreCandidates old.text.list.items old.candidates.list.items st.candidates → IsNesting s Kind.NestTail old t st → StandsAt s.bytes old.at (69 ∷ [])
     → old.nest.purpose ≡ purposes.Type → Keeps (record old { at = old.at + 1 }) new (added_unless old old.nest.is_listed old.nest.from)
     → IsWriting s new (steps.Value false)
 type-ended s old new st t candidates n here is_type keeps =
@@ -234,11 +347,11 @@ type-ended s old new st t candidates n here is_type keeps =
     }
 
 -- it is the name of the encoding
-pub name-comes : (s : List ℕ) (old : Direct) (st : State) (t : Term) (mark : Mark)
+pub name-comes : (s : Symbol) (old : Direct) (st : State) (t : Term) (mark : Mark)
     → AreCandidates old.text.list.items old.candidates.list.items st.candidates → IsNesting s Kind.NestTail old t st
     → (old.nest.is_instance ≡ false → has_return_type t ≡ false) → (old.nest.is_instance ≡ true → has_return_type t ≡ true)
     → (old.nest.is_instance ≡ true → HasArguments old.text.list.items old.argument t)
-    → StandsAt s old.at (69 ∷ [])
+    → StandsAt s.bytes old.at (69 ∷ [])
     → old.nest.purpose ≡ purposes.Name mark → IsNameEnded s (record old { at = old.at + 1 }) mark old.nest.is_instance old.nest.from
 unfolding tree_of qualifiers_of ref_of
 name-comes s old st t mark candidates n no_return returns names here is_name =
@@ -263,7 +376,7 @@ name-comes s old st t mark candidates n no_return returns names here is_name =
     }
 
 -- the E of one that an operator ends
-pub operator-ends : (s : List ℕ) (w : Direct) (mark : Mark) → IsOperatorRead s w → StandsAt s w.at (69 ∷ [])
+pub operator-ends : (s : Symbol) (w : Direct) (mark : Mark) → IsOperatorRead s w → StandsAt s.bytes w.at (69 ∷ [])
     → w.nest.purpose ≡ purposes.Name mark → IsNameEnded s (record w { at = w.at + 1 }) mark false w.nest.from
 unfolding may_be_empty tree_of qualifiers_of ref_of
 operator-ends s w mark p here is_name =
@@ -329,10 +442,10 @@ classless-nest front bytes nest t from_is class_from class_to none prints = reco
 }
 
 -- the rest is expected behind a first piece
-nest-begins : (s : List ℕ) (old new : Direct) (purpose : Purpose) (a : AwaitsNest s old purpose) (t : Term) (bytes : List ℕ)
+nest-begins : (s : Symbol) (old new : Direct) (purpose : Purpose) (a : AwaitsNest s old purpose) (t : Term) (bytes : List ℕ)
     → new.text.list.items ≡ old.text.list.items ++ bytes → new.candidates ≡ old.candidates → new.waiting ≡ old.waiting → new.nest.purpose ≡ purpose
     → IsNest old.text.list.items bytes (old.text.list.items ++ bytes) new.nest t
-    → NestGoesOn s Kind.NestRest a.outer a.around t new.nest.is_listed new.at a.state
+    → NestGoesOn s Kind.NestRestAlone a.outer a.around t new.nest.is_listed new.at a.state
     → IsWriting s new steps.Rest
 nest-begins s old new purpose a t bytes text_is candidates_are waiting_is purpose_is is_nest goes = record {
   state = a.state;
@@ -355,6 +468,30 @@ nest-begins s old new purpose a t bytes text_is candidates_are waiting_is purpos
   );
 }
 
+-- and behind one that an S stands for
+known-begins : (s : Symbol) (old new : Direct) (purpose : Purpose) (a : AwaitsNest s old purpose) (t : Term) (bytes : List ℕ)
+    → new.text.list.items ≡ old.text.list.items ++ bytes → new.candidates ≡ old.candidates → new.waiting ≡ old.waiting → new.nest.purpose ≡ purpose
+    → IsNest old.text.list.items bytes (old.text.list.items ++ bytes) new.nest t → new.nest.is_listed ≡ true → new.nest.has_class ≡ false
+    → NestKnown s a.outer a.around t new.at a.state → IsNestKnown s new
+known-begins s old new purpose a t bytes text_is candidates_are waiting_is purpose_is is_nest listed classless known = record {
+  state = a.state;
+  candidates = subst (λ l. AreCandidates l new.candidates.list.items a.state.candidates) (sym text_is)
+      (subst (λ k. AreCandidates (old.text.list.items ++ bytes) k.list.items a.state.candidates) (sym candidates_are)
+      (candidates-stay old.text.list.items bytes old.candidates.list.items a.state.candidates a.candidates));
+  around = a.around;
+  outer = a.outer;
+  own = t;
+  known = known;
+  front = old.text.list.items;
+  bytes = bytes;
+  written = text_is;
+  is_nest = subst (λ l. IsNest old.text.list.items bytes l new.nest t) (sym text_is) is_nest;
+  listed = listed;
+  classless = classless;
+  serves = subst (λ p. Serves s p (Stands s (reverse new.waiting.list.items)) a.outer old.text.list.items) (sym purpose_is)
+      (subst (λ o. Serves s purpose (Stands s (reverse o.list.items)) a.outer old.text.list.items) (sym waiting_is) a.serves);
+}
+
 -- a nest whose class is written at these places
 abbrev pub nest_of : (from class_from class_to : ℕ) → Purpose → (is_listed has_class : Bool) → Nest
 nest_of from class_from class_to purpose is_listed has_class = record {
@@ -368,8 +505,8 @@ nest_of from class_from class_to purpose is_listed has_class = record {
 }
 
 -- a name begins a nested one
-pub source-begins : (s : List ℕ) (old mid : Direct) (purpose : Purpose) (name : List ℕ) → AwaitsNest s old purpose
-    → IsNameAt s old.at name mid.at → name ≢ [] → Reads old mid (source_text name) → (from to : ℕ)
+pub source-begins : (s : Symbol) (old mid : Direct) (purpose : Purpose) (name : List ℕ) → AwaitsNest s old purpose
+    → IsNameAt s.bytes old.at name mid.at → name ≢ [] → Reads old mid (source_text name) → (from to : ℕ)
     → from ≡ length old.text.list.items → to ≡ length mid.text.list.items
     → IsWriting s (record mid { nest = nest_of from from to purpose false true }) steps.Rest
 source-begins s old mid purpose name a is filled reads from to from_is to_is =
@@ -411,25 +548,25 @@ abbreviation-letter letter there =
     (97, refl, refl, (98, refl, refl, (115, refl, refl, (105, refl, refl, (111, refl, refl, (100, refl, refl, tt)))))) there
 
 -- an abbreviation begins a nested name
-pub abbreviation-begins : (s : List ℕ) (old mid : Direct) (purpose : Purpose) (letter : ℕ) → AwaitsNest s old purpose → StandsAt s old.at (83 ∷ [])
-    → (letter ≢ 0 → StandsAt s (old.at + 1) (letter ∷ [])) → look_up (letter ∷ []) abbreviation_texts ≢ []
+pub abbreviation-begins : (s : Symbol) (old mid : Direct) (purpose : Purpose) (letter : ℕ) → AwaitsNest s old purpose → StandsAt s.bytes old.at (83 ∷ [])
+    → (letter ≢ 0 → StandsAt s.bytes (old.at + 1) (letter ∷ [])) → look_up (letter ∷ []) abbreviation_texts ≢ []
     → mid.text.list.items ≡ old.text.list.items ++ look_up (letter ∷ []) abbreviation_texts → mid.candidates ≡ old.candidates → mid.waiting ≡ old.waiting
     → mid.at ≡ old.at + 1 + 1 → (from : ℕ) → from ≡ length old.text.list.items
-    → IsWriting s (record mid { nest = nest_of from from from purpose true false }) steps.Rest
+    → IsNestKnown s (record mid { nest = nest_of from from from purpose true false })
 unfolding look_up abbreviation_texts same_bytes
 abbreviation-begins s old mid purpose letter a here behind there text_is candidates_are waiting_is at_is from from_is =
     let nest = nest_of from from from purpose true false in
     let t : Term = abbreviation letter in
     let bytes = look_up (letter ∷ []) abbreviation_texts in
     let some : letter ≢ 0 = λ e. there (ap (λ l. look_up (l ∷ []) abbreviation_texts) e) in
-    nest-begins s old (record mid { nest = nest }) purpose a t bytes text_is candidates_are waiting_is refl
+    known-begins s old (record mid { nest = nest }) purpose a t bytes text_is candidates_are waiting_is refl
     (classless-nest old.text.list.items bytes nest t from_is from_is from_is refl (abbreviation-prints letter there))
-    (subst (λ n. NestGoesOn s Kind.NestRest a.outer a.around t true n a.state) (omega (arith, at_is))
-    (nest-abbreviation s a.outer a.around old.at a.state letter a.awaits (stands-join s old.at (83 ∷ []) (letter ∷ []) here (behind some))
+    refl refl (subst (λ n. NestKnown s a.outer a.around t n a.state) (omega (arith, at_is))
+    (nest-abbreviation s a.outer a.around old.at a.state letter a.awaits (stands-join s.bytes old.at (83 ∷ []) (letter ∷ []) here (behind some))
     (abbreviation-letter letter there)))
 
 -- what a candidate says of the text
-pub candidate-text : (s : List ℕ) (w : Direct) (purpose : Purpose) (a : AwaitsNest s w purpose) (n : ℕ) (k : Candidate)
+pub candidate-text : (s : Symbol) (w : Direct) (purpose : Purpose) (a : AwaitsNest s w purpose) (n : ℕ) (k : Candidate)
     → k.from ≤ k.to → slice_get w.candidates.list.items n ≡ Some k → (k.from ≤ k.to) × (k.to ≤ length w.text.list.items)
 candidate-text s w purpose a n k ordered found =
     let one = candidate-found w.text.list.items w.candidates.list.items a.state.candidates n k a.candidates ordered found in
@@ -438,12 +575,12 @@ candidate-text s w purpose a n k ordered found =
     (piece.0, piece.1)
 
 -- a reference begins a nested name
-pub reference-begins : (s : List ℕ) (old mid : Direct) (purpose : Purpose) (digits : List ℕ) (k : Candidate) → AwaitsNest s old purpose
-    → StandsAt s old.at (83 ∷ []) → IsSeqAt s (old.at + 1) digits mid.at
+pub reference-begins : (s : Symbol) (old mid : Direct) (purpose : Purpose) (digits : List ℕ) (k : Candidate) → AwaitsNest s old purpose
+    → StandsAt s.bytes old.at (83 ∷ []) → IsSeqAt s.bytes (old.at + 1) digits mid.at
     → k.from ≤ k.to → slice_get old.candidates.list.items (counted_value Seq36 digits) ≡ Some k → k.is_reference ≡ false
     → mid.text.list.items ≡ old.text.list.items ++ take (k.to - k.from) (drop k.from old.text.list.items) → mid.candidates ≡ old.candidates
     → mid.waiting ≡ old.waiting → (from : ℕ) → from ≡ length old.text.list.items
-    → IsWriting s (record mid { nest = nest_of from from from purpose true false }) steps.Rest
+    → IsNestKnown s (record mid { nest = nest_of from from from purpose true false })
 reference-begins s old mid purpose digits k a here is ordered found plain text_is candidates_are waiting_is from from_is =
     let nest = nest_of from from from purpose true false in
     let one = candidate-found old.text.list.items old.candidates.list.items a.state.candidates (counted_value Seq36 digits) k a.candidates ordered found in
@@ -451,13 +588,13 @@ reference-begins s old mid purpose digits k a here is ordered found plain text_i
     let it = one.2 in
     let piece = piece-found old.text.list.items it.front it.bytes it.back k.from k.to it.written it.from_is it.to_is in
     let prints = subst (λ b. Prints c.tree it.bytes b) plain it.prints in
-    nest-begins s old (record mid { nest = nest }) purpose a c.tree it.bytes (text_is ∙ ap (λ l. old.text.list.items ++ l) piece.2) candidates_are
+    known-begins s old (record mid { nest = nest }) purpose a c.tree it.bytes (text_is ∙ ap (λ l. old.text.list.items ++ l) piece.2) candidates_are
     waiting_is refl (classless-nest old.text.list.items it.bytes nest c.tree from_is from_is from_is refl prints)
-    (nest-substitution s a.outer a.around old.at a.state digits mid.at c a.awaits here is one.1 prints.is_closed prints.packless)
+    refl refl (nest-substitution s a.outer a.around old.at a.state digits mid.at c a.awaits here is one.1 prints.is_closed prints.packless)
 
 -- a name in std begins a nested one
-pub std-begins : (s : List ℕ) (old mid : Direct) (purpose : Purpose) (before : ℕ) (name : List ℕ)
-    → AwaitsNest s (record old { at = before }) purpose → StandsAt s before (83 ∷ 116 ∷ []) → IsNameAt s (before + 2) name mid.at → name ≢ []
+pub std-begins : (s : Symbol) (old mid : Direct) (purpose : Purpose) (before : ℕ) (name : List ℕ)
+    → AwaitsNest s (record old { at = before }) purpose → StandsAt s.bytes before (83 ∷ 116 ∷ []) → IsNameAt s.bytes (before + 2) name mid.at → name ≢ []
     → mid.text.list.items ≡ old.text.list.items ++ codes "std::" ++ source_text name → mid.candidates ≡ old.candidates → mid.waiting ≡ old.waiting
     → (from class_from to : ℕ) → from ≡ length old.text.list.items → class_from ≡ length (old.text.list.items ++ codes "std::") → to ≡ length mid.text.list.items
     → IsNestNamed s (record mid { nest = nest_of from class_from to purpose false true })
@@ -479,10 +616,20 @@ std-begins s old mid purpose before name a here is filled text_is candidates_are
       front = old.text.list.items;
       bytes = bytes;
       written = written;
-      is_nest = subst (λ l. IsNest old.text.list.items bytes l nest t) (sym written)
-          (class-nest old.text.list.items (codes "std::") (source_text name) nest t from_is class_from_is
-          (omega (arith, to_is, ap length text_is, length-append (old.text.list.items ++ codes "std::") (source_text name)))
-          (std-prints false name filled) (std-class false name filled));
+      is_nest = record {
+        back = [];
+        written = written ∙ sym (append-nil (old.text.list.items ++ bytes));
+        from_is = from_is;
+        prints = std-prints false name filled;
+        class_front = old.text.list.items ++ codes "std::";
+        class = source_text name;
+        class_back = [];
+        class_written = text_is ∙ sym (append-nil (old.text.list.items ++ codes "std::" ++ source_text name));
+        class_from = class_from_is;
+        class_to = omega (arith, to_is, ap length text_is, length-append (old.text.list.items ++ codes "std::") (source_text name));
+        names_class = λ e. std-class false name filled;
+      };
+      names_tagged = λ e tag. std-tagged false name filled tag;
       unlisted = refl;
       no_instance = refl;
       no_return = refl;
@@ -492,7 +639,7 @@ std-begins s old mid purpose before name a here is filled text_is candidates_are
     }
 
 -- what opening arguments says where there was memory
-pub opened-by : (s : List ℕ) (r : Option Step) (old new : Direct) (owner : Open) → IfSome r (λ next. next ≡ steps.List true)
+pub opened-by : (s : Symbol) (r : Option Step) (old new : Direct) (owner : Open) → IfSome r (λ next. next ≡ steps.List true)
     → OnSome r (new.waiting.list.items ≡ old.waiting.list.items ++ owner ∷ []) → OnSome r (new.at ≡ old.at + 1)
     → OnSome r (new.text.list.items ≡ old.text.list.items ++ codes "<") → OnSome r (new.candidates ≡ old.candidates)
     → (OpensArguments old new owner → IsWriting s new (steps.List true)) → IfSome r (IsWriting s new)

@@ -8,7 +8,7 @@ use Rattle.cpp_grammar.specs.References.{is_function_type}
 use Rattle.cpp_grammar.specs.Texts.{look_up, operator_texts}
 use Rattle.cpp_grammar.specs.Items.{left, right, base, piece, first, Context, head_with, head, is_reference, is_funarr, is_empty}
 use Rattle.cpp_grammar.specs.Meaning.{is_void}
-use Rattle.cpp_grammar.specs.Parts.{as_item, says, list_part, source_text, prefix_item, last_piece, opening_text, piece_parts, within_parts, base_within, instance_parts, left_parts, right_parts, base_parts, parts_in, not_empty, is_plain_integer}
+use Rattle.cpp_grammar.specs.Parts.{as_item, says, list_part, source_text, prefix_item, last_piece, opening_text, piece_parts, within_parts, base_within, base_tagged_within, instance_parts, left_parts, right_parts, base_parts, parts_in, not_empty, is_plain_integer}
 use Rattle.cpp_direct.specs.Names.{is_angle, operator_text}
 use Rattle.cpp_direct.specs.Prints.{in_form, Prints, PrintsName, NamesClass, PrintAll}
 use Rattle.cpp_direct.specs.Stands.{IsTail, list_with}
@@ -28,6 +28,7 @@ pub record IsPiece (p : Term) (x : List ℕ) : Type 0 where
   pub piece_cost : (context : Context) → cost_of (in_form piece context p) ≡ 1 + length x
   pub within_is : (context : Context) (t : Term) → within_parts context t p ≡ prefix_item context t ∷ says "::" ∷ as_item piece context p ∷ []
   pub base_is : (context : Context) (t : Term) → base_within context t p ≡ text x ∷ []
+  pub tagged_is : (context : Context) (t : Term) → base_tagged_within context t p ≡ text x ∷ []
   pub filled : 1 ≤ length x
   pub is_closed : is_open p ≡ false
   pub packless : (scope : Term) → pack_length scope p ≡ None
@@ -35,12 +36,13 @@ pub record IsPiece (p : Term) (x : List ℕ) : Type 0 where
 
 -- a source name is one
 pub source-piece : (internal : Bool) (name : List ℕ) → name ≢ [] → IsPiece (source internal name) (source_text name)
-unfolding within_parts base_within piece_parts is_open pack_length is_structor
+unfolding within_parts base_within base_tagged_within piece_parts is_open pack_length is_structor
 source-piece internal name filled = record {
   piece_text = λ c. piece-text c internal name;
   piece_cost = λ c. piece-cost c internal name;
   within_is = λ c t. refl;
   base_is = λ c t. refl;
+  tagged_is = λ c t. refl;
   filled = source-filled name filled;
   is_closed = refl;
   packless = λ scope. refl;
@@ -54,12 +56,13 @@ source-opening internal name = refl
 
 -- and so is an operator
 pub operator-piece : (a b : ℕ) → IsPiece (operator a b) (operator_text a b)
-unfolding within_parts base_within piece_parts is_open pack_length is_structor
+unfolding within_parts base_within base_tagged_within piece_parts is_open pack_length is_structor
 operator-piece a b = record {
   piece_text = λ c. operator-text c a b;
   piece_cost = λ c. operator-cost c a b;
   within_is = λ c t. refl;
   base_is = λ c t. refl;
+  tagged_is = λ c t. refl;
   filled = omega (arith, length-append (codes "operator") (look_up (a ∷ b ∷ []) operator_texts));
   is_closed = refl;
   packless = λ scope. refl;

@@ -1,5 +1,5 @@
 -- What a parameter of a template may name, and where it stands.
-use Rattle.std.proofs.Common.{◌≡◌, ℕ, zero, suc, ◌≤◌, ◌<◌, List, [], ◌∷◌, ◌++◌, slice_get, Some, None, arith, ap, sym, ◌∙◌, subst, append_assoc}
+use Rattle.std.proofs.Common.{◌≡◌, ℕ, zero, suc, ◌<◌, List, [], ◌∷◌, ◌++◌, slice_get, Some, None, arith, ap, sym, ◌∙◌, subst, append_assoc}
 use Rattle.cpp_grammar.specs.Scope.{count, element}
 use Rattle.cpp_grammar.specs.Term.{Term}
 use Rattle.cpp_grammar.specs.Values.{Around}
@@ -8,7 +8,7 @@ use Rattle.cpp_direct.specs.declared.open.Open.{Open}
 use Rattle.cpp_direct.specs.declared.open.Open.TheVariants as opens
 use Rattle.cpp_direct.specs.declared.open.Argument.{Argument}
 use Rattle.cpp_direct.specs.declared.open.Arguments.{Arguments}
-use Rattle.cpp_direct.specs.Stands.{IsPlaced, IsAmong, AreAmong, IsArgument, IsEnclosing, HasArguments, HasScope, IsFunction, IsKnown, IsScope, IsScoped, argument_of, list_with, nowhere, place_of}
+use Rattle.cpp_direct.specs.Stands.{IsPlaced, IsAmong, AreAmong, IsEnclosing, HasArguments, HasScope, IsFunction, IsKnown, IsScoped, argument_of, list_with, nowhere, place_of}
 use Rattle.cpp_direct.specs.Ways.{AreKnown}
 
 -- what stands at a place stays there where more is written

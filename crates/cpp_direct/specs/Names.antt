@@ -1,5 +1,5 @@
 -- Names: what is read of their length, and where their own bytes stand. Operators: where their codes stand, and their names.
-use Rattle.std.specs.Prelude.{◌≡◌, ◌≢◌, ℕ, ◌+◌, ◌-◌, ◌≤◌, ◌<◌, List, [], ◌∷◌, ◌++◌, ◌||◌, length, take, drop, Bool, codes}
+use Rattle.std.specs.Prelude.{◌≡◌, ◌≢◌, ℕ, ◌+◌, ◌-◌, ◌≤◌, ◌<◌, List, [], ◌∷◌, ◌++◌, ◌||◌, ◌⊎◌, length, take, drop, Bool, true, codes}
 use Rattle.sym_core.specs.declared.NumberKind.TheVariants.{Length}
 use Rattle.sym_core.specs.declared.NameClass.TheVariants.{Cpp}
 use Rattle.sym_core.specs.Number.{AreDigitsOf, FitsSymbol}
@@ -36,6 +36,18 @@ is_angle first second = same_bytes (first ∷ second ∷ []) (codes "ls") || sam
 -- the name of an operator
 abbrev pub operator_text : (first second : ℕ) → List ℕ
 operator_text first second = codes "operator" ++ look_up (first ∷ second ∷ []) operator_texts
+
+-- The digit of a constructor: 1, 2 or 3, and by the wide grammar 4 or 5.
+abbrev pub IsConstructorDigit : (is_wide : Bool) → (digit : ℕ) → Type 0
+IsConstructorDigit is_wide digit = ((49 ≤ digit) × (digit ≤ 51)) ⊎ ((is_wide ≡ true) × ((digit ≡ 52) ⊎ (digit ≡ 53)))
+
+-- That of a destructor: 0, 1 or 2, and by the wide grammar 4 or 5.
+abbrev pub IsDestructorDigit : (is_wide : Bool) → (digit : ℕ) → Type 0
+IsDestructorDigit is_wide digit = ((48 ≤ digit) × (digit ≤ 50)) ⊎ ((is_wide ≡ true) × ((digit ≡ 52) ⊎ (digit ≡ 53)))
+
+-- the text of a tag
+abbrev pub tag_text : (tag : List ℕ) → List ℕ
+tag_text tag = codes "[abi:" ++ tag ++ codes "]"
 
 -- A name stands at the place, and its own bytes are those from here to there.
 pub record IsNamePlace (s : List ℕ) (at : ℕ) (place : NamePlace) : Type 0 where

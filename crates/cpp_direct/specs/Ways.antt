@@ -1,13 +1,14 @@
 -- Where a writer is between two of its functions, within a step.
-use Rattle.std.specs.Prelude.{◌≡◌, ◌≢◌, ◌⊎◌, ℕ, zero, suc, ◌+◌, List, [], ◌∷◌, ◌++◌, length, reverse, ◌≤◌, Bool, true, false, cond, Some, codes}
+use Rattle.std.specs.Prelude.{◌≡◌, ◌≢◌, ◌⊎◌, ℕ, zero, suc, ◌+◌, List, [], ◌∷◌, ◌++◌, length, reverse, Bool, true, false, cond, Some, codes}
 use Rattle.cpp_grammar.specs.declared.kind.Kind.{Kind}
 use Rattle.cpp_grammar.specs.Term.{Term, Signed, instance, builtin, list, nil}
 use Rattle.cpp_grammar.specs.Texts.{look_up, builtin_texts, literal_endings}
 use Rattle.cpp_grammar.specs.Parts.{is_plain_integer, types_of}
 use Rattle.cpp_grammar.specs.Scope.{has_return_type, is_structor}
-use Rattle.cpp_grammar.specs.Between.{after, in_name}
+use Rattle.cpp_grammar.specs.Between.{after, in_name, with_tag}
 use Rattle.cpp_grammar.specs.Meaning.{encoding_of}
 use Rattle.cpp_grammar.specs.Values.{State, Around, Value, nothing_there, tree, outermost, tree_of, qualifiers_of, ref_of}
+use Rattle.cpp_direct.specs.Symbol.{Symbol}
 use Rattle.cpp_direct.specs.declared.open.Mark.{Mark}
 use Rattle.cpp_direct.specs.declared.open.Mark.TheVariants as marks
 use Rattle.cpp_direct.specs.declared.open.Purpose.{Purpose}
@@ -17,11 +18,12 @@ use Rattle.cpp_direct.specs.declared.open.Arguments.{Arguments}
 use Rattle.cpp_direct.specs.declared.open.Open.TheVariants as opens
 use Rattle.cpp_direct.specs.declared.direct.Direct.{Direct}
 use Rattle.cpp_direct.specs.Bytes.{is_local}
-use Rattle.cpp_direct.specs.Holes.{Opened, StandsAt, Comes, Expects, IsReferable, IsTyped, TypeNamed, NestNamed, with_candidate}
+use Rattle.cpp_direct.specs.Holes.{Opened, StandsAt, Comes, Expects, IsReferable, IsTyped, TypeNamed, NestNamed, bare_name, with_candidate}
 use Rattle.cpp_direct.specs.HolesOfFunctions.{SignatureGoesOn, plain_function, pointed, with_pointed}
+use Rattle.cpp_direct.specs.HolesOfNests.{NestKnown}
 use Rattle.cpp_direct.specs.HolesOfTypes.{IsNamedKind, NoReference, TreeOpens}
 use Rattle.cpp_direct.specs.Marks.{has_const, called_on, mark_text}
-use Rattle.cpp_direct.specs.Prints.{Prints, PrintsName, IsElement, PrintAll, Shows, Encloses, sign_text, PrintsIn, PrintsBehind}
+use Rattle.cpp_direct.specs.Prints.{NamesClass, Prints, PrintsName, IsElement, PrintAll, Shows, Encloses, sign_text, PrintsIn, PrintsBehind}
 use Rattle.cpp_direct.specs.Stands.{AreCandidates, AwaitsItems, Encoded, EncodedBehind, IsEnclosing, IsFunction, IsInstance, IsListing, IsNest, IsTail, IsTemplate, GoesOn, EnumeratorGoesOn, ItemsGoOn, LambdaWithin, Owns, ParametersGoOn, Serves, Stands, TypeWithin, TakesFunction, opening_text, qualifiers, extra_of, led_by, list_with, in_front_of_next, IsPlaced, IsAmong, AreAmong, HasArguments, IsKnown, IsScoped, argument_of, place_of, nowhere, packed, of_pack, IsPlain, ArgumentsGoOn}
 
 -- the digits behind the T of a parameter with this number
@@ -43,7 +45,7 @@ pub record IsFresh (w : Direct) : Type 0 where
   pub none_open : w.waiting.list.items ≡ []
 
 -- an encoding is expected behind what is written
-pub record AwaitsEncoding (s : List ℕ) (w : Direct) : Type 0 where
+pub record AwaitsEncoding (s : Symbol) (w : Direct) : Type 0 where
   pub state : State
   pub candidates : AreCandidates w.text.list.items w.candidates.list.items state.candidates
   pub around : Around
@@ -52,21 +54,22 @@ pub record AwaitsEncoding (s : List ℕ) (w : Direct) : Type 0 where
   pub onward : (e : Term) (at : ℕ) (st : State) → Comes s outer (tree e true) at st → EncodedBehind s w.text.list.items e at
 
 -- the name of an encoding that began before is expected, behind the L of internal linkage or without
-pub record AwaitsSource (s : List ℕ) (w : Direct) (is_internal : Bool) : Type 0 where
+pub record AwaitsSource (s : Symbol) (w : Direct) (is_internal : Bool) : Type 0 where
   pub before : ℕ
   pub awaits : AwaitsEncoding s (record w { at = before })
-  pub letter : is_internal ≡ true → StandsAt s before (76 ∷ [])
+  pub letter : is_internal ≡ true → StandsAt s.bytes before (76 ∷ [])
   pub at_is : w.at ≡ before + cond is_internal 1 0
 
--- the name of an encoding was read behind a text, with or without arguments behind it
-pub record HasName (s : List ℕ) (lead : List ℕ) (encoding : ℕ) (t : Term) (at : ℕ) (st : State) : Type 0 where
+-- the name of an encoding was read behind a text, with or without arguments behind it, or tags
+pub record HasName (s : Symbol) (lead : List ℕ) (encoding : ℕ) (t : Term) (at : ℕ) (st : State) : Type 0 where
   pub inner : List Opened
   pub awaits : Expects s Kind.MaybeArguments (after t false (in_name encoding)) inner at st
   pub bare : (at : ℕ) (st : State) → Comes s inner nothing_there at st → AwaitsItems s lead (tree t false) at st
   pub argued : (a : Term) (at : ℕ) (st : State) → Comes s inner (tree a true) at st → AwaitsItems s lead (tree (instance t a) false) at st
+  pub renamed : (u : Term) (at : ℕ) (st : State) → Comes s inner (bare_name u) at st → AwaitsItems s lead (tree u false) at st
 
 -- The name of an encoding that stands in no class was read, and written from a place on. It takes arguments behind it, or may have none.
-pub record IsUnscoped (s : List ℕ) (w : Direct) (from : ℕ) (takes : Bool) : Type 0 where
+pub record IsUnscoped (s : Symbol) (w : Direct) (from : ℕ) (takes : Bool) : Type 0 where
   pub state : State
   pub candidates : AreCandidates w.text.list.items w.candidates.list.items state.candidates
   pub encoding : ℕ
@@ -82,12 +85,12 @@ pub record IsUnscoped (s : List ℕ) (w : Direct) (from : ℕ) (takes : Bool) : 
   pub no_structor : is_structor own ≡ false
 
 -- a type is expected
-pub record AwaitsType (s : List ℕ) (w : Direct) : Type 0 where
+pub record AwaitsType (s : Symbol) (w : Direct) : Type 0 where
   pub state : State
   pub candidates : AreCandidates w.text.list.items w.candidates.list.items state.candidates
   pub kind : Kind
   pub typed : IsTyped kind
-  pub referable : IsReferable kind ⊎ NoReference s w.at
+  pub referable : IsReferable kind ⊎ NoReference s.bytes w.at
   pub around : Around
   pub outside : around.prefix ≡ outermost
   pub os : List Opened
@@ -96,7 +99,7 @@ pub record AwaitsType (s : List ℕ) (w : Direct) : Type 0 where
   pub scoped : IsScoped around (reverse w.waiting.list.items)
 
 -- a type is expected that is a name
-pub record AwaitsNamedType (s : List ℕ) (w : Direct) : Type 0 where
+pub record AwaitsNamedType (s : Symbol) (w : Direct) : Type 0 where
   pub state : State
   pub candidates : AreCandidates w.text.list.items w.candidates.list.items state.candidates
   pub kind : Kind
@@ -108,7 +111,7 @@ pub record AwaitsNamedType (s : List ℕ) (w : Direct) : Type 0 where
   pub stands : Stands s (reverse w.waiting.list.items) os w.text.list.items
 
 -- the name of a type was read, which is a candidate already or not, and was written from a place on
-pub record IsTypeNamed (s : List ℕ) (w : Direct) (from : ℕ) (is_listed is_reference : Bool) : Type 0 where
+pub record IsTypeNamed (s : Symbol) (w : Direct) (from : ℕ) (is_listed is_reference : Bool) : Type 0 where
   pub state : State
   pub candidates : AreCandidates w.text.list.items w.candidates.list.items state.candidates
   pub around : Around
@@ -125,7 +128,7 @@ pub record IsTypeNamed (s : List ℕ) (w : Direct) (from : ℕ) (is_listed is_re
   pub stands : Stands s (reverse w.waiting.list.items) outer front
 
 -- A type was read that what waits for it marks. It was written from a place on, but for its mark.
-pub record AwaitsMark (s : List ℕ) (w : Direct) (mark : List ℕ) (from : ℕ) (is_reference : Bool) : Type 0 where
+pub record AwaitsMark (s : Symbol) (w : Direct) (mark : List ℕ) (from : ℕ) (is_reference : Bool) : Type 0 where
   pub state : State
   pub candidates : AreCandidates w.text.list.items w.candidates.list.items state.candidates
   pub entry : Open
@@ -143,7 +146,7 @@ pub record AwaitsMark (s : List ℕ) (w : Direct) (mark : List ℕ) (from : ℕ)
   pub stands : Stands s rest outer front
 
 -- A type that names the argument of the function's template was read, and what waits for it marks it. It was written, but for its mark.
-pub record AwaitsDependentMark (s : List ℕ) (w : Direct) (mark : List ℕ) (is_reference : Bool) : Type 0 where
+pub record AwaitsDependentMark (s : Symbol) (w : Direct) (mark : List ℕ) (is_reference : Bool) : Type 0 where
   pub state : State
   pub candidates : AreCandidates w.text.list.items w.candidates.list.items state.candidates
   pub entry : Open
@@ -166,7 +169,7 @@ pub record AwaitsDependentMark (s : List ℕ) (w : Direct) (mark : List ℕ) (is
   pub stands : Stands s rest outer front
 
 -- An argument of a name was read, which is a type, behind so many others.
-pub record IsArgumentRead (s : List ℕ) (w : Direct) (from number : ℕ) (known : Arguments) (is_reference : Bool) : Type 0 where
+pub record IsArgumentRead (s : Symbol) (w : Direct) (from number : ℕ) (known : Arguments) (is_reference : Bool) : Type 0 where
   pub state : State
   pub candidates : AreCandidates w.text.list.items w.candidates.list.items state.candidates
   pub owner : Open
@@ -189,7 +192,7 @@ pub record IsArgumentRead (s : List ℕ) (w : Direct) (from number : ℕ) (known
   pub goes : ArgumentsGoOn s owner (Stands s rest) front template (ts ++ t ∷ []) w.at state
 
 -- A type is expected as an argument of a name, behind these and so many, of which some are known.
-pub record AwaitsKnownArgument (s : List ℕ) (w : Direct) (before : ℕ) (known : Arguments) : Type 0 where
+pub record AwaitsKnownArgument (s : Symbol) (w : Direct) (before : ℕ) (known : Arguments) : Type 0 where
   pub state : State
   pub candidates : AreCandidates w.text.list.items w.candidates.list.items state.candidates
   pub owner : Open
@@ -209,7 +212,7 @@ pub record AwaitsKnownArgument (s : List ℕ) (w : Direct) (before : ℕ) (known
   pub goes : ArgumentsGoOn s owner (Stands s rest) front template ts w.at state
 
 -- The first element of a pack was read, which is the first argument of a name.
-pub record IsPackElementRead (s : List ℕ) (w : Direct) (from : ℕ) (is_reference : Bool) : Type 0 where
+pub record IsPackElementRead (s : Symbol) (w : Direct) (from : ℕ) (is_reference : Bool) : Type 0 where
   pub state : State
   pub candidates : AreCandidates w.text.list.items w.candidates.list.items state.candidates
   pub owner : Open
@@ -227,7 +230,7 @@ pub record IsPackElementRead (s : List ℕ) (w : Direct) (from : ℕ) (is_refere
   pub goes : GoesOn s (of_pack [] []) owner (Stands s rest) front template (t ∷ []) w.at state
 
 -- the first piece of a nested name is expected
-pub record AwaitsNest (s : List ℕ) (w : Direct) (purpose : Purpose) : Type 0 where
+pub record AwaitsNest (s : Symbol) (w : Direct) (purpose : Purpose) : Type 0 where
   pub state : State
   pub candidates : AreCandidates w.text.list.items w.candidates.list.items state.candidates
   pub around : Around
@@ -236,8 +239,24 @@ pub record AwaitsNest (s : List ℕ) (w : Direct) (purpose : Purpose) : Type 0 w
   pub awaits : Expects s Kind.Nest around outer w.at state
   pub serves : Serves s purpose (Stands s (reverse w.waiting.list.items)) outer w.text.list.items
 
--- A component of a nested name was read, or a name in std. Arguments may stand behind it.
-pub record IsNestNamed (s : List ℕ) (w : Direct) : Type 0 where
+-- A name that an S stands for was read at the front of a nested one.
+pub record IsNestKnown (s : Symbol) (w : Direct) : Type 0 where
+  pub state : State
+  pub candidates : AreCandidates w.text.list.items w.candidates.list.items state.candidates
+  pub around : Around
+  pub outer : List Opened
+  pub own : Term
+  pub known : NestKnown s outer around own w.at state
+  pub front : List ℕ
+  pub bytes : List ℕ
+  pub written : w.text.list.items ≡ front ++ bytes
+  pub is_nest : IsNest front bytes w.text.list.items w.nest own
+  pub listed : w.nest.is_listed ≡ true
+  pub classless : w.nest.has_class ≡ false
+  pub serves : Serves s w.nest.purpose (Stands s (reverse w.waiting.list.items)) outer front
+
+-- A component of a nested name was read, or a name in std. Arguments may stand behind it, or tags.
+pub record IsNestNamed (s : Symbol) (w : Direct) : Type 0 where
   pub state : State
   pub candidates : AreCandidates w.text.list.items w.candidates.list.items state.candidates
   pub around : Around
@@ -248,6 +267,7 @@ pub record IsNestNamed (s : List ℕ) (w : Direct) : Type 0 where
   pub bytes : List ℕ
   pub written : w.text.list.items ≡ front ++ bytes
   pub is_nest : IsNest front bytes w.text.list.items w.nest own
+  pub names_tagged : w.nest.has_class ≡ true → (tag : List ℕ) → NamesClass (with_tag own tag) is_nest.class
   pub unlisted : w.nest.is_listed ≡ false
   pub no_instance : w.nest.is_instance ≡ false
   pub no_return : has_return_type own ≡ false
@@ -256,7 +276,7 @@ pub record IsNestNamed (s : List ℕ) (w : Direct) : Type 0 where
   pub serves : Serves s w.nest.purpose (Stands s (reverse w.waiting.list.items)) outer front
 
 -- An operator was read that ends a nested name: no arguments are read behind it.
-pub record IsOperatorRead (s : List ℕ) (w : Direct) : Type 0 where
+pub record IsOperatorRead (s : Symbol) (w : Direct) : Type 0 where
   pub state : State
   pub candidates : AreCandidates w.text.list.items w.candidates.list.items state.candidates
   pub around : Around
@@ -272,7 +292,7 @@ pub record IsOperatorRead (s : List ℕ) (w : Direct) : Type 0 where
   pub serves : Serves s w.nest.purpose (Stands s (reverse w.waiting.list.items)) outer front
 
 -- A constructor or a destructor was read, and was written but for the name of its class.
-pub record AwaitsClass (s : List ℕ) (w : Direct) : Type 0 where
+pub record AwaitsClass (s : Symbol) (w : Direct) : Type 0 where
   pub state : State
   pub candidates : AreCandidates w.text.list.items w.candidates.list.items state.candidates
   pub around : Around
@@ -301,7 +321,7 @@ AreKnown text a ts tail =
     × ((place_of a number).is_pack ≡ true → list_with ts tail ≡ list (packed true h.own) nil)
 
 -- The arguments of what was opened last are read and their E, but for their last bracket. Those that are known stand at their places.
-pub record IsListEnded (s : List ℕ) (w : Direct) (argument : Arguments) : Type 0 where
+pub record IsListEnded (s : Symbol) (w : Direct) (argument : Arguments) : Type 0 where
   pub state : State
   pub candidates : AreCandidates w.text.list.items w.candidates.list.items state.candidates
   pub owner : Open
@@ -321,7 +341,7 @@ pub record IsListEnded (s : List ℕ) (w : Direct) (argument : Arguments) : Type
   pub known : AreKnown w.text.list.items argument ts tail
 
 -- An element is expected, and the comma before it is written.
-pub record AwaitsNextArgument (s : List ℕ) (w : Direct) : Type 0 where
+pub record AwaitsNextArgument (s : Symbol) (w : Direct) : Type 0 where
   pub state : State
   pub candidates : AreCandidates w.text.list.items w.candidates.list.items state.candidates
   pub place : IsListing (reverse w.waiting.list.items) w.text.list.items
@@ -332,7 +352,7 @@ pub record AwaitsNextArgument (s : List ℕ) (w : Direct) : Type 0 where
   pub goes : GoesOn s place.listing place.owner (Stands s place.rest) place.front place.template ts w.at state
 
 -- The type of an enumerator was read, which is an element. Its number is expected.
-pub record AwaitsNumber (s : List ℕ) (w : Direct) : Type 0 where
+pub record AwaitsNumber (s : Symbol) (w : Direct) : Type 0 where
   pub state : State
   pub candidates : AreCandidates w.text.list.items w.candidates.list.items state.candidates
   pub opened : List Open
@@ -349,7 +369,7 @@ pub record AwaitsNumber (s : List ℕ) (w : Direct) : Type 0 where
   pub goes : EnumeratorGoesOn s place.listing place.owner (Stands s place.rest) place.front place.template ts type w.at state
 
 -- The name of an encoding was read and written from a place on, but for its qualifier.
-pub record IsNameEnded (s : List ℕ) (w : Direct) (mark : Mark) (is_instance : Bool) (from : ℕ) : Type 0 where
+pub record IsNameEnded (s : Symbol) (w : Direct) (mark : Mark) (is_instance : Bool) (from : ℕ) : Type 0 where
   pub state : State
   pub candidates : AreCandidates w.text.list.items w.candidates.list.items state.candidates
   pub own : Term
@@ -368,13 +388,13 @@ pub record IsNameEnded (s : List ℕ) (w : Direct) (mark : Mark) (is_instance : 
   pub awaits : AwaitsItems s lead v w.at state
 
 -- The return type of a function was read, and stands behind the function's name.
-pub record IsFrontRead (s : List ℕ) (w : Direct) (mark : Mark) (start : ℕ) (argument : Arguments) : Type 0 where
+pub record IsFrontRead (s : Symbol) (w : Direct) (mark : Mark) (start : ℕ) (argument : Arguments) : Type 0 where
   pub state : State
   pub candidates : AreCandidates w.text.list.items w.candidates.list.items state.candidates
   pub v : Value
   pub name : List ℕ
   pub is_instance : IsInstance argument mark v name
-  pub apart : is_local s ≡ false
+  pub apart : is_local s.bytes ≡ false
   pub start_is : start ≡ length name
   pub returned : Term
   pub bytes : List ℕ
@@ -384,7 +404,7 @@ pub record IsFrontRead (s : List ℕ) (w : Direct) (mark : Mark) (start : ℕ) (
   pub goes : ParametersGoOn s argument [] (encoding_of v) (returned ∷ []) w.at state
 
 -- A function's name was read and written, and what stands in front of it. Its parameters are expected.
-pub record AwaitsParameters (s : List ℕ) (w : Direct) (mark : Mark) (start : ℕ) (argument : Arguments) : Type 0 where
+pub record AwaitsParameters (s : Symbol) (w : Direct) (mark : Mark) (start : ℕ) (argument : Arguments) : Type 0 where
   pub state : State
   pub candidates : AreCandidates w.text.list.items w.candidates.list.items state.candidates
   pub make : Term → Term
@@ -397,7 +417,7 @@ pub record AwaitsParameters (s : List ℕ) (w : Direct) (mark : Mark) (start : �
   pub goes : ParametersGoOn s argument lead make [] w.at state
 
 -- A parameter of a function is expected.
-pub record AwaitsNextParameter (s : List ℕ) (w : Direct) (mark : Mark) (start : ℕ) (argument : Arguments) : Type 0 where
+pub record AwaitsNextParameter (s : Symbol) (w : Direct) (mark : Mark) (start : ℕ) (argument : Arguments) : Type 0 where
   pub state : State
   pub candidates : AreCandidates w.text.list.items w.candidates.list.items state.candidates
   pub rest : List Open
@@ -414,7 +434,7 @@ pub record AwaitsNextParameter (s : List ℕ) (w : Direct) (mark : Mark) (start 
   pub goes : ParametersGoOn s argument lead make ts w.at state
 
 -- A parameter of a function was read.
-pub record IsParameterEnded (s : List ℕ) (w : Direct) (mark : Mark) (start : ℕ) (argument : Arguments) : Type 0 where
+pub record IsParameterEnded (s : Symbol) (w : Direct) (mark : Mark) (start : ℕ) (argument : Arguments) : Type 0 where
   pub state : State
   pub candidates : AreCandidates w.text.list.items w.candidates.list.items state.candidates
   pub rest : List Open
@@ -432,7 +452,7 @@ pub record IsParameterEnded (s : List ℕ) (w : Direct) (mark : Mark) (start : �
   pub goes : ParametersGoOn s argument lead make ts w.at state
 
 -- An encoding was read and written behind a text, but for its qualifier.
-pub record IsEncodingEnded (s : List ℕ) (w : Direct) (mark : Mark) : Type 0 where
+pub record IsEncodingEnded (s : Symbol) (w : Direct) (mark : Mark) : Type 0 where
   pub state : State
   pub candidates : AreCandidates w.text.list.items w.candidates.list.items state.candidates
   pub e : Term
@@ -444,7 +464,7 @@ pub record IsEncodingEnded (s : List ℕ) (w : Direct) (mark : Mark) : Type 0 wh
   pub behind : EncodedBehind s lead e w.at
 
 -- The encoding of a symbol was read and written.
-pub record IsSymbolEnded (s : List ℕ) (w : Direct) : Type 0 where
+pub record IsSymbolEnded (s : Symbol) (w : Direct) : Type 0 where
   pub state : State
   pub candidates : AreCandidates w.text.list.items w.candidates.list.items state.candidates
   pub e : Term
@@ -454,18 +474,18 @@ pub record IsSymbolEnded (s : List ℕ) (w : Direct) : Type 0 where
 -- ## Local entities
 
 -- The name of a local entity is expected behind the E of the encoding before it, and behind the L of internal linkage or without.
-pub record AwaitsEntity (s : List ℕ) (w : Direct) (is_internal : Bool) : Type 0 where
+pub record AwaitsEntity (s : Symbol) (w : Direct) (is_internal : Bool) : Type 0 where
   pub before : ℕ
   pub ended : IsEncodingEnded s (record w { at = before }) marks.Plain
-  pub is_entity : is_local s ≡ true
-  pub first : StandsAt s before (69 ∷ [])
-  pub letter : is_internal ≡ true → StandsAt s (before + 1) (76 ∷ [])
+  pub is_entity : is_local s.bytes ≡ true
+  pub first : StandsAt s.bytes before (69 ∷ [])
+  pub letter : is_internal ≡ true → StandsAt s.bytes (before + 1) (76 ∷ [])
   pub at_is : w.at ≡ before + 1 + cond is_internal 1 0
 
 -- ## Types in functions
 
 -- The name of a function in which a type stands was read and written from a place on, but for its qualifier.
-pub record IsEnclosingNamed (s : List ℕ) (w : Direct) (mark : Mark) (from : ℕ) : Type 0 where
+pub record IsEnclosingNamed (s : Symbol) (w : Direct) (mark : Mark) (from : ℕ) : Type 0 where
   pub state : State
   pub candidates : AreCandidates w.text.list.items w.candidates.list.items state.candidates
   pub own : Term
@@ -483,7 +503,7 @@ pub record IsEnclosingNamed (s : List ℕ) (w : Direct) (mark : Mark) (from : �
 
 -- The same of an instance of a function template. Its return type is expected, and the argument of the template stands where it was
 -- noted last, or it isn't known.
-pub record IsEnclosingInstance (s : List ℕ) (w : Direct) (mark : Mark) (from : ℕ) : Type 0 where
+pub record IsEnclosingInstance (s : Symbol) (w : Direct) (mark : Mark) (from : ℕ) : Type 0 where
   pub state : State
   pub candidates : AreCandidates w.text.list.items w.candidates.list.items state.candidates
   pub own : Term
@@ -501,7 +521,7 @@ pub record IsEnclosingInstance (s : List ℕ) (w : Direct) (mark : Mark) (from :
   pub goes : ItemsGoOn s w.argument (TypeWithin s (Stands s (reverse w.waiting.list.items)) front) (λ l. encoding_of v l) [] w.at state
 
 -- The name of a function in which a type stands was read, and its return type if it has one. Its parameters are expected.
-pub record AwaitsEnclosingParameters (s : List ℕ) (w : Direct) (mark : Mark) (from : ℕ) (argument : Arguments) : Type 0 where
+pub record AwaitsEnclosingParameters (s : Symbol) (w : Direct) (mark : Mark) (from : ℕ) (argument : Arguments) : Type 0 where
   pub state : State
   pub candidates : AreCandidates w.text.list.items w.candidates.list.items state.candidates
   pub make : Term → Term
@@ -513,7 +533,7 @@ pub record AwaitsEnclosingParameters (s : List ℕ) (w : Direct) (mark : Mark) (
   pub goes : ItemsGoOn s argument (TypeWithin s (Stands s (reverse w.waiting.list.items)) front) make [] w.at state
 
 -- A parameter of such a function was read.
-pub record IsEnclosingParameterRead (s : List ℕ) (w : Direct) (mark : Mark) (from : ℕ) (argument : Arguments) : Type 0 where
+pub record IsEnclosingParameterRead (s : Symbol) (w : Direct) (mark : Mark) (from : ℕ) (argument : Arguments) : Type 0 where
   pub state : State
   pub candidates : AreCandidates w.text.list.items w.candidates.list.items state.candidates
   pub rest : List Open
@@ -530,7 +550,7 @@ pub record IsEnclosingParameterRead (s : List ℕ) (w : Direct) (mark : Mark) (f
   pub goes : ItemsGoOn s argument (TypeWithin s (Stands s rest) front) make ts w.at state
 
 -- Such a function was read and written from a place on, but for its qualifier.
-pub record IsEnclosingRead (s : List ℕ) (w : Direct) (mark : Mark) (from : ℕ) : Type 0 where
+pub record IsEnclosingRead (s : Symbol) (w : Direct) (mark : Mark) (from : ℕ) : Type 0 where
   pub state : State
   pub candidates : AreCandidates w.text.list.items w.candidates.list.items state.candidates
   pub e : Term
@@ -542,14 +562,14 @@ pub record IsEnclosingRead (s : List ℕ) (w : Direct) (mark : Mark) (from : ℕ
   pub within : TypeWithin s (Stands s (reverse w.waiting.list.items)) front e w.at state
 
 -- The name of a type is expected behind the E of the function that it stands in, which was written from a place on.
-pub record AwaitsTypeName (s : List ℕ) (w : Direct) (from : ℕ) : Type 0 where
+pub record AwaitsTypeName (s : Symbol) (w : Direct) (from : ℕ) : Type 0 where
   pub before : ℕ
   pub read : IsEnclosingRead s (record w { at = before }) marks.Plain from
-  pub letter : StandsAt s before (69 ∷ [])
+  pub letter : StandsAt s.bytes before (69 ∷ [])
   pub at_is : w.at ≡ before + 1
 
 -- A parameter of a lambda was read, which is a type that stands in a function.
-pub record IsLambdaParameterRead (s : List ℕ) (w : Direct) (from : ℕ) : Type 0 where
+pub record IsLambdaParameterRead (s : Symbol) (w : Direct) (from : ℕ) : Type 0 where
   pub state : State
   pub candidates : AreCandidates w.text.list.items w.candidates.list.items state.candidates
   pub rest : List Open
@@ -569,7 +589,7 @@ pub record IsLambdaParameterRead (s : List ℕ) (w : Direct) (from : ℕ) : Type
 -- ## Function types
 
 -- A type was read behind a text, as an element or a parameter of what is open.
-pub record IsElementRead (s : List ℕ) (w : Direct) (o : Open) : Type 0 where
+pub record IsElementRead (s : Symbol) (w : Direct) (o : Open) : Type 0 where
   pub state : State
   pub candidates : AreCandidates w.text.list.items w.candidates.list.items state.candidates
   pub rest : List Open
@@ -584,7 +604,7 @@ pub record IsElementRead (s : List ℕ) (w : Direct) (o : Open) : Type 0 where
   pub stands : Stands s (o ∷ rest) os front
 
 -- Of a function type the return type was read, or a parameter.
-pub record AwaitsSignature (s : List ℕ) (w : Direct) (is_pointer is_first : Bool) : Type 0 where
+pub record AwaitsSignature (s : Symbol) (w : Direct) (is_pointer is_first : Bool) : Type 0 where
   pub state : State
   pub candidates : AreCandidates w.text.list.items w.candidates.list.items state.candidates
   pub rest : List Open
@@ -607,7 +627,7 @@ pub record AwaitsSignature (s : List ℕ) (w : Direct) (is_pointer is_first : Bo
   pub stands : Stands s rest outer front
 
 -- A parameter of a function type comes next.
-pub record AwaitsParameter (s : List ℕ) (w : Direct) (is_pointer : Bool) : Type 0 where
+pub record AwaitsParameter (s : Symbol) (w : Direct) (is_pointer : Bool) : Type 0 where
   pub state : State
   pub candidates : AreCandidates w.text.list.items w.candidates.list.items state.candidates
   pub rest : List Open
@@ -628,7 +648,7 @@ pub record AwaitsParameter (s : List ℕ) (w : Direct) (is_pointer : Bool) : Typ
   pub stands : Stands s rest outer front
 
 -- The return type of a function type was read.
-pub record IsReturned (s : List ℕ) (w : Direct) (is_pointer : Bool) : Type 0 where
+pub record IsReturned (s : Symbol) (w : Direct) (is_pointer : Bool) : Type 0 where
   pub state : State
   pub candidates : AreCandidates w.text.list.items w.candidates.list.items state.candidates
   pub rest : List Open
@@ -646,7 +666,7 @@ pub record IsReturned (s : List ℕ) (w : Direct) (is_pointer : Bool) : Type 0 w
   pub stands : Stands s rest outer front
 
 -- A function type was read, or a pointer to one, and written but for its last bracket.
-pub record IsFunctionRead (s : List ℕ) (w : Direct) (is_pointer : Bool) : Type 0 where
+pub record IsFunctionRead (s : Symbol) (w : Direct) (is_pointer : Bool) : Type 0 where
   pub state : State
   pub candidates : AreCandidates w.text.list.items w.candidates.list.items state.candidates
   pub rest : List Open

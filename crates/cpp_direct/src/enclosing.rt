@@ -11,8 +11,10 @@ ghost use Rattle.cpp_direct.specs.Prints.{PrintsPiece};
 ghost use Rattle.cpp_direct.specs.Stands.{IsWriting};
 ghost use Rattle.cpp_direct.specs.Ways.{AwaitsEnclosingParameters, AwaitsNamedType, AwaitsTypeName, IsEnclosingInstance, IsEnclosingNamed, IsEnclosingParameterRead, IsEnclosingRead, IsLambdaParameterRead};
 ghost use Rattle.cpp_direct.specs.Written.{Reads};
+ghost use Rattle.cpp_direct.specs.Symbol.{symbol_by};
 
 use crate::direct::Direct;
+use crate::grammar::Grammar;
 use crate::marks::mark_at;
 use crate::open::{Arguments, Mark, Open, Purpose, Step};
 use crate::symbols::NOWHERE;
@@ -25,55 +27,65 @@ impl Direct {
     /// Reads the first bytes of a type that stands in a function, up to the first type in that one's name.
     // <local-name> ::= Z <function encoding> E <entity name> [<discriminator>]
     #[inline(never)]
-    pub(crate) fn begin_enclosing(&mut self, s: &[u8]) -> Option<Step>
+    pub(crate) fn begin_enclosing<G: Grammar>(&mut self, s: &[u8]) -> Option<Step>
         requires fits { IsReadable s.now }
         requires letter { StandsAt s.now self.old.at (90 ∷ []) }
-        requires awaits { AwaitsNamedType s.now self.old }
-        ensures { IfSome result (IsWriting s.now self.new) }
+        requires awaits { AwaitsNamedType (symbol_by G.IS_WIDE s.now) self.old }
+        ensures { IfSome result (IsWriting (symbol_by G.IS_WIDE s.now) self.new) }
     {
         self.at = self.at.checked_add(1)?;
         if byte_at(s, self.at) != b'N' {
             let from = self.text.len();
             self.name(s)?;
-            return self.enclosing_named(s, Mark::Plain, from);
+            return self.enclosing_named::<G>(s, Mark::Plain, from);
         }
         self.at = self.at.checked_add(1)?;
         let place = mark_at(s, self.at)?;
         self.at = place.end;
-        self.nest_at(s, Purpose::Enclosing { mark: place.mark })
+        self.nest_at::<G>(s, Purpose::Enclosing { mark: place.mark })
     }
 
     /// The name of a function is read in which a type stands: its parameters follow, or the type.
     // <encoding> ::= <function name> <bare-function-type> | <data name>
-    pub(crate) fn enclosing_named(&mut self, s: &[u8], mark: Mark, from: usize) -> Option<Step>
+    pub(crate) fn enclosing_named<G: Grammar>(
+        &mut self,
+        s: &[u8],
+        mark: Mark,
+        from: usize,
+    ) -> Option<Step>
         requires fits { IsReadable s.now }
-        requires named { IsEnclosingNamed s.now self.old mark from }
-        ensures { IfSome result (IsWriting s.now self.new) }
+        requires named { IsEnclosingNamed (symbol_by G.IS_WIDE s.now) self.old mark from }
+        ensures { IfSome result (IsWriting (symbol_by G.IS_WIDE s.now) self.new) }
     {
         if byte_at(s, self.at) == b'E' {
-            return self.enclosing_ended(s, mark, from);
+            return self.enclosing_ended::<G>(s, mark, from);
         }
-        self.enclosing_parameters(s, mark, from, NOWHERE)
+        self.enclosing_parameters::<G>(s, mark, from, NOWHERE)
     }
 
     /// The name of an instance of a function template is read in which a type stands. The function's return type follows, a builtin
     /// one, of which nothing is written.
     // <bare-function-type> ::= <return type> <parameter type>+
-    pub(crate) fn enclosing_instance(&mut self, s: &[u8], mark: Mark, from: usize) -> Option<Step>
+    pub(crate) fn enclosing_instance<G: Grammar>(
+        &mut self,
+        s: &[u8],
+        mark: Mark,
+        from: usize,
+    ) -> Option<Step>
         requires fits { IsReadable s.now }
-        requires named { IsEnclosingInstance s.now self.old mark from }
-        ensures { IfSome result (IsWriting s.now self.new) }
+        requires named { IsEnclosingInstance (symbol_by G.IS_WIDE s.now) self.old mark from }
+        ensures { IfSome result (IsWriting (symbol_by G.IS_WIDE s.now) self.new) }
     {
         if cpp_layout::builtin_text(byte_at(s, self.at)).is_empty() {
             return None;
         }
         self.at = self.at.checked_add(1)?;
-        self.enclosing_parameters(s, mark, from, self.argument)
+        self.enclosing_parameters::<G>(s, mark, from, self.argument)
     }
 
     /// Reads the parameters of a function in which a type stands, up to the first type in them.
     // <bare-function-type> ::= <parameter type>+ | v
-    fn enclosing_parameters(
+    fn enclosing_parameters<G: Grammar>(
         &mut self,
         s: &[u8],
         mark: Mark,
@@ -81,14 +93,14 @@ impl Direct {
         argument: Arguments,
     ) -> Option<Step>
         requires fits { IsReadable s.now }
-        requires awaits { AwaitsEnclosingParameters s.now self.old mark from argument }
-        ensures { IfSome result (IsWriting s.now self.new) }
+        requires awaits { AwaitsEnclosingParameters (symbol_by G.IS_WIDE s.now) self.old mark from argument }
+        ensures { IfSome result (IsWriting (symbol_by G.IS_WIDE s.now) self.new) }
     {
         let behind = byte_at(s, self.at.checked_add(1)?);
         if byte_at(s, self.at) == b'v' && behind == b'E' {
             self.at = self.at.checked_add(1)?;
             self.push_pair(b'(', b')')?;
-            return self.enclosing_ended(s, mark, from);
+            return self.enclosing_ended::<G>(s, mark, from);
         }
         self.push_byte(b'(')?;
         self.waiting.push(Open::Enclosing {
@@ -101,7 +113,7 @@ impl Direct {
 
     /// A parameter of a function is read in which a type stands: another one follows, or the type.
     // <bare-function-type> ::= <parameter type>+
-    pub(crate) fn enclosing_parameter(
+    pub(crate) fn enclosing_parameter<G: Grammar>(
         &mut self,
         s: &[u8],
         mark: Mark,
@@ -109,8 +121,8 @@ impl Direct {
         _argument: Arguments,
     ) -> Option<Step>
         requires fits { IsReadable s.now }
-        requires read { IsEnclosingParameterRead s.now self.old mark from _argument }
-        ensures { IfSome result (IsWriting s.now self.new) }
+        requires read { IsEnclosingParameterRead (symbol_by G.IS_WIDE s.now) self.old mark from _argument }
+        ensures { IfSome result (IsWriting (symbol_by G.IS_WIDE s.now) self.new) }
     {
         if byte_at(s, self.at) != b'E' {
             self.push_pair(b',', b' ')?;
@@ -122,49 +134,49 @@ impl Direct {
         }
         self.push_byte(b')')?;
         let _open = self.waiting.pop();
-        self.enclosing_ended(s, mark, from)
+        self.enclosing_ended::<G>(s, mark, from)
     }
 
     /// Writes the qualifiers of a function in which a type stands.
-    fn enclosing_ended(&mut self, s: &[u8], mark: Mark, from: usize) -> Option<Step>
+    fn enclosing_ended<G: Grammar>(&mut self, s: &[u8], mark: Mark, from: usize) -> Option<Step>
         requires fits { IsReadable s.now }
-        requires read { IsEnclosingRead s.now self.old mark from }
-        ensures { IfSome result (IsWriting s.now self.new) }
+        requires read { IsEnclosingRead (symbol_by G.IS_WIDE s.now) self.old mark from }
+        ensures { IfSome result (IsWriting (symbol_by G.IS_WIDE s.now) self.new) }
     {
         self.push_mark(mark)?;
-        self.enclosed(s, from)
+        self.enclosed::<G>(s, from)
     }
 
     /// Reads the E behind the function that a type stands in.
     // <local-name> ::= Z <function encoding> E <entity name> [<discriminator>]
-    fn enclosed(&mut self, s: &[u8], from: usize) -> Option<Step>
+    fn enclosed<G: Grammar>(&mut self, s: &[u8], from: usize) -> Option<Step>
         requires fits { IsReadable s.now }
-        requires read { IsEnclosingRead s.now self.old marks.Plain from }
-        ensures { IfSome result (IsWriting s.now self.new) }
+        requires read { IsEnclosingRead (symbol_by G.IS_WIDE s.now) self.old marks.Plain from }
+        ensures { IfSome result (IsWriting (symbol_by G.IS_WIDE s.now) self.new) }
     {
         if byte_at(s, self.at) != b'E' {
             return None;
         }
         self.at = self.at.checked_add(1)?;
         if byte_at(s, self.at) != b'U' {
-            return self.enclosed_named(s, from);
+            return self.enclosed_named::<G>(s, from);
         }
         let behind = byte_at(s, self.at.checked_add(2)?);
         if behind == b'v' {
-            return self.enclosed_named(s, from);
+            return self.enclosed_named::<G>(s, from);
         }
-        self.begin_lambda(s, from)
+        self.begin_lambda::<G>(s, from)
     }
 
     /// Reads the name of a type that stands in a function.
     // <local-name> ::= Z <function encoding> E <entity name> [<discriminator>]
-    fn enclosed_named(&mut self, s: &[u8], from: usize) -> Option<Step>
+    fn enclosed_named<G: Grammar>(&mut self, s: &[u8], from: usize) -> Option<Step>
         requires fits { IsReadable s.now }
-        requires awaits { AwaitsTypeName s.now self.old from }
-        ensures { IfSome result (IsWriting s.now self.new) }
+        requires awaits { AwaitsTypeName (symbol_by G.IS_WIDE s.now) self.old from }
+        ensures { IfSome result (IsWriting (symbol_by G.IS_WIDE s.now) self.new) }
     {
         self.push_pair(b':', b':')?;
-        self.enclosed_piece(s)?;
+        self.enclosed_piece::<G>(s)?;
         self.discriminator(s)?;
         self.add_candidate(from, false)?;
         Some(Step::Value {
@@ -174,21 +186,21 @@ impl Direct {
 
     // <unqualified-name> ::= <source-name> | <unnamed-type-name>
     #[inline(always)]
-    fn enclosed_piece(&mut self, s: &[u8]) -> Option<()>
+    fn enclosed_piece<G: Grammar>(&mut self, s: &[u8]) -> Option<()>
         requires { IsReadable s.now }
-        ensures { OnSome result ((p : Term) × (n : List ℕ) × IsPieceAt s.now self.old.at p self.new.at × PrintsPiece p n × Reads self.old self.new n) }
+        ensures { OnSome result ((p : Term) × (n : List ℕ) × IsPieceAt (symbol_by G.IS_WIDE s.now) self.old.at p self.new.at × PrintsPiece p n × Reads self.old self.new n) }
     {
         if byte_at(s, self.at) == b'U' {
-            return self.lambda(s);
+            return self.lambda::<G>(s);
         }
         self.name(s)
     }
 
     /// Reads a lambda without parameters, one of the first nine of a function.
     // <closure-type-name> ::= Ul <lambda-sig> E [<nonnegative number>] _
-    fn lambda(&mut self, s: &[u8]) -> Option<()>
+    fn lambda<G: Grammar>(&mut self, s: &[u8]) -> Option<()>
         requires letter { StandsAt s.now self.old.at (85 ∷ []) }
-        ensures { OnSome result ((p : Term) × (n : List ℕ) × IsPieceAt s.now self.old.at p self.new.at × PrintsPiece p n × Reads self.old self.new n) }
+        ensures { OnSome result ((p : Term) × (n : List ℕ) × IsPieceAt (symbol_by G.IS_WIDE s.now) self.old.at p self.new.at × PrintsPiece p n × Reads self.old self.new n) }
     {
         let second = byte_at(s, self.at.checked_add(1)?);
         let third = byte_at(s, self.at.checked_add(2)?);
@@ -225,10 +237,10 @@ impl Direct {
 
     /// Begins a lambda that has parameters, in a symbol that isn't a long one: each lambda goes over it once more.
     // <closure-type-name> ::= Ul <lambda-sig> E [<nonnegative number>] _
-    fn begin_lambda(&mut self, s: &[u8], from: usize) -> Option<Step>
-        requires awaits { AwaitsTypeName s.now self.old from }
+    fn begin_lambda<G: Grammar>(&mut self, s: &[u8], from: usize) -> Option<Step>
+        requires awaits { AwaitsTypeName (symbol_by G.IS_WIDE s.now) self.old from }
         requires letter { StandsAt s.now self.old.at (85 ∷ []) }
-        ensures { IfSome result (IsWriting s.now self.new) }
+        ensures { IfSome result (IsWriting (symbol_by G.IS_WIDE s.now) self.new) }
     {
         self.at = self.at.checked_add(1)?;
         if byte_at(s, self.at) != b'l' {
@@ -246,10 +258,10 @@ impl Direct {
 
     /// A parameter of a lambda is read: another one follows, or the lambda's end.
     // <lambda-sig> ::= <parameter type>+
-    pub(crate) fn lambda_parameter(&mut self, s: &[u8], from: usize) -> Option<Step>
+    pub(crate) fn lambda_parameter<G: Grammar>(&mut self, s: &[u8], from: usize) -> Option<Step>
         requires fits { IsReadable s.now }
-        requires read { IsLambdaParameterRead s.now self.old from }
-        ensures { IfSome result (IsWriting s.now self.new) }
+        requires read { IsLambdaParameterRead (symbol_by G.IS_WIDE s.now) self.old from }
+        ensures { IfSome result (IsWriting (symbol_by G.IS_WIDE s.now) self.new) }
     {
         if byte_at(s, self.at) != b'E' {
             self.push_pair(b',', b' ')?;

@@ -7,8 +7,10 @@ ghost use Rattle.cpp_direct.specs.declared.open.Step.TheVariants as steps;
 ghost use Rattle.cpp_direct.specs.Holes.{StandsAt};
 ghost use Rattle.cpp_direct.specs.Stands.{IsWriting};
 ghost use Rattle.cpp_direct.specs.Ways.{AwaitsParameter, AwaitsSignature, IsFunctionRead, IsReturned};
+ghost use Rattle.cpp_direct.specs.Symbol.{symbol_by};
 
 use crate::direct::Direct;
+use crate::grammar::Grammar;
 use crate::open::{Open, Step};
 use crate::tokens::byte_at;
 
@@ -16,11 +18,11 @@ impl Direct {
     /// Begins a function type, or one that is pointed to, where it is an element, a parameter, or what a special object is of.
     // <function-type> ::= F <bare-function-type> E
     #[inline(never)]
-    pub(crate) fn begin_function(&mut self, s: &[u8], is_pointer: bool) -> Option<Step>
+    pub(crate) fn begin_function<G: Grammar>(&mut self, s: &[u8], is_pointer: bool) -> Option<Step>
         requires fits { IsReadable s.now }
         requires letters { StandsAt s.now self.old.at (if is_pointer then 80 ∷ 70 ∷ [] else 70 ∷ []) }
-        requires writing { IsWriting s.now self.old steps.Type }
-        ensures { IfSome result (IsWriting s.now self.new) }
+        requires writing { IsWriting (symbol_by G.IS_WIDE s.now) self.old steps.Type }
+        ensures { IfSome result (IsWriting (symbol_by G.IS_WIDE s.now) self.new) }
     {
         match *self.waiting.as_slice().last()? {
             Open::Pointer { .. }
@@ -43,43 +45,43 @@ impl Direct {
 
     /// The return type of a function type is read: its parameters follow.
     // <bare-function-type> ::= <return type> <parameter type>+
-    pub(crate) fn returned(&mut self, s: &[u8], is_pointer: bool) -> Option<Step>
+    pub(crate) fn returned<G: Grammar>(&mut self, s: &[u8], is_pointer: bool) -> Option<Step>
         requires fits { IsReadable s.now }
-        requires returned { IsReturned s.now self.old is_pointer }
-        ensures { IfSome result (IsWriting s.now self.new) }
+        requires returned { IsReturned (symbol_by G.IS_WIDE s.now) self.old is_pointer }
+        ensures { IfSome result (IsWriting (symbol_by G.IS_WIDE s.now) self.new) }
     {
         let _open = self.waiting.pop();
         self.push(if is_pointer { b" (*)(" } else { b" (" })?;
         self.waiting.push(Open::Signature { is_pointer })?;
-        self.first_parameter(s, is_pointer)
+        self.first_parameter::<G>(s, is_pointer)
     }
 
     /// Reads the first parameter of a function type, unless it is a lone void, which is none.
     // <bare-function-type> ::= <return type> v
-    fn first_parameter(&mut self, s: &[u8], is_pointer: bool) -> Option<Step>
+    fn first_parameter<G: Grammar>(&mut self, s: &[u8], is_pointer: bool) -> Option<Step>
         requires fits { IsReadable s.now }
-        requires awaits { AwaitsSignature s.now self.old is_pointer true }
-        ensures { IfSome result (IsWriting s.now self.new) }
+        requires awaits { AwaitsSignature (symbol_by G.IS_WIDE s.now) self.old is_pointer true }
+        ensures { IfSome result (IsWriting (symbol_by G.IS_WIDE s.now) self.new) }
     {
         let behind = byte_at(s, self.at.checked_add(1)?);
         if byte_at(s, self.at) == b'v' && behind == b'E' {
             self.at = self.at.checked_add(2)?;
-            return self.function_ended(s, is_pointer);
+            return self.function_ended::<G>(s, is_pointer);
         }
-        self.parameter_at(s, is_pointer, true)
+        self.parameter_at::<G>(s, is_pointer, true)
     }
 
     /// Reads a parameter of a function type up to the first type in it, or the end of the function type.
     // <bare-function-type> ::= <return type> <parameter type>+
-    pub(crate) fn parameter_at(
+    pub(crate) fn parameter_at<G: Grammar>(
         &mut self,
         s: &[u8],
         is_pointer: bool,
         is_first: bool,
     ) -> Option<Step>
         requires fits { IsReadable s.now }
-        requires awaits { AwaitsSignature s.now self.old is_pointer is_first }
-        ensures { IfSome result (IsWriting s.now self.new) }
+        requires awaits { AwaitsSignature (symbol_by G.IS_WIDE s.now) self.old is_pointer is_first }
+        ensures { IfSome result (IsWriting (symbol_by G.IS_WIDE s.now) self.new) }
     {
         if byte_at(s, self.at) == b'E' {
             // a lone void is no parameter
@@ -87,19 +89,19 @@ impl Direct {
                 return None;
             }
             self.at = self.at.checked_add(1)?;
-            return self.function_ended(s, is_pointer);
+            return self.function_ended::<G>(s, is_pointer);
         }
         if !is_first {
             self.push_pair(b',', b' ')?;
         }
-        self.parameter(s, is_pointer)
+        self.parameter::<G>(s, is_pointer)
     }
 
     /// Reads a parameter of a function type up to the first type in it.
     // <type> ::= R <type> | O <type>
-    fn parameter(&mut self, s: &[u8], _is_pointer: bool) -> Option<Step>
-        requires { AwaitsParameter s.now self.old _is_pointer }
-        ensures { IfSome result (IsWriting s.now self.new) }
+    fn parameter<G: Grammar>(&mut self, s: &[u8], _is_pointer: bool) -> Option<Step>
+        requires { AwaitsParameter (symbol_by G.IS_WIDE s.now) self.old _is_pointer }
+        ensures { IfSome result (IsWriting (symbol_by G.IS_WIDE s.now) self.new) }
     {
         let from = self.text.len();
         let byte = byte_at(s, self.at);
@@ -117,10 +119,10 @@ impl Direct {
 
     /// Writes the end of a function type, and hands it on.
     // <function-type> ::= F <bare-function-type> E
-    fn function_ended(&mut self, s: &[u8], is_pointer: bool) -> Option<Step>
+    fn function_ended<G: Grammar>(&mut self, s: &[u8], is_pointer: bool) -> Option<Step>
         requires fits { IsReadable s.now }
-        requires ended { IsFunctionRead s.now self.old is_pointer }
-        ensures { IfSome result (IsWriting s.now self.new) }
+        requires ended { IsFunctionRead (symbol_by G.IS_WIDE s.now) self.old is_pointer }
+        ensures { IfSome result (IsWriting (symbol_by G.IS_WIDE s.now) self.new) }
     {
         self.push_byte(b')')?;
         self.add_hidden(is_pointer)?;
@@ -130,13 +132,13 @@ impl Direct {
                 mark,
                 start,
                 argument,
-            } => self.parameter_ended(s, mark, start, argument),
+            } => self.parameter_ended::<G>(s, mark, start, argument),
             Open::Enclosing {
                 mark,
                 from,
                 argument,
-            } => self.enclosing_parameter(s, mark, from, argument),
-            Open::Special => self.finish(s),
+            } => self.enclosing_parameter::<G>(s, mark, from, argument),
+            Open::Special => self.finish::<G>(s),
             _ => Some(Step::List { is_first: false }),
         }
     }

@@ -5,7 +5,8 @@
 //! functions, and lambdas there, of instances of function templates in those that return a builtin type; function types
 //! where they are arguments, parameters or what a special object is of, by themselves or behind one pointer; instances of
 //! function templates whose types name no parameter of the template, or its first four arguments, by themselves or behind
-//! pointers, references and const, or expand the one type of a pack. A symbol with anything else in it is given up, and is
+//! pointers, references and const, or expand the one type of a pack; and by the wide grammar the constructors and destructors,
+//! the types `N S .. I .. E` and the ABI tags of that. A symbol with anything else in it is given up, and is
 //! to be read by its grammar: no answer depends on this crate, which one call in `sym_filter` (`languages`) makes and may
 //! leave out.
 #![tactic(auto)]
@@ -13,6 +14,7 @@
 mod direct;
 mod enclosing;
 mod functions;
+mod grammar;
 mod letters;
 mod lists;
 mod locals;

@@ -14,8 +14,10 @@ ghost use Rattle.cpp_direct.specs.ItemBytes.{is_integer_letter};
 ghost use Rattle.cpp_direct.specs.Stands.{IsWriting};
 ghost use Rattle.cpp_direct.specs.Ways.{IsListEnded, AwaitsNextArgument, AwaitsNumber, truth_text, number_text, integer_text};
 ghost use Rattle.cpp_direct.specs.Written.{Reads};
+ghost use Rattle.cpp_direct.specs.Symbol.{symbol_by};
 
 use crate::direct::Direct;
+use crate::grammar::Grammar;
 use crate::letters::is_integer_letter;
 use crate::open::{Arguments, Mark, Nest, Open, Step};
 use crate::symbols::NOWHERE;
@@ -68,33 +70,33 @@ fn is_plain_letter(letter: u8) -> bool
 impl Direct {
     /// Reads an argument or an element of a pack up to the first type in it, or the end of either.
     // <template-args> ::= I <template-arg>* E
-    pub(crate) fn list_at(&mut self, s: &[u8], is_first: bool) -> Option<Step>
+    pub(crate) fn list_at<G: Grammar>(&mut self, s: &[u8], is_first: bool) -> Option<Step>
         requires fits { IsReadable s.now }
-        requires writing { IsWriting s.now self.old (steps.List is_first) }
-        ensures { IfSome result (IsWriting s.now self.new) }
+        requires writing { IsWriting (symbol_by G.IS_WIDE s.now) self.old (steps.List is_first) }
+        ensures { IfSome result (IsWriting (symbol_by G.IS_WIDE s.now) self.new) }
     {
         let byte = byte_at(s, self.at);
         if byte == b'E' {
-            return self.list_ended(s, is_first);
+            return self.list_ended::<G>(s, is_first);
         }
         if byte == b'J' {
             let behind = byte_at(s, self.at.checked_add(1)?);
             if behind == b'E' {
-                return self.empty_pack(s, is_first);
+                return self.empty_pack::<G>(s, is_first);
             }
             if is_first {
-                return self.first_pack(s);
+                return self.first_pack::<G>(s);
             }
         }
         if !is_first {
             self.push_pair(b',', b' ')?;
         }
         match byte {
-            b'L' => self.literal(s),
-            b'J' => self.begin_pack(s),
+            b'L' => self.literal::<G>(s),
+            b'J' => self.begin_pack::<G>(s),
             _ => {
                 if is_first {
-                    return self.first_type(s);
+                    return self.first_type::<G>(s);
                 }
                 Some(Step::Type)
             }
@@ -103,10 +105,10 @@ impl Direct {
 
     // <template-arg> ::= J <template-arg>* E
     #[inline(always)]
-    pub(crate) fn begin_pack(&mut self, s: &[u8]) -> Option<Step>
+    pub(crate) fn begin_pack<G: Grammar>(&mut self, s: &[u8]) -> Option<Step>
         requires letter { StandsAt s.now self.old.at (74 ∷ []) }
-        requires awaits { AwaitsNextArgument s.now self.old }
-        ensures { IfSome result (IsWriting s.now self.new) }
+        requires awaits { AwaitsNextArgument (symbol_by G.IS_WIDE s.now) self.old }
+        ensures { IfSome result (IsWriting (symbol_by G.IS_WIDE s.now) self.new) }
     {
         match *self.waiting.as_slice().last()? {
             Open::Pack => None,
@@ -117,11 +119,11 @@ impl Direct {
     /// Reads a pack of nothing, for which nothing is written, at the end of arguments.
     // <template-arg> ::= J <template-arg>* E
     #[inline(never)]
-    fn empty_pack(&mut self, s: &[u8], _is_first: bool) -> Option<Step>
+    fn empty_pack<G: Grammar>(&mut self, s: &[u8], _is_first: bool) -> Option<Step>
         requires fits { IsReadable s.now }
         requires letters { StandsAt s.now self.old.at (74 ∷ 69 ∷ []) }
-        requires writing { IsWriting s.now self.old (steps.List _is_first) }
-        ensures { IfSome result (IsWriting s.now self.new) }
+        requires writing { IsWriting (symbol_by G.IS_WIDE s.now) self.old (steps.List _is_first) }
+        ensures { IfSome result (IsWriting (symbol_by G.IS_WIDE s.now) self.new) }
     {
         self.at = self.at.checked_add(2)?;
         if byte_at(s, self.at) != b'E' {
@@ -130,17 +132,17 @@ impl Direct {
         self.at = self.at.checked_add(1)?;
         match *self.waiting.as_slice().last()? {
             Open::Pack => None,
-            _ => self.close_list(s, NOWHERE),
+            _ => self.close_list::<G>(s, NOWHERE),
         }
     }
 
     /// Reads the E of arguments or of a pack.
     #[inline(always)]
-    fn list_ended(&mut self, s: &[u8], is_first: bool) -> Option<Step>
+    fn list_ended<G: Grammar>(&mut self, s: &[u8], is_first: bool) -> Option<Step>
         requires fits { IsReadable s.now }
         requires letter { StandsAt s.now self.old.at (69 ∷ []) }
-        requires writing { IsWriting s.now self.old (steps.List is_first) }
-        ensures { IfSome result (IsWriting s.now self.new) }
+        requires writing { IsWriting (symbol_by G.IS_WIDE s.now) self.old (steps.List is_first) }
+        ensures { IfSome result (IsWriting (symbol_by G.IS_WIDE s.now) self.new) }
     {
         self.at = self.at.checked_add(1)?;
         match *self.waiting.as_slice().last()? {
@@ -152,15 +154,15 @@ impl Direct {
                 let _open = self.waiting.pop();
                 Some(Step::List { is_first: false })
             }
-            _ => self.close_list(s, NOWHERE),
+            _ => self.close_list::<G>(s, NOWHERE),
         }
     }
 
     /// Ends arguments. Some of them may be known.
-    pub(crate) fn close_list(&mut self, s: &[u8], argument: Arguments) -> Option<Step>
+    pub(crate) fn close_list<G: Grammar>(&mut self, s: &[u8], argument: Arguments) -> Option<Step>
         requires fits { IsReadable s.now }
-        requires ended { IsListEnded s.now self.old argument }
-        ensures { IfSome result (IsWriting s.now self.new) }
+        requires ended { IsListEnded (symbol_by G.IS_WIDE s.now) self.old argument }
+        ensures { IfSome result (IsWriting (symbol_by G.IS_WIDE s.now) self.new) }
     {
         self.push_byte(b'>')?;
         self.argument = argument;
@@ -184,17 +186,17 @@ impl Direct {
                 self.nest = nest;
                 Some(Step::Component)
             }
-            Open::NameArguments { from } => self.name_ended(s, Mark::Plain, true, from),
+            Open::NameArguments { from } => self.name_ended::<G>(s, Mark::Plain, true, from),
             _ => None,
         }
     }
 
     // <expr-primary> ::= L <type> <value number> E | Lb0E | Lb1E
-    fn literal(&mut self, s: &[u8]) -> Option<Step>
+    fn literal<G: Grammar>(&mut self, s: &[u8]) -> Option<Step>
         requires fits { IsReadable s.now }
         requires letter { StandsAt s.now self.old.at (76 ∷ []) }
-        requires awaits { AwaitsNextArgument s.now self.old }
-        ensures { IfSome result (IsWriting s.now self.new) }
+        requires awaits { AwaitsNextArgument (symbol_by G.IS_WIDE s.now) self.old }
+        ensures { IfSome result (IsWriting (symbol_by G.IS_WIDE s.now) self.new) }
     {
         self.at = self.at.checked_add(1)?;
         match byte_at(s, self.at) {
@@ -206,7 +208,7 @@ impl Direct {
             b'N' | b'S' | b'1'..=b'9' => {
                 self.push(b"(")?;
                 self.waiting.push(Open::Enumerator)?;
-                self.named_type(s)
+                self.named_type::<G>(s)
             }
             _ => {
                 self.integer(s)?;
@@ -218,10 +220,10 @@ impl Direct {
 
     /// Reads the number of an enumerator, behind its type.
     // <expr-primary> ::= L <type> <value number> E
-    pub(crate) fn enumerator(&mut self, s: &[u8]) -> Option<Step>
+    pub(crate) fn enumerator<G: Grammar>(&mut self, s: &[u8]) -> Option<Step>
         requires fits { IsReadable s.now }
-        requires awaits { AwaitsNumber s.now self.old }
-        ensures { IfSome result (IsWriting s.now self.new) }
+        requires awaits { AwaitsNumber (symbol_by G.IS_WIDE s.now) self.old }
+        ensures { IfSome result (IsWriting (symbol_by G.IS_WIDE s.now) self.new) }
     {
         // the integers of some builtin types stand without them
         if self.text.as_slice().ends_with(b"(int") {

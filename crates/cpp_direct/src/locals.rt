@@ -10,50 +10,52 @@ ghost use Rattle.cpp_direct.specs.HolesOfLocals.{Discriminator, IsDiscriminatorA
 ghost use Rattle.cpp_direct.specs.Stands.{IsWriting};
 ghost use Rattle.cpp_direct.specs.Ways.{IsFresh, IsEncodingEnded, AwaitsEntity};
 ghost use Rattle.cpp_direct.specs.Written.{Reads};
+ghost use Rattle.cpp_direct.specs.Symbol.{symbol_by};
 
 use crate::direct::Direct;
+use crate::grammar::Grammar;
 use crate::open::Step;
 use crate::tokens::byte_at;
 
 impl Direct {
     /// The first bytes of the symbol of a local entity, or of its guard variable.
     // <local-name> ::= Z <function encoding> E <entity name> [<discriminator>]
-    pub(crate) fn begin_local(&mut self, s: &[u8]) -> Option<Step>
+    pub(crate) fn begin_local<G: Grammar>(&mut self, s: &[u8]) -> Option<Step>
         requires fits { IsReadable s.now }
         requires fresh { IsFresh self.old }
         requires starts { StandsAt s.now 0 (95 ∷ 90 ∷ []) }
-        ensures { IfSome result (IsWriting s.now self.new) }
+        ensures { IfSome result (IsWriting (symbol_by G.IS_WIDE s.now) self.new) }
     {
         if byte_at(s, 2) != b'Z' {
-            return self.begin_guard(s);
+            return self.begin_guard::<G>(s);
         }
         self.at = 3;
-        self.begin_encoding(s)
+        self.begin_encoding::<G>(s)
     }
 
     /// The first bytes of the symbol of a guard variable.
     // <special-name> ::= GV <object name>
-    fn begin_guard(&mut self, s: &[u8]) -> Option<Step>
+    fn begin_guard<G: Grammar>(&mut self, s: &[u8]) -> Option<Step>
         requires fits { IsReadable s.now }
         requires fresh { IsFresh self.old }
         requires starts { StandsAt s.now 0 (95 ∷ 90 ∷ []) }
-        ensures { IfSome result (IsWriting s.now self.new) }
+        ensures { IfSome result (IsWriting (symbol_by G.IS_WIDE s.now) self.new) }
     {
         if byte_at(s, 2) != b'G' || byte_at(s, 3) != b'V' || byte_at(s, 4) != b'Z' {
             return None;
         }
         self.push(b"guard variable for ")?;
         self.at = 5;
-        self.begin_encoding(s)
+        self.begin_encoding::<G>(s)
     }
 
     /// A local entity, behind the encoding that it stands in.
     // <local-name> ::= Z <function encoding> E <entity name> [<discriminator>]
-    pub(crate) fn entity(&mut self, s: &[u8]) -> Option<Step>
+    pub(crate) fn entity<G: Grammar>(&mut self, s: &[u8]) -> Option<Step>
         requires fits { IsReadable s.now }
-        requires ended { IsEncodingEnded s.now self.old marks.Plain }
+        requires ended { IsEncodingEnded (symbol_by G.IS_WIDE s.now) self.old marks.Plain }
         requires local { is_local s.now ≡ true }
-        ensures { IfSome result (IsWriting s.now self.new) }
+        ensures { IfSome result (IsWriting (symbol_by G.IS_WIDE s.now) self.new) }
     {
         if byte_at(s, self.at) != b'E' {
             return None;
@@ -61,22 +63,22 @@ impl Direct {
         self.at = self.at.checked_add(1)?;
         if byte_at(s, self.at) == b'L' {
             self.at = self.at.checked_add(1)?;
-            return self.entity_name(s, true);
+            return self.entity_name::<G>(s, true);
         }
-        self.entity_name(s, false)
+        self.entity_name::<G>(s, false)
     }
 
     /// The name of a local entity, behind the L of internal linkage or without one.
     // <unscoped-name> ::= <source-name>
-    fn entity_name(&mut self, s: &[u8], is_internal: bool) -> Option<Step>
+    fn entity_name<G: Grammar>(&mut self, s: &[u8], is_internal: bool) -> Option<Step>
         requires fits { IsReadable s.now }
-        requires awaits { AwaitsEntity s.now self.old is_internal }
-        ensures { IfSome result (IsWriting s.now self.new) }
+        requires awaits { AwaitsEntity (symbol_by G.IS_WIDE s.now) self.old is_internal }
+        ensures { IfSome result (IsWriting (symbol_by G.IS_WIDE s.now) self.new) }
     {
         self.push_pair(b':', b':')?;
         self.name(s)?;
         self.discriminator(s)?;
-        self.finish(s)
+        self.finish::<G>(s)
     }
 
     /// Reads a discriminator, if there is one. Nothing of it is written.

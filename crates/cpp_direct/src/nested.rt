@@ -2,13 +2,15 @@
 
 ghost use Rattle.std.specs.Prelude.{◌≡◌, ℕ, ◌+◌, ◌∷◌, [], true, false};
 ghost use Rattle.std.specs.Option.{IfSome};
-ghost use Rattle.cpp_direct.specs.Names.{IsReadable};
+ghost use Rattle.cpp_direct.specs.Names.{IsConstructorDigit, IsDestructorDigit, IsReadable};
 ghost use Rattle.cpp_direct.specs.declared.open.Step.TheVariants as steps;
 ghost use Rattle.cpp_direct.specs.Holes.{StandsAt};
 ghost use Rattle.cpp_direct.specs.Stands.{IsWriting};
-ghost use Rattle.cpp_direct.specs.Ways.{AwaitsNest, AwaitsClass, IsNestNamed, IsOperatorRead};
+ghost use Rattle.cpp_direct.specs.Ways.{AwaitsNest, AwaitsClass, IsNestKnown, IsNestNamed, IsOperatorRead};
+ghost use Rattle.cpp_direct.specs.Symbol.{symbol_by};
 
 use crate::direct::Direct;
+use crate::grammar::Grammar;
 use crate::open::{Nest, Open, Purpose, Step};
 use crate::tokens::byte_at;
 
@@ -28,16 +30,46 @@ fn listed_nest(from: usize, purpose: Purpose) -> Nest
     }
 }
 
+/// Whether it is the digit of a constructor.
+// <ctor-dtor-name> ::= C1 | C2 | C3, and by the wide grammar C4 | C5
+#[inline(always)]
+fn is_constructor_digit<G: Grammar>(digit: u8) -> bool
+    ensures { result ≡ true → IsConstructorDigit G.IS_WIDE digit }
+{
+    if digit < b'1' {
+        return false;
+    }
+    if digit <= b'3' {
+        return true;
+    }
+    G::IS_WIDE && digit <= b'5'
+}
+
+/// Whether it is the digit of a destructor.
+// <ctor-dtor-name> ::= D0 | D1 | D2, and by the wide grammar D4 | D5
+#[inline(always)]
+fn is_destructor_digit<G: Grammar>(digit: u8) -> bool
+    ensures { result ≡ true → IsDestructorDigit G.IS_WIDE digit }
+{
+    if digit < b'0' {
+        return false;
+    }
+    if digit <= b'2' {
+        return true;
+    }
+    G::IS_WIDE && b'4' <= digit && digit <= b'5'
+}
+
 impl Direct {
     /// Reads the first piece of a nested name.
     // <prefix> ::= <unqualified-name> | <substitution>
-    pub(crate) fn nest_at(&mut self, s: &[u8], purpose: Purpose) -> Option<Step>
+    pub(crate) fn nest_at<G: Grammar>(&mut self, s: &[u8], purpose: Purpose) -> Option<Step>
         requires fits { IsReadable s.now }
-        requires awaits { AwaitsNest s.now self.old purpose }
-        ensures { IfSome result (IsWriting s.now self.new) }
+        requires awaits { AwaitsNest (symbol_by G.IS_WIDE s.now) self.old purpose }
+        ensures { IfSome result (IsWriting (symbol_by G.IS_WIDE s.now) self.new) }
     {
         if byte_at(s, self.at) == b'S' {
-            return self.nest_with_s(s, purpose);
+            return self.nest_with_s::<G>(s, purpose);
         }
         let from = self.text.len();
         self.name(s)?;
@@ -54,17 +86,17 @@ impl Direct {
     }
 
     // <substitution> ::= S <seq-id> _ | S_ | St | Sa | Ss | Sb | Si | So | Sd
-    fn nest_with_s(&mut self, s: &[u8], purpose: Purpose) -> Option<Step>
+    fn nest_with_s<G: Grammar>(&mut self, s: &[u8], purpose: Purpose) -> Option<Step>
         requires fits { IsReadable s.now }
         requires letter { StandsAt s.now self.old.at (83 ∷ []) }
-        requires awaits { AwaitsNest s.now self.old purpose }
-        ensures { IfSome result (IsWriting s.now self.new) }
+        requires awaits { AwaitsNest (symbol_by G.IS_WIDE s.now) self.old purpose }
+        ensures { IfSome result (IsWriting (symbol_by G.IS_WIDE s.now) self.new) }
     {
         let from = self.text.len();
         self.at = self.at.checked_add(1)?;
         let letter = byte_at(s, self.at);
         if letter == b't' {
-            return self.nest_in_std(s, purpose);
+            return self.nest_in_std::<G>(s, purpose);
         }
         let text = cpp_layout::abbreviation_text(letter);
         if text.is_empty() {
@@ -74,21 +106,37 @@ impl Direct {
             }
             self.repeat(candidate.from, candidate.to)?;
             self.nest = listed_nest(from, purpose);
-            return Some(Step::Rest);
+            return self.nest_known::<G>(s);
         }
         self.at = self.at.checked_add(1)?;
         self.push(text)?;
         self.nest = listed_nest(from, purpose);
+        self.nest_known::<G>(s)
+    }
+
+    /// A name that an S stands for is read, at the front of a nested one. By the wide grammar a type may end behind its arguments.
+    // <nested-name> ::= N <substitution> <template-args> E
+    #[inline(always)]
+    fn nest_known<G: Grammar>(&mut self, s: &[u8]) -> Option<Step>
+        requires { IsNestKnown (symbol_by G.IS_WIDE s.now) self.old }
+        ensures { IfSome result (IsWriting (symbol_by G.IS_WIDE s.now) self.new) }
+    {
+        if G::IS_WIDE
+            && let Purpose::Type = self.nest.purpose
+            && byte_at(s, self.at) == b'I'
+        {
+            return self.open_arguments(Open::NestArguments { nest: self.nest });
+        }
         Some(Step::Rest)
     }
 
     /// Reads a name in std at the front of a nested one, whose S has been read.
     // <prefix> ::= St <unqualified-name>
-    fn nest_in_std(&mut self, s: &[u8], purpose: Purpose) -> Option<Step>
+    fn nest_in_std<G: Grammar>(&mut self, s: &[u8], purpose: Purpose) -> Option<Step>
         requires fits { IsReadable s.now }
         requires awaits { (before : ℕ) × (before + 1 ≡ self.old.at) × StandsAt s.now before (83 ∷ 116 ∷ [])
-            × AwaitsNest s.now (record self.old { at = before }) purpose }
-        ensures { IfSome result (IsWriting s.now self.new) }
+            × AwaitsNest (symbol_by G.IS_WIDE s.now) (record self.old { at = before }) purpose }
+        ensures { IfSome result (IsWriting (symbol_by G.IS_WIDE s.now) self.new) }
     {
         let from = self.text.len();
         self.at = self.at.checked_add(1)?;
@@ -104,15 +152,30 @@ impl Direct {
             has_class: true,
             is_instance: false,
         };
-        self.nest_named(s)
+        self.nest_named::<G>(s)
     }
 
-    /// The name of a component is read. Arguments may stand behind it.
+    /// The name of a component is read. Arguments may stand behind it, and by the wide grammar a tag before them.
+    // <unqualified-name> ::= <unqualified-name> <abi-tags>
+    #[inline(always)]
+    fn nest_named<G: Grammar>(&mut self, s: &[u8]) -> Option<Step>
+        requires fits { IsReadable s.now }
+        requires named { IsNestNamed (symbol_by G.IS_WIDE s.now) self.old }
+        ensures { IfSome result (IsWriting (symbol_by G.IS_WIDE s.now) self.new) }
+    {
+        if G::IS_WIDE && byte_at(s, self.at) == b'B' {
+            self.tag(s)?;
+            return self.nest_tagged::<G>(s);
+        }
+        self.nest_tagged::<G>(s)
+    }
+
+    /// The name of a component is read, with its tag. Arguments may stand behind it.
     // <prefix> ::= <template-prefix> <template-args>
     #[inline(always)]
-    fn nest_named(&mut self, s: &[u8]) -> Option<Step>
-        requires { IsNestNamed s.now self.old }
-        ensures { IfSome result (IsWriting s.now self.new) }
+    fn nest_tagged<G: Grammar>(&mut self, s: &[u8]) -> Option<Step>
+        requires { IsNestNamed (symbol_by G.IS_WIDE s.now) self.old }
+        ensures { IfSome result (IsWriting (symbol_by G.IS_WIDE s.now) self.new) }
     {
         if byte_at(s, self.at) != b'I' {
             return Some(Step::Tail);
@@ -122,37 +185,37 @@ impl Direct {
     }
 
     /// Reads what stands behind the first piece of a nested name.
-    pub(crate) fn rest_at(&mut self, s: &[u8]) -> Option<Step>
+    pub(crate) fn rest_at<G: Grammar>(&mut self, s: &[u8]) -> Option<Step>
         requires fits { IsReadable s.now }
-        requires writing { IsWriting s.now self.old steps.Rest }
-        ensures { IfSome result (IsWriting s.now self.new) }
+        requires writing { IsWriting (symbol_by G.IS_WIDE s.now) self.old steps.Rest }
+        ensures { IfSome result (IsWriting (symbol_by G.IS_WIDE s.now) self.new) }
     {
         self.add_unless(self.nest.is_listed, self.nest.from)?;
         if byte_at(s, self.at) == b'I' {
             return self.open_arguments(Open::FirstArguments { nest: self.nest });
         }
-        self.component_at(s)
+        self.component_at::<G>(s)
     }
 
     /// Reads another component of a nested name, or its end.
-    pub(crate) fn tail_at(&mut self, s: &[u8]) -> Option<Step>
+    pub(crate) fn tail_at<G: Grammar>(&mut self, s: &[u8]) -> Option<Step>
         requires fits { IsReadable s.now }
-        requires writing { IsWriting s.now self.old steps.Tail }
-        ensures { IfSome result (IsWriting s.now self.new) }
+        requires writing { IsWriting (symbol_by G.IS_WIDE s.now) self.old steps.Tail }
+        ensures { IfSome result (IsWriting (symbol_by G.IS_WIDE s.now) self.new) }
     {
         if byte_at(s, self.at) == b'E' {
-            return self.nest_ended(s);
+            return self.nest_ended::<G>(s);
         }
         self.add_unless(self.nest.is_listed, self.nest.from)?;
-        self.component_at(s)
+        self.component_at::<G>(s)
     }
 
     /// Reads the E of a nested name.
-    fn nest_ended(&mut self, s: &[u8]) -> Option<Step>
+    fn nest_ended<G: Grammar>(&mut self, s: &[u8]) -> Option<Step>
         requires fits { IsReadable s.now }
         requires end { StandsAt s.now self.old.at (69 ∷ []) }
-        requires writing { IsWriting s.now self.old steps.Tail }
-        ensures { IfSome result (IsWriting s.now self.new) }
+        requires writing { IsWriting (symbol_by G.IS_WIDE s.now) self.old steps.Tail }
+        ensures { IfSome result (IsWriting (symbol_by G.IS_WIDE s.now) self.new) }
     {
         self.at = self.at.checked_add(1)?;
         match self.nest.purpose {
@@ -163,40 +226,40 @@ impl Direct {
                 })
             }
             Purpose::Name { mark } => {
-                self.name_ended(s, mark, self.nest.is_instance, self.nest.from)
+                self.name_ended::<G>(s, mark, self.nest.is_instance, self.nest.from)
             }
             Purpose::Enclosing { mark } => {
                 if self.nest.is_instance {
-                    return self.enclosing_instance(s, mark, self.nest.from);
+                    return self.enclosing_instance::<G>(s, mark, self.nest.from);
                 }
-                self.enclosing_named(s, mark, self.nest.from)
+                self.enclosing_named::<G>(s, mark, self.nest.from)
             }
         }
     }
 
     /// Reads a component of a nested name.
     // <unqualified-name> ::= <source-name> | <operator-name> | <ctor-dtor-name>
-    pub(crate) fn component_at(&mut self, s: &[u8]) -> Option<Step>
+    pub(crate) fn component_at<G: Grammar>(&mut self, s: &[u8]) -> Option<Step>
         requires fits { IsReadable s.now }
-        requires writing { IsWriting s.now self.old steps.Component }
-        ensures { IfSome result (IsWriting s.now self.new) }
+        requires writing { IsWriting (symbol_by G.IS_WIDE s.now) self.old steps.Component }
+        ensures { IfSome result (IsWriting (symbol_by G.IS_WIDE s.now) self.new) }
     {
         match byte_at(s, self.at) {
-            b'C' => self.constructor(s),
-            b'D' => self.destructor(s),
-            b'L' => self.source(s, true),
-            b'a'..=b'z' => self.operator(s),
-            _ => self.source(s, false),
+            b'C' => self.constructor::<G>(s),
+            b'D' => self.destructor::<G>(s),
+            b'L' => self.source::<G>(s, true),
+            b'a'..=b'z' => self.operator::<G>(s),
+            _ => self.source::<G>(s, false),
         }
     }
 
     // <unqualified-name> ::= <source-name>
     #[inline(always)]
-    fn source(&mut self, s: &[u8], is_internal: bool) -> Option<Step>
+    fn source<G: Grammar>(&mut self, s: &[u8], is_internal: bool) -> Option<Step>
         requires fits { IsReadable s.now }
         requires letter { is_internal ≡ true → StandsAt s.now self.old.at (76 ∷ []) }
-        requires writing { IsWriting s.now self.old steps.Component }
-        ensures { IfSome result (IsWriting s.now self.new) }
+        requires writing { IsWriting (symbol_by G.IS_WIDE s.now) self.old steps.Component }
+        ensures { IfSome result (IsWriting (symbol_by G.IS_WIDE s.now) self.new) }
     {
         if is_internal {
             self.at = self.at.checked_add(1)?;
@@ -212,20 +275,20 @@ impl Direct {
             is_instance: false,
             ..self.nest
         };
-        self.nest_named(s)
+        self.nest_named::<G>(s)
     }
 
     // <unqualified-name> ::= <operator-name>
     #[inline(never)]
-    fn operator(&mut self, s: &[u8]) -> Option<Step>
+    fn operator<G: Grammar>(&mut self, s: &[u8]) -> Option<Step>
         requires fits { IsReadable s.now }
-        requires writing { IsWriting s.now self.old steps.Component }
-        ensures { IfSome result (IsWriting s.now self.new) }
+        requires writing { IsWriting (symbol_by G.IS_WIDE s.now) self.old steps.Component }
+        ensures { IfSome result (IsWriting (symbol_by G.IS_WIDE s.now) self.new) }
     {
         self.push_pair(b':', b':')?;
         let class_from = self.text.len();
         if !self.operator_name(s)? {
-            return self.operator_ended(s);
+            return self.operator_ended::<G>(s);
         }
         self.nest = Nest {
             class_from,
@@ -235,64 +298,65 @@ impl Direct {
             is_instance: false,
             ..self.nest
         };
-        self.nest_named(s)
+        self.nest_named::<G>(s)
     }
 
     /// Reads the E of a nested name behind an operator that no arguments are read of.
-    fn operator_ended(&mut self, s: &[u8]) -> Option<Step>
+    fn operator_ended<G: Grammar>(&mut self, s: &[u8]) -> Option<Step>
         requires fits { IsReadable s.now }
-        requires read { IsOperatorRead s.now self.old }
-        ensures { IfSome result (IsWriting s.now self.new) }
+        requires read { IsOperatorRead (symbol_by G.IS_WIDE s.now) self.old }
+        ensures { IfSome result (IsWriting (symbol_by G.IS_WIDE s.now) self.new) }
     {
         if byte_at(s, self.at) != b'E' {
             return None;
         }
         self.at = self.at.checked_add(1)?;
         match self.nest.purpose {
-            Purpose::Name { mark } => self.name_ended(s, mark, false, self.nest.from),
+            Purpose::Name { mark } => self.name_ended::<G>(s, mark, false, self.nest.from),
             _ => None,
         }
     }
 
-    // <ctor-dtor-name> ::= C1 | C2 | C3
-    fn constructor(&mut self, s: &[u8]) -> Option<Step>
+    // <ctor-dtor-name> ::= C1 | C2 | C3, and by the wide grammar C4 | C5
+    fn constructor<G: Grammar>(&mut self, s: &[u8]) -> Option<Step>
         requires fits { IsReadable s.now }
         requires letter { StandsAt s.now self.old.at (67 ∷ []) }
-        requires writing { IsWriting s.now self.old steps.Component }
-        ensures { IfSome result (IsWriting s.now self.new) }
+        requires writing { IsWriting (symbol_by G.IS_WIDE s.now) self.old steps.Component }
+        ensures { IfSome result (IsWriting (symbol_by G.IS_WIDE s.now) self.new) }
     {
         self.at = self.at.checked_add(1)?;
         let digit = byte_at(s, self.at);
-        if digit < b'1' || b'3' < digit || !self.nest.has_class {
+        if !is_constructor_digit::<G>(digit) || !self.nest.has_class {
             return None;
         }
         self.at = self.at.checked_add(1)?;
         self.push(b"::")?;
-        self.class_again(s)
+        self.class_again::<G>(s)
     }
 
-    // <ctor-dtor-name> ::= D0 | D1 | D2
-    fn destructor(&mut self, s: &[u8]) -> Option<Step>
+    // <ctor-dtor-name> ::= D0 | D1 | D2, and by the wide grammar D4 | D5
+    fn destructor<G: Grammar>(&mut self, s: &[u8]) -> Option<Step>
         requires fits { IsReadable s.now }
         requires letter { StandsAt s.now self.old.at (68 ∷ []) }
-        requires writing { IsWriting s.now self.old steps.Component }
-        ensures { IfSome result (IsWriting s.now self.new) }
+        requires writing { IsWriting (symbol_by G.IS_WIDE s.now) self.old steps.Component }
+        ensures { IfSome result (IsWriting (symbol_by G.IS_WIDE s.now) self.new) }
     {
         self.at = self.at.checked_add(1)?;
         let digit = byte_at(s, self.at);
-        if digit < b'0' || b'2' < digit || !self.nest.has_class {
+        if !is_destructor_digit::<G>(digit) || !self.nest.has_class {
             return None;
         }
         self.at = self.at.checked_add(1)?;
         self.push(b"::~")?;
-        self.class_again(s)
+        self.class_again::<G>(s)
     }
 
     /// Writes the name of the class again, as that of its constructor or destructor.
     #[inline(always)]
-    fn class_again(&mut self, s: &[u8]) -> Option<Step>
-        requires { AwaitsClass s.now self.old }
-        ensures { IfSome result (IsWriting s.now self.new) }
+    fn class_again<G: Grammar>(&mut self, s: &[u8]) -> Option<Step>
+        requires fits { IsReadable s.now }
+        requires awaits { AwaitsClass (symbol_by G.IS_WIDE s.now) self.old }
+        ensures { IfSome result (IsWriting (symbol_by G.IS_WIDE s.now) self.new) }
     {
         self.repeat(self.nest.class_from, self.nest.class_to)?;
         self.nest = Nest {
@@ -301,6 +365,6 @@ impl Direct {
             is_instance: false,
             ..self.nest
         };
-        self.nest_named(s)
+        self.nest_named::<G>(s)
     }
 }

@@ -7,8 +7,10 @@ ghost use Rattle.cpp_direct.specs.declared.open.Step.TheVariants as steps;
 ghost use Rattle.cpp_direct.specs.Holes.{StandsAt};
 ghost use Rattle.cpp_direct.specs.Stands.{EndsNamed, IsWriting, argument_of, place_of};
 ghost use Rattle.cpp_direct.specs.Ways.{AwaitsType, AwaitsDependentMark, AwaitsKnownArgument, AwaitsNextParameter, IsArgumentRead, IsPackElementRead, KnowsMore, parameter_digits};
+ghost use Rattle.cpp_direct.specs.Symbol.{symbol_by};
 
 use crate::direct::Direct;
+use crate::grammar::Grammar;
 use crate::open::{Argument, Arguments, Mark, Open, Purpose, Step};
 use crate::symbols::{NO_PLACE, NOWHERE};
 use crate::tokens::{byte_at, may_end};
@@ -163,10 +165,10 @@ impl Direct {
     /// The first element of a list, which is a type. Where it is an argument of a name, it is what T_ stands for.
     // <template-args> ::= I <template-arg>* E
     #[inline(always)]
-    pub(crate) fn first_type(&mut self, s: &[u8]) -> Option<Step>
+    pub(crate) fn first_type<G: Grammar>(&mut self, s: &[u8]) -> Option<Step>
         requires fits { IsReadable s.now }
-        requires writing { IsWriting s.now self.old (steps.List true) }
-        ensures { IfSome result (IsWriting s.now self.new) }
+        requires writing { IsWriting (symbol_by G.IS_WIDE s.now) self.old (steps.List true) }
+        ensures { IfSome result (IsWriting (symbol_by G.IS_WIDE s.now) self.new) }
     {
         if !self.is_named() {
             return Some(Step::Type);
@@ -187,18 +189,18 @@ impl Direct {
     /// have one type alone.
     // <template-arg> ::= J <template-arg>* E
     #[inline(never)]
-    pub(crate) fn first_pack(&mut self, s: &[u8]) -> Option<Step>
+    pub(crate) fn first_pack<G: Grammar>(&mut self, s: &[u8]) -> Option<Step>
         requires fits { IsReadable s.now }
         requires letter { StandsAt s.now self.old.at (74 ∷ []) }
-        requires writing { IsWriting s.now self.old (steps.List true) }
-        ensures { IfSome result (IsWriting s.now self.new) }
+        requires writing { IsWriting (symbol_by G.IS_WIDE s.now) self.old (steps.List true) }
+        ensures { IfSome result (IsWriting (symbol_by G.IS_WIDE s.now) self.new) }
     {
         if !self.is_named() {
-            return self.begin_pack(s);
+            return self.begin_pack::<G>(s);
         }
         let behind = self.at.checked_add(1)?;
         if byte_at(s, behind) == b'L' || is_function_at(s, behind) {
-            return self.begin_pack(s);
+            return self.begin_pack::<G>(s);
         }
         self.at = behind;
         let from = self.text.len();
@@ -210,15 +212,15 @@ impl Direct {
     /// The first element of a pack is read, which is the first argument of a name: others follow, or the end of the pack, and behind
     /// it that of the arguments.
     // <template-arg> ::= J <template-arg>* E
-    pub(crate) fn element_ended(
+    pub(crate) fn element_ended<G: Grammar>(
         &mut self,
         s: &[u8],
         from: usize,
         is_reference: bool,
     ) -> Option<Step>
         requires fits { IsReadable s.now }
-        requires read { IsPackElementRead s.now self.old from is_reference }
-        ensures { IfSome result (IsWriting s.now self.new) }
+        requires read { IsPackElementRead (symbol_by G.IS_WIDE s.now) self.old from is_reference }
+        ensures { IfSome result (IsWriting (symbol_by G.IS_WIDE s.now) self.new) }
     {
         let _element = self.waiting.pop();
         if byte_at(s, self.at) != b'E' {
@@ -232,12 +234,12 @@ impl Direct {
         self.at = behind.checked_add(1)?;
         let to = self.text.len();
         let place = placed(from, to, true, is_reference);
-        self.close_list(s, NOWHERE.with(0, place))
+        self.close_list::<G>(s, NOWHERE.with(0, place))
     }
 
     /// A parameter of a function comes next.
     #[inline(always)]
-    pub(crate) fn next_parameter(
+    pub(crate) fn next_parameter<G: Grammar>(
         &mut self,
         s: &[u8],
         mark: Mark,
@@ -245,11 +247,11 @@ impl Direct {
         argument: Arguments,
     ) -> Option<Step>
         requires fits { IsReadable s.now }
-        requires awaits { AwaitsNextParameter s.now self.old mark start argument }
-        ensures { IfSome result (IsWriting s.now self.new) }
+        requires awaits { AwaitsNextParameter (symbol_by G.IS_WIDE s.now) self.old mark start argument }
+        ensures { IfSome result (IsWriting (symbol_by G.IS_WIDE s.now) self.new) }
     {
         if argument.first.is_pack {
-            return self.expansion(s, mark, start, argument);
+            return self.expansion::<G>(s, mark, start, argument);
         }
         Some(Step::Type)
     }
@@ -257,11 +259,17 @@ impl Direct {
     /// The last parameter may be a reference to each type of the pack that the function's template has as its argument.
     // <type> ::= Dp <type>
     #[inline(never)]
-    fn expansion(&mut self, s: &[u8], mark: Mark, start: usize, argument: Arguments) -> Option<Step>
+    fn expansion<G: Grammar>(
+        &mut self,
+        s: &[u8],
+        mark: Mark,
+        start: usize,
+        argument: Arguments,
+    ) -> Option<Step>
         requires fits { IsReadable s.now }
         requires is_pack { argument.first.is_pack ≡ true }
-        requires awaits { AwaitsNextParameter s.now self.old mark start argument }
-        ensures { IfSome result (IsWriting s.now self.new) }
+        requires awaits { AwaitsNextParameter (symbol_by G.IS_WIDE s.now) self.old mark start argument }
+        ensures { IfSome result (IsWriting (symbol_by G.IS_WIDE s.now) self.new) }
     {
         let Some(end) = expansion_end(s, self.at) else {
             return Some(Step::Type);
@@ -277,12 +285,12 @@ impl Direct {
         self.add_hidden(false)?;
         self.add_hidden(false)?;
         self.add_hidden(false)?;
-        self.close_parameters(s, mark, start, argument)
+        self.close_parameters::<G>(s, mark, start, argument)
     }
 
     /// An argument of a name is read, so many behind the first one: others follow, or the end.
     // <template-args> ::= I <template-arg>* E
-    pub(crate) fn argument_ended(
+    pub(crate) fn argument_ended<G: Grammar>(
         &mut self,
         s: &[u8],
         from: usize,
@@ -291,8 +299,8 @@ impl Direct {
         is_reference: bool,
     ) -> Option<Step>
         requires fits { IsReadable s.now }
-        requires read { IsArgumentRead s.now self.old from number known is_reference }
-        ensures { IfSome result (IsWriting s.now self.new) }
+        requires read { IsArgumentRead (symbol_by G.IS_WIDE s.now) self.old from number known is_reference }
+        ensures { IfSome result (IsWriting (symbol_by G.IS_WIDE s.now) self.new) }
     {
         let _open = self.waiting.pop();
         let byte = byte_at(s, self.at);
@@ -303,18 +311,18 @@ impl Direct {
         let to = self.text.len();
         let more = known.with(number, placed(from, to, false, is_reference));
         if byte != b'E' {
-            return self.next_argument(s, number, more);
+            return self.next_argument::<G>(s, number, more);
         }
         self.at = self.at.checked_add(1)?;
-        self.close_list(s, more)
+        self.close_list::<G>(s, more)
     }
 
     /// An argument of a name comes next, behind so many others.
     // <template-args> ::= I <template-arg>* E
-    fn next_argument(&mut self, s: &[u8], before: u16, known: Arguments) -> Option<Step>
+    fn next_argument<G: Grammar>(&mut self, s: &[u8], before: u16, known: Arguments) -> Option<Step>
         requires fits { IsReadable s.now }
-        requires awaits { AwaitsKnownArgument s.now self.old before known }
-        ensures { IfSome result (IsWriting s.now self.new) }
+        requires awaits { AwaitsKnownArgument (symbol_by G.IS_WIDE s.now) self.old before known }
+        ensures { IfSome result (IsWriting (symbol_by G.IS_WIDE s.now) self.new) }
     {
         self.push_pair(b',', b' ')?;
         let from = self.text.len();
@@ -349,11 +357,11 @@ impl Direct {
 
     // <template-param> ::= T_ | T <parameter-2 non-negative number> _
     #[inline(never)]
-    pub(crate) fn template_parameter(&mut self, s: &[u8]) -> Option<Step>
+    pub(crate) fn template_parameter<G: Grammar>(&mut self, s: &[u8]) -> Option<Step>
         requires fits { IsReadable s.now }
         requires letter { StandsAt s.now self.old.at (84 ∷ []) }
-        requires awaits { AwaitsType s.now self.old }
-        ensures { IfSome result (IsWriting s.now self.new) }
+        requires awaits { AwaitsType (symbol_by G.IS_WIDE s.now) self.old }
+        ensures { IfSome result (IsWriting (symbol_by G.IS_WIDE s.now) self.new) }
     {
         let read = parameter_number(s, self.at.checked_add(1)?)?;
         let argument = known(self.argument()?.at(read.number))?;
@@ -372,56 +380,65 @@ impl Direct {
     /// Hands a type that names the argument on to what waits for it.
     // <type> ::= P <type>
     #[inline(never)]
-    pub(crate) fn pass_dependent(&mut self, s: &[u8], is_reference: bool) -> Option<Step>
+    pub(crate) fn pass_dependent<G: Grammar>(
+        &mut self,
+        s: &[u8],
+        is_reference: bool,
+    ) -> Option<Step>
         requires fits { IsReadable s.now }
-        requires writing { IsWriting s.now self.old (steps.Dependent is_reference) }
-        ensures { IfSome result (IsWriting s.now self.new) }
+        requires writing { IsWriting (symbol_by G.IS_WIDE s.now) self.old (steps.Dependent is_reference) }
+        ensures { IfSome result (IsWriting (symbol_by G.IS_WIDE s.now) self.new) }
     {
         match *self.waiting.as_slice().last()? {
-            Open::Pointer { .. } => self.mark_dependent(s, b"*", false),
+            Open::Pointer { .. } => self.mark_dependent::<G>(s, b"*", false),
             Open::Parameters {
                 mark,
                 start,
                 argument,
-            } => self.parameter_ended(s, mark, start, argument),
+            } => self.parameter_ended::<G>(s, mark, start, argument),
             Open::Front {
                 mark,
                 start,
                 argument,
-            } => self.front_ended(s, mark, start, argument),
+            } => self.front_ended::<G>(s, mark, start, argument),
             Open::Enclosing {
                 mark,
                 from,
                 argument,
-            } => self.enclosing_parameter(s, mark, from, argument),
+            } => self.enclosing_parameter::<G>(s, mark, from, argument),
             _ => {
                 // a reference to a reference, or a const one, prints otherwise
                 if is_reference {
                     return None;
                 }
-                self.mark_plain(s)
+                self.mark_plain::<G>(s)
             }
         }
     }
 
     /// Ends a type that names the argument, and is no reference, with a mark.
     // <type> ::= R <type> | O <type> | <CV-qualifiers> <type>
-    fn mark_plain(&mut self, s: &[u8]) -> Option<Step>
-        requires { IsWriting s.now self.old (steps.Dependent false) }
-        ensures { IfSome result (IsWriting s.now self.new) }
+    fn mark_plain<G: Grammar>(&mut self, s: &[u8]) -> Option<Step>
+        requires { IsWriting (symbol_by G.IS_WIDE s.now) self.old (steps.Dependent false) }
+        ensures { IfSome result (IsWriting (symbol_by G.IS_WIDE s.now) self.new) }
     {
         match *self.waiting.as_slice().last()? {
-            Open::Lvalue { .. } => self.mark_dependent(s, b"&", true),
-            Open::Rvalue { .. } => self.mark_dependent(s, b"&&", true),
-            Open::Const { .. } => self.mark_dependent(s, b" const", false),
+            Open::Lvalue { .. } => self.mark_dependent::<G>(s, b"&", true),
+            Open::Rvalue { .. } => self.mark_dependent::<G>(s, b"&&", true),
+            Open::Const { .. } => self.mark_dependent::<G>(s, b" const", false),
             _ => None,
         }
     }
 
     /// Ends a type that names the argument with a mark.
-    fn mark_dependent(&mut self, _s: &[u8], mark: &[u8], is_reference: bool) -> Option<Step>
-        requires { AwaitsDependentMark _s.now self.old mark.now is_reference }
-        ensures { IfSome result (IsWriting _s.now self.new) }
+    fn mark_dependent<G: Grammar>(
+        &mut self,
+        _s: &[u8],
+        mark: &[u8],
+        is_reference: bool,
+    ) -> Option<Step>
+        requires { AwaitsDependentMark (symbol_by G.IS_WIDE _s.now) self.old mark.now is_reference }
+        ensures { IfSome result (IsWriting (symbol_by G.IS_WIDE _s.now) self.new) }
     {
         let _open = self.waiting.pop();
         self.push(mark)?;

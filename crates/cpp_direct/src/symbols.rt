@@ -4,13 +4,15 @@ ghost use Rattle.std.specs.Prelude.{◌≡◌, ◌≢◌, ◌≤◌, ◌+◌, �
 ghost use Rattle.std.specs.Option.{IfSome};
 ghost use Rattle.sym_core.specs.Number.{FitsSymbol};
 ghost use Rattle.sym_print.specs.declared.detail.Detail.TheVariants as details;
-ghost use Rattle.cpp_grammar.specs.Mangled.{IsAnswer};
+ghost use Rattle.sym_demangle.specs.Mangled.{IsAnswer};
 ghost use Rattle.cpp_direct.specs.Holes.{StandsAt};
 ghost use Rattle.cpp_direct.specs.Names.{IsReadable};
 ghost use Rattle.cpp_direct.specs.Stands.{IsWriting};
 ghost use Rattle.cpp_direct.specs.Ways.{IsFresh, AwaitsEncoding, IsNameEnded, IsFrontRead, AwaitsParameters, IsParameterEnded, IsEncodingEnded, IsSymbolEnded};
+ghost use Rattle.cpp_direct.specs.Symbol.{mangled_by, symbol_by};
 
 use crate::direct::Direct;
+use crate::grammar::{Abi, Grammar, Wide};
 use crate::marks::mark_at;
 use crate::names::are_name_bytes;
 use crate::open::{Argument, Arguments, Mark, Nest, Open, Purpose, Step};
@@ -78,15 +80,15 @@ impl Direct {
         self.text.as_slice()
     }
 
-    /// Writes the text of a symbol in full, if the symbol is one that can be read so and the text costs at most a limit, and
-    /// answers whether it did. Where it didn't, nothing is known of the symbol.
+    /// Writes the text of a symbol in full, by the wide grammar or by the default, if the symbol is one that can be read so and the
+    /// text costs at most a limit, and answers whether it did. Where it didn't, nothing is known of the symbol.
     ///
     /// Whatever is answered, at most eight bytes for each of the symbol's and a kilobyte are written, at most eight steps for each
     /// byte are taken, and no list has more entries than the symbol has bytes. Text and candidates only grow, up to the end of an
     /// instance of a function template, where what was written up to its return type is taken away.
-    pub fn write(&mut self, s: &[u8], limit: u32) -> bool
+    pub fn write(&mut self, s: &[u8], limit: u32, is_wide: bool) -> bool
         requires { FitsSymbol s.now }
-        ensures answer { result ≡ true → IsAnswer details.Full s.now limit (Ok self.new.text.list.items) }
+        ensures answer { result ≡ true → IsAnswer (mangled_by is_wide) details.Full s.now limit (Ok self.new.text.list.items) }
         ensures bytes { length self.new.text.list.items ≤ 8 * length s.now + 1024 }
         ensures candidates { length self.new.candidates.list.items ≤ length s.now }
         ensures waiting { length self.new.waiting.list.items ≤ length s.now }
@@ -96,7 +98,7 @@ impl Direct {
         let bytes = BYTES_A_BYTE * size + BYTES_ANYWAY;
         self.begin_lists(bytes.min(limit as usize / 4), size);
         let mut rounds = 0;
-        let is_written = self.run(s, limit, &mut rounds);
+        let is_written = self.run_by(s, limit, is_wide, &mut rounds);
         self.rounds = rounds;
         // always: no step gives a list more room than it began with, which no clause of theirs says
         if self.keeps_to(bytes, size) {
@@ -133,18 +135,32 @@ impl Direct {
         self.waiting.begin(entries);
     }
 
-    /// Takes steps up to the end of a symbol, and counts them.
-    fn run(&mut self, s: &[u8], limit: u32, rounds: &mut usize) -> bool
+    /// Takes steps up to the end of a symbol by the wide grammar or by that of the ABI, and counts them.
+    fn run_by(&mut self, s: &[u8], limit: u32, is_wide: bool, rounds: &mut usize) -> bool
         requires fits { FitsSymbol s.now }
         requires fresh { IsFresh self.old }
         requires none { rounds.old ≡ 0 }
-        ensures answer { result ≡ true → IsAnswer details.Full s.now limit (Ok self.new.text.list.items) }
+        ensures answer { result ≡ true → IsAnswer (mangled_by is_wide) details.Full s.now limit (Ok self.new.text.list.items) }
+        ensures rounds { rounds.new ≤ 8 * length s.now }
+    {
+        if is_wide {
+            return self.run::<Wide>(s, limit, rounds);
+        }
+        self.run::<Abi>(s, limit, rounds)
+    }
+
+    /// Takes steps up to the end of a symbol by a grammar, and counts them.
+    fn run<G: Grammar>(&mut self, s: &[u8], limit: u32, rounds: &mut usize) -> bool
+        requires fits { FitsSymbol s.now }
+        requires fresh { IsFresh self.old }
+        requires none { rounds.old ≡ 0 }
+        ensures answer { result ≡ true → IsAnswer (mangled_by G.IS_WIDE) details.Full s.now limit (Ok self.new.text.list.items) }
         ensures rounds { rounds.new ≤ 8 * length s.now }
     {
         if s.len() > LONGEST || !are_name_bytes(s) {
             return false;
         }
-        let Some(first) = self.begin(s) else {
+        let Some(first) = self.begin::<G>(s) else {
             return false;
         };
         let mut step = first;
@@ -154,7 +170,7 @@ impl Direct {
             if let Step::Ended = step {
                 return self.text.len() <= limit as usize / 4;
             }
-            match self.take(s, step) {
+            match self.take::<G>(s, step) {
                 Some(next) => step = next,
                 None => return false,
             }
@@ -164,75 +180,75 @@ impl Direct {
 
     /// Takes a step.
     #[inline(always)]
-    fn take(&mut self, s: &[u8], step: Step) -> Option<Step>
+    fn take<G: Grammar>(&mut self, s: &[u8], step: Step) -> Option<Step>
         requires fits { IsReadable s.now }
-        requires writing { IsWriting s.now self.old step }
-        ensures { IfSome result (IsWriting s.now self.new) }
+        requires writing { IsWriting (symbol_by G.IS_WIDE s.now) self.old step }
+        ensures { IfSome result (IsWriting (symbol_by G.IS_WIDE s.now) self.new) }
     {
         match step {
-            Step::Type => self.type_at(s, false),
-            Step::Plain => self.type_at(s, true),
-            Step::Value { is_reference } => self.pass(s, is_reference),
-            Step::Dependent { is_reference } => self.pass_dependent(s, is_reference),
-            Step::List { is_first } => self.list_at(s, is_first),
-            Step::Rest => self.rest_at(s),
-            Step::Tail => self.tail_at(s),
-            Step::Component => self.component_at(s),
+            Step::Type => self.type_at::<G>(s, false),
+            Step::Plain => self.type_at::<G>(s, true),
+            Step::Value { is_reference } => self.pass::<G>(s, is_reference),
+            Step::Dependent { is_reference } => self.pass_dependent::<G>(s, is_reference),
+            Step::List { is_first } => self.list_at::<G>(s, is_first),
+            Step::Rest => self.rest_at::<G>(s),
+            Step::Tail => self.tail_at::<G>(s),
+            Step::Component => self.component_at::<G>(s),
             Step::Ended => None,
         }
     }
 
     /// The first bytes of a symbol.
     // <mangled-name> ::= _Z <encoding>
-    fn begin(&mut self, s: &[u8]) -> Option<Step>
+    fn begin<G: Grammar>(&mut self, s: &[u8]) -> Option<Step>
         requires fits { IsReadable s.now }
         requires fresh { IsFresh self.old }
-        ensures { IfSome result (IsWriting s.now self.new) }
+        ensures { IfSome result (IsWriting (symbol_by G.IS_WIDE s.now) self.new) }
     {
         if byte_at(s, 0) != b'_' || byte_at(s, 1) != b'Z' {
             return None;
         }
         if is_local(s) {
-            return self.begin_local(s);
+            return self.begin_local::<G>(s);
         }
         if byte_at(s, 2) != b'T' {
             self.at = 2;
-            return self.begin_encoding(s);
+            return self.begin_encoding::<G>(s);
         }
         match byte_at(s, 3) {
-            b'h' => self.begin_thunk(s),
-            b'v' => self.begin_virtual_thunk(s),
-            _ => self.begin_special(s),
+            b'h' => self.begin_thunk::<G>(s),
+            b'v' => self.begin_virtual_thunk::<G>(s),
+            _ => self.begin_special::<G>(s),
         }
     }
 
     /// The first bytes of an encoding.
     // <encoding> ::= <function name> <bare-function-type> | <data name>
-    pub(crate) fn begin_encoding(&mut self, s: &[u8]) -> Option<Step>
+    pub(crate) fn begin_encoding<G: Grammar>(&mut self, s: &[u8]) -> Option<Step>
         requires fits { IsReadable s.now }
-        requires awaits { AwaitsEncoding s.now self.old }
-        ensures { IfSome result (IsWriting s.now self.new) }
+        requires awaits { AwaitsEncoding (symbol_by G.IS_WIDE s.now) self.old }
+        ensures { IfSome result (IsWriting (symbol_by G.IS_WIDE s.now) self.new) }
     {
         match byte_at(s, self.at) {
-            b'N' => self.begin_nested(s),
+            b'N' => self.begin_nested::<G>(s),
             b'L' => {
                 self.at = self.at.checked_add(1)?;
-                self.begin_name(s, true)
+                self.begin_name::<G>(s, true)
             }
-            b'S' => self.begin_in_std(s),
-            b'a'..=b'z' => self.begin_operator(s),
-            _ => self.begin_name(s, false),
+            b'S' => self.begin_in_std::<G>(s),
+            b'a'..=b'z' => self.begin_operator::<G>(s),
+            _ => self.begin_name::<G>(s, false),
         }
     }
 
     // <special-name> ::= TV <type> | TT <type> | TI <type> | TS <type>
     #[inline(never)]
-    fn begin_special(&mut self, s: &[u8]) -> Option<Step>
+    fn begin_special<G: Grammar>(&mut self, s: &[u8]) -> Option<Step>
         requires fits { IsReadable s.now }
         requires fresh { IsFresh self.old }
         requires starts { StandsAt s.now 0 (95 ∷ 90 ∷ []) }
         requires letter { StandsAt s.now 2 (84 ∷ []) }
-        ensures { IfSome result (IsWriting s.now self.new) }
+        ensures { IfSome result (IsWriting (symbol_by G.IS_WIDE s.now) self.new) }
     {
         let text = cpp_layout::special_text(byte_at(s, 3));
         if text.is_empty() {
@@ -245,21 +261,21 @@ impl Direct {
     }
 
     // <nested-name> ::= N [<CV-qualifiers>] [<ref-qualifier>] <prefix> <unqualified-name> E
-    fn begin_nested(&mut self, s: &[u8]) -> Option<Step>
+    fn begin_nested<G: Grammar>(&mut self, s: &[u8]) -> Option<Step>
         requires fits { IsReadable s.now }
-        requires awaits { AwaitsEncoding s.now self.old }
+        requires awaits { AwaitsEncoding (symbol_by G.IS_WIDE s.now) self.old }
         requires letter { StandsAt s.now self.old.at (78 ∷ []) }
-        ensures { IfSome result (IsWriting s.now self.new) }
+        ensures { IfSome result (IsWriting (symbol_by G.IS_WIDE s.now) self.new) }
     {
         self.at = self.at.checked_add(1)?;
         let place = mark_at(s, self.at)?;
         self.at = place.end;
-        self.nest_at(s, Purpose::Name { mark: place.mark })
+        self.nest_at::<G>(s, Purpose::Name { mark: place.mark })
     }
 
     /// The name of an encoding is read: nothing is left, or the function's types.
     // <encoding> ::= <function name> <bare-function-type> | <data name>
-    pub(crate) fn name_ended(
+    pub(crate) fn name_ended<G: Grammar>(
         &mut self,
         s: &[u8],
         mark: Mark,
@@ -267,26 +283,26 @@ impl Direct {
         from: usize,
     ) -> Option<Step>
         requires fits { IsReadable s.now }
-        requires ended { IsNameEnded s.now self.old mark is_instance from }
-        ensures { IfSome result (IsWriting s.now self.new) }
+        requires ended { IsNameEnded (symbol_by G.IS_WIDE s.now) self.old mark is_instance from }
+        ensures { IfSome result (IsWriting (symbol_by G.IS_WIDE s.now) self.new) }
     {
         if may_end(byte_at(s, self.at)) {
-            return self.end(s, mark);
+            return self.end::<G>(s, mark);
         }
         if is_instance {
-            return self.begin_front(s, mark, from);
+            return self.begin_front::<G>(s, mark, from);
         }
-        self.begin_parameters(s, mark, 0, NOWHERE)
+        self.begin_parameters::<G>(s, mark, 0, NOWHERE)
     }
 
     /// The return type of a function is expected, which stands in front of its name in the text. It is written behind the name, and
     /// behind it the name once more.
     // <bare-function-type> ::= <return type> <parameter type>+
     #[inline(never)]
-    fn begin_front(&mut self, s: &[u8], mark: Mark, from: usize) -> Option<Step>
+    fn begin_front<G: Grammar>(&mut self, s: &[u8], mark: Mark, from: usize) -> Option<Step>
         requires fits { IsReadable s.now }
-        requires ended { IsNameEnded s.now self.old mark true from }
-        ensures { IfSome result (IsWriting s.now self.new) }
+        requires ended { IsNameEnded (symbol_by G.IS_WIDE s.now) self.old mark true from }
+        ensures { IfSome result (IsWriting (symbol_by G.IS_WIDE s.now) self.new) }
     {
         // in front of a local entity stands no return type, and behind a text it would have to be moved
         if from != 0 || is_local(s) {
@@ -305,7 +321,7 @@ impl Direct {
     /// The return type of a function is read: its parameters follow.
     // <bare-function-type> ::= <return type> <parameter type>+
     #[inline(never)]
-    pub(crate) fn front_ended(
+    pub(crate) fn front_ended<G: Grammar>(
         &mut self,
         s: &[u8],
         mark: Mark,
@@ -313,8 +329,8 @@ impl Direct {
         argument: Arguments,
     ) -> Option<Step>
         requires fits { IsReadable s.now }
-        requires ended { IsFrontRead s.now self.old mark start argument }
-        ensures { IfSome result (IsWriting s.now self.new) }
+        requires ended { IsFrontRead (symbol_by G.IS_WIDE s.now) self.old mark start argument }
+        ensures { IfSome result (IsWriting (symbol_by G.IS_WIDE s.now) self.new) }
     {
         if may_end(byte_at(s, self.at)) {
             return None;
@@ -322,13 +338,13 @@ impl Direct {
         let _open = self.waiting.pop();
         self.push_byte(b' ')?;
         self.repeat(0, start)?;
-        self.begin_parameters(s, mark, start, argument)
+        self.begin_parameters::<G>(s, mark, start, argument)
     }
 
     /// Reads the parameters of a function up to the first type in them. Its text begins at a place.
     // <bare-function-type> ::= <parameter type>+ | v
     #[inline(always)]
-    fn begin_parameters(
+    fn begin_parameters<G: Grammar>(
         &mut self,
         s: &[u8],
         mark: Mark,
@@ -336,8 +352,8 @@ impl Direct {
         argument: Arguments,
     ) -> Option<Step>
         requires fits { IsReadable s.now }
-        requires awaits { AwaitsParameters s.now self.old mark start argument }
-        ensures { IfSome result (IsWriting s.now self.new) }
+        requires awaits { AwaitsParameters (symbol_by G.IS_WIDE s.now) self.old mark start argument }
+        ensures { IfSome result (IsWriting (symbol_by G.IS_WIDE s.now) self.new) }
     {
         let byte = byte_at(s, self.at);
         self.push_byte(b'(')?;
@@ -346,18 +362,18 @@ impl Direct {
             self.at = self.at.checked_add(1)?;
             self.push_byte(b')')?;
             self.cut(start)?;
-            return self.end(s, mark);
+            return self.end::<G>(s, mark);
         }
         self.waiting.push(Open::Parameters {
             mark,
             start,
             argument,
         })?;
-        self.next_parameter(s, mark, start, argument)
+        self.next_parameter::<G>(s, mark, start, argument)
     }
 
     /// A parameter is read: another one follows, or the end of the encoding.
-    pub(crate) fn parameter_ended(
+    pub(crate) fn parameter_ended<G: Grammar>(
         &mut self,
         s: &[u8],
         mark: Mark,
@@ -365,21 +381,21 @@ impl Direct {
         argument: Arguments,
     ) -> Option<Step>
         requires fits { IsReadable s.now }
-        requires ended { IsParameterEnded s.now self.old mark start argument }
-        ensures { IfSome result (IsWriting s.now self.new) }
+        requires ended { IsParameterEnded (symbol_by G.IS_WIDE s.now) self.old mark start argument }
+        ensures { IfSome result (IsWriting (symbol_by G.IS_WIDE s.now) self.new) }
     {
         let byte = byte_at(s, self.at);
         if !may_end(byte) {
             self.push_pair(b',', b' ')?;
-            return self.next_parameter(s, mark, start, argument);
+            return self.next_parameter::<G>(s, mark, start, argument);
         }
-        self.close_parameters(s, mark, start, argument)
+        self.close_parameters::<G>(s, mark, start, argument)
     }
 
     /// The end of an encoding is reached behind a parameter.
     // <bare-function-type> ::= <parameter type>+
     #[inline(always)]
-    pub(crate) fn close_parameters(
+    pub(crate) fn close_parameters<G: Grammar>(
         &mut self,
         s: &[u8],
         mark: Mark,
@@ -387,8 +403,8 @@ impl Direct {
         _argument: Arguments,
     ) -> Option<Step>
         requires fits { IsReadable s.now }
-        requires ended { IsParameterEnded s.now self.old mark start _argument }
-        ensures { IfSome result (IsWriting s.now self.new) }
+        requires ended { IsParameterEnded (symbol_by G.IS_WIDE s.now) self.old mark start _argument }
+        ensures { IfSome result (IsWriting (symbol_by G.IS_WIDE s.now) self.new) }
     {
         // a lone void is no parameter
         if self.text.as_slice().ends_with(b"(void") {
@@ -396,27 +412,27 @@ impl Direct {
         }
         self.push_byte(b')')?;
         self.cut(start)?;
-        self.end(s, mark)
+        self.end::<G>(s, mark)
     }
 
     /// The end of an encoding, behind its text but for its qualifier: a local entity follows, or the end of the symbol.
-    pub(crate) fn end(&mut self, s: &[u8], mark: Mark) -> Option<Step>
+    pub(crate) fn end<G: Grammar>(&mut self, s: &[u8], mark: Mark) -> Option<Step>
         requires fits { IsReadable s.now }
-        requires ended { IsEncodingEnded s.now self.old mark }
-        ensures { IfSome result (IsWriting s.now self.new) }
+        requires ended { IsEncodingEnded (symbol_by G.IS_WIDE s.now) self.old mark }
+        ensures { IfSome result (IsWriting (symbol_by G.IS_WIDE s.now) self.new) }
     {
         self.push_mark(mark)?;
         if is_local(s) {
-            return self.entity(s);
+            return self.entity::<G>(s);
         }
-        self.finish(s)
+        self.finish::<G>(s)
     }
 
     /// The end of a symbol, behind the text of its encoding.
     // <mangled-name> ::= _Z <encoding> . <vendor-specific suffix>
-    pub(crate) fn finish(&mut self, s: &[u8]) -> Option<Step>
-        requires { IsSymbolEnded s.now self.old }
-        ensures { IfSome result (IsWriting s.now self.new) }
+    pub(crate) fn finish<G: Grammar>(&mut self, s: &[u8]) -> Option<Step>
+        requires { IsSymbolEnded (symbol_by G.IS_WIDE s.now) self.old }
+        ensures { IfSome result (IsWriting (symbol_by G.IS_WIDE s.now) self.new) }
     {
         let suffix = s.get(self.at..)?;
         if suffix.is_empty() {

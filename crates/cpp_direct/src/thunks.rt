@@ -8,8 +8,10 @@ ghost use Rattle.cpp_direct.specs.HolesOfLists.{IsDigitsAt, IsOffsetAt};
 ghost use Rattle.cpp_direct.specs.Stands.{IsWriting};
 ghost use Rattle.cpp_direct.specs.Ways.{IsFresh};
 ghost use Rattle.cpp_direct.specs.Written.{Reads};
+ghost use Rattle.cpp_direct.specs.Symbol.{symbol_by};
 
 use crate::direct::Direct;
+use crate::grammar::Grammar;
 use crate::open::Step;
 use crate::tokens::byte_at;
 use sym_core::{NumberKind, find_number};
@@ -18,36 +20,36 @@ impl Direct {
     // <special-name> ::= T <call-offset> <base encoding>
     // <call-offset> ::= h <nv-offset> _
     #[inline(never)]
-    pub(crate) fn begin_thunk(&mut self, s: &[u8]) -> Option<Step>
+    pub(crate) fn begin_thunk<G: Grammar>(&mut self, s: &[u8]) -> Option<Step>
         requires fits { IsReadable s.now }
         requires fresh { IsFresh self.old }
         requires starts { StandsAt s.now 0 (95 ∷ 90 ∷ []) }
         requires letter { StandsAt s.now 2 (84 ∷ []) }
         requires kind { StandsAt s.now 3 (104 ∷ []) }
-        ensures { IfSome result (IsWriting s.now self.new) }
+        ensures { IfSome result (IsWriting (symbol_by G.IS_WIDE s.now) self.new) }
     {
         self.at = 4;
         self.offset(s)?;
         self.push(b"non-virtual thunk to ")?;
-        self.begin_encoding(s)
+        self.begin_encoding::<G>(s)
     }
 
     // <special-name> ::= T <call-offset> <base encoding>
     // <call-offset> ::= v <offset number> _ <virtual offset number> _
     #[inline(never)]
-    pub(crate) fn begin_virtual_thunk(&mut self, s: &[u8]) -> Option<Step>
+    pub(crate) fn begin_virtual_thunk<G: Grammar>(&mut self, s: &[u8]) -> Option<Step>
         requires fits { IsReadable s.now }
         requires fresh { IsFresh self.old }
         requires starts { StandsAt s.now 0 (95 ∷ 90 ∷ []) }
         requires letter { StandsAt s.now 2 (84 ∷ []) }
         requires kind { StandsAt s.now 3 (118 ∷ []) }
-        ensures { IfSome result (IsWriting s.now self.new) }
+        ensures { IfSome result (IsWriting (symbol_by G.IS_WIDE s.now) self.new) }
     {
         self.at = 4;
         self.offset(s)?;
         self.offset(s)?;
         self.push(b"virtual thunk to ")?;
-        self.begin_encoding(s)
+        self.begin_encoding::<G>(s)
     }
 
     /// Reads an offset and the _ behind it, of which nothing is written.

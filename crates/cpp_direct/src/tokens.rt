@@ -6,9 +6,9 @@ ghost use Rattle.std.specs.Option.{OnSome, IfSome};
 ghost use Rattle.sym_core.specs.Value.{counted_value};
 ghost use Rattle.sym_core.specs.declared.NumberKind.{NumberKind};
 ghost use Rattle.cpp_grammar.specs.Parts.{source_text};
-ghost use Rattle.cpp_direct.specs.Names.{IsReadable};
+ghost use Rattle.cpp_direct.specs.Names.{IsReadable, tag_text};
 ghost use Rattle.cpp_direct.specs.Bytes.{is_local, short_numbers};
-ghost use Rattle.cpp_direct.specs.Holes.{StandsAt, IsNameAt, IsSeqAt};
+ghost use Rattle.cpp_direct.specs.Holes.{StandsAt, IsNameAt, IsSeqAt, IsTagAt};
 ghost use Rattle.cpp_direct.specs.HolesOfLists.{IsSuffix};
 ghost use Rattle.cpp_direct.specs.ItemBytes.{is_suffix_byte};
 ghost use Rattle.cpp_direct.specs.Written.{Reads};
@@ -107,6 +107,23 @@ impl Direct {
         let place = name_at(s, self.at)?;
         self.at = place.to;
         self.push(cpp_layout::name_text(&s[place.from..place.to]))
+    }
+
+    /// Reads a tag behind a name, and writes it.
+    // <abi-tag> ::= B <source-name>
+    #[inline(never)]
+    pub(crate) fn tag(&mut self, s: &[u8]) -> Option<()>
+        requires fits { IsReadable s.now }
+        requires letter { StandsAt s.now self.old.at (66 ∷ []) }
+        ensures { OnSome result ((tag : List ℕ) × IsTagAt s.now self.old.at tag self.new.at × Reads self.old self.new (tag_text tag)) }
+    {
+        self.at = self.at.checked_add(1)?;
+        let place = name_at(s, self.at)?;
+        self.push(b"[abi:")?;
+        self.push(&s[place.from..place.to])?;
+        self.push_byte(b']')?;
+        self.at = place.to;
+        Some(())
     }
 
     /// Reads the number of a substitution, and finds what it names, where its text is kept.

@@ -7,8 +7,10 @@ ghost use Rattle.cpp_direct.specs.declared.open.Step.TheVariants as steps;
 ghost use Rattle.cpp_direct.specs.Holes.{StandsAt};
 ghost use Rattle.cpp_direct.specs.Stands.{IsWriting};
 ghost use Rattle.cpp_direct.specs.Ways.{AwaitsType, AwaitsNamedType, IsTypeNamed, AwaitsMark};
+ghost use Rattle.cpp_direct.specs.Symbol.{symbol_by};
 
 use crate::direct::Direct;
+use crate::grammar::Grammar;
 use crate::letters::is_builtin_with_d;
 use crate::open::{Open, Purpose, Step};
 use crate::tokens::byte_at;
@@ -16,16 +18,16 @@ use crate::tokens::byte_at;
 impl Direct {
     /// Reads a type, up to the first that stands in it.
     // <type> ::= <builtin-type> | <qualified-type> | <class-enum-type> | P <type> | R <type> | O <type> | <substitution>
-    pub(crate) fn type_at(&mut self, s: &[u8], is_plain: bool) -> Option<Step>
+    pub(crate) fn type_at<G: Grammar>(&mut self, s: &[u8], is_plain: bool) -> Option<Step>
         requires fits { IsReadable s.now }
-        requires writing { IsWriting s.now self.old (if is_plain then steps.Plain else steps.Type) }
-        ensures { IfSome result (IsWriting s.now self.new) }
+        requires writing { IsWriting (symbol_by G.IS_WIDE s.now) self.old (if is_plain then steps.Plain else steps.Type) }
+        ensures { IfSome result (IsWriting (symbol_by G.IS_WIDE s.now) self.new) }
     {
         let from = self.text.len();
         match byte_at(s, self.at) {
             b'P' => {
                 if !is_plain && byte_at(s, self.at.checked_add(1)?) == b'F' {
-                    return self.begin_function(s, true);
+                    return self.begin_function::<G>(s, true);
                 }
                 self.open_type(Open::Pointer { from }, Step::Type)
             }
@@ -33,7 +35,7 @@ impl Direct {
                 if is_plain {
                     return None;
                 }
-                self.begin_function(s, false)
+                self.begin_function::<G>(s, false)
             }
             b'R' => self.open_type(Open::Lvalue { from }, Step::Type),
             b'O' => self.open_type(Open::Rvalue { from }, Step::Type),
@@ -43,41 +45,41 @@ impl Direct {
                 }
                 self.open_type(Open::Const { from }, Step::Plain)
             }
-            b'N' | b'S' | b'Z' | b'1'..=b'9' => self.named_type(s),
-            b'D' => self.builtin_with_d(s),
-            b'T' => self.template_parameter(s),
-            letter => self.builtin(s, letter),
+            b'N' | b'S' | b'Z' | b'1'..=b'9' => self.named_type::<G>(s),
+            b'D' => self.builtin_with_d::<G>(s),
+            b'T' => self.template_parameter::<G>(s),
+            letter => self.builtin::<G>(s, letter),
         }
     }
 
     /// Reads a type that is a name, up to the first type that stands in it.
     // <class-enum-type> ::= <name>
-    pub(crate) fn named_type(&mut self, s: &[u8]) -> Option<Step>
+    pub(crate) fn named_type<G: Grammar>(&mut self, s: &[u8]) -> Option<Step>
         requires fits { IsReadable s.now }
-        requires awaits { AwaitsNamedType s.now self.old }
-        ensures { IfSome result (IsWriting s.now self.new) }
+        requires awaits { AwaitsNamedType (symbol_by G.IS_WIDE s.now) self.old }
+        ensures { IfSome result (IsWriting (symbol_by G.IS_WIDE s.now) self.new) }
     {
         let from = self.text.len();
         match byte_at(s, self.at) {
             b'N' => {
                 self.at = self.at.checked_add(1)?;
-                self.nest_at(s, Purpose::Type)
+                self.nest_at::<G>(s, Purpose::Type)
             }
-            b'S' => self.type_with_s(s),
-            b'Z' => self.begin_enclosing(s),
+            b'S' => self.type_with_s::<G>(s),
+            b'Z' => self.begin_enclosing::<G>(s),
             _ => {
                 self.name(s)?;
-                self.type_named(s, from, false, false)
+                self.type_named::<G>(s, from, false, false)
             }
         }
     }
 
     // <builtin-type> ::= v | w | b | ..
     #[inline(always)]
-    fn builtin(&mut self, _s: &[u8], letter: u8) -> Option<Step>
+    fn builtin<G: Grammar>(&mut self, _s: &[u8], letter: u8) -> Option<Step>
         requires letter { letter ≢ 0 → StandsAt _s.now self.old.at (letter ∷ []) }
-        requires awaits { AwaitsType _s.now self.old }
-        ensures { IfSome result (IsWriting _s.now self.new) }
+        requires awaits { AwaitsType (symbol_by G.IS_WIDE _s.now) self.old }
+        ensures { IfSome result (IsWriting (symbol_by G.IS_WIDE _s.now) self.new) }
     {
         let text = cpp_layout::builtin_text(letter);
         if text.is_empty() {
@@ -92,10 +94,10 @@ impl Direct {
 
     // <builtin-type> ::= Di | Ds | Du | Da | Dc | Dn
     #[inline(never)]
-    fn builtin_with_d(&mut self, s: &[u8]) -> Option<Step>
+    fn builtin_with_d<G: Grammar>(&mut self, s: &[u8]) -> Option<Step>
         requires letter { StandsAt s.now self.old.at (68 ∷ []) }
-        requires awaits { AwaitsType s.now self.old }
-        ensures { IfSome result (IsWriting s.now self.new) }
+        requires awaits { AwaitsType (symbol_by G.IS_WIDE s.now) self.old }
+        ensures { IfSome result (IsWriting (symbol_by G.IS_WIDE s.now) self.new) }
     {
         self.at = self.at.checked_add(1)?;
         let letter = byte_at(s, self.at);
@@ -110,11 +112,11 @@ impl Direct {
     }
 
     // <substitution> ::= S <seq-id> _ | S_ | St | Sa | Ss | Sb | Si | So | Sd
-    fn type_with_s(&mut self, s: &[u8]) -> Option<Step>
+    fn type_with_s<G: Grammar>(&mut self, s: &[u8]) -> Option<Step>
         requires fits { IsReadable s.now }
         requires letter { StandsAt s.now self.old.at (83 ∷ []) }
-        requires awaits { AwaitsNamedType s.now self.old }
-        ensures { IfSome result (IsWriting s.now self.new) }
+        requires awaits { AwaitsNamedType (symbol_by G.IS_WIDE s.now) self.old }
+        ensures { IfSome result (IsWriting (symbol_by G.IS_WIDE s.now) self.new) }
     {
         let from = self.text.len();
         self.at = self.at.checked_add(1)?;
@@ -123,31 +125,31 @@ impl Direct {
             self.at = self.at.checked_add(1)?;
             self.push(b"std::")?;
             self.name(s)?;
-            return self.type_named(s, from, false, false);
+            return self.type_named::<G>(s, from, false, false);
         }
         let text = cpp_layout::abbreviation_text(letter);
         if !text.is_empty() {
             self.at = self.at.checked_add(1)?;
             self.push(text)?;
-            return self.type_named(s, from, true, false);
+            return self.type_named::<G>(s, from, true, false);
         }
         let candidate = self.substitution(s)?;
         self.repeat(candidate.from, candidate.to)?;
-        self.type_named(s, from, true, candidate.is_reference)
+        self.type_named::<G>(s, from, true, candidate.is_reference)
     }
 
     /// The name of a type is read. Arguments may stand behind it.
     // <class-enum-type> ::= <name> | <template-template-param> <template-args>
     #[inline(always)]
-    fn type_named(
+    fn type_named<G: Grammar>(
         &mut self,
         s: &[u8],
         from: usize,
         is_listed: bool,
         is_reference: bool,
     ) -> Option<Step>
-        requires { IsTypeNamed s.now self.old from is_listed is_reference }
-        ensures { IfSome result (IsWriting s.now self.new) }
+        requires { IsTypeNamed (symbol_by G.IS_WIDE s.now) self.old from is_listed is_reference }
+        ensures { IfSome result (IsWriting (symbol_by G.IS_WIDE s.now) self.new) }
     {
         self.add_unless(is_listed, from)?;
         if byte_at(s, self.at) != b'I' {
@@ -160,66 +162,72 @@ impl Direct {
     }
 
     /// Hands a type on to what waits for it.
-    pub(crate) fn pass(&mut self, s: &[u8], is_reference: bool) -> Option<Step>
+    pub(crate) fn pass<G: Grammar>(&mut self, s: &[u8], is_reference: bool) -> Option<Step>
         requires fits { IsReadable s.now }
-        requires writing { IsWriting s.now self.old (steps.Value is_reference) }
-        ensures { IfSome result (IsWriting s.now self.new) }
+        requires writing { IsWriting (symbol_by G.IS_WIDE s.now) self.old (steps.Value is_reference) }
+        ensures { IfSome result (IsWriting (symbol_by G.IS_WIDE s.now) self.new) }
     {
         match *self.waiting.as_slice().last()? {
-            Open::Pointer { from } => self.mark(s, b"*", from, false),
+            Open::Pointer { from } => self.mark::<G>(s, b"*", from, false),
             Open::Lvalue { from } => {
                 if is_reference {
                     return None;
                 }
-                self.mark(s, b"&", from, true)
+                self.mark::<G>(s, b"&", from, true)
             }
             Open::Rvalue { from } => {
                 if is_reference {
                     return None;
                 }
-                self.mark(s, b"&&", from, true)
+                self.mark::<G>(s, b"&&", from, true)
             }
             Open::Const { from } => {
                 if is_reference {
                     return None;
                 }
-                self.mark(s, b" const", from, false)
+                self.mark::<G>(s, b" const", from, false)
             }
             Open::Parameters {
                 mark,
                 start,
                 argument,
-            } => self.parameter_ended(s, mark, start, argument),
+            } => self.parameter_ended::<G>(s, mark, start, argument),
             Open::Front {
                 mark,
                 start,
                 argument,
-            } => self.front_ended(s, mark, start, argument),
-            Open::Returned { is_pointer } => self.returned(s, is_pointer),
-            Open::Signature { is_pointer } => self.parameter_at(s, is_pointer, false),
+            } => self.front_ended::<G>(s, mark, start, argument),
+            Open::Returned { is_pointer } => self.returned::<G>(s, is_pointer),
+            Open::Signature { is_pointer } => self.parameter_at::<G>(s, is_pointer, false),
             Open::Enclosing {
                 mark,
                 from,
                 argument,
-            } => self.enclosing_parameter(s, mark, from, argument),
-            Open::Lambda { from } => self.lambda_parameter(s, from),
-            Open::Special => self.finish(s),
-            Open::Enumerator => self.enumerator(s),
+            } => self.enclosing_parameter::<G>(s, mark, from, argument),
+            Open::Lambda { from } => self.lambda_parameter::<G>(s, from),
+            Open::Special => self.finish::<G>(s),
+            Open::Enumerator => self.enumerator::<G>(s),
             Open::Argument {
                 from,
                 number,
                 known,
-            } => self.argument_ended(s, from, number, known, is_reference),
-            Open::Element { from } => self.element_ended(s, from, is_reference),
+            } => self.argument_ended::<G>(s, from, number, known, is_reference),
+            Open::Element { from } => self.element_ended::<G>(s, from, is_reference),
             _ => Some(Step::List { is_first: false }),
         }
     }
 
     /// Ends a type with a mark.
     #[inline(always)]
-    fn mark(&mut self, _s: &[u8], mark: &[u8], from: usize, is_reference: bool) -> Option<Step>
-        requires { AwaitsMark _s.now self.old mark.now from is_reference }
-        ensures { IfSome result (IsWriting _s.now self.new) }
+    fn mark<G: Grammar>(
+        &mut self,
+        _s: &[u8],
+        mark: &[u8],
+        from: usize,
+        is_reference: bool,
+    ) -> Option<Step>
+        requires { AwaitsMark (symbol_by G.IS_WIDE _s.now) self.old mark.now from is_reference }
+        ensures { IfSome result (IsWriting (symbol_by G.IS_WIDE _s.now) self.new) }
     {
         let _open = self.waiting.pop();
         self.push(mark)?;

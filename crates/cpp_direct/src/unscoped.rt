@@ -7,45 +7,47 @@ ghost use Rattle.cpp_direct.specs.Names.{IsOperatorAt, is_angle, operator_text, 
 ghost use Rattle.cpp_direct.specs.Stands.{IsWriting};
 ghost use Rattle.cpp_direct.specs.Ways.{AwaitsEncoding, AwaitsSource, IsUnscoped};
 ghost use Rattle.cpp_direct.specs.Written.{Reads};
+ghost use Rattle.cpp_direct.specs.Symbol.{symbol_by};
 
 use crate::direct::Direct;
+use crate::grammar::Grammar;
 use crate::open::{Mark, Open, Step};
 use crate::tokens::byte_at;
 
 impl Direct {
     /// A name of its own, behind the L of internal linkage or without one.
     // <unscoped-name> ::= <source-name>
-    pub(crate) fn begin_name(&mut self, s: &[u8], is_internal: bool) -> Option<Step>
+    pub(crate) fn begin_name<G: Grammar>(&mut self, s: &[u8], is_internal: bool) -> Option<Step>
         requires fits { IsReadable s.now }
-        requires awaits { AwaitsSource s.now self.old is_internal }
-        ensures { IfSome result (IsWriting s.now self.new) }
+        requires awaits { AwaitsSource (symbol_by G.IS_WIDE s.now) self.old is_internal }
+        ensures { IfSome result (IsWriting (symbol_by G.IS_WIDE s.now) self.new) }
     {
         let from = self.text.len();
         self.name(s)?;
-        self.unscoped_named(s, from, true)
+        self.unscoped_named::<G>(s, from, true)
     }
 
     /// An operator that isn't one of a class.
     // <unscoped-name> ::= <operator-name>
     #[inline(never)]
-    pub(crate) fn begin_operator(&mut self, s: &[u8]) -> Option<Step>
+    pub(crate) fn begin_operator<G: Grammar>(&mut self, s: &[u8]) -> Option<Step>
         requires fits { IsReadable s.now }
-        requires awaits { AwaitsEncoding s.now self.old }
-        ensures { IfSome result (IsWriting s.now self.new) }
+        requires awaits { AwaitsEncoding (symbol_by G.IS_WIDE s.now) self.old }
+        ensures { IfSome result (IsWriting (symbol_by G.IS_WIDE s.now) self.new) }
     {
         let from = self.text.len();
         let takes = self.operator_name(s)?;
-        self.unscoped_named(s, from, takes)
+        self.unscoped_named::<G>(s, from, takes)
     }
 
     /// A name or an operator in std.
     // <unscoped-name> ::= St <unqualified-name>
     #[inline(never)]
-    pub(crate) fn begin_in_std(&mut self, s: &[u8]) -> Option<Step>
+    pub(crate) fn begin_in_std<G: Grammar>(&mut self, s: &[u8]) -> Option<Step>
         requires fits { IsReadable s.now }
-        requires awaits { AwaitsEncoding s.now self.old }
+        requires awaits { AwaitsEncoding (symbol_by G.IS_WIDE s.now) self.old }
         requires letter { StandsAt s.now self.old.at (83 ∷ []) }
-        ensures { IfSome result (IsWriting s.now self.new) }
+        ensures { IfSome result (IsWriting (symbol_by G.IS_WIDE s.now) self.new) }
     {
         let from = self.text.len();
         self.at = self.at.checked_add(1)?;
@@ -56,21 +58,37 @@ impl Direct {
         self.push(b"std::")?;
         if let b'a'..=b'z' = byte_at(s, self.at) {
             let takes = self.operator_name(s)?;
-            return self.unscoped_named(s, from, takes);
+            return self.unscoped_named::<G>(s, from, takes);
         }
         self.name(s)?;
-        self.unscoped_named(s, from, true)
+        self.unscoped_named::<G>(s, from, true)
     }
 
-    /// The name of an encoding is read, which was written from a place on. Arguments may stand behind it, if it is one that takes them.
-    // <encoding> ::= <unscoped-template-name> <template-args> <bare-function-type>
-    fn unscoped_named(&mut self, s: &[u8], from: usize, takes: bool) -> Option<Step>
+    /// The name of an encoding is read, which was written from a place on. Arguments may stand behind it, if it is one that takes them,
+    /// and by the wide grammar a tag before them.
+    // <unqualified-name> ::= <unqualified-name> <abi-tags>
+    fn unscoped_named<G: Grammar>(&mut self, s: &[u8], from: usize, takes: bool) -> Option<Step>
         requires fits { IsReadable s.now }
-        requires named { IsUnscoped s.now self.old from takes }
-        ensures { IfSome result (IsWriting s.now self.new) }
+        requires named { IsUnscoped (symbol_by G.IS_WIDE s.now) self.old from takes }
+        ensures { IfSome result (IsWriting (symbol_by G.IS_WIDE s.now) self.new) }
+    {
+        if G::IS_WIDE && byte_at(s, self.at) == b'B' {
+            self.tag(s)?;
+            return self.unscoped_tagged::<G>(s, from, takes);
+        }
+        self.unscoped_tagged::<G>(s, from, takes)
+    }
+
+    /// The name of an encoding is read, with its tag.
+    // <encoding> ::= <unscoped-template-name> <template-args> <bare-function-type>
+    #[inline(always)]
+    fn unscoped_tagged<G: Grammar>(&mut self, s: &[u8], from: usize, takes: bool) -> Option<Step>
+        requires fits { IsReadable s.now }
+        requires named { IsUnscoped (symbol_by G.IS_WIDE s.now) self.old from takes }
+        ensures { IfSome result (IsWriting (symbol_by G.IS_WIDE s.now) self.new) }
     {
         if byte_at(s, self.at) != b'I' {
-            return self.name_ended(s, Mark::Plain, false, from);
+            return self.name_ended::<G>(s, Mark::Plain, false, from);
         }
         if !takes {
             return None;

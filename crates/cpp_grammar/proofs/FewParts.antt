@@ -8,7 +8,8 @@ use Rattle.sym_print.specs.Details.{has_arguments, has_parameters}
 use Rattle.sym_print.specs.Unfold.{PartOf, text, sub}
 use Rattle.cpp_grammar.specs.Term.{Qualifiers, RefQualifier, Signed, Term, symbol, function, object, of_name, alone, in_std, within, instance, local, holder, tagged, abbreviation, parameter, source, constructor, destructor, lambda, sized_float, pointer, lvalue, rvalue, array, member_pointer, function_type, qualified, expansion, integer, pack, nil, list, absent}
 use Rattle.cpp_grammar.specs.Items.{Form, root, full, bare, left, right, low, base, piece, first, more, expand, Context, Item, closed, head, is_reference, is_funarr, packs_of, is_empty}
-use Rattle.cpp_grammar.specs.Parts.{as_item, says, text_part, list_part, piece_parts, within_parts, last_piece, opening_text, instance_parts, marked_parts, reference_parts, qualified_left, blank_last, qualifier_text, expansion_parts, sign_part, is_plain_integer, integer_parts, builtin_code, member_parts, array_left, float_parts, left_parts, low_parts, function_right, ref_text, closing_right, qualified_right, right_parts, base_within, base_tagged_within, base_tagged, base_parts, types_of, encoding_text, function_bare, function_full, full_parts, bare_parts, root_parts, first_parts, more_parts, at_index, is_below, comma_before, expand_rest, expand_parts, parts_in, not_empty, parts}
+use Rattle.cpp_grammar.specs.Parts.{as_item, says, text_part, list_part, piece_parts, within_parts, last_piece, opening_text, instance_parts, marked_parts, reference_parts, qualified_left, blank_last, qualifier_text, expansion_parts, sign_part, is_plain_integer, integer_parts, builtin_code, member_parts, array_left, float_parts, left_parts, low_parts, function_right, ref_text, closing_right, qualified_right, right_parts, base_within, base_tagged, base_parts, types_of, encoding_text, function_bare, function_full, full_parts, bare_parts, root_parts, first_parts, more_parts, at_index, is_below, comma_before, expand_rest, expand_parts, parts_in, not_empty, parts, own_piece}
+use Rattle.cpp_grammar.specs.Scope.{without_tags}
 use Rattle.cpp_grammar.specs.Texts.{look_up, literal_endings}
 
 -- at most so many parts
@@ -165,19 +166,10 @@ base_within_few c prefix (constructor digit) = omega arith
 base_within_few c prefix (destructor digit) = omega arith
 base_within_few c prefix p = piece_few c p
 
-base_tagged_within_few : (c : Context) (prefix p : Term) → HasFew 5 (base_tagged_within c prefix p)
-unfolding base_tagged_within
-base_tagged_within_few c prefix (constructor digit) = omega arith
-base_tagged_within_few c prefix (destructor digit) = omega arith
-base_tagged_within_few c prefix p = piece_few c p
-
-base_tagged_few : (c : Context) (t : Term) → HasFew 5 (base_tagged c t)
+base_tagged_few : (c : Context) (of_structor : Bool) (t : Term) → HasFew 5 (base_tagged c of_structor t)
 unfolding base_tagged
-base_tagged_few c (alone p) = piece_few c p
-base_tagged_few c (in_std p) = piece_few c p
-base_tagged_few c (within prefix p) = base_tagged_within_few c prefix p
-base_tagged_few c (symbol e suffix) = omega arith
-base_tagged_few c _ = omega arith
+base_tagged_few c true t = omega arith
+base_tagged_few c false t = piece_few c (own_piece (without_tags t))
 
 base_few : (d : Detail) (c : Context) (t : Term) → HasFew 6 (base_parts d c t)
 unfolding base_parts
@@ -187,7 +179,7 @@ base_few d c (within prefix p) = omega (arith, base_within_few c prefix p)
 base_few d c (instance t arguments) = omega arith
 base_few d c (local encoding entity discriminator) = omega arith
 base_few d c (holder name) = omega arith
-base_few d c (tagged of_structor name tag) = omega (arith, base_tagged_few c name)
+base_few d c (tagged of_structor name tag) = omega (arith, base_tagged_few c of_structor name)
 base_few d c (abbreviation letter) = omega arith
 base_few d c (parameter k) = omega arith
 base_few d c t = left_few d c t

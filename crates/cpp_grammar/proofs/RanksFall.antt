@@ -7,9 +7,9 @@ use Rattle.sym_print.specs.declared.detail.Detail.{Detail}
 use Rattle.sym_print.specs.Details.{has_arguments, has_parameters}
 use Rattle.sym_print.specs.Unfold.{PartOf, text, sub, RanksBelow}
 use Rattle.cpp_grammar.specs.Term.{Qualifiers, RefQualifier, Signed, Term, symbol, function, object, special, thunk, of_name, construction, clone, alone, in_std, within, instance, local, holder, tagged, of_default, abbreviation, parameter, source, constructor, destructor, lambda, conversion, sized_float, pointer, lvalue, rvalue, array, member_pointer, function_type, qualified, vector, complex, expansion, integer, pack, nil, list, absent}
-use Rattle.cpp_grammar.specs.Scope.{element, arguments_of, pack_length}
+use Rattle.cpp_grammar.specs.Scope.{element, arguments_of, pack_length, without_tags}
 use Rattle.cpp_grammar.specs.Items.{Form, root, full, bare, left, right, low, base, piece, first, more, expand, Context, Item, indexed, argument, head, is_reference, is_funarr, packs_of, is_empty}
-use Rattle.cpp_grammar.specs.Parts.{as_item, says, text_part, list_part, piece_parts, prefix_item, within_parts, instance_parts, marked_parts, reference_parts, qualified_left, blank_last, qualifier_text, expansion_parts, sign_part, is_plain_integer, integer_parts, builtin_code, member_parts, array_left, entity_of, float_parts, left_parts, low_parts, function_right, ref_text, closing_right, qualified_right, right_parts, base_within, base_tagged_within, base_tagged, base_parts, types_of, encoding_text, function_bare, function_full, full_parts, bare_parts, root_parts, first_parts, more_parts, at_index, is_below, comma_before, expand_rest, expand_parts, parts_in, not_empty, parts}
+use Rattle.cpp_grammar.specs.Parts.{as_item, says, text_part, list_part, piece_parts, prefix_item, within_parts, instance_parts, marked_parts, reference_parts, qualified_left, blank_last, qualifier_text, expansion_parts, sign_part, is_plain_integer, integer_parts, builtin_code, member_parts, array_left, entity_of, float_parts, left_parts, low_parts, function_right, ref_text, closing_right, qualified_right, right_parts, base_within, base_tagged, base_parts, types_of, encoding_text, function_bare, function_full, full_parts, bare_parts, root_parts, first_parts, more_parts, at_index, is_below, comma_before, expand_rest, expand_parts, parts_in, not_empty, parts, own_piece}
 use Rattle.cpp_grammar.specs.Ranks.{or_none, pack_count, weight, scope_weight, weight_in, rank_in, rank}
 use Rattle.cpp_grammar.specs.Texts.{look_up, literal_endings}
 
@@ -250,19 +250,22 @@ base_within_falls r c prefix (constructor digit) h g = (h, tt)
 base_within_falls r c prefix (destructor digit) h g = (h, tt)
 base_within_falls r c prefix p h g = piece_falls r c p (omega arith)
 
-base_tagged_within_falls : (r : ℕ) (c : Context) (prefix p : Term) → Below r c (within prefix p) → RanksBelow rank r (base_tagged_within c prefix p)
-unfolding base_tagged_within rank rank_in weight_in weight
-base_tagged_within_falls r c prefix (constructor digit) h = (h, tt)
-base_tagged_within_falls r c prefix (destructor digit) h = (h, tt)
-base_tagged_within_falls r c prefix p h = piece_falls r c p (omega (arith, h))
+untagged_weight : (a : ℕ) (scope : Option Term) (t : Term) → weight a scope (without_tags t) ≤ weight a scope t
+unfolding without_tags weight
+untagged_weight a scope (tagged of_structor name tag) = omega (arith, untagged_weight a scope name)
+untagged_weight a scope _ = omega arith
 
-base_tagged_falls : (r : ℕ) (c : Context) (t : Term) → Below r c t → RanksBelow rank r (base_tagged c t)
-unfolding base_tagged rank rank_in weight_in weight
-base_tagged_falls r c (alone p) h = piece_falls r c p (omega (arith, h))
-base_tagged_falls r c (in_std p) h = piece_falls r c p (omega (arith, h))
-base_tagged_falls r c (within prefix p) h = base_tagged_within_falls r c prefix p h
-base_tagged_falls r c (symbol e suffix) h = (h, tt)
-base_tagged_falls r c _ h = (h, tt)
+own_weight : (a : ℕ) (scope : Option Term) (t : Term) → weight a scope (own_piece t) ≤ weight a scope t
+unfolding own_piece weight
+own_weight a scope (alone p) = omega arith
+own_weight a scope (in_std p) = omega arith
+own_weight a scope (within prefix p) = omega arith
+own_weight a scope _ = omega arith
+
+base_tagged_falls : (r : ℕ) (c : Context) (of_structor : Bool) (t : Term) → Below r c t → RanksBelow rank r (base_tagged c of_structor t)
+unfolding base_tagged rank rank_in weight_in
+base_tagged_falls r c true t h = (h, tt)
+base_tagged_falls r c false t h = piece_falls r c (own_piece (without_tags t)) (omega (arith, h, own_weight (scope_weight c.scope) c.scope (without_tags t), untagged_weight (scope_weight c.scope) c.scope t))
 
 base_falls : (d : Detail) (c : Context) (t : Term) → RanksBelow rank (weight_in c t) (base_parts d c t)
 unfolding base_parts rank rank_in weight_in weight scope_weight
@@ -272,7 +275,7 @@ base_falls d c (within prefix p) = base_within_falls _ c prefix p (omega arith) 
 base_falls d c (instance t arguments) = (omega arith, tt)
 base_falls d c (local encoding entity discriminator) = (omega (arith, entity_weight c entity), tt)
 base_falls d c (holder name) = (omega arith, tt)
-base_falls d c (tagged of_structor name tag) = base_tagged_falls _ c name (omega arith)
+base_falls d c (tagged of_structor name tag) = base_tagged_falls _ c of_structor name (omega arith)
 base_falls d c (abbreviation letter) = tt
 base_falls d c (parameter k) = (argument_weight c.scope c.index k, tt)
 base_falls d c t = left_falls d c t

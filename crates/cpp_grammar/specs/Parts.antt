@@ -6,7 +6,7 @@ use Rattle.sym_print.specs.Details.{has_arguments, has_parameters}
 use Rattle.sym_print.specs.Unfold.{PartOf, text, sub}
 use Rattle.cpp_grammar.specs.Texts.{same_bytes, look_up, builtin_texts, operator_texts, abbreviation_texts, special_texts, named_special_texts, literal_endings}
 use Rattle.cpp_grammar.specs.Term.{Qualifiers, RefQualifier, any_value, lvalue_only, rvalue_only, Signed, non_virtual, by_table, Thunk, adjusting, covariant, Term, symbol, function, object, special, thunk, of_name, construction, clone, alone, in_std, within, instance, local, holder, tagged, of_default, abbreviation, parameter, source, operator, literal_operator, constructor, destructor, lambda, unnamed, string_literal, conversion, builtin, sized_float, generic_parameter, vendor, pointer, lvalue, rvalue, array, member_pointer, function_type, qualified, vector, complex, expansion, integer, boolean, null_pointer, encoding_literal, address_of, pack, nil, list, absent}
-use Rattle.cpp_grammar.specs.Scope.{arguments_of}
+use Rattle.cpp_grammar.specs.Scope.{arguments_of, without_tags}
 use Rattle.cpp_grammar.specs.Items.{Form, root, full, bare, left, right, low, base, piece, first, more, expand, Context, Item, closed, argument, head, is_reference, is_funarr, packs_of, is_empty}
 
 abbrev pub as_item : Form → Context → Term → PartOf Item
@@ -237,18 +237,18 @@ base_within context prefix (constructor digit) = as_item base context prefix ∷
 base_within context prefix (destructor digit) = as_item base context prefix ∷ []
 base_within context prefix p = piece_parts context p
 
-unfoldable pub base_tagged_within : Context → Term → Term → List (PartOf Item)
-base_tagged_within context prefix (constructor digit) = as_item base context (within prefix (constructor digit)) ∷ []
-base_tagged_within context prefix (destructor digit) = as_item base context (within prefix (destructor digit)) ∷ []
-base_tagged_within context prefix p = piece_parts context p
+-- the piece of a name, which has no node of its own
+unfoldable pub own_piece : Term → Term
+own_piece (alone p) = p
+own_piece (in_std p) = p
+own_piece (within prefix p) = p
+own_piece t = t
 
--- The name of a class under a tag: its piece. Where another tag is under it, or where it is the name of a constructor itself, that
--- is looked at in turn.
-unfoldable pub base_tagged : Context → (name : Term) → List (PartOf Item)
-base_tagged context (alone p) = piece_parts context p
-base_tagged context (in_std p) = piece_parts context p
-base_tagged context (within prefix p) = base_tagged_within context prefix p
-base_tagged context name = as_item base context name ∷ []
+-- The name of a class under its tags: the piece of its name without them. Where it is the name of a constructor itself, it is
+-- looked at tag by tag.
+unfoldable pub base_tagged : Context → (of_structor : Bool) → (name : Term) → List (PartOf Item)
+base_tagged context true name = as_item base context name ∷ []
+base_tagged context false name = piece_parts context (own_piece (without_tags name))
 
 -- the name of a constructor's class
 unfoldable pub base_parts : Detail → Context → Term → List (PartOf Item)
@@ -258,7 +258,7 @@ base_parts d context (within prefix p) = base_within context prefix p
 base_parts d context (instance template arguments) = as_item base context template ∷ []
 base_parts d context (local encoding entity discriminator) = as_item base context (entity_of entity) ∷ []
 base_parts d context (holder name) = as_item base context name ∷ []
-base_parts d context (tagged of_structor name tag) = base_tagged context name
+base_parts d context (tagged of_structor name tag) = base_tagged context of_structor name
 base_parts d context (abbreviation letter) = text (drop 5 (look_up (letter ∷ []) abbreviation_texts)) ∷ []
 base_parts d context (parameter k) = as_item base closed (argument context k) ∷ []
 base_parts d context t = left_parts d context t

@@ -35,6 +35,11 @@ is_structor (within prefix (destructor digit)) = true
 is_structor (tagged of_structor name tag) = of_structor
 is_structor _ = false
 
+-- a name without its tags
+unfoldable pub without_tags : Term → Term
+without_tags (tagged of_structor name tag) = without_tags name
+without_tags name = name
+
 -- A function's first item is its return type where its name ends in arguments, and what stands before them isn't a
 -- constructor or a destructor.
 unfoldable pub has_return_type : Term → Bool

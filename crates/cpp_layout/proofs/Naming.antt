@@ -10,7 +10,7 @@ use Rattle.cpp_grammar.specs.Texts.{same_bytes}
 use Rattle.cpp_term.specs.Term as term
 use Rattle.cpp_term.specs.Term.{Term}
 use Rattle.cpp_term.specs.Items as items
-use Rattle.cpp_term.specs.Parts.{as_item, list_part, piece_parts, prefix_item, within_parts, base_within, base_tagged_within, base_tagged, opening_text, last_piece, entity_of, instance_parts}
+use Rattle.cpp_term.specs.Parts.{as_item, list_part, piece_parts, prefix_item, within_parts, base_within, opening_text, last_piece, entity_of, instance_parts}
 use Rattle.cpp_tree.specs.declared.node.Piece.{Piece}
 use Rattle.cpp_tree.specs.declared.node.Node.{Node}
 use Rattle.cpp_tree.specs.declared.node.Thunk.{Thunk}
@@ -121,44 +121,6 @@ unfolding piece_of base_within
 base-other s ts c prefix (Piece.Constructor d) h1 h2 = absurd (h1 d refl)
 base-other s ts c prefix (Piece.Destructor d) h1 h2 = absurd (h2 d refl)
 base-other s ts c prefix _ h1 h2 = refl
-
--- ## Classes under a tag
-
-pub tagged-constructor : (s : List ℕ) (ts : List Term) (c : items.Context) (t prefix : Term) (p : Piece) (d : ℕ) → t ≡ term.within prefix (piece_of s ts p) → p ≡ Piece.Constructor d
-    → as_item heads.base c t ∷ [] ≡ base_tagged c t
-unfolding piece_of base_tagged base_tagged_within
-tagged-constructor s ts c t prefix p d is same =
-    let whole : t ≡ term.within prefix (term.constructor d) = is ∙ ap (λ q. term.within prefix (piece_of s ts q)) same in
-    subst (λ u. as_item heads.base c u ∷ [] ≡ base_tagged c u) (sym whole) refl
-
-pub tagged-destructor : (s : List ℕ) (ts : List Term) (c : items.Context) (t prefix : Term) (p : Piece) (d : ℕ) → t ≡ term.within prefix (piece_of s ts p) → p ≡ Piece.Destructor d
-    → as_item heads.base c t ∷ [] ≡ base_tagged c t
-unfolding piece_of base_tagged base_tagged_within
-tagged-destructor s ts c t prefix p d is same =
-    let whole : t ≡ term.within prefix (term.destructor d) = is ∙ ap (λ q. term.within prefix (piece_of s ts q)) same in
-    subst (λ u. as_item heads.base c u ∷ [] ≡ base_tagged c u) (sym whole) refl
-
-pub tagged-piece : (s : List ℕ) (ts : List Term) (c : items.Context) (t prefix : Term) (p : Piece) → t ≡ term.within prefix (piece_of s ts p) → ((d : ℕ) → p ≡ Piece.Constructor d → ⊥) → ((d : ℕ) → p ≡ Piece.Destructor d → ⊥)
-    → piece_parts c (piece_of s ts p) ≡ base_tagged c t
-unfolding piece_of base_tagged base_tagged_within
-tagged-piece s ts c t prefix p is h1 h2 = by p h1 h2 ∙ ap (base_tagged c) (sym is)
-  where
-    by : (p : Piece) → ((d : ℕ) → p ≡ Piece.Constructor d → ⊥) → ((d : ℕ) → p ≡ Piece.Destructor d → ⊥) → piece_parts c (piece_of s ts p) ≡ base_tagged c (term.within prefix (piece_of s ts p))
-    by (Piece.Constructor d) h1 h2 = absurd (h1 d refl)
-    by (Piece.Destructor d) h1 h2 = absurd (h2 d refl)
-    by _ h1 h2 = refl
-
-pub tagged-other : (s : List ℕ) (us : List Thunk) (ts : List Term) (c : items.Context) (n : Node) (t : Term) → t ≡ tree_of s us ts n → ((p : Piece) → n ≡ Node.Alone p → ⊥) → ((p : Piece) → n ≡ Node.InStd p → ⊥)
-    → ((a : ℕ) (p : Piece) → n ≡ Node.Within a p → ⊥) → as_item heads.base c t ∷ [] ≡ base_tagged c t
-unfolding tree_of base_tagged
-tagged-other s us ts c n t is h1 h2 h3 = subst (λ u. as_item heads.base c u ∷ [] ≡ base_tagged c u) (sym is) (by n h1 h2 h3)
-  where
-    by : (n : Node) → ((p : Piece) → n ≡ Node.Alone p → ⊥) → ((p : Piece) → n ≡ Node.InStd p → ⊥) → ((a : ℕ) (p : Piece) → n ≡ Node.Within a p → ⊥)
-        → as_item heads.base c (tree_of s us ts n) ∷ [] ≡ base_tagged c (tree_of s us ts n)
-    by (Node.Alone p) h1 h2 h3 = absurd (h1 p refl)
-    by (Node.InStd p) h1 h2 h3 = absurd (h2 p refl)
-    by (Node.Within a p) h1 h2 h3 = absurd (h3 a p refl)
-    by _ h1 h2 h3 = refl
 
 -- ## Prefixes
 

@@ -11,7 +11,7 @@ use Rattle.cpp_grammar.specs.Texts.{look_up, literal_endings, builtin_texts, ope
 use Rattle.cpp_term.specs.Term as term
 use Rattle.cpp_term.specs.Term.{Term}
 use Rattle.cpp_term.specs.Items as items
-use Rattle.cpp_term.specs.Parts.{as_item, text_part, says, qualified_left, reference_parts, marked_parts, sign_part, is_plain_integer, builtin_code, integer_parts, left_parts, low_parts, base_parts, piece_parts}
+use Rattle.cpp_term.specs.Parts.{as_item, text_part, says, qualified_left, reference_parts, marked_parts, sign_part, is_plain_integer, builtin_code, integer_parts, left_parts, low_parts, base_parts, own_piece, piece_parts}
 use Rattle.cpp_tree.specs.declared.node.Piece.{Piece}
 use Rattle.cpp_tree.specs.declared.node.Node.{Node}
 use Rattle.cpp_tree.specs.declared.node.Thunk.{Thunk}
@@ -22,7 +22,7 @@ use Rattle.cpp_tree.specs.Nodes.{tree_of, signed_of, qualifiers_of}
 use Rattle.cpp_tree.specs.Fields.{bit, qualifiers_number}
 use Rattle.cpp_layout.specs.Texts.{fixed_text, suffix_of}
 use Rattle.cpp_layout.specs.declared.texts.TheConstants.{BLANKED, FALSE, LEFT, MINUS, RIGHT, TRUE}
-use Rattle.cpp_layout.specs.Layout.{own_piece, marked, referred, text_if, qualifiers_behind, IsNoName, IsNoType}
+use Rattle.cpp_layout.specs.Layout.{marked, referred, text_if, qualifiers_behind, IsNoName, IsNoType}
 
 -- ## Qualifiers
 
@@ -161,30 +161,31 @@ no-name (Node.Parameter k a) h1 h2 h3 h4 h5 h0 h6 h7 h8 = absurd (h7 k a refl)
 no-name _ h1 h2 h3 h4 h5 h0 h6 h7 h8 = tt
 
 pub no-type : (n : Node) → IsNoName n → ((k : ℕ) → n ≡ Node.Builtin k → ⊥) → ((k : ℕ) → n ≡ Node.BuiltinWithD k → ⊥) → ((b : Span) → n ≡ Node.Vendor b → ⊥) → ((t : ℕ) → n ≡ Node.Pointer t → ⊥) → ((t : ℕ) → n ≡ Node.Lvalue t → ⊥) → ((t : ℕ) → n ≡ Node.Rvalue t → ⊥) → ((g : Span) (t : ℕ) → n ≡ Node.Array g t → ⊥)
-    → ((l e : Bool) (m : Mark) (r p : ℕ) → n ≡ Node.FunctionType l e m r p → ⊥) → ((k t : ℕ) → n ≡ Node.MemberPointer k t → ⊥) → ((q : Qualifiers) (t : ℕ) → n ≡ Node.Qualified q t → ⊥) → ((g : Span) (t : ℕ) → n ≡ Node.Vector g t → ⊥) → ((t : ℕ) → n ≡ Node.Complex t → ⊥) → ((g : Span) (k : ℕ) → n ≡ Node.SizedFloat g k → ⊥) → IsNoType n
-no-type (Node.Alone p) k h1 h0 h2 h3 h4 h5 h6 h7 h8 h9 h10 h11 h12 = elim k [ ]
-no-type (Node.InStd p) k h1 h0 h2 h3 h4 h5 h6 h7 h8 h9 h10 h11 h12 = elim k [ ]
-no-type (Node.Within a p) k h1 h0 h2 h3 h4 h5 h6 h7 h8 h9 h10 h11 h12 = elim k [ ]
-no-type (Node.Instance a b) k h1 h0 h2 h3 h4 h5 h6 h7 h8 h9 h10 h11 h12 = elim k [ ]
-no-type (Node.Local e a d) k h1 h0 h2 h3 h4 h5 h6 h7 h8 h9 h10 h11 h12 = elim k [ ]
-no-type (Node.Holder a) k h1 h0 h2 h3 h4 h5 h6 h7 h8 h9 h10 h11 h12 = elim k [ ]
-no-type (Node.Tagged s a g) k h1 h0 h2 h3 h4 h5 h6 h7 h8 h9 h10 h11 h12 = elim k [ ]
-no-type (Node.Abbreviation a) k h1 h0 h2 h3 h4 h5 h6 h7 h8 h9 h10 h11 h12 = elim k [ ]
-no-type (Node.Parameter a b) k h1 h0 h2 h3 h4 h5 h6 h7 h8 h9 h10 h11 h12 = elim k [ ]
-no-type (Node.Builtin a) k h1 h0 h2 h3 h4 h5 h6 h7 h8 h9 h10 h11 h12 = absurd (h1 a refl)
-no-type (Node.BuiltinWithD a) k h1 h0 h2 h3 h4 h5 h6 h7 h8 h9 h10 h11 h12 = absurd (h0 a refl)
-no-type (Node.Vendor a) k h1 h0 h2 h3 h4 h5 h6 h7 h8 h9 h10 h11 h12 = absurd (h2 a refl)
-no-type (Node.Pointer a) k h1 h0 h2 h3 h4 h5 h6 h7 h8 h9 h10 h11 h12 = absurd (h3 a refl)
-no-type (Node.Lvalue a) k h1 h0 h2 h3 h4 h5 h6 h7 h8 h9 h10 h11 h12 = absurd (h4 a refl)
-no-type (Node.Rvalue a) k h1 h0 h2 h3 h4 h5 h6 h7 h8 h9 h10 h11 h12 = absurd (h5 a refl)
-no-type (Node.Array a b) k h1 h0 h2 h3 h4 h5 h6 h7 h8 h9 h10 h11 h12 = absurd (h6 a b refl)
-no-type (Node.FunctionType l e m r p) k h1 h0 h2 h3 h4 h5 h6 h7 h8 h9 h10 h11 h12 = absurd (h7 l e m r p refl)
-no-type (Node.MemberPointer a b) k h1 h0 h2 h3 h4 h5 h6 h7 h8 h9 h10 h11 h12 = absurd (h8 a b refl)
-no-type (Node.Qualified a b) k h1 h0 h2 h3 h4 h5 h6 h7 h8 h9 h10 h11 h12 = absurd (h9 a b refl)
-no-type (Node.Vector a b) k h1 h0 h2 h3 h4 h5 h6 h7 h8 h9 h10 h11 h12 = absurd (h10 a b refl)
-no-type (Node.Complex a) k h1 h0 h2 h3 h4 h5 h6 h7 h8 h9 h10 h11 h12 = absurd (h11 a refl)
-no-type (Node.SizedFloat a b) k h1 h0 h2 h3 h4 h5 h6 h7 h8 h9 h10 h11 h12 = absurd (h12 a b refl)
-no-type _ k h1 h0 h2 h3 h4 h5 h6 h7 h8 h9 h10 h11 h12 = tt
+    → ((l e : Bool) (m : Mark) (r p : ℕ) → n ≡ Node.FunctionType l e m r p → ⊥) → ((k t : ℕ) → n ≡ Node.MemberPointer k t → ⊥) → ((q : Qualifiers) (t : ℕ) → n ≡ Node.Qualified q t → ⊥) → ((g : Span) (t : ℕ) → n ≡ Node.Vector g t → ⊥) → ((t : ℕ) → n ≡ Node.Complex t → ⊥) → ((g : Span) (k : ℕ) → n ≡ Node.SizedFloat g k → ⊥) → ((k : ℕ) → n ≡ Node.GenericParameter k → ⊥) → IsNoType n
+no-type (Node.Alone p) k h1 h0 h2 h3 h4 h5 h6 h7 h8 h9 h10 h11 h12 h13 = elim k [ ]
+no-type (Node.InStd p) k h1 h0 h2 h3 h4 h5 h6 h7 h8 h9 h10 h11 h12 h13 = elim k [ ]
+no-type (Node.Within a p) k h1 h0 h2 h3 h4 h5 h6 h7 h8 h9 h10 h11 h12 h13 = elim k [ ]
+no-type (Node.Instance a b) k h1 h0 h2 h3 h4 h5 h6 h7 h8 h9 h10 h11 h12 h13 = elim k [ ]
+no-type (Node.Local e a d) k h1 h0 h2 h3 h4 h5 h6 h7 h8 h9 h10 h11 h12 h13 = elim k [ ]
+no-type (Node.Holder a) k h1 h0 h2 h3 h4 h5 h6 h7 h8 h9 h10 h11 h12 h13 = elim k [ ]
+no-type (Node.Tagged s a g) k h1 h0 h2 h3 h4 h5 h6 h7 h8 h9 h10 h11 h12 h13 = elim k [ ]
+no-type (Node.Abbreviation a) k h1 h0 h2 h3 h4 h5 h6 h7 h8 h9 h10 h11 h12 h13 = elim k [ ]
+no-type (Node.Parameter a b) k h1 h0 h2 h3 h4 h5 h6 h7 h8 h9 h10 h11 h12 h13 = elim k [ ]
+no-type (Node.Builtin a) k h1 h0 h2 h3 h4 h5 h6 h7 h8 h9 h10 h11 h12 h13 = absurd (h1 a refl)
+no-type (Node.BuiltinWithD a) k h1 h0 h2 h3 h4 h5 h6 h7 h8 h9 h10 h11 h12 h13 = absurd (h0 a refl)
+no-type (Node.Vendor a) k h1 h0 h2 h3 h4 h5 h6 h7 h8 h9 h10 h11 h12 h13 = absurd (h2 a refl)
+no-type (Node.Pointer a) k h1 h0 h2 h3 h4 h5 h6 h7 h8 h9 h10 h11 h12 h13 = absurd (h3 a refl)
+no-type (Node.Lvalue a) k h1 h0 h2 h3 h4 h5 h6 h7 h8 h9 h10 h11 h12 h13 = absurd (h4 a refl)
+no-type (Node.Rvalue a) k h1 h0 h2 h3 h4 h5 h6 h7 h8 h9 h10 h11 h12 h13 = absurd (h5 a refl)
+no-type (Node.Array a b) k h1 h0 h2 h3 h4 h5 h6 h7 h8 h9 h10 h11 h12 h13 = absurd (h6 a b refl)
+no-type (Node.FunctionType l e m r p) k h1 h0 h2 h3 h4 h5 h6 h7 h8 h9 h10 h11 h12 h13 = absurd (h7 l e m r p refl)
+no-type (Node.MemberPointer a b) k h1 h0 h2 h3 h4 h5 h6 h7 h8 h9 h10 h11 h12 h13 = absurd (h8 a b refl)
+no-type (Node.Qualified a b) k h1 h0 h2 h3 h4 h5 h6 h7 h8 h9 h10 h11 h12 h13 = absurd (h9 a b refl)
+no-type (Node.Vector a b) k h1 h0 h2 h3 h4 h5 h6 h7 h8 h9 h10 h11 h12 h13 = absurd (h10 a b refl)
+no-type (Node.Complex a) k h1 h0 h2 h3 h4 h5 h6 h7 h8 h9 h10 h11 h12 h13 = absurd (h11 a refl)
+no-type (Node.SizedFloat a b) k h1 h0 h2 h3 h4 h5 h6 h7 h8 h9 h10 h11 h12 h13 = absurd (h12 a b refl)
+no-type (Node.GenericParameter a) k h1 h0 h2 h3 h4 h5 h6 h7 h8 h9 h10 h11 h12 h13 = absurd (h13 a refl)
+no-type _ k h1 h0 h2 h3 h4 h5 h6 h7 h8 h9 h10 h11 h12 h13 = tt
 
 pub left-none : (s : List ℕ) (us : List Thunk) (ts : List Term) (d : Detail) (c : items.Context) (n : Node) → IsNoType n → ((t : ℕ) → n ≡ Node.Expansion t → ⊥) → ((t : ℕ) → n ≡ Node.Pack t → ⊥) → ((t : ℕ) (v : Signed) → n ≡ Node.Integer t v → ⊥) → ((b : Bool) → n ≡ Node.Boolean b → ⊥)
     → (n ≡ Node.NullPointer → ⊥) → ((e : ℕ) → n ≡ Node.EncodingLiteral e → ⊥) → ((e : ℕ) → n ≡ Node.AddressOf e → ⊥) → [] ≡ left_parts d c (tree_of s us ts n)
@@ -211,6 +212,7 @@ left-none s us ts d c (Node.Qualified a b) k h1 h2 h3 h4 h5 h6 h7 = elim k [ ]
 left-none s us ts d c (Node.Vector a b) k h1 h2 h3 h4 h5 h6 h7 = elim k [ ]
 left-none s us ts d c (Node.Complex a) k h1 h2 h3 h4 h5 h6 h7 = elim k [ ]
 left-none s us ts d c (Node.SizedFloat a b) k h1 h2 h3 h4 h5 h6 h7 = elim k [ ]
+left-none s us ts d c (Node.GenericParameter a) k h1 h2 h3 h4 h5 h6 h7 = elim k [ ]
 left-none s us ts d c (Node.Expansion t) k h1 h2 h3 h4 h5 h6 h7 = absurd (h1 t refl)
 left-none s us ts d c (Node.Pack t) k h1 h2 h3 h4 h5 h6 h7 = absurd (h2 t refl)
 left-none s us ts d c (Node.Integer t v) k h1 h2 h3 h4 h5 h6 h7 = absurd (h3 t v refl)

@@ -17,7 +17,7 @@ use Rattle.cpp_term.specs.Items as items
 use Rattle.cpp_grammar.specs.Term as plain
 use Rattle.cpp_grammar.specs.Term.{Qualifiers}
 use Rattle.cpp_grammar.specs.Parts.{blank_last, qualifier_text}
-use Rattle.cpp_term.specs.Parts.{not_empty, text_part, says, parts}
+use Rattle.cpp_term.specs.Parts.{not_empty, own_piece, text_part, says, parts}
 use Rattle.cpp_term.specs.Ranks.{rank}
 use Rattle.cpp_term.specs.Erased.{erase, CarriesArguments}
 use Rattle.cpp_tree.specs.declared.node.Node.{Node}
@@ -58,13 +58,6 @@ form_of form at =
     cond (nat_eq form 0) heads.left (cond (nat_eq form 1) heads.right (cond (nat_eq form 2) heads.first (cond (nat_eq form 3) heads.more
     (cond (nat_eq form 4) heads.low (cond (nat_eq form 5) heads.base (cond (nat_eq form 6) heads.piece (cond (nat_eq form 7) heads.full
     (cond (nat_eq form 8) heads.bare (cond (nat_eq form 9) heads.root (heads.expand at))))))))))
-
--- the piece of a name, which has no node of its own
-unfoldable pub own_piece : Term → Term
-own_piece (term.alone p) = p
-own_piece (term.in_std p) = p
-own_piece (term.within prefix p) = p
-own_piece t = t
 
 abbrev pub tree_in : (form : ℕ) → Term → Term
 tree_in form t = cond (nat_eq form 6) (own_piece t) t
@@ -168,6 +161,7 @@ IsNoType (Node.Qualified q t) = ⊥
 IsNoType (Node.Vector digits t) = ⊥
 IsNoType (Node.Complex t) = ⊥
 IsNoType (Node.SizedFloat digits end) = ⊥
+IsNoType (Node.GenericParameter number) = ⊥
 IsNoType _ = Unit {0}
 
 -- ## A symbol as a layout

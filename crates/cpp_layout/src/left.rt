@@ -4,11 +4,11 @@
 ghost use Rattle.std.specs.Prelude.{◌+◌, ◌<◌, ◌≤◌, ◌∷◌, [], length};
 ghost use Rattle.sym_print.specs.Unfold.{text};
 ghost use Rattle.cpp_grammar.specs.Items as heads;
-ghost use Rattle.cpp_term.specs.Parts.{as_item, piece_parts, left_parts, low_parts, base_parts};
+ghost use Rattle.cpp_term.specs.Parts.{as_item, own_piece, piece_parts, left_parts, low_parts, base_parts};
 ghost use Rattle.cpp_tree.specs.Nodes.{tree_at, trees, tree_of, IsTable, IsBelow};
 ghost use Rattle.cpp_layout.specs.Texts.{fixed_text};
 ghost use Rattle.cpp_layout.specs.declared.texts.TheConstants.{STD};
-ghost use Rattle.cpp_layout.specs.Layout.{table_of, context_of, own_piece, Shows, IsNoName, IsNoType};
+ghost use Rattle.cpp_layout.specs.Layout.{table_of, context_of, Shows, IsNoName, IsNoType};
 
 use crate::context::Context;
 use crate::numbered::{abbreviation, builtin, builtin_with_d, last_of_abbreviation};
@@ -117,6 +117,7 @@ impl Symbol {
             Node::Vector { digits, element } => self.fill_vector(parts, digits, element, ctx),
             Node::Complex(ty) => self.fill_left_text(parts, ty, texts::COMPLEX, ctx),
             Node::SizedFloat { digits, end } => self.fill_float(parts, digits, end, ctx),
+            Node::GenericParameter(_) => self.push_some(parts, builtin_with_d(b'a')),
             _ => self.fill_left_argument(parts, number, node, ctx),
         }
     }
@@ -199,7 +200,11 @@ impl Symbol {
                 self.push_item(parts, self.own_entity(entity), form::BASE, 0, ctx);
             }
             Node::Holder(name) => self.push_item(parts, name, form::BASE, 0, ctx),
-            Node::Tagged { name, .. } => self.fill_base_tagged(parts, name, ctx),
+            Node::Tagged {
+                of_structor,
+                name,
+                ..
+            } => self.fill_base_tagged(parts, of_structor, name, ctx),
             Node::Abbreviation(letter) => self.push_some(parts, last_of_abbreviation(letter)),
             Node::Parameter { argument, .. } => {
                 self.fill_parameter(parts, argument, form::BASE, ctx);

@@ -10,11 +10,11 @@ ghost use Rattle.cpp_grammar.specs.Items.{left, base, piece};
 ghost use Rattle.cpp_grammar.specs.Parts.{begins_with, source_text};
 ghost use Rattle.cpp_term.specs.Term as term;
 ghost use Rattle.cpp_term.specs.Items as items;
-ghost use Rattle.cpp_term.specs.Parts.{as_item, piece_parts, prefix_item, within_parts, base_within, base_tagged, entity_of, opening_text, last_piece, instance_parts};
+ghost use Rattle.cpp_term.specs.Parts.{as_item, piece_parts, prefix_item, within_parts, base_within, base_tagged, own_piece, entity_of, opening_text, last_piece, instance_parts};
 ghost use Rattle.cpp_tree.specs.Nodes.{tree_at, trees, piece_of, bytes_at, IsTable, IsWithin, IsPieceBelow};
 ghost use Rattle.cpp_layout.specs.Texts.{fixed_text};
 ghost use Rattle.cpp_layout.specs.declared.texts.TheConstants.{BLANK_LESS, COLONS, COUNT, LESS, RIGHT_BRACKET, TAG};
-ghost use Rattle.cpp_layout.specs.Layout.{table_of, own_piece, context_of, Shows, IsOwn, IsNoSource};
+ghost use Rattle.cpp_layout.specs.Layout.{table_of, context_of, Shows, IsOwn, IsNoSource};
 
 use crate::codes::{is_angle_code, operator};
 use crate::context::Context;
@@ -397,47 +397,24 @@ impl Symbol {
         self.push_item(parts, name, form::LEFT, 0, ctx);
     }
 
-    /// The parts of a constructor's class in a name within another, under a tag.
-    fn fill_base_tagged_within<S: PartList<Context>>(
-        &self,
-        parts: &mut S,
-        name: u32,
-        piece: Piece,
-        ctx: Context,
-    )
-        requires table { IsTable (table_of self.now) }
-        requires name { name < length self.now.table.nodes }
-        requires piece { IsPieceBelow self.now.bytes (length self.now.table.nodes) piece }
-        requires room { 8 ≤ S.room parts.old }
-        ensures shows { (prefix : term.Term) → tree_at (trees (table_of self.now)) name ≡ term.within prefix (piece_of self.now.bytes (trees (table_of self.now)) piece)
-            → Shows self.now ctx.detail (S.held parts.old) (S.held parts.new) (base_tagged (context_of ctx) (tree_at (trees (table_of self.now)) name)) }
-        ensures few { S.room parts.old ≤ S.room parts.new + 8 }
-    {
-        match piece {
-            Piece::Constructor(_) => self.push_item(parts, name, form::BASE, 0, ctx),
-            Piece::Destructor(_) => self.push_item(parts, name, form::BASE, 0, ctx),
-            _ => self.fill_piece(parts, piece, ctx),
-        }
-    }
-
-    /// The name of a constructor's class under a tag.
+    /// The name of a constructor's class under its tags: its piece. A constructor's own name is looked at tag by tag.
     pub(crate) fn fill_base_tagged<S: PartList<Context>>(
         &self,
         parts: &mut S,
+        of_structor: bool,
         name: u32,
         ctx: Context,
     )
         requires table { IsTable (table_of self.now) }
         requires name { name < length self.now.table.nodes }
         requires room { 8 ≤ S.room parts.old }
-        ensures shows { Shows self.now ctx.detail (S.held parts.old) (S.held parts.new) (base_tagged (context_of ctx) (tree_at (trees (table_of self.now)) name)) }
+        ensures shows { Shows self.now ctx.detail (S.held parts.old) (S.held parts.new) (base_tagged (context_of ctx) of_structor (tree_at (trees (table_of self.now)) name)) }
         ensures few { S.room parts.old ≤ S.room parts.new + 8 }
     {
-        match self.stored(name) {
-            Node::Alone(piece) => self.fill_piece(parts, piece, ctx),
-            Node::InStd(piece) => self.fill_piece(parts, piece, ctx),
-            Node::Within { piece, .. } => self.fill_base_tagged_within(parts, name, piece, ctx),
-            _ => self.push_item(parts, name, form::BASE, 0, ctx),
+        if of_structor {
+            self.push_item(parts, name, form::BASE, 0, ctx);
+        } else {
+            self.fill_own_piece(parts, self.untagged(name), ctx);
         }
     }
 }

@@ -6,6 +6,7 @@ ghost use Rattle.std.specs.List.{All};
 ghost use Rattle.cpp_grammar.specs.Items as heads;
 ghost use Rattle.cpp_term.specs.Items as items;
 ghost use Rattle.cpp_term.specs.Items.{indexed};
+ghost use Rattle.cpp_term.specs.Scope.{without_tags};
 ghost use Rattle.cpp_tree.specs.Nodes.{tree_at, trees, tree_of, bytes_at, IsBelow, IsTable, IsWithin, entry_at};
 ghost use Rattle.cpp_layout.specs.Layout.{table_of, context_of, IsRead};
 ghost use Rattle.cpp_tree.specs.Fields.{offsets_of, tree_from};
@@ -109,6 +110,17 @@ impl Symbol {
         ensures below { IsBelow self.now.bytes (length self.now.table.thunks) node result }
     {
         self.nodes.node(&self.bytes, node)
+    }
+
+    /// A name without its tags.
+    #[inline(always)]
+    pub(crate) fn untagged(&self, name: u32) -> u32
+        requires table { IsTable (table_of self.now) }
+        requires name { name < length self.now.table.nodes }
+        ensures tree { tree_at (trees (table_of self.now)) result ≡ without_tags (tree_at (trees (table_of self.now)) name) }
+        ensures below { result < length self.now.table.nodes }
+    {
+        self.nodes.untagged(&self.bytes, name)
     }
 
     /// A node's view, and at once its parts, which are earlier nodes. The node is below `counts().nodes`. It takes no memory.

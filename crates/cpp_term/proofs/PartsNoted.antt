@@ -5,13 +5,14 @@ use Rattle.sym_print.specs.declared.detail.Detail.{Detail}
 use Rattle.sym_print.specs.Details.{has_arguments, has_parameters}
 use Rattle.sym_print.specs.Unfold.{PartOf, text, sub}
 use Rattle.cpp_grammar.specs.Term.{Qualifiers, RefQualifier, Signed, Term, symbol, function, object, of_name, alone, in_std, within, instance, local, holder, tagged, of_default, abbreviation, parameter, source, operator, constructor, destructor, lambda, builtin, sized_float, pointer, lvalue, rvalue, array, member_pointer, function_type, qualified, expansion, integer, pack, nil, list, absent}
-use Rattle.cpp_grammar.specs.Scope.{arguments_of}
+use Rattle.cpp_grammar.specs.Scope.{arguments_of, without_tags}
 use Rattle.cpp_grammar.specs.Items.{Form, root, full, bare, left, right, low, base, piece, first, more, expand, Context, Item, closed, argument, head, is_reference, is_funarr, packs_of, is_empty}
 use Rattle.cpp_grammar.specs.Parts as leaf_
 use Rattle.cpp_grammar.specs.Parts.{qualifier_text, ref_text, blank_last, encoding_text, is_below}
 use Rattle.cpp_grammar.specs.Texts.{look_up, named_special_texts, literal_endings}
 use Rattle.cpp_term.specs.Term as term_
 use Rattle.cpp_term.specs.Items as item_
+use Rattle.cpp_term.specs.Scope as scope_
 use Rattle.cpp_term.specs.Parts as part_
 use Rattle.cpp_term.specs.Annotated.{argument_in, annotate, noted_scope, noted_context, noted_item, noted_part, noted_parts}
 use Rattle.cpp_term.proofs.Notes.{both, scope_noted, argument_noted, packs_of_noted, head_noted, empty_noted}
@@ -236,19 +237,24 @@ base_within_noted c prefix (constructor digit) = refl
 base_within_noted c prefix (destructor digit) = refl
 base_within_noted c prefix p = piece_noted c p
 
-base_tagged_within_noted : (c : Context) (prefix p : Term) → part_.base_tagged_within (noted_context c) (annotate (at c) prefix) (annotate (at c) p) ≡ noted_parts (leaf_.base_tagged_within c prefix p)
-unfolding part_.base_tagged_within leaf_.base_tagged_within annotate noted_parts noted_part noted_item
-base_tagged_within_noted c prefix (constructor digit) = refl
-base_tagged_within_noted c prefix (destructor digit) = refl
-base_tagged_within_noted c prefix p = piece_noted c p
+untagged_noted : (s : Option term_.Term) (t : Term) → scope_.without_tags (annotate s t) ≡ annotate s (without_tags t)
+unfolding scope_.without_tags without_tags annotate
+untagged_noted s (tagged of_structor name tag) = untagged_noted s name
+untagged_noted s _ = refl
 
-base_tagged_noted : (c : Context) (t : Term) → part_.base_tagged (noted_context c) (annotate (at c) t) ≡ noted_parts (leaf_.base_tagged c t)
-unfolding part_.base_tagged leaf_.base_tagged annotate noted_parts noted_part noted_item
-base_tagged_noted c (alone p) = piece_noted c p
-base_tagged_noted c (in_std p) = piece_noted c p
-base_tagged_noted c (within prefix p) = base_tagged_within_noted c prefix p
-base_tagged_noted c (symbol e suffix) = refl
-base_tagged_noted c _ = refl
+own_noted : (s : Option term_.Term) (t : Term) → part_.own_piece (annotate s t) ≡ annotate s (leaf_.own_piece t)
+unfolding part_.own_piece leaf_.own_piece annotate
+own_noted s (alone p) = refl
+own_noted s (in_std p) = refl
+own_noted s (within prefix p) = refl
+own_noted s _ = refl
+
+base_tagged_noted : (c : Context) (of_structor : Bool) (t : Term) → part_.base_tagged (noted_context c) of_structor (annotate (at c) t) ≡ noted_parts (leaf_.base_tagged c of_structor t)
+unfolding part_.base_tagged leaf_.base_tagged noted_parts noted_part noted_item
+base_tagged_noted c true t = refl
+base_tagged_noted c false t =
+    ap (λ u. part_.piece_parts (noted_context c) u) (ap part_.own_piece (untagged_noted (at c) t) ∙ own_noted (at c) (without_tags t))
+    ∙ piece_noted c (leaf_.own_piece (without_tags t))
 
 base_noted : (d : Detail) (c : Context) (t : Term) → part_.base_parts d (noted_context c) (annotate (at c) t) ≡ noted_parts (leaf_.base_parts d c t)
 unfolding part_.base_parts leaf_.base_parts annotate noted_parts noted_part noted_item
@@ -258,7 +264,7 @@ base_noted d c (within prefix p) = base_within_noted c prefix p
 base_noted d c (instance template arguments) = refl
 base_noted d c (local encoding entity discriminator) = entity_noted c base entity
 base_noted d c (holder name) = refl
-base_noted d c (tagged of_structor name tag) = base_tagged_noted c name
+base_noted d c (tagged of_structor name tag) = base_tagged_noted c of_structor name
 base_noted d c (abbreviation letter) = refl
 base_noted d c (parameter k) = named_noted c base k
 base_noted d c t = left_noted d c t

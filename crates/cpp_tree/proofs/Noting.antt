@@ -5,14 +5,14 @@ use Rattle.cpp_term.specs.Term.{Term}
 use Rattle.cpp_term.specs.Scope.{is_open, is_generic}
 use Rattle.cpp_tree.specs.declared.node.Piece.{Piece}
 use Rattle.cpp_tree.specs.declared.node.Node.{Node}
-use Rattle.cpp_tree.specs.Nodes.{Table, tree_at, piece_of, tree_of, trees, entry_at, IsPieceBelow, IsBelow, IsClassBelow, IsArgumentsBelow, IsTable, class_is, head_of, arguments_are, IsNoted}
+use Rattle.cpp_tree.specs.Nodes.{Table, tree_at, piece_of, tree_of, trees, entry_at, IsPieceBelow, IsBelow, IsClassBelow, IsArgumentsBelow, IsTable, class_is, head_of, arguments_are, untagged_is, IsNoted}
 use Rattle.cpp_term.specs.Term as term
 use Rattle.cpp_grammar.specs.Items as heads
 use Rattle.cpp_term.specs.Items as items
-use Rattle.cpp_term.specs.Scope.{arguments_of, before_arguments, pack_length, length_if_pack, is_structor, has_return_type, count, element}
+use Rattle.cpp_term.specs.Scope.{arguments_of, without_tags, before_arguments, pack_length, length_if_pack, is_structor, has_return_type, count, element}
 use Rattle.cpp_tree.specs.declared.node.Head.{Head}
 use Rattle.cpp_tree.specs.declared.node.HeadClass.{HeadClass}
-use Rattle.cpp_tree.specs.Notes.{open_at, piece_opens, opens, generic_at, piece_has_generic, has_generic, empties, ends_in, collapses, argument_class, classes, packs_at, argument_packs, piece_packs, packing, is_structor_piece, is_structor_node, returning, counting, running, noting}
+use Rattle.cpp_tree.specs.Notes.{open_at, piece_opens, opens, generic_at, piece_has_generic, has_generic, empties, ends_in, or_itself, untagging, collapses, argument_class, classes, packs_at, argument_packs, piece_packs, packing, is_structor_piece, is_structor_node, returning, counting, running, noting}
 
 one-more : (n : ℕ) → 1 + n ≡ suc n
 one-more n = omega arith
@@ -116,6 +116,27 @@ module _ (y : Table) (table : IsTable y) where
   node-ends-below (Node.Local e entity d) b = arguments-below entity (length y.nodes) (entry_at y.nodes entity).arguments b.1 (table.each entity b.1).arguments_below
   node-ends-below (Node.OfDefault digits entity) b = arguments-below entity (length y.nodes) (entry_at y.nodes entity).arguments b.1 (table.each entity b.1).arguments_below
   node-ends-below _ b = tt
+
+  name-untagged : (t : Term) (name : ℕ) (o : Option ℕ) → untagged_is (trees y) (tree_at (trees y) name) o ≡ t → tree_at (trees y) (or_itself name o) ≡ t
+  unfolding untagged_is or_itself
+  name-untagged t name None e = e
+  name-untagged t name (Some i) e = e
+
+  pub node-untagged : (n : Node) → IsBelow y.bytes (length y.thunks) (length y.nodes) n
+      → untagged_is (trees y) (tree_of y.bytes y.thunks (trees y) n) (untagging y.nodes n) ≡ without_tags (tree_of y.bytes y.thunks (trees y) n)
+  unfolding untagging untagged_is tree_of without_tags
+  node-untagged (Node.Tagged of_structor name tag) b = name-untagged _ name (entry_at y.nodes name).untagged (table.each name b.0).untagged
+  node-untagged _ b = refl
+
+  untagged-below : (n name : ℕ) (o : Option ℕ) → name < n → IsArgumentsBelow name o → or_itself name o < n
+  unfolding or_itself
+  untagged-below n name None less b = less
+  untagged-below n name (Some i) less b = omega (arith, less, b)
+
+  pub node-untagged-below : (n : Node) → IsBelow y.bytes (length y.thunks) (length y.nodes) n → IsArgumentsBelow (length y.nodes) (untagging y.nodes n)
+  unfolding untagging
+  node-untagged-below (Node.Tagged of_structor name tag) b = untagged-below (length y.nodes) name (entry_at y.nodes name).untagged b.0 (table.each name b.0).untagged_below
+  node-untagged-below _ b = tt
 
   collapse-is : (ts : List Term) (c : HeadClass) → class_is ts (collapses c) ≡ items.collapsed_class (class_is ts c)
   unfolding collapses class_is items.collapsed_class heads.collapsed head_of
@@ -276,6 +297,8 @@ module _ (y : Table) (table : IsTable y) where
     class_below = node-class-below n b;
     arguments = node-ends n b;
     arguments_below = node-ends-below n b;
+    untagged = node-untagged n b;
+    untagged_below = node-untagged-below n b;
     returns = node-returns n b;
     counted = node-counted n b;
     count_below = node-count-below n b;

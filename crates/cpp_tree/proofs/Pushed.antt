@@ -3,7 +3,7 @@ use Rattle.std.proofs.Common.{◌≡◌, refl, sym, ◌∙◌, ap, subst, arith,
 use Rattle.std.proofs.lemmas.List.Elements.{All-push}
 use Rattle.cpp_term.specs.Term.{Term, absent}
 use Rattle.cpp_term.specs.Items as items
-use Rattle.cpp_term.specs.Scope.{pack_length, is_open, is_generic, arguments_of, has_return_type, count, element}
+use Rattle.cpp_term.specs.Scope.{pack_length, is_open, is_generic, arguments_of, without_tags, has_return_type, count, element}
 use Rattle.cpp_tree.specs.declared.node.Node.{Node}
 use Rattle.cpp_tree.specs.declared.node.Piece.{Piece}
 use Rattle.cpp_tree.specs.declared.node.Thunk.{Thunk}
@@ -11,7 +11,7 @@ use Rattle.cpp_tree.specs.declared.node.HeadClass.{HeadClass}
 use Rattle.cpp_tree.specs.declared.node.Head.{Head}
 use Rattle.cpp_tree.specs.declared.node.Entry.{Entry}
 use Rattle.cpp_tree.specs.Notes.{bare_entry}
-use Rattle.cpp_tree.specs.Nodes.{Stored, over, head_of, Table, tree_at, piece_of, tree_of, trees_onto, trees, entry_at, IsPieceBelow, IsBelow, IsClassBelow, class_is, arguments_are, IsArgumentsBelow, IsEntry, IsTable, IsNoted, with_entry, with_thunk, IsThunkWithin}
+use Rattle.cpp_tree.specs.Nodes.{Stored, over, head_of, Table, tree_at, piece_of, tree_of, trees_onto, trees, entry_at, IsPieceBelow, IsBelow, IsClassBelow, class_is, arguments_are, IsArgumentsBelow, untagged_is, IsEntry, IsTable, IsNoted, with_entry, with_thunk, IsThunkWithin}
 
 get-early : {A : Type 0} (xs : List A) (x d : A) (k : ℕ) → k < length xs → get_or (xs ++ x ∷ []) k d ≡ get_or xs k d
 get-early [] x d k less = absurd (omega (arith, less))
@@ -103,6 +103,11 @@ module _ (s : List ℕ) (us : List Thunk) (ts : List Term) (t : Term) (i : ℕ) 
   arguments-stay None b = refl
   arguments-stay (Some a) b = rw (early a b) refl
 
+  untagged-stays : (u : Term) (o : Option ℕ) → IsArgumentsBelow i o → untagged_is (ts ++ t ∷ []) u o ≡ untagged_is ts u o
+  unfolding untagged_is
+  untagged-stays u None b = refl
+  untagged-stays u (Some a) b = early a b
+
 split : (i n : ℕ) → i < suc n → (i < n) ⊎ (i ≡ n)
 split zero zero less = inr refl
 split zero (suc n) less = inl (omega arith)
@@ -132,6 +137,9 @@ module _ (y : Table) (e : Entry) (table : IsTable y) (noted : IsNoted y e) where
         class_below = was.class_below;
         arguments = arguments-stay y.bytes y.thunks (trees y) own i most (entry_at y.nodes i).arguments was.arguments_below ∙ was.arguments ∙ ap arguments_of (sym here);
         arguments_below = was.arguments_below;
+        untagged = ap (λ t. untagged_is (trees y ++ own ∷ []) t (entry_at y.nodes i).untagged) here
+            ∙ untagged-stays y.bytes y.thunks (trees y) own i most (tree_at (trees y) i) (entry_at y.nodes i).untagged was.untagged_below ∙ was.untagged ∙ ap without_tags (sym here);
+        untagged_below = was.untagged_below;
         returns = was.returns ∙ ap has_return_type (sym here);
         counted = was.counted ∙ ap count (sym here);
         count_below = was.count_below;
@@ -156,6 +164,9 @@ module _ (y : Table) (e : Entry) (table : IsTable y) (noted : IsNoted y e) where
         class_below = noted.class_below;
         arguments = arguments-stay y.bytes y.thunks (trees y) own (length y.nodes) most e.arguments noted.arguments_below ∙ noted.arguments ∙ ap arguments_of (sym last);
         arguments_below = noted.arguments_below;
+        untagged = ap (λ t. untagged_is (trees y ++ own ∷ []) t e.untagged) last
+            ∙ untagged-stays y.bytes y.thunks (trees y) own (length y.nodes) most own e.untagged noted.untagged_below ∙ noted.untagged ∙ ap without_tags (sym last);
+        untagged_below = noted.untagged_below;
         returns = noted.returns ∙ ap has_return_type (sym last);
         counted = noted.counted ∙ ap count (sym last);
         count_below = noted.count_below;
@@ -164,7 +175,7 @@ module _ (y : Table) (e : Entry) (table : IsTable y) (noted : IsNoted y e) where
       }
 
   abbrev none : Entry
-  none = record { node = Node.Absent; packs = None; is_open = false; is_generic = false; is_empty = false; class = HeadClass.Known Head.Plain; arguments = None; returns = false; count = 0; run = 0 }
+  none = record { node = Node.Absent; packs = None; is_open = false; is_generic = false; is_empty = false; class = HeadClass.Known Head.Plain; arguments = None; untagged = None; returns = false; count = 0; run = 0 }
 
   each-here : (i : ℕ) → (i < length y.nodes) ⊎ (i ≡ length y.nodes) → IsEntry (with_entry y e) (trees y ++ own ∷ []) i (entry_at (y.nodes ++ e ∷ []) i)
   each-here i (inl less) = subst (λ x. IsEntry (with_entry y e) (trees y ++ own ∷ []) i x) (sym (get-early y.nodes e none i less)) (old i less)
@@ -210,10 +221,10 @@ abbrev first-three : List ℕ → List Thunk → Table
 first-three s us = record { bytes = s; nodes = bare_entry Node.Absent false ∷ bare_entry Node.Nil true ∷ bare_entry (Node.Pack 1) true ∷ []; thunks = us }
 
 each-begins : (s : List ℕ) (us : List Thunk) (i : ℕ) → i < 3 → IsEntry (first-three s us) (trees (first-three s us)) i (entry_at (first-three s us).nodes i)
-unfolding trees_onto tree_of pack_length is_open is_generic arguments_of arguments_are has_return_type count items.is_empty items.class_of class_is head_of
-each-begins s us zero less = record { built = refl; below = tt; packs = refl; free = refl; generic = refl; empty = refl; class = refl; class_below = tt; arguments = refl; arguments_below = tt; returns = refl; counted = refl; count_below = omega arith; runs = λ k n most. absurd (omega (arith, most)); run_below = omega arith }
-each-begins s us (suc zero) less = record { built = refl; below = tt; packs = refl; free = refl; generic = refl; empty = refl; class = refl; class_below = tt; arguments = refl; arguments_below = tt; returns = refl; counted = refl; count_below = omega arith; runs = λ k n most. absurd (omega (arith, most)); run_below = omega arith }
-each-begins s us (suc (suc zero)) less = record { built = refl; below = omega arith; packs = refl; free = refl; generic = refl; empty = refl; class = refl; class_below = tt; arguments = refl; arguments_below = tt; returns = refl; counted = refl; count_below = omega arith; runs = λ k n most. absurd (omega (arith, most)); run_below = omega arith }
+unfolding trees_onto tree_of pack_length is_open is_generic arguments_of arguments_are without_tags untagged_is has_return_type count items.is_empty items.class_of class_is head_of
+each-begins s us zero less = record { built = refl; below = tt; packs = refl; free = refl; generic = refl; empty = refl; class = refl; class_below = tt; arguments = refl; arguments_below = tt; untagged = refl; untagged_below = tt; returns = refl; counted = refl; count_below = omega arith; runs = λ k n most. absurd (omega (arith, most)); run_below = omega arith }
+each-begins s us (suc zero) less = record { built = refl; below = tt; packs = refl; free = refl; generic = refl; empty = refl; class = refl; class_below = tt; arguments = refl; arguments_below = tt; untagged = refl; untagged_below = tt; returns = refl; counted = refl; count_below = omega arith; runs = λ k n most. absurd (omega (arith, most)); run_below = omega arith }
+each-begins s us (suc (suc zero)) less = record { built = refl; below = omega arith; packs = refl; free = refl; generic = refl; empty = refl; class = refl; class_below = tt; arguments = refl; arguments_below = tt; untagged = refl; untagged_below = tt; returns = refl; counted = refl; count_below = omega arith; runs = λ k n most. absurd (omega (arith, most)); run_below = omega arith }
 each-begins s us (suc (suc (suc i))) less = absurd (omega (arith, less))
 
 begins : (s : List ℕ) → IsTable (first-three s [])
@@ -264,6 +275,8 @@ module _ (y : Table) (u : Thunk) (table : IsTable y) (within : IsThunkWithin y.b
         class_below = was.class_below;
         arguments = was.arguments;
         arguments_below = was.arguments_below;
+        untagged = was.untagged;
+        untagged_below = was.untagged_below;
         returns = was.returns;
         counted = was.counted;
         count_below = was.count_below;

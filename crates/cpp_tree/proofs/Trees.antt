@@ -1,7 +1,7 @@
 -- What nodes say of their trees.
 use Rattle.std.proofs.Common.{◌≡◌, refl, sym, ◌∙◌, ap, subst, arith, ℕ, zero, suc, ◌-◌, ◌+◌, ◌<◌, ◌≤◌, List, length, Option, Some, None}
 use Rattle.cpp_term.specs.Term.{Term, absent, nil, list, pack}
-use Rattle.cpp_term.specs.Scope.{element}
+use Rattle.cpp_term.specs.Scope.{without_tags, element}
 use Rattle.cpp_grammar.specs.Items as heads
 use Rattle.cpp_term.specs.Items as items
 use Rattle.cpp_term.specs.Items.{indexed, plain_class, element_head, head_of_class}
@@ -9,7 +9,7 @@ use Rattle.cpp_tree.specs.declared.node.Node.{Node}
 use Rattle.cpp_tree.specs.declared.node.Thunk.{Thunk}
 use Rattle.cpp_tree.specs.declared.node.Head.{Head}
 use Rattle.cpp_tree.specs.declared.node.HeadClass.{HeadClass}
-use Rattle.cpp_tree.specs.Nodes.{Table, tree_at, tree_of, trees, entry_at, IsBelow, IsClassBelow, head_of, class_is, IsTable}
+use Rattle.cpp_tree.specs.Nodes.{Table, tree_at, tree_of, trees, entry_at, IsBelow, IsClassBelow, IsArgumentsBelow, head_of, class_is, untagged_is, IsTable}
 
 -- a node's tree is its production over those of its parts, which are earlier
 pub node_is : (y : Table) (i : ℕ) (n : Node) → IsTable y → i < length y.nodes → (entry_at y.nodes i).node ≡ n
@@ -64,6 +64,15 @@ run_ends y i k run table less is more inside other =
     ap (λ m. element (tree_at (trees y) i) m) (let e : k ≡ run + suc (k - (run + 1)) = omega (arith, more) in e)
     ∙ run_is y i run (suc (k - (run + 1))) table less (omega (arith, is))
     ∙ element_none y (i - run) (suc (k - (run + 1))) table inside other
+
+-- ## Tags
+
+-- the name that is noted is the one without tags
+pub untagged_at : (y : Table) (i : ℕ) (o : Option ℕ) → IsTable y → i < length y.nodes → (entry_at y.nodes i).untagged ≡ o
+    → (untagged_is (trees y) (tree_at (trees y) i) o ≡ without_tags (tree_at (trees y) i)) × IsArgumentsBelow i o
+untagged_at y i o table less is =
+    let e = table.each i less in
+    (ap (λ x. untagged_is (trees y) (tree_at (trees y) i) x) (sym is) ∙ e.untagged, subst (λ x. IsArgumentsBelow i x) is e.untagged_below)
 
 -- ## Packs
 

@@ -7,7 +7,7 @@ use Rattle.cpp_tree.specs.declared.node.HeadClass.{HeadClass}
 use Rattle.cpp_tree.specs.declared.compact.Words.{Words}
 use Rattle.cpp_tree.specs.declared.compact.Compact.{Compact}
 
--- of the length of packs the next number, and 0 for none
+-- the length of packs, by what is kept: the number behind it, and 0 where there are none
 unfoldable pub packs_kept : ℕ → Option ℕ
 packs_kept zero = None
 packs_kept (suc n) = Some n
@@ -24,6 +24,10 @@ unfoldable pub arguments_kept : Words → ℕ → Option ℕ
 arguments_kept Words.Arguments n = Some n
 arguments_kept Words.ReturningArguments n = Some n
 arguments_kept _ n = None
+
+unfoldable pub untagged_kept : Words → ℕ → Option ℕ
+untagged_kept Words.Tagged n = Some n
+untagged_kept _ n = None
 
 unfoldable pub returns_kept : Words → Bool
 returns_kept Words.ReturningArguments = true
@@ -47,6 +51,7 @@ kept n packs is_open is_generic is_empty words first second = record {
   is_empty = is_empty;
   class = class_kept words first;
   arguments = arguments_kept words first;
+  untagged = untagged_kept words first;
   returns = returns_kept words;
   count = count_kept words first;
   run = run_kept words second;
@@ -54,7 +59,7 @@ kept n packs is_open is_generic is_empty words first second = record {
 
 -- the entry of a type with this head
 abbrev pub with_head : (n : Node) (packs : Option ℕ) (is_open is_generic : Bool) (class : HeadClass) → Entry
-with_head n packs is_open is_generic class = record { node = n; packs = packs; is_open = is_open; is_generic = is_generic; is_empty = false; class = class; arguments = None; returns = false; count = 0; run = 0 }
+with_head n packs is_open is_generic class = record { node = n; packs = packs; is_open = is_open; is_generic = is_generic; is_empty = false; class = class; arguments = None; untagged = None; returns = false; count = 0; run = 0 }
 
 -- the entry of a name that ends in these arguments
 abbrev pub with_arguments : (n : Node) (packs : Option ℕ) (is_open is_generic : Bool) (arguments : Option ℕ) (returns : Bool) → Entry
@@ -66,6 +71,7 @@ with_arguments n packs is_open is_generic arguments returns = record {
   is_empty = false;
   class = HeadClass.Known Head.Plain;
   arguments = arguments;
+  untagged = None;
   returns = returns;
   count = 0;
   run = 0;

@@ -6,7 +6,7 @@ use Rattle.cpp_grammar.specs.Term as values
 use Rattle.cpp_grammar.specs.Items as heads
 use Rattle.cpp_term.specs.Term as term
 use Rattle.cpp_term.specs.Term.{Term}
-use Rattle.cpp_term.specs.Scope.{pack_length, is_open, is_generic, arguments_of, has_return_type, count, element}
+use Rattle.cpp_term.specs.Scope.{pack_length, is_open, is_generic, arguments_of, without_tags, has_return_type, count, element}
 use Rattle.cpp_term.specs.Items as items
 use Rattle.cpp_tree.specs.declared.node.Qualifiers.{Qualifiers}
 use Rattle.cpp_tree.specs.declared.node.Mark.{Mark}
@@ -233,8 +233,13 @@ abbrev pub IsArgumentsBelow : ℕ → Option ℕ → Type 0
 IsArgumentsBelow n None = Unit {0}
 IsArgumentsBelow n (Some a) = a < n
 
+-- the tree of a name's tags taken away: its own where none are noted
+unfoldable pub untagged_is : List Term → Term → Option ℕ → Term
+untagged_is ts t None = t
+untagged_is ts t (Some i) = tree_at ts i
+
 abbrev pub entry_at : List Entry → ℕ → Entry
-entry_at es i = get_or es i (record { node = Node.Absent; packs = None; is_open = false; is_generic = false; is_empty = false; class = HeadClass.Known Head.Plain; arguments = None; returns = false; count = 0; run = 0 })
+entry_at es i = get_or es i (record { node = Node.Absent; packs = None; is_open = false; is_generic = false; is_empty = false; class = HeadClass.Known Head.Plain; arguments = None; untagged = None; returns = false; count = 0; run = 0 })
 
 -- What holds of the node at a place: all that is noted follows from its tree. A cell's run is how many of the nodes before it are
 -- the cells behind it, so that an element is found by a subtraction.
@@ -249,6 +254,8 @@ pub record IsEntry (y : Table) (ts : List Term) (i : ℕ) (e : Entry) : Type 0 w
   pub class_below : IsClassBelow i e.class
   pub arguments : arguments_are ts e.arguments ≡ arguments_of (tree_at ts i)
   pub arguments_below : IsArgumentsBelow i e.arguments
+  pub untagged : untagged_is ts (tree_at ts i) e.untagged ≡ without_tags (tree_at ts i)
+  pub untagged_below : IsArgumentsBelow i e.untagged
   pub returns : e.returns ≡ has_return_type (tree_at ts i)
   pub counted : e.count ≡ count (tree_at ts i)
   pub count_below : e.count ≤ i
@@ -278,6 +285,8 @@ pub record IsNoted (y : Table) (e : Entry) : Type 0 where
   pub class_below : IsClassBelow (length y.nodes) e.class
   pub arguments : arguments_are (trees y) e.arguments ≡ arguments_of (tree_of y.bytes y.thunks (trees y) e.node)
   pub arguments_below : IsArgumentsBelow (length y.nodes) e.arguments
+  pub untagged : untagged_is (trees y) (tree_of y.bytes y.thunks (trees y) e.node) e.untagged ≡ without_tags (tree_of y.bytes y.thunks (trees y) e.node)
+  pub untagged_below : IsArgumentsBelow (length y.nodes) e.untagged
   pub returns : e.returns ≡ has_return_type (tree_of y.bytes y.thunks (trees y) e.node)
   pub counted : e.count ≡ count (tree_of y.bytes y.thunks (trees y) e.node)
   pub count_below : e.count ≤ length y.nodes

@@ -96,6 +96,16 @@ ends_in es (Node.Local e entity d) = (entry_at es entity).arguments
 ends_in es (Node.OfDefault digits entity) = (entry_at es entity).arguments
 ends_in es _ = None
 
+-- ## The name under its tags
+
+unfoldable pub or_itself : ℕ → Option ℕ → ℕ
+or_itself name None = name
+or_itself name (Some i) = i
+
+unfoldable pub untagging : List Entry → Node → Option ℕ
+untagging es (Node.Tagged of_structor name tag) = Some (or_itself name (entry_at es name).untagged)
+untagging es _ = None
+
 -- ## Its head
 
 unfoldable pub collapses : HeadClass → HeadClass
@@ -195,6 +205,7 @@ noting es n = record {
   is_empty = empties es n;
   class = classes es n;
   arguments = ends_in es n;
+  untagged = untagging es n;
   returns = returning es n;
   count = counting es n;
   run = running es n;
@@ -202,4 +213,4 @@ noting es n = record {
 
 -- a node of which nothing is noted, but whether it prints nothing
 abbrev pub bare_entry : Node → Bool → Entry
-bare_entry n empty = record { node = n; packs = None; is_open = false; is_generic = false; is_empty = empty; class = HeadClass.Known Head.Plain; arguments = None; returns = false; count = 0; run = 0 }
+bare_entry n empty = record { node = n; packs = None; is_open = false; is_generic = false; is_empty = empty; class = HeadClass.Known Head.Plain; arguments = None; untagged = None; returns = false; count = 0; run = 0 }

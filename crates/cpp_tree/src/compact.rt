@@ -2,12 +2,13 @@
 #![tactic(auto)]
 
 ghost use Rattle.std.specs.Prelude.{◌≡◌};
-ghost use Rattle.cpp_tree.specs.Compact.{packs_kept, class_kept, arguments_kept, returns_kept, count_kept, run_kept, entry_of};
+ghost use Rattle.cpp_tree.specs.Compact.{packs_kept, class_kept, arguments_kept, untagged_kept, returns_kept, count_kept, run_kept, entry_of};
 ghost use Rattle.cpp_tree.specs.Notes.{bare_entry};
 
 use crate::node::{Entry, Head, HeadClass, Node};
 
-/// What two words beside a node tell: of a type a list of elements, of a name its arguments, of a list its count and its run.
+/// What two words beside a node tell: of a type a list of elements, of a name its arguments or itself without tags, of a list its
+/// count and its run.
 #[derive(Clone, Copy)]
 pub enum Words {
     Plain,
@@ -18,10 +19,11 @@ pub enum Words {
     CollapsedOfElement,
     Arguments,
     ReturningArguments,
+    Tagged,
     Elements,
 }
 
-/// An entry in 40 bytes: what no node has at once (the arguments of a name, the elements of a list, the head of a type) shares
+/// An entry in 40 bytes: what no node has at once (the arguments of a name, the name under its tags, the elements of a list, the head of a type) shares
 /// the two words.
 #[derive(Clone, Copy)]
 pub struct Compact {
@@ -70,6 +72,18 @@ fn arguments(words: Words, first: u32) -> Option<u32>
     match words {
         Words::Arguments => Some(first),
         Words::ReturningArguments => Some(first),
+        _ => None,
+    }
+}
+
+/// The name under the tags of a name.
+#[inline(always)]
+#[tactic(auto, unfolding(crate::specs::Compact::untagged_kept))]
+fn untagged(words: Words, first: u32) -> Option<u32>
+    ensures { result ≡ untagged_kept words first }
+{
+    match words {
+        Words::Tagged => Some(first),
         _ => None,
     }
 }
@@ -124,6 +138,7 @@ impl Compact {
             is_empty: self.is_empty,
             class: class(self.words, self.first),
             arguments: arguments(self.words, self.first),
+            untagged: untagged(self.words, self.first),
             returns: returns(self.words),
             count: count(self.words, self.first),
             run: run(self.words, self.second),
@@ -133,7 +148,7 @@ impl Compact {
 
 /// A node of which nothing is noted.
 #[inline(always)]
-#[tactic(auto, unfolding(crate::specs::Compact::packs_kept, crate::specs::Compact::class_kept, crate::specs::Compact::arguments_kept, crate::specs::Compact::returns_kept, crate::specs::Compact::count_kept, crate::specs::Compact::run_kept))]
+#[tactic(auto, unfolding(crate::specs::Compact::packs_kept, crate::specs::Compact::class_kept, crate::specs::Compact::arguments_kept, crate::specs::Compact::untagged_kept, crate::specs::Compact::returns_kept, crate::specs::Compact::count_kept, crate::specs::Compact::run_kept))]
 pub(crate) fn bare(node: Node, is_empty: bool) -> Compact
     ensures { entry_of result ≡ bare_entry node is_empty }
 {

@@ -293,6 +293,8 @@ pub struct Entry {
     pub class: HeadClass,
     /// The arguments that a name ends in.
     pub arguments: Option<u32>,
+    /// The name under all its tags, if it has some.
+    pub untagged: Option<u32>,
     /// Whether a function of this name has its return type before its parameters.
     pub returns: bool,
     /// How many elements a list has.

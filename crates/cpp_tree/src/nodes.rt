@@ -3,6 +3,7 @@
 
 ghost use Rattle.std.specs.Prelude.{◌≡◌, ℕ, ◌+◌, ◌<◌, ◌≤◌, ◌^◌, ◌++◌, ◌∷◌, [], List, length, slice_get, IfOk, IfErr, OnOk, OnErr};
 ghost use Rattle.sym_core.specs.declared.Refusal.{Refusal};
+ghost use Rattle.cpp_term.specs.Scope.{without_tags};
 ghost use Rattle.cpp_tree.specs.Nodes.{over, tree_at, trees, tree_of, entry_at, IsBelow, IsThunkWithin, IsTable};
 ghost use Rattle.cpp_tree.specs.Compact.{entry_of};
 
@@ -121,6 +122,20 @@ impl Nodes {
         ensures below { IsBelow symbol.now (length self.now.thunks) node result }
     {
         self.entry(node).node
+    }
+
+    /// A name without its tags: the one under them, or itself.
+    #[inline(always)]
+    pub fn untagged(&self, symbol: &[u8], name: u32) -> u32
+        requires table { IsTable (over symbol.now self.now) }
+        requires name { name < length self.now.nodes }
+        ensures tree { tree_at (trees (over symbol.now self.now)) result ≡ without_tags (tree_at (trees (over symbol.now self.now)) name) }
+        ensures below { result < length self.now.nodes }
+    {
+        match self.entry(name).untagged {
+            Some(inner) => inner,
+            None => name,
+        }
     }
 
     /// Adds a node, and answers its number. It stands for its production over its parts' trees, and earlier nodes for what they

@@ -6,9 +6,9 @@ ghost use Rattle.cpp_grammar.specs.Items as heads;
 ghost use Rattle.cpp_grammar.specs.Scope.{first_of};
 ghost use Rattle.cpp_tree.specs.declared.node.Node.{Node};
 ghost use Rattle.cpp_tree.specs.declared.compact.Words.{Words};
-ghost use Rattle.cpp_tree.specs.Compact.{packs_kept, class_kept, arguments_kept, returns_kept, entry_of, kept, with_head, with_arguments};
+ghost use Rattle.cpp_tree.specs.Compact.{packs_kept, class_kept, arguments_kept, untagged_kept, returns_kept, entry_of, kept, with_head, with_arguments};
 ghost use Rattle.cpp_tree.specs.Nodes.{over, entry_at, IsBelow, IsPieceBelow, IsTable};
-ghost use Rattle.cpp_tree.specs.Notes.{piece_opens, piece_has_generic, piece_packs, argument_packs, argument_class, collapses, is_structor_node, noting};
+ghost use Rattle.cpp_tree.specs.Notes.{or_itself, piece_opens, piece_has_generic, piece_packs, argument_packs, argument_class, collapses, is_structor_node, noting};
 
 use crate::compact::{Compact, Words, bare};
 use crate::node::{Node, Piece};
@@ -16,7 +16,7 @@ use crate::nodes::Nodes;
 
 /// What two words tell of a reference to an rvalue of a type.
 #[inline(always)]
-#[tactic(auto, unfolding(crate::specs::Compact::class_kept, crate::specs::Compact::arguments_kept, crate::specs::Compact::returns_kept, crate::specs::Compact::count_kept, crate::specs::Compact::run_kept, crate::specs::Notes::collapses))]
+#[tactic(auto, unfolding(crate::specs::Compact::class_kept, crate::specs::Compact::arguments_kept, crate::specs::Compact::untagged_kept, crate::specs::Compact::returns_kept, crate::specs::Compact::count_kept, crate::specs::Compact::run_kept, crate::specs::Notes::collapses))]
 fn collapsed(words: Words) -> Words
     ensures { (n : Node) (packs : Option ℕ) (is_open is_generic : Bool) (first : ℕ) → kept n packs is_open is_generic false result first 0 ≡ with_head n packs is_open is_generic (collapses (class_kept words first)) }
 {
@@ -30,13 +30,14 @@ fn collapsed(words: Words) -> Words
 
 /// What two words tell of a type with the head of a type.
 #[inline(always)]
-#[tactic(auto, unfolding(crate::specs::Compact::class_kept, crate::specs::Compact::arguments_kept, crate::specs::Compact::returns_kept, crate::specs::Compact::count_kept, crate::specs::Compact::run_kept))]
+#[tactic(auto, unfolding(crate::specs::Compact::class_kept, crate::specs::Compact::arguments_kept, crate::specs::Compact::untagged_kept, crate::specs::Compact::returns_kept, crate::specs::Compact::count_kept, crate::specs::Compact::run_kept))]
 fn of_type(words: Words) -> Words
     ensures { (n : Node) (packs : Option ℕ) (is_open is_generic : Bool) (first : ℕ) → kept n packs is_open is_generic false result first 0 ≡ with_head n packs is_open is_generic (class_kept words first) }
 {
     match words {
         Words::Arguments => Words::Plain,
         Words::ReturningArguments => Words::Plain,
+        Words::Tagged => Words::Plain,
         Words::Elements => Words::Plain,
         _ => words,
     }
@@ -44,7 +45,7 @@ fn of_type(words: Words) -> Words
 
 /// What two words tell of a name that ends in a name.
 #[inline(always)]
-#[tactic(auto, unfolding(crate::specs::Compact::class_kept, crate::specs::Compact::arguments_kept, crate::specs::Compact::returns_kept, crate::specs::Compact::count_kept, crate::specs::Compact::run_kept))]
+#[tactic(auto, unfolding(crate::specs::Compact::class_kept, crate::specs::Compact::arguments_kept, crate::specs::Compact::untagged_kept, crate::specs::Compact::returns_kept, crate::specs::Compact::count_kept, crate::specs::Compact::run_kept))]
 fn of_name(words: Words) -> Words
     ensures { (n : Node) (packs : Option ℕ) (is_open is_generic : Bool) (first : ℕ) → kept n packs is_open is_generic false result first 0 ≡ with_arguments n packs is_open is_generic (arguments_kept words first) (returns_kept words) }
 {
@@ -57,7 +58,7 @@ fn of_name(words: Words) -> Words
 
 /// What two words tell of an instance of a template.
 #[inline(always)]
-#[tactic(auto, unfolding(crate::specs::Compact::class_kept, crate::specs::Compact::arguments_kept, crate::specs::Compact::returns_kept, crate::specs::Compact::count_kept, crate::specs::Compact::run_kept))]
+#[tactic(auto, unfolding(crate::specs::Compact::class_kept, crate::specs::Compact::arguments_kept, crate::specs::Compact::untagged_kept, crate::specs::Compact::returns_kept, crate::specs::Compact::count_kept, crate::specs::Compact::run_kept))]
 fn of_instance(template: Node) -> Words
     ensures { (n : Node) (packs : Option ℕ) (is_open is_generic : Bool) (first : ℕ) → kept n packs is_open is_generic false result first 0 ≡ with_arguments n packs is_open is_generic (Some first) (not (is_structor_node template)) }
 {
@@ -65,6 +66,18 @@ fn of_instance(template: Node) -> Words
         Words::Arguments
     } else {
         Words::ReturningArguments
+    }
+}
+
+/// The name under the tags of a name, or the name itself.
+#[inline(always)]
+#[tactic(auto, unfolding(crate::specs::Compact::untagged_kept, crate::specs::Notes::or_itself))]
+fn under_tags(held: Compact, name: u32) -> u32
+    ensures { result ≡ or_itself name (untagged_kept held.words held.first) }
+{
+    match held.words {
+        Words::Tagged => held.first,
+        _ => name,
     }
 }
 
@@ -159,15 +172,7 @@ impl Nodes {
         match piece {
             Piece::Lambda { parameters, .. } => Compact {
                 is_generic: before.is_generic,
-                ..noted_over_two(
-                    node,
-                    before,
-                    self.at(parameters),
-                    false,
-                    Words::Plain,
-                    0,
-                    0,
-                )
+                ..noted_over_two(node, before, self.at(parameters), false, Words::Plain, 0, 0)
             },
             Piece::Conversion(ty) => noted_over_two(
                 node,
@@ -330,6 +335,16 @@ impl Nodes {
         noted_over(node, held, of_name(held.words), held.first)
     }
 
+    /// A name with one tag more.
+    #[inline(always)]
+    fn noted_tagged(&self, node: Node, name: u32) -> Compact
+        requires { name < length self.now.nodes }
+        ensures { entry_of result ≡ kept node (entry_at self.now.nodes name).packs (entry_at self.now.nodes name).is_open (entry_at self.now.nodes name).is_generic false Words.Tagged (or_itself name (entry_at self.now.nodes name).untagged) 0 }
+    {
+        let held = self.at(name);
+        noted_over(node, held, Words::Tagged, under_tags(held, name))
+    }
+
     /// An instance of a template.
     #[inline(always)]
     fn noted_instance(&self, node: Node, template: u32, arguments: u32) -> Compact
@@ -352,7 +367,7 @@ impl Nodes {
 
     /// A node with what is noted of it.
     #[inline(always)]
-    #[tactic(auto, unfolding(crate::specs::Compact::packs_kept, crate::specs::Compact::class_kept, crate::specs::Compact::arguments_kept, crate::specs::Compact::returns_kept, crate::specs::Compact::count_kept, crate::specs::Compact::run_kept, crate::specs::Notes::opens, crate::specs::Notes::has_generic, crate::specs::Notes::empties, crate::specs::Notes::ends_in, crate::specs::Notes::classes, crate::specs::Notes::packing, crate::specs::Notes::returning, crate::specs::Notes::counting, crate::specs::Notes::running))]
+    #[tactic(auto, unfolding(crate::specs::Compact::packs_kept, crate::specs::Compact::class_kept, crate::specs::Compact::arguments_kept, crate::specs::Compact::untagged_kept, crate::specs::Compact::returns_kept, crate::specs::Compact::count_kept, crate::specs::Compact::run_kept, crate::specs::Notes::opens, crate::specs::Notes::has_generic, crate::specs::Notes::empties, crate::specs::Notes::ends_in, crate::specs::Notes::untagging, crate::specs::Notes::classes, crate::specs::Notes::packing, crate::specs::Notes::returning, crate::specs::Notes::counting, crate::specs::Notes::running))]
     pub(crate) fn noted(&self, symbol: &[u8], node: Node) -> Compact
         requires table { IsTable (over symbol.now self.now) }
         requires below { IsBelow symbol.now (length self.now.thunks) (length self.now.nodes) node }
@@ -369,7 +384,7 @@ impl Nodes {
             } => self.noted_instance(node, template, arguments),
             Node::Local { entity, .. } => self.noted_local(node, entity),
             Node::Holder(name) => self.noted_type(node, name, Words::Plain),
-            Node::Tagged { name, .. } => self.noted_type(node, name, Words::Plain),
+            Node::Tagged { name, .. } => self.noted_tagged(node, name),
             Node::OfDefault { entity, .. } => self.noted_local(node, entity),
             Node::Parameter { argument, .. } => self.noted_parameter(symbol, node, argument),
             Node::GenericParameter(_) => Compact {

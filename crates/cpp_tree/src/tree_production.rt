@@ -238,5 +238,6 @@ pub const CLONE: u16 = 72;
 /// the wide grammar alone have it.
 pub const OF_DEFAULT: u16 = 73;
 
-/// A lambda's own parameter, in the lambda's signature. Numbers: its number, counted from 0. Symbols of the wide grammar alone have it.
+/// A lambda's own parameter, in the lambda's signature. Numbers: its number, counted from 0. Symbols of the wide grammar alone
+/// have it.
 pub const GENERIC_PARAMETER: u16 = 74;

@@ -1,9 +1,9 @@
 // The demangler over both manglings.
-ghost use Rattle.std.specs.Prelude.{ℕ, List, Ok};
+ghost use Rattle.std.specs.Prelude.{ℕ, List, Bool, Ok, true, false};
 ghost use Rattle.sym_core.specs.Number.{FitsSymbol};
 ghost use Rattle.sym_print.specs.declared.detail.Detail.{Detail as Detail-type};
 ghost use Rattle.sym_demangle.specs.Mangled.{IsAnswer, answer};
-ghost use Rattle.cpp_grammar.specs.Mangled.{cpp_mangled};
+ghost use Rattle.cpp_direct.specs.Symbol.{mangled_by};
 ghost use Rattle.rust_v0.specs.Mangled.{v0_mangled};
 ghost use Rattle.sym_filter.specs.Demangled.{IsAppended, IsDemangled};
 ghost use Rattle.sym_filter.specs.Languages.{AreCounts, AreCountsBy, language_answer_by};
@@ -18,21 +18,32 @@ use sym_core::Refusal;
 use sym_demangle::{Mangling, Workspace};
 use sym_print::Detail;
 
-/// A grammar of C++ symbols that reads at least what that of `Abi` does.
+/// A grammar of C++ symbols, by which texts are written in the short way, too.
 pub trait Cpp: Counted {
-    /// A symbol that has a text by the grammar of `Abi` has the same here, at the same cost.
-    fn keeps_texts()
-        ensures { (detail : Detail-type) (s text : List ℕ) (limit : ℕ) → IsAnswer cpp_mangled detail s limit (Ok text) → IsAnswer Self.mangled detail s limit (Ok text) };
+    /// Whether it is the wide one.
+    const IS_WIDE: bool;
+
+    ghost IS_WIDE: { Bool };
+
+    /// What the short way answers is the answer.
+    fn answers_so()
+        ensures { (detail : Detail-type) (s text : List ℕ) (limit : ℕ) → IsAnswer (mangled_by IS_WIDE) detail s limit (Ok text) → IsAnswer Self.mangled detail s limit (Ok text) };
 }
 
 impl Cpp for Abi {
-    fn keeps_texts() {}
+    const IS_WIDE: bool = false;
+
+    ghost IS_WIDE = { false };
+
+    fn answers_so() {}
 }
 
 impl Cpp for Wide {
-    fn keeps_texts() {
-        cpp_grammar::abi_answers_stay();
-    }
+    const IS_WIDE: bool = true;
+
+    ghost IS_WIDE = { true };
+
+    fn answers_so() {}
 }
 
 /// Both manglings, at a limit on the cost of a text and a detail, with the grammar by which C++ symbols are read: `Abi` or `Wide`.
@@ -127,9 +138,9 @@ fn append_cpp<C: Cpp>(
     ensures { IsAppended (answer C.mangled detail symbol.now limit) out.old.items out.new.items result }
 {
     if let Detail::Full = detail
-        && lists.cpp_direct.write(symbol, limit)
+        && lists.cpp_direct.write(symbol, limit, C::IS_WIDE)
     {
-        C::keeps_texts();
+        C::answers_so();
         out.extend_from_slice(lists.cpp_direct.text())?;
         return Ok(());
     }

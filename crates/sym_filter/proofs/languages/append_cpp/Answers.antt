@@ -11,7 +11,7 @@ returns g c =
     let m = g.C.Mangling.mangled in
     let bytes : AreBytes symbol = λ i. search (rules, c.type_inv.symbol i) in
     let text = c.write.new.self.text.list.items in
-    let is = c.keeps_texts.ensures Full symbol text c.args.limit (c.write.ensures.answer c.if-write.true) in (
+    let is = c.answers_so.ensures Full symbol text c.args.limit (c.write.ensures.answer c.if-write.true) in (
       c.text.result.now,
       ap (λ d. answer m d symbol c.args.limit) c.in-Full.is
           ∙ sym (is_answer m Full symbol c.args.limit (Ok text) bytes is)

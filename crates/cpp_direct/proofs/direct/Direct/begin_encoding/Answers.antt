@@ -3,7 +3,7 @@ use Rattle.std.proofs.lemmas.Bool.{false≢true}
 use Rattle.cpp_direct.proofs.direct.Direct.begin_encoding.Goals as goal
 
 pub begin_name-requires-in_default-clause-awaits : goal.begin_name-requires-in_default-clause-awaits
-begin_name-requires-in_default-clause-awaits c = record {
+begin_name-requires-in_default-clause-awaits g c = record {
   before = c.args.self.now.at;
   awaits = c.requires.awaits;
   letter = λ e. absurd (false≢true e);

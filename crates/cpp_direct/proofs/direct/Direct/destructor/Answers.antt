@@ -1,14 +1,15 @@
-use Rattle.std.proofs.Common.{◌+◌, ◌≤◌, ◌∷◌, [], refl, arith}
+use Rattle.std.proofs.Common.{◌+◌, ◌∷◌, [], refl, arith}
+use Rattle.cpp_direct.specs.Symbol.{symbol_by}
 use Rattle.cpp_direct.proofs.Moves.{stands-moved}
-use Rattle.cpp_direct.proofs.NestComponents.{destructor-awaits}
+use Rattle.cpp_direct.proofs.NestComponents.{destructor-awaits, destructor-digit-some}
 use Rattle.cpp_direct.proofs.direct.Direct.destructor.Goals as goal
 
-pub class_again-requires : goal.class_again-requires
-class_again-requires c =
-    let low : 48 ≤ c.byte_at-digit.result = omega (arith, c.if-digit-lt48.false) in
-    destructor-awaits c.args.s.now c.args.self.now _ c.push.new.self c.byte_at-digit.result c.in_ok-push.ensures
+pub class_again-requires-clause-awaits : goal.class_again-requires-clause-awaits
+class_again-requires-clause-awaits g c =
+    let is = c.is_destructor_digit.ensures c.if-not-is_destructor_digit.false in
+    destructor-awaits (symbol_by g.G.Grammar.IS_WIDE c.args.s.now) c.args.self.now _ c.push.new.self c.byte_at-digit.result c.in_ok-push.ensures
     (record { text = refl; candidates = refl; waiting = refl; nest = refl; at = omega (arith, c.in_ok-self.ensures, c.in_ok-self-2.ensures) })
     c.requires.writing c.requires.letter
     (stands-moved c.args.s.now _ (c.args.self.now.at + 1) (c.byte_at-digit.result ∷ []) (omega (arith, c.in_ok-self.ensures))
-    (c.byte_at-digit.ensures (λ e. omega (arith, e, low))))
-    low (omega (arith, c.if-digit-gt50.false)) c.if-not-self.false
+    (c.byte_at-digit.ensures (destructor-digit-some g.G.Grammar.IS_WIDE c.byte_at-digit.result is)))
+    is c.if-not-self.false

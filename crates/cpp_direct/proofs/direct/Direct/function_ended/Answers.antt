@@ -1,4 +1,5 @@
 use Rattle.std.proofs.Common.{refl, ap, sym, ◌∙◌}
+use Rattle.cpp_direct.specs.Symbol.{symbol_by}
 use Rattle.cpp_direct.specs.declared.open.Open.TheVariants as opens
 use Rattle.cpp_direct.proofs.Handed.{argument-read, parameter-read, special-read}
 use Rattle.cpp_direct.proofs.Listed.{waits-last}
@@ -7,8 +8,8 @@ use Rattle.cpp_direct.proofs.EnclosingFunctions.{parameter-read-within}
 use Rattle.cpp_direct.proofs.direct.Direct.function_ended.Goals as goal
 
 pub parameter_ended-requires-clause-ended : goal.parameter_ended-requires-clause-ended
-parameter_ended-requires-clause-ended c =
-    let s = c.args.s.now in
+parameter_ended-requires-clause-ended g c =
+    let s = symbol_by g.G.Grammar.IS_WIDE c.args.s.now in
     let w = c.args.self.now in
     let p = c.requires.ended in
     parameter-read s _ c.in-Parameters.mark c.in-Parameters.start c.in-Parameters.argument
@@ -20,8 +21,8 @@ parameter_ended-requires-clause-ended c =
     (waits-last _ _ _ _ c.as_slice.ensures c.in_ok-mark.ensures.value c.in-Parameters.is))
 
 pub enclosing_parameter-requires-clause-read : goal.enclosing_parameter-requires-clause-read
-enclosing_parameter-requires-clause-read c =
-    let s = c.args.s.now in
+enclosing_parameter-requires-clause-read g c =
+    let s = symbol_by g.G.Grammar.IS_WIDE c.args.s.now in
     let w = c.args.self.now in
     let p = c.requires.ended in
     parameter-read-within s _ c.in-Enclosing.mark c.in-Enclosing.from c.in-Enclosing.argument
@@ -33,8 +34,8 @@ enclosing_parameter-requires-clause-read c =
     (waits-last _ _ _ _ c.as_slice.ensures c.in_ok-mark.ensures.value c.in-Enclosing.is))
 
 pub finish-requires : goal.finish-requires
-finish-requires c =
-    let s = c.args.s.now in
+finish-requires g c =
+    let s = symbol_by g.G.Grammar.IS_WIDE c.args.s.now in
     let w = c.args.self.now in
     let p = c.requires.ended in
     special-read s _
@@ -46,8 +47,8 @@ finish-requires c =
     (waits-last _ _ _ _ c.as_slice.ensures c.in_ok-mark.ensures.value c.in-Special.is))
 
 pub returns-in_default : goal.returns-in_default
-returns-in_default c =
-    let s = c.args.s.now in
+returns-in_default g c =
+    let s = symbol_by g.G.Grammar.IS_WIDE c.args.s.now in
     let w = c.args.self.now in
     let p = c.requires.ended in
     let o = c.in_ok-mark.field-0.now in

@@ -1,5 +1,6 @@
 use Rattle.std.proofs.Common.{◌∷◌, [], true, sym, ◌∙◌, arith, subst}
 use Rattle.std.proofs.lemmas.Bool.{false≢true}
+use Rattle.cpp_direct.specs.Symbol.{symbol_by}
 use Rattle.cpp_direct.specs.declared.open.Step.TheVariants as steps
 use Rattle.cpp_direct.specs.Stands.{IsWriting}
 use Rattle.cpp_direct.specs.Holes.{StandsAt}
@@ -9,7 +10,7 @@ use Rattle.cpp_direct.proofs.direct.Direct.list_at.Goals as goal
 use Rattle.cpp_direct.proofs.direct.Direct.list_at.Goals.{then-not-is_first+in_ok-push_pair, else-not-is_first}
 
 pub empty_pack-requires-clause-letters : goal.empty_pack-requires-clause-letters
-empty_pack-requires-clause-letters c =
+empty_pack-requires-clause-letters g c =
     let s = c.args.s.now in
     let at = c.args.self.now.at in
     stands-join s at (74 ∷ []) (69 ∷ [])
@@ -19,39 +20,39 @@ empty_pack-requires-clause-letters c =
     (c.byte_at-behind.ensures (λ e. omega (arith, e, c.if-behind-eq69.true)))))
 
 pub literal-requires-clause-awaits : goal.literal-requires-clause-awaits
-literal-requires-clause-awaits c = elim c.if-not-is_first.branch [
+literal-requires-clause-awaits g c = elim c.if-not-is_first.branch [
   | then-not-is_first+in_ok-push_pair w ↦
-      another-expected c.args.s.now c.args.self.now w.push_pair.new.self c.if-not-is_first.self c.args.is_first c.requires.writing w.if-not-is_first.true
+      another-expected (symbol_by g.G.Grammar.IS_WIDE c.args.s.now) c.args.self.now w.push_pair.new.self c.if-not-is_first.self c.args.is_first c.requires.writing w.if-not-is_first.true
       w.in_ok-push_pair.ensures w.self-is
   | else-not-is_first w ↦
-      first-expected c.args.s.now c.args.self.now c.if-not-is_first.self c.args.is_first c.requires.writing w.if-not-is_first.false w.self-is
+      first-expected (symbol_by g.G.Grammar.IS_WIDE c.args.s.now) c.args.self.now c.if-not-is_first.self c.args.is_first c.requires.writing w.if-not-is_first.false w.self-is
 ]
 
 pub begin_pack-requires-clause-awaits : goal.begin_pack-requires-clause-awaits
-begin_pack-requires-clause-awaits c = elim c.if-not-is_first.branch [
+begin_pack-requires-clause-awaits g c = elim c.if-not-is_first.branch [
   | then-not-is_first+in_ok-push_pair w ↦
-      another-expected c.args.s.now c.args.self.now w.push_pair.new.self c.if-not-is_first.self c.args.is_first c.requires.writing w.if-not-is_first.true
+      another-expected (symbol_by g.G.Grammar.IS_WIDE c.args.s.now) c.args.self.now w.push_pair.new.self c.if-not-is_first.self c.args.is_first c.requires.writing w.if-not-is_first.true
       w.in_ok-push_pair.ensures w.self-is
   | else-not-is_first w ↦
-      first-expected c.args.s.now c.args.self.now c.if-not-is_first.self c.args.is_first c.requires.writing w.if-not-is_first.false w.self-is
+      first-expected (symbol_by g.G.Grammar.IS_WIDE c.args.s.now) c.args.self.now c.if-not-is_first.self c.args.is_first c.requires.writing w.if-not-is_first.false w.self-is
 ]
 
 pub returns-else-is_first-2 : goal.returns-else-is_first-2
-returns-else-is_first-2 c = type-expected c.args.s.now c.if-not-is_first.self (elim c.if-not-is_first.branch [
+returns-else-is_first-2 g c = type-expected (symbol_by g.G.Grammar.IS_WIDE c.args.s.now) c.if-not-is_first.self (elim c.if-not-is_first.branch [
   | then-not-is_first+in_ok-push_pair w ↦
-      another-expected c.args.s.now c.args.self.now w.push_pair.new.self c.if-not-is_first.self c.args.is_first c.requires.writing w.if-not-is_first.true
+      another-expected (symbol_by g.G.Grammar.IS_WIDE c.args.s.now) c.args.self.now w.push_pair.new.self c.if-not-is_first.self c.args.is_first c.requires.writing w.if-not-is_first.true
       w.in_ok-push_pair.ensures w.self-is
   | else-not-is_first w ↦
-      first-expected c.args.s.now c.args.self.now c.if-not-is_first.self c.args.is_first c.requires.writing w.if-not-is_first.false w.self-is
+      first-expected (symbol_by g.G.Grammar.IS_WIDE c.args.s.now) c.args.self.now c.if-not-is_first.self c.args.is_first c.requires.writing w.if-not-is_first.false w.self-is
 ])
 
 pub first_type-requires-clause-writing : goal.first_type-requires-clause-writing
-first_type-requires-clause-writing c = elim c.if-not-is_first.branch [
+first_type-requires-clause-writing g c = elim c.if-not-is_first.branch [
   | then-not-is_first+in_ok-push_pair w ↦ absurd (false≢true (sym w.if-not-is_first.true ∙ c.if-is_first-2.true))
   | else-not-is_first w ↦
-      subst (λ d. IsWriting c.args.s.now d (steps.List true)) (sym w.self-is)
-      (subst (λ f. IsWriting c.args.s.now c.args.self.now (steps.List f)) c.if-is_first-2.true c.requires.writing)
+      subst (λ d. IsWriting (symbol_by g.G.Grammar.IS_WIDE c.args.s.now) d (steps.List true)) (sym w.self-is)
+      (subst (λ f. IsWriting (symbol_by g.G.Grammar.IS_WIDE c.args.s.now) c.args.self.now (steps.List f)) c.if-is_first-2.true c.requires.writing)
 ]
 
 pub first_pack-requires-clause-writing : goal.first_pack-requires-clause-writing
-first_pack-requires-clause-writing c = subst (λ f. IsWriting c.args.s.now c.args.self.now (steps.List f)) c.if-is_first.true c.requires.writing
+first_pack-requires-clause-writing g c = subst (λ f. IsWriting (symbol_by g.G.Grammar.IS_WIDE c.args.s.now) c.args.self.now (steps.List f)) c.if-is_first.true c.requires.writing

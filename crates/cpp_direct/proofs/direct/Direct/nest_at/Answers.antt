@@ -1,9 +1,10 @@
+use Rattle.cpp_direct.specs.Symbol.{symbol_by}
 use Rattle.cpp_direct.proofs.Nesting.{source-begins}
 use Rattle.cpp_direct.proofs.direct.Direct.nest_at.Goals as goal
 
 pub returns : goal.returns
-returns c =
+returns g c =
     let old = c.args.self.now in
     let read = c.in_ok-name.ensures in
-    source-begins c.args.s.now old c.name.new.self c.args.purpose read.0 c.requires.awaits read.1 read.2 read.3 c.len-from.result c.len.result
+    source-begins (symbol_by g.G.Grammar.IS_WIDE c.args.s.now) old c.name.new.self c.args.purpose read.0 c.requires.awaits read.1 read.2 read.3 c.len-from.result c.len.result
     c.len-from.ensures c.len.ensures

@@ -1,16 +1,9 @@
-use Rattle.cpp_direct.specs.declared.open.Open.TheVariants as opens
-use Rattle.cpp_direct.proofs.Nesting.{named-goes-on, named-opens, byte-there, opened-by}
+use Rattle.std.proofs.Common.{sym}
+use Rattle.cpp_direct.specs.Symbol.{symbol_by}
+use Rattle.cpp_direct.proofs.Nesting.{named-tagged}
 use Rattle.cpp_direct.proofs.direct.Direct.nest_named.Goals as goal
 
-pub returns-then-byte_at-ne73 : goal.returns-then-byte_at-ne73
-returns-then-byte_at-ne73 c = named-goes-on c.args.s.now c.args.self.now c.requires
-
-pub returns : goal.returns
-returns c =
-    let added = c.in_ok-add_candidate.ensures in
-    let opened = c.open_arguments.ensures in
-    opened-by c.args.s.now c.open_arguments.result c.add_candidate.new.self c.open_arguments.new.self (opens.NestArguments c.add_candidate.new.self.nest)
-    opened.step opened.«open» opened.at opened.text opened.candidates
-    (named-opens c.args.s.now c.args.self.now c.add_candidate.new.self c.open_arguments.new.self c.requires
-    (byte-there c.args.s.now c.args.self.now.at c.byte_at.result 73 c.if-byte_at-ne73.false (λ e. cc e) c.byte_at.ensures)
-    (record { candidates = added.candidates; text = added.text; waiting = added.«open»; nest = added.nest; at = added.at }))
+pub nest_tagged-requires : goal.nest_tagged-requires
+nest_tagged-requires g c =
+    let is = c.in_ok-tag.ensures in
+    named-tagged (symbol_by g.G.Grammar.IS_WIDE c.args.s.now) c.args.self.now c.tag.new.self is.0 (sym c.if-IS_WIDE.ensures) c.requires.named is.1 is.2

@@ -1,4 +1,5 @@
 use Rattle.std.proofs.Common.{◌≡◌, ◌∷◌, ◌++◌, ap, sym, ◌∙◌, refl, reverse}
+use Rattle.cpp_direct.specs.Symbol.{symbol_by}
 use Rattle.cpp_direct.specs.declared.open.Open.TheVariants as opens
 use Rattle.cpp_direct.specs.Stands.{opening_text}
 use Rattle.cpp_direct.proofs.Kept.{reverse-last}
@@ -8,8 +9,8 @@ use Rattle.cpp_direct.proofs.direct.Direct.returned.Goals as goal
 use Rattle.cpp_direct.proofs.direct.Direct.returned.Goals.{then-is_pointer, else-is_pointer}
 
 pub first_parameter-requires-clause-awaits : goal.first_parameter-requires-clause-awaits
-first_parameter-requires-clause-awaits c =
-    let s = c.args.s.now in
+first_parameter-requires-clause-awaits g c =
+    let s = symbol_by g.G.Grammar.IS_WIDE c.args.s.now in
     let w = c.args.self.now in
     let p = c.requires.returned in
     let entry = opens.Signature c.args.is_pointer in

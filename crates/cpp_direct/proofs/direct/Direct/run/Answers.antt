@@ -1,25 +1,26 @@
 use Rattle.std.proofs.Common.{subst, arith}
+use Rattle.cpp_direct.specs.Symbol.{symbol_by}
 use Rattle.cpp_direct.specs.Stands.{IsBefore}
 use Rattle.cpp_direct.proofs.Begins.{whole-answer}
 use Rattle.cpp_direct.proofs.direct.Direct.run.Goals as goal
 
 pub steps-init : goal.steps-init
-steps-init c = (c.in-Some.ensures, omega (arith, c.requires.none))
+steps-init g c = (c.in-Some.ensures, omega (arith, c.requires.none))
 
 pub returns-in-Ended-clause-answer : goal.returns-in-Ended-clause-answer
-returns-in-Ended-clause-answer c within =
-    whole-answer c.args.s.now c.steps.self.text.list.items c.args.limit c.len.result
-    (subst (λ k. IsBefore c.args.s.now c.steps.self c.steps.invariant.0.state k) c.in-Ended.is c.steps.invariant.0.is_before)
+returns-in-Ended-clause-answer g c within =
+    whole-answer (symbol_by g.G.Grammar.IS_WIDE c.args.s.now) c.steps.self.text.list.items c.args.limit c.len.result
+    (subst (λ k. IsBefore (symbol_by g.G.Grammar.IS_WIDE c.args.s.now) c.steps.self c.steps.invariant.0.state k) c.in-Ended.is c.steps.invariant.0.is_before)
     c.len.ensures within
 
 pub begin-requires-clause-fits : goal.begin-requires-clause-fits
-begin-requires-clause-fits c = record { fits = c.requires.fits; plain = c.are_name_bytes.ensures c.if-not-are_name_bytes.false }
+begin-requires-clause-fits g c = record { fits = c.requires.fits; plain = c.are_name_bytes.ensures c.if-not-are_name_bytes.false }
 
 pub take-requires : goal.take-requires
-take-requires c = record {
+take-requires g c = record {
   fits = record { fits = c.requires.fits; plain = c.are_name_bytes.ensures c.if-not-are_name_bytes.false };
   writing = c.steps.invariant.0;
 }
 
 pub steps-preserved : goal.steps-preserved
-steps-preserved c = (c.in-Some-take.ensures, omega (arith, c.steps-test.true))
+steps-preserved g c = (c.in-Some-take.ensures, omega (arith, c.steps-test.true))

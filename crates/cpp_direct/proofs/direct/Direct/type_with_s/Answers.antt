@@ -1,12 +1,13 @@
 use Rattle.std.proofs.Common.{◌≢◌, ◌+◌, ◌-◌, ◌++◌, [], ◌∷◌, length, take, drop, ap, sym, subst, ◌∙◌, arith, append-nil}
+use Rattle.cpp_direct.specs.Symbol.{symbol_by}
 use Rattle.cpp_direct.specs.Holes.{StandsAt, IsSeqAt}
 use Rattle.cpp_direct.proofs.TypesRead.{there, some-text, std-named, abbreviation-named, substitution-stands, substitution-named}
 use Rattle.cpp_direct.proofs.direct.Direct.type_with_s.Goals as goal
 
 pub type_named-requires : goal.type_named-requires
-type_named-requires c =
+type_named-requires g c =
     let got = c.in_ok-name.ensures in
-    std-named c.args.s.now c.args.self.now c.push.new.self c.name.new.self c.len-from.result got.0 c.requires.awaits c.requires.letter
+    std-named (symbol_by g.G.Grammar.IS_WIDE c.args.s.now) c.args.self.now c.push.new.self c.name.new.self c.len-from.result got.0 c.requires.awaits c.requires.letter
     (there c.args.s.now (c.args.self.now.at + 1) c.byte_at-letter.result 116 c.if-letter-eq116.true (omega arith)
     (subst (λ k. c.byte_at-letter.result ≢ 0 → StandsAt c.args.s.now k (c.byte_at-letter.result ∷ [])) c.in_ok-self.ensures.1
     c.byte_at-letter.ensures))
@@ -15,8 +16,8 @@ type_named-requires c =
     got.1 got.2 got.3 c.len-from.ensures
 
 pub type_named-requires-then-not-is_empty : goal.type_named-requires-then-not-is_empty
-type_named-requires-then-not-is_empty c =
-    abbreviation-named c.args.s.now c.args.self.now c.push-then-not-is_empty.new.self c.len-from.result c.byte_at-letter.result c.requires.awaits
+type_named-requires-then-not-is_empty g c =
+    abbreviation-named (symbol_by g.G.Grammar.IS_WIDE c.args.s.now) c.args.self.now c.push-then-not-is_empty.new.self c.len-from.result c.byte_at-letter.result c.requires.awaits
     c.requires.letter
     (subst (λ k. c.byte_at-letter.result ≢ 0 → StandsAt c.args.s.now k (c.byte_at-letter.result ∷ [])) c.in_ok-self.ensures.1
     c.byte_at-letter.ensures)
@@ -27,29 +28,29 @@ type_named-requires-then-not-is_empty c =
     c.len-from.ensures
 
 pub repeat-requires-clause-from : goal.repeat-requires-clause-from
-repeat-requires-clause-from c =
+repeat-requires-clause-from g c =
     let got = c.in_ok-candidate.ensures.is in
-    (substitution-stands c.args.s.now c.args.self.now _ c.in_ok-candidate.candidate c.requires.awaits
+    (substitution-stands (symbol_by g.G.Grammar.IS_WIDE c.args.s.now) c.args.self.now _ c.in_ok-candidate.candidate c.requires.awaits
     c.in_ok-candidate.ensures.ordered got.2).0
 
 pub repeat-requires-clause-to : goal.repeat-requires-clause-to
-repeat-requires-clause-to c =
+repeat-requires-clause-to g c =
     let got = c.in_ok-candidate.ensures.is in
     let same = c.in_ok-candidate.ensures.same in
     omega (
       arith,
-      (substitution-stands c.args.s.now c.args.self.now _ c.in_ok-candidate.candidate c.requires.awaits
+      (substitution-stands (symbol_by g.G.Grammar.IS_WIDE c.args.s.now) c.args.self.now _ c.in_ok-candidate.candidate c.requires.awaits
           c.in_ok-candidate.ensures.ordered got.2).1,
       ap length (same.text ∙ append-nil c.args.self.now.text.list.items),
     )
 
 pub type_named-requires-2 : goal.type_named-requires-2
-type_named-requires-2 c =
+type_named-requires-2 g c =
     let got = c.in_ok-candidate.ensures.is in
     let same = c.in_ok-candidate.ensures.same in
     let wrote = c.in_ok-repeat.ensures in
     let k = c.in_ok-candidate.candidate in
-    substitution-named c.args.s.now c.args.self.now c.repeat.new.self c.len-from.result got.0 c.in_ok-candidate.candidate c.requires.awaits
+    substitution-named (symbol_by g.G.Grammar.IS_WIDE c.args.s.now) c.args.self.now c.repeat.new.self c.len-from.result got.0 c.in_ok-candidate.candidate c.requires.awaits
     c.requires.letter
     (subst (λ n. IsSeqAt c.args.s.now n got.0 c.repeat.new.self.at) c.in_ok-self.ensures.1
     (subst (λ n. IsSeqAt c.args.s.now c.in_ok-self.field-0 got.0 n) (sym wrote.at) got.1))

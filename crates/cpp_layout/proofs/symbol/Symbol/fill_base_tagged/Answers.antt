@@ -1,22 +1,19 @@
-use Rattle.std.proofs.Common.{ap, sym}
+use Rattle.std.proofs.Common.{ap, sym, ◌∙◌}
 use Rattle.cpp_layout.proofs.Growing.{fills, starts}
-use Rattle.cpp_layout.proofs.Naming.{tagged-other}
-use Rattle.cpp_layout.specs.Layout.{context_of}
-use Rattle.cpp_term.specs.Parts.{base_tagged}
-use Rattle.cpp_tree.specs.Nodes.{tree_of}
+use Rattle.cpp_layout.specs.Layout.{context_of, table_of}
+use Rattle.cpp_term.specs.Parts.{base_tagged, own_piece, piece_parts}
+use Rattle.cpp_tree.specs.Nodes.{tree_at, trees}
 use Rattle.cpp_layout.proofs.symbol.Symbol.fill_base_tagged.Goals as goal
 
-pub returns-in-Alone-clause-shows : goal.returns-in-Alone-clause-shows
-unfolding tree_of base_tagged
-returns-in-Alone-clause-shows g c = fills c.args.self.now c.args.ctx.detail _ _ _ c.fill_piece.ensures.shows (ap (λ t. base_tagged (context_of c.args.ctx) t) (sym c.in-Alone.ensures.tree))
+pub returns-then-of_structor-clause-shows : goal.returns-then-of_structor-clause-shows
+unfolding base_tagged
+returns-then-of_structor-clause-shows g c =
+    fills c.args.self.now c.args.ctx.detail _ _ _ (c.push_item.ensures.shows _ _ (starts c.args.self.now c.args.ctx.detail _))
+    (ap (λ b. base_tagged (context_of c.args.ctx) b (tree_at (trees (table_of c.args.self.now)) c.args.name)) (sym c.if-of_structor.true))
 
-pub returns-in-InStd-clause-shows : goal.returns-in-InStd-clause-shows
-unfolding tree_of base_tagged
-returns-in-InStd-clause-shows g c = fills c.args.self.now c.args.ctx.detail _ _ _ c.fill_piece-in-InStd.ensures.shows (ap (λ t. base_tagged (context_of c.args.ctx) t) (sym c.in-InStd.ensures.tree))
-
-pub returns-in-Within-clause-shows : goal.returns-in-Within-clause-shows
-unfolding tree_of
-returns-in-Within-clause-shows g c = c.fill_base_tagged_within.ensures.shows _ c.in-Within.ensures.tree
-
-pub returns-in_default-clause-shows : goal.returns-in_default-clause-shows
-returns-in_default-clause-shows g c = fills c.args.self.now c.args.ctx.detail _ _ _ (c.push_item.ensures.shows _ _ (starts c.args.self.now c.args.ctx.detail _)) (tagged-other _ _ _ _ c.stored.result _ c.stored.ensures.tree c.in_default.not-Alone c.in_default.not-InStd c.in_default.not-Within)
+pub returns-else-of_structor-clause-shows : goal.returns-else-of_structor-clause-shows
+unfolding base_tagged
+returns-else-of_structor-clause-shows g c =
+    fills c.args.self.now c.args.ctx.detail _ _ _ c.fill_own_piece.ensures.shows
+    (ap (λ t. piece_parts (context_of c.args.ctx) (own_piece t)) c.untagged.ensures.tree
+    ∙ ap (λ b. base_tagged (context_of c.args.ctx) b (tree_at (trees (table_of c.args.self.now)) c.args.name)) (sym c.if-of_structor.false))

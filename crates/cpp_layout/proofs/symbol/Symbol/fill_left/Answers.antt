@@ -1,10 +1,10 @@
 use Rattle.std.proofs.Common.{[], ap, sym, ◌∙◌, ◌∷◌}
 use Rattle.cpp_layout.proofs.Growing.{fills, starts, tagged-whole}
 use Rattle.cpp_layout.proofs.Typing.{no-name}
-use Rattle.cpp_layout.specs.Layout.{context_of, own_piece, table_of}
+use Rattle.cpp_layout.specs.Layout.{context_of, table_of}
 use Rattle.cpp_layout.specs.Texts.{fixed_text}
 use Rattle.cpp_layout.specs.declared.texts.TheConstants.{STD}
-use Rattle.cpp_term.specs.Parts.{as_item, left_parts}
+use Rattle.cpp_term.specs.Parts.{own_piece, as_item, left_parts}
 use Rattle.cpp_tree.specs.Nodes.{tree_of, trees}
 use Rattle.sym_print.specs.Unfold.{text}
 use Rattle.cpp_grammar.specs.Items as heads

@@ -1,8 +1,8 @@
 use Rattle.std.proofs.Common.{ap, sym}
 use Rattle.cpp_layout.proofs.Growing.{fills, starts}
 use Rattle.cpp_layout.proofs.Typing.{own-none}
-use Rattle.cpp_layout.specs.Layout.{context_of, own_piece}
-use Rattle.cpp_term.specs.Parts.{piece_parts}
+use Rattle.cpp_layout.specs.Layout.{context_of}
+use Rattle.cpp_term.specs.Parts.{own_piece, piece_parts}
 use Rattle.cpp_tree.specs.Nodes.{tree_of}
 use Rattle.cpp_layout.proofs.symbol.Symbol.fill_own_piece.Goals as goal
 
