@@ -1,9 +1,9 @@
 -- The reading of the ABI's grammar makes no parameters of lambdas.
-use Rattle.std.proofs.Common.{◌≡◌, refl, ℕ, zero, suc, List, [], ◌∷◌, Bool, true, false, ◌||◌, ◌&&◌, cond, nat_eq}
+use Rattle.std.proofs.Common.{◌≡◌, refl, ℕ, zero, suc, List, [], ◌∷◌, Bool, true, false, ◌&&◌, cond, nat_eq}
 use Rattle.cpp_grammar.specs.declared.production.Production.{Production}
 use Rattle.cpp_grammar.specs.Term.{RefQualifier, lvalue_only, rvalue_only, Term, symbol, function, within, instance, string_literal, conversion, lvalue, rvalue, member_pointer, function_type, nil, list, absent}
 use Rattle.cpp_grammar.specs.Scope.{is_generic, has_return_type}
-use Rattle.cpp_grammar.specs.Values.{Around, Prefix, outermost, behind, prefix_tree, Value, nothing_there, letter, tree, piece, named, signature, tree_of, text_of, piece_of, qualifiers_of, ref_of, is_there, part}
+use Rattle.cpp_grammar.specs.Values.{Around, Prefix, outermost, behind, prefix_tree, Value, nothing_there, letter, piece, named, tree_of, text_of, piece_of, qualifiers_of, ref_of, is_there, part}
 use Rattle.cpp_grammar.specs.Between.{extended, applied, no_items}
 use Rattle.cpp_grammar.specs.Meaning.{is_void, is_nil, parameters, encoding_of, default_entity, qualified_by, listed_value, function_of, with_item, reference_to, signature_or, operator_or_literal, meaning}
 use Rattle.cpp_grammar.proofs.ClosedValues.{held, or_no}

@@ -10,7 +10,7 @@ use Rattle.sym_shape.specs.Tree.{Tree, Forest, branch, empty, token, fixed, noth
 use Rattle.sym_link.specs.Reading.{Found, Next, Open, ◌>>=◌}
 use Rattle.sym_link.specs.Unfold.{found, alone, standing, unfold_tree, unfold_forest}
 use Rattle.cpp_grammar.specs.declared.production.Production.{Production}
-use Rattle.cpp_grammar.specs.Term.{Term, in_std, instance, holder, parameter, lvalue, rvalue, pack, source, operator, constructor, destructor}
+use Rattle.cpp_grammar.specs.Term.{Term, in_std, instance, holder, parameter, lvalue, rvalue, source, operator, constructor, destructor}
 use Rattle.cpp_grammar.specs.Scope.{count, element, is_open, is_generic, length_if_pack}
 use Rattle.cpp_grammar.specs.Values.{Candidate, State, Around, prefix_tree, prefix_listed, Value, nothing_there, text, tree, tree_of, piece_of, is_listed, letter_of, text_of, part}
 use Rattle.cpp_grammar.specs.References.{appended, is_function_type, with_type, with_unqualified, with_prefix, with_packs, packs_in, substituted, parameter_named}

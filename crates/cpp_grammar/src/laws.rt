@@ -1,6 +1,5 @@
 // What holds of every C++ symbol.
-ghost use Rattle.std.specs.Prelude.{◌≤◌, ◌≡◌, ◌↔◌, ℕ, List, length, Result, Ok, IfErr};
-ghost use Rattle.sym_core.specs.declared.refusal.Refusal.{Refusal};
+ghost use Rattle.std.specs.Prelude.{◌≤◌, ◌≡◌, ◌↔◌, ℕ, List, length, Result, Ok};
 ghost use Rattle.sym_print.specs.declared.detail.Detail.{Detail};
 ghost use Rattle.sym_print.specs.Unfold.{RanksBelow};
 ghost use Rattle.sym_shape.specs.Decided.{AreBytes};
@@ -9,7 +8,7 @@ ghost use Rattle.sym_shape.specs.Tree.{Tree, IsTree, AreRowsOf, AreStepsOf, Begi
 ghost use Rattle.sym_shape.specs.declared.rule.Sym.{Sym};
 ghost use Rattle.sym_shape.specs.declared.rule.Sym.TheVariants.{Kind};
 ghost use Rattle.sym_shape.specs.declared.rule.Row.{Row};
-ghost use Rattle.sym_demangle.specs.Mangled.{IsBadToken, RefusesBadTokens, StandsFor, IsAnswer, answer};
+ghost use Rattle.sym_demangle.specs.Mangled.{RefusesBadTokens, StandsFor, IsAnswer, answer};
 ghost use Rattle.cpp_grammar.specs.declared.production.Production.{Production};
 ghost use Rattle.cpp_grammar.specs.Grammar.{parts_of};
 ghost use Rattle.cpp_grammar.specs.Joined.{abi_joined, joined_parts, tree_over};
@@ -92,14 +91,6 @@ pub fn joined_symbols_stay()
     ensures refusals { (s : List ℕ) (at : ℕ) → IsMalformed abi_joined s at ↔ IsMalformed abi s at }
 {}
 
-/// What a symbol that is well shaped in [`Abi`](crate::Abi) reads as, a refusal too, it reads as in [`Wide`](crate::Wide), and its
-/// answer is the same there.
-pub fn abi_answers_stay()
-    ensures reads { (s : List ℕ) (result : Result Term Refusal) → StandsFor cpp_mangled s result → StandsFor wide_mangled s result }
-    ensures answers { (detail : Detail) (s : List ℕ) (limit : ℕ) → AreBytes s → IsWellShaped abi s → answer wide_mangled detail s limit ≡ answer cpp_mangled detail s limit }
-    ensures texts { (detail : Detail) (s text : List ℕ) (limit : ℕ) → IsAnswer cpp_mangled detail s limit (Ok text) → IsAnswer wide_mangled detail s limit (Ok text) }
-{}
-
 /// The reading of the wide grammar differs from that of the ABI's grammar in what that refuses alone: a lambda's signature may name
 /// the lambda's own parameters, and a substitution a tree whose parameter isn't meant where it stands. What a shape stands for by
 /// the one it stands for by the other.
@@ -107,11 +98,18 @@ pub fn abi_meanings_stay()
     ensures { (shape : Tree) (t : Term) → unfold_cpp shape ≡ Ok t → unfold_wide shape ≡ Ok t }
 {}
 
+/// The tree that a symbol stands for in [`Abi`](crate::Abi) it stands for in [`Wide`](crate::Wide) too, and its answer is the same
+/// there. What is refused for a reference may be read there.
+pub fn abi_answers_stay()
+    ensures reads { (s : List ℕ) (t : Term) → StandsFor cpp_mangled s (Ok t) → StandsFor wide_mangled s (Ok t) }
+    ensures answers { (detail : Detail) (s : List ℕ) (limit : ℕ) (t : Term) → AreBytes s → StandsFor cpp_mangled s (Ok t) → answer wide_mangled detail s limit ≡ answer cpp_mangled detail s limit }
+    ensures texts { (detail : Detail) (s text : List ℕ) (limit : ℕ) → IsAnswer cpp_mangled detail s limit (Ok text) → IsAnswer wide_mangled detail s limit (Ok text) }
+{}
+
 /// In the tree that a symbol stands for, the arguments that are the scope of an encoding have no free parameters.
 pub fn scopes_are_closed()
-    ensures wide { (shape : Tree) (t : Term) → IsTree wide (Kind 0) shape → unfold_cpp shape ≡ Ok t → ScopesAreClosed t }
+    ensures wide { (shape : Tree) (t : Term) → IsTree wide (Kind 0) shape → unfold_wide shape ≡ Ok t → ScopesAreClosed t }
     ensures abi { (shape : Tree) (t : Term) → IsTree abi (Kind 0) shape → unfold_cpp shape ≡ Ok t → ScopesAreClosed t }
-    ensures rescoped { (shape : Tree) (t : Term) → IsTree wide (Kind 0) shape → unfold_wide shape ≡ Ok t → ScopesAreClosed t }
 {}
 
 /// Each item has at most eight parts, and each item among them has a smaller rank, so printing ends.
@@ -124,6 +122,5 @@ pub fn parts_are_few_and_smaller()
 /// else.
 pub fn refuses_bad_tokens()
     ensures abi { RefusesBadTokens cpp_mangled }
-    ensures rescoped { (shape : Tree) → IfErr (unfold_wide shape) IsBadToken }
     ensures wide { RefusesBadTokens wide_mangled }
 {}

@@ -5,7 +5,4 @@ pub returns-clause-abi : goal.returns-clause-abi
 returns-clause-abi c = λ shape is. refused_for_a_token shape
 
 pub returns-clause-wide : goal.returns-clause-wide
-returns-clause-wide c = λ shape is. refused_for_a_token shape
-
-pub returns-clause-rescoped : goal.returns-clause-rescoped
-returns-clause-rescoped c = wide_refused_for_a_token
+returns-clause-wide c = λ shape is. wide_refused_for_a_token shape
