@@ -11,6 +11,7 @@ SHARED = {
     "Scope": "first_of",
     "Values": "unqualified normal is_zero signed_digits local_number",
     "Unfolding": "last_token production_at byte_of",
+    "Rescoping": "generic_number",
     "Parts": "qualifier_text ref_text blank_last begins_with source_text encoding_text thunk_text clone_text is_below",
 }
 BY_HAND = ("Items", "Ranks")
@@ -24,6 +25,8 @@ CHANGED = {
     "References": [("packs_in (Some scope) t = pack_length scope t", "packs_in (Some scope) t = pack_length t"),
                    ("(packs_in around.scope c.tree)", "(pack_length c.tree)"),
                    ("appended around (parameter k)", "appended around (parameter k (element arguments k))")],
+    "Rescoping": [("number_of_parameter (parameter k) = Some k", "number_of_parameter (parameter k argument) = Some k"),
+                  ("with_parameter t (parameter k)", "with_parameter t (parameter k (element arguments k))")],
     "Between": [("-- a parameter is tested, and becomes", "-- the argument that a parameter names\nunfoldable pub argument_at : Around → ℕ → Term\n"
                  "argument_at around k = elim around.scope [ None ↦ absent | Some arguments ↦ element arguments k ]\n\n-- a parameter is tested, and becomes"),
                 ("listed_so_far around (parameter k) vs s", "listed_so_far around (parameter k (argument_at around k)) vs s")],
@@ -35,7 +38,7 @@ CHANGED = {
 }
 # names that the changes bring in
 BROUGHT = {"Between": {"Prelude": ["Some"], "Scope": ["element"], "Term": ["absent"]}}
-MODULES = ("Term", "Scope", "Values", "References", "Between", "Meaning", "Unfolding", "Parts")
+MODULES = ("Term", "Scope", "Values", "References", "Between", "Meaning", "Unfolding", "Rescoping", "Parts")
 
 def names_of(block):
     """the definitions of a block, and the constructors of its types"""

@@ -232,6 +232,7 @@ MADE_AT_END = {p: 1 for p in """InternalName LocalTypeName SourceName OperatorNa
     BoolLiteral IntegerLiteral NullLiteral SpecialName ConstructionVtable SizedFloat Tag DefaultEntity DefaultTypeEntity Conversion OtherOperatorName
     OperatorNameWithC Clone TaggedStdType TypeTag""".split()}
 MADE_AT_END["CharLiteral"] = 2
+MADE_AT_END["Substitution"] = 2
 
 # the productions that may leave a tree that is no candidate yet
 LEAVES = """NestWithS NestParameter NestInternal NestLocalType NestSource NestStd NestAbbreviated NestTemplate NestArguments NestInstance

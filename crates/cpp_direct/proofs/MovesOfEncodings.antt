@@ -389,7 +389,7 @@ symbol-expected s bytes vs end reads stands =
 symbol-read : (s : Symbol) (t : Term) (end : State) → Comes s [] (tree t true) (length s.bytes) end → StandsFor (mangled_of s) s.bytes (Ok t)
 unfolding unfold_cpp first_tree tree_of number_of_kind
 symbol-read s t end reads =
-    stands-by s.is_wide s.bytes reads.shape (Ok t) reads.shaped (reads.spelled ∙ take_all (length s.bytes) s.bytes (omega arith)) (sym (rw reads.unfolds refl))
+    stands-by s.is_wide s.bytes reads.shape t reads.shaped (reads.spelled ∙ take_all (length s.bytes) s.bytes (omega arith)) (rw reads.unfolds refl)
 
 -- a symbol begins with _Z and its encoding, and ends there or with a suffix
 pub symbol-starts : (s : Symbol) → StandsAt s.bytes 0 (95 ∷ 90 ∷ []) → SymbolOpened s

@@ -1,9 +1,8 @@
 -- What holds of the tables of both grammars.
 use Rattle.std.proofs.Common.{◌≡◌, inl, inr, ℕ, ◌<◌, List, [], ◌∷◌, ◌++◌, slice_get, Bool, true, false, not, cond, ◌||◌, ◌&&◌, Option, Some, None, refl, sym, ap, ◌∙◌, arith}
-use Rattle.std.specs.Prelude.{Result, if◌then◌else◌}
+use Rattle.std.specs.Prelude.{Ok, if◌then◌else◌}
 use Rattle.std.proofs.lemmas.Bool.{and_parts}
 use Rattle.sym_core.specs.declared.NameClass.TheVariants.{Cpp}
-use Rattle.sym_core.specs.declared.Refusal.{Refusal}
 use Rattle.sym_core.specs.Token.{Token}
 use Rattle.sym_shape.specs.declared.rule.Rule.{Rule}
 use Rattle.sym_shape.specs.declared.rule.Sym.{Sym}
@@ -24,6 +23,7 @@ use Rattle.cpp_grammar.specs.Widened.{widened}
 use Rattle.cpp_grammar.proofs.Alone.{arguments_maybe, rest_any, list_first}
 use Rattle.cpp_grammar.proofs.Choosing.{rule_at_kind, empty_at_kind, either_rule_at, either_empty_at}
 use Rattle.cpp_grammar.proofs.Growing.{same_choice, each_below, below, kept, or_parts}
+use Rattle.cpp_grammar.proofs.Staying.{meaning_stays}
 use Rattle.cpp_grammar.proofs.Widening.{widened_tree, spell_widened, either_start}
 use Rattle.cpp_grammar.proofs.WidenedMeaning.{meaning_widened}
 use Rattle.cpp_direct.specs.Symbol.{mangled_by, table_by}
@@ -151,8 +151,12 @@ lists-by false t is = list_first t is
 -- ## Symbols
 
 -- what a whole tree says, the symbol stands for
-pub stands-by : (wide : Bool) (s : List ℕ) (shape : Tree) (result : Result Term Refusal) → IsTree (table_by wide) (OfKind SYMBOL) shape → spell shape ≡ s
-    → result ≡ unfold_cpp shape → StandsFor (mangled_by wide) s result
-stands-by true s shape result shaped spelled is =
-    (widened shape, widened_tree (OfKind SYMBOL) shape either_start shaped, spell_widened shape ∙ spelled, is ∙ sym (meaning_widened shape shaped))
-stands-by false s shape result shaped spelled is = (shape, shaped, spelled, is)
+pub stands-by : (wide : Bool) (s : List ℕ) (shape : Tree) (t : Term) → IsTree (table_by wide) (OfKind SYMBOL) shape → spell shape ≡ s
+    → unfold_cpp shape ≡ Ok t → StandsFor (mangled_by wide) s (Ok t)
+stands-by true s shape t shaped spelled is = (
+  widened shape,
+  widened_tree (OfKind SYMBOL) shape either_start shaped,
+  spell_widened shape ∙ spelled,
+  sym (meaning_stays (widened shape) t (meaning_widened shape shaped ∙ is)),
+)
+stands-by false s shape t shaped spelled is = (shape, shaped, spelled, sym is)

@@ -6,15 +6,17 @@ use Rattle.sym_core.specs.declared.refusal.Refusal.TheVariants.{BadReference, Ba
 use Rattle.sym_core.specs.declared.NumberKind.TheVariants.{Seq36}
 use Rattle.sym_core.specs.Value.{counted_value}
 use Rattle.sym_shape.specs.Tree.{Tree, Forest, branch, empty, token, fixed, nothing, grown, spell}
-use Rattle.sym_link.specs.Reading.{Found, Open, ◌>>=◌}
+use Rattle.sym_link.specs.Reading.{Found, Next, Open, ◌>>=◌}
 use Rattle.sym_link.specs.Unfold.{found, alone, standing, unfold_tree, unfold_forest}
 use Rattle.sym_demangle.specs.Mangled.{IsBadToken}
 use Rattle.cpp_grammar.specs.declared.production.Production.{Production}
-use Rattle.cpp_grammar.specs.Term.{Term, parameter}
+use Rattle.cpp_grammar.specs.Term.{Term, parameter, generic_parameter}
 use Rattle.cpp_grammar.specs.Scope.{count, element, length_if_pack, is_open}
 use Rattle.cpp_grammar.specs.Values.{Candidate, State, Around, Value, tree, text_of, part, local_number}
 use Rattle.cpp_grammar.specs.References.{appended, with_packs, packs_in, substituted, parameter_named}
 use Rattle.cpp_grammar.specs.Between.{named_so_far, listed_so_far, piece_so_far, tag_so_far, parameter_so_far, index_of, between}
+use Rattle.cpp_grammar.specs.Rescoping.{generic_so_far, parameter_here, is_foreign, number_behind_mark, with_parameter, in_scope, restated, substituted_wide, between_wide, close_wide, cpp_wide, unfold_wide}
+use Rattle.cpp_grammar.proofs.Ways.{Way, reading_by, abi_way, wide_way}
 use Rattle.cpp_grammar.specs.Unfolding.{last_token, number_tested, opening, close, production_at, byte_of, cpp, first_around, first_state, first_tree, unfold_cpp}
 
 -- this is refused for a bad token alone
@@ -110,31 +112,114 @@ unfolding close
 close_bad Production.Substitution byte around place began vs state = substituted_bad around (place - 1) (slice_get state.candidates (counted_value Seq36 (text_of (part vs 0)))) state
 close_bad _ byte around place began vs state = tt
 
-mutual
-  unfolding cpp
+-- ## The reading of the wide grammar
 
-  tree_bad : (t : Tree) (around : Around) (place : ℕ) (state : State) → IsBad (unfold_tree cpp around place t state)
-  tree_bad (branch rule taken parts) around place state =
-      let whole = standing rule taken place around state in
-      let p = production_at rule.number in
-      bad_bind (opening p parts place state) (λ begun. unfold_forest cpp whole [] (place + length taken) parts begun >>= λ inner. close p (byte_of taken) around place state inner.value inner.state >>= alone)
-      (opening_bad p parts place state)
-      (λ begun. bad_bind (unfold_forest cpp whole [] (place + length taken) parts begun) (λ inner. close p (byte_of taken) around place state inner.value inner.state >>= alone)
-      (forest_bad parts whole [] (place + length taken) begun)
-      (λ inner. bad_bind (close p (byte_of taken) around place state inner.value inner.state) alone (close_bad p (byte_of taken) around place state inner.value inner.state) (λ one. tt)))
-  tree_bad empty around place state = tt
-  tree_bad (token t) around place state = tt
-  tree_bad (fixed byte) around place state = tt
+here_bad : (around : Around) (place k : ℕ) (state : State) → IsBad (parameter_here around place k [] state)
+unfolding parameter_here generic_so_far listed_so_far
+here_bad around place k state = go around.in_lambda
+  where
+    go : (b : Bool) → IsBad {A = Next Value State Around} (elim b [ true ↦ generic_so_far around k [] state | false ↦ parameter_so_far around place k [] state ])
+    go true = tt
+    go false = parameter_bad around place k [] state
 
-  forest_bad : (f : Forest) (rule : Open State Around) (vs : List Value) (place : ℕ) (state : State) → IsBad (unfold_forest cpp rule vs place f state)
-  forest_bad nothing rule vs place state = tt
-  forest_bad (grown t f) rule vs place state =
-      bad_bind (between (production_at rule.rule.number) rule.context rule.place vs state)
-      (λ next. unfold_tree cpp next.context place t next.state >>= λ part. unfold_forest cpp rule (next.values ++ part.value) (place + length (spell t)) f part.state)
-      (between_bad (production_at rule.rule.number) rule.context rule.place vs state)
-      (λ next. bad_bind (unfold_tree cpp next.context place t next.state) (λ part. unfold_forest cpp rule (next.values ++ part.value) (place + length (spell t)) f part.state)
-      (tree_bad t next.context place next.state) (λ part. forest_bad f rule (next.values ++ part.value) (place + length (spell t)) part.state))
+scope_bad : (around : Around) (place : ℕ) (t : Term) (k : ℕ) (state : State) → IsBad (in_scope around place t k state)
+unfolding in_scope
+scope_bad around place t k state = go around.scope
+  where
+    packs : Term → Result State Refusal
+    packs arguments = with_packs place around.in_expansion (length_if_pack (element arguments k)) state
+
+    tested : (arguments : Term) (b : Bool) → IsBad {A = Found Value State} (elim b [
+      | false ↦ Err (BadReference place)
+      | true ↦ packs arguments >>= λ s. Ok (found (tree (with_parameter t (parameter k)) true) s)
+    ])
+    tested arguments false = tt
+    tested arguments true = bad_bind (packs arguments) (λ s. Ok (found (tree (with_parameter t (parameter k)) true) s)) (packs_bad place around.in_expansion (length_if_pack (element arguments k)) state) (λ s. tt)
+
+    go : (o : Option Term) → IsBad {A = Found Value State} (elim o [
+      | None ↦ Err (BadReference place)
+      | Some arguments ↦ elim (nat_lt k (count arguments)) [
+        | false ↦ Err (BadReference place)
+        | true ↦ packs arguments >>= λ s. Ok (found (tree (with_parameter t (parameter k)) true) s)
+      ]
+    ])
+    go None = tt
+    go (Some arguments) = tested arguments (nat_lt k (count arguments))
+
+restated_bad : (around : Around) (place : ℕ) (t : Term) (state : State) → IsBad (restated around place t state)
+unfolding restated
+restated_bad around place t state = go (number_behind_mark t)
+  where
+    tested : (k : ℕ) (b : Bool) → IsBad {A = Found Value State} (elim b [
+      | true ↦ Ok (found (tree (with_parameter t (generic_parameter k)) true) state)
+      | false ↦ in_scope around place t k state
+    ])
+    tested k true = tt
+    tested k false = scope_bad around place t k state
+
+    go : (o : Option ℕ) → IsBad {A = Found Value State} (elim o [
+      | None ↦ Err (BadReference place)
+      | Some k ↦ elim around.in_lambda [
+        | true ↦ Ok (found (tree (with_parameter t (generic_parameter k)) true) state)
+        | false ↦ in_scope around place t k state
+      ]
+    ])
+    go None = tt
+    go (Some k) = tested k around.in_lambda
+
+wide_substituted_bad : (around : Around) (place : ℕ) (o : Option Candidate) (state : State) → IsBad (substituted_wide around place o state)
+unfolding substituted_wide
+wide_substituted_bad around place None state = tt
+wide_substituted_bad around place (Some c) state = go (is_foreign around c)
+  where
+    go : (b : Bool) → IsBad {A = Found Value State} (elim b [ true ↦ restated around place c.tree state | false ↦ substituted around place (Some c) state ])
+    go true = restated_bad around place c.tree state
+    go false = substituted_bad around place (Some c) state
+
+wide_between_bad : (p : Production) (around : Around) (place : ℕ) (vs : List Value) (state : State) → IsBad (between_wide p around place vs state)
+unfolding between_wide
+wide_between_bad Production.NestParameter around place (v ∷ []) state = here_bad around place (index_of v) state
+wide_between_bad Production.Parameter around place (v ∷ []) state = here_bad around place (index_of v) state
+wide_between_bad p around place vs state = between_bad p around place vs state
+
+wide_close_bad : (p : Production) (byte : ℕ) (around : Around) (place : ℕ) (began : State) (vs : List Value) (state : State) → IsBad (close_wide p byte around place began vs state)
+unfolding close_wide
+wide_close_bad Production.Substitution byte around place began vs state = wide_substituted_bad around (place - 1) (slice_get state.candidates (counted_value Seq36 (text_of (part vs 0)))) state
+wide_close_bad p byte around place began vs state = close_bad p byte around place began vs state
+
+-- ## Either reading
+
+module _ (w : Way) (between_is_bad : (p : Production) (around : Around) (place : ℕ) (vs : List Value) (state : State) → IsBad (w.between p around place vs state))
+    (close_is_bad : (p : Production) (byte : ℕ) (around : Around) (place : ℕ) (began : State) (vs : List Value) (state : State) → IsBad (w.close p byte around place began vs state)) where
+  mutual
+    unfolding reading_by
+
+    tree_bad : (t : Tree) (around : Around) (place : ℕ) (state : State) → IsBad (unfold_tree (reading_by w) around place t state)
+    tree_bad (branch rule taken parts) around place state =
+        let whole = standing rule taken place around state in
+        let p = production_at rule.number in
+        bad_bind (opening p parts place state) (λ begun. unfold_forest (reading_by w) whole [] (place + length taken) parts begun >>= λ inner. w.close p (byte_of taken) around place state inner.value inner.state >>= alone)
+        (opening_bad p parts place state)
+        (λ begun. bad_bind (unfold_forest (reading_by w) whole [] (place + length taken) parts begun) (λ inner. w.close p (byte_of taken) around place state inner.value inner.state >>= alone)
+        (forest_bad parts whole [] (place + length taken) begun)
+        (λ inner. bad_bind (w.close p (byte_of taken) around place state inner.value inner.state) alone (close_is_bad p (byte_of taken) around place state inner.value inner.state) (λ one. tt)))
+    tree_bad empty around place state = tt
+    tree_bad (token t) around place state = tt
+    tree_bad (fixed byte) around place state = tt
+
+    forest_bad : (f : Forest) (rule : Open State Around) (vs : List Value) (place : ℕ) (state : State) → IsBad (unfold_forest (reading_by w) rule vs place f state)
+    forest_bad nothing rule vs place state = tt
+    forest_bad (grown t f) rule vs place state =
+        bad_bind (w.between (production_at rule.rule.number) rule.context rule.place vs state)
+        (λ next. unfold_tree (reading_by w) next.context place t next.state >>= λ part. unfold_forest (reading_by w) rule (next.values ++ part.value) (place + length (spell t)) f part.state)
+        (between_is_bad (production_at rule.rule.number) rule.context rule.place vs state)
+        (λ next. bad_bind (unfold_tree (reading_by w) next.context place t next.state) (λ part. unfold_forest (reading_by w) rule (next.values ++ part.value) (place + length (spell t)) f part.state)
+        (tree_bad t next.context place next.state) (λ part. forest_bad f rule (next.values ++ part.value) (place + length (spell t)) part.state))
 
 pub refused_for_a_token : (shape : Tree) → IfErr (unfold_cpp shape) IsBadToken
-unfolding unfold_cpp
-refused_for_a_token shape = bad_bind (unfold_tree cpp first_around 0 shape first_state) (λ whole. Ok (first_tree whole.value)) (tree_bad shape first_around 0 first_state) (λ whole. tt)
+unfolding unfold_cpp cpp reading_by abi_way
+refused_for_a_token shape = bad_bind (unfold_tree cpp first_around 0 shape first_state) (λ whole. Ok (first_tree whole.value)) (tree_bad abi_way between_bad close_bad shape first_around 0 first_state) (λ whole. tt)
+
+pub wide_refused_for_a_token : (shape : Tree) → IfErr (unfold_wide shape) IsBadToken
+unfolding unfold_wide cpp_wide reading_by wide_way
+wide_refused_for_a_token shape = bad_bind (unfold_tree cpp_wide first_around 0 shape first_state) (λ whole. Ok (first_tree whole.value)) (tree_bad wide_way wide_between_bad wide_close_bad shape first_around 0 first_state) (λ whole. tt)

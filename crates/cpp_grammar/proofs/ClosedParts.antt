@@ -3,13 +3,14 @@ use Rattle.std.proofs.Common.{◌≡◌, refl, subst, ℕ, List, [], ◌∷◌, 
 use Rattle.std.proofs.lemmas.Bool.{true≢false}
 use Rattle.sym_link.specs.Reading.{Next}
 use Rattle.cpp_grammar.specs.declared.production.Production.{Production}
-use Rattle.cpp_grammar.specs.Term.{Term, in_std, instance, holder, parameter, lvalue, rvalue, pack, source, operator, constructor, destructor}
+use Rattle.cpp_grammar.specs.Rescoping.{generic_number, generic_so_far, parameter_here, between_wide}
+use Rattle.cpp_grammar.specs.Term.{Term, generic_parameter, in_std, instance, holder, parameter, lvalue, rvalue, pack, source, operator, constructor, destructor}
 use Rattle.cpp_grammar.specs.Scope.{is_open}
 use Rattle.cpp_grammar.specs.Values.{State, Around, prefix_tree, Value, tree, tree_of, piece_of, is_listed, letter_of, text_of}
 use Rattle.cpp_grammar.specs.References.{appended, with_type, with_prefix, parameter_named}
 use Rattle.cpp_grammar.specs.Between.{in_signature, under_expansion, after, inside, extended, applied, no_items, Going, named_so_far, listed_so_far, piece_so_far, with_tag, tag_so_far, parameter_so_far, index_of, between}
 use Rattle.cpp_grammar.proofs.ClosedValues.{Good, AllGood, GoodPrefix, held, good_tree, good_piece, good_no_items, good_applied, good_instance, good_extended, good_prefix}
-use Rattle.cpp_grammar.proofs.ClosedStates.{Bare, Grows, grows_same, grows_one, with_prefix_grows, with_type_grows, parameter_good, parameter_grows, ok_same, behind_bind}
+use Rattle.cpp_grammar.proofs.ClosedStates.{Bare, Grows, grows_same, grows_one, with_prefix_grows, with_type_grows, parameter_good, generic_good, parameter_grows, ok_same, behind_bind}
 
 -- what surrounds a part, which stands in the same encoding
 pub record Fits (around inner : Around) : Type 0 where
@@ -166,3 +167,27 @@ between_goes Production.RvalueItem around place (v ∷ []) state n at stays pre 
 between_goes Production.IntegerLiteral around place (v ∷ []) state n at stays pre all e =
     goes around at state (v ∷ []) around (with_type around v state) n all (with_type_grows around at v state (good_tree _ v all.0)) (fits_same around pre) e
 between_goes _ around place vs state n at stays pre all e = first_of (search stays, search (same_goes, pre, all, e))
+
+-- ## The reading of the wide grammar
+
+generic_goes : (around : Around) (at : ℕ) (state : State) (k : ℕ) (n : Next Value State Around) → generic_so_far around k [] state ≡ Ok n → Goes around at state n
+unfolding generic_so_far listed_so_far
+generic_goes around at state k n e =
+    let t = generic_parameter (generic_number k) in
+    let good = generic_good (Bare around) (generic_number k) in
+    named_goes around at state t true [] (appended around t state) n good tt (grows_one around at t state good) e
+
+here_goes : (around : Around) (place at : ℕ) (state : State) (k : ℕ) (n : Next Value State Around) → parameter_here around place k [] state ≡ Ok n → Goes around at state n
+unfolding parameter_here
+here_goes around place at state k n e = go around.in_lambda e
+  where
+    go : (b : Bool) → ◌≡◌ {A = Going} (elim b [ true ↦ generic_so_far around k [] state | false ↦ parameter_so_far around place k [] state ]) (Ok n) → Goes around at state n
+    go true h = generic_goes around at state k n h
+    go false h = parameter_goes around place at state k n h
+
+pub wide_goes : (production : Production) (around : Around) (place : ℕ) (vs : List Value) (state : State) (n : Next Value State Around) (at : ℕ) → StaysInside production →
+    GoodPrefix (Bare around) around.prefix → AllGood (Bare around) vs → between_wide production around place vs state ≡ Ok n → Goes around at state n
+unfolding between_wide
+wide_goes Production.Parameter around place (v ∷ []) state n at stays pre all e = here_goes around place at state (index_of v) n e
+wide_goes Production.NestParameter around place (v ∷ []) state n at stays pre all e = here_goes around place at state (index_of v) n e
+wide_goes p around place vs state n at stays pre all e = between_goes p around place vs state n at stays pre all e

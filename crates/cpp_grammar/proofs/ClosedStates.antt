@@ -7,13 +7,14 @@ use Rattle.sym_core.specs.declared.refusal.Refusal.TheVariants.{BadReference}
 use Rattle.sym_link.specs.Reading.{Found, ◌>>=◌}
 use Rattle.sym_link.specs.Unfold.{found}
 use Rattle.cpp_grammar.specs.declared.production.Production.{Production}
-use Rattle.cpp_grammar.specs.Term.{Term, parameter}
+use Rattle.cpp_grammar.specs.Term.{Term, parameter, generic_parameter, pointer, lvalue, rvalue, qualified}
 use Rattle.cpp_grammar.specs.Scope.{count, element, length_if_pack, is_open}
 use Rattle.cpp_grammar.specs.Closed.{ScopesAreClosed}
 use Rattle.sym_core.specs.declared.NumberKind.TheVariants.{Seq36}
 use Rattle.sym_core.specs.Value.{counted_value}
 use Rattle.cpp_grammar.specs.Values.{Candidate, State, Around, prefix_tree, prefix_listed, Value, tree, is_listed, text_of, part, tree_of}
 use Rattle.cpp_grammar.specs.References.{appended, is_function_type, with_type, with_unqualified, with_prefix, with_packs, packs_in, substituted, parameter_named}
+use Rattle.cpp_grammar.specs.Rescoping.{is_foreign, number_behind_mark, with_parameter, in_scope, restated, substituted_wide, close_wide}
 use Rattle.cpp_grammar.specs.Meaning.{meaning}
 use Rattle.cpp_grammar.specs.Unfolding as unfolding_
 use Rattle.cpp_grammar.specs.Unfolding.{close}
@@ -199,6 +200,10 @@ substituted_good around place at n state r all e = go (slice_get state.candidate
 pub parameter_good : (around : Around) (k : ℕ) → (Bare around → ⊥) → Good (Bare around) (parameter k)
 parameter_good around k named = record { closed = λ bare. absurd (named bare); scopes = tt }
 
+pub generic_good : (s : Type 0) (k : ℕ) → Good s (generic_parameter k)
+unfolding is_open
+generic_good s k = record { closed = λ h. refl; scopes = tt }
+
 -- a parameter that wasn't refused was named in a scope, and is a candidate
 pub record Named (around : Around) (k end : ℕ) (old new : State) : Type 0 where
   pub scoped : Bare around → ⊥
@@ -277,3 +282,93 @@ close_good production byte around place began vs state r end old pre all name e 
     let same : whole ≡ r = ok_same whole r e in
     subst (λ x. Comes around end state x) same
     (record { good = meaning_good (Bare around) production byte around vs pre all name; grows = behind_grows production byte around began vs state end pre all })
+
+-- ## The reading of the wide grammar
+
+with_good : (s : Type 0) (t other : Term) → Good s other → Good s (with_parameter t other)
+unfolding with_parameter is_open
+with_good s (pointer t) other g = record { closed = g.closed; scopes = g.scopes }
+with_good s (lvalue t) other g = record { closed = g.closed; scopes = g.scopes }
+with_good s (rvalue t) other g = record { closed = g.closed; scopes = g.scopes }
+with_good s (qualified q t) other g = record { closed = g.closed; scopes = g.scopes }
+with_good s _ other g = g
+
+-- what a substitution comes to is good, and no candidate
+abbrev IsNamed : Around → State → Found Value State → Type 0
+IsNamed around state r = Good (Bare around) (held r.value) × (r.state.candidates ≡ state.candidates)
+
+scope_good : (around : Around) (place : ℕ) (t : Term) (k : ℕ) (state : State) (r : Found Value State) → in_scope around place t k state ≡ Ok r → IsNamed around state r
+unfolding in_scope held
+scope_good around place t k state r e = go around.scope refl e
+  where
+    named : Term
+    named = with_parameter t (parameter k)
+
+    tested : (arguments : Term) (b : Bool) → around.scope ≡ Some arguments → ◌≡◌ {A = Result (Found Value State) Refusal} (elim b [
+      | false ↦ Err (BadReference place)
+      | true ↦ with_packs place around.in_expansion (length_if_pack (element arguments k)) state >>= λ s. Ok (found (tree named true) s)
+    ]) (Ok r) → IsNamed around state r
+    tested arguments false is h = absurd cc
+    tested arguments true is h =
+        let b = behind_bind (with_packs place around.in_expansion (length_if_pack (element arguments k)) state) (λ s. Ok (found (tree named true) s)) r h in
+        let scoped : Bare around → ⊥ = λ bare. (let clash : None ≡ Some arguments = sym bare ∙ is in cc) in
+        subst (λ x. IsNamed around state x) (ok_same (found (tree named true) b.value) r b.next)
+        (with_good (Bare around) t (parameter k) (parameter_good around k scoped), packs_keep place around.in_expansion (length_if_pack (element arguments k)) state b.value b.is)
+
+    go : (o : Option Term) → around.scope ≡ o → ◌≡◌ {A = Result (Found Value State) Refusal} (elim o [
+      | None ↦ Err (BadReference place)
+      | Some arguments ↦ elim (nat_lt k (count arguments)) [
+        | false ↦ Err (BadReference place)
+        | true ↦ with_packs place around.in_expansion (length_if_pack (element arguments k)) state >>= λ s. Ok (found (tree named true) s)
+      ]
+    ]) (Ok r) → IsNamed around state r
+    go None is h = absurd cc
+    go (Some arguments) is h = tested arguments (nat_lt k (count arguments)) is h
+
+restated_good : (around : Around) (place : ℕ) (t : Term) (state : State) (r : Found Value State) → restated around place t state ≡ Ok r → IsNamed around state r
+unfolding restated held
+restated_good around place t state r e = go (number_behind_mark t) e
+  where
+    tested : (k : ℕ) (b : Bool) → ◌≡◌ {A = Result (Found Value State) Refusal} (elim b [
+      | true ↦ Ok (found (tree (with_parameter t (generic_parameter k)) true) state)
+      | false ↦ in_scope around place t k state
+    ]) (Ok r) → IsNamed around state r
+    tested k true h =
+        subst (λ x. IsNamed around state x) (ok_same (found (tree (with_parameter t (generic_parameter k)) true) state) r h)
+        (with_good (Bare around) t (generic_parameter k) (generic_good (Bare around) k), refl)
+    tested k false h = scope_good around place t k state r h
+
+    go : (o : Option ℕ) → ◌≡◌ {A = Result (Found Value State) Refusal} (elim o [
+      | None ↦ Err (BadReference place)
+      | Some k ↦ elim around.in_lambda [
+        | true ↦ Ok (found (tree (with_parameter t (generic_parameter k)) true) state)
+        | false ↦ in_scope around place t k state
+      ]
+    ]) (Ok r) → IsNamed around state r
+    go None h = absurd cc
+    go (Some k) h = tested k around.in_lambda h
+
+wide_substituted_good : (around : Around) (place at n : ℕ) (state : State) (r : Found Value State) → AllOld around at state.candidates →
+    substituted_wide around place (slice_get state.candidates n) state ≡ Ok r → IsNamed around state r
+unfolding substituted_wide
+wide_substituted_good around place at n state r all e = go (slice_get state.candidates n) refl e
+  where
+    chosen : (c : Candidate) (b : Bool) → IsOld around at c → ◌≡◌ {A = Result (Found Value State) Refusal} (elim b [
+      | true ↦ restated around place c.tree state
+      | false ↦ substituted around place (Some c) state
+    ]) (Ok r) → IsNamed around state r
+    chosen c true old h = restated_good around place c.tree state r h
+    chosen c false old h = named_good around place at c state r old h
+
+    go : (o : Option Candidate) → slice_get state.candidates n ≡ o → substituted_wide around place o state ≡ Ok r → IsNamed around state r
+    go None is h = let clash : ◌≡◌ {A = Result (Found Value State) Refusal} (Err (BadReference place)) (Ok r) = h in absurd cc
+    go (Some c) is h = chosen c (is_foreign around c) (old_get around at state.candidates n c all is) h
+
+pub wide_close_good : (production : Production) (byte : ℕ) (around : Around) (place : ℕ) (began : State) (vs : List Value) (state : State) (r : Found Value State) (end : ℕ) →
+    AllOld around end state.candidates → GoodPrefix (Bare around) around.prefix → AllGood (Bare around) vs → HasClosedName production vs →
+    close_wide production byte around place began vs state ≡ Ok r → Comes around end state r
+unfolding close_wide
+wide_close_good Production.Substitution byte around place began vs state r end old pre all name e =
+    let both = wide_substituted_good around (place - 1) end (counted_value Seq36 (text_of (part vs 0))) state r old e in
+    record { good = both.0; grows = grows_same around end state r.state both.1 }
+wide_close_good production byte around place began vs state r end old pre all name e = close_good production byte around place began vs state r end old pre all name e

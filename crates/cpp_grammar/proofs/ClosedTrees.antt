@@ -31,8 +31,10 @@ use Rattle.cpp_grammar.specs.Unfolding as unfolding_
 use Rattle.cpp_grammar.specs.Unfolding.{last_token, number_tested, opening, close, production_at, byte_of, cpp, first_around, first_state, first_tree, unfold_cpp}
 use Rattle.cpp_grammar.proofs.Choosing.{kinds_numbered, number_at, either_rule_at, is_either_kind}
 use Rattle.cpp_grammar.proofs.ClosedValues.{Good, AllGood, GoodPrefix, HasClosedName, held, good_tree, good_encoding, good_no_items}
-use Rattle.cpp_grammar.proofs.ClosedStates.{Bare, AllOld, AllNew, Grows, old_later, grows_same, grows_then, old_grows, ok_same, behind_bind, close_good}
-use Rattle.cpp_grammar.proofs.ClosedParts.{Fits, StaysInside, between_goes}
+use Rattle.cpp_grammar.proofs.ClosedStates.{Bare, AllOld, AllNew, Grows, old_later, grows_same, grows_then, old_grows, ok_same, behind_bind, Comes, close_good, wide_close_good}
+use Rattle.cpp_grammar.proofs.ClosedParts.{Fits, Goes, StaysInside, between_goes, wide_goes}
+use Rattle.cpp_grammar.proofs.Ways.{Way, reading_by, abi_way, wide_way, is_reference, IsPlain, abi_plain, wide_plain}
+use Rattle.cpp_grammar.specs.Rescoping.{cpp_wide, unfold_wide}
 
 -- ## Productions and their rules
 
@@ -229,14 +231,14 @@ one_good s v vs is good = subst (λ ws. AllGood s ws) (sym is) (good, tt)
 
 -- ## Trees
 
-abbrev pub TreeGood : Tree → Type 0
-TreeGood t = (x : Sym) (around : Around) (at : ℕ) (state : State) (r : Found (List Value) State) → IsSymbol either x → IsTree either x t → around.encoding ≤ at →
-    (is_encoding x ≡ true → around.encoding < at) → GoodPrefix (Bare around) around.prefix → AllOld around at state.candidates → unfold_tree cpp around at t state ≡ Ok r →
+abbrev pub TreeGood : Way → Tree → Type 0
+TreeGood w t = (x : Sym) (around : Around) (at : ℕ) (state : State) (r : Found (List Value) State) → IsSymbol either x → IsTree either x t → around.encoding ≤ at →
+    (is_encoding x ≡ true → around.encoding < at) → GoodPrefix (Bare around) around.prefix → AllOld around at state.candidates → unfold_tree (reading_by w) around at t state ≡ Ok r →
     TreeComes around (at + length (spell t)) state r
 
-abbrev pub AllTreesGood : Forest → Type 0
-AllTreesGood nothing = Unit {0}
-AllTreesGood (grown t f) = TreeGood t × AllTreesGood f
+abbrev pub AllTreesGood : Way → Forest → Type 0
+AllTreesGood w nothing = Unit {0}
+AllTreesGood w (grown t f) = TreeGood w t × AllTreesGood w f
 
 leaf_comes : (around : Around) (end : ℕ) (state : State) (v : Value) (r : Found (List Value) State) → Good (Bare around) (held v) → ◌≡◌ {A = Result (Found (List Value) State) Refusal} (Ok (found (v ∷ []) state)) (Ok r) →
     TreeComes around end state r
@@ -246,42 +248,21 @@ leaf_comes around end state v r good e =
 pub grows_on : (around : Around) (a b : ℕ) (old new : State) → a ≤ b → Grows around a old new → Grows around b old new
 grows_on around a b old new le g = grows_then around a b old new new le g (grows_same around b new new refl)
 
-pub forest_good : (f : Forest) → AllTreesGood f → (rule : Open State Around) (xs : List Sym) (vs : List Value) (at : ℕ) (state : State) (r : Found (List Value) State) →
-    StaysInside (production_at rule.rule.number) → AreSymbols either xs → AreTrees either xs f → rule.context.encoding ≤ at → (has_encoding xs ≡ true → rule.context.encoding < at) →
-    GoodPrefix (Bare rule.context) rule.context.prefix → AllGood (Bare rule.context) vs → AllOld rule.context at state.candidates → unfold_forest cpp rule vs at f state ≡ Ok r →
-    ForestComes rule.context (at + length (spell_all f)) state r
-unfolding cpp has_encoding
-forest_good nothing all rule xs vs at state r stays known trees le inside pre good old e =
-    subst (λ x. ForestComes rule.context (at + length (spell_all nothing)) state x) (ok_same (found vs state) r e)
-    (record { good = good; grows = grows_same rule.context (at + length (spell_all nothing)) state state refl })
-forest_good (grown t f) all rule [] vs at state r stays known trees le inside pre good old e = absurd trees
-forest_good (grown t f) all rule (x ∷ xs) vs at state r stays known trees le inside pre good old e =
-    let around = rule.context in
-    let later = at + length (spell t) in
-    let end = at + length (spell t ++ spell_all f) in
-    let b = behind_bind (between (production_at rule.rule.number) around rule.place vs state)
-    (λ next. unfold_tree cpp next.context at t next.state >>= λ part. unfold_forest cpp rule (next.values ++ part.value) (at + length (spell t)) f part.state) r e in
-    let n = b.value in
-    let g = between_goes (production_at rule.rule.number) around rule.place vs state n at stays pre good b.is in
-    let c = behind_bind (unfold_tree cpp n.context at t n.state) (λ part. unfold_forest cpp rule (n.values ++ part.value) (at + length (spell t)) f part.state) r b.next in
-    let part = c.value in
-    let old1 = old_grows around at at state n.state (omega arith) old g.grows in
-    let tree = all.0 x n.context at n.state part known.0 trees.0 (omega (arith, g.fits.encoding, le)) (λ opening. omega (arith, g.fits.encoding, inside (or_first (is_encoding x) (has_encoding xs) opening)))
-    g.fits.prefix (old_fits around n.context at n.state.candidates g.fits old1) c.is in
-    let grown1 = grows_fits around n.context later n.state part.state g.fits tree.grows in
-    let old2 = old_grows around at later n.state part.state (omega arith) old1 grown1 in
-    let good1 = one_good (Bare around) tree.value part.value tree.is (good_fits around n.context (held tree.value) g.fits tree.good) in
-    let rest = forest_good f all.1 rule xs (n.values ++ part.value) later part.state r stays known.1 trees.1 (omega (arith, le))
-    (λ opening. omega (arith, inside (or_true (is_encoding x) (has_encoding xs) opening))) pre (all_append (Bare around) n.values part.value g.values good1) old2 c.next in
-    record {
-      good = rest.good;
-      grows = grows_then around later end state part.state r.state (omega (arith, length-append (spell t) (spell_all f)))
-          (grows_then around at later state n.state part.state (omega arith) g.grows grown1)
-          (grows_on around (later + length (spell_all f)) end part.state r.state (omega (arith, length-append (spell t) (spell_all f))) rest.grows);
-    }
-  where
-    or_first : (a b : Bool) → a ≡ true → a || b ≡ true
-    or_first a b h = ap (λ c. c || b) h
+-- what is closed stays so between the parts of a production, and behind them
+pub record KeepsClosed (w : Way) : Type 0 where
+  pub plain : IsPlain w
+  pub goes : (production : Production) (around : Around) (place : ℕ) (vs : List Value) (state : State) (n : Next Value State Around) (at : ℕ) → StaysInside production →
+      GoodPrefix (Bare around) around.prefix → AllGood (Bare around) vs → w.between production around place vs state ≡ Ok n → Goes around at state n
+  pub comes : (production : Production) (byte : ℕ) (around : Around) (place : ℕ) (began : State) (vs : List Value) (state : State) (r : Found Value State) (end : ℕ) →
+      AllOld around end state.candidates → GoodPrefix (Bare around) around.prefix → AllGood (Bare around) vs → HasClosedName production vs →
+      w.close production byte around place began vs state ≡ Ok r → Comes around end state r
+
+pub opens_apart : (p : Production) → opens p ≡ true → is_reference p ≡ false
+unfolding opens is_reference
+opens_apart Production.Parameter o = absurd (false≢true o)
+opens_apart Production.NestParameter o = absurd (false≢true o)
+opens_apart Production.Substitution o = absurd (false≢true o)
+opens_apart _ o = refl
 
 -- ## Encodings
 
@@ -297,32 +278,15 @@ kind_count = refl
 pub known : (k : ℕ) → suc k ≤ KIND_COUNT → k < either.kinds
 known k lt = omega (arith, lt, kind_count)
 
--- one part of an encoding, in which nothing is named
-pub name_comes : (t : Tree) → TreeGood t → (x : Sym) (at from : ℕ) (state : State) (part : Found (List Value) State) → IsSymbol either x → IsTree either x t → is_encoding x ≡ false → at ≤ from → AllOld (in_name at) from state.candidates →
-    unfold_tree cpp (in_name at) from t state ≡ Ok part → TreeComes (in_name at) (from + length (spell t)) state part
-unfolding in_name
-name_comes t good x at from state part known is other le old e =
-    good x (in_name at) from state part known is le (λ opening. absurd (true≢false (sym opening ∙ other))) tt old e
-
 -- a list of values that is known
 pub same_found : (vs ws known : List Value) (state : State) (r : Found (List Value) State) → ws ≡ known → ◌≡◌ {A = Result (Found (List Value) State) Refusal} (Ok (found (vs ++ ws) state)) (Ok r) → found (vs ++ known) state ≡ r
 same_found vs ws known state r is e = ap (λ us. found (vs ++ us) state) (sym is) ∙ ok_same (found (vs ++ ws) state) r e
 
 -- the next part of a rule, where it is known what goes into it
-pub record Stepped (rule : Open State Around) (n : Next Value State Around) (at : ℕ) (t : Tree) (f : Forest) (r : Found (List Value) State) : Type 0 where
+pub record Stepped (w : Way) (rule : Open State Around) (n : Next Value State Around) (at : ℕ) (t : Tree) (f : Forest) (r : Found (List Value) State) : Type 0 where
   pub part : Found (List Value) State
-  pub is : unfold_tree cpp n.context at t n.state ≡ Ok part
-  pub rest : unfold_forest cpp rule (n.values ++ part.value) (at + length (spell t)) f part.state ≡ Ok r
-
-pub stepped : (rule : Open State Around) (vs : List Value) (at : ℕ) (state : State) (t : Tree) (f : Forest) (r : Found (List Value) State) (n : Next Value State Around) →
-    between (production_at rule.rule.number) rule.context rule.place vs state ≡ Ok n → unfold_forest cpp rule vs at (grown t f) state ≡ Ok r → Stepped rule n at t f r
-unfolding cpp
-stepped rule vs at state t f r n goes e =
-    let onward : Next Value State Around → Result (Found (List Value) State) Refusal =
-    λ next. unfold_tree cpp next.context at t next.state >>= λ part. unfold_forest cpp rule (next.values ++ part.value) (at + length (spell t)) f part.state in
-    let moved : onward n ≡ Ok r = sym (ap (λ x. x >>= onward) goes) ∙ e in
-    let c = behind_bind (unfold_tree cpp n.context at t n.state) (λ part. unfold_forest cpp rule (n.values ++ part.value) (at + length (spell t)) f part.state) r moved in
-    record { part = c.value; is = c.is; rest = c.next }
+  pub is : unfold_tree (reading_by w) n.context at t n.state ≡ Ok part
+  pub rest : unfold_forest (reading_by w) rule (n.values ++ part.value) (at + length (spell t)) f part.state ≡ Ok r
 
 -- what goes into a part in which nothing is named
 pub nameless : (at : ℕ) → List Value → State → Next Value State Around
@@ -331,110 +295,6 @@ nameless at vs state = record { context = in_name at; values = vs; state = state
 pub always : (s : Type 0) (at : ℕ) (t : Term) → Good (Bare (in_name at)) t → Good s t
 unfolding in_name
 always s at t good = record { closed = λ h. good.closed refl; scopes = good.scopes }
-
-special_comes : (f : Forest) → AllTreesGood f → (rule : Open State Around) (from : ℕ) (state : State) (r : Found (List Value) State) → production_at rule.rule.number ≡ Production.Special →
-    AreTrees either (parts_of Production.Special) f → rule.context.encoding < rule.place → rule.place ≤ from → rule.place < from + length (spell_all f) → AllOld rule.context rule.place state.candidates →
-    unfold_forest cpp rule [] from f state ≡ Ok r → InnerComes Production.Special rule.context (from + length (spell_all f)) state r
-unfolding cpp parts_of number_of_kind between meaning held is_encoding nameless part in_name
-special_comes (grown t nothing) all rule from state r is trees lt le more old e =
-    let around = rule.context in
-    let at = rule.place in
-    let s = stepped rule [] from state t nothing r (nameless at [] state) (ap (λ p. between p around at [] state) is) e in
-    let c = name_comes t all.0 (OfKind SPECIAL) at from state s.part (known 5 (lit≤ tt)) trees.0 refl le (old_later (in_name at) at from state.candidates le (old_inner around at state.candidates lt old)) s.is in
-    let same : found (c.value ∷ []) s.part.state ≡ r = same_found [] s.part.value (c.value ∷ []) s.part.state r c.is s.rest in
-    let end = from + length (spell t ++ []) in
-    subst (λ x. InnerComes Production.Special around end state x) same
-    (record {
-      means = λ byte. always (Bare around) at (held c.value) c.good;
-      grows = grows_inner around (in_name at) at end state s.part.state refl lt more
-          (grows_on (in_name at) (from + length (spell t)) end state s.part.state (omega (arith, length-append (spell t) [])) c.grows);
-    })
-special_comes nothing all rule from state r is trees lt le more old e = absurd trees
-special_comes (grown t (grown u f)) all rule from state r is trees lt le more old e = absurd trees.1
-
--- a production that begins an encoding, and has two parts in which nothing is named
-two_come : (p : Production) (x y : Sym) → IsSymbol either x → IsSymbol either y → is_encoding x ≡ false → is_encoding y ≡ false →
-    ((around : Around) (at : ℕ) (vs : List Value) (state : State) → between p around at vs state ≡ Ok (nameless at vs state)) →
-    ((byte at : ℕ) (around : Around) (v w : Value) → Good (Bare (in_name at)) (held w) → Good (Bare around) (held (meaning p byte around (v ∷ w ∷ [])))) →
-    (f : Forest) → AllTreesGood f → (rule : Open State Around) (from : ℕ) (state : State) (r : Found (List Value) State) → production_at rule.rule.number ≡ p →
-    AreTrees either (x ∷ y ∷ []) f → rule.context.encoding < rule.place → rule.place ≤ from → rule.place < from + length (spell_all f) → AllOld rule.context rule.place state.candidates →
-    unfold_forest cpp rule [] from f state ≡ Ok r → InnerComes p rule.context (from + length (spell_all f)) state r
-unfolding cpp nameless in_name
-two_come p x y known_x known_y apart_x apart_y goes means (grown t (grown u nothing)) all rule from state r is trees lt le more old e =
-    let around = rule.context in
-    let at = rule.place in
-    let first = stepped rule [] from state t (grown u nothing) r (nameless at [] state) (ap (λ p. between p around at [] state) is ∙ goes around at [] state) e in
-    let old0 = old_later (in_name at) at from state.candidates le (old_inner around at state.candidates lt old) in
-    let c = name_comes t all.0 x at from state first.part known_x trees.0 apart_x le old0 first.is in
-    let next = from + length (spell t) in
-    let vs = c.value ∷ [] in
-    let onward = subst (λ ws. unfold_forest cpp rule ws next (grown u nothing) first.part.state ≡ Ok r) c.is first.rest in
-    let second = stepped rule vs next first.part.state u nothing r (nameless at vs first.part.state) (ap (λ p. between p around at vs first.part.state) is ∙ goes around at vs first.part.state) onward in
-    let old1 = old_grows (in_name at) from next state first.part.state (omega arith) old0 c.grows in
-    let d = name_comes u all.1.0 y at next first.part.state second.part known_y trees.1.0 apart_y (omega (arith, le)) old1 second.is in
-    let same : found (c.value ∷ d.value ∷ []) second.part.state ≡ r = same_found vs second.part.value (d.value ∷ []) second.part.state r d.is second.rest in
-    let end = from + length (spell t ++ (spell u ++ [])) in
-    subst (λ x. InnerComes p around end state x) same
-    (record {
-      means = λ byte. means byte at around c.value d.value d.good;
-      grows = grows_inner around (in_name at) at end state second.part.state refl lt more
-          (grows_then (in_name at) next end state first.part.state second.part.state (omega (arith, length-append (spell t) (spell u ++ []))) c.grows
-          (grows_on (in_name at) (next + length (spell u)) end first.part.state second.part.state (omega (arith, length-append (spell t) (spell u ++ []), length-append (spell u) [])) d.grows));
-    })
-two_come p x y known_x known_y apart_x apart_y goes means nothing all rule from state r is trees lt le more old e = absurd trees
-two_come p x y known_x known_y apart_x apart_y goes means (grown t nothing) all rule from state r is trees lt le more old e = absurd trees.1
-two_come p x y known_x known_y apart_x apart_y goes means (grown t (grown u (grown v f))) all rule from state r is trees lt le more old e = absurd trees.1.1
-
-guard_comes : (f : Forest) → AllTreesGood f → (rule : Open State Around) (from : ℕ) (state : State) (r : Found (List Value) State) → production_at rule.rule.number ≡ Production.Guard →
-    AreTrees either (parts_of Production.Guard) f → rule.context.encoding < rule.place → rule.place ≤ from → rule.place < from + length (spell_all f) → AllOld rule.context rule.place state.candidates →
-    unfold_forest cpp rule [] from f state ≡ Ok r → InnerComes Production.Guard rule.context (from + length (spell_all f)) state r
-unfolding parts_of number_of_kind between meaning held is_encoding nameless part is_open
-guard_comes = two_come Production.Guard (Byte 86) (OfKind COMPLETE_NAME) (lit≤ tt) (known 8 (lit≤ tt)) refl refl (λ around at vs state. refl)
-    (λ byte at around v w good.
-    let named = always (Bare around) at (tree_of w) (good_tree (Bare (in_name at)) w good) in
-    record { closed = λ h. refl; scopes = named.scopes })
-
-other_special_comes : (f : Forest) → AllTreesGood f → (rule : Open State Around) (from : ℕ) (state : State) (r : Found (List Value) State) → production_at rule.rule.number ≡ Production.OtherSpecial →
-    AreTrees either (parts_of Production.OtherSpecial) f → rule.context.encoding < rule.place → rule.place ≤ from → rule.place < from + length (spell_all f) → AllOld rule.context rule.place state.candidates →
-    unfold_forest cpp rule [] from f state ≡ Ok r → InnerComes Production.OtherSpecial rule.context (from + length (spell_all f)) state r
-unfolding parts_of number_of_kind between meaning is_encoding nameless part
-other_special_comes = two_come Production.OtherSpecial (OfKind SPECIAL_MARK) (OfKind SPECIAL_AFTER_G) (known SPECIAL_MARK (lit≤ tt)) (known SPECIAL_AFTER_G (lit≤ tt)) refl refl (λ around at vs state. refl)
-    (λ byte at around v w good. always (Bare around) at (held w) good)
-
-encoding_comes : (f : Forest) → AllTreesGood f → (rule : Open State Around) (from : ℕ) (state : State) (r : Found (List Value) State) → production_at rule.rule.number ≡ Production.Encoding →
-    AreTrees either (parts_of Production.Encoding) f → rule.context.encoding < rule.place → rule.place ≤ from → rule.place < from + length (spell_all f) → AllOld rule.context rule.place state.candidates →
-    unfold_forest cpp rule [] from f state ≡ Ok r → InnerComes Production.Encoding rule.context (from + length (spell_all f)) state r
-unfolding cpp parts_of number_of_kind between meaning held is_encoding nameless part in_name in_types
-encoding_comes (grown t (grown u nothing)) all rule from state r is trees lt le more old e =
-    let around = rule.context in
-    let at = rule.place in
-    let first = stepped rule [] from state t (grown u nothing) r (nameless at [] state) (ap (λ p. between p around at [] state) is) e in
-    let old0 = old_later (in_name at) at from state.candidates le (old_inner around at state.candidates lt old) in
-    let c = name_comes t all.0 (OfKind COMPLETE_NAME) at from state first.part (known 8 (lit≤ tt)) trees.0 refl le old0 first.is in
-    let next = from + length (spell t) in
-    let name = tree_of c.value in
-    let named = good_tree (Bare (in_name at)) c.value c.good in
-    let vs = c.value ∷ [] in
-    let onward = subst (λ ws. unfold_forest cpp rule ws next (grown u nothing) first.part.state ≡ Ok r) c.is first.rest in
-    let types : Next Value State Around = record { context = in_types at name; values = vs; state = first.part.state } in
-    let second = stepped rule vs next first.part.state u nothing r types (ap (λ p. between p around at vs first.part.state) is) onward in
-    let old1 = old_types at next name first.part.state.candidates (old_grows (in_name at) from next state first.part.state (omega arith) old0 c.grows) in
-    let d = all.1.0 (OfKind ITEMS) (in_types at name) next first.part.state second.part (known 41 (lit≤ tt)) trees.1.0 (omega (arith, le)) (λ opening. absurd (false≢true opening)) tt old1 second.is in
-    let same : found (c.value ∷ d.value ∷ []) second.part.state ≡ r = same_found vs second.part.value (d.value ∷ []) second.part.state r d.is second.rest in
-    let end = from + length (spell t ++ (spell u ++ [])) in
-    subst (λ x. InnerComes Production.Encoding around end state x) same
-    (record {
-      means = λ byte. good_encoding (Bare around) c.value (no_items d.value) (named.closed refl) named.scopes
-          (good_no_items (Bare (in_types at name)) d.value (good_tree (Bare (in_types at name)) d.value d.good)).scopes;
-      grows = grows_then around end end state first.part.state second.part.state (omega arith)
-          (grows_inner around (in_name at) at end state first.part.state refl lt more
-          (grows_on (in_name at) next end state first.part.state (omega (arith, length-append (spell t) (spell u ++ []))) c.grows))
-          (grows_inner around (in_types at name) at end first.part.state second.part.state refl lt more
-          (grows_on (in_types at name) (next + length (spell u)) end first.part.state second.part.state (omega (arith, length-append (spell t) (spell u ++ []), length-append (spell u) [])) d.grows));
-    })
-encoding_comes nothing all rule from state r is trees lt le more old e = absurd trees
-encoding_comes (grown t nothing) all rule from state r is trees lt le more old e = absurd trees.1
-encoding_comes (grown t (grown u (grown v f))) all rule from state r is trees lt le more old e = absurd trees.1.1
 
 -- ## Branches
 
@@ -453,17 +313,6 @@ inner_closes Production.OtherSpecial o byte around place began vs state one e = 
 inner_closes Production.Mark o byte around place began vs state one e = absurd (false≢true o)
 inner_closes _ o byte around place began vs state one e = absurd (false≢true o)
 
-pub inner_comes : (p : Production) → opens p ≡ true → (f : Forest) → AllTreesGood f → (rule : Open State Around) (from : ℕ) (state : State) (r : Found (List Value) State) → production_at rule.rule.number ≡ p →
-    AreTrees either (parts_of p) f → rule.context.encoding < rule.place → rule.place ≤ from → rule.place < from + length (spell_all f) → AllOld rule.context rule.place state.candidates →
-    unfold_forest cpp rule [] from f state ≡ Ok r → InnerComes p rule.context (from + length (spell_all f)) state r
-unfolding opens
-inner_comes Production.Encoding o = encoding_comes
-inner_comes Production.Special o = special_comes
-inner_comes Production.Guard o = guard_comes
-inner_comes Production.OtherSpecial o = other_special_comes
-inner_comes Production.Mark o = absurd (false≢true o)
-inner_comes _ o = absurd (false≢true o)
-
 -- where an encoding is among the symbols of a rule, the rule takes a byte
 pub takes_byte : (p : Production) (rule : Rule) (k : ℕ) (taken : List ℕ) → rule ≡ rule_of p → TakesRule either k rule taken → has_encoding (symbols_of rule) ≡ true → 0 < length taken
 unfolding rule_of
@@ -480,63 +329,6 @@ takes_byte p rule k taken is takes has = go (is_chain p) refl (behind_a_byte p)
 abbrev pub Whole : Rule → List ℕ → ℕ → Around → State → Open State Around
 Whole rule taken at around state = standing rule taken at around state
 
-pub plain_comes : (k : ℕ) (rule : Rule) (taken : List ℕ) (parts : Forest) → AllTreesGood parts → (p : Production) → rule ≡ rule_of p → opens p ≡ false → (around : Around) (at : ℕ) (state : State)
-    (inner : Found (List Value) State) (one : Found Value State) → k < either.kinds → IsTree either (OfKind k) (branch rule taken parts) → around.encoding ≤ at → GoodPrefix (Bare around) around.prefix →
-    AllOld around at state.candidates → unfold_forest cpp (Whole rule taken at around state) [] (at + length taken) parts state ≡ Ok inner →
-    close (production_at rule.number) (byte_of taken) around at state inner.value inner.state ≡ Ok one → TreeComes around (at + length (taken ++ spell_all parts)) state (found (one.value ∷ []) one.state)
-plain_comes k rule taken parts all p is plain around at state inner one lt tree le pre old e f =
-    let number : production_at rule.number ≡ p = ap (λ x. production_at x.number) is ∙ at_number p in
-    let inside_ : StaysInside (production_at rule.number) = subst (λ q. StaysInside q) (sym number) (stays p plain) in
-    let from = at + length taken in
-    let end = at + length (taken ++ spell_all parts) in
-    let symbols = either_sound.symbols k tree.0.byte rule lt tree.0.is_byte tree.0.found in
-    let forest = forest_good parts all (Whole rule taken at around state) (symbols_of rule) [] from state inner inside_ symbols tree.1 (omega (arith, le))
-    (λ has. omega (arith, le, takes_byte p rule k taken is tree.0 has)) pre tt (old_later around at from state.candidates (omega arith) old) e in
-    let grown1 = grows_on around (from + length (spell_all parts)) end state inner.state (omega (arith, length-append taken (spell_all parts))) forest.grows in
-    let comes = close_good (production_at rule.number) (byte_of taken) around at state inner.value inner.state one end (old_grows around at end state inner.state (omega arith) old grown1) pre forest.good
-    (needs_no_name (production_at rule.number) inner.value inside_) f in
-    record { value = one.value; is = refl; good = comes.good; grows = grows_then around end end state inner.state one.state (omega arith) grown1 comes.grows }
-
-pub encoded_comes : (k : ℕ) (rule : Rule) (taken : List ℕ) (parts : Forest) → AllTreesGood parts → (p : Production) → rule ≡ rule_of p → opens p ≡ true → (around : Around) (at : ℕ) (state : State)
-    (inner : Found (List Value) State) (one : Found Value State) → k < either.kinds → IsTree either (OfKind k) (branch rule taken parts) → around.encoding < at →
-    AllOld around at state.candidates → unfold_forest cpp (Whole rule taken at around state) [] (at + length taken) parts state ≡ Ok inner →
-    close (production_at rule.number) (byte_of taken) around at state inner.value inner.state ≡ Ok one → TreeComes around (at + length (taken ++ spell_all parts)) state (found (one.value ∷ []) one.state)
-encoded_comes k rule taken parts all p is opening around at state inner one lt tree less old e f =
-    let number : production_at rule.number ≡ p = ap (λ x. production_at x.number) is ∙ at_number p in
-    let from = at + length taken in
-    let end = at + length (taken ++ spell_all parts) in
-    let full = filled (taken ++ spell_all parts) (either_sound.filled k rule taken parts lt tree) in
-    let trees = subst (λ xs. AreTrees either xs parts) (ap symbols_of is ∙ its_symbols p) tree.1 in
-    let comes = inner_comes p opening parts all (Whole rule taken at around state) from state inner number trees less (omega arith)
-    (omega (arith, full, length-append taken (spell_all parts))) old e in
-    let closed : close p (byte_of taken) around at state inner.value inner.state ≡ Ok one =
-    sym (ap (λ q. close q (byte_of taken) around at state inner.value inner.state) number) ∙ f in
-    let same = inner_closes p opening (byte_of taken) around at state inner.value inner.state one closed in
-    let grown1 = grows_on around (from + length (spell_all parts)) end state inner.state (omega (arith, length-append taken (spell_all parts))) comes.grows in
-    subst (λ x. TreeComes around end state (found (x.value ∷ []) x.state)) same
-    (record { value = meaning p (byte_of taken) around inner.value; is = refl; good = comes.means (byte_of taken); grows = grown1 })
-
-pub branch_good : (rule : Rule) (taken : List ℕ) (parts : Forest) → AllTreesGood parts → TreeGood (branch rule taken parts)
-unfolding cpp is_encoding
-branch_good rule taken parts all (OfKind k) around at state r lt is le inside pre old e =
-    let whole = Whole rule taken at around state in
-    let t = taken_rule k rule taken lt is.0 in
-    let from = at + length taken in
-    let begun = behind_bind (opening (production_at rule.number) parts at state)
-    (λ begun. unfold_forest cpp whole [] from parts begun >>= λ inner. close (production_at rule.number) (byte_of taken) around at state inner.value inner.state >>= alone) r e in
-    let kept = opening_keeps (production_at rule.number) parts at state begun.value begun.is in
-    let onward = subst (λ s. (unfold_forest cpp whole [] from parts s >>= λ inner. close (production_at rule.number) (byte_of taken) around at state inner.value inner.state >>= alone) ≡ Ok r) kept begun.next in
-    let inner = behind_bind (unfold_forest cpp whole [] from parts state) (λ inner. close (production_at rule.number) (byte_of taken) around at state inner.value inner.state >>= alone) r onward in
-    let ended = behind_bind (close (production_at rule.number) (byte_of taken) around at state inner.value.value inner.value.state) alone r inner.next in
-    let one = ended.value in
-    let same : found (one.value ∷ []) one.state ≡ r = ok_same (found (one.value ∷ []) one.state) r ended.next in
-    let end = at + length (taken ++ spell_all parts) in
-    subst (λ x. TreeComes around end state x) same (elim (cases_Bool (opens t.production)) [
-      | inl opening ↦ encoded_comes k rule taken parts all t.production t.is opening around at state inner.value one lt is (inside (t.encoding opening)) old inner.is ended.is
-      | inr plain ↦ plain_comes k rule taken parts all t.production t.is plain around at state inner.value one lt is le pre old inner.is ended.is
-    ])
-branch_good rule taken parts all _ around at state r lt is le inside pre old e = absurd is
-
 nothing_good : (around : Around) → Good (Bare around) (held nothing_there)
 unfolding held is_open
 nothing_good around = record { closed = λ h. refl; scopes = tt }
@@ -545,28 +337,282 @@ text_good : (around : Around) (bytes : List ℕ) → Good (Bare around) (held (t
 unfolding held is_open
 text_good around bytes = record { closed = λ h. refl; scopes = tt }
 
-mutual
-  unfolding cpp
-
-  pub tree_good : (t : Tree) → TreeGood t
-  tree_good (branch rule taken parts) = branch_good rule taken parts (trees_good parts)
-  tree_good empty = λ x around at state r lt is le inside pre old e. leaf_comes around (at + length (spell empty)) state nothing_there r (nothing_good around) e
-  tree_good (token t) = λ x around at state r lt is le inside pre old e. leaf_comes around (at + length (spell (token t))) state (text t.own) r (text_good around t.own) e
-  tree_good (fixed byte) = λ x around at state r lt is le inside pre old e. leaf_comes around (at + length (spell (fixed byte))) state nothing_there r (nothing_good around) e
-
-  pub trees_good : (f : Forest) → AllTreesGood f
-  trees_good nothing = tt
-  trees_good (grown t f) = (tree_good t, trees_good f)
-
 first_good : (v : Value) (vs : List Value) → vs ≡ v ∷ [] → ScopesAreClosed (tree_of v) → ScopesAreClosed (first_tree vs)
 unfolding first_tree
 first_good v vs is good = subst (λ ws. ScopesAreClosed (first_tree ws)) (sym is) good
 
+-- ## Either reading
+
+module _ (w : Way) (keeps : KeepsClosed w) where
+  pub forest_good : (f : Forest) → AllTreesGood w f → (rule : Open State Around) (xs : List Sym) (vs : List Value) (at : ℕ) (state : State) (r : Found (List Value) State) →
+      StaysInside (production_at rule.rule.number) → AreSymbols either xs → AreTrees either xs f → rule.context.encoding ≤ at → (has_encoding xs ≡ true → rule.context.encoding < at) →
+      GoodPrefix (Bare rule.context) rule.context.prefix → AllGood (Bare rule.context) vs → AllOld rule.context at state.candidates → unfold_forest (reading_by w) rule vs at f state ≡ Ok r →
+      ForestComes rule.context (at + length (spell_all f)) state r
+  unfolding reading_by has_encoding
+  forest_good nothing all rule xs vs at state r stays known trees le inside pre good old e =
+      subst (λ x. ForestComes rule.context (at + length (spell_all nothing)) state x) (ok_same (found vs state) r e)
+      (record { good = good; grows = grows_same rule.context (at + length (spell_all nothing)) state state refl })
+  forest_good (grown t f) all rule [] vs at state r stays known trees le inside pre good old e = absurd trees
+  forest_good (grown t f) all rule (x ∷ xs) vs at state r stays known trees le inside pre good old e =
+      let around = rule.context in
+      let later = at + length (spell t) in
+      let end = at + length (spell t ++ spell_all f) in
+      let b = behind_bind (w.between (production_at rule.rule.number) around rule.place vs state)
+      (λ next. unfold_tree (reading_by w) next.context at t next.state >>= λ part. unfold_forest (reading_by w) rule (next.values ++ part.value) (at + length (spell t)) f part.state) r e in
+      let n = b.value in
+      let g = keeps.goes (production_at rule.rule.number) around rule.place vs state n at stays pre good b.is in
+      let c = behind_bind (unfold_tree (reading_by w) n.context at t n.state) (λ part. unfold_forest (reading_by w) rule (n.values ++ part.value) (at + length (spell t)) f part.state) r b.next in
+      let part = c.value in
+      let old1 = old_grows around at at state n.state (omega arith) old g.grows in
+      let tree = all.0 x n.context at n.state part known.0 trees.0 (omega (arith, g.fits.encoding, le)) (λ opening. omega (arith, g.fits.encoding, inside (or_first (is_encoding x) (has_encoding xs) opening)))
+      g.fits.prefix (old_fits around n.context at n.state.candidates g.fits old1) c.is in
+      let grown1 = grows_fits around n.context later n.state part.state g.fits tree.grows in
+      let old2 = old_grows around at later n.state part.state (omega arith) old1 grown1 in
+      let good1 = one_good (Bare around) tree.value part.value tree.is (good_fits around n.context (held tree.value) g.fits tree.good) in
+      let rest = forest_good f all.1 rule xs (n.values ++ part.value) later part.state r stays known.1 trees.1 (omega (arith, le))
+      (λ opening. omega (arith, inside (or_true (is_encoding x) (has_encoding xs) opening))) pre (all_append (Bare around) n.values part.value g.values good1) old2 c.next in
+      record {
+        good = rest.good;
+        grows = grows_then around later end state part.state r.state (omega (arith, length-append (spell t) (spell_all f)))
+            (grows_then around at later state n.state part.state (omega arith) g.grows grown1)
+            (grows_on around (later + length (spell_all f)) end part.state r.state (omega (arith, length-append (spell t) (spell_all f))) rest.grows);
+      }
+    where
+      or_first : (a b : Bool) → a ≡ true → a || b ≡ true
+      or_first a b h = ap (λ c. c || b) h
+
+  -- one part of an encoding, in which nothing is named
+  pub name_comes : (t : Tree) → TreeGood w t → (x : Sym) (at from : ℕ) (state : State) (part : Found (List Value) State) → IsSymbol either x → IsTree either x t → is_encoding x ≡ false → at ≤ from → AllOld (in_name at) from state.candidates →
+      unfold_tree (reading_by w) (in_name at) from t state ≡ Ok part → TreeComes (in_name at) (from + length (spell t)) state part
+  unfolding in_name
+  name_comes t good x at from state part known is other le old e =
+      good x (in_name at) from state part known is le (λ opening. absurd (true≢false (sym opening ∙ other))) tt old e
+
+  pub stepped : (rule : Open State Around) (vs : List Value) (at : ℕ) (state : State) (t : Tree) (f : Forest) (r : Found (List Value) State) (n : Next Value State Around) →
+      w.between (production_at rule.rule.number) rule.context rule.place vs state ≡ Ok n → unfold_forest (reading_by w) rule vs at (grown t f) state ≡ Ok r → Stepped w rule n at t f r
+  unfolding reading_by
+  stepped rule vs at state t f r n goes e =
+      let onward : Next Value State Around → Result (Found (List Value) State) Refusal =
+      λ next. unfold_tree (reading_by w) next.context at t next.state >>= λ part. unfold_forest (reading_by w) rule (next.values ++ part.value) (at + length (spell t)) f part.state in
+      let moved : onward n ≡ Ok r = sym (ap (λ x. x >>= onward) goes) ∙ e in
+      let c = behind_bind (unfold_tree (reading_by w) n.context at t n.state) (λ part. unfold_forest (reading_by w) rule (n.values ++ part.value) (at + length (spell t)) f part.state) r moved in
+      record { part = c.value; is = c.is; rest = c.next }
+
+  special_comes : (f : Forest) → AllTreesGood w f → (rule : Open State Around) (from : ℕ) (state : State) (r : Found (List Value) State) → production_at rule.rule.number ≡ Production.Special →
+      AreTrees either (parts_of Production.Special) f → rule.context.encoding < rule.place → rule.place ≤ from → rule.place < from + length (spell_all f) → AllOld rule.context rule.place state.candidates →
+      unfold_forest (reading_by w) rule [] from f state ≡ Ok r → InnerComes Production.Special rule.context (from + length (spell_all f)) state r
+  unfolding is_reference reading_by parts_of number_of_kind between meaning held is_encoding nameless part in_name
+  special_comes (grown t nothing) all rule from state r is trees lt le more old e =
+      let around = rule.context in
+      let at = rule.place in
+      let s = stepped rule [] from state t nothing r (nameless at [] state) (ap (λ p. w.between p around at [] state) is ∙ keeps.plain.between Production.Special refl around at [] state) e in
+      let c = name_comes t all.0 (OfKind SPECIAL) at from state s.part (known 5 (lit≤ tt)) trees.0 refl le (old_later (in_name at) at from state.candidates le (old_inner around at state.candidates lt old)) s.is in
+      let same : found (c.value ∷ []) s.part.state ≡ r = same_found [] s.part.value (c.value ∷ []) s.part.state r c.is s.rest in
+      let end = from + length (spell t ++ []) in
+      subst (λ x. InnerComes Production.Special around end state x) same
+      (record {
+        means = λ byte. always (Bare around) at (held c.value) c.good;
+        grows = grows_inner around (in_name at) at end state s.part.state refl lt more
+            (grows_on (in_name at) (from + length (spell t)) end state s.part.state (omega (arith, length-append (spell t) [])) c.grows);
+      })
+  special_comes nothing all rule from state r is trees lt le more old e = absurd trees
+  special_comes (grown t (grown u f)) all rule from state r is trees lt le more old e = absurd trees.1
+
+  -- a production that begins an encoding, and has two parts in which nothing is named
+  two_come : (p : Production) (x y : Sym) → IsSymbol either x → IsSymbol either y → is_encoding x ≡ false → is_encoding y ≡ false →
+      ((around : Around) (at : ℕ) (vs : List Value) (state : State) → w.between p around at vs state ≡ Ok (nameless at vs state)) →
+      ((byte at : ℕ) (around : Around) (v w : Value) → Good (Bare (in_name at)) (held w) → Good (Bare around) (held (meaning p byte around (v ∷ w ∷ [])))) →
+      (f : Forest) → AllTreesGood w f → (rule : Open State Around) (from : ℕ) (state : State) (r : Found (List Value) State) → production_at rule.rule.number ≡ p →
+      AreTrees either (x ∷ y ∷ []) f → rule.context.encoding < rule.place → rule.place ≤ from → rule.place < from + length (spell_all f) → AllOld rule.context rule.place state.candidates →
+      unfold_forest (reading_by w) rule [] from f state ≡ Ok r → InnerComes p rule.context (from + length (spell_all f)) state r
+  unfolding reading_by nameless in_name
+  two_come p x y known_x known_y apart_x apart_y goes means (grown t (grown u nothing)) all rule from state r is trees lt le more old e =
+      let around = rule.context in
+      let at = rule.place in
+      let first = stepped rule [] from state t (grown u nothing) r (nameless at [] state) (ap (λ p. w.between p around at [] state) is ∙ goes around at [] state) e in
+      let old0 = old_later (in_name at) at from state.candidates le (old_inner around at state.candidates lt old) in
+      let c = name_comes t all.0 x at from state first.part known_x trees.0 apart_x le old0 first.is in
+      let next = from + length (spell t) in
+      let vs = c.value ∷ [] in
+      let onward = subst (λ ws. unfold_forest (reading_by w) rule ws next (grown u nothing) first.part.state ≡ Ok r) c.is first.rest in
+      let second = stepped rule vs next first.part.state u nothing r (nameless at vs first.part.state) (ap (λ p. w.between p around at vs first.part.state) is ∙ goes around at vs first.part.state) onward in
+      let old1 = old_grows (in_name at) from next state first.part.state (omega arith) old0 c.grows in
+      let d = name_comes u all.1.0 y at next first.part.state second.part known_y trees.1.0 apart_y (omega (arith, le)) old1 second.is in
+      let same : found (c.value ∷ d.value ∷ []) second.part.state ≡ r = same_found vs second.part.value (d.value ∷ []) second.part.state r d.is second.rest in
+      let end = from + length (spell t ++ (spell u ++ [])) in
+      subst (λ x. InnerComes p around end state x) same
+      (record {
+        means = λ byte. means byte at around c.value d.value d.good;
+        grows = grows_inner around (in_name at) at end state second.part.state refl lt more
+            (grows_then (in_name at) next end state first.part.state second.part.state (omega (arith, length-append (spell t) (spell u ++ []))) c.grows
+            (grows_on (in_name at) (next + length (spell u)) end first.part.state second.part.state (omega (arith, length-append (spell t) (spell u ++ []), length-append (spell u) [])) d.grows));
+      })
+  two_come p x y known_x known_y apart_x apart_y goes means nothing all rule from state r is trees lt le more old e = absurd trees
+  two_come p x y known_x known_y apart_x apart_y goes means (grown t nothing) all rule from state r is trees lt le more old e = absurd trees.1
+  two_come p x y known_x known_y apart_x apart_y goes means (grown t (grown u (grown v f))) all rule from state r is trees lt le more old e = absurd trees.1.1
+
+  guard_comes : (f : Forest) → AllTreesGood w f → (rule : Open State Around) (from : ℕ) (state : State) (r : Found (List Value) State) → production_at rule.rule.number ≡ Production.Guard →
+      AreTrees either (parts_of Production.Guard) f → rule.context.encoding < rule.place → rule.place ≤ from → rule.place < from + length (spell_all f) → AllOld rule.context rule.place state.candidates →
+      unfold_forest (reading_by w) rule [] from f state ≡ Ok r → InnerComes Production.Guard rule.context (from + length (spell_all f)) state r
+  unfolding is_reference parts_of number_of_kind between meaning held is_encoding nameless part is_open
+  guard_comes = two_come Production.Guard (Byte 86) (OfKind COMPLETE_NAME) (lit≤ tt) (known 8 (lit≤ tt)) refl refl (keeps.plain.between Production.Guard refl)
+      (λ byte at around v w good.
+      let named = always (Bare around) at (tree_of w) (good_tree (Bare (in_name at)) w good) in
+      record { closed = λ h. refl; scopes = named.scopes })
+
+  other_special_comes : (f : Forest) → AllTreesGood w f → (rule : Open State Around) (from : ℕ) (state : State) (r : Found (List Value) State) → production_at rule.rule.number ≡ Production.OtherSpecial →
+      AreTrees either (parts_of Production.OtherSpecial) f → rule.context.encoding < rule.place → rule.place ≤ from → rule.place < from + length (spell_all f) → AllOld rule.context rule.place state.candidates →
+      unfold_forest (reading_by w) rule [] from f state ≡ Ok r → InnerComes Production.OtherSpecial rule.context (from + length (spell_all f)) state r
+  unfolding is_reference parts_of number_of_kind between meaning is_encoding nameless part
+  other_special_comes = two_come Production.OtherSpecial (OfKind SPECIAL_MARK) (OfKind SPECIAL_AFTER_G) (known SPECIAL_MARK (lit≤ tt)) (known SPECIAL_AFTER_G (lit≤ tt)) refl refl (keeps.plain.between Production.OtherSpecial refl)
+      (λ byte at around v w good. always (Bare around) at (held w) good)
+
+  encoding_comes : (f : Forest) → AllTreesGood w f → (rule : Open State Around) (from : ℕ) (state : State) (r : Found (List Value) State) → production_at rule.rule.number ≡ Production.Encoding →
+      AreTrees either (parts_of Production.Encoding) f → rule.context.encoding < rule.place → rule.place ≤ from → rule.place < from + length (spell_all f) → AllOld rule.context rule.place state.candidates →
+      unfold_forest (reading_by w) rule [] from f state ≡ Ok r → InnerComes Production.Encoding rule.context (from + length (spell_all f)) state r
+  unfolding is_reference reading_by parts_of number_of_kind between meaning held is_encoding nameless part in_name in_types
+  encoding_comes (grown t (grown u nothing)) all rule from state r is trees lt le more old e =
+      let around = rule.context in
+      let at = rule.place in
+      let first = stepped rule [] from state t (grown u nothing) r (nameless at [] state) (ap (λ p. w.between p around at [] state) is ∙ keeps.plain.between Production.Encoding refl around at [] state) e in
+      let old0 = old_later (in_name at) at from state.candidates le (old_inner around at state.candidates lt old) in
+      let c = name_comes t all.0 (OfKind COMPLETE_NAME) at from state first.part (known 8 (lit≤ tt)) trees.0 refl le old0 first.is in
+      let next = from + length (spell t) in
+      let name = tree_of c.value in
+      let named = good_tree (Bare (in_name at)) c.value c.good in
+      let vs = c.value ∷ [] in
+      let onward = subst (λ ws. unfold_forest (reading_by w) rule ws next (grown u nothing) first.part.state ≡ Ok r) c.is first.rest in
+      let types : Next Value State Around = record { context = in_types at name; values = vs; state = first.part.state } in
+      let second = stepped rule vs next first.part.state u nothing r types (ap (λ p. w.between p around at vs first.part.state) is ∙ keeps.plain.between Production.Encoding refl around at vs first.part.state) onward in
+      let old1 = old_types at next name first.part.state.candidates (old_grows (in_name at) from next state first.part.state (omega arith) old0 c.grows) in
+      let d = all.1.0 (OfKind ITEMS) (in_types at name) next first.part.state second.part (known 41 (lit≤ tt)) trees.1.0 (omega (arith, le)) (λ opening. absurd (false≢true opening)) tt old1 second.is in
+      let same : found (c.value ∷ d.value ∷ []) second.part.state ≡ r = same_found vs second.part.value (d.value ∷ []) second.part.state r d.is second.rest in
+      let end = from + length (spell t ++ (spell u ++ [])) in
+      subst (λ x. InnerComes Production.Encoding around end state x) same
+      (record {
+        means = λ byte. good_encoding (Bare around) c.value (no_items d.value) (named.closed refl) named.scopes
+            (good_no_items (Bare (in_types at name)) d.value (good_tree (Bare (in_types at name)) d.value d.good)).scopes;
+        grows = grows_then around end end state first.part.state second.part.state (omega arith)
+            (grows_inner around (in_name at) at end state first.part.state refl lt more
+            (grows_on (in_name at) next end state first.part.state (omega (arith, length-append (spell t) (spell u ++ []))) c.grows))
+            (grows_inner around (in_types at name) at end first.part.state second.part.state refl lt more
+            (grows_on (in_types at name) (next + length (spell u)) end first.part.state second.part.state (omega (arith, length-append (spell t) (spell u ++ []), length-append (spell u) [])) d.grows));
+      })
+  encoding_comes nothing all rule from state r is trees lt le more old e = absurd trees
+  encoding_comes (grown t nothing) all rule from state r is trees lt le more old e = absurd trees.1
+  encoding_comes (grown t (grown u (grown v f))) all rule from state r is trees lt le more old e = absurd trees.1.1
+
+  pub inner_comes : (p : Production) → opens p ≡ true → (f : Forest) → AllTreesGood w f → (rule : Open State Around) (from : ℕ) (state : State) (r : Found (List Value) State) → production_at rule.rule.number ≡ p →
+      AreTrees either (parts_of p) f → rule.context.encoding < rule.place → rule.place ≤ from → rule.place < from + length (spell_all f) → AllOld rule.context rule.place state.candidates →
+      unfold_forest (reading_by w) rule [] from f state ≡ Ok r → InnerComes p rule.context (from + length (spell_all f)) state r
+  unfolding opens
+  inner_comes Production.Encoding o = encoding_comes
+  inner_comes Production.Special o = special_comes
+  inner_comes Production.Guard o = guard_comes
+  inner_comes Production.OtherSpecial o = other_special_comes
+  inner_comes Production.Mark o = absurd (false≢true o)
+  inner_comes _ o = absurd (false≢true o)
+
+  pub plain_comes : (k : ℕ) (rule : Rule) (taken : List ℕ) (parts : Forest) → AllTreesGood w parts → (p : Production) → rule ≡ rule_of p → opens p ≡ false → (around : Around) (at : ℕ) (state : State)
+      (inner : Found (List Value) State) (one : Found Value State) → k < either.kinds → IsTree either (OfKind k) (branch rule taken parts) → around.encoding ≤ at → GoodPrefix (Bare around) around.prefix →
+      AllOld around at state.candidates → unfold_forest (reading_by w) (Whole rule taken at around state) [] (at + length taken) parts state ≡ Ok inner →
+      w.close (production_at rule.number) (byte_of taken) around at state inner.value inner.state ≡ Ok one → TreeComes around (at + length (taken ++ spell_all parts)) state (found (one.value ∷ []) one.state)
+  plain_comes k rule taken parts all p is plain around at state inner one lt tree le pre old e f =
+      let number : production_at rule.number ≡ p = ap (λ x. production_at x.number) is ∙ at_number p in
+      let inside_ : StaysInside (production_at rule.number) = subst (λ q. StaysInside q) (sym number) (stays p plain) in
+      let from = at + length taken in
+      let end = at + length (taken ++ spell_all parts) in
+      let symbols = either_sound.symbols k tree.0.byte rule lt tree.0.is_byte tree.0.found in
+      let forest = forest_good parts all (Whole rule taken at around state) (symbols_of rule) [] from state inner inside_ symbols tree.1 (omega (arith, le))
+      (λ has. omega (arith, le, takes_byte p rule k taken is tree.0 has)) pre tt (old_later around at from state.candidates (omega arith) old) e in
+      let grown1 = grows_on around (from + length (spell_all parts)) end state inner.state (omega (arith, length-append taken (spell_all parts))) forest.grows in
+      let comes = keeps.comes (production_at rule.number) (byte_of taken) around at state inner.value inner.state one end (old_grows around at end state inner.state (omega arith) old grown1) pre forest.good
+      (needs_no_name (production_at rule.number) inner.value inside_) f in
+      record { value = one.value; is = refl; good = comes.good; grows = grows_then around end end state inner.state one.state (omega arith) grown1 comes.grows }
+
+  pub encoded_comes : (k : ℕ) (rule : Rule) (taken : List ℕ) (parts : Forest) → AllTreesGood w parts → (p : Production) → rule ≡ rule_of p → opens p ≡ true → (around : Around) (at : ℕ) (state : State)
+      (inner : Found (List Value) State) (one : Found Value State) → k < either.kinds → IsTree either (OfKind k) (branch rule taken parts) → around.encoding < at →
+      AllOld around at state.candidates → unfold_forest (reading_by w) (Whole rule taken at around state) [] (at + length taken) parts state ≡ Ok inner →
+      w.close (production_at rule.number) (byte_of taken) around at state inner.value inner.state ≡ Ok one → TreeComes around (at + length (taken ++ spell_all parts)) state (found (one.value ∷ []) one.state)
+  encoded_comes k rule taken parts all p is opening around at state inner one lt tree less old e f =
+      let number : production_at rule.number ≡ p = ap (λ x. production_at x.number) is ∙ at_number p in
+      let from = at + length taken in
+      let end = at + length (taken ++ spell_all parts) in
+      let full = filled (taken ++ spell_all parts) (either_sound.filled k rule taken parts lt tree) in
+      let trees = subst (λ xs. AreTrees either xs parts) (ap symbols_of is ∙ its_symbols p) tree.1 in
+      let comes = inner_comes p opening parts all (Whole rule taken at around state) from state inner number trees less (omega arith)
+      (omega (arith, full, length-append taken (spell_all parts))) old e in
+      let closed : close p (byte_of taken) around at state inner.value inner.state ≡ Ok one =
+      sym (ap (λ q. w.close q (byte_of taken) around at state inner.value inner.state) number ∙ keeps.plain.close p (opens_apart p opening) (byte_of taken) around at state inner.value inner.state) ∙ f in
+      let same = inner_closes p opening (byte_of taken) around at state inner.value inner.state one closed in
+      let grown1 = grows_on around (from + length (spell_all parts)) end state inner.state (omega (arith, length-append taken (spell_all parts))) comes.grows in
+      subst (λ x. TreeComes around end state (found (x.value ∷ []) x.state)) same
+      (record { value = meaning p (byte_of taken) around inner.value; is = refl; good = comes.means (byte_of taken); grows = grown1 })
+
+  pub branch_good : (rule : Rule) (taken : List ℕ) (parts : Forest) → AllTreesGood w parts → TreeGood w (branch rule taken parts)
+  unfolding reading_by is_encoding
+  branch_good rule taken parts all (OfKind k) around at state r lt is le inside pre old e =
+      let whole = Whole rule taken at around state in
+      let t = taken_rule k rule taken lt is.0 in
+      let from = at + length taken in
+      let begun = behind_bind (opening (production_at rule.number) parts at state)
+      (λ begun. unfold_forest (reading_by w) whole [] from parts begun >>= λ inner. w.close (production_at rule.number) (byte_of taken) around at state inner.value inner.state >>= alone) r e in
+      let kept = opening_keeps (production_at rule.number) parts at state begun.value begun.is in
+      let onward = subst (λ s. (unfold_forest (reading_by w) whole [] from parts s >>= λ inner. w.close (production_at rule.number) (byte_of taken) around at state inner.value inner.state >>= alone) ≡ Ok r) kept begun.next in
+      let inner = behind_bind (unfold_forest (reading_by w) whole [] from parts state) (λ inner. w.close (production_at rule.number) (byte_of taken) around at state inner.value inner.state >>= alone) r onward in
+      let ended = behind_bind (w.close (production_at rule.number) (byte_of taken) around at state inner.value.value inner.value.state) alone r inner.next in
+      let one = ended.value in
+      let same : found (one.value ∷ []) one.state ≡ r = ok_same (found (one.value ∷ []) one.state) r ended.next in
+      let end = at + length (taken ++ spell_all parts) in
+      subst (λ x. TreeComes around end state x) same (elim (cases_Bool (opens t.production)) [
+        | inl opening ↦ encoded_comes k rule taken parts all t.production t.is opening around at state inner.value one lt is (inside (t.encoding opening)) old inner.is ended.is
+        | inr plain ↦ plain_comes k rule taken parts all t.production t.is plain around at state inner.value one lt is le pre old inner.is ended.is
+      ])
+  branch_good rule taken parts all _ around at state r lt is le inside pre old e = absurd is
+
+  mutual
+    unfolding reading_by
+
+    pub tree_good_by : (t : Tree) → TreeGood w t
+    tree_good_by (branch rule taken parts) = branch_good rule taken parts (trees_good_by parts)
+    tree_good_by empty = λ x around at state r lt is le inside pre old e. leaf_comes around (at + length (spell empty)) state nothing_there r (nothing_good around) e
+    tree_good_by (token t) = λ x around at state r lt is le inside pre old e. leaf_comes around (at + length (spell (token t))) state (text t.own) r (text_good around t.own) e
+    tree_good_by (fixed byte) = λ x around at state r lt is le inside pre old e. leaf_comes around (at + length (spell (fixed byte))) state nothing_there r (nothing_good around) e
+
+    pub trees_good_by : (f : Forest) → AllTreesGood w f
+    trees_good_by nothing = tt
+    trees_good_by (grown t f) = (tree_good_by t, trees_good_by f)
+
+  -- In the tree that a symbol stands for the arguments that are a scope have no free parameters.
+  pub scopes_are_closed_by : (shape : Tree) (t : Term) → IsTree either (OfKind SYMBOL) shape → (unfold_tree (reading_by w) first_around 0 shape first_state >>= λ whole. Ok (first_tree whole.value)) ≡ Ok t → ScopesAreClosed t
+  unfolding first_around first_state first_tree is_encoding
+  scopes_are_closed_by shape t is e =
+      let whole = behind_bind (unfold_tree (reading_by w) first_around 0 shape first_state) (λ whole. Ok (first_tree whole.value)) t e in
+      let comes = tree_good_by shape (OfKind SYMBOL) first_around 0 first_state whole.value (known 0 (lit≤ tt)) is (omega arith) (λ opening. absurd (false≢true opening)) tt tt whole.is in
+      let same : first_tree whole.value.value ≡ t = ok_same (first_tree whole.value.value) t whole.next in
+      subst (λ x. ScopesAreClosed x) same (first_good comes.value whole.value.value comes.is (good_tree (Bare first_around) comes.value comes.good).scopes)
+
+-- ## Each reading
+
+pub abi_keeps : KeepsClosed abi_way
+unfolding abi_way
+abi_keeps = record { plain = abi_plain; goes = between_goes; comes = close_good }
+
+pub tree_good : (t : Tree) (x : Sym) (around : Around) (at : ℕ) (state : State) (r : Found (List Value) State) → IsSymbol either x → IsTree either x t → around.encoding ≤ at →
+    (is_encoding x ≡ true → around.encoding < at) → GoodPrefix (Bare around) around.prefix → AllOld around at state.candidates → unfold_tree cpp around at t state ≡ Ok r →
+    TreeComes around (at + length (spell t)) state r
+unfolding cpp reading_by abi_way
+tree_good t = tree_good_by abi_way abi_keeps t
+
 -- In the tree that a symbol stands for the arguments that are a scope have no free parameters.
 pub scopes_are_closed : (shape : Tree) (t : Term) → IsTree either (OfKind SYMBOL) shape → unfold_cpp shape ≡ Ok t → ScopesAreClosed t
-unfolding unfold_cpp first_around first_state first_tree is_encoding
-scopes_are_closed shape t is e =
-    let whole = behind_bind (unfold_tree cpp first_around 0 shape first_state) (λ whole. Ok (first_tree whole.value)) t e in
-    let comes = tree_good shape (OfKind SYMBOL) first_around 0 first_state whole.value (known 0 (lit≤ tt)) is (omega arith) (λ opening. absurd (false≢true opening)) tt tt whole.is in
-    let same : first_tree whole.value.value ≡ t = ok_same (first_tree whole.value.value) t whole.next in
-    subst (λ x. ScopesAreClosed x) same (first_good comes.value whole.value.value comes.is (good_tree (Bare first_around) comes.value comes.good).scopes)
+unfolding unfold_cpp cpp reading_by abi_way
+scopes_are_closed shape t is e = scopes_are_closed_by abi_way abi_keeps shape t is e
+
+pub wide_keeps : KeepsClosed wide_way
+unfolding wide_way
+wide_keeps = record { plain = wide_plain; goes = wide_goes; comes = wide_close_good }
+
+pub wide_scopes_are_closed : (shape : Tree) (t : Term) → IsTree either (OfKind SYMBOL) shape → unfold_wide shape ≡ Ok t → ScopesAreClosed t
+unfolding unfold_wide cpp_wide reading_by wide_way
+wide_scopes_are_closed shape t is e = scopes_are_closed_by wide_way wide_keeps shape t is e

@@ -26,7 +26,7 @@ abbrev pub AllGood : Type 0 → List Value → Type 0
 AllGood s [] = Unit {0}
 AllGood s (v ∷ vs) = Good s (held v) × AllGood s vs
 
-or_no : (a b : Bool) → a ≡ false → b ≡ false → (a || b) ≡ false
+pub or_no : (a b : Bool) → a ≡ false → b ≡ false → (a || b) ≡ false
 or_no false b e f = f
 or_no true b e f = absurd (true≢false e)
 

@@ -12,10 +12,13 @@ pub mod Reader
 pub mod Row
 pub mod ListedRows
 pub mod GeneratedRows
+pub mod Ways
 pub mod ClosedValues
 pub mod ClosedStates
 pub mod ClosedParts
 pub mod ClosedTrees
+pub mod NoGeneric
+pub mod Staying
 pub mod RanksFall
 pub mod FewParts
 pub mod BadTokens

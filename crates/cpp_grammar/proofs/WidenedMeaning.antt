@@ -1,5 +1,5 @@
 -- What a widened tree stands for is what the tree stands for.
-use Rattle.std.proofs.Common.{◌≡◌, ℕ, ◌+◌, ◌-◌, ◌<◌, List, [], ◌∷◌, ◌++◌, length, Bool, true, false, nat_eq, ◌&&◌, Result, Ok, Err, inl, inr, refl, ap, sym, ◌∙◌, subst, add-zero, append-nil, arith}
+use Rattle.std.proofs.Common.{◌≡◌, ℕ, ◌+◌, ◌-◌, ◌<◌, List, [], ◌∷◌, ◌++◌, length, Bool, true, false, nat_eq, Result, Ok, Err, refl, ap, sym, ◌∙◌, subst, add-zero, append-nil, arith}
 use Rattle.sym_core.specs.declared.refusal.Refusal.{Refusal}
 use Rattle.sym_shape.specs.declared.rule.Rule.{Rule}
 use Rattle.sym_shape.specs.declared.rule.Sym.{Sym}
@@ -11,10 +11,10 @@ use Rattle.sym_link.specs.Reading.{Found, Open, ◌>>=◌}
 use Rattle.sym_link.specs.Unfold.{found, alone, standing, unfold_tree, unfold_forest}
 use Rattle.sym_link.proofs.Steps.{bind_same}
 use Rattle.cpp_grammar.specs.declared.production.Production.{Production}
-use Rattle.cpp_grammar.specs.KindNumbers.{SYMBOL, ENCODING, NEST_REST_ALONE, COMPONENT, TYPE_AFTER_S, OPERATOR}
+use Rattle.cpp_grammar.specs.KindNumbers.{SYMBOL, NEST_REST_ALONE, COMPONENT, OPERATOR}
 use Rattle.cpp_grammar.specs.Grammar.{productions, number_of, number_of_kind, parts_of, is_chain}
 use Rattle.cpp_grammar.specs.Table.{rule_of, padded, wide, either}
-use Rattle.cpp_grammar.specs.Term.{instance, in_std, operator}
+use Rattle.cpp_grammar.specs.Term.{instance, operator}
 use Rattle.cpp_grammar.specs.Values.{State, Around, prefix_tree, prefix_listed, Value, nothing_there, text, tree, tree_of, piece_of, letter_of, is_there, part}
 use Rattle.cpp_grammar.specs.Values as leaf_
 use Rattle.cpp_grammar.specs.References.{appended, with_prefix}

@@ -14,6 +14,7 @@ pub mod References
 pub mod Between
 pub mod Meaning
 pub mod Unfolding
+pub mod Rescoping
 pub mod Joined
 pub mod Texts
 pub mod Items

@@ -7,6 +7,7 @@ use Rattle.sym_demangle.specs.Mangled.{Mangled}
 use Rattle.cpp_grammar.specs.Table.{abi, wide}
 use Rattle.cpp_grammar.specs.TableLaws.{lawful, wide_lawful}
 use Rattle.cpp_grammar.specs.Term.{Term}
+use Rattle.cpp_grammar.specs.Rescoping.{unfold_wide}
 use Rattle.cpp_grammar.specs.Unfolding.{unfold_cpp}
 use Rattle.cpp_grammar.specs.Answer.{shown, root_item}
 
@@ -15,7 +16,7 @@ cpp_mangled = record { table = abi; unfolded = unfold_cpp; shown = λ detail t. 
 
 -- the same over the wide grammar: what a tree stands for, and how that is shown, is said once
 abbrev pub wide_mangled : Mangled Term
-wide_mangled = record { table = wide; unfolded = unfold_cpp; shown = λ detail t. shown detail (root_item t); lawful = wide_lawful }
+wide_mangled = record { table = wide; unfolded = unfold_wide; shown = λ detail t. shown detail (root_item t); lawful = wide_lawful }
 
 -- what a symbol reads as, and the answer to it
 abbrev pub IsReading : List ℕ → Result Term Refusal → Type 0

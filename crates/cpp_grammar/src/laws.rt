@@ -1,6 +1,5 @@
 // What holds of every C++ symbol.
 ghost use Rattle.std.specs.Prelude.{◌≤◌, ◌≡◌, ◌↔◌, ℕ, List, length, Result, Ok};
-ghost use Rattle.sym_core.specs.declared.refusal.Refusal.{Refusal};
 ghost use Rattle.sym_print.specs.declared.detail.Detail.{Detail};
 ghost use Rattle.sym_print.specs.Unfold.{RanksBelow};
 ghost use Rattle.sym_shape.specs.Decided.{AreBytes};
@@ -21,6 +20,7 @@ ghost use Rattle.cpp_grammar.specs.Parts.{parts};
 ghost use Rattle.cpp_grammar.specs.Ranks.{rank};
 ghost use Rattle.cpp_grammar.specs.Table.{abi, abi_before, either, wide};
 ghost use Rattle.cpp_grammar.specs.Term.{Term};
+ghost use Rattle.cpp_grammar.specs.Rescoping.{unfold_wide};
 ghost use Rattle.cpp_grammar.specs.Unfolding.{unfold_cpp};
 ghost use Rattle.cpp_grammar.specs.Widened.{widened};
 
@@ -91,17 +91,24 @@ pub fn joined_symbols_stay()
     ensures refusals { (s : List ℕ) (at : ℕ) → IsMalformed abi_joined s at ↔ IsMalformed abi s at }
 {}
 
-/// What a symbol that is well shaped in [`Abi`](crate::Abi) reads as, a refusal too, it reads as in [`Wide`](crate::Wide), and its
-/// answer is the same there.
+/// The reading of the wide grammar differs from that of the ABI's grammar in what that refuses alone: a lambda's signature may name
+/// the lambda's own parameters, and a substitution a tree whose parameter isn't meant where it stands. What a shape stands for by
+/// the one it stands for by the other.
+pub fn abi_meanings_stay()
+    ensures { (shape : Tree) (t : Term) → unfold_cpp shape ≡ Ok t → unfold_wide shape ≡ Ok t }
+{}
+
+/// The tree that a symbol stands for in [`Abi`](crate::Abi) it stands for in [`Wide`](crate::Wide) too, and its answer is the same
+/// there. What is refused for a reference may be read there.
 pub fn abi_answers_stay()
-    ensures reads { (s : List ℕ) (result : Result Term Refusal) → StandsFor cpp_mangled s result → StandsFor wide_mangled s result }
-    ensures answers { (detail : Detail) (s : List ℕ) (limit : ℕ) → AreBytes s → IsWellShaped abi s → answer wide_mangled detail s limit ≡ answer cpp_mangled detail s limit }
+    ensures reads { (s : List ℕ) (t : Term) → StandsFor cpp_mangled s (Ok t) → StandsFor wide_mangled s (Ok t) }
+    ensures answers { (detail : Detail) (s : List ℕ) (limit : ℕ) (t : Term) → AreBytes s → StandsFor cpp_mangled s (Ok t) → answer wide_mangled detail s limit ≡ answer cpp_mangled detail s limit }
     ensures texts { (detail : Detail) (s text : List ℕ) (limit : ℕ) → IsAnswer cpp_mangled detail s limit (Ok text) → IsAnswer wide_mangled detail s limit (Ok text) }
 {}
 
 /// In the tree that a symbol stands for, the arguments that are the scope of an encoding have no free parameters.
 pub fn scopes_are_closed()
-    ensures wide { (shape : Tree) (t : Term) → IsTree wide (Kind 0) shape → unfold_cpp shape ≡ Ok t → ScopesAreClosed t }
+    ensures wide { (shape : Tree) (t : Term) → IsTree wide (Kind 0) shape → unfold_wide shape ≡ Ok t → ScopesAreClosed t }
     ensures abi { (shape : Tree) (t : Term) → IsTree abi (Kind 0) shape → unfold_cpp shape ≡ Ok t → ScopesAreClosed t }
 {}
 

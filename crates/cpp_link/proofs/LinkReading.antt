@@ -32,6 +32,10 @@ use Rattle.cpp_term.specs.Between.{between, in_signature, no_items}
 use Rattle.cpp_term.specs.Meaning.{parameters, meaning}
 use Rattle.cpp_term.specs.Unfolding.{number_tested, opening, behind, close, cpp, first_around, first_state}
 use Rattle.cpp_link.specs.Numbered.{is_numbered}
+use Rattle.cpp_grammar.proofs.Ways.{is_reference}
+use Rattle.cpp_term.specs.Rescoping.{close_wide, cpp_wide}
+use Rattle.cpp_term.proofs.NotedWays.{NotedWay, reading_noted_by, IsPlainNoted, abi_noted, wide_noted, abi_is_noted, wide_is_noted}
+use Rattle.cpp_link.specs.LinkRescoping.{link_close_wide, linked_wide}
 use Rattle.cpp_link.specs.LinkReading.{in_64_bits, link_meaning, link_close, link_begin, linked}
 use Rattle.cpp_link.proofs.Endings.{opens_plain, last_behind}
 use Rattle.cpp_link.proofs.SameReadings.{BeginsSame, ClosesSame, tree_same}
@@ -98,18 +102,6 @@ unfolding either_choose wide_alternatives either_alternatives pick kinds
 suffix_rule kind in_front rule taken takes = chosen_byte _ rule (sym (either_rule_at SUFFIX_FIRST Kind.SuffixFirst takes.byte refl) ∙ takes.found)
 suffix_rule kind behind_it rule taken takes = chosen_byte _ rule (sym (either_rule_at SUFFIX_MORE Kind.SuffixMore takes.byte refl) ∙ takes.found)
 
--- the bytes of a suffix, in one value
-record SuffixRead (around : Around) (place : ℕ) (tree : Tree) (state : State) : Type 0 where
-  value : Value
-  is : unfold_tree cpp around place tree state ≡ Ok (found (value ∷ []) state)
-  text_is : text_of value ≡ spell tree
-
-byte_read : (byte place : ℕ) (around : Around) (inner : Tree) (state : State) (v : Value) → unfold_tree cpp around (place + 1) inner state ≡ Ok (found (v ∷ []) state)
-    → unfold_tree cpp around place (branch (rule_of Production.SuffixByte) (byte ∷ []) (grown inner nothing)) state ≡ Ok (found (text (byte ∷ text_of v) ∷ []) state)
-unfolding cpp opening between close behind meaning production_at productions rule_of number_of byte_of part text_of
-byte_read byte place around inner state v is =
-    ap (λ m. (m >>= λ one. Ok (found one.value one.state)) >>= λ all. close Production.SuffixByte byte around place state all.value all.state >>= alone) is
-
 takes_byte : (byte : ℕ) (rule : Rule) (taken : List ℕ) (p : Production) → rule ≡ rule_of p → is_chain p ≡ false → taken ≡ (if rule.eats then byte ∷ [] else []) → taken ≡ byte ∷ []
 unfolding rule_of
 takes_byte byte rule taken p is chain takes = takes ∙ ap (λ (r : Rule). if r.eats then byte ∷ [] else []) is ∙ ap (λ b. if not b then byte ∷ [] else []) chain
@@ -121,37 +113,6 @@ suffix_chain = refl
 suffix_parts : (rule : Rule) (parts : Forest) → rule ≡ rule_of Production.SuffixByte → AreTrees either (symbols_of rule) parts → AreTrees either (OfKind SUFFIX_MORE ∷ []) parts
 unfolding parts_of number_of_kind
 suffix_parts rule parts is trees = subst (λ ss. AreTrees either ss parts) (ap symbols_of is ∙ its_symbols Production.SuffixByte) trees
-
-suffix_read : (kind : ℕ) → OfSuffix kind → (tree : Tree) (around : Around) (place : ℕ) (state : State) → IsTree either (OfKind kind) tree → SuffixRead around place tree state
-unfolding cpp text_of
-suffix_read kind one empty around place state is = record { value = nothing_there; is = refl; text_is = refl }
-suffix_read kind one (token t) around place state is = absurd is
-suffix_read kind one (fixed byte) around place state is = absurd is
-suffix_read kind one (branch rule taken nothing) around place state is = absurd (suffix_parts rule nothing (suffix_rule kind one rule taken is.0) is.1)
-suffix_read kind one (branch rule taken (grown inner (grown second rest))) around place state is =
-    absurd (suffix_parts rule (grown inner (grown second rest)) (suffix_rule kind one rule taken is.0) is.1).1
-suffix_read kind one (branch rule taken (grown inner nothing)) around place state is =
-    let same = suffix_rule kind one rule taken is.0 in
-    let eaten : taken ≡ is.0.byte ∷ [] = takes_byte is.0.byte rule taken Production.SuffixByte same suffix_chain is.0.takes in
-    let read = suffix_read SUFFIX_MORE behind_it inner around (place + 1) state (suffix_parts rule (grown inner nothing) same is.1).0 in
-    record {
-      value = text (is.0.byte ∷ text_of read.value);
-      is = ap (λ r. unfold_tree cpp around place (branch r taken (grown inner nothing)) state) same
-          ∙ ap (λ b. unfold_tree cpp around place (branch (rule_of Production.SuffixByte) b (grown inner nothing)) state) eaten
-          ∙ byte_read is.0.byte place around inner state read.value read.is;
-      text_is = ap (λ x. is.0.byte ∷ x) (read.text_is ∙ sym (append-nil (spell inner))) ∙ ap (λ x. x ++ (spell inner ++ [])) (sym eaten);
-    }
-
--- ## The four productions
-
--- the rule closes to what C++'s reading closes it to
-abbrev ClosesRule : List ℕ → Production → Type 0
-ClosesRule s p =
-    (kind : ℕ) (taken : List ℕ) (parts : Forest) (place : ℕ) (context : Around) (before begun : State) (inner : Found (List Value) State) (rest : List ℕ)
-    → TakesRule either kind (rule_of p) taken → AreTrees either (parts_of p) parts → drop place s ≡ taken ++ (spell_all parts ++ rest)
-    → cpp.begin (standing (rule_of p) taken place context before) parts ≡ Ok begun
-    → unfold_forest cpp (standing (rule_of p) taken place context before) [] (place + length taken) parts begun ≡ Ok inner
-    → (linked s).close (standing (rule_of p) taken place context before) inner.value inner.state ≡ cpp.close (standing (rule_of p) taken place context before) inner.value inner.state
 
 -- the bytes of a suffix from its place on
 suffix_there : (xs t rest : List ℕ) (byte : ℕ) → xs ≡ (byte ∷ []) ++ ((t ++ []) ++ rest) → take (length t + 1) xs ≡ byte ∷ t
@@ -173,100 +134,13 @@ state_of_tally t = t.state
 values_same : (f g : Found (List Value) State) → ◌≡◌ {A = Result (Found (List Value) State) Refusal} (Ok f) (Ok g) → g.value ≡ f.value
 values_same f g is = ap (λ (h : Found (List Value) State). h.value) (sym (ok_is f g is))
 
-suffix_forest : (p : Production) (taken : List ℕ) (place at : ℕ) (context : Around) (before begun : State) (inner : Found (List Value) State) (v : Value) (tree : Tree)
-    → p ≡ Production.Suffix ⊎ p ≡ Production.SuffixByte
-    → unfold_tree cpp context at tree begun ≡ Ok (found (v ∷ []) begun)
-    → unfold_forest cpp (standing (rule_of p) taken place context before) [] at (grown tree nothing) begun ≡ Ok inner → inner.value ≡ v ∷ []
-unfolding cpp between production_at productions rule_of number_of
-suffix_forest Production.Suffix taken place at context before begun inner v tree one read is =
-    values_same (found (v ∷ []) begun) inner (sym (ap (λ m. m >>= λ one. Ok (found one.value one.state)) read) ∙ is)
-suffix_forest Production.SuffixByte taken place at context before begun inner v tree one read is =
-    values_same (found (v ∷ []) begun) inner (sym (ap (λ m. m >>= λ one. Ok (found one.value one.state)) read) ∙ is)
-suffix_forest p taken place at context before begun inner v tree (inl same) read is = absurd cc
-suffix_forest p taken place at context before begun inner v tree (inr same) read is = absurd cc
-
-suffix_closes : (s : List ℕ) → ClosesRule s Production.Suffix
-unfolding cpp link_close link_meaning close behind meaning production_at productions rule_of number_of byte_of parts_of number_of_kind is_chain
-suffix_closes s kind taken (grown tree nothing) place context before begun inner rest takes trees at is_begun is_inner =
-    let eaten : taken ≡ takes.byte ∷ [] = takes_byte takes.byte (rule_of Production.Suffix) taken Production.Suffix refl refl takes.takes in
-    let read = suffix_read SUFFIX_FIRST in_front tree context (place + length taken) begun trees.0 in
-    let values = suffix_forest Production.Suffix taken place (place + length taken) context before begun inner read.value tree (inl refl) read.is is_inner in
-    let there : drop place s ≡ (takes.byte ∷ []) ++ ((spell tree ++ []) ++ rest) = at ∙ ap (λ b. b ++ ((spell tree ++ []) ++ rest)) eaten in
-    let first : byte_of taken ≡ takes.byte = ap byte_of eaten in
-    ap (λ v. Ok (found v inner.state)) (text_closes s takes.byte place context before begun inner read.value (spell tree) rest values read.text_is there
-    ∙ ap (λ b. text (b ∷ text_of (part inner.value 0))) (sym first))
-suffix_closes s kind taken nothing place context before begun inner rest takes trees at is_begun is_inner = absurd trees
-suffix_closes s kind taken (grown tree (grown second others)) place context before begun inner rest takes trees at is_begun is_inner = absurd trees.1
-
-byte_closes : (s : List ℕ) → ClosesRule s Production.SuffixByte
-unfolding cpp link_close link_meaning close behind meaning production_at productions rule_of number_of byte_of parts_of number_of_kind is_chain
-byte_closes s kind taken (grown tree nothing) place context before begun inner rest takes trees at is_begun is_inner =
-    let eaten : taken ≡ takes.byte ∷ [] = takes_byte takes.byte (rule_of Production.SuffixByte) taken Production.SuffixByte refl refl takes.takes in
-    let read = suffix_read SUFFIX_MORE behind_it tree context (place + length taken) begun trees.0 in
-    let values = suffix_forest Production.SuffixByte taken place (place + length taken) context before begun inner read.value tree (inr refl) read.is is_inner in
-    let there : drop place s ≡ (takes.byte ∷ []) ++ ((spell tree ++ []) ++ rest) = at ∙ ap (λ b. b ++ ((spell tree ++ []) ++ rest)) eaten in
-    let first : byte_of taken ≡ takes.byte = ap byte_of eaten in
-    ap (λ v. Ok (found v inner.state)) (text_closes s takes.byte place context before begun inner read.value (spell tree) rest values read.text_is there
-    ∙ ap (λ b. text (b ∷ text_of (part inner.value 0))) (sym first))
-byte_closes s kind taken nothing place context before begun inner rest takes trees at is_begun is_inner = absurd trees
-byte_closes s kind taken (grown tree (grown second others)) place context before begun inner rest takes trees at is_begun is_inner = absurd trees.1
-
--- an unnamed type
-unnamed_closes : (s : List ℕ) → ClosesRule s Production.Unnamed
-unfolding cpp opening between link_close link_meaning close behind meaning production_at productions rule_of number_of last_token part text_of parts_of
-unnamed_closes s kind taken (grown (token t) nothing) place context before begun inner rest takes trees at is_begun is_inner =
-    let less : nat_lt (local_number t.own) (2 ^ 64) ≡ true = number_less (place - 1) t.own before begun is_begun in
-    let values : inner.value ≡ text t.own ∷ [] = values_same (found (text t.own ∷ []) begun) inner is_inner in
-    rw values (ap (λ n. Ok (found (piece (unnamed n)) inner.state)) (within_64 (local_number t.own) less))
-unnamed_closes s kind taken (grown (branch r x i) nothing) place context before begun inner rest takes trees at is_begun is_inner = absurd trees.0
-unnamed_closes s kind taken (grown empty nothing) place context before begun inner rest takes trees at is_begun is_inner = absurd trees.0
-unnamed_closes s kind taken (grown (fixed b) nothing) place context before begun inner rest takes trees at is_begun is_inner = absurd trees.0
-unnamed_closes s kind taken nothing place context before begun inner rest takes trees at is_begun is_inner = absurd trees
-unnamed_closes s kind taken (grown tree (grown second others)) place context before begun inner rest takes trees at is_begun is_inner = absurd trees.1
-
 -- a lambda
 abbrev lambda_open : (taken : List ℕ) (place : ℕ) → Around → State → Open State Around
 lambda_open taken place context before = standing (rule_of Production.Lambda) taken place context before
 
--- what a tree comes to is one value
-one_value : (tree : Tree) (context : Around) (place : ℕ) (state : State) (one : Found (List Value) State) → unfold_tree cpp context place tree state ≡ Ok one
-    → (v : Value) × (one.value ≡ v ∷ [])
-unfolding cpp
-one_value empty context place state one is = (nothing_there, values_same (found (nothing_there ∷ []) state) one is)
-one_value (fixed b) context place state one is = (nothing_there, values_same (found (nothing_there ∷ []) state) one is)
-one_value (token t) context place state one is = (text t.own, values_same (found (text t.own ∷ []) state) one is)
-one_value (branch rule taken parts) context place state one is =
-    let o = standing rule taken place context state in
-    let begun = both_ok (cpp.begin o parts) (λ b. unfold_forest cpp o [] (place + length taken) parts b >>= λ inner. cpp.close o inner.value inner.state >>= alone) one is in
-    let inner = both_ok (unfold_forest cpp o [] (place + length taken) parts begun.0) (λ i. cpp.close o i.value i.state >>= alone) one begun.2 in
-    let whole = both_ok (cpp.close o inner.0.value inner.0.state) alone one inner.2 in
-    (whole.0.value, values_same (found (whole.0.value ∷ []) whole.0.state) one whole.2)
-
--- one part of a lambda behind the values of those before it
-lambda_part : (taken : List ℕ) (place : ℕ) (context : Around) (before : State) (known : List Value) (at : ℕ) (first : Tree) (rest : Forest) (state : State) (inner : Found (List Value) State)
-    → unfold_forest cpp (lambda_open taken place context before) known at (grown first rest) state ≡ Ok inner
-    → (v : Value) × (after : State) × (unfold_forest cpp (lambda_open taken place context before) (known ++ v ∷ []) (at + length (spell first)) rest after ≡ Ok inner)
-unfolding cpp between production_at productions rule_of number_of
-lambda_part taken place context before known at first rest state inner is =
-    let o = lambda_open taken place context before in
-    let part_is = both_ok (unfold_tree cpp (in_signature context) at first state) (λ one. unfold_forest cpp o (known ++ one.value) (at + length (spell first)) rest one.state) inner is in
-    let one = one_value first (in_signature context) at state part_is.0 part_is.1 in
-    (one.0, part_is.0.state, ap (λ vs. unfold_forest cpp o (known ++ vs) (at + length (spell first)) rest part_is.0.state) (sym one.1) ∙ part_is.2)
-
 fourth : (vs : List Value) (x y z : Value) (own : List ℕ) → vs ≡ x ∷ y ∷ z ∷ text own ∷ [] → text_of (part vs 3) ≡ own
 unfolding part text_of
 fourth vs x y z own is = ap (λ us. text_of (part us 3)) is
-
-lambda_values : (taken : List ℕ) (place : ℕ) (context : Around) (before begun : State) (at : ℕ) (a b c : Tree) (t : Token) (inner : Found (List Value) State)
-    → unfold_forest cpp (lambda_open taken place context before) [] at (grown a (grown b (grown c (grown (token t) nothing)))) begun ≡ Ok inner
-    → text_of (part inner.value 3) ≡ t.own
-unfolding cpp between production_at productions rule_of number_of
-lambda_values taken place context before begun at a b c t inner is =
-    let x = lambda_part taken place context before [] at a (grown b (grown c (grown (token t) nothing))) begun inner is in
-    let y = lambda_part taken place context before (x.0 ∷ []) (at + length (spell a)) b (grown c (grown (token t) nothing)) x.1 inner x.2 in
-    let z = lambda_part taken place context before (x.0 ∷ y.0 ∷ []) (at + length (spell a) + length (spell b)) c (grown (token t) nothing) y.1 inner y.2 in
-    let values : inner.value ≡ x.0 ∷ y.0 ∷ z.0 ∷ text t.own ∷ [] = values_same (found (x.0 ∷ y.0 ∷ z.0 ∷ text t.own ∷ []) z.1) inner z.2 in
-    fourth inner.value x.0 y.0 z.0 t.own values
 
 last_of : (a b c : Tree) (t : Token) → last_token (grown a (grown b (grown c (grown (token t) nothing)))) [] ≡ t.own
 unfolding last_token
@@ -274,44 +148,224 @@ last_of a b c t =
     last_behind a (grown b (grown c (grown (token t) nothing))) t.own []
     (λ ds. last_behind b (grown c (grown (token t) nothing)) t.own ds (λ es. last_behind c (grown (token t) nothing) t.own es (λ fs. refl)))
 
-lambda_closes : (s : List ℕ) → ClosesRule s Production.Lambda
-unfolding cpp opening link_close link_meaning close behind meaning production_at productions rule_of number_of last_token parts_of number_of_kind
-lambda_closes s kind taken (grown a (grown b (grown c (grown (token t) nothing)))) place context before begun inner rest takes trees at is_begun is_inner =
-    let own : text_of (part inner.value 3) ≡ t.own = lambda_values taken place context before begun (place + length taken) a b c t inner is_inner in
-    let last : last_token (grown a (grown b (grown c (grown (token t) nothing)))) [] ≡ t.own = last_of a b c t in
-    let less : nat_lt (local_number (text_of (part inner.value 3))) (2 ^ 64) ≡ true =
-    ap (λ ds. nat_lt (local_number ds) (2 ^ 64)) (own ∙ sym last) ∙ number_less (place - 1) _ before begun is_begun in
-    ap (λ n. Ok (found (piece (lambda (parameters (list (tree_of (part inner.value 0)) (no_items (part inner.value 1)))) n)) inner.state)) (within_64 (local_number (text_of (part inner.value 3))) less)
-lambda_closes s kind taken (grown a (grown b (grown c (grown (branch r x i) nothing)))) place context before begun inner rest takes trees at is_begun is_inner = absurd trees.1.1.1.0
-lambda_closes s kind taken (grown a (grown b (grown c (grown empty nothing)))) place context before begun inner rest takes trees at is_begun is_inner = absurd trees.1.1.1.0
-lambda_closes s kind taken (grown a (grown b (grown c (grown (fixed d) nothing)))) place context before begun inner rest takes trees at is_begun is_inner = absurd trees.1.1.1.0
-lambda_closes s kind taken (grown a (grown b (grown c (grown d (grown e others))))) place context before begun inner rest takes trees at is_begun is_inner = absurd trees.1.1.1.1
-lambda_closes s kind taken (grown a (grown b (grown c nothing))) place context before begun inner rest takes trees at is_begun is_inner = absurd trees.1.1.1
-lambda_closes s kind taken (grown a (grown b nothing)) place context before begun inner rest takes trees at is_begun is_inner = absurd trees.1.1
-lambda_closes s kind taken (grown a nothing) place context before begun inner rest takes trees at is_begun is_inner = absurd trees.1
-lambda_closes s kind taken nothing place context before begun inner rest takes trees at is_begun is_inner = absurd trees
+-- the rule closes to what C++'s reading closes it to
+abbrev ClosesRule : NotedWay → List ℕ → Production → Type 0
+ClosesRule way s p =
+    (kind : ℕ) (taken : List ℕ) (parts : Forest) (place : ℕ) (context : Around) (before begun : State) (inner : Found (List Value) State) (rest : List ℕ)
+    → TakesRule either kind (rule_of p) taken → AreTrees either (parts_of p) parts → drop place s ≡ taken ++ (spell_all parts ++ rest)
+    → cpp.begin (standing (rule_of p) taken place context before) parts ≡ Ok begun
+    → unfold_forest (reading_noted_by way) (standing (rule_of p) taken place context before) [] (place + length taken) parts begun ≡ Ok inner
+    → (linked s).close (standing (rule_of p) taken place context before) inner.value inner.state ≡ cpp.close (standing (rule_of p) taken place context before) inner.value inner.state
 
-numbered_plain : (p : Production) → is_plain p ≡ false → (s : List ℕ) → ClosesRule s p
-unfolding is_plain
-numbered_plain Production.Suffix other s = suffix_closes s
-numbered_plain Production.SuffixByte other s = byte_closes s
-numbered_plain Production.Lambda other s = lambda_closes s
-numbered_plain Production.Unnamed other s = unnamed_closes s
-numbered_plain _ other s = absurd (true≢false other)
+-- ## The four productions, by either reading
+
+module _ (way : NotedWay) (plain_way : IsPlainNoted way) where
+  -- before a part of a production of no reference the same is done
+  plain_step : (rule : Open State Around) (p : Production) → production_at rule.rule.number ≡ p → is_reference p ≡ false → (known : List Value) (at : ℕ) (first : Tree) (rest : Forest) (state : State)
+      → unfold_forest (reading_noted_by way) rule known at (grown first rest) state
+      ≡ (between p rule.context rule.place known state >>= λ next. unfold_tree (reading_noted_by way) next.context at first next.state
+      >>= λ one. unfold_forest (reading_noted_by way) rule (next.values ++ one.value) (at + length (spell first)) rest one.state)
+  unfolding cpp reading_noted_by
+  plain_step rule p number apart known at first rest state =
+      ap (λ m. m >>= λ next. unfold_tree (reading_noted_by way) next.context at first next.state
+      >>= λ one. unfold_forest (reading_noted_by way) rule (next.values ++ one.value) (at + length (spell first)) rest one.state)
+      (ap (λ q. way.between q rule.context rule.place known state) number ∙ plain_way.between p apart rule.context rule.place known state)
+
+  -- the bytes of a suffix, in one value
+  record SuffixRead (around : Around) (place : ℕ) (tree : Tree) (state : State) : Type 0 where
+    value : Value
+    is : unfold_tree (reading_noted_by way) around place tree state ≡ Ok (found (value ∷ []) state)
+    text_is : text_of value ≡ spell tree
+
+  byte_read : (byte place : ℕ) (around : Around) (inner : Tree) (state : State) (v : Value) → unfold_tree (reading_noted_by way) around (place + 1) inner state ≡ Ok (found (v ∷ []) state)
+      → unfold_tree (reading_noted_by way) around place (branch (rule_of Production.SuffixByte) (byte ∷ []) (grown inner nothing)) state ≡ Ok (found (text (byte ∷ text_of v) ∷ []) state)
+  unfolding is_reference cpp reading_noted_by opening between close behind meaning production_at productions rule_of number_of byte_of part text_of
+  byte_read byte place around inner state v is =
+      let closes : Found (List Value) State → Result (Found (List Value) State) Refusal = λ all. way.close Production.SuffixByte byte around place state all.value all.state >>= alone in
+      ap (λ m. m >>= closes) (plain_step (standing (rule_of Production.SuffixByte) (byte ∷ []) place around state) Production.SuffixByte refl refl [] (place + 1) inner nothing state)
+      ∙ ap (λ m. (m >>= λ one. Ok (found one.value one.state)) >>= closes) is
+      ∙ ap (λ m. m >>= alone) (plain_way.close Production.SuffixByte refl byte around place state (v ∷ []) state)
+
+  suffix_read : (kind : ℕ) → OfSuffix kind → (tree : Tree) (around : Around) (place : ℕ) (state : State) → IsTree either (OfKind kind) tree → SuffixRead around place tree state
+  unfolding cpp reading_noted_by text_of
+  suffix_read kind one empty around place state is = record { value = nothing_there; is = refl; text_is = refl }
+  suffix_read kind one (token t) around place state is = absurd is
+  suffix_read kind one (fixed byte) around place state is = absurd is
+  suffix_read kind one (branch rule taken nothing) around place state is = absurd (suffix_parts rule nothing (suffix_rule kind one rule taken is.0) is.1)
+  suffix_read kind one (branch rule taken (grown inner (grown second rest))) around place state is =
+      absurd (suffix_parts rule (grown inner (grown second rest)) (suffix_rule kind one rule taken is.0) is.1).1
+  suffix_read kind one (branch rule taken (grown inner nothing)) around place state is =
+      let same = suffix_rule kind one rule taken is.0 in
+      let eaten : taken ≡ is.0.byte ∷ [] = takes_byte is.0.byte rule taken Production.SuffixByte same suffix_chain is.0.takes in
+      let read = suffix_read SUFFIX_MORE behind_it inner around (place + 1) state (suffix_parts rule (grown inner nothing) same is.1).0 in
+      record {
+        value = text (is.0.byte ∷ text_of read.value);
+        is = ap (λ r. unfold_tree (reading_noted_by way) around place (branch r taken (grown inner nothing)) state) same
+            ∙ ap (λ b. unfold_tree (reading_noted_by way) around place (branch (rule_of Production.SuffixByte) b (grown inner nothing)) state) eaten
+            ∙ byte_read is.0.byte place around inner state read.value read.is;
+        text_is = ap (λ x. is.0.byte ∷ x) (read.text_is ∙ sym (append-nil (spell inner))) ∙ ap (λ x. x ++ (spell inner ++ [])) (sym eaten);
+      }
+
+  suffix_forest : (p : Production) (taken : List ℕ) (place at : ℕ) (context : Around) (before begun : State) (inner : Found (List Value) State) (v : Value) (tree : Tree)
+      → p ≡ Production.Suffix ⊎ p ≡ Production.SuffixByte
+      → unfold_tree (reading_noted_by way) context at tree begun ≡ Ok (found (v ∷ []) begun)
+      → unfold_forest (reading_noted_by way) (standing (rule_of p) taken place context before) [] at (grown tree nothing) begun ≡ Ok inner → inner.value ≡ v ∷ []
+  unfolding is_reference cpp reading_noted_by between production_at productions rule_of number_of
+  suffix_forest Production.Suffix taken place at context before begun inner v tree one read is =
+      values_same (found (v ∷ []) begun) inner (sym (plain_step (standing (rule_of Production.Suffix) taken place context before) Production.Suffix refl refl [] at tree nothing begun ∙ ap (λ m. m >>= λ one. Ok (found one.value one.state)) read) ∙ is)
+  suffix_forest Production.SuffixByte taken place at context before begun inner v tree one read is =
+      values_same (found (v ∷ []) begun) inner (sym (plain_step (standing (rule_of Production.SuffixByte) taken place context before) Production.SuffixByte refl refl [] at tree nothing begun ∙ ap (λ m. m >>= λ one. Ok (found one.value one.state)) read) ∙ is)
+  suffix_forest p taken place at context before begun inner v tree (inl same) read is = absurd cc
+  suffix_forest p taken place at context before begun inner v tree (inr same) read is = absurd cc
+
+  suffix_closes : (s : List ℕ) → ClosesRule way s Production.Suffix
+  unfolding cpp reading_noted_by link_close link_meaning close behind meaning production_at productions rule_of number_of byte_of parts_of number_of_kind is_chain
+  suffix_closes s kind taken (grown tree nothing) place context before begun inner rest takes trees at is_begun is_inner =
+      let eaten : taken ≡ takes.byte ∷ [] = takes_byte takes.byte (rule_of Production.Suffix) taken Production.Suffix refl refl takes.takes in
+      let read = suffix_read SUFFIX_FIRST in_front tree context (place + length taken) begun trees.0 in
+      let values = suffix_forest Production.Suffix taken place (place + length taken) context before begun inner read.value tree (inl refl) read.is is_inner in
+      let there : drop place s ≡ (takes.byte ∷ []) ++ ((spell tree ++ []) ++ rest) = at ∙ ap (λ b. b ++ ((spell tree ++ []) ++ rest)) eaten in
+      let first : byte_of taken ≡ takes.byte = ap byte_of eaten in
+      ap (λ v. Ok (found v inner.state)) (text_closes s takes.byte place context before begun inner read.value (spell tree) rest values read.text_is there
+      ∙ ap (λ b. text (b ∷ text_of (part inner.value 0))) (sym first))
+  suffix_closes s kind taken nothing place context before begun inner rest takes trees at is_begun is_inner = absurd trees
+  suffix_closes s kind taken (grown tree (grown second others)) place context before begun inner rest takes trees at is_begun is_inner = absurd trees.1
+
+  byte_closes : (s : List ℕ) → ClosesRule way s Production.SuffixByte
+  unfolding cpp reading_noted_by link_close link_meaning close behind meaning production_at productions rule_of number_of byte_of parts_of number_of_kind is_chain
+  byte_closes s kind taken (grown tree nothing) place context before begun inner rest takes trees at is_begun is_inner =
+      let eaten : taken ≡ takes.byte ∷ [] = takes_byte takes.byte (rule_of Production.SuffixByte) taken Production.SuffixByte refl refl takes.takes in
+      let read = suffix_read SUFFIX_MORE behind_it tree context (place + length taken) begun trees.0 in
+      let values = suffix_forest Production.SuffixByte taken place (place + length taken) context before begun inner read.value tree (inr refl) read.is is_inner in
+      let there : drop place s ≡ (takes.byte ∷ []) ++ ((spell tree ++ []) ++ rest) = at ∙ ap (λ b. b ++ ((spell tree ++ []) ++ rest)) eaten in
+      let first : byte_of taken ≡ takes.byte = ap byte_of eaten in
+      ap (λ v. Ok (found v inner.state)) (text_closes s takes.byte place context before begun inner read.value (spell tree) rest values read.text_is there
+      ∙ ap (λ b. text (b ∷ text_of (part inner.value 0))) (sym first))
+  byte_closes s kind taken nothing place context before begun inner rest takes trees at is_begun is_inner = absurd trees
+  byte_closes s kind taken (grown tree (grown second others)) place context before begun inner rest takes trees at is_begun is_inner = absurd trees.1
+
+  -- an unnamed type
+  unnamed_closes : (s : List ℕ) → ClosesRule way s Production.Unnamed
+  unfolding is_reference cpp reading_noted_by opening between link_close link_meaning close behind meaning production_at productions rule_of number_of last_token part text_of parts_of
+  unnamed_closes s kind taken (grown (token t) nothing) place context before begun inner rest takes trees at is_begun is_inner =
+      let less : nat_lt (local_number t.own) (2 ^ 64) ≡ true = number_less (place - 1) t.own before begun is_begun in
+      let values : inner.value ≡ text t.own ∷ [] = values_same (found (text t.own ∷ []) begun) inner
+      (sym (plain_step (standing (rule_of Production.Unnamed) taken place context before) Production.Unnamed refl refl [] (place + length taken) (token t) nothing begun) ∙ is_inner) in
+      rw values (ap (λ n. Ok (found (piece (unnamed n)) inner.state)) (within_64 (local_number t.own) less))
+  unnamed_closes s kind taken (grown (branch r x i) nothing) place context before begun inner rest takes trees at is_begun is_inner = absurd trees.0
+  unnamed_closes s kind taken (grown empty nothing) place context before begun inner rest takes trees at is_begun is_inner = absurd trees.0
+  unnamed_closes s kind taken (grown (fixed b) nothing) place context before begun inner rest takes trees at is_begun is_inner = absurd trees.0
+  unnamed_closes s kind taken nothing place context before begun inner rest takes trees at is_begun is_inner = absurd trees
+  unnamed_closes s kind taken (grown tree (grown second others)) place context before begun inner rest takes trees at is_begun is_inner = absurd trees.1
+
+  -- what a tree comes to is one value
+  one_value : (tree : Tree) (context : Around) (place : ℕ) (state : State) (one : Found (List Value) State) → unfold_tree (reading_noted_by way) context place tree state ≡ Ok one
+      → (v : Value) × (one.value ≡ v ∷ [])
+  unfolding cpp reading_noted_by
+  one_value empty context place state one is = (nothing_there, values_same (found (nothing_there ∷ []) state) one is)
+  one_value (fixed b) context place state one is = (nothing_there, values_same (found (nothing_there ∷ []) state) one is)
+  one_value (token t) context place state one is = (text t.own, values_same (found (text t.own ∷ []) state) one is)
+  one_value (branch rule taken parts) context place state one is =
+      let o = standing rule taken place context state in
+      let begun = both_ok (cpp.begin o parts) (λ b. unfold_forest (reading_noted_by way) o [] (place + length taken) parts b >>= λ inner. (reading_noted_by way).close o inner.value inner.state >>= alone) one is in
+      let inner = both_ok (unfold_forest (reading_noted_by way) o [] (place + length taken) parts begun.0) (λ i. (reading_noted_by way).close o i.value i.state >>= alone) one begun.2 in
+      let whole = both_ok ((reading_noted_by way).close o inner.0.value inner.0.state) alone one inner.2 in
+      (whole.0.value, values_same (found (whole.0.value ∷ []) whole.0.state) one whole.2)
+
+  -- one part of a lambda behind the values of those before it
+  lambda_part : (taken : List ℕ) (place : ℕ) (context : Around) (before : State) (known : List Value) (at : ℕ) (first : Tree) (rest : Forest) (state : State) (inner : Found (List Value) State)
+      → unfold_forest (reading_noted_by way) (lambda_open taken place context before) known at (grown first rest) state ≡ Ok inner
+      → (v : Value) × (after : State) × (unfold_forest (reading_noted_by way) (lambda_open taken place context before) (known ++ v ∷ []) (at + length (spell first)) rest after ≡ Ok inner)
+  unfolding is_reference cpp reading_noted_by between production_at productions rule_of number_of
+  lambda_part taken place context before known at first rest state inner is =
+      let o = lambda_open taken place context before in
+      let part_is = both_ok (unfold_tree (reading_noted_by way) (in_signature context) at first state) (λ one. unfold_forest (reading_noted_by way) o (known ++ one.value) (at + length (spell first)) rest one.state) inner
+      (sym (plain_step o Production.Lambda refl refl known at first rest state) ∙ is) in
+      let one = one_value first (in_signature context) at state part_is.0 part_is.1 in
+      (one.0, part_is.0.state, ap (λ vs. unfold_forest (reading_noted_by way) o (known ++ vs) (at + length (spell first)) rest part_is.0.state) (sym one.1) ∙ part_is.2)
+
+  lambda_values : (taken : List ℕ) (place : ℕ) (context : Around) (before begun : State) (at : ℕ) (a b c : Tree) (t : Token) (inner : Found (List Value) State)
+      → unfold_forest (reading_noted_by way) (lambda_open taken place context before) [] at (grown a (grown b (grown c (grown (token t) nothing)))) begun ≡ Ok inner
+      → text_of (part inner.value 3) ≡ t.own
+  unfolding is_reference cpp reading_noted_by between production_at productions rule_of number_of
+  lambda_values taken place context before begun at a b c t inner is =
+      let x = lambda_part taken place context before [] at a (grown b (grown c (grown (token t) nothing))) begun inner is in
+      let y = lambda_part taken place context before (x.0 ∷ []) (at + length (spell a)) b (grown c (grown (token t) nothing)) x.1 inner x.2 in
+      let z = lambda_part taken place context before (x.0 ∷ y.0 ∷ []) (at + length (spell a) + length (spell b)) c (grown (token t) nothing) y.1 inner y.2 in
+      let values : inner.value ≡ x.0 ∷ y.0 ∷ z.0 ∷ text t.own ∷ [] = values_same (found (x.0 ∷ y.0 ∷ z.0 ∷ text t.own ∷ []) z.1) inner
+      (sym (plain_step (lambda_open taken place context before) Production.Lambda refl refl (x.0 ∷ y.0 ∷ z.0 ∷ []) (at + length (spell a) + length (spell b) + length (spell c)) (token t) nothing z.1) ∙ z.2) in
+      fourth inner.value x.0 y.0 z.0 t.own values
+
+  lambda_closes : (s : List ℕ) → ClosesRule way s Production.Lambda
+  unfolding cpp reading_noted_by opening link_close link_meaning close behind meaning production_at productions rule_of number_of last_token parts_of number_of_kind
+  lambda_closes s kind taken (grown a (grown b (grown c (grown (token t) nothing)))) place context before begun inner rest takes trees at is_begun is_inner =
+      let own : text_of (part inner.value 3) ≡ t.own = lambda_values taken place context before begun (place + length taken) a b c t inner is_inner in
+      let last : last_token (grown a (grown b (grown c (grown (token t) nothing)))) [] ≡ t.own = last_of a b c t in
+      let less : nat_lt (local_number (text_of (part inner.value 3))) (2 ^ 64) ≡ true =
+      ap (λ ds. nat_lt (local_number ds) (2 ^ 64)) (own ∙ sym last) ∙ number_less (place - 1) _ before begun is_begun in
+      ap (λ n. Ok (found (piece (lambda (parameters (list (tree_of (part inner.value 0)) (no_items (part inner.value 1)))) n)) inner.state)) (within_64 (local_number (text_of (part inner.value 3))) less)
+  lambda_closes s kind taken (grown a (grown b (grown c (grown (branch r x i) nothing)))) place context before begun inner rest takes trees at is_begun is_inner = absurd trees.1.1.1.0
+  lambda_closes s kind taken (grown a (grown b (grown c (grown empty nothing)))) place context before begun inner rest takes trees at is_begun is_inner = absurd trees.1.1.1.0
+  lambda_closes s kind taken (grown a (grown b (grown c (grown (fixed d) nothing)))) place context before begun inner rest takes trees at is_begun is_inner = absurd trees.1.1.1.0
+  lambda_closes s kind taken (grown a (grown b (grown c (grown d (grown e others))))) place context before begun inner rest takes trees at is_begun is_inner = absurd trees.1.1.1.1
+  lambda_closes s kind taken (grown a (grown b (grown c nothing))) place context before begun inner rest takes trees at is_begun is_inner = absurd trees.1.1.1
+  lambda_closes s kind taken (grown a (grown b nothing)) place context before begun inner rest takes trees at is_begun is_inner = absurd trees.1.1
+  lambda_closes s kind taken (grown a nothing) place context before begun inner rest takes trees at is_begun is_inner = absurd trees.1
+  lambda_closes s kind taken nothing place context before begun inner rest takes trees at is_begun is_inner = absurd trees
+
+  numbered_plain : (p : Production) → is_plain p ≡ false → (s : List ℕ) → ClosesRule way s p
+  unfolding is_plain
+  numbered_plain Production.Suffix other s = suffix_closes s
+  numbered_plain Production.SuffixByte other s = byte_closes s
+  numbered_plain Production.Lambda other s = lambda_closes s
+  numbered_plain Production.Unnamed other s = unnamed_closes s
+  numbered_plain _ other s = absurd (true≢false other)
 
 -- each rule that stands in a symbol closes to the same
 pub closes_same : (s : List ℕ) → ClosesSame either s cpp (linked s).close
-unfolding cpp
+unfolding cpp reading_noted_by abi_noted
 closes_same s kind rule taken parts place context before begun inner rest known is at is_begun is_inner =
     let t = taken_rule kind rule taken known is.0 in
     let number : production_at rule.number ≡ t.production = ap (λ (r : Rule). production_at r.number) t.is ∙ at_number t.production in
     elim (cases_Bool (is_plain t.production)) [
       | inl plain ↦ plain_closes s (production_at rule.number) (byte_of taken) context place before inner.value inner.state (ap is_plain number ∙ plain)
       | inr other ↦ subst (λ r. Equal r) (sym t.is)
-          (numbered_plain t.production other s kind taken parts place context before begun inner rest
+          (numbered_plain abi_noted abi_is_noted.plain t.production other s kind taken parts place context before begun inner rest
           (subst (λ r. TakesRule either kind r taken) t.is is.0) (subst (λ ss. AreTrees either ss parts) (ap symbols_of t.is ∙ its_symbols t.production) is.1) at
           (subst (λ r. cpp.begin (standing r taken place context before) parts ≡ Ok begun) t.is is_begun)
           (subst (λ r. unfold_forest cpp (standing r taken place context before) [] (place + length taken) parts begun ≡ Ok inner) t.is is_inner))
+    ]
+  where
+    Equal : Rule → Type 0
+    Equal r = (linked s).close (standing r taken place context before) inner.value inner.state ≡ cpp.close (standing r taken place context before) inner.value inner.state
+
+-- and so it is by the wide grammar
+wide_plain_closes : (s : List ℕ) (p : Production) (byte : ℕ) (around : Around) (place : ℕ) (began : State) (vs : List Value) (state : State) → is_plain p ≡ true
+    → link_close_wide s p byte around place began vs state ≡ close_wide p byte around place began vs state
+unfolding link_close_wide close_wide
+wide_plain_closes s Production.Substitution byte around place began vs state plain = refl
+wide_plain_closes s p byte around place began vs state plain = plain_closes s p byte around place began vs state plain
+
+other_closes : (s : List ℕ) (p : Production) → is_plain p ≡ false → (byte : ℕ) (around : Around) (place : ℕ) (began : State) (vs : List Value) (state : State)
+    → link_close s p byte around place began vs state ≡ close p byte around place began vs state
+    → link_close_wide s p byte around place began vs state ≡ close_wide p byte around place began vs state
+unfolding is_plain link_close_wide close_wide
+other_closes s Production.Substitution other byte around place began vs state same = absurd (true≢false other)
+other_closes s p other byte around place began vs state same = same
+
+pub wide_closes_same : (s : List ℕ) → ClosesSame either s cpp_wide (linked_wide s).close
+unfolding cpp cpp_wide reading_noted_by wide_noted
+wide_closes_same s kind rule taken parts place context before begun inner rest known is at is_begun is_inner =
+    let t = taken_rule kind rule taken known is.0 in
+    let number : production_at rule.number ≡ t.production = ap (λ (r : Rule). production_at r.number) t.is ∙ at_number t.production in
+    elim (cases_Bool (is_plain t.production)) [
+      | inl plain ↦ wide_plain_closes s (production_at rule.number) (byte_of taken) context place before inner.value inner.state (ap is_plain number ∙ plain)
+      | inr other ↦ other_closes s (production_at rule.number) (ap is_plain number ∙ other) (byte_of taken) context place before inner.value inner.state
+          (subst (λ r. Equal r) (sym t.is)
+          (numbered_plain wide_noted wide_is_noted.plain t.production other s kind taken parts place context before begun inner rest
+          (subst (λ r. TakesRule either kind r taken) t.is is.0) (subst (λ ss. AreTrees either ss parts) (ap symbols_of t.is ∙ its_symbols t.production) is.1) at
+          (subst (λ r. cpp.begin (standing r taken place context before) parts ≡ Ok begun) t.is is_begun)
+          (subst (λ r. unfold_forest cpp_wide (standing r taken place context before) [] (place + length taken) parts begun ≡ Ok inner) t.is is_inner)))
     ]
   where
     Equal : Rule → Type 0
@@ -387,6 +441,10 @@ begins_same s more begins kind rule taken parts place context before rest known 
         sym (opens_plain (production_at rule.number) parts place before
         (begins_first s more kind rule taken (spell_all parts ++ rest) begins known is.0 (ap (λ n. drop n s) (sym here) ∙ at)))
 
+wide_begins_same : (s more : List ℕ) → s ≡ 95 ∷ more → BeginsSame either s cpp_wide link_begin
+unfolding cpp cpp_wide
+wide_begins_same s more begins = begins_same s more begins
+
 -- ## A symbol
 
 or_none : (x : Bool) → x || false ≡ true → x ≡ true
@@ -441,3 +499,37 @@ module _ (s : List ℕ) (shape : Tree) (is : IsTree either (OfKind SYMBOL) shape
     counted_same =
         tree_same either either_sound s (tallied cpp makes) (tallied (linked s) makes).begin (tallied (linked s) makes).close counts_begin counts_close (OfKind SYMBOL) first_around 0 shape (tally first_state 0) []
         either_sound.start is at_front
+
+-- And so it is by the wide grammar.
+module _ (s : List ℕ) (shape : Tree) (is : IsTree either (OfKind SYMBOL) shape) (spelled : spell shape ≡ s) where
+  abbrev wide_more : List ℕ
+  wide_more = (symbol_begins shape is).0
+
+  wide_begins : s ≡ 95 ∷ wide_more
+  wide_begins = sym spelled ∙ (symbol_begins shape is).1
+
+  wide_at_front : drop 0 s ≡ spell shape ++ []
+  wide_at_front = sym spelled ∙ sym (append-nil (spell shape))
+
+  pub wide_meaning_same : unfold_tree (linked_wide s) first_around 0 shape first_state ≡ unfold_tree cpp_wide first_around 0 shape first_state
+  wide_meaning_same = tree_same either either_sound s cpp_wide link_begin (linked_wide s).close (wide_begins_same s wide_more wide_begins) (wide_closes_same s) (OfKind SYMBOL) first_around 0 shape first_state [] either_sound.start is wide_at_front
+
+  module _ (makes : Makes Value State Around) where
+    wide_counts_begin : BeginsSame either s (tallied cpp_wide makes) (tallied (linked_wide s) makes).begin
+    wide_counts_begin kind rule taken parts place context before rest known tree at =
+        ap (λ m. m >>= λ state. Ok (tally state before.nodes)) (wide_begins_same s wide_more wide_begins kind rule taken parts place context before.state rest known tree at)
+
+    wide_counts_close : ClosesSame either s (tallied cpp_wide makes) (tallied (linked_wide s) makes).close
+    wide_counts_close kind rule taken parts place context before begun inner rest known tree at is_begun is_inner =
+        let o = standing rule taken place context before.state in
+        let first = both_ok (cpp_wide.begin o parts) (λ state. Ok (tally state before.nodes)) begun is_begun in
+        let state_is : first.0 ≡ begun.state = ap state_of_tally (ok_is (tally first.0 before.nodes) begun first.2) in
+        let all : unfold_forest cpp_wide o [] (place + length taken) parts begun.state ≡ Ok (found inner.value inner.state.state) =
+        sym (forest_untallied cpp_wide makes (standing rule taken place context before) [] (place + length taken) parts begun) ∙ ap (λ m. m >>= plain) is_inner in
+        ap (λ m. m >>= λ one. Ok (found one.value (tally one.state (inner.state.nodes + makes.at_end o inner.value inner.state.state))))
+        (wide_closes_same s kind rule taken parts place context before.state begun.state (found inner.value inner.state.state) rest known tree at (first.1 ∙ ap (λ st. Ok st) state_is) all)
+
+    pub wide_counted_same : unfold_tree (tallied (linked_wide s) makes) first_around 0 shape (tally first_state 0) ≡ unfold_tree (tallied cpp_wide makes) first_around 0 shape (tally first_state 0)
+    wide_counted_same =
+        tree_same either either_sound s (tallied cpp_wide makes) (tallied (linked_wide s) makes).begin (tallied (linked_wide s) makes).close wide_counts_begin wide_counts_close (OfKind SYMBOL) first_around 0 shape (tally first_state 0) []
+        either_sound.start is wide_at_front

@@ -9,7 +9,7 @@ use Rattle.cpp_term.specs.Values.{State, Value, Around}
 use Rattle.cpp_term.specs.References.{parameter_named}
 use Rattle.cpp_term.specs.Between.{between, named_so_far, listed_so_far, piece_so_far, tag_so_far, parameter_so_far, argument_at, index_of}
 
-parameter_counts : (around : Around) (place k : ℕ) (vs : List Value) (state : State) → IfOk (parameter_so_far around place k vs state) (λ next. length next.values ≡ suc (length vs))
+pub parameter_counts : (around : Around) (place k : ℕ) (vs : List Value) (state : State) → IfOk (parameter_so_far around place k vs state) (λ next. length next.values ≡ suc (length vs))
 unfolding parameter_so_far listed_so_far
 parameter_counts around place k vs state = go (parameter_named around place k state)
   where

@@ -72,6 +72,7 @@ makes_at_end Production.Tag known = name_at_end known
 makes_at_end Production.TypeTag known = name_at_end known
 makes_at_end Production.TaggedStdType known = name_at_end known
 makes_at_end Production.Lambda known = lambda_at_end known
+makes_at_end Production.Substitution known = 0
 makes_at_end p known = made_at_end p
 
 -- ## What a symbol makes

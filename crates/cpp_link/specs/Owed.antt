@@ -101,6 +101,7 @@ made_at_end Production.Clone = 1
 made_at_end Production.TaggedStdType = 1
 made_at_end Production.TypeTag = 1
 made_at_end Production.CharLiteral = 2
+made_at_end Production.Substitution = 2
 made_at_end _ = 0
 
 unfoldable pub sum_all : List ℕ → ℕ
@@ -116,4 +117,4 @@ owes number held = owes_of (production_at number) held
 
 -- A tree of the kind makes at most two nodes a byte, and this, less the base.
 unfoldable pub slack : List ℕ
-slack = 6 ∷ 10 ∷ 8 ∷ 10 ∷ 9 ∷ 8 ∷ 4 ∷ 8 ∷ 8 ∷ 10 ∷ 10 ∷ 10 ∷ 10 ∷ 6 ∷ 6 ∷ 3 ∷ 5 ∷ 6 ∷ 8 ∷ 8 ∷ 8 ∷ 8 ∷ 9 ∷ 9 ∷ 8 ∷ 10 ∷ 8 ∷ 6 ∷ 9 ∷ 9 ∷ 9 ∷ 9 ∷ 9 ∷ 9 ∷ 9 ∷ 10 ∷ 9 ∷ 6 ∷ 8 ∷ 9 ∷ 9 ∷ 10 ∷ 10 ∷ 6 ∷ 10 ∷ 10 ∷ 0 ∷ 8 ∷ 8 ∷ 9 ∷ 10 ∷ 9 ∷ 6 ∷ 8 ∷ 8 ∷ 8 ∷ 8 ∷ 8 ∷ 8 ∷ 8 ∷ 8 ∷ 8 ∷ 8 ∷ 8 ∷ 8 ∷ 8 ∷ 6 ∷ 10 ∷ 6 ∷ 8 ∷ 8 ∷ 8 ∷ 10 ∷ 6 ∷ 10 ∷ 8 ∷ 8 ∷ 8 ∷ 7 ∷ 8 ∷ 6 ∷ 10 ∷ []
+slack = 6 ∷ 10 ∷ 8 ∷ 10 ∷ 9 ∷ 8 ∷ 4 ∷ 8 ∷ 8 ∷ 10 ∷ 10 ∷ 10 ∷ 10 ∷ 7 ∷ 6 ∷ 4 ∷ 6 ∷ 6 ∷ 8 ∷ 8 ∷ 8 ∷ 8 ∷ 10 ∷ 9 ∷ 8 ∷ 10 ∷ 8 ∷ 6 ∷ 9 ∷ 9 ∷ 9 ∷ 9 ∷ 9 ∷ 9 ∷ 9 ∷ 10 ∷ 10 ∷ 6 ∷ 8 ∷ 9 ∷ 9 ∷ 10 ∷ 10 ∷ 6 ∷ 10 ∷ 10 ∷ 0 ∷ 8 ∷ 8 ∷ 9 ∷ 10 ∷ 9 ∷ 6 ∷ 8 ∷ 8 ∷ 8 ∷ 8 ∷ 8 ∷ 8 ∷ 8 ∷ 8 ∷ 8 ∷ 8 ∷ 8 ∷ 8 ∷ 8 ∷ 6 ∷ 10 ∷ 6 ∷ 8 ∷ 8 ∷ 8 ∷ 10 ∷ 6 ∷ 10 ∷ 8 ∷ 8 ∷ 8 ∷ 7 ∷ 8 ∷ 6 ∷ 10 ∷ []

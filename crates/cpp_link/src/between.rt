@@ -144,7 +144,7 @@ impl Linked {
     ///
     /// `Memory` where a list couldn't grow.
     #[inline(always)]
-    fn take_step(
+    pub(crate) fn take_step(
         &mut self,
         symbol: &[u8],
         kept: Kept,

@@ -47,7 +47,7 @@ fn numbered(candidates: &[Candidate], counted: Option<u64>) -> Option<Candidate>
 
 impl Linked {
     /// The candidate that these digits name: none are the first, and 0 is the next.
-    fn candidate(&self, symbol: &[u8], digits: Span) -> Option<Candidate>
+    pub(crate) fn candidate(&self, symbol: &[u8], digits: Span) -> Option<Candidate>
         requires digits { IsWithin digits symbol.now }
         requires candidates { AreCandidatesThere (length self.now.nodes.nodes) self.now.candidates.items }
         ensures is { maybe_candidate (trees_in symbol.now self.now.nodes) result ≡ slice_get (candidates_of (trees_in symbol.now self.now.nodes) self.now.candidates.items) (counted_value kinds.Seq36 (bytes_at symbol.now digits)) }

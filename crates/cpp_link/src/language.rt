@@ -21,7 +21,7 @@ use sym_link::threads::{Threading, close_by, enter_by, token_by};
 use sym_shape::rule::Row;
 
 /// What surrounds a whole symbol.
-const OUTSIDE: Kept = Kept {
+pub(crate) const OUTSIDE: Kept = Kept {
     arguments: 0,
     encoding: 0,
     name: 0,

@@ -13,12 +13,14 @@ pub mod meaning;
 pub mod numbers;
 pub mod part;
 pub mod references;
+pub mod rescoping;
 pub mod settling;
 pub mod shapes;
 pub mod signatures;
 pub mod steps;
 mod tables;
 pub mod values;
+pub mod wide_language;
 
 ghost use Rattle.std.specs.Prelude.{◌≤◌, ◌*◌, length};
 ghost use Rattle.sym_shape.specs.Tree.{Tree, IsTree, spell};

@@ -21,7 +21,7 @@ use sym_core::{Refusal, Span, value10};
 
 /// The length of the packs under an expansion, behind a tree that holds packs of this length.
 #[tactic(auto, unfolding(cpp_term::specs::References::with_packs, crate::specs::Reads::packs_read))]
-fn with_packs(
+pub(crate) fn with_packs(
     place: u32,
     in_expansion: bool,
     own: Option<u32>,
@@ -84,7 +84,7 @@ fn elements_of(node: Node) -> Option<u32>
 
 impl Linked {
     /// Whether a node's tree has free parameters.
-    fn is_open(&self, symbol: &[u8], node: u32) -> bool
+    pub(crate) fn is_open(&self, symbol: &[u8], node: u32) -> bool
         requires table { IsTable (over symbol.now self.now.nodes) }
         requires below { node < length self.now.nodes.nodes }
         ensures { result ≡ is_open (tree_at (trees_in symbol.now self.now.nodes) node) }
@@ -102,7 +102,7 @@ impl Linked {
     }
 
     /// How many elements a list has.
-    fn count(&self, symbol: &[u8], list: u32) -> u32
+    pub(crate) fn count(&self, symbol: &[u8], list: u32) -> u32
         requires table { IsTable (over symbol.now self.now.nodes) }
         requires below { list < length self.now.nodes.nodes }
         ensures { result ≡ count (tree_at (trees_in symbol.now self.now.nodes) list) }
@@ -121,7 +121,7 @@ impl Linked {
     }
 
     /// The length of an argument that is a pack.
-    fn length_if_pack(&self, symbol: &[u8], argument: u32) -> Option<u32>
+    pub(crate) fn length_if_pack(&self, symbol: &[u8], argument: u32) -> Option<u32>
         requires table { IsTable (over symbol.now self.now.nodes) }
         requires below { argument < length self.now.nodes.nodes }
         ensures { result ≡ length_if_pack (tree_at (trees_in symbol.now self.now.nodes) argument) }

@@ -4,7 +4,8 @@ use Rattle.sym_core.specs.declared.NumberKind.TheVariants.{Decimal, Seq36}
 use Rattle.sym_core.specs.Value.{counted_value}
 use Rattle.sym_link.specs.Reading.{Next}
 use Rattle.cpp_grammar.specs.declared.production.Production.{Production}
-use Rattle.cpp_grammar.specs.Term.{Term, in_std, instance, holder, parameter, lvalue, rvalue, source, operator, constructor, destructor}
+use Rattle.cpp_grammar.specs.Rescoping.{generic_number, generic_so_far, parameter_here, substituted_wide, between_wide, close_wide}
+use Rattle.cpp_grammar.specs.Term.{Term, generic_parameter, in_std, instance, holder, parameter, lvalue, rvalue, source, operator, constructor, destructor}
 use Rattle.cpp_grammar.specs.Values as leaf_
 use Rattle.cpp_grammar.specs.Values.{Around, Prefix, prefix_tree, Value, State, tree_of, piece_of, is_listed, text_of, letter_of, part}
 use Rattle.cpp_grammar.specs.References.{appended, with_type, with_unqualified, with_prefix, substituted, parameter_named}
@@ -19,10 +20,11 @@ use Rattle.cpp_term.specs.References as reference_
 use Rattle.cpp_term.specs.Between as between_
 use Rattle.cpp_term.specs.Meaning as noted_
 use Rattle.cpp_term.specs.Unfolding as unfolded_
+use Rattle.cpp_term.specs.Rescoping as wide_
 use Rattle.cpp_term.specs.Annotated.{argument_in, annotate, noted_scope, noted_value, noted_values, noted_prefix, noted_around}
 use Rattle.cpp_term.proofs.Notes.{both}
 use Rattle.cpp_term.proofs.MeaningNoted.{structor_noted, part_noted, tree_noted, piece_noted, text_noted, letter_noted, listed_noted, items_noted, applied_noted, text_part_, extended_noted, prefix_tree_noted, Inside, meaning_noted}
-use Rattle.cpp_term.proofs.StatesNoted.{Alike, alike_bind, Same, Moves, moves_none, one_moves, type_moves, unqualified_moves, prefix_moves, Comes, get_noted, substituted_noted, parameter_noted}
+use Rattle.cpp_term.proofs.StatesNoted.{Alike, alike_bind, Same, Moves, moves_none, one_moves, type_moves, unqualified_moves, prefix_moves, Comes, get_noted, substituted_noted, wide_substituted_noted, parameter_noted}
 
 -- what stands inside has the same scope, or none
 abbrev pub InScope : Around → Around → Type 0
@@ -243,3 +245,48 @@ close_noted Production.Substitution byte around place began first vs x y h same 
     (get_noted around x.candidates y.candidates (counted_value Seq36 (text_of (part vs 0))) same.all))
 close_noted production byte around place began first vs x y h same e =
     record { value = meaning_noted production byte around vs h; moves = behind_noted production byte around began first vs x y same.packs e }
+
+-- ## The reading of the wide grammar
+
+generic_goes : (around : Around) (x : State) (y : value_.State) (k : ℕ) → y.packs ≡ x.packs → Alike (Goes around x y) (generic_so_far around k [] x) (wide_.generic_so_far (noted_around around) k [] y)
+unfolding generic_so_far wide_.generic_so_far listed_so_far between_.listed_so_far annotate noted_values
+generic_goes around x y k packs =
+    let t = generic_parameter (generic_number k) in
+    let u = term_.generic_parameter (generic_number k) in
+    named_goes around x (appended around t x) y (reference_.appended (noted_around around) u y) t u true [] [] refl refl (one_moves around t u x y packs refl)
+
+here_goes : (around : Around) (x : State) (y : value_.State) (place : ℕ) (v : Value) → y.packs ≡ x.packs →
+    Alike (Goes around x y) (parameter_here around place (index_of v) [] x) (wide_.parameter_here (noted_around around) place (between_.index_of (noted_value (noted_scope around.scope) v)) [] y)
+unfolding parameter_here wide_.parameter_here noted_around
+here_goes around x y place v packs = go around.in_lambda
+  where
+    s : Option term_.Term
+    s = noted_scope around.scope
+
+    go : (b : Bool) → Alike (Goes around x y)
+        (elim b [ true ↦ generic_so_far around (index_of v) [] x | false ↦ parameter_so_far around place (index_of v) [] x ])
+        (elim b [ true ↦ wide_.generic_so_far (noted_around around) (between_.index_of (noted_value s v)) [] y | false ↦ between_.parameter_so_far (noted_around around) place (between_.index_of (noted_value s v)) [] y ])
+    go true = subst (λ k. Alike (Goes around x y) (generic_so_far around (index_of v) [] x) (wide_.generic_so_far (noted_around around) k [] y)) (sym (index_noted s v)) (generic_goes around x y (index_of v) packs)
+    go false = named_parameter around x y place v packs
+
+pub wide_between_noted : (production : Production) (around : Around) (place : ℕ) (vs : List Value) (x : State) (y : value_.State) → StaysInside production → y.packs ≡ x.packs →
+    Alike (Goes around x y) (between_wide production around place vs x) (wide_.between_wide production (noted_around around) place (noted_values (noted_scope around.scope) vs) y)
+unfolding between_wide wide_.between_wide noted_values
+wide_between_noted Production.Parameter around place [] x y stays packs = between_noted Production.Parameter around place [] x y stays packs
+wide_between_noted Production.Parameter around place (v ∷ []) x y stays packs = here_goes around x y place v packs
+wide_between_noted Production.Parameter around place (v ∷ w ∷ vs) x y stays packs = between_noted Production.Parameter around place (v ∷ w ∷ vs) x y stays packs
+wide_between_noted Production.NestParameter around place [] x y stays packs = between_noted Production.NestParameter around place [] x y stays packs
+wide_between_noted Production.NestParameter around place (v ∷ []) x y stays packs = here_goes around x y place v packs
+wide_between_noted Production.NestParameter around place (v ∷ w ∷ vs) x y stays packs = between_noted Production.NestParameter around place (v ∷ w ∷ vs) x y stays packs
+wide_between_noted p around place vs x y stays packs = between_noted p around place vs x y stays packs
+
+pub wide_close_noted : (production : Production) (byte : ℕ) (around : Around) (place : ℕ) (began : State) (first : value_.State) (vs : List Value) (x : State) (y : value_.State) → Inside production vs →
+    Same around x y → first.packs ≡ began.packs →
+    Alike (Comes around x y) (close_wide production byte around place began vs x) (wide_.close_wide production byte (noted_around around) place first (noted_values (noted_scope around.scope) vs) y)
+unfolding close_wide wide_.close_wide
+wide_close_noted Production.Substitution byte around place began first vs x y h same e =
+    subst (λ bytes. Alike (Comes around x y) (substituted_wide around (place - 1) (slice_get x.candidates (counted_value Seq36 (text_of (part vs 0)))) x)
+    (wide_.substituted_wide (noted_around around) (place - 1) (slice_get y.candidates (counted_value Seq36 bytes)) y)) (sym (text_part_ (noted_scope around.scope) vs 0))
+    (wide_substituted_noted around (place - 1) (slice_get x.candidates (counted_value Seq36 (text_of (part vs 0)))) (slice_get y.candidates (counted_value Seq36 (text_of (part vs 0)))) x y same.packs
+    (get_noted around x.candidates y.candidates (counted_value Seq36 (text_of (part vs 0))) same.all))
+wide_close_noted production byte around place began first vs x y h same e = close_noted production byte around place began first vs x y h same e

@@ -23,12 +23,13 @@ use Rattle.cpp_grammar.specs.Scope.{is_open, has_return_type}
 use Rattle.cpp_grammar.specs.Values.{State, Around, Value, nothing_there, tree_of, part, qualifiers_of, ref_of}
 use Rattle.cpp_grammar.specs.Between.{in_name, no_items, between}
 use Rattle.cpp_grammar.specs.Meaning.{meaning, encoding_of, parameters}
-use Rattle.cpp_grammar.specs.Unfolding.{opening, close, production_at, byte_of, cpp}
+use Rattle.cpp_grammar.specs.Unfolding.{opening, close, production_at, byte_of}
 use Rattle.cpp_grammar.proofs.Choosing.{kinds_numbered, number_at, either_rule_at, is_either_kind}
 use Rattle.cpp_grammar.proofs.ClosedValues.{AllGood, GoodPrefix, held, good_tree, good_part}
 use Rattle.cpp_grammar.proofs.ClosedStates.{Bare, AllOld, old_later, old_grows, ok_same, behind_bind}
-use Rattle.cpp_grammar.proofs.ClosedParts.{StaysInside, between_goes}
-use Rattle.cpp_grammar.proofs.ClosedTrees.{is_encoding, has_encoding, opens, or_true, at_number, its_symbols, stays, takes_byte, Whole, same_rule, opening_keeps, all_append, good_fits, old_fits, grows_fits, old_inner, one_good, known, name_comes, same_found, stepped, inner_closes, forest_good, tree_good, trees_good}
+use Rattle.cpp_grammar.proofs.ClosedParts.{StaysInside}
+use Rattle.cpp_grammar.proofs.Ways.{Way, reading_by, abi_way, is_reference}
+use Rattle.cpp_grammar.proofs.ClosedTrees.{is_encoding, has_encoding, opens, or_true, at_number, its_symbols, stays, takes_byte, Whole, same_rule, opening_keeps, all_append, good_fits, old_fits, grows_fits, old_inner, one_good, known, name_comes, same_found, stepped, inner_closes, KeepsClosed, opens_apart, forest_good, tree_good_by, trees_good_by}
 use Rattle.cpp_term.proofs.KindsNoted.{all_open, is_special_kind, in_special, may_be_special, encodings_open, special_types}
 use Rattle.cpp_term.proofs.MeaningNoted.{Inside}
 
@@ -117,104 +118,37 @@ closed_encoding v _ = refl
 nameless_ : (at : ℕ) → List Value → State → Next Value State Around
 nameless_ at vs state = record { context = in_name at; values = vs; state = state }
 
-special_closed : (f : Forest) (rule : Open State Around) (from : ℕ) (state : State) (r : Found (List Value) State) → production_at rule.rule.number ≡ Production.Special →
-    AreTrees either (parts_of Production.Special) f → rule.context.encoding < rule.place → rule.place ≤ from → AllOld rule.context rule.place state.candidates →
-    unfold_forest cpp rule [] from f state ≡ Ok r → is_open (tree_of (part r.value 0)) ≡ false
-unfolding cpp parts_of number_of_kind between is_encoding nameless_ part in_name
-special_closed (grown t nothing) rule from state r is trees lt le old e =
-    let around = rule.context in
-    let at = rule.place in
-    let s = stepped rule [] from state t nothing r (nameless_ at [] state) (ap (λ p. between p around at [] state) is) e in
-    let c = name_comes t (tree_good t) (OfKind SPECIAL) at from state s.part (known 5 (lit≤ tt)) trees.0 refl le (old_later (in_name at) at from state.candidates le (old_inner around at state.candidates lt old)) s.is in
-    let same : found (c.value ∷ []) s.part.state ≡ r = same_found [] s.part.value (c.value ∷ []) s.part.state r c.is s.rest in
-    subst (λ x. is_open (tree_of (part x.value 0)) ≡ false) same ((good_tree (Bare (in_name at)) c.value c.good).closed refl)
-special_closed nothing rule from state r is trees lt le old e = absurd trees
-special_closed (grown t (grown u f)) rule from state r is trees lt le old e = absurd trees.1
-
-other_special_closed : (f : Forest) (rule : Open State Around) (from : ℕ) (state : State) (r : Found (List Value) State) → production_at rule.rule.number ≡ Production.OtherSpecial →
-    AreTrees either (parts_of Production.OtherSpecial) f → rule.context.encoding < rule.place → rule.place ≤ from → AllOld rule.context rule.place state.candidates →
-    unfold_forest cpp rule [] from f state ≡ Ok r → is_open (tree_of (part r.value 1)) ≡ false
-unfolding cpp parts_of number_of_kind between is_encoding nameless_ part in_name
-other_special_closed (grown t (grown u nothing)) rule from state r is trees lt le old e =
-    let around = rule.context in
-    let at = rule.place in
-    let first = stepped rule [] from state t (grown u nothing) r (nameless_ at [] state) (ap (λ p. between p around at [] state) is) e in
-    let old0 = old_later (in_name at) at from state.candidates le (old_inner around at state.candidates lt old) in
-    let c = name_comes t (tree_good t) (OfKind SPECIAL_MARK) at from state first.part (known SPECIAL_MARK (lit≤ tt)) trees.0 refl le old0 first.is in
-    let next = from + length (spell t) in
-    let vs = c.value ∷ [] in
-    let onward = subst (λ ws. unfold_forest cpp rule ws next (grown u nothing) first.part.state ≡ Ok r) c.is first.rest in
-    let second = stepped rule vs next first.part.state u nothing r (nameless_ at vs first.part.state) (ap (λ p. between p around at vs first.part.state) is) onward in
-    let old1 = old_grows (in_name at) from next state first.part.state (omega arith) old0 c.grows in
-    let d = name_comes u (tree_good u) (OfKind SPECIAL_AFTER_G) at next first.part.state second.part (known SPECIAL_AFTER_G (lit≤ tt)) trees.1.0 refl (omega (arith, le)) old1 second.is in
-    let same : found (c.value ∷ d.value ∷ []) second.part.state ≡ r = same_found vs second.part.value (d.value ∷ []) second.part.state r d.is second.rest in
-    subst (λ x. is_open (tree_of (part x.value 1)) ≡ false) same ((good_tree (Bare (in_name at)) d.value d.good).closed refl)
-other_special_closed nothing rule from state r is trees lt le old e = absurd trees
-other_special_closed (grown t nothing) rule from state r is trees lt le old e = absurd trees.1
-other_special_closed (grown t (grown u (grown v f))) rule from state r is trees lt le old e = absurd trees.1.1
-
-inner_closed : (p : Production) → opens p ≡ true → (f : Forest) (rule : Open State Around) (from : ℕ) (state : State) (r : Found (List Value) State) → production_at rule.rule.number ≡ p → AreTrees either (parts_of p) f →
-    rule.context.encoding < rule.place → rule.place ≤ from → AllOld rule.context rule.place state.candidates → unfold_forest cpp rule [] from f state ≡ Ok r →
-    (byte : ℕ) (around : Around) → is_open (tree_of (meaning p byte around r.value)) ≡ false
-unfolding opens meaning tree_of is_open
-inner_closed Production.Encoding o f rule from state r is trees lt le old e byte around = closed_encoding (part r.value 0) (no_items (part r.value 1))
-inner_closed Production.Special o f rule from state r is trees lt le old e byte around = special_closed f rule from state r is trees lt le old e
-inner_closed Production.Guard o f rule from state r is trees lt le old e byte around = refl
-inner_closed Production.OtherSpecial o f rule from state r is trees lt le old e byte around = other_special_closed f rule from state r is trees lt le old e
-inner_closed Production.Mark o f rule from state r is trees lt le old e byte around = absurd (false≢true o)
-inner_closed _ o f rule from state r is trees lt le old e byte around = absurd (false≢true o)
-
-encoded_closed : (t : Tree) (around : Around) (at : ℕ) (state : State) (r : Found (List Value) State) → IsTree either (OfKind ENCODING) t → around.encoding < at → AllOld around at state.candidates →
-    unfold_tree cpp around at t state ≡ Ok r → is_open (tree_of (part r.value 0)) ≡ false
-unfolding cpp part tree_of is_open
-encoded_closed (branch rule taken parts) around at state r tree less old e =
-    let whole = Whole rule taken at around state in
-    let c = chosen_rule ENCODING rule taken (known 4 (lit≤ tt)) tree.0 in
-    let p = c.production in
-    let opening_ = opens_in_encodings c.kind c.byte p (sym (ap (λ n. nat_eq n 4) c.number)) c.chosen in
-    let byte = byte_of taken in
-    let from = at + length taken in
-    let begun = behind_bind (opening (production_at rule.number) parts at state)
-    (λ begun. unfold_forest cpp whole [] from parts begun >>= λ inner. close (production_at rule.number) byte around at state inner.value inner.state >>= alone) r e in
-    let kept = opening_keeps (production_at rule.number) parts at state begun.value begun.is in
-    let onward = subst (λ s. (unfold_forest cpp whole [] from parts s >>= λ inner. close (production_at rule.number) byte around at state inner.value inner.state >>= alone) ≡ Ok r) kept begun.next in
-    let inner = behind_bind (unfold_forest cpp whole [] from parts state) (λ inner. close (production_at rule.number) byte around at state inner.value inner.state >>= alone) r onward in
-    let ended = behind_bind (close (production_at rule.number) byte around at state inner.value.value inner.value.state) alone r inner.next in
-    let one = ended.value in
-    let same : found (one.value ∷ []) one.state ≡ r = ok_same (found (one.value ∷ []) one.state) r ended.next in
-    let number : production_at rule.number ≡ p = ap (λ x. production_at x.number) c.is ∙ at_number p in
-    let trees = subst (λ xs. AreTrees either xs parts) (ap symbols_of c.is ∙ its_symbols p) tree.1 in
-    let closed = inner_closed p opening_ parts whole from state inner.value number trees less (omega arith) old inner.is byte around in
-    let ends : close p byte around at state inner.value.value inner.value.state ≡ Ok one = sym (ap (λ q. close q byte around at state inner.value.value inner.value.state) number) ∙ ended.is in
-    let means = inner_closes p opening_ byte around at state inner.value.value inner.value.state one ends in
-    subst (λ x. is_open (tree_of (part x.value 0)) ≡ false) same (subst (λ x. is_open (tree_of x.value) ≡ false) means closed)
-encoded_closed empty around at state r tree less old e = subst (λ x. is_open (tree_of (part x.value 0)) ≡ false) (ok_same (found (nothing_there ∷ []) state) r e) refl
-encoded_closed _ around at state r tree less old e = absurd tree
-
 -- ## Encodings among the parts of a production
 
 -- the values behind the parts so far are those of the next parts
-abbrev Keeps : Production → Type 0
-Keeps p = (around : Around) (place : ℕ) (vs : List Value) (state : State) (n : Next Value State Around) → between p around place vs state ≡ Ok n → n.values ≡ vs
+abbrev Keeps : Way → Production → Type 0
+Keeps way p = (around : Around) (place : ℕ) (vs : List Value) (state : State) (n : Next Value State Around) → way.between p around place vs state ≡ Ok n → n.values ≡ vs
 
 goes_on : (vs : List Value) (around : Around) (state : State) (n : Next Value State Around) →
     ◌≡◌ {A = Result (Next Value State Around) Refusal} (Ok (record { context = around; values = vs; state = state })) (Ok n) → n.values ≡ vs
 goes_on vs around state n e = let next : Next Value State Around = record { context = around; values = vs; state = state } in ap (λ x. x.values) (sym (ok_same next n e))
 
-keeps : (p : Production) → has_encoding (parts_of p) ≡ true → Keeps p
-unfolding has_encoding is_encoding parts_of number_of_kind between
-keeps Production.Symbol h around place vs state n e = goes_on vs around state n e
-keeps Production.NonVirtualThunk h around place vs state n e = goes_on vs around state n e
-keeps Production.VirtualThunk h around place vs state n e = goes_on vs around state n e
-keeps Production.CovariantThunk h around place vs state n e = goes_on vs around state n e
-keeps Production.Clone h around place vs state n e = goes_on vs around state n e
-keeps Production.EncodingLiteral h around place vs state n e = goes_on vs around state n e
-keeps Production.Address h around place vs state n e = goes_on vs around state n e
-keeps Production.LocalName h around place [] state n e = goes_on [] around state n e
-keeps Production.LocalName h around place (v ∷ vs) state n e = goes_on (v ∷ vs) _ state n e
-keeps Production.LocalType h around place [] state n e = goes_on [] around state n e
-keeps Production.LocalType h around place (v ∷ vs) state n e = goes_on (v ∷ vs) _ state n e
-keeps _ h around place vs state n e = absurd (false≢true h)
+plain_keeps : (p : Production) → has_encoding (parts_of p) ≡ true → Keeps abi_way p
+unfolding has_encoding is_encoding parts_of number_of_kind between abi_way
+plain_keeps Production.Symbol h around place vs state n e = goes_on vs around state n e
+plain_keeps Production.NonVirtualThunk h around place vs state n e = goes_on vs around state n e
+plain_keeps Production.VirtualThunk h around place vs state n e = goes_on vs around state n e
+plain_keeps Production.CovariantThunk h around place vs state n e = goes_on vs around state n e
+plain_keeps Production.Clone h around place vs state n e = goes_on vs around state n e
+plain_keeps Production.EncodingLiteral h around place vs state n e = goes_on vs around state n e
+plain_keeps Production.Address h around place vs state n e = goes_on vs around state n e
+plain_keeps Production.LocalName h around place [] state n e = goes_on [] around state n e
+plain_keeps Production.LocalName h around place (v ∷ vs) state n e = goes_on (v ∷ vs) _ state n e
+plain_keeps Production.LocalType h around place [] state n e = goes_on [] around state n e
+plain_keeps Production.LocalType h around place (v ∷ vs) state n e = goes_on (v ∷ vs) _ state n e
+plain_keeps _ h around place vs state n e = absurd (false≢true h)
+
+encodings_apart : (p : Production) → has_encoding (parts_of p) ≡ true → is_reference p ≡ false
+unfolding has_encoding is_encoding parts_of number_of_kind is_reference
+encodings_apart Production.Parameter h = absurd (false≢true h)
+encodings_apart Production.NestParameter h = absurd (false≢true h)
+encodings_apart Production.Substitution h = absurd (false≢true h)
+encodings_apart _ h = refl
 
 abbrev Encodings : List Sym → List Value → Type 0
 Encodings [] vs = Unit {0}
@@ -230,45 +164,6 @@ as_encoding : (x : Sym) (t : Tree) → is_encoding x ≡ true → IsTree either 
 unfolding is_encoding
 as_encoding (OfKind k) t h is = subst (λ n. IsTree either (OfKind n) t) (eqb-true k 4 h) is
 as_encoding _ t h is = absurd (false≢true h)
-
-forest_closed : (f : Forest) (rule : Open State Around) (xs : List Sym) (vs : List Value) (at : ℕ) (state : State) (r : Found (List Value) State) →
-    StaysInside (production_at rule.rule.number) → Keeps (production_at rule.rule.number) → AreSymbols either xs → AreTrees either xs f → rule.context.encoding ≤ at → (has_encoding xs ≡ true → rule.context.encoding < at) →
-    GoodPrefix (Bare rule.context) rule.context.prefix → AllGood (Bare rule.context) vs → AllOld rule.context at state.candidates → unfold_forest cpp rule vs at f state ≡ Ok r → Reads xs vs r
-unfolding cpp has_encoding part
-forest_closed nothing rule [] vs at state r stays keep known trees le inside pre good old e =
-    record { more = []; is = ap (λ x. x.value) (sym (ok_same (found vs state) r e)) ∙ sym (append-nil vs); closed = tt }
-forest_closed nothing rule (x ∷ xs) vs at state r stays keep known trees le inside pre good old e = absurd trees
-forest_closed (grown t f) rule [] vs at state r stays keep known trees le inside pre good old e = absurd trees
-forest_closed (grown t f) rule (x ∷ xs) vs at state r stays keep known trees le inside pre good old e =
-    let around = rule.context in
-    let later = at + length (spell t) in
-    let b = behind_bind (between (production_at rule.rule.number) around rule.place vs state)
-    (λ next. unfold_tree cpp next.context at t next.state >>= λ part. unfold_forest cpp rule (next.values ++ part.value) (at + length (spell t)) f part.state) r e in
-    let n = b.value in
-    let g = between_goes (production_at rule.rule.number) around rule.place vs state n at stays pre good b.is in
-    let c = behind_bind (unfold_tree cpp n.context at t n.state) (λ part. unfold_forest cpp rule (n.values ++ part.value) (at + length (spell t)) f part.state) r b.next in
-    let this = c.value in
-    let old1 = old_grows around at at state n.state (omega arith) old g.grows in
-    let old3 = old_fits around n.context at n.state.candidates g.fits old1 in
-    let tree = tree_good t x n.context at n.state this known.0 trees.0 (omega (arith, g.fits.encoding, le)) (λ opening. omega (arith, g.fits.encoding, inside (or_first (is_encoding x) (has_encoding xs) opening)))
-    g.fits.prefix old3 c.is in
-    let grown1 = grows_fits around n.context later n.state this.state g.fits tree.grows in
-    let old2 = old_grows around at later n.state this.state (omega arith) old1 grown1 in
-    let good1 = one_good (Bare around) tree.value this.value tree.is (good_fits around n.context (held tree.value) g.fits tree.good) in
-    let rest = forest_closed f rule xs (n.values ++ this.value) later this.state r stays keep known.1 trees.1 (omega (arith, le))
-    (λ opening. omega (arith, inside (or_true (is_encoding x) (has_encoding xs) opening))) pre (all_append (Bare around) n.values this.value g.values good1) old2 c.next in
-    record {
-      more = tree.value ∷ rest.more;
-      is = rest.is ∙ ap (λ us. (us ++ this.value) ++ rest.more) (keep around rule.place vs state n b.is) ∙ ap (λ us. (vs ++ us) ++ rest.more) tree.is ∙ append_assoc vs (tree.value ∷ []) rest.more;
-      closed = (
-        λ opening. subst (λ us. is_open (tree_of (part us 0)) ≡ false) tree.is
-            (encoded_closed t n.context at n.state this (as_encoding x t opening trees.0) (omega (arith, g.fits.encoding, inside (or_first (is_encoding x) (has_encoding xs) opening))) old3 c.is),
-        rest.closed,
-      );
-    }
-  where
-    or_first : (a b : Bool) → a ≡ true → a || b ≡ true
-    or_first a b h = ap (λ c. c || b) h
 
 inside_values : (p : Production) (vs : List Value) → opens p ≡ false → (has_encoding (parts_of p) ≡ true → Encodings (parts_of p) vs) → (in_special p ≡ true → (k : ℕ) → is_open (tree_of (part vs k)) ≡ false) → Inside p vs
 unfolding opens has_encoding is_encoding parts_of number_of_kind part tree_of is_open in_special
@@ -308,24 +203,144 @@ inside_values Production.SpecialName vs plain all special = special refl 0
 inside_values Production.ConstructionVtable vs plain all special = (special refl 0, special refl 3)
 inside_values _ vs plain all special = first_of (cc, search tt)
 
--- Encodings among the parts of a production have no free parameters.
-pub insides : (p : Production) (rule : Rule) (taken : List ℕ) (parts : Forest) (k : ℕ) (around : Around) (at : ℕ) (state : State) (inner : Found (List Value) State) → rule ≡ rule_of p → opens p ≡ false → k < either.kinds →
-    IsTree either (OfKind k) (branch rule taken parts) → around.encoding ≤ at → (is_special_kind k ≡ true → Bare around) → GoodPrefix (Bare around) around.prefix → AllOld around at state.candidates →
-    unfold_forest cpp (Whole rule taken at around state) [] (at + length taken) parts state ≡ Ok inner → Inside p inner.value
-insides p rule taken parts k around at state inner is plain lt tree le special pre old e =
-    let whole = Whole rule taken at around state in
-    let number : production_at rule.number ≡ p = ap (λ x. production_at x.number) is ∙ at_number p in
-    let inside_ : StaysInside (production_at rule.number) = subst (λ q. StaysInside q) (sym number) (stays p plain) in
-    let from = at + length taken in
-    let symbols = either_sound.symbols k tree.0.byte rule lt tree.0.is_byte tree.0.found in
-    let same : symbols_of rule ≡ parts_of p = ap symbols_of is ∙ its_symbols p in
-    let old0 = old_later around at from state.candidates (omega arith) old in
-    inside_values p inner.value plain
-    (λ has.
-    let reads = forest_closed parts whole (symbols_of rule) [] from state inner inside_ (subst (λ q. Keeps q) (sym number) (keeps p has)) symbols tree.1 (omega (arith, le))
-    (λ any. omega (arith, le, takes_byte p rule k taken is tree.0 any)) pre tt old0 e in
-    subst (λ us. Encodings (parts_of p) us) (sym reads.is) (subst (λ xs. Encodings xs reads.more) same reads.closed))
-    (λ is_special part_number.
-    let all = forest_good parts (trees_good parts) whole (symbols_of rule) [] from state inner inside_ symbols tree.1 (omega (arith, le))
-    (λ any. omega (arith, le, takes_byte p rule k taken is tree.0 any)) pre tt old0 e in
-    (good_part (Bare around) inner.value part_number all.good).closed (special (special_kind p k rule taken is lt tree.0 is_special)))
+-- ## Either reading
+
+module _ (way : Way) (keeps : KeepsClosed way) where
+  special_closed : (f : Forest) (rule : Open State Around) (from : ℕ) (state : State) (r : Found (List Value) State) → production_at rule.rule.number ≡ Production.Special →
+      AreTrees either (parts_of Production.Special) f → rule.context.encoding < rule.place → rule.place ≤ from → AllOld rule.context rule.place state.candidates →
+      unfold_forest (reading_by way) rule [] from f state ≡ Ok r → is_open (tree_of (part r.value 0)) ≡ false
+  unfolding is_reference reading_by parts_of number_of_kind between is_encoding nameless_ part in_name
+  special_closed (grown t nothing) rule from state r is trees lt le old e =
+      let around = rule.context in
+      let at = rule.place in
+      let s = stepped way keeps rule [] from state t nothing r (nameless_ at [] state) (ap (λ p. way.between p around at [] state) is ∙ keeps.plain.between Production.Special refl around at [] state) e in
+      let c = name_comes way keeps t (tree_good_by way keeps t) (OfKind SPECIAL) at from state s.part (known 5 (lit≤ tt)) trees.0 refl le (old_later (in_name at) at from state.candidates le (old_inner around at state.candidates lt old)) s.is in
+      let same : found (c.value ∷ []) s.part.state ≡ r = same_found [] s.part.value (c.value ∷ []) s.part.state r c.is s.rest in
+      subst (λ x. is_open (tree_of (part x.value 0)) ≡ false) same ((good_tree (Bare (in_name at)) c.value c.good).closed refl)
+  special_closed nothing rule from state r is trees lt le old e = absurd trees
+  special_closed (grown t (grown u f)) rule from state r is trees lt le old e = absurd trees.1
+
+  other_special_closed : (f : Forest) (rule : Open State Around) (from : ℕ) (state : State) (r : Found (List Value) State) → production_at rule.rule.number ≡ Production.OtherSpecial →
+      AreTrees either (parts_of Production.OtherSpecial) f → rule.context.encoding < rule.place → rule.place ≤ from → AllOld rule.context rule.place state.candidates →
+      unfold_forest (reading_by way) rule [] from f state ≡ Ok r → is_open (tree_of (part r.value 1)) ≡ false
+  unfolding is_reference reading_by parts_of number_of_kind between is_encoding nameless_ part in_name
+  other_special_closed (grown t (grown u nothing)) rule from state r is trees lt le old e =
+      let around = rule.context in
+      let at = rule.place in
+      let first = stepped way keeps rule [] from state t (grown u nothing) r (nameless_ at [] state) (ap (λ p. way.between p around at [] state) is ∙ keeps.plain.between Production.OtherSpecial refl around at [] state) e in
+      let old0 = old_later (in_name at) at from state.candidates le (old_inner around at state.candidates lt old) in
+      let c = name_comes way keeps t (tree_good_by way keeps t) (OfKind SPECIAL_MARK) at from state first.part (known SPECIAL_MARK (lit≤ tt)) trees.0 refl le old0 first.is in
+      let next = from + length (spell t) in
+      let vs = c.value ∷ [] in
+      let onward = subst (λ ws. unfold_forest (reading_by way) rule ws next (grown u nothing) first.part.state ≡ Ok r) c.is first.rest in
+      let second = stepped way keeps rule vs next first.part.state u nothing r (nameless_ at vs first.part.state) (ap (λ p. way.between p around at vs first.part.state) is ∙ keeps.plain.between Production.OtherSpecial refl around at vs first.part.state) onward in
+      let old1 = old_grows (in_name at) from next state first.part.state (omega arith) old0 c.grows in
+      let d = name_comes way keeps u (tree_good_by way keeps u) (OfKind SPECIAL_AFTER_G) at next first.part.state second.part (known SPECIAL_AFTER_G (lit≤ tt)) trees.1.0 refl (omega (arith, le)) old1 second.is in
+      let same : found (c.value ∷ d.value ∷ []) second.part.state ≡ r = same_found vs second.part.value (d.value ∷ []) second.part.state r d.is second.rest in
+      subst (λ x. is_open (tree_of (part x.value 1)) ≡ false) same ((good_tree (Bare (in_name at)) d.value d.good).closed refl)
+  other_special_closed nothing rule from state r is trees lt le old e = absurd trees
+  other_special_closed (grown t nothing) rule from state r is trees lt le old e = absurd trees.1
+  other_special_closed (grown t (grown u (grown v f))) rule from state r is trees lt le old e = absurd trees.1.1
+
+  inner_closed : (p : Production) → opens p ≡ true → (f : Forest) (rule : Open State Around) (from : ℕ) (state : State) (r : Found (List Value) State) → production_at rule.rule.number ≡ p → AreTrees either (parts_of p) f →
+      rule.context.encoding < rule.place → rule.place ≤ from → AllOld rule.context rule.place state.candidates → unfold_forest (reading_by way) rule [] from f state ≡ Ok r →
+      (byte : ℕ) (around : Around) → is_open (tree_of (meaning p byte around r.value)) ≡ false
+  unfolding opens meaning tree_of is_open
+  inner_closed Production.Encoding o f rule from state r is trees lt le old e byte around = closed_encoding (part r.value 0) (no_items (part r.value 1))
+  inner_closed Production.Special o f rule from state r is trees lt le old e byte around = special_closed f rule from state r is trees lt le old e
+  inner_closed Production.Guard o f rule from state r is trees lt le old e byte around = refl
+  inner_closed Production.OtherSpecial o f rule from state r is trees lt le old e byte around = other_special_closed f rule from state r is trees lt le old e
+  inner_closed Production.Mark o f rule from state r is trees lt le old e byte around = absurd (false≢true o)
+  inner_closed _ o f rule from state r is trees lt le old e byte around = absurd (false≢true o)
+
+  encoded_closed : (t : Tree) (around : Around) (at : ℕ) (state : State) (r : Found (List Value) State) → IsTree either (OfKind ENCODING) t → around.encoding < at → AllOld around at state.candidates →
+      unfold_tree (reading_by way) around at t state ≡ Ok r → is_open (tree_of (part r.value 0)) ≡ false
+  unfolding reading_by part tree_of is_open
+  encoded_closed (branch rule taken parts) around at state r tree less old e =
+      let whole = Whole rule taken at around state in
+      let c = chosen_rule ENCODING rule taken (known 4 (lit≤ tt)) tree.0 in
+      let p = c.production in
+      let opening_ = opens_in_encodings c.kind c.byte p (sym (ap (λ n. nat_eq n 4) c.number)) c.chosen in
+      let byte = byte_of taken in
+      let from = at + length taken in
+      let begun = behind_bind (opening (production_at rule.number) parts at state)
+      (λ begun. unfold_forest (reading_by way) whole [] from parts begun >>= λ inner. way.close (production_at rule.number) byte around at state inner.value inner.state >>= alone) r e in
+      let kept = opening_keeps (production_at rule.number) parts at state begun.value begun.is in
+      let onward = subst (λ s. (unfold_forest (reading_by way) whole [] from parts s >>= λ inner. way.close (production_at rule.number) byte around at state inner.value inner.state >>= alone) ≡ Ok r) kept begun.next in
+      let inner = behind_bind (unfold_forest (reading_by way) whole [] from parts state) (λ inner. way.close (production_at rule.number) byte around at state inner.value inner.state >>= alone) r onward in
+      let ended = behind_bind (way.close (production_at rule.number) byte around at state inner.value.value inner.value.state) alone r inner.next in
+      let one = ended.value in
+      let same : found (one.value ∷ []) one.state ≡ r = ok_same (found (one.value ∷ []) one.state) r ended.next in
+      let number : production_at rule.number ≡ p = ap (λ x. production_at x.number) c.is ∙ at_number p in
+      let trees = subst (λ xs. AreTrees either xs parts) (ap symbols_of c.is ∙ its_symbols p) tree.1 in
+      let closed = inner_closed p opening_ parts whole from state inner.value number trees less (omega arith) old inner.is byte around in
+      let ends : close p byte around at state inner.value.value inner.value.state ≡ Ok one = sym (ap (λ q. way.close q byte around at state inner.value.value inner.value.state) number ∙ keeps.plain.close p (opens_apart p opening_) byte around at state inner.value.value inner.value.state) ∙ ended.is in
+      let means = inner_closes p opening_ byte around at state inner.value.value inner.value.state one ends in
+      subst (λ x. is_open (tree_of (part x.value 0)) ≡ false) same (subst (λ x. is_open (tree_of x.value) ≡ false) means closed)
+  encoded_closed empty around at state r tree less old e = subst (λ x. is_open (tree_of (part x.value 0)) ≡ false) (ok_same (found (nothing_there ∷ []) state) r e) refl
+  encoded_closed _ around at state r tree less old e = absurd tree
+
+  keeps_values : (p : Production) → has_encoding (parts_of p) ≡ true → Keeps way p
+  unfolding abi_way
+  keeps_values p has = λ around place vs state n e. plain_keeps p has around place vs state n (sym (keeps.plain.between p (encodings_apart p has) around place vs state) ∙ e)
+
+  forest_closed : (f : Forest) (rule : Open State Around) (xs : List Sym) (vs : List Value) (at : ℕ) (state : State) (r : Found (List Value) State) →
+      StaysInside (production_at rule.rule.number) → Keeps way (production_at rule.rule.number) → AreSymbols either xs → AreTrees either xs f → rule.context.encoding ≤ at → (has_encoding xs ≡ true → rule.context.encoding < at) →
+      GoodPrefix (Bare rule.context) rule.context.prefix → AllGood (Bare rule.context) vs → AllOld rule.context at state.candidates → unfold_forest (reading_by way) rule vs at f state ≡ Ok r → Reads xs vs r
+  unfolding reading_by has_encoding part
+  forest_closed nothing rule [] vs at state r stays keep known trees le inside pre good old e =
+      record { more = []; is = ap (λ x. x.value) (sym (ok_same (found vs state) r e)) ∙ sym (append-nil vs); closed = tt }
+  forest_closed nothing rule (x ∷ xs) vs at state r stays keep known trees le inside pre good old e = absurd trees
+  forest_closed (grown t f) rule [] vs at state r stays keep known trees le inside pre good old e = absurd trees
+  forest_closed (grown t f) rule (x ∷ xs) vs at state r stays keep known trees le inside pre good old e =
+      let around = rule.context in
+      let later = at + length (spell t) in
+      let b = behind_bind (way.between (production_at rule.rule.number) around rule.place vs state)
+      (λ next. unfold_tree (reading_by way) next.context at t next.state >>= λ part. unfold_forest (reading_by way) rule (next.values ++ part.value) (at + length (spell t)) f part.state) r e in
+      let n = b.value in
+      let g = keeps.goes (production_at rule.rule.number) around rule.place vs state n at stays pre good b.is in
+      let c = behind_bind (unfold_tree (reading_by way) n.context at t n.state) (λ part. unfold_forest (reading_by way) rule (n.values ++ part.value) (at + length (spell t)) f part.state) r b.next in
+      let this = c.value in
+      let old1 = old_grows around at at state n.state (omega arith) old g.grows in
+      let old3 = old_fits around n.context at n.state.candidates g.fits old1 in
+      let tree = tree_good_by way keeps t x n.context at n.state this known.0 trees.0 (omega (arith, g.fits.encoding, le)) (λ opening. omega (arith, g.fits.encoding, inside (or_first (is_encoding x) (has_encoding xs) opening)))
+      g.fits.prefix old3 c.is in
+      let grown1 = grows_fits around n.context later n.state this.state g.fits tree.grows in
+      let old2 = old_grows around at later n.state this.state (omega arith) old1 grown1 in
+      let good1 = one_good (Bare around) tree.value this.value tree.is (good_fits around n.context (held tree.value) g.fits tree.good) in
+      let rest = forest_closed f rule xs (n.values ++ this.value) later this.state r stays keep known.1 trees.1 (omega (arith, le))
+      (λ opening. omega (arith, inside (or_true (is_encoding x) (has_encoding xs) opening))) pre (all_append (Bare around) n.values this.value g.values good1) old2 c.next in
+      record {
+        more = tree.value ∷ rest.more;
+        is = rest.is ∙ ap (λ us. (us ++ this.value) ++ rest.more) (keep around rule.place vs state n b.is) ∙ ap (λ us. (vs ++ us) ++ rest.more) tree.is ∙ append_assoc vs (tree.value ∷ []) rest.more;
+        closed = (
+          λ opening. subst (λ us. is_open (tree_of (part us 0)) ≡ false) tree.is
+              (encoded_closed t n.context at n.state this (as_encoding x t opening trees.0) (omega (arith, g.fits.encoding, inside (or_first (is_encoding x) (has_encoding xs) opening))) old3 c.is),
+          rest.closed,
+        );
+      }
+    where
+      or_first : (a b : Bool) → a ≡ true → a || b ≡ true
+      or_first a b h = ap (λ c. c || b) h
+
+  -- Encodings among the parts of a production have no free parameters.
+  pub insides : (p : Production) (rule : Rule) (taken : List ℕ) (parts : Forest) (k : ℕ) (around : Around) (at : ℕ) (state : State) (inner : Found (List Value) State) → rule ≡ rule_of p → opens p ≡ false → k < either.kinds →
+      IsTree either (OfKind k) (branch rule taken parts) → around.encoding ≤ at → (is_special_kind k ≡ true → Bare around) → GoodPrefix (Bare around) around.prefix → AllOld around at state.candidates →
+      unfold_forest (reading_by way) (Whole rule taken at around state) [] (at + length taken) parts state ≡ Ok inner → Inside p inner.value
+  insides p rule taken parts k around at state inner is plain lt tree le special pre old e =
+      let whole = Whole rule taken at around state in
+      let number : production_at rule.number ≡ p = ap (λ x. production_at x.number) is ∙ at_number p in
+      let inside_ : StaysInside (production_at rule.number) = subst (λ q. StaysInside q) (sym number) (stays p plain) in
+      let from = at + length taken in
+      let symbols = either_sound.symbols k tree.0.byte rule lt tree.0.is_byte tree.0.found in
+      let same : symbols_of rule ≡ parts_of p = ap symbols_of is ∙ its_symbols p in
+      let old0 = old_later around at from state.candidates (omega arith) old in
+      inside_values p inner.value plain
+      (λ has.
+      let reads = forest_closed parts whole (symbols_of rule) [] from state inner inside_ (subst (λ q. Keeps way q) (sym number) (keeps_values p has)) symbols tree.1 (omega (arith, le))
+      (λ any. omega (arith, le, takes_byte p rule k taken is tree.0 any)) pre tt old0 e in
+      subst (λ us. Encodings (parts_of p) us) (sym reads.is) (subst (λ xs. Encodings xs reads.more) same reads.closed))
+      (λ is_special part_number.
+      let all = forest_good way keeps parts (trees_good_by way keeps parts) whole (symbols_of rule) [] from state inner inside_ symbols tree.1 (omega (arith, le))
+      (λ any. omega (arith, le, takes_byte p rule k taken is tree.0 any)) pre tt old0 e in
+      (good_part (Bare around) inner.value part_number all.good).closed (special (special_kind p k rule taken is lt tree.0 is_special)))

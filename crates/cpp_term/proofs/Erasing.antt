@@ -10,14 +10,16 @@ use Rattle.sym_link.specs.Unfold.{unfold_tree}
 use Rattle.cpp_grammar.specs.Table.{either}
 use Rattle.cpp_grammar.specs.Term.{Term, symbol, function, object, special, thunk, of_name, construction, clone, alone, in_std, within, instance, local, holder, tagged, of_default, lambda, conversion, pointer, lvalue, rvalue, array, member_pointer, function_type, qualified, vector, complex, expansion, integer, encoding_literal, address_of, pack, list}
 use Rattle.cpp_grammar.specs.Unfolding.{unfold_cpp}
+use Rattle.cpp_grammar.specs.Rescoping.{unfold_wide}
 use Rattle.cpp_term.specs.Term as term_
 use Rattle.cpp_term.specs.Scope as scope_
 use Rattle.cpp_term.specs.Values.{Value, State}
 use Rattle.cpp_term.specs.Unfolding as unfolded_
+use Rattle.cpp_term.specs.Rescoping as wide_
 use Rattle.cpp_term.specs.Annotated.{annotate, noted_tree}
 use Rattle.cpp_term.specs.Erased.{erase, CarriesArguments}
 use Rattle.cpp_term.proofs.Notes.{both}
-use Rattle.cpp_term.proofs.TreesNoted.{unfold_noted}
+use Rattle.cpp_term.proofs.TreesNoted.{unfold_noted, wide_unfold_noted}
 
 three : {A B C D : Type 0} (f : A → B → C → D) {a b : A} {c d : B} {x y : C} → a ≡ b → c ≡ d → x ≡ y → f a c x ≡ f b d y
 three f {a} {b} {c} {d} {x} {y} e g h = ap (λ z. f z c x) e ∙ both (f b) g h
@@ -63,46 +65,59 @@ erased s _ = refl
 pub carries_arguments : (t : Term) → CarriesArguments (annotate None t)
 carries_arguments t = ap (annotate None) (erased None t)
 
--- a symbol's tree with arguments, and the tree without
-pub record IsSymbolTree (shape : Tree) (t : term_.Term) : Type 0 where
-  pub plain : unfold_cpp shape ≡ Ok (erase t)
+-- a tree with arguments, and the tree without that is read
+pub record IsSymbolTree (read : Result Term Refusal) (t : term_.Term) : Type 0 where
+  pub plain : read ≡ Ok (erase t)
   pub carries : CarriesArguments t
 
-pub symbol_tree : (shape : Tree) (t : term_.Term) → IsTree either (Kind 0) shape → unfolded_.unfold_cpp shape ≡ Ok t → IsSymbolTree shape t
+pub symbol_tree : (read : Result Term Refusal) (noted : Result term_.Term Refusal) (t : term_.Term) → noted ≡ noted_tree read → noted ≡ Ok t → IsSymbolTree read t
 unfolding noted_tree
-symbol_tree shape t is e = go (unfold_cpp shape) refl (sym (unfold_noted shape is) ∙ e)
+symbol_tree read noted t same e = go read refl (sym same ∙ e)
   where
-    go : (o : Result Term Refusal) → unfold_cpp shape ≡ o → noted_tree o ≡ Ok t → IsSymbolTree shape t
+    go : (o : Result Term Refusal) → read ≡ o → noted_tree o ≡ Ok t → IsSymbolTree read t
     go (Err refusal) is h = absurd cc
     go (Ok u) is h =
         let same : annotate None u ≡ t = cc in
         record { plain = is ∙ ap Ok (sym (erased None u) ∙ ap erase same); carries = ap (λ x. annotate None (erase x)) (sym same) ∙ carries_arguments u ∙ same }
 
-pub refused_alike : (shape : Tree) (refusal : Refusal) → IsTree either (Kind 0) shape → unfolded_.unfold_cpp shape ≡ Err refusal → unfold_cpp shape ≡ Err refusal
+pub refused_alike : (read : Result Term Refusal) (noted : Result term_.Term Refusal) (refusal : Refusal) → noted ≡ noted_tree read → noted ≡ Err refusal → read ≡ Err refusal
 unfolding noted_tree
-refused_alike shape refusal is e = go (unfold_cpp shape) refl (sym (unfold_noted shape is) ∙ e)
+refused_alike read noted refusal same e = go read refl (sym same ∙ e)
   where
-    go : (o : Result Term Refusal) → unfold_cpp shape ≡ o → noted_tree o ≡ Err refusal → unfold_cpp shape ≡ Err refusal
+    go : (o : Result Term Refusal) → read ≡ o → noted_tree o ≡ Err refusal → read ≡ Err refusal
     go (Ok u) is h = absurd cc
     go (Err other) is h = is ∙ cc
 
 -- ## The values that a shape is read as
 
-reading : Tree → Result (Found (List Value) State) Refusal
-reading shape = unfold_tree unfolded_.cpp unfolded_.first_around 0 shape unfolded_.first_state
+tree_read : Result (Found (List Value) State) Refusal → Result term_.Term Refusal
+tree_read reading = reading >>= λ whole. Ok (unfolded_.first_tree whole.value)
+
+stands_by : (read : Result Term Refusal) (reading : Result (Found (List Value) State) Refusal) (r : Found (List Value) State) → tree_read reading ≡ noted_tree read → reading ≡ Ok r → IsSymbolTree read (unfolded_.first_tree r.value)
+unfolding tree_read
+stands_by read reading r same e = symbol_tree read (tree_read reading) (unfolded_.first_tree r.value) same (ap tree_read e)
+
+fails_by : (read : Result Term Refusal) (reading : Result (Found (List Value) State) Refusal) (refusal : Refusal) → tree_read reading ≡ noted_tree read → Fails refusal reading → Fails refusal read
+unfolding tree_read
+fails_by read reading refusals.Memory same fails = tt
+fails_by read reading refusal same fails = refused_alike read (tree_read reading) refusal same (ap tree_read fails)
 
 -- a shape that is read is that of a symbol, whose tree is that of its one value
 pub reading_stands : (shape : Tree) (r : Found (List Value) State) → IsTree either (Kind 0) shape → unfold_tree unfolded_.cpp unfolded_.first_around 0 shape unfolded_.first_state ≡ Ok r →
-    IsSymbolTree shape (unfolded_.first_tree r.value)
-unfolding unfolded_.unfold_cpp
-reading_stands shape r is e = symbol_tree shape (unfolded_.first_tree r.value) is (ap (λ m. m >>= λ whole. Ok (unfolded_.first_tree whole.value)) e)
+    IsSymbolTree (unfold_cpp shape) (unfolded_.first_tree r.value)
+unfolding unfolded_.unfold_cpp tree_read
+reading_stands shape r is e = stands_by (unfold_cpp shape) (unfold_tree unfolded_.cpp unfolded_.first_around 0 shape unfolded_.first_state) r (unfold_noted shape is) e
 
-refused_too : (shape : Tree) (refusal : Refusal) → IsTree either (Kind 0) shape → reading shape ≡ Err refusal → unfold_cpp shape ≡ Err refusal
-unfolding reading unfolded_.unfold_cpp
-refused_too shape refusal is e = refused_alike shape refusal is (ap (λ m. m >>= λ whole. Ok (unfolded_.first_tree whole.value)) e)
+pub wide_reading_stands : (shape : Tree) (r : Found (List Value) State) → IsTree either (Kind 0) shape → unfold_tree wide_.cpp_wide unfolded_.first_around 0 shape unfolded_.first_state ≡ Ok r →
+    IsSymbolTree (unfold_wide shape) (unfolded_.first_tree r.value)
+unfolding wide_.unfold_wide tree_read
+wide_reading_stands shape r is e = stands_by (unfold_wide shape) (unfold_tree wide_.cpp_wide unfolded_.first_around 0 shape unfolded_.first_state) r (wide_unfold_noted shape is) e
 
 -- a shape whose reading fails is that of a symbol that is refused
 pub reading_fails : (shape : Tree) (refusal : Refusal) → IsTree either (Kind 0) shape → Fails refusal (unfold_tree unfolded_.cpp unfolded_.first_around 0 shape unfolded_.first_state) → Fails refusal (unfold_cpp shape)
-unfolding reading
-reading_fails shape refusals.Memory is fails = tt
-reading_fails shape refusal is fails = refused_too shape refusal is fails
+unfolding unfolded_.unfold_cpp tree_read
+reading_fails shape refusal is fails = fails_by (unfold_cpp shape) (unfold_tree unfolded_.cpp unfolded_.first_around 0 shape unfolded_.first_state) refusal (unfold_noted shape is) fails
+
+pub wide_reading_fails : (shape : Tree) (refusal : Refusal) → IsTree either (Kind 0) shape → Fails refusal (unfold_tree wide_.cpp_wide unfolded_.first_around 0 shape unfolded_.first_state) → Fails refusal (unfold_wide shape)
+unfolding wide_.unfold_wide tree_read
+wide_reading_fails shape refusal is fails = fails_by (unfold_wide shape) (unfold_tree wide_.cpp_wide unfolded_.first_around 0 shape unfolded_.first_state) refusal (wide_unfold_noted shape is) fails

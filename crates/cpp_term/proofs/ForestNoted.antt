@@ -12,22 +12,21 @@ use Rattle.cpp_grammar.specs.Table.{either}
 use Rattle.cpp_grammar.specs.Scope.{is_open}
 use Rattle.cpp_grammar.specs.Values as leaf_
 use Rattle.cpp_grammar.specs.Values.{Candidate, State, Around, Value, tree_of}
-use Rattle.cpp_grammar.specs.Between.{between}
-use Rattle.cpp_grammar.specs.Unfolding.{production_at, cpp}
+use Rattle.cpp_grammar.specs.Unfolding.{production_at}
 use Rattle.cpp_grammar.proofs.ClosedValues.{AllGood, GoodPrefix, held}
 use Rattle.cpp_grammar.proofs.ClosedStates.{Bare, AllOld, AllNew, Grows, old_grows}
-use Rattle.cpp_grammar.proofs.ClosedParts.{StaysInside, between_goes}
+use Rattle.cpp_grammar.proofs.ClosedParts.{StaysInside}
+use Rattle.cpp_grammar.proofs.Ways.{Way, reading_by}
 use Rattle.cpp_grammar.proofs.ClosedTrees as trees_
-use Rattle.cpp_grammar.proofs.ClosedTrees.{is_encoding, has_encoding, TreeComes, tree_good, old_fits, grows_fits, good_fits, one_good, or_true}
+use Rattle.cpp_grammar.proofs.ClosedTrees.{is_encoding, has_encoding, TreeComes, KeepsClosed, tree_good_by, old_fits, grows_fits, good_fits, one_good, or_true}
 use Rattle.cpp_term.specs.Term as term_
 use Rattle.cpp_term.specs.Values as value_
-use Rattle.cpp_term.specs.Between as between_
-use Rattle.cpp_term.specs.Unfolding as unfolded_
 use Rattle.cpp_term.specs.Annotated.{annotate, noted_scope, noted_value, noted_values, noted_around}
 use Rattle.cpp_term.proofs.KindsNoted.{is_special_kind}
 use Rattle.cpp_term.proofs.Notes.{both, closed_noted}
 use Rattle.cpp_term.proofs.StatesNoted.{Alike, alike_bind, Same, Moves, moves_none, moves_then, same_moves, IsNoted, AllNoted}
-use Rattle.cpp_term.proofs.BetweenNoted.{InScope, Goes, between_noted}
+use Rattle.cpp_term.proofs.BetweenNoted.{InScope, Goes}
+use Rattle.cpp_term.proofs.NotedWays.{NotedWay, reading_noted_by, IsNotedBy}
 
 -- ## From a part to what it stands in, and back
 
@@ -42,11 +41,11 @@ all_inner around inner (c ∷ cs) (d ∷ ds) e i all = (one i, all_inner around 
     one : InScope around inner → IsNoted inner c d
     one (inl same) = record {
       encoding = all.0.encoding;
-      opened = all.0.opened;
+      by = all.0.by; like = all.0.like;
       closed = all.0.closed;
       here = λ h f. all.0.here (h ∙ e) (sym same.1 ∙ f) ∙ ap (λ o. annotate (noted_scope o) c.tree) (sym same.0);
     }
-    one (inr bare) = record { encoding = all.0.encoding; opened = all.0.opened; closed = all.0.closed; here = λ h f. absurd (true≢false (sym bare.1 ∙ f)) }
+    one (inr bare) = record { encoding = all.0.encoding; by = all.0.by; like = all.0.like; closed = all.0.closed; here = λ h f. absurd (true≢false (sym bare.1 ∙ f)) }
 all_inner around inner [] (d ∷ ds) e i all = absurd all
 all_inner around inner (c ∷ cs) [] e i all = absurd all
 
@@ -63,13 +62,13 @@ all_outer around inner end (c ∷ cs) (d ∷ ds) e i new all = (one i, all_outer
     one : InScope around inner → IsNoted around c d
     one (inl same) = record {
       encoding = all.0.encoding;
-      opened = all.0.opened;
+      by = all.0.by; like = all.0.like;
       closed = all.0.closed;
       here = λ h f. all.0.here (h ∙ sym e) (same.1 ∙ f) ∙ ap (λ o. annotate (noted_scope o) c.tree) same.0;
     }
     one (inr bare) = record {
       encoding = all.0.encoding;
-      opened = all.0.opened;
+      by = all.0.by; like = all.0.like;
       closed = all.0.closed;
       here = λ h f. all.0.closed (closed_here bare.0 h) ∙ closed_noted None (noted_scope around.scope) c.tree (closed_here bare.0 h);
     }
@@ -120,14 +119,14 @@ pub record Many (around : Around) (x : State) (y : value_.State) (a : Found (Lis
   pub values : b.value ≡ noted_values (noted_scope around.scope) a.value
   pub moves : Moves around x y a.state b.state
 
-abbrev pub TreeNoted : Tree → Type 0
-TreeNoted t = (x : Sym) (around : Around) (at : ℕ) (state : State) (other : value_.State) → IsSymbol either x → IsTree either x t → around.encoding ≤ at → (is_encoding x ≡ true → around.encoding < at) →
+abbrev pub TreeNoted : Way → NotedWay → Tree → Type 0
+TreeNoted way noted_way t = (x : Sym) (around : Around) (at : ℕ) (state : State) (other : value_.State) → IsSymbol either x → IsTree either x t → around.encoding ≤ at → (is_encoding x ≡ true → around.encoding < at) →
     (is_special x ≡ true → Bare around) → GoodPrefix (Bare around) around.prefix → AllOld around at state.candidates → Same around state other →
-    Alike (Many around state other) (unfold_tree cpp around at t state) (unfold_tree unfolded_.cpp (noted_around around) at t other)
+    Alike (Many around state other) (unfold_tree (reading_by way) around at t state) (unfold_tree (reading_noted_by noted_way) (noted_around around) at t other)
 
-abbrev pub AllTreesNoted : Forest → Type 0
-AllTreesNoted nothing = Unit {0}
-AllTreesNoted (grown t f) = TreeNoted t × AllTreesNoted f
+abbrev pub AllTreesNoted : Way → NotedWay → Forest → Type 0
+AllTreesNoted way noted_way nothing = Unit {0}
+AllTreesNoted way noted_way (grown t f) = TreeNoted way noted_way t × AllTreesNoted way noted_way f
 
 pub alike_map : {A B : Type 0} (R Q : A → B → Type 0) (x : Result A Refusal) (y : Result B Refusal) → ((a : A) (b : B) → x ≡ Ok a → R a b → Q a b) → Alike R x y → Alike Q x y
 alike_map R Q (Ok a) (Ok b) f r = f a b refl r
@@ -148,51 +147,52 @@ outer_values around inner r end old (inr bare) c =
     ∙ ap (λ v. v ∷ []) (value_closed (noted_scope inner.scope) (noted_scope around.scope) c.value (c.good.closed bare.0))
     ∙ sym (ap (noted_values (noted_scope around.scope)) c.is)
 
-pub forest_noted : (f : Forest) → AllTreesNoted f → (rule : Open State Around) (first : value_.State) (xs : List Sym) (vs : List Value) (at : ℕ) (x : State) (y : value_.State) →
-    StaysInside (production_at rule.rule.number) → AreSymbols either xs → AreTrees either xs f → rule.context.encoding ≤ at → (has_encoding xs ≡ true → rule.context.encoding < at) → has_special xs ≡ false →
-    GoodPrefix (Bare rule.context) rule.context.prefix → AllGood (Bare rule.context) vs → AllOld rule.context at x.candidates → Same rule.context x y →
-    Alike (Many rule.context x y) (unfold_forest cpp rule vs at f x) (unfold_forest unfolded_.cpp (noted_open rule first) (noted_values (noted_scope rule.context.scope) vs) at f y)
-unfolding cpp unfolded_.cpp has_encoding has_special
-forest_noted nothing all rule first xs vs at x y stays known trees le inside none pre good old same =
-    record { values = refl; moves = moves_none rule.context x x y y refl refl same.packs }
-forest_noted (grown t f) all rule first [] vs at x y stays known trees le inside none pre good old same = absurd trees
-forest_noted (grown t f) all rule first (k ∷ ks) vs at x y stays known trees le inside none pre good old same =
-    let around = rule.context in
-    let s = noted_scope around.scope in
-    let later = at + length (spell t) in
-    alike_bind (Goes around x y) (Many around x y) (between (production_at rule.rule.number) around rule.place vs x) (between_.between (production_at rule.rule.number) (noted_around around) rule.place (noted_values s vs) y)
-    (λ next. unfold_tree cpp next.context at t next.state >>= λ part. unfold_forest cpp rule (next.values ++ part.value) later f part.state)
-    (λ next. unfold_tree unfolded_.cpp next.context at t next.state >>= λ part. unfold_forest unfolded_.cpp (noted_open rule first) (next.values ++ part.value) later f part.state)
-    (between_noted (production_at rule.rule.number) around rule.place vs x y stays same.packs)
-    (λ n m goes-is goes.
-    let g = between_goes (production_at rule.rule.number) around rule.place vs x n at stays pre good goes-is in
-    let old1 = old_grows around at at x n.state (omega arith) old g.grows in
-    let same1 = same_moves around x n.state y m.state same goes.moves in
-    let inside1 : is_encoding k ≡ true → n.context.encoding < at = λ opening. omega (arith, g.fits.encoding, inside (or_first (is_encoding k) (has_encoding ks) opening)) in
-    let le1 : n.context.encoding ≤ at = omega (arith, g.fits.encoding, le) in
-    let old2 = old_fits around n.context at n.state.candidates g.fits old1 in
-    let tree = all.0 k n.context at n.state m.state known.0 trees.0 le1 inside1
-    (λ special. absurd (true≢false (sym (or_first (is_special k) (has_special ks) special) ∙ none))) g.fits.prefix old2 (same_inner around n.context n.state m.state g.fits.encoding goes.scope same1) in
-    alike_bind (Many n.context n.state m.state) (Many around x y) (unfold_tree cpp n.context at t n.state) (unfold_tree unfolded_.cpp m.context at t m.state)
-    (λ part. unfold_forest cpp rule (n.values ++ part.value) later f part.state) (λ part. unfold_forest unfolded_.cpp (noted_open rule first) (m.values ++ part.value) later f part.state)
-    (subst (λ c. Alike (Many n.context n.state m.state) (unfold_tree cpp n.context at t n.state) (unfold_tree unfolded_.cpp c at t m.state)) (sym goes.context) tree)
-    (λ a b part-is part.
-    let comes = tree_good t k n.context at n.state a known.0 trees.0 le1 inside1 g.fits.prefix old2 part-is in
-    let moves1 = moves_outer around n.context later n.state a.state m.state b.state g.fits.encoding goes.scope comes.grows part.moves in
-    let grown1 = grows_fits around n.context later n.state a.state g.fits comes.grows in
-    let good1 = one_good (Bare around) comes.value a.value comes.is (good_fits around n.context (held comes.value) g.fits comes.good) in
-    let values1 = both (λ us ws. us ++ ws) goes.values (part.values ∙ outer_values around n.context a later n.state goes.scope comes) ∙ sym (values_append s n.values a.value) in
-    let moves2 = moves_then around x n.state a.state y m.state b.state goes.moves moves1 in
-    let rest = forest_noted f all.1 rule first ks (n.values ++ a.value) later a.state b.state stays known.1 trees.1 (omega (arith, le))
-    (λ opening. omega (arith, inside (or_true (is_encoding k) (has_encoding ks) opening))) (or_rest (is_special k) (has_special ks) none) pre (trees_.all_append (Bare around) n.values a.value g.values good1)
-    (old_grows around at later n.state a.state (omega arith) old1 grown1) (same_moves around n.state a.state m.state b.state same1 moves1) in
-    alike_map (Many around a.state b.state) (Many around x y) (unfold_forest cpp rule (n.values ++ a.value) later f a.state) (unfold_forest unfolded_.cpp (noted_open rule first) (m.values ++ b.value) later f b.state)
-    (λ u v end-is end. record { values = end.values; moves = moves_then around x a.state u.state y b.state v.state moves2 end.moves })
-    (subst (λ us. Alike (Many around a.state b.state) (unfold_forest cpp rule (n.values ++ a.value) later f a.state) (unfold_forest unfolded_.cpp (noted_open rule first) us later f b.state)) (sym values1) rest)))
-  where
-    or_first : (a b : Bool) → a ≡ true → a || b ≡ true
-    or_first a b h = ap (λ c. c || b) h
+module _ (way : Way) (keeps : KeepsClosed way) (noted_way : NotedWay) (ways : IsNotedBy way noted_way) where
+  pub forest_noted : (f : Forest) → AllTreesNoted way noted_way f → (rule : Open State Around) (first : value_.State) (xs : List Sym) (vs : List Value) (at : ℕ) (x : State) (y : value_.State) →
+      StaysInside (production_at rule.rule.number) → AreSymbols either xs → AreTrees either xs f → rule.context.encoding ≤ at → (has_encoding xs ≡ true → rule.context.encoding < at) → has_special xs ≡ false →
+      GoodPrefix (Bare rule.context) rule.context.prefix → AllGood (Bare rule.context) vs → AllOld rule.context at x.candidates → Same rule.context x y →
+      Alike (Many rule.context x y) (unfold_forest (reading_by way) rule vs at f x) (unfold_forest (reading_noted_by noted_way) (noted_open rule first) (noted_values (noted_scope rule.context.scope) vs) at f y)
+  unfolding reading_by reading_noted_by has_encoding has_special
+  forest_noted nothing all rule first xs vs at x y stays known trees le inside none pre good old same =
+      record { values = refl; moves = moves_none rule.context x x y y refl refl same.packs }
+  forest_noted (grown t f) all rule first [] vs at x y stays known trees le inside none pre good old same = absurd trees
+  forest_noted (grown t f) all rule first (k ∷ ks) vs at x y stays known trees le inside none pre good old same =
+      let around = rule.context in
+      let s = noted_scope around.scope in
+      let later = at + length (spell t) in
+      alike_bind (Goes around x y) (Many around x y) (way.between (production_at rule.rule.number) around rule.place vs x) (noted_way.between (production_at rule.rule.number) (noted_around around) rule.place (noted_values s vs) y)
+      (λ next. unfold_tree (reading_by way) next.context at t next.state >>= λ part. unfold_forest (reading_by way) rule (next.values ++ part.value) later f part.state)
+      (λ next. unfold_tree (reading_noted_by noted_way) next.context at t next.state >>= λ part. unfold_forest (reading_noted_by noted_way) (noted_open rule first) (next.values ++ part.value) later f part.state)
+      (ways.goes (production_at rule.rule.number) around rule.place vs x y stays same.packs)
+      (λ n m goes-is goes.
+      let g = keeps.goes (production_at rule.rule.number) around rule.place vs x n at stays pre good goes-is in
+      let old1 = old_grows around at at x n.state (omega arith) old g.grows in
+      let same1 = same_moves around x n.state y m.state same goes.moves in
+      let inside1 : is_encoding k ≡ true → n.context.encoding < at = λ opening. omega (arith, g.fits.encoding, inside (or_first (is_encoding k) (has_encoding ks) opening)) in
+      let le1 : n.context.encoding ≤ at = omega (arith, g.fits.encoding, le) in
+      let old2 = old_fits around n.context at n.state.candidates g.fits old1 in
+      let tree = all.0 k n.context at n.state m.state known.0 trees.0 le1 inside1
+      (λ special. absurd (true≢false (sym (or_first (is_special k) (has_special ks) special) ∙ none))) g.fits.prefix old2 (same_inner around n.context n.state m.state g.fits.encoding goes.scope same1) in
+      alike_bind (Many n.context n.state m.state) (Many around x y) (unfold_tree (reading_by way) n.context at t n.state) (unfold_tree (reading_noted_by noted_way) m.context at t m.state)
+      (λ part. unfold_forest (reading_by way) rule (n.values ++ part.value) later f part.state) (λ part. unfold_forest (reading_noted_by noted_way) (noted_open rule first) (m.values ++ part.value) later f part.state)
+      (subst (λ c. Alike (Many n.context n.state m.state) (unfold_tree (reading_by way) n.context at t n.state) (unfold_tree (reading_noted_by noted_way) c at t m.state)) (sym goes.context) tree)
+      (λ a b part-is part.
+      let comes = tree_good_by way keeps t k n.context at n.state a known.0 trees.0 le1 inside1 g.fits.prefix old2 part-is in
+      let moves1 = moves_outer around n.context later n.state a.state m.state b.state g.fits.encoding goes.scope comes.grows part.moves in
+      let grown1 = grows_fits around n.context later n.state a.state g.fits comes.grows in
+      let good1 = one_good (Bare around) comes.value a.value comes.is (good_fits around n.context (held comes.value) g.fits comes.good) in
+      let values1 = both (λ us ws. us ++ ws) goes.values (part.values ∙ outer_values around n.context a later n.state goes.scope comes) ∙ sym (values_append s n.values a.value) in
+      let moves2 = moves_then around x n.state a.state y m.state b.state goes.moves moves1 in
+      let rest = forest_noted f all.1 rule first ks (n.values ++ a.value) later a.state b.state stays known.1 trees.1 (omega (arith, le))
+      (λ opening. omega (arith, inside (or_true (is_encoding k) (has_encoding ks) opening))) (or_rest (is_special k) (has_special ks) none) pre (trees_.all_append (Bare around) n.values a.value g.values good1)
+      (old_grows around at later n.state a.state (omega arith) old1 grown1) (same_moves around n.state a.state m.state b.state same1 moves1) in
+      alike_map (Many around a.state b.state) (Many around x y) (unfold_forest (reading_by way) rule (n.values ++ a.value) later f a.state) (unfold_forest (reading_noted_by noted_way) (noted_open rule first) (m.values ++ b.value) later f b.state)
+      (λ u v end-is end. record { values = end.values; moves = moves_then around x a.state u.state y b.state v.state moves2 end.moves })
+      (subst (λ us. Alike (Many around a.state b.state) (unfold_forest (reading_by way) rule (n.values ++ a.value) later f a.state) (unfold_forest (reading_noted_by noted_way) (noted_open rule first) us later f b.state)) (sym values1) rest)))
+    where
+      or_first : (a b : Bool) → a ≡ true → a || b ≡ true
+      or_first a b h = ap (λ c. c || b) h
 
-    or_rest : (a b : Bool) → a || b ≡ false → b ≡ false
-    or_rest false b h = h
-    or_rest true b h = absurd (true≢false h)
+      or_rest : (a b : Bool) → a || b ≡ false → b ≡ false
+      or_rest false b h = h
+      or_rest true b h = absurd (true≢false h)

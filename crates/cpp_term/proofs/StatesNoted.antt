@@ -6,17 +6,19 @@ use Rattle.sym_core.specs.declared.refusal.Refusal.{Refusal}
 use Rattle.sym_core.specs.declared.refusal.Refusal.TheVariants.{BadReference}
 use Rattle.sym_link.specs.Reading.{Found, ◌>>=◌}
 use Rattle.sym_link.specs.Unfold.{found}
-use Rattle.cpp_grammar.specs.Term.{Term, parameter, function_type}
+use Rattle.cpp_grammar.specs.Term.{Term, parameter, generic_parameter, pointer, lvalue, rvalue, qualified, function_type}
 use Rattle.cpp_grammar.specs.Scope.{count, element, is_open, length_if_pack}
 use Rattle.cpp_grammar.specs.Values as leaf_
 use Rattle.cpp_grammar.specs.Values.{Around, Prefix, prefix_tree, prefix_listed, Value, State, Candidate, tree_of, is_listed}
 use Rattle.cpp_grammar.specs.References.{appended, is_function_type, with_type, with_unqualified, with_prefix, with_packs, packs_in, substituted, parameter_named}
+use Rattle.cpp_grammar.specs.Rescoping.{is_foreign, number_of_parameter, number_behind_mark, with_parameter, in_scope, restated, substituted_wide}
 use Rattle.cpp_term.specs.Term as term_
 use Rattle.cpp_term.specs.Scope as scope_
 use Rattle.cpp_term.specs.Values as value_
 use Rattle.cpp_term.specs.References as noted_
+use Rattle.cpp_term.specs.Rescoping as wide_
 use Rattle.cpp_term.specs.Annotated.{argument_in, annotate, noted_scope, noted_value, noted_prefix, noted_around}
-use Rattle.cpp_term.proofs.Notes.{both, count_noted, element_noted, open_noted, closed_noted, length_noted, packs_noted}
+use Rattle.cpp_term.proofs.Notes.{both, count_noted, element_noted, open_noted, generic_noted, closed_noted, length_noted, packs_noted}
 use Rattle.cpp_term.proofs.MeaningNoted.{tree_noted, listed_noted, prefix_tree_noted, prefix_listed_noted}
 
 -- ## Results
@@ -39,7 +41,9 @@ alike_bind R Q (Err e) (Ok b) f g r next = absurd r
 -- a candidate with its arguments, for what stands in an encoding
 pub record IsNoted (around : Around) (c : Candidate) (d : value_.Candidate) : Type 0 where
   pub encoding : d.encoding ≡ c.encoding
-  pub opened : scope_.is_open d.tree ≡ is_open c.tree
+  -- the scope by which it was annotated
+  pub by : Option term_.Term
+  pub like : d.tree ≡ annotate by c.tree
   pub closed : is_open c.tree ≡ false → d.tree ≡ annotate None c.tree
   pub here : c.encoding ≡ around.encoding → around.in_lambda ≡ false → d.tree ≡ annotate (noted_scope around.scope) c.tree
 
@@ -95,7 +99,7 @@ one_moves around t u x y packs is = record {
   others = record { tree = u; encoding = around.encoding } ∷ [];
   is = refl;
   so = refl;
-  each = (record { encoding = refl; opened = ap scope_.is_open is ∙ open_noted (noted_scope around.scope) t; closed = λ h. is ∙ closed_noted (noted_scope around.scope) None t h; here = λ e f. is }, tt);
+  each = (record { encoding = refl; by = noted_scope around.scope; like = is; closed = λ h. is ∙ closed_noted (noted_scope around.scope) None t h; here = λ e f. is }, tt);
   packs = packs;
 }
 
@@ -206,7 +210,7 @@ substituted_noted around place None (Some d) x y packs n = absurd n
 substituted_noted around place (Some c) None x y packs n = absurd n
 substituted_noted around place (Some c) (Some d) x y packs n =
     go (is_open c.tree && (around.in_lambda || not (nat_eq c.encoding around.encoding))) (scope_.is_open d.tree && (around.in_lambda || not (nat_eq d.encoding around.encoding)))
-    (both (λ a k. a && (around.in_lambda || not (nat_eq k around.encoding))) n.opened n.encoding) refl
+    (both (λ a k. a && (around.in_lambda || not (nat_eq k around.encoding))) (ap scope_.is_open n.like ∙ open_noted n.by c.tree) n.encoding) refl
   where
     s : Option term_.Term
     s = noted_scope around.scope
@@ -272,3 +276,139 @@ parameter_noted around place k x y packs = go around.scope refl
         ])
     go None scope = refl
     go (Some arguments) scope = tested arguments scope (nat_lt k (count arguments)) (nat_lt k (scope_.count (annotate None arguments))) (ap (nat_lt k) (count_noted None arguments))
+
+-- ## The reading of the wide grammar
+
+foreign_noted : (around : Around) (c : Candidate) (d : value_.Candidate) → IsNoted around c d → wide_.is_foreign (noted_around around) d ≡ is_foreign around c
+unfolding wide_.is_foreign is_foreign noted_around
+foreign_noted around c d n =
+    both (λ a b. a || b)
+    (both (λ a k. a && (around.in_lambda || not (nat_eq k around.encoding))) (ap scope_.is_open n.like ∙ open_noted n.by c.tree) n.encoding)
+    (ap (λ a. a && not around.in_lambda) (ap scope_.is_generic n.like ∙ generic_noted n.by c.tree))
+
+parameter_number_noted : (s : Option term_.Term) (t : Term) → wide_.number_of_parameter (annotate s t) ≡ number_of_parameter t
+unfolding wide_.number_of_parameter number_of_parameter annotate
+parameter_number_noted s (parameter k) = refl
+parameter_number_noted s _ = refl
+
+number_noted : (s : Option term_.Term) (t : Term) → wide_.number_behind_mark (annotate s t) ≡ number_behind_mark t
+unfolding wide_.number_behind_mark number_behind_mark annotate wide_.number_of_parameter number_of_parameter
+number_noted s (pointer t) = parameter_number_noted s t
+number_noted s (lvalue t) = parameter_number_noted s t
+number_noted s (rvalue t) = parameter_number_noted s t
+number_noted s (qualified q t) = parameter_number_noted s t
+number_noted s _ = refl
+
+with_noted : (by s : Option term_.Term) (t other : Term) (noted : term_.Term) → noted ≡ annotate s other → wide_.with_parameter (annotate by t) noted ≡ annotate s (with_parameter t other)
+unfolding wide_.with_parameter with_parameter annotate
+with_noted by s (pointer t) other noted e = ap term_.pointer e
+with_noted by s (lvalue t) other noted e = ap term_.lvalue e
+with_noted by s (rvalue t) other noted e = ap term_.rvalue e
+with_noted by s (qualified q t) other noted e = ap (term_.qualified q) e
+with_noted by s _ other noted e = e
+
+in_scope_noted : (around : Around) (place : ℕ) (by : Option term_.Term) (t : Term) (k : ℕ) (x : State) (y : value_.State) → y.packs ≡ x.packs →
+    Alike (Comes around x y) (in_scope around place t k x) (wide_.in_scope (noted_around around) place (annotate by t) k y)
+unfolding in_scope wide_.in_scope noted_around noted_scope noted_value
+in_scope_noted around place by t k x y packs = go around.scope refl
+  where
+    onward : (arguments : Term) → around.scope ≡ Some arguments → (m n : Option ℕ) → n ≡ m → (u : term_.Term) → u ≡ annotate (noted_scope around.scope) (with_parameter t (parameter k)) → Alike (Comes around x y)
+        (with_packs place around.in_expansion m x >>= λ z. Ok (found (leaf_.tree (with_parameter t (parameter k)) true) z)) (noted_.with_packs place around.in_expansion n y >>= λ z. Ok (found (value_.tree u true) z))
+    onward arguments scope m n e u is = subst (λ n. Alike (Comes around x y)
+        (with_packs place around.in_expansion m x >>= λ z. Ok (found (leaf_.tree (with_parameter t (parameter k)) true) z)) (noted_.with_packs place around.in_expansion n y >>= λ z. Ok (found (value_.tree u true) z))) (sym e)
+        (alike_bind (Kept x y) (Comes around x y) (with_packs place around.in_expansion m x) (noted_.with_packs place around.in_expansion m y)
+        (λ z. Ok (found (leaf_.tree (with_parameter t (parameter k)) true) z)) (λ z. Ok (found (value_.tree u true) z))
+        (packs_kept place around.in_expansion m x y packs) (λ a b h kept. record { value = ap (λ w. value_.tree w true) is; moves = moves_none around x a y b kept.is kept.so kept.packs }))
+
+    tested : (arguments : Term) → around.scope ≡ Some arguments → (b c : Bool) → c ≡ b → Alike (Comes around x y)
+        (elim b [
+          | false ↦ Err (BadReference place)
+          | true ↦ with_packs place around.in_expansion (length_if_pack (element arguments k)) x >>= λ z. Ok (found (leaf_.tree (with_parameter t (parameter k)) true) z)
+        ])
+        (elim c [
+          | false ↦ Err (BadReference place)
+          | true ↦ noted_.with_packs place around.in_expansion (scope_.length_if_pack (scope_.element (annotate None arguments) k)) y
+              >>= λ z. Ok (found (value_.tree (wide_.with_parameter (annotate by t) (term_.parameter k (scope_.element (annotate None arguments) k))) true) z)
+        ])
+    tested arguments scope false false f = refl
+    tested arguments scope true true f = onward arguments scope (length_if_pack (element arguments k)) (scope_.length_if_pack (scope_.element (annotate None arguments) k))
+        (ap scope_.length_if_pack (element_noted None arguments k) ∙ length_noted None (element arguments k))
+        (wide_.with_parameter (annotate by t) (term_.parameter k (scope_.element (annotate None arguments) k)))
+        (with_noted by (noted_scope around.scope) t (parameter k) (term_.parameter k (scope_.element (annotate None arguments) k)) (named_here around k arguments scope))
+    tested arguments scope true false f = absurd cc
+    tested arguments scope false true f = absurd cc
+
+    go : (o : Option Term) → around.scope ≡ o → Alike (Comes around x y)
+        (elim o [
+          | None ↦ Err (BadReference place)
+          | Some arguments ↦ elim (nat_lt k (count arguments)) [
+            | false ↦ Err (BadReference place)
+            | true ↦ with_packs place around.in_expansion (length_if_pack (element arguments k)) x >>= λ z. Ok (found (leaf_.tree (with_parameter t (parameter k)) true) z)
+          ]
+        ])
+        (elim (noted_scope o) [
+          | None ↦ Err (BadReference place)
+          | Some arguments ↦ elim (nat_lt k (scope_.count arguments)) [
+            | false ↦ Err (BadReference place)
+            | true ↦ noted_.with_packs place around.in_expansion (scope_.length_if_pack (scope_.element arguments k)) y
+                >>= λ z. Ok (found (value_.tree (wide_.with_parameter (annotate by t) (term_.parameter k (scope_.element arguments k))) true) z)
+          ]
+        ])
+    go None scope = refl
+    go (Some arguments) scope = tested arguments scope (nat_lt k (count arguments)) (nat_lt k (scope_.count (annotate None arguments))) (ap (nat_lt k) (count_noted None arguments))
+
+restated_noted : (around : Around) (place : ℕ) (by : Option term_.Term) (t : Term) (x : State) (y : value_.State) → y.packs ≡ x.packs →
+    Alike (Comes around x y) (restated around place t x) (wide_.restated (noted_around around) place (annotate by t) y)
+unfolding restated wide_.restated noted_around noted_value annotate
+restated_noted around place by t x y packs = go (number_behind_mark t) (wide_.number_behind_mark (annotate by t)) (number_noted by t)
+  where
+    tested : (k j : ℕ) → j ≡ k → (b : Bool) → Alike (Comes around x y)
+        (elim b [
+          | true ↦ Ok (found (leaf_.tree (with_parameter t (generic_parameter k)) true) x)
+          | false ↦ in_scope around place t k x
+        ])
+        (elim b [
+          | true ↦ Ok (found (value_.tree (wide_.with_parameter (annotate by t) (term_.generic_parameter j)) true) y)
+          | false ↦ wide_.in_scope (noted_around around) place (annotate by t) j y
+        ])
+    tested k j same true = record {
+      value = ap (λ u. value_.tree u true) (with_noted by (noted_scope around.scope) t (generic_parameter k) (term_.generic_parameter j) (ap term_.generic_parameter same));
+      moves = moves_none around x x y y refl refl packs;
+    }
+    tested k j same false = subst (λ i. Alike (Comes around x y) (in_scope around place t k x) (wide_.in_scope (noted_around around) place (annotate by t) i y)) (sym same) (in_scope_noted around place by t k x y packs)
+
+    go : (o p : Option ℕ) → p ≡ o → Alike (Comes around x y)
+        (elim o [
+          | None ↦ Err (BadReference place)
+          | Some k ↦ elim around.in_lambda [
+            | true ↦ Ok (found (leaf_.tree (with_parameter t (generic_parameter k)) true) x)
+            | false ↦ in_scope around place t k x
+          ]
+        ])
+        (elim p [
+          | None ↦ Err (BadReference place)
+          | Some k ↦ elim around.in_lambda [
+            | true ↦ Ok (found (value_.tree (wide_.with_parameter (annotate by t) (term_.generic_parameter k)) true) y)
+            | false ↦ wide_.in_scope (noted_around around) place (annotate by t) k y
+          ]
+        ])
+    go None None e = refl
+    go (Some k) (Some j) e = let same : j ≡ k = cc in tested k j same around.in_lambda
+    go None (Some j) e = absurd cc
+    go (Some k) None e = absurd cc
+
+pub wide_substituted_noted : (around : Around) (place : ℕ) (o : Option Candidate) (p : Option value_.Candidate) (x : State) (y : value_.State) → y.packs ≡ x.packs → AreNoted around o p →
+    Alike (Comes around x y) (substituted_wide around place o x) (wide_.substituted_wide (noted_around around) place p y)
+unfolding substituted_wide wide_.substituted_wide
+wide_substituted_noted around place None None x y packs n = refl
+wide_substituted_noted around place None (Some d) x y packs n = absurd n
+wide_substituted_noted around place (Some c) None x y packs n = absurd n
+wide_substituted_noted around place (Some c) (Some d) x y packs n = go (is_foreign around c) (wide_.is_foreign (noted_around around) d) (foreign_noted around c d n)
+  where
+    go : (b e : Bool) → e ≡ b → Alike (Comes around x y)
+        (elim b [ true ↦ restated around place c.tree x | false ↦ substituted around place (Some c) x ])
+        (elim e [ true ↦ wide_.restated (noted_around around) place d.tree y | false ↦ noted_.substituted (noted_around around) place (Some d) y ])
+    go true true f = subst (λ u. Alike (Comes around x y) (restated around place c.tree x) (wide_.restated (noted_around around) place u y)) (sym n.like) (restated_noted around place n.by c.tree x y packs)
+    go false false f = substituted_noted around place (Some c) (Some d) x y packs n
+    go true false f = absurd cc
+    go false true f = absurd cc

@@ -1,16 +1,16 @@
 -- What the shape of a symbol is read as.
-use Rattle.std.specs.Prelude.{◌≡◌, ℕ, List, [], ◌∷◌, true, Ok}
-use Rattle.sym_shape.specs.Tree.{Tree}
-use Rattle.cpp_grammar.specs.Unfolding.{unfold_cpp}
+use Rattle.std.specs.Prelude.{◌≡◌, ℕ, List, [], ◌∷◌, true, Result, Ok}
+use Rattle.sym_core.specs.declared.refusal.Refusal.{Refusal}
+use Rattle.cpp_grammar.specs.Term as plain_
 use Rattle.cpp_term.specs.Term.{Term, symbol}
 use Rattle.cpp_term.specs.Values.{Value, tree}
 use Rattle.cpp_term.specs.Erased.{erase, CarriesArguments}
 
 -- The values are one tree, that of an encoding with what stands behind it. Each free parameter of it carries its argument, and
--- without the arguments it is the tree of the symbol.
-pub record IsReadAs (shape : Tree) (values : List Value) : Type 0 where
+-- without the arguments it is the tree that the symbol stands for.
+pub record IsReadAs (stands_for : Result plain_.Term Refusal) (values : List Value) : Type 0 where
   pub encoding : Term
   pub suffix : List ℕ
   pub one : values ≡ tree (symbol encoding suffix) true ∷ []
-  pub plain : unfold_cpp shape ≡ Ok (erase (symbol encoding suffix))
+  pub plain : stands_for ≡ Ok (erase (symbol encoding suffix))
   pub carries : CarriesArguments (symbol encoding suffix)

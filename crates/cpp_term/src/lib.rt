@@ -14,8 +14,10 @@ ghost use Rattle.cpp_grammar.specs.Table.{either};
 ghost use Rattle.cpp_grammar.specs.Answer.{shown, root_item, answer_within};
 ghost use Rattle.cpp_grammar.specs.Items.{Item};
 ghost use Rattle.cpp_grammar.specs.Parts as leaf_;
+ghost use Rattle.cpp_grammar.specs.Rescoping.{unfold_wide};
 ghost use Rattle.cpp_grammar.specs.Unfolding as unfolding_;
 ghost use Rattle.cpp_term.specs.Parts as part_;
+ghost use Rattle.cpp_term.specs.Rescoping as wide_;
 ghost use Rattle.cpp_term.specs.Unfolding as unfolded_;
 ghost use Rattle.cpp_term.specs.Annotated.{noted_item, noted_parts, noted_tree};
 ghost use Rattle.cpp_term.specs.Answer.{noted_shown, noted_answer};
@@ -31,9 +33,10 @@ pub fn parts_are_annotated()
 {}
 
 /// A well shaped symbol read with arguments in its parameters comes to the tree of the symbol (ABI 5.1.8, 5.1.10), each free
-/// parameter with its argument; or it's refused for the same reason, at the same place.
+/// parameter with its argument; or it's refused for the same reason, at the same place. So it is by the wide grammar.
 pub fn trees_are_annotated()
-    ensures { (shape : Tree) → IsTree either (Kind 0) shape → unfolded_.unfold_cpp shape ≡ noted_tree (unfolding_.unfold_cpp shape) }
+    ensures abi { (shape : Tree) → IsTree either (Kind 0) shape → unfolded_.unfold_cpp shape ≡ noted_tree (unfolding_.unfold_cpp shape) }
+    ensures wide { (shape : Tree) → IsTree either (Kind 0) shape → wide_.unfold_wide shape ≡ noted_tree (unfold_wide shape) }
 {}
 
 /// Without its arguments the tree that a symbol is read into is the tree of the symbol, and they can be told from that tree: no
@@ -47,7 +50,8 @@ pub fn arguments_are_erased()
 
 /// What a well shaped symbol is read as, part by part, is one tree, which without its arguments is the tree of the symbol.
 pub fn symbols_are_read_as_trees()
-    ensures { (shape : Tree) (read : Found (List Value) State) → IsTree either (Kind 0) shape → unfold_tree unfolded_.cpp unfolded_.first_around 0 shape unfolded_.first_state ≡ Ok read → IsReadAs shape read.value }
+    ensures wide { (shape : Tree) (read : Found (List Value) State) → IsTree either (Kind 0) shape → unfold_tree wide_.cpp_wide unfolded_.first_around 0 shape unfolded_.first_state ≡ Ok read → IsReadAs (unfold_wide shape) read.value }
+    ensures abi { (shape : Tree) (read : Found (List Value) State) → IsTree either (Kind 0) shape → unfold_tree unfolded_.cpp unfolded_.first_around 0 shape unfolded_.first_state ≡ Ok read → IsReadAs (unfolding_.unfold_cpp shape) read.value }
 {}
 
 /// A tree whose parameters carry their arguments has the text and the cost of the tree without them, in either detail.
@@ -58,5 +62,6 @@ pub fn texts_are_the_same()
 /// The answer for a well shaped symbol is that for its tree whose parameters carry their arguments: the text where that costs
 /// at most the limit, in either detail, or the refusal with its place.
 pub fn answers_are_the_same()
-    ensures { (detail : Detail) (limit : ℕ) (shape : Tree) → IsTree either (Kind 0) shape → noted_answer detail limit (unfolded_.unfold_cpp shape) ≡ answer_within detail limit (unfolding_.unfold_cpp shape) }
+    ensures wide { (detail : Detail) (limit : ℕ) (shape : Tree) → IsTree either (Kind 0) shape → noted_answer detail limit (wide_.unfold_wide shape) ≡ answer_within detail limit (unfold_wide shape) }
+    ensures abi { (detail : Detail) (limit : ℕ) (shape : Tree) → IsTree either (Kind 0) shape → noted_answer detail limit (unfolded_.unfold_cpp shape) ≡ answer_within detail limit (unfolding_.unfold_cpp shape) }
 {}

@@ -1,17 +1,23 @@
 -- A symbol that is linked is what its shape stands for.
-use Rattle.std.proofs.Common.{◌≡◌, refl, sym, ◌∙◌, ap, subst, arith, ℕ, ◌*◌, ◌+◌, ◌<◌, ◌≤◌, List, [], ◌∷◌, length, Bool, true, Ok}
+use Rattle.std.proofs.Common.{◌≡◌, refl, sym, ◌∙◌, ap, subst, arith, ℕ, ◌*◌, ◌+◌, ◌<◌, ◌≤◌, List, [], ◌∷◌, length, Bool, true, Result, Ok}
 use Rattle.sym_core.specs.Number.{FitsSymbol}
 use Rattle.sym_shape.specs.declared.rule.Row.{Row}
 use Rattle.sym_shape.specs.declared.rule.Sym.TheVariants.{Kind}
 use Rattle.sym_shape.specs.Table.{Table}
 use Rattle.sym_shape.specs.Tree.{Tree, IsTree, spell}
 use Rattle.sym_demangle.specs.Standing.{IsLinked}
-use Rattle.sym_link.proofs.Tally.{done_nodes}
+use Rattle.sym_core.specs.declared.refusal.Refusal.{Refusal}
+use Rattle.sym_link.proofs.Tally.{done_nodes, done_untallied}
+use Rattle.sym_link.specs.Reading.{Found}
+use Rattle.sym_link.specs.Tally.{tallied_view}
+use Rattle.sym_link.specs.Unfold.{found}
 use Rattle.sym_link.specs.Following.{IsDone, meaning_of}
 use Rattle.cpp_grammar.specs.Table.{either}
+use Rattle.cpp_grammar.specs.Term as plain_
 use Rattle.cpp_grammar.specs.Unfolding.{unfold_cpp}
+use Rattle.cpp_grammar.specs.Rescoping.{unfold_wide}
 use Rattle.cpp_term.specs.Term.{Term, symbol}
-use Rattle.cpp_term.specs.Values.{Value, tree, tree_of}
+use Rattle.cpp_term.specs.Values.{Value, State, tree, tree_of}
 use Rattle.cpp_term.specs.Erased.{erase, CarriesArguments}
 use Rattle.cpp_term.specs.ReadAs.{IsReadAs}
 use Rattle.cpp_tree.specs.Nodes.{tree_at, over, IsTable}
@@ -20,7 +26,11 @@ use Rattle.cpp_link.specs.declared.linked.Linked.{Linked}
 use Rattle.cpp_link.specs.Parts.{trees_in, value_of, IsThere}
 use Rattle.cpp_link.specs.NodeCount.{cpp_makes, cpp_counted, counted_nodes, nodes_of_shape}
 use Rattle.cpp_link.specs.View.{cpp_view}
-use Rattle.cpp_link.proofs.LinkReading.{counted_same}
+use Rattle.cpp_link.specs.LinkRescoping.{wide_makes, wide_view, wide_counted, wide_nodes_of_shape}
+use Rattle.cpp_link.specs.declared.rescoping.Rescoping.{Rescoping}
+use Rattle.cpp_link.proofs.LinkReading.{meaning_same, counted_same, wide_meaning_same, wide_counted_same}
+use Rattle.cpp_term.proofs.Wholes.{read_as, wide_read_as}
+use Rattle.itanium.specs.Whole.{HasWhole}
 use Rattle.cpp_layout.specs.Layout.{IsRead}
 
 -- ## The one part
@@ -45,29 +55,14 @@ tree_part s ts n (Part.Piece p) t listed is there = absurd cc
 tree_part s ts n (Part.Named node q m) t listed is there = absurd cc
 tree_part s ts n (Part.Signature list m) t listed is there = absurd cc
 
--- the one part is the node of a symbol, for which the shape stands
-pub record HasWhole (s : List ℕ) (shape : Tree) (linked : Linked) (parts : List Part) : Type 0 where
-  pub node : ℕ
-  pub listed : Bool
-  pub encoding : Term
-  pub suffix : List ℕ
-  pub parts_are : parts ≡ Part.Tree node listed ∷ []
-  pub below : node < length linked.nodes.nodes
-  pub whole : tree_at (trees_in s linked.nodes) node ≡ symbol encoding suffix
-  pub carries : CarriesArguments (symbol encoding suffix)
-  pub stands : unfold_cpp shape ≡ Ok (erase (symbol encoding suffix))
-  pub table : IsTable (over s linked.nodes)
-  pub nodes : length linked.nodes.nodes ≤ 2 * length s + 8
-  pub thunks : length linked.nodes.thunks ≤ length linked.nodes.nodes
-
 value_first : Value → List Value → Value
 value_first other [] = other
 value_first other (v ∷ vs) = v
 
-pub has_whole : (s : List ℕ) (rows : List Row) (shape : Tree) (linked : Linked) (parts : List Part) (done : IsDone (cpp_view s) s rows (meaning_of (cpp_view s) shape) linked parts)
-    → IsReadAs shape (done.value ∷ []) → HasWhole s shape linked parts
+has_whole : (s : List ℕ) (rows : List Row) (meaning : Result (Found (List Value) State) Refusal) (stands_for : Result plain_.Term Refusal) (linked : Linked) (parts : List Part)
+    (done : IsDone (cpp_view s) s rows meaning linked parts) → IsReadAs stands_for (done.value ∷ []) → HasWhole s stands_for linked parts
 unfolding value_first
-has_whole s rows shape linked parts done read =
+has_whole s rows meaning stands_for linked parts done read =
     let value_is : done.value ≡ tree (symbol read.encoding read.suffix) true = ap (value_first done.value) read.one in
     let node = tree_part s (trees_in s linked.nodes) (length linked.nodes.nodes) done.part (symbol read.encoding read.suffix) true (done.is_part.is ∙ value_is) done.is_part.there in
     record {
@@ -92,20 +87,20 @@ node_of (Part.Tree node listed ∷ parts) = node
 node_of parts = 0
 
 -- the node of the one part is that of the whole
-same_node : (s : List ℕ) (shape : Tree) (linked : Linked) (parts : List Part) (w : HasWhole s shape linked parts) (node : ℕ) (listed : Bool) → parts ≡ Part.Tree node listed ∷ [] → w.node ≡ node
+same_node : (s : List ℕ) (stands_for : Result plain_.Term Refusal) (linked : Linked) (parts : List Part) (w : HasWhole s stands_for linked parts) (node : ℕ) (listed : Bool) → parts ≡ Part.Tree node listed ∷ [] → w.node ≡ node
 unfolding node_of
-same_node s shape linked parts w node listed is = ap node_of (sym w.parts_are ∙ is)
+same_node s stands_for linked parts w node listed is = ap node_of (sym w.parts_are ∙ is)
 
-pub whole_stands : (s : List ℕ) (shape : Tree) (linked : Linked) (parts : List Part) (w : HasWhole s shape linked parts) (node : ℕ) (listed : Bool) → parts ≡ Part.Tree node listed ∷ []
-    → Ok (erase (tree_at (trees_in s linked.nodes) node)) ≡ unfold_cpp shape
-whole_stands s shape linked parts w node listed is =
-    ap (λ k. Ok (erase (tree_at (trees_in s linked.nodes) k))) (sym (same_node s shape linked parts w node listed is)) ∙ ap (λ t. Ok (erase t)) w.whole ∙ sym w.stands
+pub whole_stands : (s : List ℕ) (stands_for : Result plain_.Term Refusal) (linked : Linked) (parts : List Part) (w : HasWhole s stands_for linked parts) (node : ℕ) (listed : Bool) → parts ≡ Part.Tree node listed ∷ []
+    → Ok (erase (tree_at (trees_in s linked.nodes) node)) ≡ stands_for
+whole_stands s stands_for linked parts w node listed is =
+    ap (λ k. Ok (erase (tree_at (trees_in s linked.nodes) k))) (sym (same_node s stands_for linked parts w node listed is)) ∙ ap (λ t. Ok (erase t)) w.whole ∙ sym w.stands
 
-pub reads : (s : List ℕ) (shape : Tree) (linked : Linked) (parts : List Part) (w : HasWhole s shape linked parts) (node rows steps : ℕ) (listed : Bool) → parts ≡ Part.Tree node listed ∷ []
+pub reads : (s : List ℕ) (stands_for : Result plain_.Term Refusal) (linked : Linked) (parts : List Part) (w : HasWhole s stands_for linked parts) (node rows steps : ℕ) (listed : Bool) → parts ≡ Part.Tree node listed ∷ []
     → FitsSymbol s → rows ≤ 4 * length s + 4 → rows ≤ steps → steps ≤ 32 * length s + 48
     → IsRead (record { bytes = s; table = linked.nodes; root = node; rows = rows; steps = steps })
-reads s shape linked parts w node rows steps listed is fits few each all =
-    let same = same_node s shape linked parts w node listed is in
+reads s stands_for linked parts w node rows steps listed is fits few each all =
+    let same = same_node s stands_for linked parts w node listed is in
     let whole_is : tree_at (trees_in s linked.nodes) node ≡ symbol w.encoding w.suffix = ap (tree_at (trees_in s linked.nodes)) (sym same) ∙ w.whole in
     record {
       table = w.table;
@@ -120,25 +115,64 @@ reads s shape linked parts w node rows steps listed is fits few each all =
       counted = each;
     }
 
--- its nodes are those that were counted
-pub nodes_counted : (s : List ℕ) (rows : List Row) (shape : Tree) (linked : Linked) (parts : List Part) → IsTree either (Kind 0) shape → spell shape ≡ s
-    → IsDone (cpp_counted s) s rows (meaning_of (cpp_counted s) shape) linked parts
-    → length linked.nodes.nodes ≡ nodes_of_shape shape
-nodes_counted s rows shape linked parts is spelled done =
-    let count = done_nodes (cpp_view s) cpp_makes s rows shape linked parts counted_nodes (λ read. refl) done
-    ∙ ap counted_nodes (counted_same s shape is spelled cpp_makes) in
-    omega (arith, count, done.paid.begun)
+-- ## By each reading
 
--- what is linked of one grammar's symbol is linked of the table of both
-pub of_both : (g : Table) (s : List ℕ) (linked : Linked) (parts : List Part) (rows steps : ℕ) (shape : Tree) → IsLinked g (cpp_counted s) s linked parts rows steps shape → IsLinked either (cpp_counted s) s linked parts rows steps shape
-of_both g s linked parts rows steps shape is = record {
-  rows = is.rows;
-  is_tree = is.is_shape.is_tree;
-  is_shape = is.is_shape;
-  fits = is.fits;
-  done = is.done;
-  counted = is.counted;
-  rows_few = is.rows_few;
-  each = is.each;
-  steps_few = is.steps_few;
+pub abi_whole : (g : Table) (s : List ℕ) (linked : Linked) (parts : List Part) (rows steps : ℕ) (shape : Tree) → IsLinked g (cpp_counted s) s linked parts rows steps shape
+    → HasWhole s (unfold_cpp shape) linked parts
+abi_whole g s linked parts rows steps shape is =
+    let done = done_untallied (cpp_view s) cpp_makes s is.rows shape linked parts is.done in
+    has_whole s is.rows (meaning_of (cpp_view s) shape) (unfold_cpp shape) linked parts done
+    (read_as shape (found (done.value ∷ []) done.state) is.is_shape.is_tree (sym (meaning_same s shape is.is_shape.is_tree is.is_shape.spelled) ∙ done.means))
+
+-- what is linked within
+done_within : (s : List ℕ) (rows : List Row) (shape : Tree) (l : Rescoping) (parts : List Part) → IsDone (wide_counted s) s rows (meaning_of (wide_counted s) shape) l parts
+    → IsDone (tallied_view (wide_view s) wide_makes) s rows (meaning_of (tallied_view (wide_view s) wide_makes) shape) l.linked parts
+done_within s rows shape l parts done = record {
+  part = done.part;
+  value = done.value;
+  state = done.state;
+  parts_are = done.parts_are;
+  means = done.means;
+  is_part = done.is_part;
+  holds = done.holds;
+  size = done.size;
+  paid = done.paid;
 }
+
+done_plain : (s : List ℕ) (rows : List Row) (meaning : Result (Found (List Value) State) Refusal) (l : Linked) (parts : List Part) → IsDone (wide_view s) s rows meaning l parts
+    → IsDone (cpp_view s) s rows meaning l parts
+done_plain s rows meaning l parts done = record {
+  part = done.part;
+  value = done.value;
+  state = done.state;
+  parts_are = done.parts_are;
+  means = done.means;
+  is_part = done.is_part;
+  holds = done.holds;
+  size = done.size;
+  paid = done.paid;
+}
+
+pub wide_whole : (g : Table) (s : List ℕ) (l : Rescoping) (parts : List Part) (rows steps : ℕ) (shape : Tree) → IsLinked g (wide_counted s) s l parts rows steps shape
+    → HasWhole s (unfold_wide shape) l.linked parts
+wide_whole g s l parts rows steps shape is =
+    let meaning = meaning_of (wide_view s) shape in
+    let done = done_plain s is.rows meaning l.linked parts (done_untallied (wide_view s) wide_makes s is.rows shape l.linked parts (done_within s is.rows shape l parts is.done)) in
+    has_whole s is.rows meaning (unfold_wide shape) l.linked parts done
+    (wide_read_as shape (found (done.value ∷ []) done.state) is.is_shape.is_tree (sym (wide_meaning_same s shape is.is_shape.is_tree is.is_shape.spelled) ∙ done.means))
+
+-- ## How many nodes there are
+
+pub abi_nodes : (g : Table) (s : List ℕ) (linked : Linked) (parts : List Part) (rows steps : ℕ) (shape : Tree) → IsLinked g (cpp_counted s) s linked parts rows steps shape
+    → length linked.nodes.nodes ≡ nodes_of_shape shape
+abi_nodes g s linked parts rows steps shape is =
+    let count = done_nodes (cpp_view s) cpp_makes s is.rows shape linked parts counted_nodes (λ read. refl) is.done
+    ∙ ap counted_nodes (counted_same s shape is.is_shape.is_tree is.is_shape.spelled cpp_makes) in
+    omega (arith, count, is.done.paid.begun)
+
+pub wide_nodes : (g : Table) (s : List ℕ) (l : Rescoping) (parts : List Part) (rows steps : ℕ) (shape : Tree) → IsLinked g (wide_counted s) s l parts rows steps shape
+    → length l.linked.nodes.nodes ≡ wide_nodes_of_shape shape
+wide_nodes g s l parts rows steps shape is =
+    let count = done_nodes (wide_view s) wide_makes s is.rows shape l.linked parts counted_nodes (λ read. refl) (done_within s is.rows shape l parts is.done)
+    ∙ ap counted_nodes (wide_counted_same s shape is.is_shape.is_tree is.is_shape.spelled wide_makes) in
+    omega (arith, count, is.done.paid.begun)

@@ -2,7 +2,9 @@
 use Rattle.std.proofs.Common.{arith, ℕ, List, length}
 use Rattle.sym_demangle.specs.Standing.{CountsNodes}
 use Rattle.cpp_link.specs.declared.linked.Linked.{Linked}
+use Rattle.cpp_link.specs.declared.rescoping.Rescoping.{Rescoping}
 use Rattle.cpp_link.specs.NodeCount.{cpp_counted}
+use Rattle.cpp_link.specs.LinkRescoping.{wide_counted}
 
 abbrev pub node_count : Linked → ℕ
 node_count linked = length linked.nodes.nodes
@@ -13,3 +15,10 @@ first_nodes = 3
 
 pub cpp_counts : (s : List ℕ) → CountsNodes (cpp_counted s) node_count first_nodes
 cpp_counts s = record { few = omega arith; most = λ nodes. omega arith; least = λ nodes bytes paid. omega (arith, paid.begun) }
+
+-- the same by the wide grammar
+abbrev pub wide_node_count : Rescoping → ℕ
+wide_node_count l = node_count l.linked
+
+pub wide_counts : (s : List ℕ) → CountsNodes (wide_counted s) wide_node_count first_nodes
+wide_counts s = record { few = omega arith; most = λ nodes. omega arith; least = λ nodes bytes paid. omega (arith, paid.begun) }

@@ -10,10 +10,12 @@ use Rattle.sym_link.proofs.Tally.{fails_untallied}
 use Rattle.cpp_grammar.specs.Table.{abi, wide, either}
 use Rattle.cpp_grammar.proofs.Growing.{abi_either, wide_either}
 use Rattle.cpp_grammar.specs.Unfolding.{unfold_cpp}
-use Rattle.cpp_term.proofs.Erasing.{reading_fails}
+use Rattle.cpp_grammar.specs.Rescoping.{unfold_wide}
+use Rattle.cpp_term.proofs.Erasing.{reading_fails, wide_reading_fails}
 use Rattle.cpp_link.specs.View.{cpp_view}
 use Rattle.cpp_link.specs.NodeCount.{cpp_makes, cpp_counted}
-use Rattle.cpp_link.proofs.LinkReading.{meaning_same}
+use Rattle.cpp_link.specs.LinkRescoping.{wide_view, wide_makes, wide_counted}
+use Rattle.cpp_link.proofs.LinkReading.{meaning_same, wide_meaning_same}
 
 pub cpp_fails : (shape : Tree) (refusal : Refusal) → IsTree either (Kind 0) shape → Fails refusal (meaning_of (cpp_counted (spell shape)) shape) → Fails refusal (unfold_cpp shape)
 cpp_fails shape refusal is fails =
@@ -30,5 +32,8 @@ abi_fails shape refusal is fails = cpp_fails shape refusal (abi_grows shape is) 
 pub wide_grows : GrowsInto wide either
 wide_grows tree is = wide_either (Kind 0) tree is
 
-pub wide_fails : (shape : Tree) (refusal : Refusal) → IsTree wide (Kind 0) shape → Fails refusal (meaning_of (cpp_counted (spell shape)) shape) → Fails refusal (unfold_cpp shape)
-wide_fails shape refusal is fails = cpp_fails shape refusal (wide_grows shape is) fails
+pub wide_fails : (shape : Tree) (refusal : Refusal) → IsTree wide (Kind 0) shape → Fails refusal (meaning_of (wide_counted (spell shape)) shape) → Fails refusal (unfold_wide shape)
+wide_fails shape refusal is fails =
+    let tree = wide_grows shape is in
+    wide_reading_fails shape refusal tree
+    (subst (Fails refusal) (wide_meaning_same (spell shape) shape tree refl) (fails_untallied (wide_view (spell shape)) wide_makes shape refusal fails))

@@ -1,23 +1,25 @@
 // C++'s mangling, as the demangler takes it.
 
-ghost use Rattle.std.specs.Prelude.{◌≡◌, ℕ, ◌∷◌, [], length, Bool, OnOk, IfErr, Ok};
+ghost use Rattle.std.specs.Prelude.{◌≡◌, ℕ, ◌*◌, ◌+◌, ◌≤◌, ◌∷◌, [], length, Bool, OnOk, IfErr, Result, Ok};
 ghost use Rattle.sym_core.specs.Number.{FitsSymbol};
+ghost use Rattle.sym_core.specs.declared.refusal.Refusal.{Refusal};
 ghost use Rattle.sym_core.specs.declared.refusal.Refusal.TheVariants as refusals;
 ghost use Rattle.sym_print.specs.declared.layout.Part.TheVariants as parts;
 ghost use Rattle.sym_shape.specs.Tree.{Tree};
 ghost use Rattle.sym_demangle.specs.Standing.{Begins, IsLinked};
-ghost use Rattle.cpp_grammar.specs.Table.{abi, either};
+ghost use Rattle.cpp_grammar.specs.Table.{abi};
+ghost use Rattle.cpp_grammar.specs.Term.{Term};
 ghost use Rattle.cpp_grammar.specs.Answer.{shown, root_item};
 ghost use Rattle.cpp_grammar.specs.Unfolding.{unfold_cpp};
 ghost use Rattle.cpp_layout.specs.Layout.{MayBeAsked, unshared_of, whole_of};
 ghost use Rattle.cpp_link.specs.declared.part.Part.TheVariants as part;
 ghost use Rattle.cpp_link.specs.NodeCount.{cpp_counted, nodes_of_shape};
+ghost use Rattle.itanium.specs.Whole.{HasWhole};
 
 use crate::grammar::Abi;
 use cpp_layout::{Context, Detail, Symbol};
 use cpp_link::linked::Linked;
 use cpp_link::part::Part;
-use cpp_term::symbols_are_read_as_trees;
 use cpp_tree::Nodes;
 use std::alloc::Global;
 use std::mem;
@@ -36,7 +38,7 @@ fn whole_node(parts: &[Part]) -> u32
     }
 }
 
-/// The symbol whose shape was linked.
+/// The symbol that was linked.
 #[inline]
 pub(crate) fn finished(
     bytes: Vec<u8>,
@@ -45,14 +47,17 @@ pub(crate) fn finished(
     rows: u32,
     steps: u32,
 ) -> Symbol
-    requires { (shape : Tree) × IsLinked either (cpp_counted bytes.items) bytes.items linked.old parts.now rows steps shape }
+    requires whole { (read : Result Term Refusal) × HasWhole bytes.items read linked.old parts.now }
+    requires fits { FitsSymbol bytes.items }
+    requires few { rows ≤ 4 * length bytes.items + 4 }
+    requires each { rows ≤ steps }
+    requires most { steps ≤ 32 * length bytes.items + 48 }
     ensures bytes { result.bytes ≡ bytes.items }
-    ensures whole { (shape : Tree) → IsLinked either (cpp_counted bytes.items) bytes.items linked.old parts.now rows steps shape → Ok (whole_of result) ≡ unfold_cpp shape }
+    ensures whole { (read : Result Term Refusal) → HasWhole bytes.items read linked.old parts.now → Ok (whole_of result) ≡ read }
     ensures rows { result.rows ≡ rows }
     ensures steps { result.steps ≡ steps }
-    ensures nodes { (shape : Tree) → IsLinked either (cpp_counted bytes.items) bytes.items linked.old parts.now rows steps shape → length result.table.nodes ≡ nodes_of_shape shape }
+    ensures nodes { result.table.nodes ≡ linked.old.nodes.nodes }
 {
-    symbols_are_read_as_trees();
     let root = whole_node(parts);
     let empty = Nodes::new(*bytes.allocator());
     let nodes = mem::replace(&mut linked.nodes, empty);

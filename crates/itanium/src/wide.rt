@@ -8,15 +8,15 @@ ghost use Rattle.sym_shape.specs.Tree.{Tree};
 ghost use Rattle.sym_demangle.specs.Standing.{Begins, IsLinked};
 ghost use Rattle.cpp_grammar.specs.Table.{wide};
 ghost use Rattle.cpp_grammar.specs.Answer.{shown, root_item};
-ghost use Rattle.cpp_grammar.specs.Unfolding.{unfold_cpp};
+ghost use Rattle.cpp_grammar.specs.Rescoping.{unfold_wide};
 ghost use Rattle.cpp_layout.specs.Layout.{MayBeAsked, unshared_of, whole_of};
-ghost use Rattle.cpp_link.specs.NodeCount.{cpp_counted, nodes_of_shape};
+ghost use Rattle.cpp_link.specs.LinkRescoping.{wide_counted, wide_nodes_of_shape};
 
 use crate::grammar::Wide;
 use crate::mangling::finished;
 use cpp_layout::{Context, Detail, Symbol};
-use cpp_link::linked::Linked;
 use cpp_link::part::Part;
+use cpp_link::rescoping::Rescoping;
 use std::alloc::Global;
 use sym_core::Refusal;
 use sym_demangle::Mangling;
@@ -27,12 +27,12 @@ impl Mangling for Wide {
     ghost use Rattle.cpp_grammar.specs.Mangled.{wide_mangled};
     ghost use Rattle.cpp_grammar.specs.Term.{Term};
     ghost use Rattle.cpp_layout.specs.Layout.{whole_of};
-    ghost use Rattle.cpp_link.specs.NodeCount.{are_nodes};
+    ghost use Rattle.cpp_link.specs.LinkRescoping.{are_wide_nodes};
     ghost use Rattle.itanium.specs.Counting as counting;
-    ghost use Rattle.itanium.specs.Counting.{cpp_counts, node_count};
+    ghost use Rattle.itanium.specs.Counting.{wide_counts, wide_node_count};
     ghost use Rattle.itanium.specs.Failing.{wide_grows, wide_fails};
 
-    type Linked = Linked;
+    type Linked = Rescoping;
 
     type Symbol = Symbol;
 
@@ -50,9 +50,9 @@ impl Mangling for Wide {
 
     ghost nodes_of = { λ y. length y.table.nodes };
 
-    ghost are_nodes = { are_nodes };
+    ghost are_nodes = { are_wide_nodes };
 
-    ghost count_of = { node_count };
+    ghost count_of = { wide_node_count };
 
     ghost first_nodes = { counting.first_nodes };
 
@@ -60,28 +60,28 @@ impl Mangling for Wide {
         Wide
     }
 
-    fn idle(alloc: Global) -> Linked {
-        Linked::new(alloc)
+    fn idle(alloc: Global) -> Rescoping {
+        Rescoping::new(alloc)
     }
 
-    fn restart(linked: &mut Linked, _symbol: &[u8]) -> Result<(), Refusal>
+    fn restart(linked: &mut Rescoping, _symbol: &[u8]) -> Result<(), Refusal>
         requires { FitsSymbol _symbol.now }
-        ensures begins { OnOk result (Begins (cpp_counted _symbol.now) linked.new) }
+        ensures begins { OnOk result (Begins (wide_counted _symbol.now) linked.new) }
         ensures memory { IfErr result (λ e. e ≡ refusals.Memory) }
     {
-        linked.restart()?;
+        linked.linked.restart()?;
         Ok(())
     }
 
-    fn finish(bytes: Vec<u8>, linked: &mut Linked, parts: &[Part], rows: u32, steps: u32) -> Symbol
-        requires { (shape : Tree) × IsLinked wide (cpp_counted bytes.items) bytes.items linked.old parts.now rows steps shape }
+    fn finish(bytes: Vec<u8>, linked: &mut Rescoping, parts: &[Part], rows: u32, steps: u32) -> Symbol
+        requires { (shape : Tree) × IsLinked wide (wide_counted bytes.items) bytes.items linked.old parts.now rows steps shape }
         ensures bytes { result.bytes ≡ bytes.items }
-        ensures whole { (shape : Tree) → IsLinked wide (cpp_counted bytes.items) bytes.items linked.old parts.now rows steps shape → Ok (whole_of result) ≡ unfold_cpp shape }
+        ensures whole { (shape : Tree) → IsLinked wide (wide_counted bytes.items) bytes.items linked.old parts.now rows steps shape → Ok (whole_of result) ≡ unfold_wide shape }
         ensures rows { result.rows ≡ rows }
         ensures steps { result.steps ≡ steps }
-        ensures nodes { (shape : Tree) → IsLinked wide (cpp_counted bytes.items) bytes.items linked.old parts.now rows steps shape → length result.table.nodes ≡ nodes_of_shape shape }
+        ensures nodes { (shape : Tree) → IsLinked wide (wide_counted bytes.items) bytes.items linked.old parts.now rows steps shape → length result.table.nodes ≡ wide_nodes_of_shape shape }
     {
-        finished(bytes, linked, parts, rows, steps)
+        finished(bytes, &mut linked.linked, parts, rows, steps)
     }
 
     fn root(symbol: &Symbol, detail: Detail) -> Item<Context>
@@ -91,9 +91,9 @@ impl Mangling for Wide {
         symbol.root_as(detail)
     }
 
-    fn recycle(linked: &mut Linked, symbol: Symbol) -> Vec<u8> {
+    fn recycle(linked: &mut Rescoping, symbol: Symbol) -> Vec<u8> {
         let (bytes, nodes) = symbol.into_lists();
-        linked.nodes = nodes;
+        linked.linked.nodes = nodes;
         bytes
     }
 
@@ -103,7 +103,7 @@ impl Mangling for Wide {
 
     ghost table_is = { refl };
 
-    ghost counts_nodes = { cpp_counts };
+    ghost counts_nodes = { wide_counts };
 
     ghost view_table = { λ s tree is. wide_grows tree is };
 

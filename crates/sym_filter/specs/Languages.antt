@@ -9,6 +9,7 @@ use Rattle.sym_demangle.specs.Standing.{AreStepsInAll, AreNodesOf}
 use Rattle.cpp_grammar.specs.Mangled.{cpp_mangled, wide_mangled}
 use Rattle.cpp_grammar.specs.Term.{Term}
 use Rattle.cpp_layout.specs.Layout as cpp
+use Rattle.cpp_link.specs.LinkRescoping.{are_wide_nodes}
 use Rattle.cpp_link.specs.NodeCount as cpp_count
 use Rattle.rust_tree.specs.Counts.{IsRead}
 use Rattle.rust_tree.specs.Layout.{ReadSymbol}
@@ -85,7 +86,7 @@ wide_readings = record {
   IsRead = λ read. cpp.IsRead read;
   bytes_of = λ read. read.bytes;
   whole_of = λ read. cpp.whole_of read;
-  are_nodes = cpp_count.are_nodes;
+  are_nodes = are_wide_nodes;
   nodes_a_byte = 2;
 }
 

@@ -1,12 +1,26 @@
+use Rattle.std.proofs.Common.{◌∙◌, ap, length}
 use Rattle.cpp_grammar.specs.Table.{abi}
-use Rattle.itanium.proofs.Standing.{of_both}
+use Rattle.cpp_grammar.specs.Unfolding.{unfold_cpp}
+use Rattle.itanium.proofs.Standing.{abi_whole, abi_nodes}
 use Rattle.itanium.proofs.mangling.AbiMangling.finish.Goals as goal
 
-pub finished-requires : goal.finished-requires
-finished-requires c = (c.requires.0, of_both abi c.args.bytes.items c.args.linked.now c.args.parts.now c.args.rows c.args.steps c.requires.0 c.requires.1)
+pub finished-requires-clause-whole : goal.finished-requires-clause-whole
+finished-requires-clause-whole c = (unfold_cpp c.requires.0, abi_whole abi c.args.bytes.items c.args.linked.now c.args.parts.now c.args.rows c.args.steps c.requires.0 c.requires.1)
+
+pub finished-requires-clause-fits : goal.finished-requires-clause-fits
+finished-requires-clause-fits c = c.requires.1.fits
+
+pub finished-requires-clause-few : goal.finished-requires-clause-few
+finished-requires-clause-few c = c.requires.1.rows_few
+
+pub finished-requires-clause-each : goal.finished-requires-clause-each
+finished-requires-clause-each c = c.requires.1.each
+
+pub finished-requires-clause-most : goal.finished-requires-clause-most
+finished-requires-clause-most c = c.requires.1.steps_few
 
 pub returns-clause-whole : goal.returns-clause-whole
-returns-clause-whole c shape is = c.finished.ensures.whole shape (of_both abi c.args.bytes.items c.args.linked.now c.args.parts.now c.args.rows c.args.steps shape is)
+returns-clause-whole c shape is = c.finished.ensures.whole (unfold_cpp shape) (abi_whole abi c.args.bytes.items c.args.linked.now c.args.parts.now c.args.rows c.args.steps shape is)
 
 pub returns-clause-nodes : goal.returns-clause-nodes
-returns-clause-nodes c shape is = c.finished.ensures.nodes shape (of_both abi c.args.bytes.items c.args.linked.now c.args.parts.now c.args.rows c.args.steps shape is)
+returns-clause-nodes c shape is = ap length c.finished.ensures.nodes ∙ abi_nodes abi c.args.bytes.items c.args.linked.now c.args.parts.now c.args.rows c.args.steps shape is

@@ -1,0 +1,63 @@
+-- The two readings of C++, as one that is given what is done between the parts of a production and behind them.
+use Rattle.std.proofs.Common.{◌≡◌, refl, ℕ, List, [], ◌∷◌, Bool, true, false, Result, Ok}
+use Rattle.std.proofs.lemmas.Bool.{true≢false}
+use Rattle.sym_core.specs.declared.refusal.Refusal.{Refusal}
+use Rattle.sym_link.specs.Reading.{Found, Reading}
+use Rattle.sym_link.specs.Unfold.{found}
+use Rattle.cpp_grammar.specs.declared.production.Production.{Production}
+use Rattle.cpp_grammar.specs.Values.{State, Around, Value, nothing_there, text}
+use Rattle.cpp_grammar.specs.Between.{Going, between}
+use Rattle.cpp_grammar.specs.Unfolding.{opening, close, production_at, byte_of}
+use Rattle.cpp_grammar.specs.Rescoping.{between_wide, close_wide}
+
+pub record Way : Type 0 where
+  pub between : Production → Around → (place : ℕ) → List Value → State → Going
+  pub close : Production → (byte : ℕ) → Around → (place : ℕ) → (began : State) → List Value → State → Result (Found Value State) Refusal
+
+unfoldable pub reading_by : Way → Reading Value State Around
+reading_by w = record {
+  rowless = nothing_there ∷ [];
+  token = λ place t state. Ok (found (text t.own) state);
+  begin = λ rule parts. opening (production_at rule.rule.number) parts rule.place rule.before;
+  between = λ rule known state. w.between (production_at rule.rule.number) rule.context rule.place known state;
+  close = λ rule known state. w.close (production_at rule.rule.number) (byte_of rule.taken) rule.context rule.place rule.before known state;
+}
+
+unfoldable pub abi_way : Way
+abi_way = record { between = between; close = close }
+
+unfoldable pub wide_way : Way
+wide_way = record { between = between_wide; close = close_wide }
+
+-- the productions of references, in which alone they differ
+unfoldable pub is_reference : Production → Bool
+is_reference Production.Parameter = true
+is_reference Production.NestParameter = true
+is_reference Production.Substitution = true
+is_reference _ = false
+
+-- all others go as in the reading of the ABI's grammar
+pub record IsPlain (w : Way) : Type 0 where
+  pub between : (p : Production) → is_reference p ≡ false → (around : Around) (place : ℕ) (vs : List Value) (state : State) → w.between p around place vs state ≡ between p around place vs state
+  pub close : (p : Production) → is_reference p ≡ false → (byte : ℕ) (around : Around) (place : ℕ) (began : State) (vs : List Value) (state : State) →
+      w.close p byte around place began vs state ≡ close p byte around place began vs state
+
+pub abi_plain : IsPlain abi_way
+unfolding abi_way
+abi_plain = record { between = λ p apart around place vs state. refl; close = λ p apart byte around place began vs state. refl }
+
+plain_between : (p : Production) → is_reference p ≡ false → (around : Around) (place : ℕ) (vs : List Value) (state : State) → between_wide p around place vs state ≡ between p around place vs state
+unfolding is_reference between_wide
+plain_between Production.Parameter apart around place vs state = absurd (true≢false apart)
+plain_between Production.NestParameter apart around place vs state = absurd (true≢false apart)
+plain_between _ apart around place vs state = refl
+
+plain_close : (p : Production) → is_reference p ≡ false → (byte : ℕ) (around : Around) (place : ℕ) (began : State) (vs : List Value) (state : State) →
+    close_wide p byte around place began vs state ≡ close p byte around place began vs state
+unfolding is_reference close_wide
+plain_close Production.Substitution apart byte around place began vs state = absurd (true≢false apart)
+plain_close _ apart byte around place began vs state = refl
+
+pub wide_plain : IsPlain wide_way
+unfolding wide_way
+wide_plain = record { between = plain_between; close = plain_close }

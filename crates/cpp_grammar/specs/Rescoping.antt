@@ -1,0 +1,118 @@
+-- The reading of the wide grammar (ABI 5.1.8, 5.1.10). It differs from that of the ABI's grammar in the parameters of a lambda's
+-- signature, which are the lambda's own, and in substitutions of trees whose parameter isn't the one that is meant where they are
+-- named.
+use Rattle.std.specs.Prelude.{ℕ, ◌-◌, ◌^◌, List, [], ◌∷◌, Bool, true, false, not, ◌||◌, ◌&&◌, nat_eq, nat_lt, cond, slice_get, Option, Some, None, Result, Ok, Err}
+use Rattle.sym_core.specs.declared.refusal.Refusal.{Refusal}
+use Rattle.sym_core.specs.declared.refusal.Refusal.TheVariants.{BadReference}
+use Rattle.sym_core.specs.declared.NumberKind.TheVariants.{Seq36}
+use Rattle.sym_core.specs.Value.{counted_value}
+use Rattle.sym_shape.specs.Tree.{Tree}
+use Rattle.sym_link.specs.Reading.{Found, Reading, ◌>>=◌}
+use Rattle.sym_link.specs.Unfold.{found, unfold_tree}
+use Rattle.cpp_grammar.specs.declared.production.Production.{Production}
+use Rattle.cpp_grammar.specs.Term.{Term, parameter, generic_parameter, pointer, lvalue, rvalue, qualified}
+use Rattle.cpp_grammar.specs.Scope.{count, element, is_open, is_generic, length_if_pack}
+use Rattle.cpp_grammar.specs.Values.{Candidate, State, Around, Value, nothing_there, tree, text, text_of, part}
+use Rattle.cpp_grammar.specs.References.{appended, with_packs, substituted}
+use Rattle.cpp_grammar.specs.Between.{Going, listed_so_far, parameter_so_far, index_of, between}
+use Rattle.cpp_grammar.specs.Unfolding.{opening, close, production_at, byte_of, first_around, first_state, first_tree}
+
+-- ## Parameters
+
+-- the number of a lambda's own parameter: all that are past any argument are one
+unfoldable pub generic_number : ℕ → ℕ
+generic_number k = cond (nat_lt k (2 ^ 32)) k (2 ^ 32 - 1)
+
+-- a parameter of the lambda in whose signature it stands is good whatever its number, and a candidate
+unfoldable pub generic_so_far : Around → ℕ → List Value → State → Going
+generic_so_far around k vs state = listed_so_far around (generic_parameter (generic_number k)) vs (appended around (generic_parameter (generic_number k)) state)
+
+-- in a signature a parameter is the lambda's own, and elsewhere one of the encoding around it
+unfoldable pub parameter_here : Around → (place : ℕ) → ℕ → List Value → State → Going
+parameter_here around place k vs state = elim around.in_lambda [
+  | true ↦ generic_so_far around k vs state
+  | false ↦ parameter_so_far around place k vs state
+]
+
+-- ## Substitutions
+
+-- A candidate has parameters that aren't meant here: those of an encoding, made in another or named in a signature, or a
+-- lambda's own, named outside a signature.
+unfoldable pub is_foreign : Around → Candidate → Bool
+is_foreign around c = (is_open c.tree && (around.in_lambda || not (nat_eq c.encoding around.encoding))) || (is_generic c.tree && not around.in_lambda)
+
+unfoldable pub number_of_parameter : Term → Option ℕ
+number_of_parameter (parameter k) = Some k
+number_of_parameter (generic_parameter k) = Some k
+number_of_parameter _ = None
+
+-- the number of a parameter, also of one behind a mark
+unfoldable pub number_behind_mark : Term → Option ℕ
+number_behind_mark (pointer t) = number_of_parameter t
+number_behind_mark (lvalue t) = number_of_parameter t
+number_behind_mark (rvalue t) = number_of_parameter t
+number_behind_mark (qualified q t) = number_of_parameter t
+number_behind_mark t = number_of_parameter t
+
+-- a parameter, or one behind a mark, with another parameter in its place
+unfoldable pub with_parameter : (named other : Term) → Term
+with_parameter (pointer t) other = pointer other
+with_parameter (lvalue t) other = lvalue other
+with_parameter (rvalue t) other = rvalue other
+with_parameter (qualified q t) other = qualified q other
+with_parameter t other = other
+
+-- the same with the argument of the scope here, where there is one
+unfoldable pub in_scope : Around → (place : ℕ) → Term → ℕ → State → Result (Found Value State) Refusal
+in_scope around place t k state = elim around.scope [
+  | None ↦ Err (BadReference place)
+  | Some arguments ↦ elim (nat_lt k (count arguments)) [
+    | false ↦ Err (BadReference place)
+    | true ↦ with_packs place around.in_expansion (length_if_pack (element arguments k)) state >>= λ s. Ok (found (tree (with_parameter t (parameter k)) true) s)
+  ]
+]
+
+-- A tree whose parameter isn't meant here stands for the same with the parameter that is. It is one parameter, or one behind a
+-- mark: any other is refused.
+unfoldable pub restated : Around → (place : ℕ) → Term → State → Result (Found Value State) Refusal
+restated around place t state = elim (number_behind_mark t) [
+  | None ↦ Err (BadReference place)
+  | Some k ↦ elim around.in_lambda [
+    | true ↦ Ok (found (tree (with_parameter t (generic_parameter k)) true) state)
+    | false ↦ in_scope around place t k state
+  ]
+]
+
+-- a substitution names a candidate
+unfoldable pub substituted_wide : Around → (place : ℕ) → Option Candidate → State → Result (Found Value State) Refusal
+substituted_wide around place None state = Err (BadReference place)
+substituted_wide around place (Some c) state = elim (is_foreign around c) [
+  | true ↦ restated around place c.tree state
+  | false ↦ substituted around place (Some c) state
+]
+
+-- ## The unfolding
+
+unfoldable pub between_wide : Production → Around → (place : ℕ) → List Value → State → Going
+between_wide Production.Parameter around place (v ∷ []) state = parameter_here around place (index_of v) [] state
+between_wide Production.NestParameter around place (v ∷ []) state = parameter_here around place (index_of v) [] state
+between_wide production around place vs state = between production around place vs state
+
+unfoldable pub close_wide : Production → (byte : ℕ) → Around → (place : ℕ) → (began : State) → List Value → State → Result (Found Value State) Refusal
+close_wide Production.Substitution byte around place began vs state =
+    substituted_wide around (place - 1) (slice_get state.candidates (counted_value Seq36 (text_of (part vs 0)))) state
+close_wide production byte around place began vs state = close production byte around place began vs state
+
+-- C++ by the wide grammar as a language
+unfoldable pub cpp_wide : Reading Value State Around
+cpp_wide = record {
+  rowless = nothing_there ∷ [];
+  token = λ place t state. Ok (found (text t.own) state);
+  begin = λ rule parts. opening (production_at rule.rule.number) parts rule.place rule.before;
+  between = λ rule known state. between_wide (production_at rule.rule.number) rule.context rule.place known state;
+  close = λ rule known state. close_wide (production_at rule.rule.number) (byte_of rule.taken) rule.context rule.place rule.before known state;
+}
+
+-- the tree that a symbol of the wide grammar with this shape stands for, or the refusal at its first bad token by place
+unfoldable pub unfold_wide : Tree → Result Term Refusal
+unfold_wide shape = unfold_tree cpp_wide first_around 0 shape first_state >>= λ whole. Ok (first_tree whole.value)

@@ -1,0 +1,335 @@
+-- What the wide reading says of a rule that stands open, in terms of the frame and the nodes.
+use Rattle.std.proofs.Common.{◌≡◌, refl, sym, ◌∙◌, ap, subst, arith, ℕ, zero, suc, ◌+◌, ◌-◌, ◌<◌, ◌≤◌, List, [], ◌∷◌, ◌++◌, length, take, drop, Bool, true, false, ◌&&◌, nat_eq, Option, Some, None, Ok, Err, slice_get}
+use Rattle.std.specs.Prelude.{Result, OnOk, IfSome}
+use Rattle.std.proofs.lemmas.List.{length-drop, take-append-drop}
+use Rattle.std.proofs.lemmas.Bool.{true≢false, false≢true}
+use Rattle.sym_core.specs.declared.refusal.Refusal.{Refusal}
+use Rattle.sym_core.specs.declared.refusal.Refusal.TheVariants.{Memory}
+use Rattle.sym_link.specs.declared.language.Frame.{Frame}
+use Rattle.sym_link.specs.Reading.{Open}
+use Rattle.sym_link.specs.Driving.{Fails}
+use Rattle.sym_link.specs.Linking.{Puts}
+use Rattle.sym_link.specs.Threads.{IsAt, Goes, GoesOn, ClosesAll}
+use Rattle.sym_link.specs.Unfold.{found}
+use Rattle.cpp_grammar.specs.declared.production.Production.{Production}
+use Rattle.cpp_grammar.specs.Unfolding.{production_at, byte_of}
+use Rattle.cpp_term.specs.Term.{Term, pointer, lvalue, rvalue, qualified}
+use Rattle.cpp_term.specs.Values as values
+use Rattle.cpp_term.specs.Values.{State, Value, Around, part, text_of}
+use Rattle.sym_core.specs.Value.{counted_value}
+use Rattle.sym_core.specs.declared.NumberKind.TheVariants.{Decimal}
+use Rattle.cpp_term.specs.Between.{Going, parameter_so_far, index_of, between}
+use Rattle.cpp_term.specs.Unfolding.{cpp}
+use Rattle.cpp_term.specs.Rescoping.{generic_so_far, parameter_here, number_of_parameter, number_behind_mark, with_parameter, substituted_wide, between_wide, close_wide, cpp_wide}
+use Rattle.cpp_tree.specs.Nodes.{Stored, tree_at, tree_of, IsBelow}
+use Rattle.cpp_tree.specs.declared.node.Node.{Node}
+use Rattle.cpp_tree.specs.declared.node.Thunk.{Thunk}
+use Rattle.cpp_link.specs.declared.linked.Linked.{Linked}
+use Rattle.cpp_link.specs.declared.part.Part.{Part}
+use Rattle.cpp_link.specs.declared.part.Kept.{Kept}
+use Rattle.cpp_link.specs.declared.part.Step.{Step}
+use Rattle.cpp_link.specs.LinkReading.{link_close, linked}
+use Rattle.cpp_link.specs.LinkRescoping.{link_close_wide, linked_wide, is_parameter, is_substitution, names_generic, type_behind_mark, named_by, restated_nodes, substituted_nodes, wide_at_end, wide_view}
+use Rattle.cpp_link.specs.Making.{state_of}
+use Rattle.cpp_link.specs.NodeCount.{makes_before, makes_at_end}
+use Rattle.cpp_link.specs.Parts.{trees_in, value_of, values_of, value_in, values_in, is_lambda, around_of, candidates_of, IsThere, AreCandidatesThere}
+use Rattle.cpp_link.specs.Reads.{goes_on}
+use Rattle.cpp_link.specs.Staying.{candidates_stay}
+use Rattle.cpp_link.specs.Stepping.{Takes}
+use Rattle.cpp_link.specs.View.{IsWhole, Surrounds, cpp_view}
+use Rattle.cpp_link.proofs.NodeCount.{before_read, end_read}
+use Rattle.cpp_link.proofs.Places.{values_length}
+use Rattle.cpp_link.proofs.Viewing.{parts_are, parts_all}
+use Rattle.cpp_link.proofs.Within.{at_plain}
+
+-- ## Nodes behind marks
+
+pub marked_number : (s : List ℕ) (us : List Thunk) (ts : List Term) (node : Node) (ty : ℕ) → type_behind_mark node ≡ Some ty
+    → number_behind_mark (tree_of s us ts node) ≡ number_of_parameter (tree_at ts ty)
+unfolding type_behind_mark tree_of number_behind_mark
+marked_number s us ts (Node.Pointer t) ty e = let same : t ≡ ty = cc in ap (λ n. number_of_parameter (tree_at ts n)) same
+marked_number s us ts (Node.Lvalue t) ty e = let same : t ≡ ty = cc in ap (λ n. number_of_parameter (tree_at ts n)) same
+marked_number s us ts (Node.Rvalue t) ty e = let same : t ≡ ty = cc in ap (λ n. number_of_parameter (tree_at ts n)) same
+marked_number s us ts (Node.Qualified q t) ty e = let same : t ≡ ty = cc in ap (λ n. number_of_parameter (tree_at ts n)) same
+marked_number s us ts _ ty e = absurd cc
+
+pub unmarked_number : (s : List ℕ) (us : List Thunk) (ts : List Term) (node : Node) → type_behind_mark node ≡ None
+    → number_behind_mark (tree_of s us ts node) ≡ number_of_parameter (tree_of s us ts node)
+unfolding type_behind_mark tree_of number_behind_mark
+unmarked_number s us ts (Node.Pointer t) e = absurd cc
+unmarked_number s us ts (Node.Lvalue t) e = absurd cc
+unmarked_number s us ts (Node.Rvalue t) e = absurd cc
+unmarked_number s us ts (Node.Qualified q t) e = absurd cc
+unmarked_number s us ts _ e = refl
+
+pub marked_below : (s : List ℕ) (held n : ℕ) (node : Node) (ty : ℕ) → type_behind_mark node ≡ Some ty → IsBelow s held n node → ty < n
+unfolding type_behind_mark
+marked_below s held n (Node.Pointer t) ty e below = let same : t ≡ ty = cc in subst (λ k. k < n) same below
+marked_below s held n (Node.Lvalue t) ty e below = let same : t ≡ ty = cc in subst (λ k. k < n) same below
+marked_below s held n (Node.Rvalue t) ty e below = let same : t ≡ ty = cc in subst (λ k. k < n) same below
+marked_below s held n (Node.Qualified q t) ty e below = let same : t ≡ ty = cc in subst (λ k. k < n) same below
+marked_below s held n _ ty e below = absurd cc
+
+-- ## Before a part
+
+-- where no parameter of a lambda is named it goes as in the other reading
+apart_between : (p : Production) (around : Around) (place : ℕ) (vs : List Value) (state : State) → names_generic p around.in_lambda (length vs) ≡ false
+    → between_wide p around place vs state ≡ between p around place vs state
+unfolding between_wide between is_parameter parameter_here
+apart_between Production.Parameter around place (v ∷ []) state apart = go around.in_lambda apart
+  where
+    go : (b : Bool) → (b && true && nat_eq (length (v ∷ [])) 1) ≡ false
+        → elim b [ true ↦ generic_so_far around (index_of v) [] state | false ↦ parameter_so_far around place (index_of v) [] state ] ≡ parameter_so_far around place (index_of v) [] state
+    go true e = absurd (true≢false e)
+    go false e = refl
+apart_between Production.NestParameter around place (v ∷ []) state apart = go around.in_lambda apart
+  where
+    go : (b : Bool) → (b && true && nat_eq (length (v ∷ [])) 1) ≡ false
+        → elim b [ true ↦ generic_so_far around (index_of v) [] state | false ↦ parameter_so_far around place (index_of v) [] state ] ≡ parameter_so_far around place (index_of v) [] state
+    go true e = absurd (true≢false e)
+    go false e = refl
+apart_between p around place vs state apart = refl
+
+-- what is done before the next part of the open rule of the reading, in terms of the frame
+wide_read_is : (s : List ℕ) (old : Linked) (frame : Frame Kept) (own : List Part) (rule : Open State Around) (known : List Value) (state : State) → IsAt (cpp_view s) s old frame own rule known state
+    → cpp_wide.between rule known state ≡ between_wide (production_at frame.rule) (around_of (trees_in s old.nodes) frame.kept) frame.place (values_in s old.nodes own) (state_of s old)
+unfolding cpp_wide
+wide_read_is s old frame own rule known state is =
+    same frame.rule rule.rule.number frame.place rule.place (around_of (trees_in s old.nodes) frame.kept) rule.context (values_in s old.nodes own) known _ old.packs state
+    is.number is.place is.kept.surrounds.is (parts_are s old own known is.parts).1 is.holds.candidates is.holds.packs
+  where
+    same : (m n q p : ℕ) (code around : Around) (us vs : List Value) (cs : List values.Candidate) (packs : Option ℕ) (state : State)
+        → m ≡ n → q ≡ p → code ≡ around → us ≡ vs → cs ≡ state.candidates → packs ≡ state.packs
+        → between_wide (production_at n) around p vs state ≡ between_wide (production_at m) code q us (record { candidates = cs; packs = packs })
+    same m n q p code around us vs cs packs state number place context known candidates packed = rw (number, place, context, known, candidates, packed) refl
+
+same_test : (m n : ℕ) (a b : Bool) (h k : ℕ) → m ≡ n → a ≡ b → h ≡ k → names_generic (production_at m) a h ≡ false → names_generic (production_at n) b k ≡ false
+same_test m n a b h k e f g is = rw (← e, ← f, ← g) is
+
+-- What was done where no parameter of a lambda is named is what the wide reading says.
+pub apart_goes : (s : List ℕ) (old new : Linked) (frame : Frame Kept) (parts new_parts : List Part) (held : ℕ) (result : Result Kept Refusal) → held ≡ length parts - frame.base
+    → names_generic (production_at frame.rule) (is_lambda frame.kept.scope) held ≡ false
+    → GoesOn (cpp_view s) s (Surrounds s) old new frame parts new_parts result → GoesOn (wide_view s) s (Surrounds s) old new frame parts new_parts result
+unfolding cpp cpp_wide around_of
+apart_goes s old new frame parts new_parts held result counted apart goes rule known state is =
+    let at = at_plain s old frame (drop frame.base parts) rule known state is in
+    let known_are = (parts_are s old (drop frame.base parts) known is.parts).1 in
+    let many : held ≡ length known =
+    omega (arith, counted, length-drop frame.base parts, values_length s (trees_in s old.nodes) (drop frame.base parts), ap (λ vs. length vs) known_are) in
+    let lambda : is_lambda frame.kept.scope ≡ rule.context.in_lambda = ap (λ (a : Around). a.in_lambda) is.kept.surrounds.is in
+    subst (λ read. Goes (cpp_view s) (Surrounds s) new (take frame.base parts) new_parts result read)
+    (sym (apart_between (production_at rule.rule.number) rule.context rule.place known state
+    (same_test frame.rule rule.rule.number (is_lambda frame.kept.scope) rule.context.in_lambda held (length known) is.number lambda many apart)))
+    (goes rule known state at)
+
+-- the step that was taken is that of the wide reading
+pub wide_goes_right : (s : List ℕ) (old new : Linked) (frame : Frame Kept) (parts new_parts : List Part) (step : Step) (then : Kept)
+    → ((cs : List values.Candidate) → between_wide (production_at frame.rule) (around_of (trees_in s old.nodes) frame.kept) frame.place (values_in s old.nodes (drop frame.base parts)) (record { candidates = cs; packs = old.packs })
+    ≡ goes_on s old.nodes frame.kept (values_in s old.nodes (drop frame.base parts)) cs old.packs step)
+    → Takes s old new frame.kept frame.base parts new_parts step then
+    → GoesOn (wide_view s) s (Surrounds s) old new frame parts new_parts (Ok then)
+wide_goes_right s old new frame parts new_parts step then step_is takes rule known state is = (
+  record { values = values_in s new.nodes (drop frame.base new_parts); context = around_of (trees_in s new.nodes) then; state = state_of s new },
+  wide_read_is s old frame (drop frame.base parts) rule known state (at_plain s old frame (drop frame.base parts) rule known state is) ∙ step_is (state_of s old).candidates ∙ takes.is,
+  record { there = takes.around; is = refl },
+  record { table = takes.grows.table; there = takes.candidates; candidates = refl; packs = refl },
+  drop frame.base new_parts,
+  sym (take-append-drop frame.base new_parts) ∙ ap (λ ps. ps ++ drop frame.base new_parts) takes.lower,
+  parts_all s new (drop frame.base new_parts) takes.there,
+)
+
+-- a step that was refused for want of memory
+pub wide_refused_right : (s : List ℕ) (old new : Linked) (frame : Frame Kept) (parts new_parts : List Part) (e : Refusal) → e ≡ Memory
+    → GoesOn (wide_view s) s (Surrounds s) old new frame parts new_parts (Err e)
+wide_refused_right s old new frame parts new_parts e memory rule known state is = subst (λ r. Fails r (cpp_wide.between rule known state)) (sym memory) tt
+
+-- ## Where a rule closes
+
+apart_close : (s : List ℕ) (p : Production) (byte : ℕ) (around : Around) (place : ℕ) (began : State) (vs : List Value) (state : State) → (p ≡ Production.Substitution → ⊥)
+    → link_close_wide s p byte around place began vs state ≡ link_close s p byte around place began vs state
+unfolding link_close_wide
+apart_close s Production.Substitution byte around place began vs state apart = absurd (apart refl)
+apart_close s _ byte around place began vs state apart = refl
+
+-- a rule that is no substitution closes as in the other reading
+pub apart_closes : (s : List ℕ) (old new : Linked) (frame : Frame Kept) (parts new_parts : List Part) (result : Result (Unit {0}) Refusal) → (production_at frame.rule ≡ Production.Substitution → ⊥)
+    → ClosesAll (cpp_view s) s old new frame parts new_parts result → ClosesAll (wide_view s) s old new frame parts new_parts result
+apart_closes s old new frame parts new_parts result apart closes rule known state is =
+    subst (λ read. Puts (cpp_view s) new (take frame.base parts) new_parts result read)
+    (sym (apart_close s (production_at rule.rule.number) (byte_of rule.taken) rule.context rule.place rule.before known state (λ substitution. apart (ap production_at is.number ∙ substitution))))
+    (closes rule known state (at_plain s old frame (drop frame.base parts) rule known state is))
+
+-- what comes of a substitution by the wide reading, in terms of the frame
+substitution_is : (s : List ℕ) (old : Linked) (frame : Frame Kept) (own : List Part) (rule : Open State Around) (known : List Value) (state : State) → IsAt (wide_view s) s old frame own rule known state
+    → production_at frame.rule ≡ Production.Substitution
+    → (linked_wide s).close rule known state
+    ≡ substituted_wide (around_of (trees_in s old.nodes) frame.kept) (frame.place - 1) (named_by (state_of s old) (values_in s old.nodes own)) (state_of s old)
+unfolding link_close_wide close_wide
+substitution_is s old frame own rule known state is substitution =
+    ap (λ p. link_close_wide s p (byte_of rule.taken) rule.context rule.place rule.before known state) (ap production_at (sym is.number) ∙ substitution)
+    ∙ same frame.place rule.place (around_of (trees_in s old.nodes) frame.kept) rule.context (values_in s old.nodes own) known _ old.packs state
+    is.place is.kept.surrounds.is (parts_are s old own known is.parts).1 is.holds.candidates is.holds.packs
+  where
+    same : (q p : ℕ) (code around : Around) (us vs : List Value) (cs : List values.Candidate) (packs : Option ℕ) (state : State)
+        → q ≡ p → code ≡ around → us ≡ vs → cs ≡ state.candidates → packs ≡ state.packs
+        → substituted_wide around (p - 1) (named_by state vs) state
+        ≡ substituted_wide code (q - 1) (named_by (record { candidates = cs; packs = packs }) us) (record { candidates = cs; packs = packs })
+    same q p code around us vs cs packs state place context known candidates packed = rw (place, context, known, candidates, packed) refl
+
+-- a part was put that stands for what a substitution stands for
+pub wide_put_right : (s : List ℕ) (old new : Linked) (frame : Frame Kept) (parts new_parts own : List Part) (made : Part) (done : Unit {0}) → own ≡ drop frame.base parts
+    → production_at frame.rule ≡ Production.Substitution
+    → substituted_wide (around_of (trees_in s old.nodes) frame.kept) (frame.place - 1) (named_by (state_of s old) (values_in s old.nodes own)) (state_of s old) ≡ Ok (found (value_in s new.nodes made) (state_of s new))
+    → IsThere s (length new.nodes.nodes) made → IsWhole s new → new_parts ≡ take frame.base parts ++ made ∷ []
+    → ClosesAll (wide_view s) s old new frame parts new_parts (Ok done)
+wide_put_right s old new frame parts new_parts own made done same substitution closes there whole items rule known state is = (
+  made,
+  items,
+  (
+    value_in s new.nodes made,
+    state_of s new,
+    substitution_is s old frame (drop frame.base parts) rule known state is substitution
+        ∙ ap (λ ps. substituted_wide (around_of (trees_in s old.nodes) frame.kept) (frame.place - 1) (named_by (state_of s old) (values_in s old.nodes ps)) (state_of s old)) (sym same) ∙ closes,
+    record { there = there; is = refl },
+    record { table = whole.table; there = whole.there; candidates = refl; packs = refl },
+  ),
+)
+
+-- the refusal of a substitution is that of the wide reading
+pub wide_closing_refused : (s : List ℕ) (old new : Linked) (frame : Frame Kept) (parts new_parts own : List Part) (e : Refusal) → own ≡ drop frame.base parts
+    → production_at frame.rule ≡ Production.Substitution
+    → Fails e (substituted_wide (around_of (trees_in s old.nodes) frame.kept) (frame.place - 1) (named_by (state_of s old) (values_in s old.nodes own)) (state_of s old))
+    → ClosesAll (wide_view s) s old new frame parts new_parts (Err e)
+wide_closing_refused s old new frame parts new_parts own e same substitution refused rule known state is =
+    subst (λ read. Fails e read)
+    (sym (substitution_is s old frame (drop frame.base parts) rule known state is substitution
+    ∙ ap (λ ps. substituted_wide (around_of (trees_in s old.nodes) frame.kept) (frame.place - 1) (named_by (state_of s old) (values_in s old.nodes ps)) (state_of s old)) (sym same)))
+    refused
+
+-- ## How many nodes are made
+
+pub wide_before_read : (s : List ℕ) (old new : Linked) (frame : Frame Kept) (parts : List Part) (result : Result Kept Refusal) → 3 ≤ length old.nodes.nodes
+    → OnOk result (length new.nodes.nodes ≡ length old.nodes.nodes + makes_before (production_at frame.rule) (values_in s old.nodes (drop frame.base parts)))
+    → (rule : Open State Around) (known : List Value) (state : State) → IsAt (wide_view s) s old frame (drop frame.base parts) rule known state
+    → OnOk result (length new.nodes.nodes - 3 ≡ length old.nodes.nodes - 3 + makes_before (production_at rule.rule.number) known)
+wide_before_read s old new frame parts result begun made rule known state is =
+    before_read s old new frame parts result begun made rule known state (at_plain s old frame (drop frame.base parts) rule known state is)
+
+apart_end : (p : Production) (around : Around) (known : List Value) (state : State) → (p ≡ Production.Substitution → ⊥) → makes_at_end p known ≡ wide_at_end p around known state
+unfolding wide_at_end
+apart_end Production.Substitution around known state apart = absurd (apart refl)
+apart_end _ around known state apart = refl
+
+pub apart_end_read : (s : List ℕ) (old new : Linked) (frame : Frame Kept) (parts : List Part) (result : Result (Unit {0}) Refusal) → 3 ≤ length old.nodes.nodes
+    → (production_at frame.rule ≡ Production.Substitution → ⊥)
+    → OnOk result (length new.nodes.nodes ≡ length old.nodes.nodes + makes_at_end (production_at frame.rule) (values_in s old.nodes (drop frame.base parts)))
+    → (rule : Open State Around) (known : List Value) (state : State) → IsAt (wide_view s) s old frame (drop frame.base parts) rule known state
+    → OnOk result (length new.nodes.nodes - 3 ≡ length old.nodes.nodes - 3 + wide_at_end (production_at rule.rule.number) rule.context known state)
+apart_end_read s old new frame parts result begun apart made rule known state is =
+    subst (λ n. OnOk result (length new.nodes.nodes - 3 ≡ length old.nodes.nodes - 3 + n))
+    (apart_end (production_at rule.rule.number) rule.context known state (λ substitution. apart (ap production_at is.number ∙ substitution)))
+    (end_read s old new frame parts result begun made rule known state (at_plain s old frame (drop frame.base parts) rule known state is))
+
+pub substitution_end_read : (s : List ℕ) (old new : Linked) (frame : Frame Kept) (parts : List Part) (result : Result (Unit {0}) Refusal) → 3 ≤ length old.nodes.nodes
+    → production_at frame.rule ≡ Production.Substitution
+    → OnOk result (length new.nodes.nodes ≡ length old.nodes.nodes + substituted_nodes (around_of (trees_in s old.nodes) frame.kept) (named_by (state_of s old) (values_in s old.nodes (drop frame.base parts))))
+    → (rule : Open State Around) (known : List Value) (state : State) → IsAt (wide_view s) s old frame (drop frame.base parts) rule known state
+    → OnOk result (length new.nodes.nodes - 3 ≡ length old.nodes.nodes - 3 + wide_at_end (production_at rule.rule.number) rule.context known state)
+unfolding wide_at_end
+substitution_end_read s old new frame parts (Err e) begun substitution made rule known state is = tt
+substitution_end_read s old new frame parts (Ok done) begun substitution made rule known state is =
+    omega (
+      arith,
+      begun,
+      made,
+      ap (λ p. wide_at_end p rule.context known state) (ap production_at (sym is.number) ∙ substitution),
+      same (around_of (trees_in s old.nodes) frame.kept) rule.context (values_in s old.nodes (drop frame.base parts)) known _ old.packs state
+          is.kept.surrounds.is (parts_are s old (drop frame.base parts) known is.parts).1 is.holds.candidates is.holds.packs,
+    )
+  where
+    same : (code around : Around) (us vs : List Value) (cs : List values.Candidate) (packs : Option ℕ) (state : State)
+        → code ≡ around → us ≡ vs → cs ≡ state.candidates → packs ≡ state.packs
+        → substituted_nodes around (named_by state vs) ≡ substituted_nodes code (named_by (record { candidates = cs; packs = packs }) us)
+    same code around us vs cs packs state context known candidates packed = rw (context, known, candidates) refl
+
+-- ## A parameter, and the mark before it
+
+pub marked_nodes : (s : List ℕ) (us : List Thunk) (ts : List Term) (node : Node) (ty : ℕ) → type_behind_mark node ≡ Some ty → restated_nodes (tree_of s us ts node) ≡ 2
+unfolding type_behind_mark tree_of restated_nodes
+marked_nodes s us ts (Node.Pointer t) ty e = refl
+marked_nodes s us ts (Node.Lvalue t) ty e = refl
+marked_nodes s us ts (Node.Rvalue t) ty e = refl
+marked_nodes s us ts (Node.Qualified q t) ty e = refl
+marked_nodes s us ts _ ty e = absurd cc
+
+pub unmarked_nodes : (s : List ℕ) (us : List Thunk) (ts : List Term) (node : Node) → type_behind_mark node ≡ None → restated_nodes (tree_of s us ts node) ≡ 1
+unfolding type_behind_mark tree_of restated_nodes
+unmarked_nodes s us ts (Node.Pointer t) e = absurd cc
+unmarked_nodes s us ts (Node.Lvalue t) e = absurd cc
+unmarked_nodes s us ts (Node.Rvalue t) e = absurd cc
+unmarked_nodes s us ts (Node.Qualified q t) e = absurd cc
+unmarked_nodes s us ts _ e = refl
+
+pub unmarked_with : (s : List ℕ) (us : List Thunk) (ts : List Term) (node : Node) (other : Term) → type_behind_mark node ≡ None → with_parameter (tree_of s us ts node) other ≡ other
+unfolding type_behind_mark tree_of with_parameter
+unmarked_with s us ts (Node.Pointer t) other e = absurd cc
+unmarked_with s us ts (Node.Lvalue t) other e = absurd cc
+unmarked_with s us ts (Node.Rvalue t) other e = absurd cc
+unmarked_with s us ts (Node.Qualified q t) other e = absurd cc
+unmarked_with s us ts _ other e = refl
+
+pub restated_two : (t : Term) → restated_nodes t ≤ 2
+unfolding restated_nodes
+restated_two (pointer t) = omega arith
+restated_two (lvalue t) = omega arith
+restated_two (rvalue t) = omega arith
+restated_two (qualified q t) = omega arith
+restated_two _ = omega arith
+
+pub some_of : (P : ℕ → Type 0) (o : Option ℕ) (x : ℕ) → Some x ≡ o → IfSome o P → P x
+some_of P o x e h = subst (λ p. IfSome p P) (sym e) h
+
+-- the state in which a parameter was added
+pub kept_state : (s : List ℕ) (old new : Linked) (packs : Option ℕ) → ((i : ℕ) → i < length old.nodes.nodes → tree_at (trees_in s new.nodes) i ≡ tree_at (trees_in s old.nodes) i)
+    → AreCandidatesThere (length old.nodes.nodes) old.candidates.items → new.candidates ≡ old.candidates
+    → ◌≡◌ {A = State} (record { candidates = candidates_of (trees_in s old.nodes) old.candidates.items; packs = packs }) (record { candidates = candidates_of (trees_in s new.nodes) new.candidates.items; packs = packs })
+kept_state s old new packs stays there same =
+    let kept : candidates_of (trees_in s new.nodes) new.candidates.items ≡ candidates_of (trees_in s old.nodes) old.candidates.items =
+    ap (λ v. candidates_of (trees_in s new.nodes) v.items) same ∙ candidates_stay s old.nodes new.nodes stays old.candidates.items there in
+    rw kept refl
+
+-- ## A parameter of a lambda
+
+generic_between : (p : Production) (around : Around) (place : ℕ) (v : Value) (state : State) → is_parameter p ≡ true → around.in_lambda ≡ true
+    → between_wide p around place (v ∷ []) state ≡ generic_so_far around (index_of v) [] state
+unfolding is_parameter between_wide parameter_here
+generic_between Production.Parameter around place v state is lambda =
+    ap (λ b. elim b as (λ _. Going) [ true ↦ generic_so_far around (index_of v) [] state | false ↦ parameter_so_far around place (index_of v) [] state ]) lambda
+generic_between Production.NestParameter around place v state is lambda =
+    ap (λ b. elim b as (λ _. Going) [ true ↦ generic_so_far around (index_of v) [] state | false ↦ parameter_so_far around place (index_of v) [] state ]) lambda
+generic_between _ around place v state is lambda = absurd (false≢true is)
+
+pub generic_is : (s : List ℕ) (y : Stored) (kept : Kept) (p : Production) (place : ℕ) (own : List Part) (digits : List ℕ) (cs : List values.Candidate) (packs : Option ℕ) (step : Step)
+    → is_parameter p ≡ true → is_lambda kept.scope ≡ true → length own ≡ 1 → digits ≡ text_of (part (values_in s y own) 0)
+    → ((v : Value) → generic_so_far (around_of (trees_in s y) kept) (counted_value Decimal digits) [] (record { candidates = cs; packs = packs }) ≡ goes_on s y kept (v ∷ []) cs packs step)
+    → between_wide p (around_of (trees_in s y) kept) place (values_in s y own) (record { candidates = cs; packs = packs }) ≡ goes_on s y kept (values_in s y own) cs packs step
+unfolding around_of values_of part index_of
+generic_is s y kept p place [] digits cs packs step is lambda one own_is goes = absurd (omega (arith, one))
+generic_is s y kept p place (x ∷ z ∷ own) digits cs packs step is lambda one own_is goes = absurd (omega (arith, one))
+generic_is s y kept p place (x ∷ []) digits cs packs step is lambda one own_is goes =
+    generic_between p (around_of (trees_in s y) kept) place (value_of s (trees_in s y) x) (record { candidates = cs; packs = packs }) is lambda
+    ∙ ap (λ ds. generic_so_far (around_of (trees_in s y) kept) (counted_value Decimal ds) [] (record { candidates = cs; packs = packs })) (sym own_is)
+    ∙ goes (value_of s (trees_in s y) x)
+
+pub no_pack : (p : Production) → is_parameter p ≡ true → p ≡ Production.PackArgument → ⊥
+unfolding is_parameter
+no_pack p is pack = absurd (false≢true (ap is_parameter (sym pack) ∙ is))
+
+pub substitution_alone : (p : Production) → is_substitution p ≡ true → p ≡ Production.Substitution
+unfolding is_substitution
+substitution_alone Production.Substitution is = refl
+substitution_alone _ is = absurd (false≢true is)
+
+pub no_substitution : (p : Production) → is_substitution p ≡ false → p ≡ Production.Substitution → ⊥
+unfolding is_substitution
+no_substitution p is substitution = absurd (true≢false (ap is_substitution (sym substitution) ∙ is))

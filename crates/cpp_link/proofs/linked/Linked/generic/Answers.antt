@@ -1,0 +1,32 @@
+use Rattle.std.proofs.Common.{◌≡◌, refl, ap, arith, ℕ, suc, List, [], ◌∷◌, length, true, false}
+use Rattle.std.proofs.lemmas.Bool.{false≢true}
+use Rattle.cpp_grammar.specs.declared.production.Production.{Production}
+use Rattle.cpp_term.specs.Values.{Value}
+use Rattle.cpp_link.specs.LinkRescoping.{is_parameter}
+use Rattle.cpp_link.specs.NodeCount.{makes_before}
+use Rattle.cpp_link.specs.Owed.{made_before}
+use Rattle.cpp_link.specs.Stepping.{IsStepOf}
+use Rattle.cpp_link.specs.declared.part.Step.{Step}
+use Rattle.cpp_tree.specs.declared.node.Node.{Node}
+use Rattle.std.specs.Prelude.{Option, Bool}
+use Rattle.cpp_link.proofs.linked.Linked.generic.Goals as goal
+
+made : (p : Production) (node : Node) (listed is_name is_candidate : Bool) (packs : Option ℕ) → is_parameter p ≡ true → IsStepOf p 1 (Step.Made node listed is_name is_candidate packs)
+unfolding is_parameter made_before
+made Production.Parameter node listed is_name is_candidate packs is = (omega arith, refl)
+made Production.NestParameter node listed is_name is_candidate packs is = (omega arith, refl)
+made _ node listed is_name is_candidate packs is = absurd (false≢true is)
+
+one : (p : Production) (known : List Value) → is_parameter p ≡ true → length known ≡ 1 → 1 ≡ makes_before p known
+unfolding is_parameter makes_before made_before
+one Production.Parameter (v ∷ []) is e = refl
+one Production.NestParameter (v ∷ []) is e = refl
+one p [] is e = absurd (omega (arith, e))
+one p (v ∷ w ∷ vs) is e = absurd (omega (arith, e))
+one _ known is e = absurd (false≢true is)
+
+pub returns-clause-of : goal.returns-clause-of
+returns-clause-of c p is = made p (Node.GenericParameter c.generic_number.result) true true true c.args.self.now.packs is
+
+pub returns-clause-makes : goal.returns-clause-makes
+returns-clause-makes c p known is e = one p known is e

@@ -1,0 +1,73 @@
+use Rattle.std.proofs.Common.{◌≡◌, refl, sym, ◌∙◌, ap, subst, arith, ◌-◌, List, length, take, drop}
+use Rattle.std.proofs.lemmas.List.{length-drop}
+use Rattle.std.proofs.lemmas.Result.{err_from_is_err_and}
+use Rattle.sym_link.proofs.Lists.{rest_all}
+use Rattle.cpp_grammar.specs.declared.production.Production.{Production}
+use Rattle.cpp_grammar.specs.Unfolding.{production_at}
+use Rattle.cpp_term.specs.Values.{part, text_of}
+use Rattle.cpp_tree.specs.Nodes.{bytes_at}
+use Rattle.cpp_link.specs.declared.part.Part.{Part}
+use Rattle.cpp_link.specs.Parts.{trees_in, values_in}
+use Rattle.cpp_link.specs.LinkRescoping.{is_parameter}
+use Rattle.cpp_link.specs.Stepping.{IsStepOf}
+use Rattle.cpp_link.proofs.GoingOn.{adds_right, steps_few, refused_few}
+use Rattle.cpp_link.proofs.Places.{values_length}
+use Rattle.cpp_link.proofs.Rescoped.{generic_is, wide_goes_right, no_pack}
+use Rattle.cpp_link.proofs.Viewing.{open_there}
+use Rattle.cpp_link.proofs.linked.Linked.go_generic.Goals as goal
+
+pub take_step-requires-clause-of : goal.take_step-requires-clause-of
+take_step-requires-clause-of c =
+    let frame = c.args.frame.now in
+    let one : length (drop frame.base c.args.parts.now.items) ≡ 1 = omega (arith, length-drop frame.base c.args.parts.now.items, c.requires.second) in
+    (production_at frame.rule, subst (λ n. IsStepOf (production_at frame.rule) n c.generic-step.result) (sym one) (c.generic-step.ensures.of (production_at frame.rule) c.requires.parameter))
+
+pub take_step-requires-clause-parts : goal.take_step-requires-clause-parts
+take_step-requires-clause-parts c = open_there c.args.symbol.now c.args.self.now c.args.frame.now c.args.parts.now.items (drop c.args.frame.now.base c.args.parts.now.items) c.requires.open refl
+
+pub returns-clause-goes : goal.returns-clause-goes
+returns-clause-goes c =
+    let s = c.args.symbol.now in
+    let frame = c.args.frame.now in
+    let own = drop frame.base c.args.parts.now.items in
+    let one : length own ≡ 1 = omega (arith, length-drop frame.base c.args.parts.now.items, c.requires.second) in
+    let same : take (length c.deref.result.now - frame.base) (drop frame.base c.deref.result.now) ≡ own = rest_all c.deref.result.now frame.base ∙ ap (λ ps. drop frame.base ps) c.deref.ensures.value in
+    let digits = c.text-digits.ensures.is ∙ ap (λ ps. text_of (part (values_in s c.args.self.now.nodes ps) 0)) same in
+    wide_goes_right s c.args.self.now c.take_step.new.self frame c.args.parts.now.items c.take_step.new.parts.items c.generic-step.result c.in_ok-then.then
+    (λ cs. generic_is s c.args.self.now.nodes frame.kept (production_at frame.rule) frame.place own (bytes_at s c.text-digits.result) cs c.args.self.now.packs c.generic-step.result
+    c.requires.parameter c.requires.signature one digits (λ v. c.generic-step.ensures.is v cs))
+    c.in_ok-then.ensures.takes
+
+pub returns-clause-adds : goal.returns-clause-adds
+returns-clause-adds c =
+    let frame = c.args.frame.now in
+    let own = drop frame.base c.args.parts.now.items in
+    let one : length own ≡ 1 = omega (arith, length-drop frame.base c.args.parts.now.items, c.requires.second) in
+    adds_right c.args.symbol.now c.args.self.now c.take_step.new.self frame c.args.parts.now.items c.take_step.new.parts.items own (production_at frame.rule) c.generic-step.result c.in_ok-then.then
+    refl refl c.requires.room.paid (subst (λ n. IsStepOf (production_at frame.rule) n c.generic-step.result) (sym one) (c.generic-step.ensures.of (production_at frame.rule) c.requires.parameter)) c.in_ok-then.ensures.takes
+
+pub returns-in_err-then-clause-few : goal.returns-in_err-then-clause-few
+returns-in_err-then-clause-few c =
+    let p = err_from_is_err_and c.from_residual.result c.from_residual.ensures.1 in
+    let frame = c.args.frame.now in
+    let one : length (drop frame.base c.args.parts.now.items) ≡ 1 = omega (arith, length-drop frame.base c.args.parts.now.items, c.requires.second) in
+    let of = subst (λ n. IsStepOf (production_at frame.rule) n c.generic-step.result) (sym one) (c.generic-step.ensures.of (production_at frame.rule) c.requires.parameter) in
+    rw p.1 (refused_few c.args.symbol.now c.args.self.now c.take_step.new.self frame c.args.parts.now.items c.requires.room.paid
+    (c.in_err-then.ensures.few (production_at frame.rule) of (λ pack none. absurd (no_pack (production_at frame.rule) c.requires.parameter pack))))
+
+pub returns-clause-few : goal.returns-clause-few
+returns-clause-few c =
+    let frame = c.args.frame.now in
+    let one : length (drop frame.base c.args.parts.now.items) ≡ 1 = omega (arith, length-drop frame.base c.args.parts.now.items, c.requires.second) in
+    let of = subst (λ n. IsStepOf (production_at frame.rule) n c.generic-step.result) (sym one) (c.generic-step.ensures.of (production_at frame.rule) c.requires.parameter) in
+    steps_few c.args.symbol.now c.args.self.now c.take_step.new.self frame c.args.parts.now.items c.take_step.new.parts.items c.in_ok-then.then c.requires.room.paid
+    c.in_ok-then.ensures.takes.grows.least (c.in_ok-then.ensures.few (production_at frame.rule) of (λ pack none. absurd (no_pack (production_at frame.rule) c.requires.parameter pack)))
+
+pub returns-clause-makes : goal.returns-clause-makes
+returns-clause-makes c =
+    let s = c.args.symbol.now in
+    let frame = c.args.frame.now in
+    let own = drop frame.base c.args.parts.now.items in
+    let known = values_in s c.args.self.now.nodes own in
+    let one : length known ≡ 1 = omega (arith, values_length s (trees_in s c.args.self.now.nodes) own, length-drop frame.base c.args.parts.now.items, c.requires.second) in
+    omega (arith, c.in_ok-then.ensures.more, c.generic-step.ensures.makes (production_at frame.rule) known c.requires.parameter one)

@@ -1,0 +1,112 @@
+use Rattle.std.proofs.Common.{◌≡◌, sym, ◌∙◌, ap, subst, arith, ◌+◌, ◌-◌, length, Some, None, Ok, Err}
+use Rattle.std.specs.Prelude.{slice_get, IfOk, IfErr, OnOk}
+use Rattle.sym_core.specs.Value.{counted_value}
+use Rattle.sym_core.specs.declared.NumberKind.TheVariants.{Seq36}
+use Rattle.sym_core.specs.declared.refusal.Refusal.TheVariants.{BadReference}
+use Rattle.sym_link.specs.Driving.{Fails}
+use Rattle.sym_link.specs.Unfold.{found}
+use Rattle.cpp_term.specs.Values.{Around, State}
+use Rattle.cpp_term.specs.Rescoping.{restated, substituted_wide}
+use Rattle.cpp_tree.specs.Nodes.{tree_at}
+use Rattle.cpp_link.specs.LinkRescoping.{named_by, substituted_nodes}
+use Rattle.cpp_link.specs.Making.{state_of}
+use Rattle.cpp_link.specs.Parts.{trees_in, value_in, value_of, values_in, around_of, candidate_of, candidates_of}
+use Rattle.cpp_link.specs.Reads.{maybe_candidate, node_read}
+use Rattle.cpp_link.proofs.Candidates.{fails_is}
+use Rattle.cpp_link.proofs.Meant.{named_nothing, named_foreign, named_here, foreign_nodes, no_nodes}
+use Rattle.cpp_link.proofs.linked.Linked.substitute_rescoped.Goals as goal
+
+pub returns-in_default-clause-refused : goal.returns-in_default-clause-refused
+unfolding maybe_candidate
+returns-in_default-clause-refused c =
+    let s = c.args.symbol.now in
+    let ts = trees_in s c.args.self.now.nodes in
+    let around : Around = around_of ts c.args.kept in
+    let st = state_of s c.args.self.now in
+    let cs = candidates_of ts c.args.self.now.candidates.items in
+    let named = sym (c.candidate.ensures.is ∙ ap (λ bytes. slice_get cs (counted_value Seq36 bytes)) c.text.ensures.is) ∙ ap (λ o. maybe_candidate ts o) c.in_default.is in
+    fails_is _ (substituted_wide around (c.args.place - 1) (named_by st (values_in s c.args.self.now.nodes c.args.parts.now)) st)
+    (ap (λ o. substituted_wide around (c.args.place - 1) o st) named ∙ named_nothing around (c.args.place - 1) st ∙ ap (λ n. Err (BadReference n)) (sym c.saturating_sub-at.ensures))
+
+pub returns-then-is_foreign-clause-is : goal.returns-then-is_foreign-clause-is
+unfolding maybe_candidate
+returns-then-is_foreign-clause-is c =
+    let s = c.args.symbol.now in
+    let ts = trees_in s c.args.self.now.nodes in
+    let around : Around = around_of ts c.args.kept in
+    let st = state_of s c.args.self.now in
+    let cs = candidates_of ts c.args.self.now.candidates.items in
+    let named = sym (c.candidate.ensures.is ∙ ap (λ bytes. slice_get cs (counted_value Seq36 bytes)) c.text.ensures.is) ∙ ap (λ o. maybe_candidate ts o) c.in-Some.is in
+    let same = ap (λ o. substituted_wide around (c.args.place - 1) o st) named
+    ∙ named_foreign around (c.args.place - 1) (candidate_of ts c.in-Some.candidate) st (sym c.is_foreign.ensures ∙ c.if-is_foreign.true)
+    ∙ ap (λ n. restated around n (tree_at ts c.in-Some.candidate.node) st) (sym c.saturating_sub-at.ensures) in
+    subst (λ x. IfOk c.restate.result (λ made. x ≡ Ok (found (value_in s c.restate.new.self.nodes made) (state_of s c.restate.new.self)))) (sym same) c.restate.ensures.is
+
+pub returns-then-is_foreign-clause-refused : goal.returns-then-is_foreign-clause-refused
+unfolding maybe_candidate
+returns-then-is_foreign-clause-refused c =
+    let s = c.args.symbol.now in
+    let ts = trees_in s c.args.self.now.nodes in
+    let around : Around = around_of ts c.args.kept in
+    let st = state_of s c.args.self.now in
+    let cs = candidates_of ts c.args.self.now.candidates.items in
+    let named = sym (c.candidate.ensures.is ∙ ap (λ bytes. slice_get cs (counted_value Seq36 bytes)) c.text.ensures.is) ∙ ap (λ o. maybe_candidate ts o) c.in-Some.is in
+    let same = ap (λ o. substituted_wide around (c.args.place - 1) o st) named
+    ∙ named_foreign around (c.args.place - 1) (candidate_of ts c.in-Some.candidate) st (sym c.is_foreign.ensures ∙ c.if-is_foreign.true)
+    ∙ ap (λ n. restated around n (tree_at ts c.in-Some.candidate.node) st) (sym c.saturating_sub-at.ensures) in
+    subst (λ x. IfErr c.restate.result (λ e. Fails e x)) (sym same) c.restate.ensures.refused
+
+pub returns-then-is_foreign-clause-makes : goal.returns-then-is_foreign-clause-makes
+unfolding maybe_candidate
+returns-then-is_foreign-clause-makes c =
+    let s = c.args.symbol.now in
+    let ts = trees_in s c.args.self.now.nodes in
+    let around : Around = around_of ts c.args.kept in
+    let cs = candidates_of ts c.args.self.now.candidates.items in
+    let named = sym (c.candidate.ensures.is ∙ ap (λ bytes. slice_get cs (counted_value Seq36 bytes)) c.text.ensures.is) ∙ ap (λ o. maybe_candidate ts o) c.in-Some.is in
+    let same = ap (λ o. substituted_nodes around o) named
+    ∙ foreign_nodes around (c.args.place - 1) (candidate_of ts c.in-Some.candidate) (state_of s c.args.self.now) (sym c.is_foreign.ensures ∙ c.if-is_foreign.true) in
+    subst (λ n. OnOk c.restate.result (length c.restate.new.self.nodes.nodes ≡ length c.args.self.now.nodes.nodes + n)) (sym same) c.restate.ensures.makes
+
+pub returns-in-Ok-clause-is : goal.returns-in-Ok-clause-is
+unfolding maybe_candidate node_read value_of
+returns-in-Ok-clause-is c =
+    let s = c.args.symbol.now in
+    let ts = trees_in s c.args.self.now.nodes in
+    let around : Around = around_of ts c.args.kept in
+    let st = state_of s c.args.self.now in
+    let cs = candidates_of ts c.args.self.now.candidates.items in
+    let named = sym (c.candidate.ensures.is ∙ ap (λ bytes. slice_get cs (counted_value Seq36 bytes)) c.text.ensures.is) ∙ ap (λ o. maybe_candidate ts o) c.in-Some.is in
+    ap (λ o. substituted_wide around (c.args.place - 1) o st) named
+    ∙ ap (λ n. substituted_wide around n (Some (candidate_of ts c.in-Some.candidate)) st) (sym c.saturating_sub-at.ensures)
+    ∙ named_here around _ (candidate_of ts c.in-Some.candidate) st (sym c.is_foreign.ensures ∙ c.if-is_foreign.false)
+    ∙ c.in-Ok.ensures.is cs
+
+pub returns-in-Ok-clause-makes : goal.returns-in-Ok-clause-makes
+unfolding maybe_candidate
+returns-in-Ok-clause-makes c =
+    let s = c.args.symbol.now in
+    let ts = trees_in s c.args.self.now.nodes in
+    let around : Around = around_of ts c.args.kept in
+    let cs = candidates_of ts c.args.self.now.candidates.items in
+    let named = sym (c.candidate.ensures.is ∙ ap (λ bytes. slice_get cs (counted_value Seq36 bytes)) c.text.ensures.is) ∙ ap (λ o. maybe_candidate ts o) c.in-Some.is in
+    omega (
+      arith,
+      ap (λ o. substituted_nodes around o) named
+          ∙ no_nodes around (c.args.place - 1) (candidate_of ts c.in-Some.candidate) (state_of s c.args.self.now) (sym c.is_foreign.ensures ∙ c.if-is_foreign.false),
+    )
+
+pub returns-in-Err-clause-refused : goal.returns-in-Err-clause-refused
+unfolding maybe_candidate node_read
+returns-in-Err-clause-refused c =
+    let s = c.args.symbol.now in
+    let ts = trees_in s c.args.self.now.nodes in
+    let around : Around = around_of ts c.args.kept in
+    let st = state_of s c.args.self.now in
+    let cs = candidates_of ts c.args.self.now.candidates.items in
+    let named = sym (c.candidate.ensures.is ∙ ap (λ bytes. slice_get cs (counted_value Seq36 bytes)) c.text.ensures.is) ∙ ap (λ o. maybe_candidate ts o) c.in-Some.is in
+    fails_is c.in-Err.e (substituted_wide around (c.args.place - 1) (named_by st (values_in s c.args.self.now.nodes c.args.parts.now)) st)
+    (ap (λ o. substituted_wide around (c.args.place - 1) o st) named
+    ∙ ap (λ n. substituted_wide around n (Some (candidate_of ts c.in-Some.candidate)) st) (sym c.saturating_sub-at.ensures)
+    ∙ named_here around _ (candidate_of ts c.in-Some.candidate) st (sym c.is_foreign.ensures ∙ c.if-is_foreign.false)
+    ∙ c.in-Err.ensures.is cs)

@@ -1,0 +1,8 @@
+use Rattle.std.proofs.Common.{refl}
+use Rattle.cpp_term.specs.Rescoping.{cpp_wide}
+use Rattle.cpp_link.specs.Parts.{value_of}
+use Rattle.cpp_link.proofs.wide_language.RescopingThreading.nothing.Goals as goal
+
+pub returns-clause-stands : goal.returns-clause-stands
+unfolding cpp_wide value_of
+returns-clause-stands c s = (record { there = tt; is = refl }, tt)

@@ -1,0 +1,143 @@
+-- C++'s reading of the wide grammar as the linker follows it, and how many nodes are made of a symbol by it.
+use Rattle.std.specs.Prelude.{◌≡◌, ℕ, ◌+◌, List, slice_get, Option, Some, None, Bool, true, false, ◌&&◌, nat_eq, Result, Ok, Err}
+use Rattle.sym_core.specs.declared.refusal.Refusal.{Refusal}
+use Rattle.sym_core.specs.declared.NumberKind.TheVariants.{Seq36}
+use Rattle.sym_core.specs.Value.{counted_value}
+use Rattle.sym_shape.specs.Tree.{Tree}
+use Rattle.sym_link.specs.Reading.{Found, Reading}
+use Rattle.sym_link.specs.Unfold.{found, unfold_tree}
+use Rattle.sym_link.specs.Linking.{View}
+use Rattle.sym_link.specs.Tally.{Tally, tally, Makes, tallied, tallied_view}
+use Rattle.cpp_grammar.specs.declared.production.Production.{Production}
+use Rattle.cpp_grammar.specs.Unfolding.{production_at, byte_of}
+use Rattle.cpp_term.specs.Term.{Term, generic_parameter, pointer, lvalue, rvalue, qualified}
+use Rattle.cpp_term.specs.Values.{Candidate, State, Around, Value, tree, text_of, part}
+use Rattle.cpp_term.specs.Unfolding.{first_around, first_state}
+use Rattle.cpp_term.specs.Rescoping.{is_foreign, with_parameter, in_scope, close_wide, cpp_wide}
+use Rattle.cpp_tree.specs.Nodes.{Stored}
+use Rattle.cpp_tree.specs.declared.node.Node.{Node}
+use Rattle.cpp_link.specs.Parts.{tree_of_node}
+use Rattle.cpp_link.specs.declared.linked.Linked.{Linked}
+use Rattle.cpp_link.specs.declared.rescoping.Rescoping.{Rescoping}
+use Rattle.cpp_link.specs.declared.part.Part.{Part}
+use Rattle.cpp_link.specs.declared.part.Kept.{Kept}
+use Rattle.cpp_link.specs.LinkReading.{link_begin, link_close}
+use Rattle.cpp_link.specs.NodeCount.{makes_before, makes_at_end, counted_nodes}
+use Rattle.cpp_link.specs.View.{cpp_view}
+
+-- ## The reading
+
+unfoldable pub link_close_wide : List ℕ → Production → (byte : ℕ) → Around → (place : ℕ) → (began : State) → List Value → State
+    → Result (Found Value State) Refusal
+link_close_wide s Production.Substitution byte around place began vs state = close_wide Production.Substitution byte around place began vs state
+link_close_wide s production byte around place began vs state = link_close s production byte around place began vs state
+
+abbrev pub linked_wide : List ℕ → Reading Value State Around
+linked_wide s = record {
+  rowless = cpp_wide.rowless;
+  token = cpp_wide.token;
+  begin = link_begin;
+  between = cpp_wide.between;
+  close = λ rule known state.
+      link_close_wide s (production_at rule.rule.number) (byte_of rule.taken) rule.context rule.place rule.before known state;
+}
+
+-- ## What is done
+
+unfoldable pub is_parameter : Production → Bool
+is_parameter Production.Parameter = true
+is_parameter Production.NestParameter = true
+is_parameter _ = false
+
+unfoldable pub is_substitution : Production → Bool
+is_substitution Production.Substitution = true
+is_substitution _ = false
+
+-- before the part behind these a parameter of a lambda is named
+abbrev pub names_generic : Production → (in_lambda : Bool) → (held : ℕ) → Bool
+names_generic p in_lambda held = in_lambda && is_parameter p && nat_eq held 1
+
+-- what stands behind the mark of a node
+unfoldable pub type_behind_mark : Node → Option ℕ
+type_behind_mark (Node.Pointer t) = Some t
+type_behind_mark (Node.Lvalue t) = Some t
+type_behind_mark (Node.Rvalue t) = Some t
+type_behind_mark (Node.Qualified q t) = Some t
+type_behind_mark _ = None
+
+-- a tree with the parameter of this number that is meant here
+abbrev pub with_meant : Around → (place : ℕ) → Term → ℕ → State → Result (Found Value State) Refusal
+with_meant around place t k state = elim around.in_lambda [
+  | true ↦ Ok (found (tree (with_parameter t (generic_parameter k)) true) state)
+  | false ↦ in_scope around place t k state
+]
+
+-- the same, where that parameter is this node
+unfoldable pub meant_read : List ℕ → Stored → Term → List Candidate → Result (Node × Option ℕ) Refusal → Result (Found Value State) Refusal
+meant_read s y t cs (Ok r) = Ok (found (tree (with_parameter t (tree_of_node s y r.0)) true) (record { candidates = cs; packs = r.1 }))
+meant_read s y t cs (Err e) = Err e
+
+-- the candidate that a substitution with these parts names
+abbrev pub named_by : State → List Value → Option Candidate
+named_by state known = slice_get state.candidates (counted_value Seq36 (text_of (part known 0)))
+
+-- ## What a symbol makes
+
+-- a parameter, and the mark before it
+unfoldable pub restated_nodes : Term → ℕ
+restated_nodes (pointer t) = 2
+restated_nodes (lvalue t) = 2
+restated_nodes (rvalue t) = 2
+restated_nodes (qualified q t) = 2
+restated_nodes t = 1
+
+unfoldable pub substituted_nodes : Around → Option Candidate → ℕ
+substituted_nodes around None = 0
+substituted_nodes around (Some c) = elim (is_foreign around c) [ true ↦ restated_nodes c.tree | false ↦ 0 ]
+
+unfoldable pub wide_at_end : Production → Around → List Value → State → ℕ
+wide_at_end Production.Substitution around known state = substituted_nodes around (named_by state known)
+wide_at_end p around known state = makes_at_end p known
+
+abbrev pub wide_makes : Makes Value State Around
+wide_makes = record {
+  before = λ rule known state. makes_before (production_at rule.rule.number) known;
+  at_end = λ rule known state. wide_at_end (production_at rule.rule.number) rule.context known state;
+}
+
+-- the nodes of a symbol of this shape
+abbrev pub wide_nodes_of_shape : Tree → ℕ
+wide_nodes_of_shape shape = 3 + counted_nodes (unfold_tree (tallied cpp_wide wide_makes) first_around 0 shape (tally first_state 0))
+
+abbrev pub are_wide_nodes : Tree → ℕ → Type 0
+are_wide_nodes shape nodes = nodes ≡ wide_nodes_of_shape shape
+
+-- ## The language
+
+-- C++'s language by the wide grammar: the nodes are the same, and what is read is by another reading
+abbrev pub wide_view : List ℕ → View Linked Part Kept Value State Around
+wide_view s = record (cpp_view s) { reading = linked_wide s }
+
+-- a language of what is linked within
+abbrev pub within : {S : Type 0} → View Linked Part Kept Value S Around → View Rescoping Part Kept Value S Around
+within view = record {
+  table = view.table;
+  reading = view.reading;
+  around = view.around;
+  first = view.first;
+  IsPart = λ l part value. view.IsPart l.linked part value;
+  IsKept = λ l kept rule. view.IsKept l.linked kept rule;
+  Holds = λ l state. view.Holds l.linked state;
+  Grows = λ old new. view.Grows old.linked new.linked;
+  size = λ l. view.size l.linked;
+  owes = view.owes;
+  closes = view.closes;
+  most = view.most;
+  IsPaid = λ l bytes. view.IsPaid l.linked bytes;
+  lists = λ l. view.lists l.linked;
+  TakesMemory = view.TakesMemory;
+}
+
+-- C++'s language by the wide grammar, whose nodes are counted
+abbrev pub wide_counted : List ℕ → View Rescoping Part Kept Value (Tally State) Around
+wide_counted s = within (tallied_view (wide_view s) wide_makes)

@@ -1,0 +1,89 @@
+-- What is linked of a symbol by the wide grammar keeps to what every language does.
+use Rattle.std.proofs.Common.{◌≡◌, refl, ℕ, suc, ◌≤◌, List, [], ◌∷◌, length, Bool, true, false, Result}
+use Rattle.std.specs.Result.{IfOk}
+use Rattle.sym_core.specs.declared.refusal.Refusal.{Refusal}
+use Rattle.sym_link.specs.Reading.{Next}
+use Rattle.sym_link.specs.Linking.{View, IsLinking}
+use Rattle.sym_link.specs.Threads.{IsThreading}
+use Rattle.sym_link.proofs.Tally.{tallied_laws, tallied_threads}
+use Rattle.cpp_grammar.specs.declared.production.Production.{Production}
+use Rattle.cpp_grammar.specs.Unfolding.{production_at}
+use Rattle.cpp_term.specs.Values.{State, Value, Around}
+use Rattle.cpp_term.specs.Between.{parameter_so_far, listed_so_far, index_of}
+use Rattle.cpp_term.specs.Unfolding.{cpp}
+use Rattle.cpp_term.specs.Rescoping.{generic_so_far, parameter_here, between_wide, cpp_wide}
+use Rattle.cpp_link.specs.declared.linked.Linked.{Linked}
+use Rattle.cpp_link.specs.declared.part.Part.{Part}
+use Rattle.cpp_link.specs.declared.part.Kept.{Kept}
+use Rattle.cpp_link.specs.Counts.{parameter_counts, between_counts}
+use Rattle.cpp_link.specs.LinkRescoping.{wide_makes, wide_view, within, wide_counted}
+use Rattle.cpp_link.specs.ViewLaws.{cpp_laws, cpp_threads}
+
+-- ## As many values go into a part as were known
+
+here_counts : (around : Around) (place k : ℕ) (vs : List Value) (state : State) → IfOk (parameter_here around place k vs state) (λ next. length next.values ≡ suc (length vs))
+unfolding parameter_here generic_so_far listed_so_far
+here_counts around place k vs state = go around.in_lambda
+  where
+    go : (b : Bool) → IfOk {T = Next Value State Around} (elim b [ true ↦ generic_so_far around k vs state | false ↦ parameter_so_far around place k vs state ]) (λ next. length next.values ≡ suc (length vs))
+    go true = refl
+    go false = parameter_counts around place k vs state
+
+wide_between_counts : (p : Production) (around : Around) (place : ℕ) (vs : List Value) (state : State) → IfOk (between_wide p around place vs state) (λ next. length next.values ≡ length vs)
+unfolding between_wide
+wide_between_counts Production.NestParameter around place (v ∷ []) state = here_counts around place (index_of v) [] state
+wide_between_counts Production.Parameter around place (v ∷ []) state = here_counts around place (index_of v) [] state
+wide_between_counts p around place vs state = between_counts p around place vs state
+
+-- ## The language
+
+wide_view_laws : (s : List ℕ) → IsLinking (wide_view s)
+unfolding cpp cpp_wide
+wide_view_laws s = let laws = cpp_laws s in record {
+  sound = laws.sound;
+  starts = laws.starts;
+  part_stays = laws.part_stays;
+  kept_stays = laws.kept_stays;
+  paid_more = laws.paid_more;
+  keeps_count = λ rule known state. wide_between_counts (production_at rule.rule.number) rule.context rule.place known state;
+  few = laws.few;
+  two = laws.two;
+  closing = laws.closing;
+  two_at_once = λ s around held from left rule taken parts rest stands next once.
+      let at_once = laws.two_at_once s around held from left rule taken parts rest stands next once in
+      record { closed = at_once.closed; refused = at_once.refused };
+}
+
+wide_view_threads : (s : List ℕ) → IsThreading (wide_view s)
+unfolding cpp cpp_wide
+wide_view_threads s = record { linking = wide_view_laws s; grows_same = (cpp_threads s).grows_same; grows_then = (cpp_threads s).grows_then; one = refl }
+
+within_laws : {S : Type 0} (view : View Linked Part Kept Value S Around) → IsLinking view → IsLinking (within view)
+within_laws view laws = record {
+  sound = laws.sound;
+  starts = laws.starts;
+  part_stays = λ old new part value grows is. laws.part_stays old.linked new.linked part value grows is;
+  kept_stays = λ old new kept rule grows is. laws.kept_stays old.linked new.linked kept rule grows is;
+  paid_more = λ l few more le paid. laws.paid_more l.linked few more le paid;
+  keeps_count = laws.keeps_count;
+  few = laws.few;
+  two = laws.two;
+  closing = laws.closing;
+  two_at_once = λ s around held from left rule taken parts rest stands next once.
+      let at_once = laws.two_at_once s around held from left rule taken parts rest stands next once in
+      record { closed = at_once.closed; refused = at_once.refused };
+}
+
+within_threads : {S : Type 0} (view : View Linked Part Kept Value S Around) → IsThreading view → IsThreading (within view)
+within_threads view threads = record {
+  linking = within_laws view threads.linking;
+  grows_same = λ l. threads.grows_same l.linked;
+  grows_then = λ a b c first second. threads.grows_then a.linked b.linked c.linked first second;
+  one = threads.one;
+}
+
+pub wide_threads : (s : List ℕ) → IsThreading (wide_counted s)
+wide_threads s = within_threads _ (tallied_threads (wide_view s) wide_makes (wide_view_threads s))
+
+pub wide_laws : (s : List ℕ) → IsLinking (wide_counted s)
+wide_laws s = (wide_threads s).linking

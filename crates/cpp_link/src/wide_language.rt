@@ -1,0 +1,263 @@
+// The moments at which the driver asks C++'s language by the wide grammar. What is done is what the ABI's grammar does, but for the
+// parameters of a lambda's signature, and for substitutions.
+
+ghost use Rattle.std.specs.Prelude.{◌≡◌, ℕ, ◌<◌, ◌≤◌, ◌∷◌, ◌++◌, [], List, length, drop, OnOk, OnErr};
+ghost use Rattle.sym_link.specs.Driving.{AreAll};
+ghost use Rattle.sym_link.specs.Linking.{HasRoom, IsOpen, OpensRoot, Opens, TakesToken, ClosesRule, Adds, AddsFew, Pays, KeepsRoom, NeedsRoom, TokenNeedsRoom, owed_behind, owed_next};
+ghost use Rattle.sym_link.specs.Room.{KeepRoom, OnlyForRoom};
+ghost use Rattle.sym_link.specs.Tally.{Tally};
+ghost use Rattle.sym_link.specs.Threads.{IsOpenAt, GoesOn, BeginsIn, ClosesAll, IsTaken, IsAhead, IsAheadToken, IsCount, AddsBefore};
+ghost use Rattle.cpp_link.specs.declared.part.Part.TheVariants as variants;
+ghost use Rattle.cpp_term.specs.Values.{Value, State, Around};
+ghost use Rattle.cpp_link.specs.Parts.{is_lambda};
+ghost use Rattle.cpp_link.specs.View.{Surrounds};
+ghost use Rattle.cpp_link.specs.LinkRescoping.{names_generic, wide_counted};
+ghost use Rattle.cpp_link.specs.RescopingLaws.{wide_laws, wide_threads};
+ghost use Rattle.cpp_link.specs.declared.rescoping.Rescoping.{Rescoping};
+
+use crate::language::OUTSIDE;
+use crate::part::{Kept, Part};
+use crate::dispatch::production_of;
+use crate::rescoping::{Rescoping, is_parameter, is_substitution};
+use cpp_grammar::production::Production;
+use sym_core::Refusal;
+use sym_link::language::{Frame, Linking};
+use sym_link::threads::{Threading, close_by, enter_by, token_by};
+use sym_shape::rule::Row;
+
+/// Whether before the part behind so many a parameter of a lambda is named.
+fn names_generic(production: Production, kept: Kept, held: usize) -> bool
+    ensures { result ≡ names_generic production (is_lambda kept.scope) held }
+{
+    kept.in_lambda() && is_parameter(production) && held == 1
+}
+
+impl Threading for Rescoping {
+    type Part = Part;
+
+    type Kept = Kept;
+
+    ghost Value = { Value };
+
+    ghost State = { Tally State };
+
+    ghost Context = { Around };
+
+    ghost view = { wide_counted };
+
+    ghost surrounds = { λ s l. Surrounds s l.linked };
+
+    ghost absent = { variants.Nothing };
+
+    fn nothing(&self) -> Part
+        ensures is { result ≡ variants.Nothing }
+        ensures stands { (s : List ℕ) → AreAll ((wide_counted s).IsPart self.now) (result ∷ []) (wide_counted s).reading.rowless }
+    {
+        Part::Nothing
+    }
+
+    fn between(
+        &mut self,
+        symbol: &[u8],
+        frame: &Frame<Kept>,
+        parts: &mut Vec<Part>,
+    ) -> Result<Kept, Refusal>
+        requires room { HasRoom (wide_counted symbol.now) symbol.now self.old (owed_behind (wide_counted symbol.now) frame.now parts.old.items) }
+        requires open { IsOpenAt (wide_counted symbol.now) symbol.now self.old frame.now parts.old.items }
+        requires base { frame.now.base ≤ length parts.old.items }
+        ensures goes { GoesOn (wide_counted symbol.now) symbol.now (λ l. Surrounds symbol.now l.linked) self.old self.new frame.now parts.old.items parts.new.items result }
+        ensures adds { OnOk result (Adds (wide_counted symbol.now) self.old self.new (owed_behind (wide_counted symbol.now) frame.now parts.old.items) (owed_next (wide_counted symbol.now) frame.now parts.new.items)) }
+        ensures few { AddsBefore (wide_counted symbol.now) self.old self.new frame.now parts.old.items (drop frame.now.base parts.new.items ++ variants.Nothing ∷ []) result }
+        ensures pays { OnOk result ((at : ℕ) → Pays (wide_counted symbol.now) self.old self.new at at) }
+        ensures count { OnOk result (length parts.new.items ≡ length parts.old.items) }
+        ensures keeps { KeepsRoom (wide_counted symbol.now) self.old self.new parts.old parts.new }
+        ensures full { NeedsRoom (wide_counted symbol.now) self.old self.new parts.old parts.new result }
+    {
+        if names_generic(production_of(frame.rule), frame.kept, parts.len() - frame.base) {
+            return self.linked.go_generic(symbol, frame, parts);
+        }
+        self.linked.go_on(symbol, frame, parts)
+    }
+
+    fn begin(
+        &mut self,
+        symbol: &[u8],
+        rows: &[Row],
+        context: Kept,
+        row: Row,
+    ) -> Result<Kept, Refusal>
+        requires place { row.from < length symbol.now }
+        requires end { row.end ≤ length rows.now }
+        ensures begins { BeginsIn (wide_counted symbol.now) symbol.now (λ l. Surrounds symbol.now l.linked) rows.now self.old self.new context row result }
+        ensures adds { OnOk result (Adds (wide_counted symbol.now) self.old self.new 0 0) }
+        ensures few { OnErr result ((wide_counted symbol.now).size self.new ≤ (wide_counted symbol.now).size self.old) }
+        ensures pays { OnOk result ((at : ℕ) → Pays (wide_counted symbol.now) self.old self.new at at) }
+        ensures keeps { KeepRoom ((wide_counted symbol.now).lists self.old) ((wide_counted symbol.now).lists self.new) }
+        ensures full { OnlyForRoom ⊥ ((wide_counted symbol.now).lists self.old) ((wide_counted symbol.now).lists self.new) result }
+    {
+        self.linked.begin_rule(symbol, rows, context, row)
+    }
+
+    #[inline(always)]
+    fn finish(
+        &mut self,
+        symbol: &[u8],
+        frame: &Frame<Kept>,
+        parts: &mut Vec<Part>,
+    ) -> Result<(), Refusal>
+        requires room { HasRoom (wide_counted symbol.now) symbol.now self.old (owed_behind (wide_counted symbol.now) frame.now parts.old.items) }
+        requires open { IsOpenAt (wide_counted symbol.now) symbol.now self.old frame.now parts.old.items }
+        requires base { frame.now.base ≤ length parts.old.items }
+        requires place { frame.now.place < length symbol.now }
+        ensures closes { ClosesAll (wide_counted symbol.now) symbol.now self.old self.new frame.now parts.old.items parts.new.items result }
+        ensures adds { OnOk result (Adds (wide_counted symbol.now) self.old self.new (owed_behind (wide_counted symbol.now) frame.now parts.old.items) 0) }
+        ensures few { AddsFew (wide_counted symbol.now) self.old self.new frame.now parts.old.items }
+        ensures pays { OnOk result ((at : ℕ) → Pays (wide_counted symbol.now) self.old self.new at at) }
+        ensures keeps { KeepsRoom (wide_counted symbol.now) self.old self.new parts.old parts.new }
+        ensures full { NeedsRoom (wide_counted symbol.now) self.old self.new parts.old parts.new result }
+    {
+        if is_substitution(production_of(frame.rule)) {
+            return self.linked.finish_substitution(symbol, frame, parts);
+        }
+        self.linked.finish_rule(symbol, frame, parts)
+    }
+
+    fn ahead(
+        &self,
+        symbol: &[u8],
+        rows: &[Row],
+        frame: &Frame<Kept>,
+        held: usize,
+        row: Row,
+    ) -> usize
+        requires place { row.from < length symbol.now }
+        ensures { IsAhead (wide_counted symbol.now) symbol.now rows.now self.now frame.now held row result }
+    {
+        self.linked.next_rule(symbol, rows, frame, held, row)
+    }
+
+    fn text(&mut self, symbol: &[u8], row: Row) -> Result<Part, Refusal>
+        requires from { row.from ≤ row.to }
+        requires to { row.to ≤ length symbol.now }
+        ensures taken { IsTaken (wide_counted symbol.now) symbol.now self.old self.new row result }
+        ensures adds { OnOk result (Adds (wide_counted symbol.now) self.old self.new 0 0) }
+        ensures few { OnErr result ((wide_counted symbol.now).size self.new ≤ (wide_counted symbol.now).size self.old) }
+        ensures pays { OnOk result ((at : ℕ) → Pays (wide_counted symbol.now) self.old self.new at at) }
+        ensures keeps { KeepRoom ((wide_counted symbol.now).lists self.old) ((wide_counted symbol.now).lists self.new) }
+        ensures full { OnlyForRoom ⊥ ((wide_counted symbol.now).lists self.old) ((wide_counted symbol.now).lists self.new) result }
+    {
+        Ok(self.linked.text_at(symbol, row))
+    }
+
+    fn ahead_token(&self, symbol: &[u8], frame: &Frame<Kept>, held: usize) -> usize
+        ensures { IsAheadToken (wide_counted symbol.now) symbol.now self.now frame.now held result }
+    {
+        self.linked.next_token(symbol, frame, held)
+    }
+
+    fn count(&self, symbol: &[u8], frame: &Frame<Kept>, held: usize) -> usize
+        ensures { IsCount (wide_counted symbol.now) symbol.now self.now frame.now held result }
+    {
+        self.linked.count_parts(symbol, frame, held)
+    }
+
+    ghost laws = { wide_threads };
+}
+
+impl Linking for Rescoping {
+    type Part = Part;
+
+    type Kept = Kept;
+
+    ghost Value = { Value };
+
+    ghost State = { Tally State };
+
+    ghost Context = { Around };
+
+    ghost view = { wide_counted };
+
+    fn root(&mut self, symbol: &[u8], _rows: &[Row], _row: Row) -> Result<Kept, Refusal>
+        requires room { HasRoom (wide_counted symbol.now) symbol.now self.old 0 }
+        requires end { _row.end ≤ length _rows.now }
+        ensures opens { OpensRoot (wide_counted symbol.now) symbol.now _rows.now self.old self.new _row result }
+        ensures adds { OnOk result (Adds (wide_counted symbol.now) self.old self.new 0 0) }
+        ensures few { OnErr result ((wide_counted symbol.now).size self.new ≤ (wide_counted symbol.now).size self.old) }
+        ensures pays { OnOk result (Pays (wide_counted symbol.now) self.old self.new 0 0) }
+        ensures keeps { KeepRoom ((wide_counted symbol.now).lists self.old) ((wide_counted symbol.now).lists self.new) }
+        ensures full { OnlyForRoom ⊥ ((wide_counted symbol.now).lists self.old) ((wide_counted symbol.now).lists self.new) result }
+    {
+        Ok(OUTSIDE)
+    }
+
+    fn enter(
+        &mut self,
+        symbol: &[u8],
+        rows: &[Row],
+        frame: &Frame<Kept>,
+        parts: &mut Vec<Part>,
+        row: Row,
+    ) -> Result<Kept, Refusal>
+        requires room { HasRoom (wide_counted symbol.now) symbol.now self.old (owed_behind (wide_counted symbol.now) frame.now parts.old.items) }
+        requires open { IsOpen (wide_counted symbol.now) symbol.now self.old frame.now parts.old.items }
+        requires base { frame.now.base ≤ length parts.old.items }
+        requires place { row.from < length symbol.now }
+        requires end { row.end ≤ length rows.now }
+        ensures opens { Opens (wide_counted symbol.now) symbol.now rows.now self.old self.new frame.now parts.old.items parts.new.items row result }
+        ensures adds { OnOk result (Adds (wide_counted symbol.now) self.old self.new (owed_behind (wide_counted symbol.now) frame.now parts.old.items) (owed_next (wide_counted symbol.now) frame.now parts.new.items)) }
+        ensures few { OnErr result (AddsFew (wide_counted symbol.now) self.old self.new frame.now parts.old.items) }
+        ensures pays { OnOk result ((at : ℕ) → at ≤ row.from → Pays (wide_counted symbol.now) self.old self.new at row.from) }
+        ensures keeps { KeepsRoom (wide_counted symbol.now) self.old self.new parts.old parts.new }
+        ensures full { NeedsRoom (wide_counted symbol.now) self.old self.new parts.old parts.new result }
+    {
+        enter_by(self, symbol, rows, frame, parts, row)
+    }
+
+    #[inline(always)]
+    fn token(
+        &mut self,
+        symbol: &[u8],
+        frame: &Frame<Kept>,
+        parts: &mut Vec<Part>,
+        row: Row,
+    ) -> Result<(), Refusal>
+        requires room { HasRoom (wide_counted symbol.now) symbol.now self.old (owed_behind (wide_counted symbol.now) frame.now parts.old.items) }
+        requires open { IsOpen (wide_counted symbol.now) symbol.now self.old frame.now parts.old.items }
+        requires base { frame.now.base ≤ length parts.old.items }
+        requires from { row.from ≤ row.to }
+        requires to { row.to ≤ length symbol.now }
+        ensures takes { TakesToken (wide_counted symbol.now) symbol.now self.old self.new frame.now parts.old.items parts.new.items row result }
+        ensures adds { OnOk result (Adds (wide_counted symbol.now) self.old self.new (owed_behind (wide_counted symbol.now) frame.now parts.old.items) (owed_behind (wide_counted symbol.now) frame.now parts.new.items)) }
+        ensures few { OnErr result (AddsFew (wide_counted symbol.now) self.old self.new frame.now parts.old.items) }
+        ensures pays { OnOk result ((at : ℕ) → at ≤ row.from → (length parts.old.items ≡ frame.now.base → at ≤ frame.now.place)
+            → Pays (wide_counted symbol.now) self.old self.new at row.to) }
+        ensures keeps { KeepsRoom (wide_counted symbol.now) self.old self.new parts.old parts.new }
+        ensures full { TokenNeedsRoom (wide_counted symbol.now) symbol.now self.old self.new frame.now parts.old parts.new row result }
+    {
+        token_by(self, symbol, frame, parts, row)?;
+        Ok(())
+    }
+
+    #[inline(always)]
+    fn close(
+        &mut self,
+        symbol: &[u8],
+        frame: &Frame<Kept>,
+        parts: &mut Vec<Part>,
+    ) -> Result<(), Refusal>
+        requires room { HasRoom (wide_counted symbol.now) symbol.now self.old (owed_behind (wide_counted symbol.now) frame.now parts.old.items) }
+        requires open { IsOpen (wide_counted symbol.now) symbol.now self.old frame.now parts.old.items }
+        requires base { frame.now.base ≤ length parts.old.items }
+        requires place { frame.now.place < length symbol.now }
+        ensures closes { ClosesRule (wide_counted symbol.now) symbol.now self.old self.new frame.now parts.old.items parts.new.items result }
+        ensures adds { OnOk result (Adds (wide_counted symbol.now) self.old self.new (owed_behind (wide_counted symbol.now) frame.now parts.old.items) 0) }
+        ensures few { AddsFew (wide_counted symbol.now) self.old self.new frame.now parts.old.items }
+        ensures pays { OnOk result ((at : ℕ) → Pays (wide_counted symbol.now) self.old self.new at at) }
+        ensures keeps { KeepsRoom (wide_counted symbol.now) self.old self.new parts.old parts.new }
+        ensures full { NeedsRoom (wide_counted symbol.now) self.old self.new parts.old parts.new result }
+    {
+        close_by(self, symbol, frame, parts)
+    }
+
+    ghost laws = { wide_laws };
+}
