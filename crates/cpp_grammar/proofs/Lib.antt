@@ -11,6 +11,7 @@ pub mod JoinedMeaning
 pub mod Reader
 pub mod Row
 pub mod ListedRows
+pub mod RescopedRows
 pub mod GeneratedRows
 pub mod Ways
 pub mod ClosedValues

@@ -176,7 +176,8 @@ impl Linked {
         let is_open = self.is_open(symbol, candidate.node);
         let is_generic = self.is_generic(symbol, candidate.node);
         let in_lambda = kept.in_lambda();
-        (is_open && (in_lambda || candidate.encoding != kept.encoding)) || (is_generic && !in_lambda)
+        (is_open && (in_lambda || candidate.encoding != kept.encoding))
+            || (is_generic && !in_lambda)
     }
 
     /// The number of a parameter, also of one behind a mark.
@@ -234,12 +235,7 @@ impl Linked {
     /// # Errors
     ///
     /// `Memory` where the nodes couldn't grow.
-    fn add_marked(
-        &mut self,
-        symbol: &[u8],
-        named: Node,
-        parameter: Node,
-    ) -> Result<u32, Refusal>
+    fn add_marked(&mut self, symbol: &[u8], named: Node, parameter: Node) -> Result<u32, Refusal>
         requires place { HasPlace symbol.now self.old.nodes 2 }
         requires below { IsBelow symbol.now (length self.old.nodes.thunks) (length self.old.nodes.nodes) parameter }
         ensures grows { Grows symbol.now self.old.nodes self.new.nodes 2 }
@@ -269,13 +265,7 @@ impl Linked {
     ///
     /// `BadReference` where it is neither a parameter nor one behind a mark, or where none of its number may be named here, `Memory`
     /// where the nodes couldn't grow.
-    fn restate(
-        &mut self,
-        symbol: &[u8],
-        kept: Kept,
-        place: u32,
-        node: u32,
-    ) -> Result<Part, Refusal>
+    fn restate(&mut self, symbol: &[u8], kept: Kept, place: u32, node: u32) -> Result<Part, Refusal>
         requires whole { IsWhole symbol.now self.old }
         requires paid { IsPaid self.old }
         requires below { node < length self.old.nodes.nodes }
@@ -403,12 +393,7 @@ impl Linked {
         ensures pays { OnOk result ((at : ℕ) → Pays (cpp_view symbol.now) self.old self.new at at) }
         ensures roomy { IsRoomy self.old self.new parts.old parts.new result }
     {
-        let made = self.substitute_rescoped(
-            symbol,
-            frame.place,
-            frame.kept,
-            &parts[frame.base..],
-        )?;
+        let made = self.substitute_rescoped(symbol, frame.place, frame.kept, &parts[frame.base..])?;
         put(parts, frame.base, made)?;
         Ok(())
     }

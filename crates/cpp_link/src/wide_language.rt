@@ -15,9 +15,9 @@ ghost use Rattle.cpp_link.specs.LinkRescoping.{names_generic, wide_counted};
 ghost use Rattle.cpp_link.specs.RescopingLaws.{wide_laws, wide_threads};
 ghost use Rattle.cpp_link.specs.declared.rescoping.Rescoping.{Rescoping};
 
+use crate::dispatch::production_of;
 use crate::language::OUTSIDE;
 use crate::part::{Kept, Part};
-use crate::dispatch::production_of;
 use crate::rescoping::{Rescoping, is_parameter, is_substitution};
 use cpp_grammar::production::Production;
 use sym_core::Refusal;
@@ -73,7 +73,11 @@ impl Threading for Rescoping {
         ensures keeps { KeepsRoom (wide_counted symbol.now) self.old self.new parts.old parts.new }
         ensures full { NeedsRoom (wide_counted symbol.now) self.old self.new parts.old parts.new result }
     {
-        if names_generic(production_of(frame.rule), frame.kept, parts.len() - frame.base) {
+        if names_generic(
+            production_of(frame.rule),
+            frame.kept,
+            parts.len() - frame.base,
+        ) {
             return self.linked.go_generic(symbol, frame, parts);
         }
         self.linked.go_on(symbol, frame, parts)

@@ -41,7 +41,8 @@ all_inner around inner (c ∷ cs) (d ∷ ds) e i all = (one i, all_inner around 
     one : InScope around inner → IsNoted inner c d
     one (inl same) = record {
       encoding = all.0.encoding;
-      by = all.0.by; like = all.0.like;
+      by = all.0.by;
+      like = all.0.like;
       closed = all.0.closed;
       here = λ h f. all.0.here (h ∙ e) (sym same.1 ∙ f) ∙ ap (λ o. annotate (noted_scope o) c.tree) (sym same.0);
     }
@@ -62,13 +63,15 @@ all_outer around inner end (c ∷ cs) (d ∷ ds) e i new all = (one i, all_outer
     one : InScope around inner → IsNoted around c d
     one (inl same) = record {
       encoding = all.0.encoding;
-      by = all.0.by; like = all.0.like;
+      by = all.0.by;
+      like = all.0.like;
       closed = all.0.closed;
       here = λ h f. all.0.here (h ∙ sym e) (same.1 ∙ f) ∙ ap (λ o. annotate (noted_scope o) c.tree) same.0;
     }
     one (inr bare) = record {
       encoding = all.0.encoding;
-      by = all.0.by; like = all.0.like;
+      by = all.0.by;
+      like = all.0.like;
       closed = all.0.closed;
       here = λ h f. all.0.closed (closed_here bare.0 h) ∙ closed_noted None (noted_scope around.scope) c.tree (closed_here bare.0 h);
     }

@@ -97,7 +97,8 @@ all_types at b name [] [] old all = tt
 all_types at b name (c ∷ cs) (d ∷ ds) old all = (
   record {
     encoding = all.0.encoding;
-    by = all.0.by; like = all.0.like;
+    by = all.0.by;
+    like = all.0.like;
     closed = all.0.closed;
     here = λ h f. all.0.closed (old.0.closed refl refl h) ∙ closed_noted None (noted_scope (arguments_of name)) c.tree (old.0.closed refl refl h);
   },

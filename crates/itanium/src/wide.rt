@@ -73,7 +73,13 @@ impl Mangling for Wide {
         Ok(())
     }
 
-    fn finish(bytes: Vec<u8>, linked: &mut Rescoping, parts: &[Part], rows: u32, steps: u32) -> Symbol
+    fn finish(
+        bytes: Vec<u8>,
+        linked: &mut Rescoping,
+        parts: &[Part],
+        rows: u32,
+        steps: u32,
+    ) -> Symbol
         requires { (shape : Tree) × IsLinked wide (wide_counted bytes.items) bytes.items linked.old parts.now rows steps shape }
         ensures bytes { result.bytes ≡ bytes.items }
         ensures whole { (shape : Tree) → IsLinked wide (wide_counted bytes.items) bytes.items linked.old parts.now rows steps shape → Ok (whole_of result) ≡ unfold_wide shape }
