@@ -18,14 +18,14 @@ use Rattle.cpp_direct.specs.declared.direct.Direct.{Direct}
 use Rattle.cpp_direct.specs.Bytes.{is_local}
 use Rattle.cpp_direct.specs.Holes.{Expects}
 use Rattle.cpp_direct.specs.Prints.{PrintsName, PrintsIn, Shows}
-use Rattle.cpp_direct.specs.Stands.{AreCandidates, EncodedBehind, HasArguments, IsScoped, IsWriting, IsInstance, ParametersGoOn, Stands, qualifiers, plain_encoding}
+use Rattle.cpp_direct.specs.Stands.{AreCandidates, EncodedBehind, HasArguments, IsScoped, IsWriting, IsInstance, named_in, ParametersGoOn, Stands, qualifiers, plain_encoding}
 use Rattle.cpp_direct.specs.Ways.{IsNameEnded, IsFrontRead, AwaitsParameters}
 use Rattle.cpp_direct.specs.Written.{Writes}
 use Rattle.cpp_direct.proofs.Ending.{none-go_on, parameter-goes_on}
 use Rattle.cpp_direct.proofs.Kept.{candidates-written, reverse-last}
 use Rattle.cpp_direct.proofs.MovesOfLists.{element-awaits}
 use Rattle.cpp_direct.proofs.PrintedLists.{none-print-in}
-use Rattle.cpp_direct.proofs.Scopes.{arguments-stay, front-scoped}
+use Rattle.cpp_direct.proofs.Scopes.{arguments-named, arguments-stay, front-scoped}
 use Rattle.cpp_direct.proofs.PrintedSymbols.{encoding-returned, front-shows}
 
 no-text : (l : List ℕ) (from : ℕ) → from ≡ length l → from ≡ 0 → l ≡ []
@@ -35,37 +35,42 @@ no-text (b ∷ bs) from is none = absurd (omega (arith, is, none))
 -- the return type of a function is expected behind its name
 pub front-begins : (s : List ℕ) (w new : Direct) (mark : Mark) (from start : ℕ) → IsNameEnded s w mark true from → from ≡ 0 → is_local s ≡ false
     → start ≡ length w.text.list.items → new.text ≡ w.text → new.candidates ≡ w.candidates → new.at ≡ w.at
-    → new.waiting.list.items ≡ w.waiting.list.items ++ opens.Front mark start w.argument ∷ [] → IsWriting s new steps.Type
+    → new.waiting.list.items ≡ w.waiting.list.items ++ opens.Front mark start (named_in 2 w.argument) ∷ [] → IsWriting s new steps.Type
 front-begins s w new mark from start p none apart start_is text candidates at waiting =
     let lead_is : p.lead ≡ [] = no-text p.lead from p.from_is none in
     let named : w.text.list.items ≡ p.name = p.written ∙ ap (λ l. l ++ p.name) lead_is in
-    let instance_ : IsInstance w.argument mark p.v w.text.list.items = record {
+    let argument = named_in 2 w.argument in
+    let names = arguments-named w.text.list.items 2 w.argument p.own (p.names refl) in
+    let instance_ : IsInstance argument mark p.v w.text.list.items = record {
       own = p.own;
       tree_is = p.tree_is;
       qualifiers_are = p.qualifiers_are;
       mark_is = p.mark_is;
       prints = subst (λ l. PrintsName p.own l) (sym named) p.prints;
       returns = p.returns refl;
-      names = p.names refl;
+      names = names;
     } in
-    let goes : ParametersGoOn s w.argument [] (λ l. encoding_of p.v l) [] w.at p.state =
-    subst (λ l. ParametersGoOn s w.argument l (λ i. encoding_of p.v i) [] w.at p.state) lead_is
-    (none-go_on s w.argument p.lead p.v w.at p.state p.awaits (λ k o. let n = p.names refl k o in record {
-      own = n.own;
-      all = n.all;
-      scope_is = p.awaits.scope_is ∙ ap arguments_of p.tree_is ∙ n.all_are;
-      there = n.there;
-      below = n.below;
-      alone = n.alone;
-      no_pack = n.prints.no_pack;
-    })) in
+    let goes : ParametersGoOn s argument [] (λ l. encoding_of p.v l) [] w.at p.state =
+    subst (λ l. ParametersGoOn s argument l (λ i. encoding_of p.v i) [] w.at p.state) lead_is
+    (none-go_on s argument p.lead p.v w.at p.state p.awaits (λ k o. let n = names k o in (
+      record {
+        own = n.own;
+        all = n.all;
+        scope_is = p.awaits.scope_is ∙ ap arguments_of p.tree_is ∙ n.all_are;
+        there = n.there;
+        below = n.below;
+        alone = n.alone;
+        no_pack = n.prints.no_pack;
+      },
+      λ real. (p.awaits.encoding_is lead_is apart, p.awaits.no_lambda),
+    ))) in
     let element = element-awaits s Kind.Items goes.inner goes.around w.at p.state tt goes.awaits in
-    let stands : Stands s (opens.Front mark start w.argument ∷ reverse w.waiting.list.items) element.inner w.text.list.items = (
+    let stands : Stands s (opens.Front mark start argument ∷ reverse w.waiting.list.items) element.inner w.text.list.items = (
       p.v,
       instance_,
       apart,
       start_is,
-      λ t here now comes. parameter-goes_on s w.argument (λ e there then_. EncodedBehind s [] e there) (λ l. encoding_of p.v l) [] w.at p.state goes
+      λ t here now comes. parameter-goes_on s argument (λ e there then_. EncodedBehind s [] e there) (λ l. encoding_of p.v l) [] w.at p.state goes
           t here now (element.onward t here now comes),
     ) in
     record {
@@ -79,9 +84,9 @@ front-begins s w new mark from start p none apart start_is text candidates at wa
         inr (inl (subst (λ n. Expects s Kind.Item goes.around element.inner n p.state) (sym at) element.awaits)),
         subst (λ v. Stands s (reverse new.waiting.list.items) element.inner v.list.items) (sym text)
             (subst (λ ws. Stands s ws element.inner w.text.list.items)
-            (sym (ap reverse waiting ∙ reverse-last w.waiting.list.items (opens.Front mark start w.argument))) stands),
-        subst (λ ws. IsScoped goes.around ws) (sym (ap reverse waiting ∙ reverse-last w.waiting.list.items (opens.Front mark start w.argument)))
-            (front-scoped goes.around mark start w.argument (reverse w.waiting.list.items) goes.scoped),
+            (sym (ap reverse waiting ∙ reverse-last w.waiting.list.items (opens.Front mark start argument))) stands),
+        subst (λ ws. IsScoped goes.around ws) (sym (ap reverse waiting ∙ reverse-last w.waiting.list.items (opens.Front mark start argument)))
+            (front-scoped goes.around mark start argument (reverse w.waiting.list.items) goes.scoped),
       );
     }
 

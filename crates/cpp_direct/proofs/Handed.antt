@@ -12,7 +12,7 @@ use Rattle.cpp_direct.specs.declared.open.Step.TheVariants as steps
 use Rattle.cpp_direct.specs.declared.direct.Direct.{Direct}
 use Rattle.cpp_direct.specs.Holes.{Opened, Comes}
 use Rattle.cpp_direct.specs.Prints.{Prints, PrintsIn, IsElementIn, Shows}
-use Rattle.cpp_direct.specs.Stands.{AreCandidates, HasArguments, IsTemplate, IsWriting, Marks, AwaitsEnumerator, Belongs, Listing, of_template, of_pack, Stands, opening_text, extra_of, led_by, in_front_of_next}
+use Rattle.cpp_direct.specs.Stands.{AreCandidates, HasArguments, IsTemplate, IsWriting, Marks, AwaitsEnumerator, Belongs, Listing, of_template, of_pack, Stands, opening_text, extra_of, led_by, in_front_of_next, argument_of}
 use Rattle.cpp_direct.specs.Ways.{AwaitsMark, AwaitsNumber, AwaitsSignature, IsElementRead, IsFrontRead, IsParameterEnded, IsReturned, IsSymbolEnded}
 use Rattle.cpp_direct.proofs.Listed.{TakesElements, last-found, list-waits, listing-at, some-elements}
 use Rattle.cpp_direct.proofs.PrintedLists.{element-in, next-prints, next-prints-in, type-element}
@@ -24,7 +24,7 @@ use Rattle.cpp_direct.proofs.Scopes.{arguments-stay}
 -- it is marked
 pub value-marked : (s : List ℕ) (w : Direct) (is_reference marked_reference : Bool) (entry : Open) (from : ℕ) (made : Term → Term) (mark : List ℕ)
     → IsWriting s w (steps.Value is_reference) → slice_get w.waiting.list.items (length w.waiting.list.items - 1) ≡ Some entry
-    → ((rest : List Open) (os : List Opened) (text : List ℕ) → Stands s (entry ∷ rest) os text → Marks s (Stands s rest) os text from made)
+    → ((rest : List Open) (os : List Opened) (text : List ℕ) → Stands s (entry ∷ rest) os text → Marks s (Stands s rest) (argument_of rest) os text from made)
     → ((t : Term) (b : List ℕ) → Prints t b is_reference → Prints (made t) (b ++ mark) marked_reference)
     → AwaitsMark s w mark from marked_reference
 value-marked s w is_reference marked_reference entry from made mark p found stands_as prints_as =

@@ -29,7 +29,7 @@ use Rattle.cpp_direct.specs.Prints.{Prints, NamesClass}
 use Rattle.cpp_direct.specs.Stands.{HasArguments, AreCandidates, IsNest, IsNesting, IsTemplate, ArgumentsGoOn, Serves, Stands, IsWriting, qualifiers}
 use Rattle.cpp_direct.specs.Ways.{AwaitsNest, IsNestNamed, IsNameEnded, IsOperatorRead}
 use Rattle.cpp_direct.specs.Written.{Reads, added, added_unless}
-use Rattle.cpp_direct.proofs.Kept.{arguments-begun, candidates-stay, candidates-with, candidates-unless, candidate-found, piece-found, nest-stays, reverse-last}
+use Rattle.cpp_direct.proofs.Kept.{plainly-prints, arguments-begun, candidates-stay, candidates-with, candidates-unless, candidate-found, piece-found, nest-stays, reverse-last}
 use Rattle.cpp_direct.proofs.Moves.{expects-empty, stands-join, comes-moved}
 use Rattle.cpp_direct.proofs.MovesOfComponents.{component-awaits, first-arguments, nest-end}
 use Rattle.cpp_direct.proofs.MovesOfLists.{arguments-open}
@@ -440,17 +440,17 @@ candidate-text s w purpose a n k ordered found =
 -- a reference begins a nested name
 pub reference-begins : (s : List ℕ) (old mid : Direct) (purpose : Purpose) (digits : List ℕ) (k : Candidate) → AwaitsNest s old purpose
     → StandsAt s old.at (83 ∷ []) → IsSeqAt s (old.at + 1) digits mid.at
-    → k.from ≤ k.to → slice_get old.candidates.list.items (counted_value Seq36 digits) ≡ Some k → k.is_reference ≡ false
+    → k.from ≤ k.to → slice_get old.candidates.list.items (counted_value Seq36 digits) ≡ Some k → k.is_reference ≡ false → k.is_dependent ≡ false
     → mid.text.list.items ≡ old.text.list.items ++ take (k.to - k.from) (drop k.from old.text.list.items) → mid.candidates ≡ old.candidates
     → mid.waiting ≡ old.waiting → (from : ℕ) → from ≡ length old.text.list.items
     → IsWriting s (record mid { nest = nest_of from from from purpose true false }) steps.Rest
-reference-begins s old mid purpose digits k a here is ordered found plain text_is candidates_are waiting_is from from_is =
+reference-begins s old mid purpose digits k a here is ordered found plain closed text_is candidates_are waiting_is from from_is =
     let nest = nest_of from from from purpose true false in
     let one = candidate-found old.text.list.items old.candidates.list.items a.state.candidates (counted_value Seq36 digits) k a.candidates ordered found in
     let c = one.0 in
     let it = one.2 in
     let piece = piece-found old.text.list.items it.front it.bytes it.back k.from k.to it.written it.from_is it.to_is in
-    let prints = subst (λ b. Prints c.tree it.bytes b) plain it.prints in
+    let prints = subst (λ b. Prints c.tree it.bytes b) plain (plainly-prints k c it.bytes closed it.prints) in
     nest-begins s old (record mid { nest = nest }) purpose a c.tree it.bytes (text_is ∙ ap (λ l. old.text.list.items ++ l) piece.2) candidates_are
     waiting_is refl (classless-nest old.text.list.items it.bytes nest c.tree from_is from_is from_is refl prints)
     (nest-substitution s a.outer a.around old.at a.state digits mid.at c a.awaits here is one.1 prints.is_closed prints.packless)

@@ -21,7 +21,7 @@ use Rattle.cpp_direct.specs.Holes.{Opened, StandsAt, Comes, Expects, with_candid
 use Rattle.cpp_direct.specs.HolesOfFunctions.{SignatureGoesOn, plain_function, pointed, with_pointed, reference, reference_letter}
 use Rattle.cpp_direct.specs.HolesOfTypes.{NoReference}
 use Rattle.cpp_direct.specs.Prints.{PrintEach, PrintAll, joined}
-use Rattle.cpp_direct.specs.Stands.{IsScoped, AreCandidates, IsWriting, Marks, Stands, TakesFunction, opening_text, list_with, in_front_of_next}
+use Rattle.cpp_direct.specs.Stands.{IsScoped, AreCandidates, IsWriting, Marks, Stands, TakesFunction, opening_text, list_with, in_front_of_next, argument_of}
 use Rattle.cpp_direct.specs.Ways.{AwaitsParameter, AwaitsSignature, IsElementRead, IsFunctionRead, IsReturned}
 use Rattle.cpp_direct.specs.Written.{Writes, hidden, with_hidden}
 use Rattle.cpp_direct.proofs.Ending.{no-void, next-written}
@@ -198,7 +198,7 @@ reference_entry true from = opens.Lvalue from
 reference_entry false from = opens.Rvalue from
 
 reference-stands : (s : List ℕ) (is_lvalue : Bool) (rest : List Open) (os : List Opened) (text : List ℕ) (from : ℕ)
-    → Marks s (Stands s rest) os text from (reference is_lvalue) → Stands s (reference_entry is_lvalue from ∷ rest) os text
+    → Marks s (Stands s rest) (argument_of rest) os text from (reference is_lvalue) → Stands s (reference_entry is_lvalue from ∷ rest) os text
 reference-stands s true rest os text from marks = marks
 reference-stands s false rest os text from marks = marks
 
@@ -236,7 +236,7 @@ reference-comes s old new o is_pointer is_lvalue from a begins stands is waits a
             subst (λ v. Stands s (reverse new.waiting.list.items) p.inner v.list.items) (sym text)
                 (subst (λ ws. Stands s ws p.inner old.text.list.items) (sym turned)
                 (reference-stands s is_lvalue (opens.Signature is_pointer ∷ a.rest) p.inner old.text.list.items from
-                (p.whole, p.around.encoding, begins, p.passes, whole))),
+                (p.whole, p.around.encoding, begins, p.passes, whole, λ q k found known. cc found))),
             subst (λ ws. IsScoped p.around ws) (sym turned) (reference-scoped p.around is_lvalue from is_pointer a.rest),
           );
         }

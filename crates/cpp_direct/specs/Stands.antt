@@ -34,10 +34,18 @@ use Rattle.cpp_direct.specs.HolesOfTypes.{NoReference}
 use Rattle.cpp_direct.specs.HolesOfLists.{IsSuffix, IsDigitsAt, minus_sign}
 use Rattle.cpp_direct.specs.HolesOfLocals.{Discriminator, EntityOpened, IsDiscriminatorAt, IsEntityAt, IsLambdaDigit, lambda_ending, lambda_with, local_in}
 use Rattle.cpp_direct.specs.Marks.{has_const, called_on}
-use Rattle.cpp_direct.specs.Prints.{Prints, PrintsName, Shows, Encloses, NamesClass, PrintAll, PrintsBehind, PrintAllIn}
+use Rattle.cpp_direct.specs.Prints.{Prints, PrintsName, Shows, Encloses, NamesClass, PrintAll, NamesArgument, PrintAllIn}
 use Rattle.cpp_grammar.specs.Parts.{types_of}
 
 -- ## Candidates
+
+-- It prints a text, or that behind an argument, in the encoding that begins at its place, if this is known.
+abbrev pub PrintsOrNames : (is_dependent : Bool) → Candidate → values.Candidate → (bytes : List ℕ) → Type 0
+PrintsOrNames false k c bytes = Prints c.tree bytes k.is_reference
+PrintsOrNames true k c bytes = NamesArgument k.number c.tree bytes k.is_reference × (k.encoding ≢ 0 → c.encoding ≡ k.encoding)
+
+abbrev pub PrintsAs : Candidate → values.Candidate → (bytes : List ℕ) → Type 0
+PrintsAs k c bytes = PrintsOrNames k.is_dependent k c bytes
 
 -- what a substitution may name prints the text that stands at its place
 pub record IsCandidate (text : List ℕ) (k : Candidate) (c : values.Candidate) : Type 0 where
@@ -47,7 +55,7 @@ pub record IsCandidate (text : List ℕ) (k : Candidate) (c : values.Candidate) 
   pub written : text ≡ front ++ bytes ++ back
   pub from_is : k.from ≡ length front
   pub to_is : k.to ≡ length front + length bytes
-  pub prints : Prints c.tree bytes k.is_reference
+  pub prints : PrintsAs k c bytes
 
 -- each candidate is so, but for those that end before they begin, of which nothing is known
 abbrev pub AreCandidates : (text : List ℕ) → List Candidate → List values.Candidate → Type 0
@@ -70,7 +78,11 @@ abbrev pub no_place : Argument
 no_place = record { from = 1; to = 0; is_pack = false; is_reference = false }
 
 abbrev pub nowhere : Arguments
-nowhere = record { first = no_place; second = no_place; third = no_place; fourth = no_place }
+nowhere = record { first = no_place; second = no_place; third = no_place; fourth = no_place; encoding = 0 }
+
+-- the same in the types of the encoding that begins at a place
+abbrev pub named_in : (place : ℕ) → Arguments → Arguments
+named_in place a = record a { encoding = place }
 
 -- the argument with this number
 abbrev pub place_of : Arguments → (number : ℕ) → Argument
@@ -115,9 +127,14 @@ pub record IsScope (number : ℕ) (is_pack : Bool) (around : Around) : Type 0 wh
   pub alone : is_pack ≡ true → all ≡ list (packed true own) nil
   pub no_pack : length_if_pack own ≡ None
 
+-- if the place is known, the innermost encoding begins there, and none of its lambdas is read
+abbrev pub IsEncodedAt : (place : ℕ) → Around → Type 0
+IsEncodedAt place around = place ≢ 0 → (around.encoding ≡ place) × (around.in_lambda ≡ false)
+
 -- parameters may name the known arguments here
 abbrev pub HasScope : Arguments → Around → Type 0
-HasScope a around = (number : ℕ) → IsKnown (place_of a number) → IsScope number (place_of a number).is_pack around
+HasScope a around =
+    (number : ℕ) → IsKnown (place_of a number) → IsScope number (place_of a number).is_pack around × IsEncodedAt a.encoding around
 
 -- the arguments that a type names, or one that is marked
 abbrev pub argument_of : List Open → Option Arguments
@@ -171,6 +188,8 @@ pub record AwaitsItems (s : List ℕ) (lead : List ℕ) (v : Value) (at : ℕ) (
   pub inner : List Opened
   pub outside : around.prefix ≡ outermost
   pub scope_is : around.scope ≡ arguments_of (tree_of v)
+  pub encoding_is : lead ≡ [] → is_local s ≡ false → around.encoding ≡ 2
+  pub no_lambda : around.in_lambda ≡ false
   pub awaits : Expects s Kind.Items around inner at st
   pub onward : (l : Value) (at : ℕ) (st : State) → Comes s inner l at st → EncodedBehind s lead (encoding_of v (no_items l)) at
 
@@ -267,9 +286,14 @@ pub record IsInstance (argument : Arguments) (mark : Mark) (v : Value) (name : L
 abbrev pub Below : Type 1
 Below = List Opened → (text : List ℕ) → Type 0
 
+-- where an argument may be named, the encoding begins at its place, if this is known
+abbrev pub IsEncodingOf : Option Arguments → (e : ℕ) → Type 0
+IsEncodingOf scope e = (a : Arguments) (number : ℕ) → scope ≡ Some a → IsKnown (place_of a number) → a.encoding ≢ 0 → e ≡ a.encoding
+
 -- A type that comes is marked.
-abbrev pub Marks : (s : List ℕ) → Below → List Opened → (text : List ℕ) → (from : ℕ) → (made : Term → Term) → Type 0
-Marks s below os text from made = (outer : List Opened) × (e : ℕ) × (from ≡ length text) × TypePasses s os outer e made × below outer text
+abbrev pub Marks : (s : List ℕ) → Below → (scope : Option Arguments) → List Opened → (text : List ℕ) → (from : ℕ) → (made : Term → Term) → Type 0
+Marks s below scope os text from made =
+    (outer : List Opened) × (e : ℕ) × (from ≡ length text) × TypePasses s os outer e made × below outer text × IsEncodingOf scope e
 
 -- An encoding with this tree ends at the place, and a type that stands in it comes for what is open below, behind this text.
 abbrev pub TypeWithin : (s : List ℕ) → Below → (front : List ℕ) → (e : Term) → (at : ℕ) → State → Type 0
@@ -298,7 +322,7 @@ Serves s (purposes.Name mark) below os front =
     (t : Term) (listed : Bool) (at : ℕ) (st : State) → Comes s os (tree t listed) at st → AwaitsItems s front (named t (qualifiers (has_const mark)) (called_on mark)) at st
 Serves s (purposes.Enclosing mark) below os front =
     (text : List ℕ) (argument : Arguments) (t : Term) (listed : Bool) (at : ℕ) (st : State)
-    → HasArguments text argument t → Comes s os (tree t listed) at st
+    → HasArguments text argument t → argument.encoding ≡ 0 → Comes s os (tree t listed) at st
     → ItemsGoOn s argument (TypeWithin s below front) (λ l. encoding_of (named t (qualifiers (has_const mark)) (called_on mark)) l) [] at st
 
 -- An instance is read, behind this text: what becomes of it.
@@ -444,10 +468,10 @@ TakesFunction _ = ⊥
 -- A type comes for the last of the open ones, behind what is written.
 abbrev pub Stands : (s : List ℕ) → List Open → List Opened → (text : List ℕ) → Type 0
 Stands s [] os text = ⊥
-Stands s (opens.Pointer from ∷ rest) os text = Marks s (Stands s rest) os text from pointer
-Stands s (opens.Lvalue from ∷ rest) os text = Marks s (Stands s rest) os text from lvalue
-Stands s (opens.Rvalue from ∷ rest) os text = Marks s (Stands s rest) os text from rvalue
-Stands s (opens.Const from ∷ rest) os text = Marks s (Stands s rest) os text from (qualified (qualifiers true))
+Stands s (opens.Pointer from ∷ rest) os text = Marks s (Stands s rest) (argument_of rest) os text from pointer
+Stands s (opens.Lvalue from ∷ rest) os text = Marks s (Stands s rest) (argument_of rest) os text from lvalue
+Stands s (opens.Rvalue from ∷ rest) os text = Marks s (Stands s rest) (argument_of rest) os text from rvalue
+Stands s (opens.Const from ∷ rest) os text = Marks s (Stands s rest) (argument_of rest) os text from (qualified (qualifiers true))
 Stands s (opens.Front mark start argument ∷ rest) os text =
     (v : Value) × IsInstance argument mark v text × (is_local s ≡ false) × (start ≡ length text)
     × ((t : Term) (at : ℕ) (st : State) → Comes s os (tree t true) at st → ParametersGoOn s argument [] (encoding_of v) (t ∷ []) at st)
@@ -532,11 +556,12 @@ IsBefore s w st (steps.Value is_reference) =
     (os : List Opened) × (t : Term) × (front : List ℕ) × (bytes : List ℕ)
     × (w.text.list.items ≡ front ++ bytes) × Prints t bytes is_reference
     × Comes s os (tree t true) w.at st × Stands s (reverse w.waiting.list.items) os front
-IsBefore s w st (steps.Dependent is_reference) =
-    (os : List Opened) × (t : Term) × (front : List ℕ) × (bytes : List ℕ) × (marks : List ℕ) × (a : Arguments) × (number : ℕ)
-    × (w.text.list.items ≡ front ++ bytes ++ marks) × PrintsBehind number t marks is_reference
+IsBefore s w st (steps.Dependent is_reference begins number encoding) =
+    (os : List Opened) × (t : Term) × (front : List ℕ) × (bytes : List ℕ) × (marks : List ℕ) × (a : Arguments)
+    × (w.text.list.items ≡ front ++ bytes ++ marks) × NamesArgument number t marks is_reference
     × (argument_of (reverse w.waiting.list.items) ≡ Some a) × IsPlain (place_of a number) × IsPlaced front (place_of a number) bytes
-    × Comes s os (tree t true) w.at st × Stands s (reverse w.waiting.list.items) os front
+    × (begins ≡ length (front ++ bytes))
+    × Comes s os (tree t true) w.at st × Stands s (reverse w.waiting.list.items) os front × (encoding ≡ a.encoding)
 IsBefore s w st (steps.List is_first) =
     (place : IsListing (reverse w.waiting.list.items) w.text.list.items) × (ts : List Term) × (elements : List ℕ)
     × PrintAll (extra_of place.listing) ts elements

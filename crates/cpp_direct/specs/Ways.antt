@@ -1,5 +1,5 @@
 -- Where a writer is between two of its functions, within a step.
-use Rattle.std.specs.Prelude.{◌≡◌, ◌≢◌, ◌⊎◌, ℕ, zero, suc, ◌+◌, List, [], ◌∷◌, ◌++◌, length, reverse, ◌≤◌, Bool, true, false, cond, Some, codes}
+use Rattle.std.specs.Prelude.{◌≡◌, ◌≢◌, ◌⊎◌, ℕ, zero, suc, ◌+◌, List, [], ◌∷◌, ◌++◌, length, reverse, slice_get, ◌≤◌, Bool, true, false, cond, Some, codes}
 use Rattle.cpp_grammar.specs.declared.kind.Kind.{Kind}
 use Rattle.cpp_grammar.specs.Term.{Term, Signed, instance, builtin, list, nil}
 use Rattle.cpp_grammar.specs.Texts.{look_up, builtin_texts, literal_endings}
@@ -10,6 +10,7 @@ use Rattle.cpp_grammar.specs.Meaning.{encoding_of}
 use Rattle.cpp_grammar.specs.Values.{State, Around, Value, nothing_there, tree, outermost, tree_of, qualifiers_of, ref_of}
 use Rattle.cpp_direct.specs.declared.open.Mark.{Mark}
 use Rattle.cpp_direct.specs.declared.open.Mark.TheVariants as marks
+use Rattle.cpp_direct.specs.declared.open.Candidate.{Candidate}
 use Rattle.cpp_direct.specs.declared.open.Purpose.{Purpose}
 use Rattle.cpp_direct.specs.declared.open.Open.{Open}
 use Rattle.cpp_direct.specs.declared.open.Argument.{Argument}
@@ -17,12 +18,14 @@ use Rattle.cpp_direct.specs.declared.open.Arguments.{Arguments}
 use Rattle.cpp_direct.specs.declared.open.Open.TheVariants as opens
 use Rattle.cpp_direct.specs.declared.direct.Direct.{Direct}
 use Rattle.cpp_direct.specs.Bytes.{is_local}
-use Rattle.cpp_direct.specs.Holes.{Opened, StandsAt, Comes, Expects, IsReferable, IsTyped, TypeNamed, NestNamed, with_candidate}
+use Rattle.sym_core.specs.Value.{counted_value}
+use Rattle.sym_core.specs.declared.NumberKind.TheVariants.{Seq36}
+use Rattle.cpp_direct.specs.Holes.{Opened, StandsAt, IsSeqAt, Comes, Expects, IsReferable, IsTyped, TypeNamed, NestNamed, with_candidate}
 use Rattle.cpp_direct.specs.HolesOfFunctions.{SignatureGoesOn, plain_function, pointed, with_pointed}
 use Rattle.cpp_direct.specs.HolesOfTypes.{IsNamedKind, NoReference, TreeOpens}
 use Rattle.cpp_direct.specs.Marks.{has_const, called_on, mark_text}
-use Rattle.cpp_direct.specs.Prints.{Prints, PrintsName, IsElement, PrintAll, Shows, Encloses, sign_text, PrintsIn, PrintsBehind}
-use Rattle.cpp_direct.specs.Stands.{AreCandidates, AwaitsItems, Encoded, EncodedBehind, IsEnclosing, IsFunction, IsInstance, IsListing, IsNest, IsTail, IsTemplate, GoesOn, EnumeratorGoesOn, ItemsGoOn, LambdaWithin, Owns, ParametersGoOn, Serves, Stands, TypeWithin, TakesFunction, opening_text, qualifiers, extra_of, led_by, list_with, in_front_of_next, IsPlaced, IsAmong, AreAmong, HasArguments, IsKnown, IsScoped, argument_of, place_of, nowhere, packed, of_pack, IsPlain, ArgumentsGoOn}
+use Rattle.cpp_direct.specs.Prints.{Prints, PrintsName, IsElement, PrintAll, Shows, Encloses, sign_text, PrintsIn, NamesArgument}
+use Rattle.cpp_direct.specs.Stands.{AreCandidates, AwaitsItems, Encoded, EncodedBehind, IsEnclosing, IsFunction, IsInstance, IsListing, IsNest, IsTail, IsTemplate, GoesOn, EnumeratorGoesOn, ItemsGoOn, LambdaWithin, Owns, ParametersGoOn, Serves, Stands, TypeWithin, TakesFunction, opening_text, qualifiers, extra_of, led_by, list_with, in_front_of_next, IsPlaced, IsAmong, AreAmong, HasArguments, IsKnown, IsScoped, argument_of, place_of, named_in, nowhere, packed, of_pack, IsPlain, ArgumentsGoOn}
 
 -- the digits behind the T of a parameter with this number
 abbrev pub parameter_digits : (number : ℕ) → List ℕ
@@ -48,6 +51,7 @@ pub record AwaitsEncoding (s : List ℕ) (w : Direct) : Type 0 where
   pub candidates : AreCandidates w.text.list.items w.candidates.list.items state.candidates
   pub around : Around
   pub outer : List Opened
+  pub begins : w.text.list.items ≡ [] → is_local s ≡ false → w.at ≡ 2
   pub awaits : Expects s Kind.Encoding around outer w.at state
   pub onward : (e : Term) (at : ℕ) (st : State) → Comes s outer (tree e true) at st → EncodedBehind s w.text.list.items e at
 
@@ -106,6 +110,18 @@ pub record AwaitsNamedType (s : List ℕ) (w : Direct) : Type 0 where
   pub os : List Opened
   pub begins : TreeOpens s kind os around w.at state
   pub stands : Stands s (reverse w.waiting.list.items) os w.text.list.items
+  pub scoped : IsScoped around (reverse w.waiting.list.items)
+
+-- A substitution was read that names a type, which names an argument of the function's template.
+pub record IsNamedAgain (s : List ℕ) (w : Direct) (k : Candidate) : Type 0 where
+  pub before : ℕ
+  pub awaits : AwaitsNamedType s (record w { at = before })
+  pub letter : StandsAt s before (83 ∷ [])
+  pub digits : List ℕ
+  pub number : IsSeqAt s (before + 1) digits w.at
+  pub found : slice_get w.candidates.list.items (counted_value Seq36 digits) ≡ Some k
+  pub ordered : k.from ≤ k.to
+  pub is : k.is_dependent ≡ true
 
 -- the name of a type was read, which is a candidate already or not, and was written from a place on
 pub record IsTypeNamed (s : List ℕ) (w : Direct) (from : ℕ) (is_listed is_reference : Bool) : Type 0 where
@@ -143,7 +159,7 @@ pub record AwaitsMark (s : List ℕ) (w : Direct) (mark : List ℕ) (from : ℕ)
   pub stands : Stands s rest outer front
 
 -- A type that names the argument of the function's template was read, and what waits for it marks it. It was written, but for its mark.
-pub record AwaitsDependentMark (s : List ℕ) (w : Direct) (mark : List ℕ) (is_reference : Bool) : Type 0 where
+pub record AwaitsDependentMark (s : List ℕ) (w : Direct) (mark : List ℕ) (is_reference : Bool) (begins number place : ℕ) : Type 0 where
   pub state : State
   pub candidates : AreCandidates w.text.list.items w.candidates.list.items state.candidates
   pub entry : Open
@@ -157,9 +173,11 @@ pub record AwaitsDependentMark (s : List ℕ) (w : Direct) (mark : List ℕ) (is
   pub bytes : List ℕ
   pub marks : List ℕ
   pub argument : Arguments
-  pub number : ℕ
   pub written : w.text.list.items ≡ front ++ bytes ++ marks
-  pub prints : PrintsBehind number made (marks ++ mark) is_reference
+  pub begins_is : begins ≡ length (front ++ bytes)
+  pub prints : NamesArgument number made (marks ++ mark) is_reference
+  pub encoding_is : place ≢ 0 → encoding ≡ place
+  pub place_is : place ≡ argument.encoding
   pub found : argument_of rest ≡ Some argument
   pub plain : IsPlain (place_of argument number)
   pub placed : IsPlaced front (place_of argument number) bytes
@@ -498,7 +516,7 @@ pub record IsEnclosingInstance (s : List ℕ) (w : Direct) (mark : Mark) (from :
   pub prints : PrintsName own name
   pub returns : has_return_type own ≡ true
   pub names : HasArguments w.text.list.items w.argument own
-  pub goes : ItemsGoOn s w.argument (TypeWithin s (Stands s (reverse w.waiting.list.items)) front) (λ l. encoding_of v l) [] w.at state
+  pub goes : ItemsGoOn s (named_in 0 w.argument) (TypeWithin s (Stands s (reverse w.waiting.list.items)) front) (λ l. encoding_of v l) [] w.at state
 
 -- The name of a function in which a type stands was read, and its return type if it has one. Its parameters are expected.
 pub record AwaitsEnclosingParameters (s : List ℕ) (w : Direct) (mark : Mark) (from : ℕ) (argument : Arguments) : Type 0 where

@@ -69,7 +69,7 @@ impl Direct {
         let text = cpp_layout::abbreviation_text(letter);
         if text.is_empty() {
             let candidate = self.substitution(s)?;
-            if candidate.is_reference {
+            if candidate.is_reference || candidate.is_dependent {
                 return None;
             }
             self.repeat(candidate.from, candidate.to)?;

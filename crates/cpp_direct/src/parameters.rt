@@ -6,10 +6,10 @@ ghost use Rattle.cpp_direct.specs.Names.{IsReadable};
 ghost use Rattle.cpp_direct.specs.declared.open.Step.TheVariants as steps;
 ghost use Rattle.cpp_direct.specs.Holes.{StandsAt};
 ghost use Rattle.cpp_direct.specs.Stands.{EndsNamed, IsWriting, argument_of, place_of};
-ghost use Rattle.cpp_direct.specs.Ways.{AwaitsType, AwaitsDependentMark, AwaitsKnownArgument, AwaitsNextParameter, IsArgumentRead, IsPackElementRead, KnowsMore, parameter_digits};
+ghost use Rattle.cpp_direct.specs.Ways.{AwaitsType, AwaitsDependentMark, AwaitsKnownArgument, AwaitsNextParameter, IsArgumentRead, IsNamedAgain, IsPackElementRead, KnowsMore, parameter_digits};
 
 use crate::direct::Direct;
-use crate::open::{Argument, Arguments, Mark, Open, Purpose, Step};
+use crate::open::{Argument, Arguments, Candidate, Mark, Open, Purpose, Step};
 use crate::symbols::{NO_PLACE, NOWHERE};
 use crate::tokens::{byte_at, may_end};
 
@@ -356,29 +356,69 @@ impl Direct {
         ensures { IfSome result (IsWriting s.now self.new) }
     {
         let read = parameter_number(s, self.at.checked_add(1)?)?;
-        let argument = known(self.argument()?.at(read.number))?;
+        let named = self.argument()?;
+        let argument = known(named.at(read.number))?;
         // a pack is named in what is expanded alone
         if argument.is_pack || argument.is_reference {
             return None;
         }
         self.at = read.end;
         self.repeat(argument.from as usize, argument.to as usize)?;
-        self.add_hidden(false)?;
+        let begins = self.text.len();
+        self.add_dependent(begins, false, read.number, named.encoding)?;
         Some(Step::Dependent {
             is_reference: false,
+            begins,
+            number: read.number,
+            encoding: named.encoding,
         })
     }
 
-    /// Hands a type that names the argument on to what waits for it.
+    /// A type that names an argument is named once more.
+    // <substitution> ::= S <seq-id> _ | S_
+    #[inline(never)]
+    pub(crate) fn dependent_again(&mut self, s: &[u8], candidate: Candidate) -> Option<Step>
+        requires fits { IsReadable s.now }
+        requires again { IsNamedAgain s.now self.old candidate }
+        ensures { IfSome result (IsWriting s.now self.new) }
+    {
+        let named = self.argument()?;
+        // in another encoding it isn't the same type
+        if candidate.encoding == 0 || candidate.encoding != named.encoding {
+            return None;
+        }
+        let argument = known(named.at(candidate.number))?;
+        if argument.is_pack || argument.is_reference {
+            return None;
+        }
+        self.repeat(argument.from as usize, argument.to as usize)?;
+        let begins = self.text.len();
+        self.repeat(candidate.from, candidate.to)?;
+        Some(Step::Dependent {
+            is_reference: candidate.is_reference,
+            begins,
+            number: candidate.number,
+            encoding: candidate.encoding,
+        })
+    }
+
+    /// Hands a type that names an argument on to what waits for it.
     // <type> ::= P <type>
     #[inline(never)]
-    pub(crate) fn pass_dependent(&mut self, s: &[u8], is_reference: bool) -> Option<Step>
+    pub(crate) fn pass_dependent(
+        &mut self,
+        s: &[u8],
+        is_reference: bool,
+        begins: usize,
+        number: u16,
+        encoding: u16,
+    ) -> Option<Step>
         requires fits { IsReadable s.now }
-        requires writing { IsWriting s.now self.old (steps.Dependent is_reference) }
+        requires writing { IsWriting s.now self.old (steps.Dependent is_reference begins number encoding) }
         ensures { IfSome result (IsWriting s.now self.new) }
     {
         match *self.waiting.as_slice().last()? {
-            Open::Pointer { .. } => self.mark_dependent(s, b"*", false),
+            Open::Pointer { .. } => self.mark_dependent(s, b"*", false, begins, number, encoding),
             Open::Parameters {
                 mark,
                 start,
@@ -399,33 +439,48 @@ impl Direct {
                 if is_reference {
                     return None;
                 }
-                self.mark_plain(s)
+                self.mark_plain(s, begins, number, encoding)
             }
         }
     }
 
     /// Ends a type that names the argument, and is no reference, with a mark.
     // <type> ::= R <type> | O <type> | <CV-qualifiers> <type>
-    fn mark_plain(&mut self, s: &[u8]) -> Option<Step>
-        requires { IsWriting s.now self.old (steps.Dependent false) }
+    fn mark_plain(&mut self, s: &[u8], begins: usize, number: u16, encoding: u16) -> Option<Step>
+        requires { IsWriting s.now self.old (steps.Dependent false begins number encoding) }
         ensures { IfSome result (IsWriting s.now self.new) }
     {
         match *self.waiting.as_slice().last()? {
-            Open::Lvalue { .. } => self.mark_dependent(s, b"&", true),
-            Open::Rvalue { .. } => self.mark_dependent(s, b"&&", true),
-            Open::Const { .. } => self.mark_dependent(s, b" const", false),
+            Open::Lvalue { .. } => self.mark_dependent(s, b"&", true, begins, number, encoding),
+            Open::Rvalue { .. } => self.mark_dependent(s, b"&&", true, begins, number, encoding),
+            Open::Const { .. } => self.mark_dependent(
+                s, b" const", false, begins, number, encoding,
+            ),
             _ => None,
         }
     }
 
     /// Ends a type that names the argument with a mark.
-    fn mark_dependent(&mut self, _s: &[u8], mark: &[u8], is_reference: bool) -> Option<Step>
-        requires { AwaitsDependentMark _s.now self.old mark.now is_reference }
+    fn mark_dependent(
+        &mut self,
+        _s: &[u8],
+        mark: &[u8],
+        is_reference: bool,
+        begins: usize,
+        number: u16,
+        encoding: u16,
+    ) -> Option<Step>
+        requires { AwaitsDependentMark _s.now self.old mark.now is_reference begins number encoding }
         ensures { IfSome result (IsWriting _s.now self.new) }
     {
         let _open = self.waiting.pop();
         self.push(mark)?;
-        self.add_hidden(false)?;
-        Some(Step::Dependent { is_reference })
+        self.add_dependent(begins, is_reference, number, encoding)?;
+        Some(Step::Dependent {
+            is_reference,
+            begins,
+            number,
+            encoding,
+        })
     }
 }

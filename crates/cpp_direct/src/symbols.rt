@@ -55,6 +55,7 @@ pub const NOWHERE: Arguments = Arguments {
     second: NO_PLACE,
     third: NO_PLACE,
     fourth: NO_PLACE,
+    encoding: 0,
 };
 
 impl Direct {
@@ -173,7 +174,12 @@ impl Direct {
             Step::Type => self.type_at(s, false),
             Step::Plain => self.type_at(s, true),
             Step::Value { is_reference } => self.pass(s, is_reference),
-            Step::Dependent { is_reference } => self.pass_dependent(s, is_reference),
+            Step::Dependent {
+                is_reference,
+                begins,
+                number,
+                encoding,
+            } => self.pass_dependent(s, is_reference, begins, number, encoding),
             Step::List { is_first } => self.list_at(s, is_first),
             Step::Rest => self.rest_at(s),
             Step::Tail => self.tail_at(s),
@@ -293,7 +299,11 @@ impl Direct {
             return None;
         }
         let start = self.text.len();
-        let argument = self.argument;
+        // the place of the symbol's encoding
+        let argument = Arguments {
+            encoding: 2,
+            ..self.argument
+        };
         self.waiting.push(Open::Front {
             mark,
             start,

@@ -132,6 +132,9 @@ impl Direct {
             return self.type_named(s, from, true, false);
         }
         let candidate = self.substitution(s)?;
+        if candidate.is_dependent {
+            return self.dependent_again(s, candidate);
+        }
         self.repeat(candidate.from, candidate.to)?;
         self.type_named(s, from, true, candidate.is_reference)
     }
