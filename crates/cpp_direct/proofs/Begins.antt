@@ -1,5 +1,5 @@
 -- The beginnings of symbols, and their answers.
-use Rattle.std.proofs.Common.{◌≡◌, ◌≢◌, ℕ, ◌+◌, ◌≤◌, ◌/◌, inl, length, List, [], ◌∷◌, ◌++◌, reverse, Bool, true, false, ◌&&◌, ◌||◌, nat_eq, nat_le, Ok, refl, ap, sym, subst, ◌∙◌, arith, codes}
+use Rattle.std.proofs.Common.{◌≡◌, ◌≢◌, ℕ, ◌+◌, ◌≤◌, ◌/◌, inl, length, List, [], ◌∷◌, ◌++◌, reverse, Bool, true, false, ◌&&◌, ◌||◌, nat_eq, nat_le, Ok, refl, ap, sym, subst, ◌∙◌, arith, codes, cond}
 use Rattle.std.proofs.lemmas.Bool.{false≢true, leb-true, eqb-true}
 use Rattle.sym_print.specs.declared.detail.Detail.TheVariants as details
 use Rattle.sym_print.proofs.Answering.{text_within-ok}
@@ -80,7 +80,7 @@ encoding-awaited s w no_text no_candidate starts at_is apart =
       candidates = subst (λ ks. AreCandidates w.text.list.items ks []) (sym no_candidate) tt;
       around = first_around;
       outer = opened_.inner;
-      begins = λ none plain. at_is;
+      begins = λ none. at_is ∙ sym (ap (λ b. cond b 3 2) apart);
       awaits = subst (λ n. Expects s Kind.Encoding first_around opened_.inner n first_state) (sym at_is) opened_.awaits;
       onward = λ e at st comes.
           whole-behind s w.text.list.items e at apart (record {
@@ -128,7 +128,7 @@ thunk-awaited s opened_ by w apart thunk_ text_is no_candidate = record {
   candidates = subst (λ ks. AreCandidates w.text.list.items ks []) (sym no_candidate) tt;
   around = in_name 2;
   outer = thunk_.inner;
-  begins = λ none plain. absurd (thunk-text by (sym text_is ∙ none));
+  begins = λ none. absurd (thunk-text by (sym text_is ∙ none));
   awaits = thunk_.awaits;
   onward = λ e at st comes.
       whole-behind s w.text.list.items e at apart (record {

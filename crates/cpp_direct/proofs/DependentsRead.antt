@@ -160,7 +160,7 @@ argument-placed s (opens.Lvalue from ∷ rest) os text p k stands found known = 
 argument-placed s (opens.Rvalue from ∷ rest) os text p k stands found known = argument-placed s rest stands.0 text p k stands.4 found known
 argument-placed s (opens.Const from ∷ rest) os text p k stands found known = argument-placed s rest stands.0 text p k stands.4 found known
 argument-placed s (opens.Front mark start a ∷ rest) os text p k stands found known =
-    placed-at text a p k stands.1.own (same-place a p found) stands.1.names known
+    placed-at text a p k stands.3.own (same-place a p found) stands.3.names known
 argument-placed s (opens.Parameters mark start a ∷ rest) os text p k stands found known =
     placed-at text a p k stands.6.own (same-place a p found) stands.6.names known
 argument-placed s (opens.Enclosing mark from a ∷ rest) os text p k stands found known =
@@ -442,7 +442,7 @@ dependent-front s w is_reference mark begins number place start argument_ p foun
     let last = last-found w.waiting.list.items (opens.Front mark start argument_) found in
     let waits : Stands s (opens.Front mark start argument_ ∷ last.0) b.0 b.2 = subst (λ ws. Stands s ws b.0 b.2) last.1 b.13 in
     let same = same-place argument_ b.5 (ap argument_of (sym last.1) ∙ b.8) in
-    let names = named-one b.2 argument_ b.5 number waits.1.own same waits.1.names b.9.0 in
-    let prints = behind-argument b.2 (place_of b.5 number) number waits.1.own b.1 b.3 b.4 is_reference names b.9 b.10 b.7.prints in
+    let names = named-one b.2 argument_ b.5 number waits.3.own same waits.3.names b.9.0 in
+    let prints = behind-argument b.2 (place_of b.5 number) number waits.3.own b.1 b.3 b.4 is_reference names b.9 b.10 b.7.prints in
     front-got s w is_reference mark start argument_ p.state last.0 b.0 b.1 b.2 (b.3 ++ b.4) waits p.candidates
     (b.6 ∙ append_assoc b.2 b.3 b.4) b.12 prints

@@ -242,21 +242,24 @@ argument-read s w o p takes =
 pub front-got : (s : List ℕ) (w : Direct) (is_reference : Bool) (mark : Mark) (start : ℕ) (argument : Arguments) (st : State) (rest : List Open) (os : List Opened)
     (t : Term) (front bytes : List ℕ) (waits : Stands s (opens.Front mark start argument ∷ rest) os front)
     → AreCandidates w.text.list.items w.candidates.list.items st.candidates → w.text.list.items ≡ front ++ bytes → Comes s os (tree t true) w.at st
-    → PrintsIn (types_of waits.1.own) 2 t bytes is_reference → IsFrontRead s w mark start argument
+    → PrintsIn (types_of waits.3.own) 2 t bytes is_reference → IsFrontRead s w mark start argument
 front-got s w is_reference mark start argument st rest os t front bytes waits candidates written comes prints = record {
   state = st;
   candidates = candidates;
   v = waits.0;
-  name = front;
-  is_instance = waits.1;
-  apart = waits.2;
-  start_is = waits.3;
+  lead = waits.1;
+  name = waits.2;
+  front = front;
+  front_is = waits.5;
+  is_instance = waits.3;
+  apart = waits.4;
+  start_is = waits.6;
   returned = t;
   bytes = bytes;
   is_reference = is_reference;
   prints = prints;
   written = written;
-  goes = waits.4 t w.at st comes;
+  goes = waits.7 t w.at st comes;
 }
 
 pub value-front : (s : List ℕ) (w : Direct) (is_reference : Bool) (mark : Mark) (start : ℕ) (argument : Arguments) → IsWriting s w (steps.Value is_reference)
@@ -267,7 +270,7 @@ value-front s w is_reference mark start argument p found =
     let last = last-found w.waiting.list.items (opens.Front mark start argument) found in
     let waits : Stands s (opens.Front mark start argument ∷ last.0) os front = subst (λ ws. Stands s ws os front) last.1 p.is_before.7 in
     front-got s w is_reference mark start argument p.state last.0 os p.is_before.1 front p.is_before.3 waits p.candidates p.is_before.4 p.is_before.6
-    (prints-in (types_of waits.1.own) 2 p.is_before.1 p.is_before.3 is_reference p.is_before.5)
+    (prints-in (types_of waits.3.own) 2 p.is_before.1 p.is_before.3 is_reference p.is_before.5)
 
 -- ## Function types
 

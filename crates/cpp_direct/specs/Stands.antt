@@ -1,5 +1,5 @@
 -- What a writer's lists say while a symbol is read: what is open waits for what comes next, and what was written is its text.
-use Rattle.std.specs.Prelude.{◌≡◌, ◌≢◌, ◌⊎◌, ℕ, zero, suc, ◌+◌, ◌*◌, ◌≤◌, ◌<◌, List, [], ◌∷◌, ◌++◌, length, reverse, slice_get, Bool, true, false, Option, Some, None, Ok, codes}
+use Rattle.std.specs.Prelude.{◌≡◌, ◌≢◌, ◌⊎◌, ℕ, zero, suc, ◌+◌, ◌*◌, ◌≤◌, ◌<◌, List, [], ◌∷◌, ◌++◌, length, reverse, slice_get, Bool, true, false, cond, Option, Some, None, Ok, codes}
 use Rattle.sym_print.specs.declared.detail.Detail.TheVariants.{Full}
 use Rattle.sym_print.specs.Unshared.{text_of, cost_of}
 use Rattle.sym_demangle.specs.Mangled.{StandsFor}
@@ -182,13 +182,17 @@ pub record EncodedBehind (s : List ℕ) (lead : List ℕ) (e : Term) (at : ℕ) 
   pub entity : is_local s ≡ true → (internal : Bool) (name : List ℕ) (digit : Discriminator) (end : ℕ) → IsEntityAt s at internal name digit end
       → EntityBehind s lead e name end
 
+-- where the encoding begins that a symbol has behind no text
+abbrev pub encoding_place : List ℕ → ℕ
+encoding_place s = cond (is_local s) 3 2
+
 -- the name of an encoding behind a text was read, and items may follow
 pub record AwaitsItems (s : List ℕ) (lead : List ℕ) (v : Value) (at : ℕ) (st : State) : Type 0 where
   pub around : Around
   pub inner : List Opened
   pub outside : around.prefix ≡ outermost
   pub scope_is : around.scope ≡ arguments_of (tree_of v)
-  pub encoding_is : lead ≡ [] → is_local s ≡ false → around.encoding ≡ 2
+  pub encoding_is : lead ≡ [] → around.encoding ≡ encoding_place s
   pub no_lambda : around.in_lambda ≡ false
   pub awaits : Expects s Kind.Items around inner at st
   pub onward : (l : Value) (at : ℕ) (st : State) → Comes s inner l at st → EncodedBehind s lead (encoding_of v (no_items l)) at
@@ -271,14 +275,14 @@ pub record IsEnclosing (text : List ℕ) (argument : Arguments) (mark : Mark) (m
   pub names : HasArguments text argument own
 
 -- the name of a function that has a return type, and its text, and where the arguments of its template stand
-pub record IsInstance (argument : Arguments) (mark : Mark) (v : Value) (name : List ℕ) : Type 0 where
+pub record IsInstance (text : List ℕ) (argument : Arguments) (mark : Mark) (v : Value) (name : List ℕ) : Type 0 where
   pub own : Term
   pub tree_is : tree_of v ≡ own
   pub qualifiers_are : qualifiers_of v ≡ qualifiers (has_const mark)
   pub mark_is : ref_of v ≡ called_on mark
   pub prints : PrintsName own name
   pub returns : has_return_type own ≡ true
-  pub names : HasArguments name argument own
+  pub names : HasArguments text argument own
 
 -- ## What is open
 
@@ -473,8 +477,9 @@ Stands s (opens.Lvalue from ∷ rest) os text = Marks s (Stands s rest) (argumen
 Stands s (opens.Rvalue from ∷ rest) os text = Marks s (Stands s rest) (argument_of rest) os text from rvalue
 Stands s (opens.Const from ∷ rest) os text = Marks s (Stands s rest) (argument_of rest) os text from (qualified (qualifiers true))
 Stands s (opens.Front mark start argument ∷ rest) os text =
-    (v : Value) × IsInstance argument mark v text × (is_local s ≡ false) × (start ≡ length text)
-    × ((t : Term) (at : ℕ) (st : State) → Comes s os (tree t true) at st → ParametersGoOn s argument [] (encoding_of v) (t ∷ []) at st)
+    (v : Value) × (lead : List ℕ) × (name : List ℕ) × IsInstance text argument mark v name × (is_local s ≡ false → lead ≡ [])
+    × (text ≡ lead ++ name) × (start ≡ length text)
+    × ((t : Term) (at : ℕ) (st : State) → Comes s os (tree t true) at st → ParametersGoOn s argument lead (encoding_of v) (t ∷ []) at st)
 Stands s (opens.Parameters mark start argument ∷ rest) os text =
     (aside : List ℕ) × (lead : List ℕ) × (make : Term → Term) × (ts : List Term) × (name : List ℕ) × (texts : List ℕ)
     × IsFunction text argument mark make ts name texts × (start ≡ length aside)

@@ -25,7 +25,7 @@ use Rattle.cpp_direct.specs.HolesOfFunctions.{SignatureGoesOn, plain_function, p
 use Rattle.cpp_direct.specs.HolesOfTypes.{IsNamedKind, NoReference, TreeOpens}
 use Rattle.cpp_direct.specs.Marks.{has_const, called_on, mark_text}
 use Rattle.cpp_direct.specs.Prints.{Prints, PrintsName, IsElement, PrintAll, Shows, Encloses, sign_text, PrintsIn, NamesArgument}
-use Rattle.cpp_direct.specs.Stands.{AreCandidates, AwaitsItems, Encoded, EncodedBehind, IsEnclosing, IsFunction, IsInstance, IsListing, IsNest, IsTail, IsTemplate, GoesOn, EnumeratorGoesOn, ItemsGoOn, LambdaWithin, Owns, ParametersGoOn, Serves, Stands, TypeWithin, TakesFunction, opening_text, qualifiers, extra_of, led_by, list_with, in_front_of_next, IsPlaced, IsAmong, AreAmong, HasArguments, IsKnown, IsScoped, argument_of, place_of, named_in, nowhere, packed, of_pack, IsPlain, ArgumentsGoOn}
+use Rattle.cpp_direct.specs.Stands.{AreCandidates, AwaitsItems, Encoded, EncodedBehind, encoding_place, IsEnclosing, IsFunction, IsInstance, IsListing, IsNest, IsTail, IsTemplate, GoesOn, EnumeratorGoesOn, ItemsGoOn, LambdaWithin, Owns, ParametersGoOn, Serves, Stands, TypeWithin, TakesFunction, opening_text, qualifiers, extra_of, led_by, list_with, in_front_of_next, IsPlaced, IsAmong, AreAmong, HasArguments, IsKnown, IsScoped, argument_of, place_of, named_in, nowhere, packed, of_pack, IsPlain, ArgumentsGoOn}
 
 -- the digits behind the T of a parameter with this number
 abbrev pub parameter_digits : (number : ℕ) → List ℕ
@@ -51,7 +51,7 @@ pub record AwaitsEncoding (s : List ℕ) (w : Direct) : Type 0 where
   pub candidates : AreCandidates w.text.list.items w.candidates.list.items state.candidates
   pub around : Around
   pub outer : List Opened
-  pub begins : w.text.list.items ≡ [] → is_local s ≡ false → w.at ≡ 2
+  pub begins : w.text.list.items ≡ [] → w.at ≡ encoding_place s
   pub awaits : Expects s Kind.Encoding around outer w.at state
   pub onward : (e : Term) (at : ℕ) (st : State) → Comes s outer (tree e true) at st → EncodedBehind s w.text.list.items e at
 
@@ -385,21 +385,24 @@ pub record IsNameEnded (s : List ℕ) (w : Direct) (mark : Mark) (is_instance : 
   pub names : is_instance ≡ true → HasArguments w.text.list.items w.argument own
   pub awaits : AwaitsItems s lead v w.at state
 
--- The return type of a function was read, and stands behind the function's name.
+-- The return type of a function was read, and stands behind the function's name and what is written in front of it.
 pub record IsFrontRead (s : List ℕ) (w : Direct) (mark : Mark) (start : ℕ) (argument : Arguments) : Type 0 where
   pub state : State
   pub candidates : AreCandidates w.text.list.items w.candidates.list.items state.candidates
   pub v : Value
+  pub lead : List ℕ
   pub name : List ℕ
-  pub is_instance : IsInstance argument mark v name
-  pub apart : is_local s ≡ false
-  pub start_is : start ≡ length name
+  pub front : List ℕ
+  pub front_is : front ≡ lead ++ name
+  pub is_instance : IsInstance front argument mark v name
+  pub apart : is_local s ≡ false → lead ≡ []
+  pub start_is : start ≡ length front
   pub returned : Term
   pub bytes : List ℕ
   pub is_reference : Bool
   pub prints : PrintsIn (types_of is_instance.own) 2 returned bytes is_reference
-  pub written : w.text.list.items ≡ name ++ bytes
-  pub goes : ParametersGoOn s argument [] (encoding_of v) (returned ∷ []) w.at state
+  pub written : w.text.list.items ≡ front ++ bytes
+  pub goes : ParametersGoOn s argument lead (encoding_of v) (returned ∷ []) w.at state
 
 -- A function's name was read and written, and what stands in front of it. Its parameters are expected.
 pub record AwaitsParameters (s : List ℕ) (w : Direct) (mark : Mark) (start : ℕ) (argument : Arguments) : Type 0 where

@@ -1,13 +1,14 @@
 // A symbol from its first byte to its last.
 
-ghost use Rattle.std.specs.Prelude.{◌≡◌, ◌≢◌, ◌≤◌, ◌+◌, ◌*◌, ◌∷◌, [], length, true, Ok};
+ghost use Rattle.std.specs.Prelude.{◌≡◌, ◌≢◌, ◌≤◌, ◌+◌, ◌*◌, ◌∷◌, [], length, true, false, Ok};
 ghost use Rattle.std.specs.Option.{IfSome};
 ghost use Rattle.sym_core.specs.Number.{FitsSymbol};
 ghost use Rattle.sym_print.specs.declared.detail.Detail.TheVariants as details;
 ghost use Rattle.cpp_grammar.specs.Mangled.{IsAnswer};
 ghost use Rattle.cpp_direct.specs.Holes.{StandsAt};
 ghost use Rattle.cpp_direct.specs.Names.{IsReadable};
-ghost use Rattle.cpp_direct.specs.Stands.{IsWriting};
+ghost use Rattle.cpp_direct.specs.Stands.{IsWriting, encoding_place};
+ghost use Rattle.cpp_direct.specs.Bytes.{is_local};
 ghost use Rattle.cpp_direct.specs.Ways.{IsFresh, AwaitsEncoding, IsNameEnded, IsFrontRead, AwaitsParameters, IsParameterEnded, IsEncodingEnded, IsSymbolEnded};
 
 use crate::direct::Direct;
@@ -57,6 +58,30 @@ pub const NOWHERE: Arguments = Arguments {
     fourth: NO_PLACE,
     encoding: 0,
 };
+
+/// Whether a function whose name is written from a place on may have a return type. Behind a thunk's text it would have to be moved.
+fn has_front(s: &[u8], from: usize) -> bool
+    ensures { result ≡ true → is_local s.now ≡ false → from ≡ 0 }
+{
+    if is_local(s) {
+        return true;
+    }
+    from == 0
+}
+
+/// The place where the encoding begins whose name is written from a place on, 0 if a text stands in front of it.
+fn encoding_place(s: &[u8], from: usize) -> u16
+    ensures first { result ≢ 0 → from ≡ 0 }
+    ensures is { result ≢ 0 → result ≡ encoding_place s.now }
+{
+    if from != 0 {
+        return 0;
+    }
+    if is_local(s) {
+        return 3;
+    }
+    2
+}
 
 impl Direct {
     /// Lists that have no memory yet.
@@ -285,8 +310,7 @@ impl Direct {
         self.begin_parameters(s, mark, 0, NOWHERE)
     }
 
-    /// The return type of a function is expected, which stands in front of its name in the text. It is written behind the name, and
-    /// behind it the name once more.
+    /// The return type of a function is expected. It is written behind the name, and behind it the name once more.
     // <bare-function-type> ::= <return type> <parameter type>+
     #[inline(never)]
     fn begin_front(&mut self, s: &[u8], mark: Mark, from: usize) -> Option<Step>
@@ -294,14 +318,12 @@ impl Direct {
         requires ended { IsNameEnded s.now self.old mark true from }
         ensures { IfSome result (IsWriting s.now self.new) }
     {
-        // in front of a local entity stands no return type, and behind a text it would have to be moved
-        if from != 0 || is_local(s) {
+        if !has_front(s, from) {
             return None;
         }
         let start = self.text.len();
-        // the place of the symbol's encoding
         let argument = Arguments {
-            encoding: 2,
+            encoding: encoding_place(s, from),
             ..self.argument
         };
         self.waiting.push(Open::Front {
@@ -330,9 +352,31 @@ impl Direct {
             return None;
         }
         let _open = self.waiting.pop();
+        if is_local(s) {
+            return self.front_hidden(s, mark, start, argument);
+        }
         self.push_byte(b' ')?;
         self.repeat(0, start)?;
         self.begin_parameters(s, mark, start, argument)
+    }
+
+    /// Of a function in which a local entity stands the return type isn't shown: the text begins behind it.
+    #[inline(never)]
+    fn front_hidden(
+        &mut self,
+        s: &[u8],
+        mark: Mark,
+        start: usize,
+        argument: Arguments,
+    ) -> Option<Step>
+        requires fits { IsReadable s.now }
+        requires local { is_local s.now ≡ true }
+        requires ended { IsFrontRead s.now self.old mark start argument }
+        ensures { IfSome result (IsWriting s.now self.new) }
+    {
+        let begins = self.text.len();
+        self.repeat(0, start)?;
+        self.begin_parameters(s, mark, begins, argument)
     }
 
     /// Reads the parameters of a function up to the first type in them. Its text begins at a place.
