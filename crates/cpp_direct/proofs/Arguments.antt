@@ -7,6 +7,7 @@ use Rattle.cpp_grammar.specs.Grammar.{may_be_empty}
 use Rattle.cpp_grammar.specs.Term.{Term, nil, list, instance}
 use Rattle.cpp_grammar.specs.Values.{nothing_there}
 use Rattle.cpp_grammar.specs.Between.{no_items}
+use Rattle.cpp_direct.specs.Symbol.{Symbol}
 use Rattle.cpp_direct.specs.declared.open.Argument.{Argument}
 use Rattle.cpp_direct.specs.declared.open.Arguments.{Arguments}
 use Rattle.cpp_direct.specs.declared.open.Open.{Open}
@@ -35,7 +36,7 @@ none-text by l all = go all.0 all.1 all.2
     go (b ∷ bs) each is = absurd each
 
 -- the first argument comes next
-pub argument-begins : (s : List ℕ) (old new : Direct) (from : ℕ) → IsWriting s old (steps.List true)
+pub argument-begins : (s : Symbol) (old new : Direct) (from : ℕ) → IsWriting s old (steps.List true)
     → EndsNamed (reverse old.waiting.list.items) → from ≡ length old.text.list.items
     → new.waiting.list.items ≡ old.waiting.list.items ++ opens.Argument from 0 nowhere ∷ [] → new.text ≡ old.text → new.candidates ≡ old.candidates → new.at ≡ old.at
     → IsWriting s new steps.Type
@@ -95,7 +96,7 @@ argument-begins s old new from p named from_is waits text candidates at = go p.i
         }
 
 -- it was read
-pub value-argument : (s : List ℕ) (w : Direct) (is_reference : Bool) (from number : ℕ) (known : Arguments) → IsWriting s w (steps.Value is_reference)
+pub value-argument : (s : Symbol) (w : Direct) (is_reference : Bool) (from number : ℕ) (known : Arguments) → IsWriting s w (steps.Value is_reference)
     → slice_get w.waiting.list.items (length w.waiting.list.items - 1) ≡ Some (opens.Argument from number known)
     → IsArgumentRead s w from number known is_reference
 value-argument s w is_reference from number known p found =
@@ -132,7 +133,7 @@ value-argument s w is_reference from number known p found =
         }
 
 -- others may follow
-pub argument-passes : (s : List ℕ) (old new : Direct) (from number : ℕ) (known : Arguments) (is_reference : Bool)
+pub argument-passes : (s : Symbol) (old new : Direct) (from number : ℕ) (known : Arguments) (is_reference : Bool)
     (p : IsArgumentRead s old from number known is_reference)
     → reverse new.waiting.list.items ≡ p.owner ∷ p.rest → new.text ≡ old.text → new.candidates ≡ old.candidates → new.at ≡ old.at
     → IsWriting s new (steps.List false)
@@ -222,7 +223,7 @@ known-more text from to number is_reference place known more ts t before bytes w
     )
 
 -- the one that was read is known
-argument-known : (s : List ℕ) (old : Direct) (from to number : ℕ) (place : Argument) (known more : Arguments) (is_reference : Bool)
+argument-known : (s : Symbol) (old : Direct) (from to number : ℕ) (place : Argument) (known more : Arguments) (is_reference : Bool)
     (p : IsArgumentRead s old from number known is_reference) → to ≡ length old.text.list.items
     → (IsKnown place → place ≡ record { from = from; to = to; is_pack = false; is_reference = is_reference }) → KnowsMore known more number place
     → AreAmong old.text.list.items more (p.ts ++ p.t ∷ [])
@@ -231,8 +232,8 @@ argument-known s old from to number place known more is_reference p to_is place_
     (p.front ++ p.name ++ codes "<" ++ in_front_of_next p.ts p.texts) p.bytes p.written p.from_is to_is p.number_is p.prints place_is knows p.among
 
 -- the end of the arguments follows
-pub argument-closes : (s : List ℕ) (old new : Direct) (from to number : ℕ) (place : Argument) (known more : Arguments) (is_reference : Bool)
-    (p : IsArgumentRead s old from number known is_reference) → StandsAt s old.at (69 ∷ []) → reverse new.waiting.list.items ≡ p.owner ∷ p.rest
+pub argument-closes : (s : Symbol) (old new : Direct) (from to number : ℕ) (place : Argument) (known more : Arguments) (is_reference : Bool)
+    (p : IsArgumentRead s old from number known is_reference) → StandsAt s.bytes old.at (69 ∷ []) → reverse new.waiting.list.items ≡ p.owner ∷ p.rest
     → new.text ≡ old.text → new.candidates ≡ old.candidates → new.at ≡ old.at + 1 → to ≡ length old.text.list.items
     → (IsKnown place → place ≡ record { from = from; to = to; is_pack = false; is_reference = is_reference }) → KnowsMore known more number place
     → IsListEnded s new more
@@ -265,7 +266,7 @@ argument-closes s old new from to number place known more is_reference p stands 
     }
 
 -- or another one
-pub argument-awaits : (s : List ℕ) (old new : Direct) (from to number : ℕ) (place : Argument) (known more : Arguments) (is_reference : Bool)
+pub argument-awaits : (s : Symbol) (old new : Direct) (from to number : ℕ) (place : Argument) (known more : Arguments) (is_reference : Bool)
     (p : IsArgumentRead s old from number known is_reference) → reverse new.waiting.list.items ≡ p.owner ∷ p.rest
     → new.text ≡ old.text → new.candidates ≡ old.candidates → new.at ≡ old.at → to ≡ length old.text.list.items
     → (IsKnown place → place ≡ record { from = from; to = to; is_pack = false; is_reference = is_reference }) → KnowsMore known more number place
@@ -296,7 +297,7 @@ argument-awaits s old new from to number place known more is_reference p waits t
     }
 
 -- which comes next
-pub next-argument-begins : (s : List ℕ) (old mid new : Direct) (before from number : ℕ) (known : Arguments) → AwaitsKnownArgument s old before known
+pub next-argument-begins : (s : Symbol) (old mid new : Direct) (before from number : ℕ) (known : Arguments) → AwaitsKnownArgument s old before known
     → Writes old mid (codes ", ") → from ≡ length mid.text.list.items → number ≡ before + 1
     → new.waiting.list.items ≡ mid.waiting.list.items ++ opens.Argument from number known ∷ [] → new.text ≡ mid.text → new.candidates ≡ mid.candidates
     → new.at ≡ mid.at → IsWriting s new steps.Type

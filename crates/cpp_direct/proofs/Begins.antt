@@ -3,9 +3,10 @@ use Rattle.std.proofs.Common.{◌≡◌, ◌≢◌, ℕ, ◌+◌, ◌≤◌, ◌
 use Rattle.std.proofs.lemmas.Bool.{false≢true, leb-true, eqb-true}
 use Rattle.sym_print.specs.declared.detail.Detail.TheVariants as details
 use Rattle.sym_print.proofs.Answering.{text_within-ok}
-use Rattle.sym_demangle.specs.Mangled.{shaped, answer_of_symbol}
+use Rattle.sym_print.specs.Answer.{text_within}
+use Rattle.sym_demangle.specs.Mangled.{IsAnswer, StandsFor, shaped, answer_of_symbol}
 use Rattle.cpp_grammar.specs.declared.kind.Kind.{Kind}
-use Rattle.cpp_grammar.specs.Mangled.{cpp_mangled, IsAnswer}
+use Rattle.cpp_grammar.specs.Mangled.{cpp_mangled, wide_mangled}
 use Rattle.cpp_grammar.specs.Answer.{shown, root_item}
 use Rattle.cpp_grammar.specs.Term.{Term, Adjustment, non_virtual, by_table, adjusting, special, thunk}
 use Rattle.cpp_grammar.specs.Parts.{thunk_text}
@@ -14,6 +15,7 @@ use Rattle.cpp_grammar.specs.Values.{State, Value, tree, named, tree_of, signed_
 use Rattle.cpp_grammar.specs.Between.{in_name, in_types, no_items}
 use Rattle.cpp_grammar.specs.Meaning.{encoding_of}
 use Rattle.cpp_grammar.specs.Unfolding.{first_around, first_state}
+use Rattle.cpp_direct.specs.Symbol.{Symbol, mangled_by, mangled_of}
 use Rattle.cpp_direct.specs.declared.marks.MarkPlace.{MarkPlace}
 use Rattle.cpp_direct.specs.declared.open.Mark.{Mark}
 use Rattle.cpp_direct.specs.declared.open.Purpose.TheVariants as purposes
@@ -38,27 +40,32 @@ use Rattle.cpp_direct.proofs.Scopes.{none-scoped}
 
 -- ## Answers
 
+-- what a symbol stands for is answered by its text, if that is short enough
+answer-by : (wide : Bool) (s text : List ℕ) (t : Term) (limit : ℕ) → StandsFor (mangled_by wide) s (Ok t)
+    → Ok text ≡ text_within limit (shown details.Full (root_item t)) → IsAnswer (mangled_by wide) details.Full s limit (Ok text)
+answer-by true s text t limit stands is = shaped stands.0 stands.1 stands.2 (is ∙ ap (λ r. answer_of_symbol wide_mangled details.Full limit r) stands.3)
+answer-by false s text t limit stands is = shaped stands.0 stands.1 stands.2 (is ∙ ap (λ r. answer_of_symbol cpp_mangled details.Full limit r) stands.3)
+
 -- the text of a whole symbol that is short enough is its answer
-pub whole-answer : (s text : List ℕ) (limit len : ℕ) → IsWhole s text → len ≡ length text → nat_le len (limit / 4) ≡ true
-    → IsAnswer details.Full s limit (Ok text)
+pub whole-answer : (s : Symbol) (text : List ℕ) (limit len : ℕ) → IsWhole s text → len ≡ length text → nat_le len (limit / 4) ≡ true
+    → IsAnswer (mangled_of s) details.Full s.bytes limit (Ok text)
 whole-answer s text limit len whole is within =
     let parts = shown details.Full (root_item whole.whole) in
     let short : len ≤ limit / 4 = leb-true len (limit / 4) within in
-    shaped whole.stands.0 whole.stands.1 whole.stands.2
-    (sym (text_within-ok limit parts text (sym whole.text_is) (omega (arith, whole.cost, short, is)))
-    ∙ ap (λ r. answer_of_symbol cpp_mangled details.Full limit r) whole.stands.3)
+    answer-by s.is_wide s.bytes text whole.whole limit whole.stands
+    (sym (text_within-ok limit parts text (sym whole.text_is) (omega (arith, whole.cost, short, is))))
 
 -- ## Encodings
 
 -- an encoding that comes ends the symbol
-pub encoded-whole : (s : List ℕ) (opened_ : SymbolOpened s) (e : Term) (at : ℕ) (st : State) → Comes s opened_.inner (tree e true) at st → Encoded s e at
+pub encoded-whole : (s : Symbol) (opened_ : SymbolOpened s) (e : Term) (at : ℕ) (st : State) → Comes s opened_.inner (tree e true) at st → Encoded s e at
 encoded-whole s opened_ e at st comes = record {
   ends = λ here. opened_.ends e st (subst (λ n. Comes s opened_.inner (tree e true) n st) here comes);
   ends_in = λ suffix there whole is. opened_.ends_in e at suffix st comes there whole is;
 }
 
 -- where no local entity is named, an encoding ends the symbol
-whole-behind : (s lead : List ℕ) (e : Term) (at : ℕ) → is_local s ≡ false → EndsBehind s lead e at → EncodedBehind s lead e at
+whole-behind : (s : Symbol) (lead : List ℕ) (e : Term) (at : ℕ) → is_local s.bytes ≡ false → EndsBehind s lead e at → EncodedBehind s lead e at
 whole-behind s lead e at apart p = record { whole = λ f. p; entity = λ is. absurd (false≢true (sym apart ∙ is)) }
 
 -- the third byte tells whether one is
@@ -70,8 +77,8 @@ third-tells (x ∷ []) b stands = cc stands.1
 third-tells [] b stands = cc stands.1
 
 -- the encoding of a symbol is expected, and nothing is written yet
-pub encoding-awaited : (s : List ℕ) (w : Direct) → w.text.list.items ≡ [] → w.candidates.list.items ≡ [] → StandsAt s 0 (95 ∷ 90 ∷ []) → w.at ≡ 2
-    → is_local s ≡ false → AwaitsEncoding s w
+pub encoding-awaited : (s : Symbol) (w : Direct) → w.text.list.items ≡ [] → w.candidates.list.items ≡ [] → StandsAt s.bytes 0 (95 ∷ 90 ∷ []) → w.at ≡ 2
+    → is_local s.bytes ≡ false → AwaitsEncoding s w
 unfolding first_state
 encoding-awaited s w no_text no_candidate starts at_is apart =
     let opened_ = symbol-starts s starts in
@@ -91,11 +98,11 @@ encoding-awaited s w no_text no_candidate starts at_is apart =
     }
 
 -- the name of an encoding is expected
-pub encoding-expected : (s : List ℕ) (w : Direct) (p : AwaitsEncoding s w) → EncodingOpened s p.outer w.at p.state
+pub encoding-expected : (s : Symbol) (w : Direct) (p : AwaitsEncoding s w) → EncodingOpened s p.outer w.at p.state
 encoding-expected s w p = encoding-opens s p.outer p.around w.at p.state p.awaits
 
 -- a name that comes awaits its items
-pub items-await : (s : List ℕ) (w : Direct) (p : AwaitsEncoding s w) (v : Value) (at : ℕ) (st : State) → Comes s (encoding-expected s w p).inner v at st
+pub items-await : (s : Symbol) (w : Direct) (p : AwaitsEncoding s w) (v : Value) (at : ℕ) (st : State) → Comes s (encoding-expected s w p).inner v at st
     → AwaitsItems s w.text.list.items v at st
 unfolding in_types
 items-await s w p v at st comes =
@@ -119,8 +126,8 @@ thunk-text (non_virtual a) e = cc e
 thunk-text (by_table a b) e = cc e
 
 -- the encoding that a thunk calls is expected, behind the thunk's text
-thunk-awaited : (s : List ℕ) (opened_ : SymbolOpened s) (by : Adjustment) (w : Direct)
-    → is_local s ≡ false → ThunkOpened s opened_.inner 2 by w.at first_state → w.text.list.items ≡ thunk_text (adjusting by) → w.candidates.list.items ≡ []
+thunk-awaited : (s : Symbol) (opened_ : SymbolOpened s) (by : Adjustment) (w : Direct)
+    → is_local s.bytes ≡ false → ThunkOpened s opened_.inner 2 by w.at first_state → w.text.list.items ≡ thunk_text (adjusting by) → w.candidates.list.items ≡ []
     → AwaitsEncoding s w
 unfolding first_state
 thunk-awaited s opened_ by w apart thunk_ text_is no_candidate = record {
@@ -147,19 +154,19 @@ thunk-written old middle new text fresh reads writes = (
 )
 
 -- a thunk begins
-pub thunk-begins : (s : List ℕ) (old middle new : Direct) → IsFresh old → StandsAt s 0 (95 ∷ 90 ∷ []) → StandsAt s 2 (84 ∷ []) → StandsAt s 3 (104 ∷ [])
-    → IsOffsetAt s 4 middle.at → Reads old middle [] → Writes middle new (codes "non-virtual thunk to ") → AwaitsEncoding s new
+pub thunk-begins : (s : Symbol) (old middle new : Direct) → IsFresh old → StandsAt s.bytes 0 (95 ∷ 90 ∷ []) → StandsAt s.bytes 2 (84 ∷ []) → StandsAt s.bytes 3 (104 ∷ [])
+    → IsOffsetAt s.bytes 4 middle.at → Reads old middle [] → Writes middle new (codes "non-virtual thunk to ") → AwaitsEncoding s new
 unfolding thunk_text
 thunk-begins s old middle new fresh starts first second is reads writes =
     let opened_ = symbol-starts s starts in
     let by = non_virtual (signed_digits is.negative is.digits) in
     let opens = thunk-opens s opened_.inner first_around 2 middle.at first_state opened_.awaits first second is in
     let written = thunk-written old middle new (codes "non-virtual thunk to ") fresh reads writes in
-    thunk-awaited s opened_ by new (third-tells s 84 first) (subst (λ n. ThunkOpened s opened_.inner 2 by n first_state) (sym writes.at) opens) written.0 written.1
+    thunk-awaited s opened_ by new (third-tells s.bytes 84 first) (subst (λ n. ThunkOpened s opened_.inner 2 by n first_state) (sym writes.at) opens) written.0 written.1
 
 -- a virtual one begins
-pub virtual-thunk-begins : (s : List ℕ) (old first_ middle new : Direct) → IsFresh old → StandsAt s 0 (95 ∷ 90 ∷ []) → StandsAt s 2 (84 ∷ [])
-    → StandsAt s 3 (118 ∷ []) → IsOffsetAt s 4 first_.at → Reads old first_ [] → IsOffsetAt s first_.at middle.at → Reads first_ middle []
+pub virtual-thunk-begins : (s : Symbol) (old first_ middle new : Direct) → IsFresh old → StandsAt s.bytes 0 (95 ∷ 90 ∷ []) → StandsAt s.bytes 2 (84 ∷ [])
+    → StandsAt s.bytes 3 (118 ∷ []) → IsOffsetAt s.bytes 4 first_.at → Reads old first_ [] → IsOffsetAt s.bytes first_.at middle.at → Reads first_ middle []
     → Writes middle new (codes "virtual thunk to ") → AwaitsEncoding s new
 unfolding thunk_text
 virtual-thunk-begins s old first_ middle new fresh starts first second is reads is_then reads_then writes =
@@ -167,7 +174,7 @@ virtual-thunk-begins s old first_ middle new fresh starts first second is reads 
     let by = by_table (signed_digits is.negative is.digits) (signed_digits is_then.negative is_then.digits) in
     let opens = virtual-thunk-opens s opened_.inner first_around 2 first_.at middle.at first_state opened_.awaits first second is is_then in
     let written = thunk-written old middle new (codes "virtual thunk to ") fresh (reads-then old first_ middle [] [] reads reads_then) writes in
-    thunk-awaited s opened_ by new (third-tells s 84 first) (subst (λ n. ThunkOpened s opened_.inner 2 by n first_state) (sym writes.at) opens) written.0 written.1
+    thunk-awaited s opened_ by new (third-tells s.bytes 84 first) (subst (λ n. ThunkOpened s opened_.inner 2 by n first_state) (sym writes.at) opens) written.0 written.1
 
 -- ## Special objects
 
@@ -210,7 +217,7 @@ special-stands s letter filled first there =
     stands-join s 2 (84 ∷ []) (letter ∷ []) first (there (λ e. filled (ap (λ l. look_up (l ∷ []) special_texts) e ∙ no-special)))
 
 -- a special object begins
-pub special-begins : (s : List ℕ) (w : Direct) (letter : ℕ) → StandsAt s 0 (95 ∷ 90 ∷ []) → StandsAt s 2 (84 ∷ letter ∷ []) → w.at ≡ 4
+pub special-begins : (s : Symbol) (w : Direct) (letter : ℕ) → StandsAt s.bytes 0 (95 ∷ 90 ∷ []) → StandsAt s.bytes 2 (84 ∷ letter ∷ []) → w.at ≡ 4
     → w.text.list.items ≡ look_up (letter ∷ []) special_texts → look_up (letter ∷ []) special_texts ≢ [] → w.candidates.list.items ≡ []
     → w.waiting.list.items ≡ opens.Special ∷ [] → IsWriting s w steps.Type
 unfolding in_name first_state
@@ -238,8 +245,8 @@ special-begins s w letter starts stands at_is written filled none_ waiting =
 -- ## Nested names
 
 -- the nested name of an encoding begins, of a member function with these qualifiers
-nested-marked : (s : List ℕ) (old : Direct) (n : ℕ) (mark : Mark) → AwaitsEncoding s old
-    → StandsAt s old.at (nest_marks (has_const mark) (called_on mark)) → n ≡ old.at + length (nest_marks (has_const mark) (called_on mark))
+nested-marked : (s : Symbol) (old : Direct) (n : ℕ) (mark : Mark) → AwaitsEncoding s old
+    → StandsAt s.bytes old.at (nest_marks (has_const mark) (called_on mark)) → n ≡ old.at + length (nest_marks (has_const mark) (called_on mark))
     → AwaitsNest s (record old { at = n }) (purposes.Name mark)
 unfolding in_name
 nested-marked s old n mark p stands at_is =
@@ -257,9 +264,9 @@ nested-marked s old n mark p stands at_is =
     }
 
 -- behind an N, where they stand
-pub nested-begins : (s : List ℕ) (old : Direct) (first : ℕ) (place : MarkPlace) → AwaitsEncoding s old → StandsAt s old.at (78 ∷ []) → first ≡ old.at + 1
-    → IsMarkPlace s first place → AwaitsNest s (record old { at = place.end }) (purposes.Name place.mark)
+pub nested-begins : (s : Symbol) (old : Direct) (first : ℕ) (place : MarkPlace) → AwaitsEncoding s old → StandsAt s.bytes old.at (78 ∷ []) → first ≡ old.at + 1
+    → IsMarkPlace s.bytes first place → AwaitsNest s (record old { at = place.end }) (purposes.Name place.mark)
 nested-begins s old first place p letter next is =
     let letters = mark_letters (has_const place.mark) (called_on place.mark) in
     nested-marked s old place.end place.mark p
-    (stands-join s old.at (78 ∷ []) letters letter (subst (λ k. StandsAt s k letters) next is.stands)) (omega (arith, next, is.ends))
+    (stands-join s.bytes old.at (78 ∷ []) letters letter (subst (λ k. StandsAt s.bytes k letters) next is.stands)) (omega (arith, next, is.ends))

@@ -1,4 +1,5 @@
 -- A type that names an argument of a function's template is read, and handed on.
+use Rattle.cpp_direct.specs.Symbol.{Symbol}
 use Rattle.cpp_direct.proofs.EnclosingFunctions.{parameter-got-within}
 use Rattle.cpp_direct.proofs.Handed.{front-got, parameter-got}
 use Rattle.cpp_direct.proofs.Kept.{candidate-found, candidate-stays, candidates-more, candidates-stay, candidates-written, piece-found}
@@ -89,8 +90,8 @@ parameter-tested around k at st few scope =
     (rw (parameter-found around k at st scope.all scope.scope_is scope.below (ap length_if_pack scope.there ∙ scope.no_pack)) refl)
 
 -- a parameter comes, and is a candidate
-pub parameter-comes : (s : List ℕ) (kind : Kind) (around : Around) (os : List Opened) (k at : ℕ) (st : State) → IsTyped kind → k ≤ 3
-    → IsScope k false around → Expects s kind around os at st → StandsAt s at (84 ∷ (parameter_digits k ++ 95 ∷ []))
+pub parameter-comes : (s : Symbol) (kind : Kind) (around : Around) (os : List Opened) (k at : ℕ) (st : State) → IsTyped kind → k ≤ 3
+    → IsScope k false around → Expects s kind around os at st → StandsAt s.bytes at (84 ∷ (parameter_digits k ++ 95 ∷ []))
     → Comes s os (tree (parameter k) true) (at + 1 + length (parameter_digits k ++ 95 ∷ [])) (with_candidate around.encoding (parameter k) st)
 unfolding choose alternatives pick is_in in_ranges among is_chain parts_of number_of_kind between opening close unfolding_.behind meaning byte_of tree_of is_there part applied may_be_empty is_function_type
 parameter-comes s kind around os k at st typed few scope expects stands =
@@ -100,7 +101,7 @@ parameter-comes s kind around os k at st typed few scope expects stands =
     let later = with_candidate around.encoding t st in
     let digits = parameter_digits k in
     let end = at + 1 + length (digits ++ 95 ∷ []) in
-    let both = stands-split s at (84 ∷ []) (digits ++ 95 ∷ []) stands in
+    let both = stands-split s.bytes at (84 ∷ []) (digits ++ 95 ∷ []) stands in
     let solid = solid-opens s kind around os at st typed expects in
     let rule = standing (rule_of p) (84 ∷ []) at around st in
     let number = expects-number s Decimal around (opened rule [] (OfKind ARGUMENTS_ALONE ∷ []) ∷ solid.inner) (at + 1) st (parameter_token k)
@@ -153,7 +154,7 @@ placed-at : (text : List ℕ) (p q : Arguments) (k : ℕ) (name : Term) → p �
 placed-at text p q k name e has known = let h = named-one text p q k name e has known in (h.bytes, h.placed)
 
 -- where it stands in what is open, it stands in the text
-pub argument-placed : (s : List ℕ) (ws : List Open) (os : List Opened) (text : List ℕ) (p : Arguments) (k : ℕ) → Stands s ws os text → argument_of ws ≡ Some p
+pub argument-placed : (s : Symbol) (ws : List Open) (os : List Opened) (text : List ℕ) (p : Arguments) (k : ℕ) → Stands s ws os text → argument_of ws ≡ Some p
     → IsKnown (place_of p k) → (bytes : List ℕ) × IsPlaced text (place_of p k) bytes
 argument-placed s (opens.Pointer from ∷ rest) os text p k stands found known = argument-placed s rest stands.0 text p k stands.4 found known
 argument-placed s (opens.Lvalue from ∷ rest) os text p k stands found known = argument-placed s rest stands.0 text p k stands.4 found known
@@ -168,7 +169,7 @@ argument-placed s (opens.Enclosing mark from a ∷ rest) os text p k stands foun
 argument-placed s _ os text p k stands found known = cc found
 
 -- so it can be written once more
-pub argument-inside : (s : List ℕ) (w : Direct) (all : Arguments) (k : ℕ) (p : Argument) → AwaitsType s w
+pub argument-inside : (s : Symbol) (w : Direct) (all : Arguments) (k : ℕ) (p : Argument) → AwaitsType s w
     → argument_of (reverse w.waiting.list.items) ≡ Some all → p ≡ place_of all k → p.from ≤ p.to → p.to ≤ length w.text.list.items
 argument-inside s w all k p a found is known =
     let h = argument-placed s (reverse w.waiting.list.items) a.os w.text.list.items all k a.stands found (subst IsKnown is known) in
@@ -177,7 +178,7 @@ argument-inside s w all k p a found is known =
     subst (λ (j : Argument). j.to ≤ length w.text.list.items) (sym is) inside
 
 -- the same where a name is expected
-pub argument-within : (s : List ℕ) (w : Direct) (all : Arguments) (k : ℕ) (p : Argument) → AwaitsNamedType s w
+pub argument-within : (s : Symbol) (w : Direct) (all : Arguments) (k : ℕ) (p : Argument) → AwaitsNamedType s w
     → argument_of (reverse w.waiting.list.items) ≡ Some all → p ≡ place_of all k → p.from ≤ p.to → p.to ≤ length w.text.list.items
 argument-within s w all k p a found is known =
     let h = argument-placed s (reverse w.waiting.list.items) a.os w.text.list.items all k a.stands found (subst IsKnown is known) in
@@ -205,8 +206,8 @@ dependent-candidate text w st front marks begins k e place r t same known writte
 -- ## Parameters
 
 -- the parameter is read, and its argument is written once more
-pub parameter-done : (s : List ℕ) (old mid new : Direct) (all : Arguments) (k : ℕ) (p : Argument) → AwaitsType s old → k ≤ 3 → StandsAt s old.at (84 ∷ [])
-    → StandsAt s (old.at + 1) (parameter_digits k ++ 95 ∷ [])
+pub parameter-done : (s : Symbol) (old mid new : Direct) (all : Arguments) (k : ℕ) (p : Argument) → AwaitsType s old → k ≤ 3 → StandsAt s.bytes old.at (84 ∷ [])
+    → StandsAt s.bytes (old.at + 1) (parameter_digits k ++ 95 ∷ [])
     → argument_of (reverse old.waiting.list.items) ≡ Some all → p ≡ place_of all k → IsPlain p
     → mid.text.list.items ≡ old.text.list.items ++ take (p.to - p.from) (drop p.from old.text.list.items) → mid.candidates ≡ old.candidates
     → mid.waiting ≡ old.waiting → mid.at ≡ old.at + 1 + length (parameter_digits k ++ 95 ∷ []) → (begins : ℕ) → begins ≡ length mid.text.list.items
@@ -249,7 +250,7 @@ parameter-done s old mid new all k p a few letter line found is plain_ text cand
         subst (λ n. Comes s a.os (tree (parameter k) true) n later) (sym (same_at ∙ at))
             (parameter-comes s a.kind a.around a.os k old.at a.state a.typed few
             (subst (λ j. IsScope k j a.around) plain.1 scope.0) a.awaits
-            (stands-join s old.at (84 ∷ []) (parameter_digits k ++ 95 ∷ []) letter line)),
+            (stands-join s.bytes old.at (84 ∷ []) (parameter_digits k ++ 95 ∷ []) letter line)),
         subst (λ v. Stands s (reverse v.list.items) a.os old.text.list.items) (sym open_is) a.stands,
         refl,
       );
@@ -263,7 +264,7 @@ unfolding packs_in
 no-pack-named scope all t is none = rw is none
 
 -- what a substitution names is written behind the argument's text
-pub again-inside : (s : List ℕ) (w one : Direct) (k : Candidate) (piece : List ℕ) → IsNamedAgain s w k → Writes w one piece
+pub again-inside : (s : Symbol) (w one : Direct) (k : Candidate) (piece : List ℕ) → IsNamedAgain s w k → Writes w one piece
     → (k.from ≤ k.to) × (k.to ≤ length one.text.list.items)
 again-inside s w one k piece p writes =
     let c = candidate-found w.text.list.items w.candidates.list.items p.awaits.state.candidates (counted_value Seq36 p.digits) k p.awaits.candidates
@@ -271,7 +272,7 @@ again-inside s w one k piece p writes =
     let h = piece-found w.text.list.items c.2.front c.2.bytes c.2.back k.from k.to c.2.written c.2.from_is c.2.to_is in
     (h.0, omega (arith, h.1, ap length writes.text, length-append w.text.list.items piece))
 
-pub dependent-again : (s : List ℕ) (w one two : Direct) (k : Candidate) (all : Arguments) (place : Argument) (begins : ℕ) → IsNamedAgain s w k
+pub dependent-again : (s : Symbol) (w one two : Direct) (k : Candidate) (all : Arguments) (place : Argument) (begins : ℕ) → IsNamedAgain s w k
     → argument_of (reverse w.waiting.list.items) ≡ Some all → k.encoding ≢ 0 → k.encoding ≡ all.encoding → place ≡ place_of all k.number → IsPlain place
     → Writes w one (take (place.to - place.from) (drop place.from w.text.list.items)) → begins ≡ length one.text.list.items
     → Writes one two (take (k.to - k.from) (drop k.from one.text.list.items)) → IsWriting s two (steps.Dependent k.is_reference begins k.number k.encoding)
@@ -298,7 +299,7 @@ dependent-again s w one two k all place begins p found real made is plain_ first
     let named = open-substitution-opens s a.kind a.around a.os p.before a.state p.digits w.at c.0 a.is_named c.1 (names.1 real ∙ made ∙ sym at_place.0) at_place.1 none
     a.begins p.letter p.number in
     let comes : Comes s a.os (tree c.0.tree true) w.at a.state = named.bare w.at a.state names.0.no_function
-    (expects-empty s Kind.MaybeArguments (after c.0.tree true a.around) named.inner w.at a.state named.awaits refl) in
+    (expects-empty s Kind.ArgumentsAlone (after c.0.tree true a.around) named.inner w.at a.state named.awaits refl) in
     let open_is : two.waiting ≡ w.waiting = second.waiting ∙ first.waiting in
     record {
       state = a.state;
@@ -326,7 +327,7 @@ dependent-again s w one two k all place begins p found real made is plain_ first
 -- ## Marks
 
 -- it is marked
-pub dependent-marked : (s : List ℕ) (w : Direct) (is_reference marked_reference : Bool) (begins number place : ℕ) (entry : Open) (from : ℕ) (made : Term → Term) (mark : List ℕ)
+pub dependent-marked : (s : Symbol) (w : Direct) (is_reference marked_reference : Bool) (begins number place : ℕ) (entry : Open) (from : ℕ) (made : Term → Term) (mark : List ℕ)
     → IsWriting s w (steps.Dependent is_reference begins number place) → slice_get w.waiting.list.items (length w.waiting.list.items - 1) ≡ Some entry
     → ((rest : List Open) (os : List Opened) (text : List ℕ) → Stands s (entry ∷ rest) os text → Marks s (Stands s rest) (argument_of rest) os text from made)
     → ((rest : List Open) → argument_of (entry ∷ rest) ≡ argument_of rest)
@@ -362,7 +363,7 @@ dependent-marked s w is_reference marked_reference begins number place entry fro
     }
 
 -- the mark is written
-pub dependent-mark-done : (s : List ℕ) (old mid new : Direct) (mark : List ℕ) (r : Bool) (begins number place : ℕ)
+pub dependent-mark-done : (s : Symbol) (old mid new : Direct) (mark : List ℕ) (r : Bool) (begins number place : ℕ)
     (a : AwaitsDependentMark s old mark r begins number place)
     → reverse mid.waiting.list.items ≡ a.rest → mid.text.list.items ≡ old.text.list.items ++ mark → mid.candidates ≡ old.candidates → mid.at ≡ old.at
     → new.candidates.list.items ≡ with_dependent mid begins r number place → new.text ≡ mid.text → new.waiting ≡ mid.waiting → new.at ≡ mid.at
@@ -403,7 +404,7 @@ dependent-mark-done s old mid new mark r begins number place a waits text candid
 -- ## What it is handed to
 
 -- it is a parameter
-pub dependent-parameter : (s : List ℕ) (w : Direct) (is_reference : Bool) (mark : Mark) (begins number place start : ℕ) (argument_ : Arguments)
+pub dependent-parameter : (s : Symbol) (w : Direct) (is_reference : Bool) (mark : Mark) (begins number place start : ℕ) (argument_ : Arguments)
     → IsWriting s w (steps.Dependent is_reference begins number place)
     → slice_get w.waiting.list.items (length w.waiting.list.items - 1) ≡ Some (opens.Parameters mark start argument_)
     → IsParameterEnded s w mark start argument_
@@ -418,7 +419,7 @@ dependent-parameter s w is_reference mark begins number place start argument_ p 
     (b.6 ∙ append_assoc b.2 b.3 b.4) b.12 (type-element-in (types_of waits.6.own) b.1 (b.3 ++ b.4) is_reference prints)
 
 -- of a function in which a type stands
-pub dependent-within : (s : List ℕ) (w : Direct) (is_reference : Bool) (mark : Mark) (begins number place from : ℕ) (argument_ : Arguments)
+pub dependent-within : (s : Symbol) (w : Direct) (is_reference : Bool) (mark : Mark) (begins number place from : ℕ) (argument_ : Arguments)
     → IsWriting s w (steps.Dependent is_reference begins number place)
     → slice_get w.waiting.list.items (length w.waiting.list.items - 1) ≡ Some (opens.Enclosing mark from argument_)
     → IsEnclosingParameterRead s w mark from argument_
@@ -433,7 +434,7 @@ dependent-within s w is_reference mark begins number place from argument_ p foun
     (b.6 ∙ append_assoc b.2 b.3 b.4) b.12 (type-element-in (types_of waits.5.own) b.1 (b.3 ++ b.4) is_reference prints)
 
 -- it is the return type
-pub dependent-front : (s : List ℕ) (w : Direct) (is_reference : Bool) (mark : Mark) (begins number place start : ℕ) (argument_ : Arguments)
+pub dependent-front : (s : Symbol) (w : Direct) (is_reference : Bool) (mark : Mark) (begins number place start : ℕ) (argument_ : Arguments)
     → IsWriting s w (steps.Dependent is_reference begins number place)
     → slice_get w.waiting.list.items (length w.waiting.list.items - 1) ≡ Some (opens.Front mark start argument_)
     → IsFrontRead s w mark start argument_

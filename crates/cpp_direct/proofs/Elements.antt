@@ -4,6 +4,7 @@ use Rattle.std.proofs.lemmas.Bool.{false≢true}
 use Rattle.std.specs.List.{ends_with}
 use Rattle.std.specs.Cmp.Lexicographic.{pointwise}
 use Rattle.std.proofs.Math.Seq.{drop-append_seam}
+use Rattle.cpp_direct.specs.Symbol.{Symbol}
 use Rattle.cpp_direct.specs.HolesOfTypes.{TreeOpens}
 use Rattle.cpp_grammar.specs.declared.kind.Kind.{Kind}
 use Rattle.cpp_grammar.specs.Parts.{is_plain_integer}
@@ -35,7 +36,7 @@ use Rattle.cpp_direct.proofs.FoundTokens.{reads-then}
 -- ## Elements
 
 -- an element was read and written that is no type
-pub element-read : (s : List ℕ) (old new : Direct) (t : Term) (bytes : List ℕ) (a : AwaitsNextArgument s old) → Prints t bytes false
+pub element-read : (s : Symbol) (old new : Direct) (t : Term) (bytes : List ℕ) (a : AwaitsNextArgument s old) → Prints t bytes false
     → Reads old new bytes → ListGoesOn s (element_kind a.place.listing) a.goes.1 a.goes.0 t new.at a.state → IsWriting s new (steps.List false)
 element-read s old new t bytes a prints reads g =
     let p = a.place in
@@ -66,20 +67,20 @@ truth-is true = refl
 truth-is false = refl
 
 -- a truth value was read, and an E
-pub boolean-element-read : (s : List ℕ) (old begun middle new : Direct) (a : AwaitsNextArgument s old) → StandsAt s old.at (76 ∷ [])
+pub boolean-element-read : (s : Symbol) (old begun middle new : Direct) (a : AwaitsNextArgument s old) → StandsAt s.bytes old.at (76 ∷ [])
     → begun.at ≡ old.at + 1
     → Reads old begun []
-    → (read : (digit : ℕ) × ((digit ≡ 48) ⊎ (digit ≡ 49)) × StandsAt s begun.at (98 ∷ digit ∷ []) × (middle.at ≡ begun.at + 2)
+    → (read : (digit : ℕ) × ((digit ≡ 48) ⊎ (digit ≡ 49)) × StandsAt s.bytes begun.at (98 ∷ digit ∷ []) × (middle.at ≡ begun.at + 2)
     × Reads begun middle (truth_text (nat_eq digit 49)))
-    → StandsAt s middle.at (69 ∷ []) × (new.at ≡ middle.at + 1) × Reads middle new []
+    → StandsAt s.bytes middle.at (69 ∷ []) × (new.at ≡ middle.at + 1) × Reads middle new []
     → IsWriting s new (steps.List false)
 boolean-element-read s old begun middle new a first next nothing read ended =
     let d = read.0 in
     let written = truth_text (nat_eq d 49) in
-    let second = subst (λ n. StandsAt s n (98 ∷ d ∷ [])) next read.2 in
+    let second = subst (λ n. StandsAt s.bytes n (98 ∷ d ∷ [])) next read.2 in
     let third : middle.at ≡ old.at + 3 = omega (arith, next, read.3) in
-    let last = subst (λ n. StandsAt s n (69 ∷ [])) third ended.0 in
-    let whole = stands-join s old.at (76 ∷ 98 ∷ d ∷ []) (69 ∷ []) (stands-join s old.at (76 ∷ []) (98 ∷ d ∷ []) first second) last in
+    let last = subst (λ n. StandsAt s.bytes n (69 ∷ [])) third ended.0 in
+    let whole = stands-join s.bytes old.at (76 ∷ 98 ∷ d ∷ []) (69 ∷ []) (stands-join s.bytes old.at (76 ∷ []) (98 ∷ d ∷ []) first second) last in
     let behind : old.at + 4 ≡ new.at = omega (arith, next, read.3, ended.1) in
     element-read s old new (boolean (nat_eq d 49)) (written ++ []) a
     (subst (λ l. Prints (boolean (nat_eq d 49)) l false) (truth-is (nat_eq d 49) ∙ sym (append-nil written)) (boolean-prints (nat_eq d 49)))
@@ -103,9 +104,9 @@ integer-prints letter n ds is filled = go (is_plain_integer (builtin (letter ∷
         (cast-integer-prints letter e (integer-there letter is) (signed_digits n ds) (normal-filled ds filled))
 
 -- an integer was read, and an E
-pub integer-element-read : (s : List ℕ) (old begun middle new : Direct) (a : AwaitsNextArgument s old) → StandsAt s old.at (76 ∷ [])
+pub integer-element-read : (s : Symbol) (old begun middle new : Direct) (a : AwaitsNextArgument s old) → StandsAt s.bytes old.at (76 ∷ [])
     → begun.at ≡ old.at + 1
-    → Reads old begun [] → (read : IsIntegerRead s begun middle) → StandsAt s middle.at (69 ∷ []) × (new.at ≡ middle.at + 1) × Reads middle new []
+    → Reads old begun [] → (read : IsIntegerRead s.bytes begun middle) → StandsAt s.bytes middle.at (69 ∷ []) × (new.at ≡ middle.at + 1) × Reads middle new []
     → IsWriting s new (steps.List false)
 integer-element-read s old begun middle new a first next nothing read ended =
     let letter = read.0 in
@@ -113,8 +114,8 @@ integer-element-read s old begun middle new a first next nothing read ended =
     let ds = read.2 in
     let t = integer (builtin (letter ∷ [])) (signed_digits negative ds) in
     let written = integer_text letter (signed_digits negative ds) in
-    let second = subst (λ n. StandsAt s n (letter ∷ minus_sign negative)) next read.4 in
-    let whole = stands-join s old.at (76 ∷ []) (letter ∷ minus_sign negative) first second in
+    let second = subst (λ n. StandsAt s.bytes n (letter ∷ minus_sign negative)) next read.4 in
+    let whole = stands-join s.bytes old.at (76 ∷ []) (letter ∷ minus_sign negative) first second in
     let there : begun.at + 1 + length (minus_sign negative) ≡ old.at + length (76 ∷ letter ∷ minus_sign negative) = omega (arith, next) in
     let filled : ds ≢ [] = λ none. absurd (omega (arith, read.5.is_number.digits.1, ap length read.5.own, ap (λ (l : List ℕ). length l) none)) in
     element-read s old new t (written ++ []) a
@@ -122,12 +123,12 @@ integer-element-read s old begun middle new a first next nothing read ended =
     (reads-then old middle new written [] (reads-then old begun middle [] written nothing read.6) ended.2)
     (subst (λ n. ListGoesOn s (element_kind a.place.listing) a.goes.1 a.goes.0 t n a.state) (sym ended.1)
     (integer-element s (element_kind a.place.listing) a.goes.1 a.goes.0 letter negative ds old.at middle.at a.state (element-kind a.place.listing) read.3 a.goes.3 whole
-    (subst (λ n. IsDigitsAt s n ds middle.at) there read.5) ended.0))
+    (subst (λ n. IsDigitsAt s.bytes n ds middle.at) there read.5) ended.0))
 
 -- ## Enumerators
 
 -- an argument was begun that is an enumerator
-pub enumerator-expected : (s : List ℕ) (old begun pushed new : Direct) (a : AwaitsNextArgument s old) → StandsAt s old.at (76 ∷ [])
+pub enumerator-expected : (s : Symbol) (old begun pushed new : Direct) (a : AwaitsNextArgument s old) → StandsAt s.bytes old.at (76 ∷ [])
     → begun.at ≡ old.at + 1 → Reads old begun [] → Writes begun pushed (codes "(")
     → new.text.list.items ≡ pushed.text.list.items → new.candidates ≡ pushed.candidates → new.waiting.list.items ≡ pushed.waiting.list.items ++ opens.Enumerator ∷ []
     → new.at ≡ pushed.at → AwaitsNamedType s new
@@ -196,10 +197,10 @@ no-integer-type text front bytes e other ending = go ending.1
     go (inr (inr (inr is))) = false≢true (sym other.blank_long ∙ ends-so text (front ++ codes "(" ++ ending.0) (codes " long") (behind (codes " long") is))
 
 -- the number of an enumerator was read behind its type, and an E
-pub enumerator-read : (s : List ℕ) (old begun pushed middle new : Direct) (a : AwaitsNumber s old)
+pub enumerator-read : (s : Symbol) (old begun pushed middle new : Direct) (a : AwaitsNumber s old)
     → EndsOtherwise old.text.list.items → begun.text ≡ old.text → begun.candidates ≡ old.candidates → begun.at ≡ old.at → reverse begun.waiting.list.items ≡ a.opened
-    → Writes begun pushed (codes ")") → (read : IsNumberRead s pushed middle)
-    → StandsAt s middle.at (69 ∷ []) × (new.at ≡ middle.at + 1) × Reads middle new [] → IsWriting s new (steps.List false)
+    → Writes begun pushed (codes ")") → (read : IsNumberRead s.bytes pushed middle)
+    → StandsAt s.bytes middle.at (69 ∷ []) × (new.at ≡ middle.at + 1) × Reads middle new [] → IsWriting s new (steps.List false)
 unfolding signed_digits
 enumerator-read s old begun pushed middle new a other text candidates at waits writes read ended =
     let negative = read.0 in
@@ -238,8 +239,8 @@ enumerator-read s old begun pushed middle new a other text candidates at waits w
         λ first. absurd (false≢true first),
         λ further. some-elements a.ts t,
         subst (λ k. GoesOn s p.listing p.owner (Stands s p.rest) p.front p.template (a.ts ++ t ∷ []) k a.state) (sym ended.1)
-            (a.goes negative ds middle.at (subst (λ k. StandsAt s k (minus_sign negative)) here read.2)
-            (subst (λ k. IsDigitsAt s (k + length (minus_sign negative)) ds middle.at) here read.3) ended.0),
+            (a.goes negative ds middle.at (subst (λ k. StandsAt s.bytes k (minus_sign negative)) here read.2)
+            (subst (λ k. IsDigitsAt s.bytes (k + length (minus_sign negative)) ds middle.at) here read.3) ended.0),
       );
     }
   where

@@ -17,6 +17,7 @@ use Rattle.cpp_direct.specs.declared.marks.MarkPlace.{MarkPlace}
 use Rattle.cpp_direct.specs.declared.open.Mark.{Mark}
 use Rattle.cpp_direct.specs.declared.open.Mark.TheVariants as marks
 use Rattle.cpp_direct.specs.declared.open.Arguments.{Arguments}
+use Rattle.cpp_direct.specs.Symbol.{Symbol}
 use Rattle.cpp_direct.specs.declared.open.Open.{Open}
 use Rattle.cpp_direct.specs.declared.open.Open.TheVariants as opens
 use Rattle.cpp_direct.specs.declared.open.Purpose.TheVariants as purposes
@@ -52,14 +53,14 @@ use Rattle.cpp_direct.proofs.Scopes.{arguments-named, arguments-stay, enclosing-
 -- ## Names
 
 -- The name of a function in which a type stands is expected, behind this text.
-record NameOpened (s : List ℕ) (below : Below) (front : List ℕ) (at : ℕ) (st : State) : Type 0 where
+record NameOpened (s : Symbol) (below : Below) (front : List ℕ) (at : ℕ) (st : State) : Type 0 where
   pub inner : List Opened
   pub awaits : Expects s Kind.CompleteName (in_name at) inner at st
   pub onward : (text : List ℕ) (argument : Arguments) (v : Value) (here : ℕ) (now : State)
       → HasArguments text argument (tree_of v) → argument.encoding ≡ 0 → Comes s inner v here now
       → ItemsGoOn s argument (TypeWithin s below front) (λ l. encoding_of v l) [] here now
 
-name-opens : (s : List ℕ) (w : Direct) (a : AwaitsNamedType s w) → StandsAt s w.at (90 ∷ [])
+name-opens : (s : Symbol) (w : Direct) (a : AwaitsNamedType s w) → StandsAt s.bytes w.at (90 ∷ [])
     → NameOpened s (Stands s (reverse w.waiting.list.items)) w.text.list.items (w.at + 1) a.state
 unfolding in_types is_function_type
 name-opens s w a letter =
@@ -104,8 +105,8 @@ name-opens s w a letter =
     }
 
 -- a nested one is expected, of a member function with these qualifiers
-nest-marked : (s : List ℕ) (old : Direct) (n : ℕ) (mark : Mark) → AwaitsNamedType s old → StandsAt s old.at (90 ∷ [])
-    → StandsAt s (old.at + 1) (nest_marks (has_const mark) (called_on mark)) → n ≡ old.at + 1 + length (nest_marks (has_const mark) (called_on mark))
+nest-marked : (s : Symbol) (old : Direct) (n : ℕ) (mark : Mark) → AwaitsNamedType s old → StandsAt s.bytes old.at (90 ∷ [])
+    → StandsAt s.bytes (old.at + 1) (nest_marks (has_const mark) (called_on mark)) → n ≡ old.at + 1 + length (nest_marks (has_const mark) (called_on mark))
     → AwaitsNest s (record old { at = n }) (purposes.Enclosing mark)
 unfolding in_name tree_of
 nest-marked s old n mark a letter stands at_is =
@@ -123,26 +124,26 @@ nest-marked s old n mark a letter stands at_is =
     }
 
 -- behind an N, where they stand
-pub nest-within : (s : List ℕ) (old : Direct) (first second : ℕ) (place : MarkPlace) → AwaitsNamedType s old → StandsAt s old.at (90 ∷ [])
-    → first ≡ old.at + 1 → StandsAt s first (78 ∷ []) → second ≡ first + 1 → IsMarkPlace s second place
+pub nest-within : (s : Symbol) (old : Direct) (first second : ℕ) (place : MarkPlace) → AwaitsNamedType s old → StandsAt s.bytes old.at (90 ∷ [])
+    → first ≡ old.at + 1 → StandsAt s.bytes first (78 ∷ []) → second ≡ first + 1 → IsMarkPlace s.bytes second place
     → AwaitsNest s (record old { at = place.end }) (purposes.Enclosing place.mark)
 nest-within s old first second place a letter next nested then_ is =
     let letters = mark_letters (has_const place.mark) (called_on place.mark) in
     nest-marked s old place.end place.mark a letter
-    (stands-join s (old.at + 1) (78 ∷ []) letters (subst (λ k. StandsAt s k (78 ∷ [])) next nested)
-    (subst (λ k. StandsAt s k letters) (then_ ∙ ap (λ k. k + 1) next) is.stands)) (omega (arith, next, then_, is.ends))
+    (stands-join s.bytes (old.at + 1) (78 ∷ []) letters (subst (λ k. StandsAt s.bytes k (78 ∷ [])) next nested)
+    (subst (λ k. StandsAt s.bytes k letters) (then_ ∙ ap (λ k. k + 1) next) is.stands)) (omega (arith, next, then_, is.ends))
 
 -- one by itself is read
-pub source-within : (s : List ℕ) (old start new : Direct) (name : List ℕ) (from : ℕ) → AwaitsNamedType s old → StandsAt s old.at (90 ∷ [])
+pub source-within : (s : Symbol) (old start new : Direct) (name : List ℕ) (from : ℕ) → AwaitsNamedType s old → StandsAt s.bytes old.at (90 ∷ [])
     → start.text ≡ old.text → start.candidates ≡ old.candidates → start.waiting ≡ old.waiting → start.at ≡ old.at + 1
-    → IsNameAt s start.at name new.at → name ≢ [] → Reads start new (source_text name) → from ≡ length start.text.list.items
+    → IsNameAt s.bytes start.at name new.at → name ≢ [] → Reads start new (source_text name) → from ≡ length start.text.list.items
     → IsEnclosingNamed s new marks.Plain from
 unfolding may_be_empty tree_of qualifiers_of ref_of has_return_type arguments_of in_name
 source-within s old start new name from a letter same_text same_candidates same_waiting at_is is filled reads from_is =
     let own = alone (source false name) in
     let e = name-opens s old a letter in
     let here = in_name (old.at + 1) in
-    let named_ = name-source s e.inner here (old.at + 1) name new.at a.state e.awaits refl (subst (λ k. IsNameAt s k name new.at) at_is is) in
+    let named_ = name-source s e.inner here (old.at + 1) name new.at a.state e.awaits refl (subst (λ k. IsNameAt s.bytes k name new.at) at_is is) in
     let front = old.text.list.items in
     record {
       state = a.state;
@@ -163,13 +164,13 @@ source-within s old start new name from a letter same_text same_candidates same_
       goes = subst (λ v. ItemsGoOn s nowhere (TypeWithin s (Stands s (reverse v.list.items)) front) (λ l. encoding_of (tree own false) l) [] new.at a.state)
           (sym (reads.waiting ∙ same_waiting))
           (e.onward [] nowhere (tree own false) new.at a.state (λ k o. absurd (none-known k o)) refl
-          (named_.bare new.at a.state (expects-empty s Kind.MaybeArguments (after own false here) named_.inner new.at a.state named_.awaits refl)));
+          (named_.bare new.at a.state (expects-empty s Kind.ArgumentsAlone (after own false here) named_.inner new.at a.state named_.awaits refl)));
     }
 
 -- a nested one is read
-pub name-within : (s : List ℕ) (old : Direct) (st : State) (t : Term) (mark : Mark)
+pub name-within : (s : Symbol) (old : Direct) (st : State) (t : Term) (mark : Mark)
     → AreCandidates old.text.list.items old.candidates.list.items st.candidates → IsNesting s Kind.NestTail old t st
-    → has_return_type t ≡ false → StandsAt s old.at (69 ∷ [])
+    → has_return_type t ≡ false → StandsAt s.bytes old.at (69 ∷ [])
     → old.nest.purpose ≡ purposes.Enclosing mark → IsEnclosingNamed s (record old { at = old.at + 1 }) mark old.nest.from
 unfolding tree_of qualifiers_of ref_of
 name-within s old st t mark candidates n no_return here is_name =
@@ -192,9 +193,9 @@ name-within s old st t mark candidates n no_return here is_name =
     }
 
 -- an instance is read, whose return type is expected
-pub instance-within : (s : List ℕ) (old : Direct) (st : State) (t : Term) (mark : Mark)
+pub instance-within : (s : Symbol) (old : Direct) (st : State) (t : Term) (mark : Mark)
     → AreCandidates old.text.list.items old.candidates.list.items st.candidates → IsNesting s Kind.NestTail old t st
-    → has_return_type t ≡ true → HasArguments old.text.list.items old.argument t → StandsAt s old.at (69 ∷ [])
+    → has_return_type t ≡ true → HasArguments old.text.list.items old.argument t → StandsAt s.bytes old.at (69 ∷ [])
     → old.nest.purpose ≡ purposes.Enclosing mark → IsEnclosingInstance s (record old { at = old.at + 1 }) mark old.nest.from
 unfolding tree_of qualifiers_of ref_of
 instance-within s old st t mark candidates n returns names here is_name =
@@ -221,7 +222,7 @@ instance-within s old st t mark candidates n returns names here is_name =
 -- ## Parameters
 
 -- a function without a return type awaits its parameters
-pub plain-awaits : (s : List ℕ) (w : Direct) (mark : Mark) (from : ℕ) → IsEnclosingNamed s w mark from → AwaitsEnclosingParameters s w mark from nowhere
+pub plain-awaits : (s : Symbol) (w : Direct) (mark : Mark) (from : ℕ) → IsEnclosingNamed s w mark from → AwaitsEnclosingParameters s w mark from nowhere
 plain-awaits s w mark from p = record {
   state = p.state;
   candidates = p.candidates;
@@ -242,8 +243,8 @@ plain-awaits s w mark from p = record {
 }
 
 -- and so does one behind its return type, which is a builtin one
-pub returned-awaits : (s : List ℕ) (w : Direct) (n : ℕ) (mark : Mark) (from letter : ℕ) → IsEnclosingInstance s w mark from
-    → look_up (letter ∷ []) builtin_texts ≢ [] → (letter ≢ 0 → StandsAt s w.at (letter ∷ [])) → n ≡ w.at + 1
+pub returned-awaits : (s : Symbol) (w : Direct) (n : ℕ) (mark : Mark) (from letter : ℕ) → IsEnclosingInstance s w mark from
+    → look_up (letter ∷ []) builtin_texts ≢ [] → (letter ≢ 0 → StandsAt s.bytes w.at (letter ∷ [])) → n ≡ w.at + 1
     → AwaitsEnclosingParameters s (record w { at = n }) mark from (named_in 0 w.argument)
 returned-awaits s w n mark from letter p has stands at_is =
     let r = builtin (letter ∷ []) in
@@ -275,7 +276,7 @@ returned-awaits s w n mark from letter p has stands at_is =
     }
 
 -- a parameter comes next
-parameter-expected : (s : List ℕ) (w : Direct) (st : State) (mark : Mark) (from : ℕ) (argument : Arguments) (rest : List Open) (front : List ℕ)
+parameter-expected : (s : Symbol) (w : Direct) (st : State) (mark : Mark) (from : ℕ) (argument : Arguments) (rest : List Open) (front : List ℕ)
     (make : Term → Term) (ts : List Term) (name texts : List ℕ)
     → AreCandidates w.text.list.items w.candidates.list.items st.candidates → reverse w.waiting.list.items ≡ opens.Enclosing mark from argument ∷ rest
     → IsEnclosing w.text.list.items argument mark make ts name texts → from ≡ length front
@@ -308,7 +309,7 @@ parameter-expected s w st mark from argument rest front make ts name texts candi
     }
 
 -- the first one comes next
-pub first-within : (s : List ℕ) (w first last : Direct) (mark : Mark) (from : ℕ) (argument : Arguments) → AwaitsEnclosingParameters s w mark from argument
+pub first-within : (s : Symbol) (w first last : Direct) (mark : Mark) (from : ℕ) (argument : Arguments) → AwaitsEnclosingParameters s w mark from argument
     → Writes w first (codes "(") → last.text ≡ first.text → last.candidates ≡ first.candidates → last.at ≡ first.at
     → last.waiting.list.items ≡ first.waiting.list.items ++ opens.Enclosing mark from argument ∷ [] → IsWriting s last steps.Type
 first-within s w first last mark from argument p one text candidates at waiting =
@@ -326,7 +327,7 @@ first-within s w first last mark from argument p one text candidates at waiting 
     (subst (λ n. ItemsGoOn s argument (TypeWithin s (Stands s (reverse w.waiting.list.items)) p.front) p.make [] n p.state) (sym (at ∙ one.at)) p.goes)
 
 -- another one comes next
-pub next-within : (s : List ℕ) (w last : Direct) (mark : Mark) (from : ℕ) (argument : Arguments) → IsEnclosingParameterRead s w mark from argument
+pub next-within : (s : Symbol) (w last : Direct) (mark : Mark) (from : ℕ) (argument : Arguments) → IsEnclosingParameterRead s w mark from argument
     → Writes w last (codes ", ") → IsWriting s last steps.Type
 next-within s w last mark from argument p one =
     let front = p.front ++ p.name ++ codes "(" in
@@ -340,7 +341,7 @@ next-within s w last mark from argument p one =
     (subst (λ n. ItemsGoOn s argument (TypeWithin s (Stands s p.rest) p.front) p.make p.ts n p.state) (sym one.at) p.goes)
 
 -- one is read
-pub parameter-got-within : (s : List ℕ) (w : Direct) (mark : Mark) (from : ℕ) (argument : Arguments) (st : State) (rest : List Open) (os : List Opened)
+pub parameter-got-within : (s : Symbol) (w : Direct) (mark : Mark) (from : ℕ) (argument : Arguments) (st : State) (rest : List Open) (os : List Opened)
     (t : Term) (before bytes : List ℕ) (waits : Stands s (opens.Enclosing mark from argument ∷ rest) os before)
     → AreCandidates w.text.list.items w.candidates.list.items st.candidates → reverse w.waiting.list.items ≡ opens.Enclosing mark from argument ∷ rest
     → w.text.list.items ≡ before ++ bytes → Comes s os (tree t true) w.at st → IsElementIn (types_of waits.5.own) 6 t bytes
@@ -376,7 +377,7 @@ parameter-got-within s w mark from argument st rest os t before bytes waits cand
       goes = waits.8 t w.at st comes;
     }
 
-pub parameter-read-within : (s : List ℕ) (w : Direct) (mark : Mark) (from : ℕ) (argument : Arguments)
+pub parameter-read-within : (s : Symbol) (w : Direct) (mark : Mark) (from : ℕ) (argument : Arguments)
     → IsElementRead s w (opens.Enclosing mark from argument) → IsEnclosingParameterRead s w mark from argument
 parameter-read-within s w mark from argument p =
     parameter-got-within s w mark from argument p.state p.rest p.os p.own p.front p.bytes p.stands p.candidates p.open_is p.written p.comes
@@ -385,7 +386,7 @@ parameter-read-within s w mark from argument p =
 -- ## Ends
 
 -- a name without items is read
-pub object-within : (s : List ℕ) (w : Direct) (mark : Mark) (from : ℕ) → IsEnclosingNamed s w mark from → IsEnclosingRead s w mark from
+pub object-within : (s : Symbol) (w : Direct) (mark : Mark) (from : ℕ) → IsEnclosingNamed s w mark from → IsEnclosingRead s w mark from
 unfolding no_items may_be_empty
 object-within s w mark from p =
     let b = p.name in
@@ -422,8 +423,8 @@ enclosed-with own returned mark make makes (t ∷ ts) some kept =
     makes t (list_of ts) ∙ ap (function own (qualifiers (has_const mark)) (called_on mark) returned) kept
 
 -- a function with a lone void is read
-pub void-within : (s : List ℕ) (w here new : Direct) (mark : Mark) (from : ℕ) (argument : Arguments) → AwaitsEnclosingParameters s w mark from argument
-    → StandsAt s w.at (118 ∷ [])
+pub void-within : (s : Symbol) (w here new : Direct) (mark : Mark) (from : ℕ) (argument : Arguments) → AwaitsEnclosingParameters s w mark from argument
+    → StandsAt s.bytes w.at (118 ∷ [])
     → here.text ≡ w.text → here.candidates ≡ w.candidates → here.waiting ≡ w.waiting → here.at ≡ w.at + 1 → Writes here new (codes "()")
     → IsEnclosingRead s new mark from
 void-within s w here new mark from argument p stands text candidates waiting at one =
@@ -454,7 +455,7 @@ void-within s w here new mark from argument p stands text candidates waiting at 
     }
 
 -- a function with its parameters is read, unless they are a lone void
-pub function-within : (s : List ℕ) (w last new : Direct) (mark : Mark) (from : ℕ) (argument : Arguments) (p : IsEnclosingParameterRead s w mark from argument)
+pub function-within : (s : Symbol) (w last new : Direct) (mark : Mark) (from : ℕ) (argument : Arguments) (p : IsEnclosingParameterRead s w mark from argument)
     → p.texts ≢ codes "void" → Writes w last (codes ")") → new.text ≡ last.text → new.candidates ≡ last.candidates → new.at ≡ last.at
     → reverse new.waiting.list.items ≡ p.rest → IsEnclosingRead s new mark from
 unfolding no_items may_be_empty
@@ -491,7 +492,7 @@ function-within s w last new mark from argument p apart one text candidates at w
     }
 
 -- its qualifiers are written
-pub marks-written-within : (s : List ℕ) (old new : Direct) (mark : Mark) (from : ℕ) → IsEnclosingRead s old mark from → Writes old new (mark_text mark)
+pub marks-written-within : (s : Symbol) (old new : Direct) (mark : Mark) (from : ℕ) → IsEnclosingRead s old mark from → Writes old new (mark_text mark)
     → IsEnclosingRead s new marks.Plain from
 marks-written-within s old new mark from p writes = record {
   state = p.state;
@@ -527,7 +528,7 @@ number-text (Some d) is =
     decimal_digit n (number-is (Some d) is) ∙ ap (λ k. k ∷ []) (omega (arith, is.0))
 
 -- it is read, and written
-pub lambda-told : (s : List ℕ) (old new : Direct) (digit : Option ℕ) → IsLambdaDigit digit → StandsAt s old.at (85 ∷ lambda_bytes (lambda_digits digit))
+pub lambda-told : (s : Symbol) (old new : Direct) (digit : Option ℕ) → IsLambdaDigit digit → StandsAt s.bytes old.at (85 ∷ lambda_bytes (lambda_digits digit))
     → new.at ≡ old.at + length (85 ∷ lambda_bytes (lambda_digits digit)) → Reads old new (codes "{lambda()#" ++ lambda_number digit ++ codes "}")
     → (p : Term) × (n : List ℕ) × IsPieceAt s old.at p new.at × PrintsPiece p n × Reads old new n
 lambda-told s old new digit is stands ends reads = (
@@ -543,7 +544,7 @@ abbrev lambda_front : List ℕ
 lambda_front = codes "::{lambda("
 
 -- the first parameter of one comes next
-pub lambda-begun : (s : List ℕ) (old new : Direct) (from : ℕ) → AwaitsTypeName s old from → short_numbers 0 s ≡ true → StandsAt s old.at (85 ∷ 108 ∷ [])
+pub lambda-begun : (s : Symbol) (old new : Direct) (from : ℕ) → AwaitsTypeName s old from → short_numbers 0 s.bytes ≡ true → StandsAt s.bytes old.at (85 ∷ 108 ∷ [])
     → new.text.list.items ≡ old.text.list.items ++ lambda_front → new.candidates ≡ old.candidates → new.at ≡ old.at + 2
     → new.waiting.list.items ≡ old.waiting.list.items ++ opens.Lambda from ∷ [] → IsWriting s new steps.Type
 lambda-begun s old new from a short stands text candidates at waiting =
@@ -551,7 +552,7 @@ lambda-begun s old new from a short stands text candidates at waiting =
     let w = r.within in
     let entity = w.2 a.letter in
     let first = lambda-opens s entity.inner entity.around r.e (a.before + 1) r.state short entity.awaits
-    (subst (λ k. StandsAt s k (85 ∷ 108 ∷ [])) a.at_is stands) in
+    (subst (λ k. StandsAt s.bytes k (85 ∷ 108 ∷ [])) a.at_is stands) in
     let rest = reverse old.waiting.list.items in
     let opened_ = ap reverse waiting ∙ reverse-last old.waiting.list.items (opens.Lambda from) in
     let front_written : old.text.list.items ≡ r.front ++ r.bytes = sym (append-nil old.text.list.items) ∙ r.written in
@@ -603,7 +604,7 @@ lambda-begun s old new from a short stands text candidates at waiting =
     }
 
 -- a parameter of one is read
-pub lambda-parameter-read : (s : List ℕ) (w : Direct) (from : ℕ) → IsElementRead s w (opens.Lambda from) → IsLambdaParameterRead s w from
+pub lambda-parameter-read : (s : Symbol) (w : Direct) (from : ℕ) → IsElementRead s w (opens.Lambda from) → IsLambdaParameterRead s w from
 lambda-parameter-read s w from p =
     let waits = p.stands in
     let ts = waits.3 in
@@ -627,7 +628,7 @@ lambda-parameter-read s w from p =
     }
 
 -- another one comes next
-pub lambda-next : (s : List ℕ) (w last : Direct) (from : ℕ) → IsLambdaParameterRead s w from → Writes w last (codes ", ") → IsWriting s last steps.Type
+pub lambda-next : (s : Symbol) (w last : Direct) (from : ℕ) → IsLambdaParameterRead s w from → Writes w last (codes ", ") → IsWriting s last steps.Type
 lambda-next s w last from p one =
     let led = p.front ++ (p.bytes ++ lambda_front) in
     let below = Stands s p.rest in
@@ -674,12 +675,12 @@ lambda-bracket f b l =
     ∙ sym (append_assoc f (b ++ codes "::{lambda") (codes "(")))
 
 -- its end is read
-pub lambda-done : (s : List ℕ) (w begun pushed numbered popped_ last new : Direct) (from : ℕ) (p : IsLambdaParameterRead s w from) → p.texts ≢ codes "void"
-    → StandsAt s w.at (69 ∷ []) → begun.text ≡ w.text → begun.candidates ≡ w.candidates → begun.waiting ≡ w.waiting → begun.at ≡ w.at + 1
-    → Writes begun pushed (codes ")#") → (number : Option ℕ) → IsLambdaDigit number → StandsAt s pushed.at (lambda_digits number ++ 95 ∷ [])
+pub lambda-done : (s : Symbol) (w begun pushed numbered popped_ last new : Direct) (from : ℕ) (p : IsLambdaParameterRead s w from) → p.texts ≢ codes "void"
+    → StandsAt s.bytes w.at (69 ∷ []) → begun.text ≡ w.text → begun.candidates ≡ w.candidates → begun.waiting ≡ w.waiting → begun.at ≡ w.at + 1
+    → Writes begun pushed (codes ")#") → (number : Option ℕ) → IsLambdaDigit number → StandsAt s.bytes pushed.at (lambda_digits number ++ 95 ∷ [])
     → numbered.at ≡ pushed.at + length (lambda_digits number ++ 95 ∷ []) → Reads pushed numbered (lambda_number number ++ codes "}")
     → popped_.text ≡ numbered.text → popped_.candidates ≡ numbered.candidates → popped_.at ≡ numbered.at → reverse popped_.waiting.list.items ≡ p.rest
-    → (digit : Discriminator) → IsDiscriminatorAt s popped_.at digit last.at → Reads popped_ last []
+    → (digit : Discriminator) → IsDiscriminatorAt s.bytes popped_.at digit last.at → Reads popped_ last []
     → new.candidates.list.items ≡ added last from false → new.text ≡ last.text → new.waiting ≡ last.waiting → new.at ≡ last.at
     → IsWriting s new (steps.Value false)
 unfolding no_items may_be_empty
@@ -698,8 +699,8 @@ lambda-done s w begun pushed numbered popped_ last new from p apart ends same_te
     (local-prints p.e p.bytes p.encloses (lambda items n) (codes "{lambda(" ++ p.texts ++ codes ")#" ++ num ++ codes "}")
     (lambda-list-prints p.ts p.texts p.elements n num (number-text number is)) digit) in
     let place : pushed.at ≡ w.at + 1 = one.at ∙ at in
-    let ending : StandsAt s w.at (lambda_ending number) =
-    stands-join s w.at (69 ∷ []) (lambda_digits number ++ 95 ∷ []) ends (subst (λ k. StandsAt s k (lambda_digits number ++ 95 ∷ [])) place digits_) in
+    let ending : StandsAt s.bytes w.at (lambda_ending number) =
+    stands-join s.bytes w.at (69 ∷ []) (lambda_digits number ++ 95 ∷ []) ends (subst (λ k. StandsAt s.bytes k (lambda_digits number ++ 95 ∷ [])) place digits_) in
     let middle : popped_.at ≡ w.at + length (lambda_ending number) = omega (arith, popped_at, numbered_at, place) in
     let written : last.text.list.items ≡ p.front ++ bytes =
     three.text ∙ append-nil popped_.text.list.items ∙ ap (λ v. v.list.items) popped_text ∙ two.text
@@ -735,9 +736,9 @@ lambda-done s w begun pushed numbered popped_ last new from p apart ends same_te
 -- ## The type
 
 -- its name and its discriminator are read
-pub type-within : (s : List ℕ) (old pushed read last new : Direct) (from : ℕ) → AwaitsTypeName s old from → Writes old pushed (codes "::")
+pub type-within : (s : Symbol) (old pushed read last new : Direct) (from : ℕ) → AwaitsTypeName s old from → Writes old pushed (codes "::")
     → (p : Term) (n : List ℕ) → IsPieceAt s pushed.at p read.at → PrintsPiece p n → Reads pushed read n
-    → (digit : Discriminator) → IsDiscriminatorAt s read.at digit last.at → Reads read last []
+    → (digit : Discriminator) → IsDiscriminatorAt s.bytes read.at digit last.at → Reads read last []
     → new.candidates.list.items ≡ added last from false → new.text ≡ last.text → new.waiting ≡ last.waiting → new.at ≡ last.at
     → IsWriting s new (steps.Value false)
 type-within s old pushed read last new from awaits one p n is prints two digit told three candidates text waiting here =

@@ -12,6 +12,7 @@ use Rattle.cpp_grammar.specs.Parts.{encoding_text, qualifier_text, ref_text, typ
 use Rattle.cpp_grammar.specs.Between.{no_items}
 use Rattle.cpp_grammar.specs.Meaning.{encoding_of}
 use Rattle.cpp_grammar.specs.Values.{State, Value, nothing_there, tree, tree_of, qualifiers_of, ref_of}
+use Rattle.cpp_direct.specs.Symbol.{Symbol}
 use Rattle.cpp_direct.specs.declared.open.Arguments.{Arguments}
 use Rattle.cpp_direct.specs.declared.open.Mark.{Mark}
 use Rattle.cpp_direct.specs.declared.open.Mark.TheVariants as marks
@@ -38,7 +39,7 @@ use Rattle.cpp_direct.proofs.PrintedSymbols.{function-shows, void-shows, object-
 -- ## The end
 
 -- an encoding that ends with the symbol is the symbol
-pub whole-plain : (s : List ℕ) (e : Term) (at : ℕ) (text : List ℕ) → Encoded s e at → Shows e text → at ≡ length s → IsWhole s text
+pub whole-plain : (s : Symbol) (e : Term) (at : ℕ) (text : List ℕ) → Encoded s e at → Shows e text → at ≡ length s.bytes → IsWhole s text
 whole-plain s e at text encoded shows ended = record {
   whole = symbol e [];
   stands = encoded.ends ended;
@@ -47,8 +48,8 @@ whole-plain s e at text encoded shows ended = record {
 }
 
 -- with a suffix it is the symbol too
-pub whole-suffixed : (s : List ℕ) (e : Term) (at : ℕ) (text suffix : List ℕ) → Encoded s e at → Shows e text → StandsAt s at suffix
-    → at + length suffix ≡ length s → IsSuffix suffix → IsWhole s (text ++ codes " (" ++ suffix ++ codes ")")
+pub whole-suffixed : (s : Symbol) (e : Term) (at : ℕ) (text suffix : List ℕ) → Encoded s e at → Shows e text → StandsAt s.bytes at suffix
+    → at + length suffix ≡ length s.bytes → IsSuffix suffix → IsWhole s (text ++ codes " (" ++ suffix ++ codes ")")
 whole-suffixed s e at text [] encoded shows stands ended is = absurd is
 whole-suffixed s e at text (d ∷ rest) encoded shows stands ended is = record {
   whole = symbol e (d ∷ rest);
@@ -65,7 +66,7 @@ rest-stands s suffix at inside is =
     (([], sym same ∙ sym (append-nil suffix)), omega (arith, inside, ap length same, length-drop at s))
 
 -- an encoding whose qualifiers are written
-pub marks-written : (s : List ℕ) (old new : Direct) (mark : Mark) → IsEncodingEnded s old mark → Writes old new (mark_text mark)
+pub marks-written : (s : Symbol) (old new : Direct) (mark : Mark) → IsEncodingEnded s old mark → Writes old new (mark_text mark)
     → IsEncodingEnded s new marks.Plain
 marks-written s old new mark p writes = record {
   state = p.state;
@@ -80,7 +81,7 @@ marks-written s old new mark p writes = record {
 }
 
 -- an encoding in which no entity stands ends the symbol
-pub symbol-ended : (s : List ℕ) (w : Direct) → IsEncodingEnded s w marks.Plain → is_local s ≡ false → IsSymbolEnded s w
+pub symbol-ended : (s : Symbol) (w : Direct) → IsEncodingEnded s w marks.Plain → is_local s.bytes ≡ false → IsSymbolEnded s w
 symbol-ended s w p apart =
     let behind : EndsBehind s p.lead p.e w.at = p.behind.whole apart in
     record {
@@ -92,21 +93,21 @@ symbol-ended s w p apart =
     }
 
 -- the symbol is written where it has no suffix
-pub ends-plain : (s suffix : List ℕ) (w : Direct) → IsSymbolEnded s w → w.at ≤ length s → suffix ≡ take (length s - w.at) (drop w.at s)
+pub ends-plain : (s : Symbol) (suffix : List ℕ) (w : Direct) → IsSymbolEnded s w → w.at ≤ length s.bytes → suffix ≡ take (length s.bytes - w.at) (drop w.at s.bytes)
     → length suffix ≡ 0 → IsWriting s w steps.Ended
 ends-plain s suffix w p inside is none = record {
   state = p.state;
   candidates = p.candidates;
   is_before = whole-plain s p.e w.at w.text.list.items p.encoded p.shows
-      (omega (arith, none, (rest-stands s suffix w.at inside is).1));
+      (omega (arith, none, (rest-stands s.bytes suffix w.at inside is).1));
 }
 
 -- and where it has one
-pub ends-suffixed : (s suffix : List ℕ) (w first second last : Direct) → IsSymbolEnded s w → w.at ≤ length s
-    → suffix ≡ take (length s - w.at) (drop w.at s) → IsSuffix suffix
+pub ends-suffixed : (s : Symbol) (suffix : List ℕ) (w first second last : Direct) → IsSymbolEnded s w → w.at ≤ length s.bytes
+    → suffix ≡ take (length s.bytes - w.at) (drop w.at s.bytes) → IsSuffix suffix
     → Writes w first (codes " (") → Writes first second suffix → Writes second last (codes ")") → IsWriting s last steps.Ended
 ends-suffixed s suffix w first second last p inside is is_suffix one two three =
-    let there = rest-stands s suffix w.at inside is in
+    let there = rest-stands s.bytes suffix w.at inside is in
     let text : last.text.list.items ≡ w.text.list.items ++ codes " (" ++ suffix ++ codes ")" =
     three.text ∙ ap (λ l. l ++ codes ")") (two.text ∙ ap (λ l. l ++ suffix) one.text) in
     record {
@@ -147,7 +148,7 @@ behind-five lead a b c d q =
     ap (λ l. l ++ d ++ q) (behind-three lead a b c) ∙ ap (λ l. l ++ q) (append_assoc lead (a ++ b ++ c) d) ∙ append_assoc lead (a ++ b ++ c ++ d) q
 
 -- a name without items is an encoding
-pub object-ended : (s : List ℕ) (w : Direct) (mark : Mark) (is_instance : Bool) (from : ℕ) → IsNameEnded s w mark is_instance from
+pub object-ended : (s : Symbol) (w : Direct) (mark : Mark) (is_instance : Bool) (from : ℕ) → IsNameEnded s w mark is_instance from
     → IsEncodingEnded s w mark
 unfolding no_items may_be_empty
 object-ended s w mark is_instance from p =
@@ -185,13 +186,13 @@ next-written [] l some = absurd (some refl)
 next-written (t ∷ ts) l some = refl
 
 -- a name is one where parameters go on behind none
-pub none-go_on : (s : List ℕ) (argument : Arguments) (lead : List ℕ) (v : Value) (at : ℕ) (st : State) (p : AwaitsItems s lead v at st)
+pub none-go_on : (s : Symbol) (argument : Arguments) (lead : List ℕ) (v : Value) (at : ℕ) (st : State) (p : AwaitsItems s lead v at st)
     → HasScope argument p.around → ParametersGoOn s argument lead (λ l. encoding_of v l) [] at st
 none-go_on s argument lead v at st p scoped =
     record { around = p.around; inner = p.inner; outside = p.outside; scoped = scoped; awaits = p.awaits; onward = p.onward }
 
 -- a parameter is expected
-pub parameter-goes_on : (s : List ℕ) (argument : Arguments) (becomes : Term → (at : ℕ) → State → Type 0) (make : Term → Term) (ts : List Term) (at : ℕ) (st : State)
+pub parameter-goes_on : (s : Symbol) (argument : Arguments) (becomes : Term → (at : ℕ) → State → Type 0) (make : Term → Term) (ts : List Term) (at : ℕ) (st : State)
     (p : ItemsGoOn s argument becomes make ts at st) (t : Term) (here : ℕ) (now : State)
     → ListGoesOn s Kind.Items p.inner p.around t here now → ItemsGoOn s argument becomes make (ts ++ t ∷ []) here now
 unfolding no_items tree_of
@@ -206,7 +207,7 @@ parameter-goes_on s argument becomes make ts at st p t here now goes = record {
 }
 
 -- a parameter comes next
-pub parameter-expected : (s : List ℕ) (w : Direct) (mark : Mark) (start : ℕ) (argument : Arguments) → AwaitsNextParameter s w mark start argument
+pub parameter-expected : (s : Symbol) (w : Direct) (mark : Mark) (start : ℕ) (argument : Arguments) → AwaitsNextParameter s w mark start argument
     → IsWriting s w steps.Type
 parameter-expected s w mark start argument a =
     let p = a.goes in
@@ -238,7 +239,7 @@ parameter-expected s w mark start argument a =
     }
 
 -- the name of a function is read that has no return type
-pub parameters-begin : (s : List ℕ) (w : Direct) (mark : Mark) (is_instance : Bool) (from : ℕ) → IsNameEnded s w mark is_instance from → is_instance ≡ false
+pub parameters-begin : (s : Symbol) (w : Direct) (mark : Mark) (is_instance : Bool) (from : ℕ) → IsNameEnded s w mark is_instance from → is_instance ≡ false
     → AwaitsParameters s w mark 0 nowhere
 parameters-begin s w mark is_instance from p plain = record {
   state = p.state;
@@ -260,7 +261,7 @@ parameters-begin s w mark is_instance from p plain = record {
 }
 
 -- the first parameter comes next
-pub first-expected : (s : List ℕ) (w first last : Direct) (mark : Mark) (start : ℕ) (argument : Arguments)
+pub first-expected : (s : Symbol) (w first last : Direct) (mark : Mark) (start : ℕ) (argument : Arguments)
     → AwaitsParameters s w mark start argument → Writes w first (codes "(")
     → last.text ≡ first.text → last.candidates ≡ first.candidates → last.at ≡ first.at
     → last.waiting.list.items ≡ first.waiting.list.items ++ opens.Parameters mark start argument ∷ []
@@ -290,7 +291,7 @@ first-expected s w first last mark start argument p one text candidates at waiti
     }
 
 -- another parameter comes next
-pub next-expected : (s : List ℕ) (w last : Direct) (mark : Mark) (start : ℕ) (argument : Arguments) → IsParameterEnded s w mark start argument → Writes w last (codes ", ")
+pub next-expected : (s : Symbol) (w last : Direct) (mark : Mark) (start : ℕ) (argument : Arguments) → IsParameterEnded s w mark start argument → Writes w last (codes ", ")
     → AwaitsNextParameter s last mark start argument
 next-expected s w last mark start argument p one =
     let front = p.aside ++ p.lead ++ p.name ++ codes "(" in
@@ -339,8 +340,8 @@ cut-text old new start aside text cuts start_is written =
 -- ## The end of an encoding
 
 -- a lone void is read
-pub void-read : (s : List ℕ) (argument : Arguments) (becomes : Term → (at : ℕ) → State → Type 0) (make : Term → Term) (at : ℕ) (st : State)
-    → ItemsGoOn s argument becomes make [] at st → StandsAt s at (118 ∷ []) → becomes (make (list_of (builtin (118 ∷ []) ∷ []))) (at + 1) st
+pub void-read : (s : Symbol) (argument : Arguments) (becomes : Term → (at : ℕ) → State → Type 0) (make : Term → Term) (at : ℕ) (st : State)
+    → ItemsGoOn s argument becomes make [] at st → StandsAt s.bytes at (118 ∷ []) → becomes (make (list_of (builtin (118 ∷ []) ∷ []))) (at + 1) st
 unfolding no_items may_be_empty tree_of is_builtin among
 void-read s argument becomes make at st p stands =
     let t = builtin (118 ∷ []) in
@@ -350,8 +351,8 @@ void-read s argument becomes make at st p stands =
     (goes.passes nothing_there (at + 1) st (expects-empty s Kind.Items p.around goes.inner (at + 1) st goes.awaits refl))
 
 -- a name with a lone void is an encoding
-pub void-ended : (s : List ℕ) (w first here last new : Direct) (mark : Mark) (start : ℕ) (argument : Arguments) → AwaitsParameters s w mark start argument
-    → StandsAt s w.at (118 ∷ [])
+pub void-ended : (s : Symbol) (w first here last new : Direct) (mark : Mark) (start : ℕ) (argument : Arguments) → AwaitsParameters s w mark start argument
+    → StandsAt s.bytes w.at (118 ∷ [])
     → Writes w first (codes "(") → here.text ≡ first.text → here.candidates ≡ first.candidates → here.at ≡ first.at + 1
     → Writes here last (codes ")") → Cuts last new start → IsEncodingEnded s new mark
 void-ended s w first here last new mark start argument p stands one text candidates at two cuts =
@@ -389,7 +390,7 @@ void-ended s w first here last new mark start argument p stands one text candida
     }
 
 -- a function with its parameters is an encoding, unless they are a lone void
-pub function-ended : (s : List ℕ) (w last new : Direct) (mark : Mark) (start : ℕ) (argument : Arguments) (p : IsParameterEnded s w mark start argument)
+pub function-ended : (s : Symbol) (w last new : Direct) (mark : Mark) (start : ℕ) (argument : Arguments) (p : IsParameterEnded s w mark start argument)
     → p.texts ≢ codes "void" → Writes w last (codes ")") → Cuts last new start → IsEncodingEnded s new mark
 unfolding no_items may_be_empty
 function-ended s w last new mark start argument p apart one cuts =

@@ -9,6 +9,7 @@ use Rattle.cpp_grammar.specs.Values.{State, Value, nothing_there, tree, named, u
 use Rattle.cpp_grammar.specs.Between.{in_name, in_types, no_items}
 use Rattle.cpp_grammar.specs.Meaning.{encoding_of, discriminator_of}
 use Rattle.cpp_grammar.specs.Unfolding.{first_around, first_state}
+use Rattle.cpp_direct.specs.Symbol.{Symbol}
 use Rattle.cpp_direct.specs.declared.direct.Direct.{Direct}
 use Rattle.cpp_direct.specs.Holes.{StandsAt, Comes, IsNameAt}
 use Rattle.cpp_direct.specs.HolesOfLists.{SymbolOpened, EncodingOpened, IsDigitsAt}
@@ -29,7 +30,7 @@ use Rattle.cpp_direct.proofs.PrintedLocals.{entity-shows, guard-shows}
 -- ## Beginnings
 
 -- a name without items is the encoding of a symbol
-object-comes : (s : List ℕ) (opened_ : SymbolOpened s) (encoding_ : EncodingOpened s opened_.inner 2 first_state) (v : Value) (at : ℕ) (st : State)
+object-comes : (s : Symbol) (opened_ : SymbolOpened s) (encoding_ : EncodingOpened s opened_.inner 2 first_state) (v : Value) (at : ℕ) (st : State)
     → Comes s encoding_.inner v at st
     → Comes s opened_.inner (tree (object (tree_of v) (qualifiers_of v) (ref_of v)) true) at st
 unfolding encoding_of no_items may_be_empty
@@ -38,7 +39,7 @@ object-comes s opened_ encoding_ v at st comes =
     items.onward nothing_there at st (expects-empty s Kind.Items (in_types 2 (tree_of v)) items.inner at st items.awaits refl)
 
 -- the encoding is expected that a local entity stands in
-pub local-begins : (s : List ℕ) (w : Direct) → IsFresh w → StandsAt s 0 (95 ∷ 90 ∷ []) → StandsAt s 2 (90 ∷ [])
+pub local-begins : (s : Symbol) (w : Direct) → IsFresh w → StandsAt s.bytes 0 (95 ∷ 90 ∷ []) → StandsAt s.bytes 2 (90 ∷ [])
     → AwaitsEncoding s (record w { at = 3 })
 unfolding tree_of qualifiers_of ref_of first_state
 local-begins s w fresh starts letter =
@@ -50,10 +51,10 @@ local-begins s w fresh starts letter =
       candidates = subst (λ ks. AreCandidates w.text.list.items ks []) (sym fresh.no_candidate) tt;
       around = in_name 2;
       outer = here.inner;
-      begins = λ none. sym (ap (λ b. cond b 3 2) (third-tells s 90 letter));
+      begins = λ none. sym (ap (λ b. cond b 3 2) (third-tells s.bytes 90 letter));
       awaits = here.awaits;
       onward = λ e at st comes. record {
-        whole = λ apart. absurd (false≢true (sym apart ∙ third-tells s 90 letter));
+        whole = λ apart. absurd (false≢true (sym apart ∙ third-tells s.bytes 90 letter));
         entity = λ there internal name digit end is.
             let t = entity_in e internal name digit in
             let made = object t unqualified any_value in
@@ -72,8 +73,8 @@ guard-text : codes "guard variable for " ≡ [] → ⊥
 guard-text e = cc e
 
 -- the same of a guard variable
-pub guard-begins : (s : List ℕ) (old new : Direct) → IsFresh old → StandsAt s 0 (95 ∷ 90 ∷ []) → StandsAt s 2 (71 ∷ 86 ∷ []) → StandsAt s 2 (71 ∷ [])
-    → StandsAt s 4 (90 ∷ []) → Writes old new (codes "guard variable for ") → AwaitsEncoding s (record new { at = 5 })
+pub guard-begins : (s : Symbol) (old new : Direct) → IsFresh old → StandsAt s.bytes 0 (95 ∷ 90 ∷ []) → StandsAt s.bytes 2 (71 ∷ 86 ∷ []) → StandsAt s.bytes 2 (71 ∷ [])
+    → StandsAt s.bytes 4 (90 ∷ []) → Writes old new (codes "guard variable for ") → AwaitsEncoding s (record new { at = 5 })
 unfolding tree_of qualifiers_of ref_of first_state
 guard-begins s old new fresh starts marks letter stands writes =
     let opened_ = symbol-starts s starts in
@@ -88,7 +89,7 @@ guard-begins s old new fresh starts marks letter stands writes =
       begins = λ none. absurd (guard-text (sym text_is ∙ none));
       awaits = here.awaits;
       onward = λ e at st comes. record {
-        whole = λ apart. absurd (false≢true (sym apart ∙ third-tells s 71 letter));
+        whole = λ apart. absurd (false≢true (sym apart ∙ third-tells s.bytes 71 letter));
         entity = λ there internal name digit end is.
             let t = entity_in e internal name digit in
             let made = of_name 86 t unqualified any_value in
@@ -106,17 +107,17 @@ guard-begins s old new fresh starts marks letter stands writes =
 -- ## Ends
 
 -- an entity with its name and discriminator ends the symbol
-pub entity-ended : (s : List ℕ) (internal : Bool) (old pushed read last : Direct) → AwaitsEntity s old internal → Writes old pushed (codes "::")
-    → (name : List ℕ) → IsNameAt s pushed.at name read.at → name ≢ [] → Reads pushed read (source_text name)
-    → (digit : Discriminator) → IsDiscriminatorAt s read.at digit last.at → Reads read last [] → IsSymbolEnded s last
+pub entity-ended : (s : Symbol) (internal : Bool) (old pushed read last : Direct) → AwaitsEntity s old internal → Writes old pushed (codes "::")
+    → (name : List ℕ) → IsNameAt s.bytes pushed.at name read.at → name ≢ [] → Reads pushed read (source_text name)
+    → (digit : Discriminator) → IsDiscriminatorAt s.bytes read.at digit last.at → Reads read last [] → IsSymbolEnded s last
 entity-ended s internal old pushed read last p one name is_name filled two digit told three =
     let e = p.ended in
     let n = source_text name in
-    let is : IsEntityAt s p.before internal name digit last.at = record {
+    let is : IsEntityAt s.bytes p.before internal name digit last.at = record {
       first = p.first;
       letter = p.letter;
       middle = read.at;
-      is_name = subst (λ k. IsNameAt s k name read.at) (one.at ∙ p.at_is) is_name;
+      is_name = subst (λ k. IsNameAt s.bytes k name read.at) (one.at ∙ p.at_is) is_name;
       filled = filled;
       discriminator = told;
     } in

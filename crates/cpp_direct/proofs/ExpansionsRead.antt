@@ -5,6 +5,7 @@ use Rattle.cpp_grammar.specs.declared.kind.Kind.{Kind}
 use Rattle.cpp_grammar.specs.Parts.{types_of}
 use Rattle.cpp_grammar.specs.Scope.{arguments_of}
 use Rattle.cpp_grammar.specs.Term.{expansion, parameter, rvalue, list, nil}
+use Rattle.cpp_direct.specs.Symbol.{Symbol}
 use Rattle.cpp_direct.specs.declared.open.Mark.{Mark}
 use Rattle.cpp_direct.specs.declared.direct.Direct.{Direct}
 use Rattle.cpp_direct.specs.declared.open.Arguments.{Arguments}
@@ -41,7 +42,7 @@ stands-so P None p = tt
 stands-so P (Some end) p = p
 
 -- its text is written
-pub pack-inside : (s : List ℕ) (w : Direct) (mark : Mark) (start : ℕ) (argument : Arguments) → AwaitsNextParameter s w mark start argument
+pub pack-inside : (s : Symbol) (w : Direct) (mark : Mark) (start : ℕ) (argument : Arguments) → AwaitsNextParameter s w mark start argument
     → argument.first.from ≤ argument.first.to → argument.first.to ≤ length w.text.list.items
 pack-inside s w mark start argument a ordered =
     let h = (a.is_function.names 0 ordered).placed in
@@ -52,8 +53,8 @@ abbrev pub with_three : List Candidate → List Candidate
 with_three ks = ((ks ++ hidden ∷ []) ++ hidden ∷ []) ++ hidden ∷ []
 
 -- it is read
-pub expansion-read : (s : List ℕ) (old new : Direct) (mark : Mark) (start : ℕ) (argument : Arguments) → AwaitsNextParameter s old mark start argument
-    → argument.first.is_pack ≡ true → argument.first.from ≤ argument.first.to → StandsAt s old.at (68 ∷ 112 ∷ 79 ∷ 84 ∷ 95 ∷ [])
+pub expansion-read : (s : Symbol) (old new : Direct) (mark : Mark) (start : ℕ) (argument : Arguments) → AwaitsNextParameter s old mark start argument
+    → argument.first.is_pack ≡ true → argument.first.from ≤ argument.first.to → StandsAt s.bytes old.at (68 ∷ 112 ∷ 79 ∷ 84 ∷ 95 ∷ [])
     → new.text.list.items
     ≡ (old.text.list.items ++ take (argument.first.to - argument.first.from) (drop argument.first.from old.text.list.items))
     ++ forwarded argument.first.is_reference

@@ -8,6 +8,7 @@ use Rattle.cpp_grammar.specs.Term.{Term, list}
 use Rattle.cpp_grammar.specs.Between.{no_items}
 use Rattle.cpp_grammar.specs.Meaning.{parameters, encoding_of}
 use Rattle.cpp_grammar.specs.Values.{Value}
+use Rattle.cpp_direct.specs.Symbol.{Symbol}
 use Rattle.cpp_direct.specs.declared.open.Mark.{Mark}
 use Rattle.cpp_direct.specs.Marks.{has_const, called_on}
 use Rattle.cpp_direct.specs.declared.open.Open.TheVariants as opens
@@ -34,8 +35,8 @@ no-text [] from is none = refl
 no-text (b ∷ bs) from is none = absurd (omega (arith, is, none))
 
 -- the return type of a function is expected behind its name
-pub front-begins : (s : List ℕ) (w new : Direct) (mark : Mark) (from start place : ℕ) → IsNameEnded s w mark true from → (is_local s ≡ false → from ≡ 0)
-    → (place ≢ 0 → from ≡ 0) → (place ≢ 0 → place ≡ encoding_place s)
+pub front-begins : (s : Symbol) (w new : Direct) (mark : Mark) (from start place : ℕ) → IsNameEnded s w mark true from → (is_local s.bytes ≡ false → from ≡ 0)
+    → (place ≢ 0 → from ≡ 0) → (place ≢ 0 → place ≡ encoding_place s.bytes)
     → start ≡ length w.text.list.items → new.text ≡ w.text → new.candidates ≡ w.candidates → new.at ≡ w.at
     → new.waiting.list.items ≡ w.waiting.list.items ++ opens.Front mark start (named_in place w.argument) ∷ [] → IsWriting s new steps.Type
 front-begins s w new mark from start place p apart first place_is start_is text candidates at waiting =
@@ -93,8 +94,8 @@ front-begins s w new mark from start place p apart first place_is start_is text 
     }
 
 -- a function's return type stands in front of what it shows without one
-turned : (s : List ℕ) (argument : Arguments) (mark : Mark) (v : Value) (name : List ℕ) (text : List ℕ) (is : IsInstance text argument mark v name) (r : Term) (b : List ℕ)
-    (is_reference : Bool) → PrintsIn (types_of is.own) 2 r b is_reference → (items : Term) (at : ℕ) → is_local s ≡ false → EncodedBehind s [] (encoding_of v (list r items)) at
+turned : (s : Symbol) (argument : Arguments) (mark : Mark) (v : Value) (name : List ℕ) (text : List ℕ) (is : IsInstance text argument mark v name) (r : Term) (b : List ℕ)
+    (is_reference : Bool) → PrintsIn (types_of is.own) 2 r b is_reference → (items : Term) (at : ℕ) → is_local s.bytes ≡ false → EncodedBehind s [] (encoding_of v (list r items)) at
     → EncodedBehind s (b ++ codes " ") (plain_encoding mark is.own items) at
 turned s argument mark v name text is r b is_reference prints items at apart p = record {
   whole = λ e. let w = p.whole e in record {
@@ -109,8 +110,8 @@ turned s argument mark v name text is r b is_reference prints items at apart p =
 }
 
 -- the return type is read, and behind it the name is written once more
-pub front-turned : (s : List ℕ) (w here first last : Direct) (mark : Mark) (start : ℕ) (argument : Arguments) → IsFrontRead s w mark start argument
-    → is_local s ≡ false
+pub front-turned : (s : Symbol) (w here first last : Direct) (mark : Mark) (start : ℕ) (argument : Arguments) → IsFrontRead s w mark start argument
+    → is_local s.bytes ≡ false
     → here.text ≡ w.text → here.candidates ≡ w.candidates → here.at ≡ w.at → Writes here first (codes " ")
     → Writes first last (take (start - 0) (drop 0 first.text.list.items)) → AwaitsParameters s last mark start argument
 front-turned s w here first last mark start argument p plain text candidates at one two =
@@ -156,8 +157,8 @@ front-turned s w here first last mark start argument p plain text candidates at 
     }
 
 -- in front of a local entity a function shows no return type
-hidden-return : (s : List ℕ) (lead : List ℕ) (argument : Arguments) (mark : Mark) (v : Value) (name text : List ℕ) (is : IsInstance text argument mark v name)
-    (r : Term) → is_local s ≡ true → (items : Term) (at : ℕ) → EncodedBehind s lead (encoding_of v (list r items)) at
+hidden-return : (s : Symbol) (lead : List ℕ) (argument : Arguments) (mark : Mark) (v : Value) (name text : List ℕ) (is : IsInstance text argument mark v name)
+    (r : Term) → is_local s.bytes ≡ true → (items : Term) (at : ℕ) → EncodedBehind s lead (encoding_of v (list r items)) at
     → EncodedBehind s lead (plain_encoding mark is.own items) at
 hidden-return s lead argument mark v name text is r local_ items at p = record {
   whole = λ e. absurd (false≢true (sym e ∙ local_));
@@ -172,8 +173,8 @@ hidden-return s lead argument mark v name text is r local_ items at p = record {
 }
 
 -- the return type is read, and behind it the name is written once more, with what stands in front of it
-pub front-hidden : (s : List ℕ) (w last : Direct) (mark : Mark) (start begins : ℕ) (argument : Arguments) → IsFrontRead s w mark start argument
-    → is_local s ≡ true → begins ≡ length w.text.list.items → Writes w last (take (start - 0) (drop 0 w.text.list.items))
+pub front-hidden : (s : Symbol) (w last : Direct) (mark : Mark) (start begins : ℕ) (argument : Arguments) → IsFrontRead s w mark start argument
+    → is_local s.bytes ≡ true → begins ≡ length w.text.list.items → Writes w last (take (start - 0) (drop 0 w.text.list.items))
     → AwaitsParameters s last mark begins argument
 front-hidden s w last mark start begins argument p local_ begins_is one =
     let is = p.is_instance in

@@ -2,6 +2,7 @@
 use Rattle.std.proofs.Common.{◌≡◌, ◌⊎◌, inl, inr, ℕ, ◌+◌, ◌-◌, List, [], ◌∷◌, ◌++◌, length, reverse, slice_get, Bool, true, false, Some, refl, ap, sym, subst, ◌∙◌, if◌then◌else◌}
 use Rattle.cpp_grammar.specs.declared.kind.Kind.{Kind}
 use Rattle.cpp_grammar.specs.Values.{State, Around, outermost}
+use Rattle.cpp_direct.specs.Symbol.{Symbol}
 use Rattle.cpp_direct.specs.declared.open.Mark.{Mark}
 use Rattle.cpp_direct.specs.declared.open.Open.{Open}
 use Rattle.cpp_direct.specs.declared.open.Open.TheVariants as opens
@@ -48,15 +49,15 @@ takes-function opens.Pack rest p l r c n f g k a m e = tt
 -- ## The return type
 
 -- it is expected behind the letters
-return-opens : (s : List ℕ) (is_pointer : Bool) (kind : Kind) (os : List Opened) (around : Around) (at : ℕ) (st : State) → IsQualifiable kind
-    → around.prefix ≡ outermost → Expects s kind around os at st → StandsAt s at (if is_pointer then 80 ∷ 70 ∷ [] else 70 ∷ [])
+return-opens : (s : Symbol) (is_pointer : Bool) (kind : Kind) (os : List Opened) (around : Around) (at : ℕ) (st : State) → IsQualifiable kind
+    → around.prefix ≡ outermost → Expects s kind around os at st → StandsAt s.bytes at (if is_pointer then 80 ∷ 70 ∷ [] else 70 ∷ [])
     → FunctionOpened s os around is_pointer (at + (if is_pointer then 2 else 1)) st
 return-opens s true kind os around at st whole outside expects stands = pointed-function-opens s kind os around at st whole outside expects stands
 return-opens s false kind os around at st whole outside expects stands = function-opens s kind os around at st whole outside expects stands
 
 -- a function type begins, where what was opened last takes one
-pub function-begins : (s : List ℕ) (old new : Direct) (is_pointer : Bool) (o : Open) → IsWriting s old steps.Type
-    → StandsAt s old.at (if is_pointer then 80 ∷ 70 ∷ [] else 70 ∷ []) → slice_get old.waiting.list.items (length old.waiting.list.items - 1) ≡ Some o
+pub function-begins : (s : Symbol) (old new : Direct) (is_pointer : Bool) (o : Open) → IsWriting s old steps.Type
+    → StandsAt s.bytes old.at (if is_pointer then 80 ∷ 70 ∷ [] else 70 ∷ []) → slice_get old.waiting.list.items (length old.waiting.list.items - 1) ≡ Some o
     → ((rest : List Open) → TakesFunction (o ∷ rest)) → new.waiting.list.items ≡ old.waiting.list.items ++ opens.Returned is_pointer ∷ []
     → new.at ≡ old.at + (if is_pointer then 2 else 1) → new.text ≡ old.text → new.candidates ≡ old.candidates → IsWriting s new steps.Type
 function-begins s old new is_pointer o p letters found takes waits at text candidates = go p.is_before.3
@@ -92,7 +93,7 @@ function-begins s old new is_pointer o p letters found takes waits at text candi
         }
 
     go : Expects s Kind.Type around os old.at p.state ⊎ Expects s Kind.Item around os old.at p.state
-        ⊎ (Expects s Kind.ItemButRef around os old.at p.state × NoReference s old.at) → IsWriting s new steps.Type
+        ⊎ (Expects s Kind.ItemButRef around os old.at p.state × NoReference s.bytes old.at) → IsWriting s new steps.Type
     go (inl expects) = begun Kind.Type tt expects
     go (inr (inl expects)) = begun Kind.Item tt expects
     go (inr (inr expects)) = begun Kind.ItemButRef tt expects.0

@@ -4,6 +4,7 @@ use Rattle.std.proofs.lemmas.Bool.{false≢true}
 use Rattle.cpp_grammar.specs.Term.{Term, special}
 use Rattle.cpp_grammar.specs.Parts.{types_of}
 use Rattle.cpp_grammar.specs.Values.{State, tree}
+use Rattle.cpp_direct.specs.Symbol.{Symbol}
 use Rattle.cpp_direct.specs.declared.open.Mark.{Mark}
 use Rattle.cpp_direct.specs.declared.open.Open.{Open}
 use Rattle.cpp_direct.specs.declared.open.Open.TheVariants as opens
@@ -22,7 +23,7 @@ use Rattle.cpp_direct.proofs.Kept.{template-stays}
 use Rattle.cpp_direct.proofs.Scopes.{arguments-stay}
 
 -- it is marked
-pub value-marked : (s : List ℕ) (w : Direct) (is_reference marked_reference : Bool) (entry : Open) (from : ℕ) (made : Term → Term) (mark : List ℕ)
+pub value-marked : (s : Symbol) (w : Direct) (is_reference marked_reference : Bool) (entry : Open) (from : ℕ) (made : Term → Term) (mark : List ℕ)
     → IsWriting s w (steps.Value is_reference) → slice_get w.waiting.list.items (length w.waiting.list.items - 1) ≡ Some entry
     → ((rest : List Open) (os : List Opened) (text : List ℕ) → Stands s (entry ∷ rest) os text → Marks s (Stands s rest) (argument_of rest) os text from made)
     → ((t : Term) (b : List ℕ) → Prints t b is_reference → Prints (made t) (b ++ mark) marked_reference)
@@ -57,7 +58,7 @@ value-marked s w is_reference marked_reference entry from made mark p found stan
     }
 
 -- it is an element or a parameter
-pub value-element : (s : List ℕ) (w : Direct) (is_reference : Bool) (o : Open) → IsWriting s w (steps.Value is_reference)
+pub value-element : (s : Symbol) (w : Direct) (is_reference : Bool) (o : Open) → IsWriting s w (steps.Value is_reference)
     → slice_get w.waiting.list.items (length w.waiting.list.items - 1) ≡ Some o → IsElementRead s w o
 value-element s w is_reference o p found =
     let last = last-found w.waiting.list.items o found in
@@ -77,7 +78,7 @@ value-element s w is_reference o p found =
     }
 
 -- a parameter was read
-pub parameter-got : (s : List ℕ) (w : Direct) (mark : Mark) (start : ℕ) (argument : Arguments) (st : State) (rest : List Open) (os : List Opened) (t : Term)
+pub parameter-got : (s : Symbol) (w : Direct) (mark : Mark) (start : ℕ) (argument : Arguments) (st : State) (rest : List Open) (os : List Opened) (t : Term)
     (front bytes : List ℕ) (waits : Stands s (opens.Parameters mark start argument ∷ rest) os front)
     → AreCandidates w.text.list.items w.candidates.list.items st.candidates → reverse w.waiting.list.items ≡ opens.Parameters mark start argument ∷ rest
     → w.text.list.items ≡ front ++ bytes → Comes s os (tree t true) w.at st → IsElementIn (types_of waits.6.own) 6 t bytes
@@ -114,14 +115,14 @@ parameter-got s w mark start argument st opened_ os t front bytes waits candidat
       goes = waits.9 t w.at st comes;
     }
 
-pub parameter-read : (s : List ℕ) (w : Direct) (mark : Mark) (start : ℕ) (argument : Arguments) → IsElementRead s w (opens.Parameters mark start argument)
+pub parameter-read : (s : Symbol) (w : Direct) (mark : Mark) (start : ℕ) (argument : Arguments) → IsElementRead s w (opens.Parameters mark start argument)
     → IsParameterEnded s w mark start argument
 parameter-read s w mark start argument p =
     parameter-got s w mark start argument p.state p.rest p.os p.own p.front p.bytes p.stands p.candidates p.open_is p.written p.comes
     (element-in (types_of p.stands.6.own) 6 p.own p.bytes (p.element 6))
 
 -- what a special object is of was read
-pub special-read : (s : List ℕ) (w : Direct) → IsElementRead s w opens.Special → IsSymbolEnded s w
+pub special-read : (s : Symbol) (w : Direct) → IsElementRead s w opens.Special → IsSymbolEnded s w
 special-read s w p =
     let waits = p.stands in
     let letter = waits.0 in
@@ -137,7 +138,7 @@ special-read s w p =
     }
 
 -- it is the type of an enumerator
-pub value-enumerator : (s : List ℕ) (w : Direct) (is_reference : Bool) → IsWriting s w (steps.Value is_reference)
+pub value-enumerator : (s : Symbol) (w : Direct) (is_reference : Bool) → IsWriting s w (steps.Value is_reference)
     → slice_get w.waiting.list.items (length w.waiting.list.items - 1) ≡ Some opens.Enumerator → AwaitsNumber s w
 value-enumerator s w is_reference p found =
     let last = last-found w.waiting.list.items opens.Enumerator found in
@@ -212,7 +213,7 @@ takes-elements (opens.FirstArguments x) p l r c f k u g z n m a q e = tt
 takes-elements (opens.NameArguments x) p l r c f k u g z n m a q e = tt
 
 -- an element was read
-pub argument-read : (s : List ℕ) (w : Direct) (o : Open) → IsElementRead s w o → TakesElements o → IsWriting s w (steps.List false)
+pub argument-read : (s : Symbol) (w : Direct) (o : Open) → IsElementRead s w o → TakesElements o → IsWriting s w (steps.List false)
 argument-read s w o p takes =
     let waits = list-waits s o p.rest p.os p.front takes p.stands in
     let place = waits.place in
@@ -239,7 +240,7 @@ argument-read s w o p takes =
 -- ## Return types
 
 -- it is the return type of a function
-pub front-got : (s : List ℕ) (w : Direct) (is_reference : Bool) (mark : Mark) (start : ℕ) (argument : Arguments) (st : State) (rest : List Open) (os : List Opened)
+pub front-got : (s : Symbol) (w : Direct) (is_reference : Bool) (mark : Mark) (start : ℕ) (argument : Arguments) (st : State) (rest : List Open) (os : List Opened)
     (t : Term) (front bytes : List ℕ) (waits : Stands s (opens.Front mark start argument ∷ rest) os front)
     → AreCandidates w.text.list.items w.candidates.list.items st.candidates → w.text.list.items ≡ front ++ bytes → Comes s os (tree t true) w.at st
     → PrintsIn (types_of waits.3.own) 2 t bytes is_reference → IsFrontRead s w mark start argument
@@ -262,7 +263,7 @@ front-got s w is_reference mark start argument st rest os t front bytes waits ca
   goes = waits.7 t w.at st comes;
 }
 
-pub value-front : (s : List ℕ) (w : Direct) (is_reference : Bool) (mark : Mark) (start : ℕ) (argument : Arguments) → IsWriting s w (steps.Value is_reference)
+pub value-front : (s : Symbol) (w : Direct) (is_reference : Bool) (mark : Mark) (start : ℕ) (argument : Arguments) → IsWriting s w (steps.Value is_reference)
     → slice_get w.waiting.list.items (length w.waiting.list.items - 1) ≡ Some (opens.Front mark start argument) → IsFrontRead s w mark start argument
 value-front s w is_reference mark start argument p found =
     let os = p.is_before.0 in
@@ -275,7 +276,7 @@ value-front s w is_reference mark start argument p found =
 -- ## Function types
 
 -- it is the return type of a function type
-pub value-returned : (s : List ℕ) (w : Direct) (is_reference is_pointer : Bool) → IsWriting s w (steps.Value is_reference)
+pub value-returned : (s : Symbol) (w : Direct) (is_reference is_pointer : Bool) → IsWriting s w (steps.Value is_reference)
     → slice_get w.waiting.list.items (length w.waiting.list.items - 1) ≡ Some (opens.Returned is_pointer) → IsReturned s w is_pointer
 value-returned s w is_reference is_pointer p found =
     let os = p.is_before.0 in
@@ -302,7 +303,7 @@ value-returned s w is_reference is_pointer p found =
     }
 
 -- it is a parameter of one
-pub value-signature : (s : List ℕ) (w : Direct) (is_reference is_pointer : Bool) → IsWriting s w (steps.Value is_reference)
+pub value-signature : (s : Symbol) (w : Direct) (is_reference is_pointer : Bool) → IsWriting s w (steps.Value is_reference)
     → slice_get w.waiting.list.items (length w.waiting.list.items - 1) ≡ Some (opens.Signature is_pointer) → AwaitsSignature s w is_pointer false
 value-signature s w is_reference is_pointer p found =
     let os = p.is_before.0 in

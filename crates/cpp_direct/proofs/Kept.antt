@@ -6,6 +6,7 @@ use Rattle.std.proofs.Math.Seq.{drop-append_seam, take-append_seam}
 use Rattle.cpp_grammar.specs.Term.{Term}
 use Rattle.cpp_grammar.specs.Values as values
 use Rattle.cpp_grammar.specs.Values.{State}
+use Rattle.cpp_direct.specs.Symbol.{Symbol}
 use Rattle.cpp_direct.specs.declared.open.Candidate.{Candidate}
 use Rattle.cpp_direct.specs.declared.open.Nest.{Nest}
 use Rattle.cpp_direct.specs.declared.open.Open.{Open}
@@ -168,7 +169,7 @@ template-stays _ front t name text more p = p
 -- ## Lists
 
 -- arguments begin
-pub arguments-begun : (s : List ℕ) (w : Direct) (st : State) (owner : Open) (rest : List Open) (front name : List ℕ) (t : Term)
+pub arguments-begun : (s : Symbol) (w : Direct) (st : State) (owner : Open) (rest : List Open) (front name : List ℕ) (t : Term)
     → reverse w.waiting.list.items ≡ owner ∷ rest → IsTemplate owner front t name w.text.list.items → w.text.list.items ≡ front ++ name ++ codes "<"
     → ArgumentsGoOn s owner (Stands s rest) front t [] w.at st → IsBefore s w st (steps.List true)
 arguments-begun s w st owner rest front name t open_is is_template written goes = (

@@ -46,5 +46,6 @@ mod PrintedWithin
 pub mod Scopes
 pub mod ShortNumbers
 pub mod Signatures
+pub mod Tables
 pub mod TypesRead
 pub mod UnscopedNames

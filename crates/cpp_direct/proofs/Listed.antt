@@ -10,6 +10,7 @@ use Rattle.cpp_grammar.specs.Term.{Term, nil, list, instance, pack}
 use Rattle.cpp_grammar.specs.Scope.{arguments_of, before_arguments, is_structor, has_return_type}
 use Rattle.cpp_grammar.specs.Values.{State, tree, nothing_there, tree_of, qualifiers_of, ref_of}
 use Rattle.cpp_grammar.specs.Between.{no_items}
+use Rattle.cpp_direct.specs.Symbol.{Symbol}
 use Rattle.cpp_direct.specs.declared.open.Mark.TheVariants as marks
 use Rattle.cpp_direct.specs.declared.open.Nest.{Nest}
 use Rattle.cpp_direct.specs.declared.open.Open.{Open}
@@ -78,7 +79,7 @@ element-kind of_template = tt
 element-kind (of_pack before written) = tt
 
 -- a list goes on behind one more
-pub element-goes-on : (s : List ℕ) (kind : Kind) (closes : Term → (at : ℕ) → State → Type 0) (ts : List Term) (t : Term)
+pub element-goes-on : (s : Symbol) (kind : Kind) (closes : Term → (at : ℕ) → State → Type 0) (ts : List Term) (t : Term)
     (before at : ℕ) (earlier st : State) (goes : ElementsGoOn s kind closes ts before earlier) → ListGoesOn s kind goes.1 goes.0 t at st
     → ElementsGoOn s kind closes (ts ++ t ∷ []) at st
 unfolding no_items tree_of
@@ -120,7 +121,7 @@ in-front (t ∷ ts) l false none some = refl
 -- ## The end of arguments
 
 -- The arguments of what was opened last are read and written.
-pub record IsClosed (s : List ℕ) (w : Direct) (owner : Open) : Type 0 where
+pub record IsClosed (s : Symbol) (w : Direct) (owner : Open) : Type 0 where
   pub state : State
   pub candidates : AreCandidates w.text.list.items w.candidates.list.items state.candidates
   pub front : List ℕ
@@ -142,7 +143,7 @@ closing a b d =
     ∙ append_assoc a (b ++ codes "<" ++ d) (codes ">")
 
 -- the last bracket is written, and what was opened last is taken away
-pub closes : (s : List ℕ) (old new : Direct) (owner : Open) → IsListEnded s old new.argument → new.text.list.items ≡ old.text.list.items ++ codes ">"
+pub closes : (s : Symbol) (old new : Direct) (owner : Open) → IsListEnded s old new.argument → new.text.list.items ≡ old.text.list.items ++ codes ">"
     → new.candidates.list.items ≡ old.candidates.list.items → new.at ≡ old.at → old.waiting.list.items ≡ new.waiting.list.items ++ owner ∷ [] → IsClosed s new owner
 closes s old new owner p text candidates at opened =
     let last = opened-last old.waiting.list.items new.waiting.list.items owner p.owner p.rest p.open_is opened in
@@ -171,7 +172,7 @@ closes s old new owner p text candidates at opened =
     }
 
 -- the same by what was written and taken away
-pub closed-by : (s : List ℕ) (old mid new : Direct) (x owner : Open) → IsListEnded s old new.argument → Writes old mid (codes ">")
+pub closed-by : (s : Symbol) (old mid new : Direct) (x owner : Open) → IsListEnded s old new.argument → Writes old mid (codes ">")
     → new.text ≡ mid.text → new.candidates ≡ mid.candidates → new.at ≡ mid.at → mid.waiting.list.items ≡ new.waiting.list.items ++ x ∷ [] → x ≡ owner
     → IsClosed s new owner
 closed-by s old mid new x owner p writes text candidates at items is =
@@ -180,7 +181,7 @@ closed-by s old mid new x owner p writes text candidates at items is =
     (subst (λ v. v.list.items ≡ new.waiting.list.items ++ owner ∷ []) writes.waiting (items ∙ ap (λ o. new.waiting.list.items ++ o ∷ []) is))
 
 -- what is known of them is known of the arguments of what they make
-closed-arguments : (s : List ℕ) (w : Direct) (owner : Open) (p : IsClosed s w owner)
+closed-arguments : (s : Symbol) (w : Direct) (owner : Open) (p : IsClosed s w owner)
     → HasArguments w.text.list.items w.argument (instance p.template (list_with p.ts p.tail))
 unfolding arguments_of
 closed-arguments s w owner p k known =
@@ -200,7 +201,7 @@ closed-arguments s w owner p k known =
     }
 
 -- the arguments of a type
-pub type-closed : (s : List ℕ) (w new : Direct) (from : ℕ) → IsClosed s w (opens.TypeArguments from)
+pub type-closed : (s : Symbol) (w new : Direct) (from : ℕ) → IsClosed s w (opens.TypeArguments from)
     → new.candidates.list.items ≡ added w from false → new.text ≡ w.text → new.waiting ≡ w.waiting → new.at ≡ w.at → IsWriting s new (steps.Value false)
 type-closed s w new from p candidates text waiting at =
     let t = instance p.template (list_with p.ts p.tail) in
@@ -253,7 +254,7 @@ unfolding has_return_type arguments_of before_arguments
 instance-returns t a h = rw h refl
 
 -- the arguments of a piece of a nested name
-pub nest-closed : (s : List ℕ) (w : Direct) (nest : Nest) → IsClosed s w (opens.NestArguments nest)
+pub nest-closed : (s : Symbol) (w : Direct) (nest : Nest) → IsClosed s w (opens.NestArguments nest)
     → IsWriting s (record w { nest = record nest { is_listed = false; is_instance = nest.has_class } }) steps.Tail
 nest-closed s w nest p =
     let t = instance p.template (list_with p.ts p.tail) in
@@ -280,7 +281,7 @@ nest-closed s w nest p =
     }
 
 -- the arguments of the first piece of a nested name
-pub first-closed : (s : List ℕ) (w new : Direct) (nest : Nest) → IsClosed s w (opens.FirstArguments nest)
+pub first-closed : (s : Symbol) (w new : Direct) (nest : Nest) → IsClosed s w (opens.FirstArguments nest)
     → new.candidates.list.items ≡ added w nest.from false → new.text ≡ w.text → new.waiting ≡ w.waiting → new.at ≡ w.at
     → IsWriting s (record new { nest = nest }) steps.Component
 first-closed s w new nest p candidates text waiting at =
@@ -311,7 +312,7 @@ first-closed s w new nest p candidates text waiting at =
     }
 
 -- the arguments of the name of an encoding
-pub name-closed : (s : List ℕ) (w : Direct) (from : ℕ) → IsClosed s w (opens.NameArguments from) → IsNameEnded s w marks.Plain true from
+pub name-closed : (s : Symbol) (w : Direct) (from : ℕ) → IsClosed s w (opens.NameArguments from) → IsNameEnded s w marks.Plain true from
 unfolding tree_of qualifiers_of ref_of
 name-closed s w from p =
     let t = instance p.template (list_with p.ts p.tail) in
@@ -338,7 +339,7 @@ name-closed s w from p =
 -- ## Between elements
 
 -- an E ends the arguments
-pub list-ends : (s : List ℕ) (w : Direct) (first : Bool) (owner : Open) → IsWriting s w (steps.List first) → StandsAt s w.at (69 ∷ [])
+pub list-ends : (s : Symbol) (w : Direct) (first : Bool) (owner : Open) → IsWriting s w (steps.List first) → StandsAt s.bytes w.at (69 ∷ [])
     → slice_get w.waiting.list.items (length w.waiting.list.items - 1) ≡ Some owner → (owner ≡ opens.Pack → ⊥)
     → IsListEnded s (record w { at = w.at + 1 }) nowhere
 unfolding no_items may_be_empty
@@ -381,8 +382,8 @@ list-ends s w first owner p stands found other = go p.is_before.0.listing refl
         }
 
 -- a pack of nothing and an E end them too
-pub empty-pack-ends : (s : List ℕ) (w : Direct) (first : Bool) (owner : Open) → IsWriting s w (steps.List first)
-    → StandsAt s w.at (74 ∷ 69 ∷ 69 ∷ [])
+pub empty-pack-ends : (s : Symbol) (w : Direct) (first : Bool) (owner : Open) → IsWriting s w (steps.List first)
+    → StandsAt s.bytes w.at (74 ∷ 69 ∷ 69 ∷ [])
     → slice_get w.waiting.list.items (length w.waiting.list.items - 1) ≡ Some owner → (owner ≡ opens.Pack → ⊥)
     → IsListEnded s (record w { at = w.at + 3 }) nowhere
 unfolding no_items may_be_empty tree_of
@@ -400,8 +401,8 @@ empty-pack-ends s w first owner p stands found other = go p.is_before.0.listing 
         let ts = p.is_before.1 in
         let texts = p.is_before.2 in
         let goes = subst (λ l. GoesOn s l place.owner (Stands s place.rest) place.front place.template ts w.at p.state) is p.is_before.7 in
-        let begins = stands-split s w.at (74 ∷ []) (69 ∷ 69 ∷ []) stands in
-        let ends = stands-split s (w.at + 1) (69 ∷ []) (69 ∷ []) begins.1 in
+        let begins = stands-split s.bytes w.at (74 ∷ []) (69 ∷ 69 ∷ []) stands in
+        let ends = stands-split s.bytes (w.at + 1) (69 ∷ []) (69 ∷ []) begins.1 in
         let opened = pack-opens s goes.1 goes.0 w.at p.state goes.3 begins.0 in
         let more = opened.onward nothing_there (w.at + 1) p.state
         (expects-empty s Kind.PackList goes.0 opened.inner (w.at + 1) p.state opened.awaits refl) ends.0 in
@@ -433,7 +434,7 @@ empty-pack-ends s w first owner p stands found other = go p.is_before.0.listing 
         }
 
 -- an E ends a pack, which is an argument
-pub pack-ends : (s : List ℕ) (w new : Direct) → IsWriting s w (steps.List false) → StandsAt s w.at (69 ∷ [])
+pub pack-ends : (s : Symbol) (w new : Direct) → IsWriting s w (steps.List false) → StandsAt s.bytes w.at (69 ∷ [])
     → slice_get w.waiting.list.items (length w.waiting.list.items - 1) ≡ Some opens.Pack
     → new.text ≡ w.text → new.candidates ≡ w.candidates → new.at ≡ w.at + 1
     → ((opened : List Open) → reverse w.waiting.list.items ≡ opens.Pack ∷ opened → reverse new.waiting.list.items ≡ opened)
@@ -489,7 +490,7 @@ pack-ends s w new p stands found text candidates at popped = go p.is_before.0.li
         }
 
 -- one more element is expected, and a comma stands before it but at the first
-pub argument-expected : (s : List ℕ) (w new : Direct) (first : Bool) → IsWriting s w (steps.List first)
+pub argument-expected : (s : Symbol) (w new : Direct) (first : Bool) → IsWriting s w (steps.List first)
     → new.text.list.items ≡ w.text.list.items ++ comma first → new.candidates.list.items ≡ w.candidates.list.items → new.waiting ≡ w.waiting → new.at ≡ w.at
     → AwaitsNextArgument s new
 argument-expected s w new first p text candidates waiting at =
@@ -515,7 +516,7 @@ argument-expected s w new first p text candidates waiting at =
     }
 
 -- the comma is written
-pub another-expected : (s : List ℕ) (w new self : Direct) (first : Bool) → IsWriting s w (steps.List first) → first ≡ false
+pub another-expected : (s : Symbol) (w new self : Direct) (first : Bool) → IsWriting s w (steps.List first) → first ≡ false
     → Writes w new (codes ", ") → self ≡ new → AwaitsNextArgument s self
 another-expected s w new self first p is writes same =
     subst (λ d. AwaitsNextArgument s d) (sym same)
@@ -523,14 +524,14 @@ another-expected s w new self first p is writes same =
     (subst (λ v. v.list.items ≡ w.candidates.list.items) (sym writes.candidates) refl) writes.waiting writes.at)
 
 -- none is written at the first
-pub first-expected : (s : List ℕ) (w self : Direct) (first : Bool) → IsWriting s w (steps.List first) → first ≡ true
+pub first-expected : (s : Symbol) (w self : Direct) (first : Bool) → IsWriting s w (steps.List first) → first ≡ true
     → self ≡ w → AwaitsNextArgument s self
 first-expected s w self first p is same =
     subst (λ d. AwaitsNextArgument s d) (sym same)
     (argument-expected s w w true (subst (λ f. IsWriting s w (steps.List f)) is p) (sym (append-nil w.text.list.items)) refl refl refl)
 
 -- a pack begins
-pub pack-begins : (s : List ℕ) (old new : Direct) (owner : Open) → AwaitsNextArgument s old → StandsAt s old.at (74 ∷ [])
+pub pack-begins : (s : Symbol) (old new : Direct) (owner : Open) → AwaitsNextArgument s old → StandsAt s.bytes old.at (74 ∷ [])
     → slice_get old.waiting.list.items (length old.waiting.list.items - 1) ≡ Some owner → (owner ≡ opens.Pack → ⊥)
     → new.waiting.list.items ≡ old.waiting.list.items ++ opens.Pack ∷ [] → new.at ≡ old.at + 1 → new.text ≡ old.text → new.candidates ≡ old.candidates
     → IsWriting s new (steps.List true)
@@ -586,7 +587,7 @@ pack-begins s old new owner a stands found other waits at text candidates = go a
         }
 
 -- a list waits for a type among its elements
-pub record ListWaits (s : List ℕ) (opened : List Open) (os : List Opened) (text : List ℕ) : Type 0 where
+pub record ListWaits (s : Symbol) (opened : List Open) (os : List Opened) (text : List ℕ) : Type 0 where
   pub place : IsListing opened text
   pub ts : List Term
   pub texts : List ℕ
@@ -615,7 +616,7 @@ template-takes (opens.FirstArguments nest) front t name text is = tt
 template-takes (opens.NameArguments from) front t name text is = tt
 template-takes _ front t name text is = absurd is
 
-argument-stands : (s : List ℕ) (owner : Open) (rest : List Open) (os : List Opened) (text : List ℕ) → TakesArguments owner
+argument-stands : (s : Symbol) (owner : Open) (rest : List Open) (os : List Opened) (text : List ℕ) → TakesArguments owner
     → AwaitsElementOf s of_template owner (Stands s rest) os text → Stands s (owner ∷ rest) os text
 argument-stands s (opens.TypeArguments from) rest os text takes p = p
 argument-stands s (opens.NestArguments nest) rest os text takes p = p
@@ -640,7 +641,7 @@ list-none opened text p = go p.listing refl
     go (of_pack before written) is = ap argument_of (subst (λ l. Belongs l opened p.owner p.rest) is p.belongs).0
 
 -- it stands open so
-list-stands : (s : List ℕ) (opened : List Open) (os : List Opened) (text : List ℕ) → ListWaits s opened os text → Stands s opened os text
+list-stands : (s : Symbol) (opened : List Open) (os : List Opened) (text : List ℕ) → ListWaits s opened os text → Stands s opened os text
 list-stands s opened os text w = go w.place.listing refl
   where
     go : (l : Listing) → w.place.listing ≡ l → Stands s opened os text
@@ -678,7 +679,7 @@ list-stands s opened os text w = go w.place.listing refl
           ),
         )
 
-waits-of : (s : List ℕ) (owner : Open) (rest : List Open) (os : List Opened) (text : List ℕ)
+waits-of : (s : Symbol) (owner : Open) (rest : List Open) (os : List Opened) (text : List ℕ)
     → AwaitsElementOf s of_template owner (Stands s rest) os text → ListWaits s (owner ∷ rest) os text
 waits-of s owner rest os text p = record {
   place = record {
@@ -699,7 +700,7 @@ waits-of s owner rest os text p = record {
 }
 
 -- and what stands open so is a list
-pub list-waits : (s : List ℕ) (o : Open) (rest : List Open) (os : List Opened) (text : List ℕ) → TakesElements o → Stands s (o ∷ rest) os text
+pub list-waits : (s : Symbol) (o : Open) (rest : List Open) (os : List Opened) (text : List ℕ) → TakesElements o → Stands s (o ∷ rest) os text
     → ListWaits s (o ∷ rest) os text
 list-waits s opens.Pack [] os text takes p = absurd p
 list-waits s opens.Pack (owner ∷ rest) os text takes p = record {
@@ -726,7 +727,7 @@ list-waits s (opens.NameArguments from) rest os text takes p = waits-of s (opens
 list-waits s _ rest os text takes p = absurd takes
 
 -- an element may be a type
-pub type-expected : (s : List ℕ) (w : Direct) → AwaitsNextArgument s w → IsWriting s w steps.Type
+pub type-expected : (s : Symbol) (w : Direct) → AwaitsNextArgument s w → IsWriting s w steps.Type
 type-expected s w a =
     let p = a.place in
     let kind = element_kind p.listing in
@@ -756,7 +757,7 @@ type-expected s w a =
 -- ## Enumerators
 
 -- a list waits for the type of an enumerator
-pub enumerator-stands : (s : List ℕ) (opened : List Open) (text : List ℕ) (os : List Opened) (p : IsListing opened text) (ts : List Term)
+pub enumerator-stands : (s : Symbol) (opened : List Open) (text : List ℕ) (os : List Opened) (p : IsListing opened text) (ts : List Term)
     (texts : List ℕ) → PrintAll (extra_of p.listing) ts texts
     → text ≡ led_by p.listing p.front p.name ++ in_front_of_next ts texts ++ codes "("
     → ((t : Term) (at : ℕ) (st : State) → Comes s os (tree t true) at st

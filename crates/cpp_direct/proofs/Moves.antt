@@ -13,14 +13,15 @@ use Rattle.sym_link.specs.Unfold.{found, standing}
 use Rattle.cpp_grammar.specs.declared.kind.Kind.{Kind}
 use Rattle.cpp_grammar.specs.declared.production.Production.{Production}
 use Rattle.cpp_grammar.specs.Grammar.{kinds, number_of_kind, choose, parts_of, is_chain, may_be_empty}
-use Rattle.cpp_grammar.specs.Table.{abi, rule_of, rule_taken}
+use Rattle.cpp_grammar.specs.Table.{rule_of}
 use Rattle.cpp_grammar.specs.Values.{State, Around, Value, nothing_there, text}
 use Rattle.cpp_grammar.specs.Between.{Going, between}
 use Rattle.cpp_grammar.specs.Unfolding.{cpp, opening, close, byte_of}
-use Rattle.cpp_grammar.proofs.Choosing.{rule_at_kind, empty_at_kind}
 use Rattle.cpp_grammar.proofs.ClosedTrees.{at_number, its_symbols}
+use Rattle.cpp_direct.proofs.Tables.{takes-by, empty-by, names-by}
 use Rattle.sym_direct.specs.Holes as direct
 use Rattle.sym_direct.proofs.Moves as moves
+use Rattle.cpp_direct.specs.Symbol.{Symbol, table_by}
 use Rattle.cpp_direct.specs.Holes.{cpp_language, Opened, opened, ReadsRest, StandsAt, Comes, Needs, ExpectsSym, Expects, IsNameAt, IsSeqAt}
 
 -- ## Kinds
@@ -32,15 +33,9 @@ kind-at Kind.Symbol = refl
 kind-at _ = refl
 
 -- a kind takes a production at its byte
-pub takes-it : (kind : Kind) (p : Production) (byte : ℕ) (taken : List ℕ) → choose kind byte ≡ Some p → byte < 256
-    → taken ≡ (if not (is_chain p) then byte ∷ [] else []) → TakesRule abi (number_of_kind kind) (rule_of p) taken
-unfolding rule_of rule_taken
-takes-it kind p byte taken chosen small takes = record {
-  byte = byte;
-  is_byte = small;
-  found = rule_at_kind (number_of_kind kind) kind byte (kind-at kind) ∙ ap rule_taken chosen;
-  takes = takes;
-}
+pub takes-it : (s : Symbol) (kind : Kind) (p : Production) (byte : ℕ) (taken : List ℕ) → choose kind byte ≡ Some p → byte < 256
+    → taken ≡ (if not (is_chain p) then byte ∷ [] else []) → TakesRule (table_by s.is_wide) (number_of_kind kind) (rule_of p) taken
+takes-it s kind p byte taken chosen small takes = takes-by s.is_wide kind (number_of_kind kind) byte p taken (kind-at kind) chosen small takes
 
 -- ## Bytes at a place
 
@@ -60,7 +55,7 @@ stands-none s at = moves.stands-none s at
 pub stands-moved : (s : List ℕ) (at to : ℕ) (bytes : List ℕ) → at ≡ to → StandsAt s at bytes → StandsAt s to bytes
 stands-moved s at to bytes same = subst (λ k. StandsAt s k bytes) same
 
-pub comes-moved : (s : List ℕ) (os : List Opened) (v : Value) (at to : ℕ) (st : State) → at ≡ to → Comes s os v at st → Comes s os v to st
+pub comes-moved : (s : Symbol) (os : List Opened) (v : Value) (at to : ℕ) (st : State) → at ≡ to → Comes s os v at st → Comes s os v to st
 comes-moved s os v at to st same = subst (λ k. Comes s os v k st) same
 
 -- ## Rules
@@ -71,39 +66,39 @@ unfolding cpp
 begins-so p taken around at st begins f = ap (λ q. opening q f at st) (at_number p) ∙ begins f
 
 -- a kind takes a production at its byte: the production's rule stands open
-pub opens : (s : List ℕ) (kind : Kind) (p : Production) (byte : ℕ) (taken : List ℕ) (around : Around) (os : List Opened) (at : ℕ) (st : State)
+pub opens : (s : Symbol) (kind : Kind) (p : Production) (byte : ℕ) (taken : List ℕ) (around : Around) (os : List Opened) (at : ℕ) (st : State)
     → choose kind byte ≡ Some p → byte < 256 → taken ≡ (if not (is_chain p) then byte ∷ [] else [])
     → ((f : Forest) → opening p f at st ≡ Ok st)
-    → Expects s kind around os at st → StandsAt s at taken
+    → Expects s kind around os at st → StandsAt s.bytes at taken
     → Needs s os (standing (rule_of p) taken at around st) [] (parts_of p) (at + length taken) st
 opens s kind p byte taken around os at st chosen small takes begins expects stands =
     subst (λ l. Needs s os (standing (rule_of p) taken at around st) [] l (at + length taken) st) (its_symbols p)
-    (moves.opens cpp_language s (number_of_kind kind) (rule_of p) taken around os at st st (takes-it kind p byte taken chosen small takes)
+    (moves.opens (cpp_language s) s.bytes (number_of_kind kind) (rule_of p) taken around os at st st (takes-it s kind p byte taken chosen small takes)
     (begins-so p taken around at st begins) expects stands)
 
 -- the same where the production begins well with whatever parts stand in the symbol
-pub opens-where : (s : List ℕ) (kind : Kind) (p : Production) (byte : ℕ) (taken : List ℕ) (around : Around) (os : List Opened) (at : ℕ) (st : State)
+pub opens-where : (s : Symbol) (kind : Kind) (p : Production) (byte : ℕ) (taken : List ℕ) (around : Around) (os : List Opened) (at : ℕ) (st : State)
     → choose kind byte ≡ Some p → byte < 256 → taken ≡ (if not (is_chain p) then byte ∷ [] else [])
-    → ((f : Forest) → AreTrees abi (parts_of p) f → StandsAt s (at + length taken) (spell_all f) → opening p f at st ≡ Ok st)
-    → Expects s kind around os at st → StandsAt s at taken
+    → ((f : Forest) → AreTrees (table_by s.is_wide) (parts_of p) f → StandsAt s.bytes (at + length taken) (spell_all f) → opening p f at st ≡ Ok st)
+    → Expects s kind around os at st → StandsAt s.bytes at taken
     → Needs s os (standing (rule_of p) taken at around st) [] (parts_of p) (at + length taken) st
 unfolding cpp
 opens-where s kind p byte taken around os at st chosen small takes begins expects stands =
     subst (λ l. Needs s os (standing (rule_of p) taken at around st) [] l (at + length taken) st) (its_symbols p)
-    (moves.opens-where cpp_language s (number_of_kind kind) (rule_of p) taken around os at st st (takes-it kind p byte taken chosen small takes)
-    (λ f shaped there. ap (λ q. opening q f at st) (at_number p) ∙ begins f (subst (λ l. AreTrees abi l f) (its_symbols p) shaped) there) expects stands)
+    (moves.opens-where (cpp_language s) s.bytes (number_of_kind kind) (rule_of p) taken around os at st st (takes-it s kind p byte taken chosen small takes)
+    (λ f shaped there. ap (λ q. opening q f at st) (at_number p) ∙ begins f (subst (λ l. AreTrees (table_by s.is_wide) l f) (its_symbols p) shaped) there) expects stands)
 
 -- a kind takes a production at its byte, whose parts are read
-unfoldable pub reads-rule : (s : List ℕ) (kind : Kind) (p : Production) (byte : ℕ) (taken : List ℕ) (around : Around) (at : ℕ) (st inner after : State)
+unfoldable pub reads-rule : (s : Symbol) (kind : Kind) (p : Production) (byte : ℕ) (taken : List ℕ) (around : Around) (at : ℕ) (st inner after : State)
     (bytes : List ℕ) (vs : List Value) (w : Value)
     → choose kind byte ≡ Some p → byte < 256 → taken ≡ (if not (is_chain p) then byte ∷ [] else [])
     → (rest : ReadsRest s (standing (rule_of p) taken at around st) [] (symbols_of (rule_of p)) (at + length taken) bytes st vs inner)
     → opening p rest.forest at st ≡ Ok st → close p (byte_of taken) around at st vs inner ≡ Ok (found w after)
-    → direct.Reads cpp_language s (OfKind (number_of_kind kind)) around at (taken ++ bytes) st (w ∷ []) after
+    → direct.Reads (cpp_language s) s.bytes (OfKind (number_of_kind kind)) around at (taken ++ bytes) st (w ∷ []) after
 unfolding cpp
 reads-rule s kind p byte taken around at st inner after bytes vs w chosen small takes rest begins closes =
-    moves.reads-rule cpp_language s (number_of_kind kind) (rule_of p) taken around at st st inner after bytes vs w
-    (takes-it kind p byte taken chosen small takes) rest
+    moves.reads-rule (cpp_language s) s.bytes (number_of_kind kind) (rule_of p) taken around at st st inner after bytes vs w
+    (takes-it s kind p byte taken chosen small takes) rest
     (ap (λ q. opening q rest.forest at st) (at_number p) ∙ begins)
     (ap (λ q. close q (byte_of taken) around at st vs inner) (at_number p) ∙ closes)
 
@@ -114,31 +109,31 @@ unfolding cpp
 goes-so p taken at0 around before known st next goes = ap (λ q. between q around at0 known st) (at_number p) ∙ goes
 
 -- a part of a production is read, and those behind it
-unfoldable pub joins : (s : List ℕ) (p : Production) (taken : List ℕ) (at0 : ℕ) (around : Around) (before : State) (known : List Value) (x : Sym)
+unfoldable pub joins : (s : Symbol) (p : Production) (taken : List ℕ) (at0 : ℕ) (around : Around) (before : State) (known : List Value) (x : Sym)
     (todo : List Sym) (at : ℕ) (st : State) (context : Around) (values : List Value) (state after inner : State) (v : List Value)
     (first more : List ℕ) (vs : List Value)
     → ◌≡◌ {A = Going} (between p around at0 known st) (Ok (record { context = context; values = values; state = state }))
-    → direct.Reads cpp_language s x context at first state v after
+    → direct.Reads (cpp_language s) s.bytes x context at first state v after
     → ReadsRest s (standing (rule_of p) taken at0 around before) (values ++ v) todo (at + length first) more after vs inner
     → ReadsRest s (standing (rule_of p) taken at0 around before) known (x ∷ todo) at (first ++ more) st vs inner
 joins s p taken at0 around before known x todo at st context values state after inner v first more vs goes one rest =
-    moves.joins cpp_language s (standing (rule_of p) taken at0 around before) known x todo at st
+    moves.joins (cpp_language s) s.bytes (standing (rule_of p) taken at0 around before) known x todo at st
     (record { context = context; values = values; state = state }) after inner v first more vs
     (goes-so p taken at0 around before known st (record { context = context; values = values; state = state }) goes) one rest
 
 -- no part is left
-unfoldable pub none-left : (s : List ℕ) (p : Production) (taken : List ℕ) (at0 : ℕ) (around : Around) (before : State) (known : List Value) (at : ℕ) (st : State)
+unfoldable pub none-left : (s : Symbol) (p : Production) (taken : List ℕ) (at0 : ℕ) (around : Around) (before : State) (known : List Value) (at : ℕ) (st : State)
     → ReadsRest s (standing (rule_of p) taken at0 around before) known [] at [] st known st
-none-left s p taken at0 around before known at st = moves.none-left cpp_language s (standing (rule_of p) taken at0 around before) known at st
+none-left s p taken at0 around before known at st = moves.none-left (cpp_language s) s.bytes (standing (rule_of p) taken at0 around before) known at st
 
 -- the next part of a rule is expected
-pub needs-next : (s : List ℕ) (p : Production) (taken : List ℕ) (at0 : ℕ) (around : Around) (before : State) (known : List Value) (x : Sym)
+pub needs-next : (s : Symbol) (p : Production) (taken : List ℕ) (at0 : ℕ) (around : Around) (before : State) (known : List Value) (x : Sym)
     (todo : List Sym) (os : List Opened) (at : ℕ) (st : State) (context : Around) (values : List Value) (state : State)
     → ◌≡◌ {A = Going} (between p around at0 known st) (Ok (record { context = context; values = values; state = state }))
     → Needs s os (standing (rule_of p) taken at0 around before) known (x ∷ todo) at st
     → ExpectsSym s x context (opened (standing (rule_of p) taken at0 around before) values todo ∷ os) at state
 needs-next s p taken at0 around before known x todo os at st context values state goes needs =
-    moves.needs-next cpp_language s (standing (rule_of p) taken at0 around before) known x todo os at st
+    moves.needs-next (cpp_language s) s.bytes (standing (rule_of p) taken at0 around before) known x todo os at st
     (record { context = context; values = values; state = state })
     (goes-so p taken at0 around before known st (record { context = context; values = values; state = state }) goes) needs
 
@@ -150,50 +145,50 @@ unfolding cpp
 closed-so p taken at0 around before known st w after e = ap (λ q. close q (byte_of taken) around at0 before known st) (at_number p) ∙ e
 
 -- a rule whose parts are all known closes
-pub ends : (s : List ℕ) (p : Production) (taken : List ℕ) (at0 : ℕ) (around : Around) (before : State) (known : List Value) (os : List Opened)
+pub ends : (s : Symbol) (p : Production) (taken : List ℕ) (at0 : ℕ) (around : Around) (before : State) (known : List Value) (os : List Opened)
     (at : ℕ) (st : State) (w : Value) (after : State)
     → Needs s os (standing (rule_of p) taken at0 around before) known [] at st
     → close p (byte_of taken) around at0 before known st ≡ Ok (found w after) → Comes s os w at after
 ends s p taken at0 around before known os at st w after needs closes =
-    moves.ends cpp_language s (standing (rule_of p) taken at0 around before) known os at st w after needs
+    moves.ends (cpp_language s) s.bytes (standing (rule_of p) taken at0 around before) known os at st w after needs
     (closed-so p taken at0 around before known st w after closes)
 
 -- ## Parts without a row, and tokens
 
 -- nothing stands for a kind that may be empty
-pub expects-empty : (s : List ℕ) (kind : Kind) (around : Around) (os : List Opened) (at : ℕ) (st : State)
+pub expects-empty : (s : Symbol) (kind : Kind) (around : Around) (os : List Opened) (at : ℕ) (st : State)
     → Expects s kind around os at st → may_be_empty kind ≡ true → Comes s os nothing_there at st
 unfolding cpp
 expects-empty s kind around os at st expects may =
-    moves.expects-empty cpp_language s (number_of_kind kind) around os at st expects
-    (empty_at_kind (number_of_kind kind) kind (kind-at kind) ∙ may)
+    moves.expects-empty (cpp_language s) s.bytes (number_of_kind kind) around os at st expects
+    (empty-by s.is_wide (number_of_kind kind) kind (kind-at kind) ∙ may)
 
 -- a byte that the rule has
-pub expects-byte : (s : List ℕ) (b : ℕ) (around : Around) (os : List Opened) (at : ℕ) (st : State)
-    → ExpectsSym s (Byte b) around os at st → StandsAt s at (b ∷ []) → Comes s os nothing_there (at + 1) st
+pub expects-byte : (s : Symbol) (b : ℕ) (around : Around) (os : List Opened) (at : ℕ) (st : State)
+    → ExpectsSym s (Byte b) around os at st → StandsAt s.bytes at (b ∷ []) → Comes s os nothing_there (at + 1) st
 unfolding cpp
-expects-byte s b around os at st expects stands = moves.expects-byte cpp_language s b around os at st expects stands
+expects-byte s b around os at st expects stands = moves.expects-byte (cpp_language s) s.bytes b around os at st expects stands
 
 -- a name
-pub expects-name : (s : List ℕ) (around : Around) (os : List Opened) (at : ℕ) (st : State) (name : List ℕ) (end : ℕ)
-    → ExpectsSym s Name around os at st → IsNameAt s at name end → Comes s os (text name) end st
-unfolding cpp abi
+pub expects-name : (s : Symbol) (around : Around) (os : List Opened) (at : ℕ) (st : State) (name : List ℕ) (end : ℕ)
+    → ExpectsSym s Name around os at st → IsNameAt s.bytes at name end → Comes s os (text name) end st
+unfolding cpp
 expects-name s around os at st name end expects is =
     subst (λ l. Comes s os (text l) end st) is.own
     (comes-moved s os (text is.token.own) (at + length (bytes_of is.token)) end st (sym is.ends)
-    (moves.expects-token cpp_language s Name around os at st is.token (text is.token.own) st expects is.is_name refl is.stands))
+    (moves.expects-token (cpp_language s) s.bytes Name around os at st is.token (text is.token.own) st expects (names-by s.is_wide Name is.token is.is_name) refl is.stands))
 
 -- a number of a kind
-pub expects-number : (s : List ℕ) (kind : NumberKind) (around : Around) (os : List Opened) (at : ℕ) (st : State) (t : Token)
-    → ExpectsSym s (Number kind) around os at st → IsNumberToken kind t → StandsAt s at (bytes_of t)
+pub expects-number : (s : Symbol) (kind : NumberKind) (around : Around) (os : List Opened) (at : ℕ) (st : State) (t : Token)
+    → ExpectsSym s (Number kind) around os at st → IsNumberToken kind t → StandsAt s.bytes at (bytes_of t)
     → Comes s os (text t.own) (at + length (bytes_of t)) st
 unfolding cpp
 expects-number s kind around os at st t expects is stands =
-    moves.expects-token cpp_language s (Number kind) around os at st t (text t.own) st expects is refl stands
+    moves.expects-token (cpp_language s) s.bytes (Number kind) around os at st t (text t.own) st expects (names-by s.is_wide (Number kind) t is) refl stands
 
 -- the number of a substitution
-pub expects-seq : (s : List ℕ) (around : Around) (os : List Opened) (at : ℕ) (st : State) (digits : List ℕ) (end : ℕ)
-    → ExpectsSym s (Number Seq36) around os at st → IsSeqAt s at digits end → Comes s os (text digits) end st
+pub expects-seq : (s : Symbol) (around : Around) (os : List Opened) (at : ℕ) (st : State) (digits : List ℕ) (end : ℕ)
+    → ExpectsSym s (Number Seq36) around os at st → IsSeqAt s.bytes at digits end → Comes s os (text digits) end st
 expects-seq s around os at st digits end expects is =
     subst (λ l. Comes s os (text l) end st) is.own
     (comes-moved s os (text is.token.own) (at + length (bytes_of is.token)) end st (sym is.ends)
@@ -208,28 +203,28 @@ takes-none : (p : Production) (byte : ℕ) → is_chain p ≡ true → [] ≡ (i
 takes-none p byte chain = sym (ap (λ b. if not b then byte ∷ [] else []) chain)
 
 -- a production that takes its byte stands open
-pub opens-byte : (s : List ℕ) (kind : Kind) (p : Production) (byte : ℕ) (around : Around) (os : List Opened) (at : ℕ) (st : State)
+pub opens-byte : (s : Symbol) (kind : Kind) (p : Production) (byte : ℕ) (around : Around) (os : List Opened) (at : ℕ) (st : State)
     → choose kind byte ≡ Some p → byte < 256 → is_chain p ≡ false → ((f : Forest) → opening p f at st ≡ Ok st)
-    → Expects s kind around os at st → StandsAt s at (byte ∷ [])
+    → Expects s kind around os at st → StandsAt s.bytes at (byte ∷ [])
     → Needs s os (standing (rule_of p) (byte ∷ []) at around st) [] (parts_of p) (at + 1) st
 opens-byte s kind p byte around os at st chosen small chain begins expects stands =
     opens s kind p byte (byte ∷ []) around os at st chosen small (takes-byte p byte chain) begins expects stands
 
 -- A production that takes no byte stands open; the byte is any at which it is taken.
-pub opens-chain : (s : List ℕ) (kind : Kind) (p : Production) (byte : ℕ) (around : Around) (os : List Opened) (at : ℕ) (st : State)
+pub opens-chain : (s : Symbol) (kind : Kind) (p : Production) (byte : ℕ) (around : Around) (os : List Opened) (at : ℕ) (st : State)
     → choose kind byte ≡ Some p → byte < 256 → is_chain p ≡ true → ((f : Forest) → opening p f at st ≡ Ok st)
     → Expects s kind around os at st
     → Needs s os (standing (rule_of p) [] at around st) [] (parts_of p) at st
 opens-chain s kind p byte around os at st chosen small chain begins expects =
     subst (λ k. Needs s os (standing (rule_of p) [] at around st) [] (parts_of p) k st) (omega arith)
-    (opens s kind p byte [] around os at st chosen small (takes-none p byte chain) begins expects (stands-none s at))
+    (opens s kind p byte [] around os at st chosen small (takes-none p byte chain) begins expects (stands-none s.bytes at))
 
 -- the first part of a production that takes its byte is expected
-pub first-of : (s : List ℕ) (kind : Kind) (p : Production) (byte : ℕ) (around : Around) (os : List Opened) (at : ℕ) (st : State) (x : Sym)
+pub first-of : (s : Symbol) (kind : Kind) (p : Production) (byte : ℕ) (around : Around) (os : List Opened) (at : ℕ) (st : State) (x : Sym)
     (todo : List Sym) (context : Around) (values : List Value) (state : State)
     → choose kind byte ≡ Some p → byte < 256 → is_chain p ≡ false → ((f : Forest) → opening p f at st ≡ Ok st) → parts_of p ≡ x ∷ todo
     → ◌≡◌ {A = Going} (between p around at [] st) (Ok (record { context = context; values = values; state = state }))
-    → Expects s kind around os at st → StandsAt s at (byte ∷ [])
+    → Expects s kind around os at st → StandsAt s.bytes at (byte ∷ [])
     → ExpectsSym s x context (opened (standing (rule_of p) (byte ∷ []) at around st) values todo ∷ os) (at + 1) state
 first-of s kind p byte around os at st x todo context values state chosen small chain begins parts goes expects stands =
     needs-next s p (byte ∷ []) at around st [] x todo os (at + 1) st context values state goes
@@ -237,7 +232,7 @@ first-of s kind p byte around os at st x todo context values state chosen small 
     (opens-byte s kind p byte around os at st chosen small chain begins expects stands))
 
 -- The first part of a production that takes no byte is expected; the byte is any at which it is taken.
-pub first-of-chain : (s : List ℕ) (kind : Kind) (p : Production) (byte : ℕ) (around : Around) (os : List Opened) (at : ℕ) (st : State) (x : Sym)
+pub first-of-chain : (s : Symbol) (kind : Kind) (p : Production) (byte : ℕ) (around : Around) (os : List Opened) (at : ℕ) (st : State) (x : Sym)
     (todo : List Sym) (context : Around) (values : List Value) (state : State)
     → choose kind byte ≡ Some p → byte < 256 → is_chain p ≡ true → ((f : Forest) → opening p f at st ≡ Ok st) → parts_of p ≡ x ∷ todo
     → ◌≡◌ {A = Going} (between p around at [] st) (Ok (record { context = context; values = values; state = state }))
@@ -249,7 +244,7 @@ first-of-chain s kind p byte around os at st x todo context values state chosen 
     (opens-chain s kind p byte around os at st chosen small chain begins expects))
 
 -- a part has come, and the next one is expected
-pub next-of : (s : List ℕ) (p : Production) (taken : List ℕ) (at0 : ℕ) (around : Around) (before : State) (known : List Value) (v : Value) (x : Sym)
+pub next-of : (s : Symbol) (p : Production) (taken : List ℕ) (at0 : ℕ) (around : Around) (before : State) (known : List Value) (v : Value) (x : Sym)
     (todo : List Sym) (os : List Opened) (at : ℕ) (st : State) (context : Around) (values : List Value) (state : State)
     → ◌≡◌ {A = Going} (between p around at0 (known ++ v ∷ []) st) (Ok (record { context = context; values = values; state = state }))
     → Comes s (opened (standing (rule_of p) taken at0 around before) known (x ∷ todo) ∷ os) v at st
@@ -258,7 +253,7 @@ next-of s p taken at0 around before known v x todo os at st context values state
     needs-next s p taken at0 around before (known ++ v ∷ []) x todo os at st context values state goes comes
 
 -- the last part has come, and the rule closes
-pub last-of : (s : List ℕ) (p : Production) (taken : List ℕ) (at0 : ℕ) (around : Around) (before : State) (known : List Value) (v : Value)
+pub last-of : (s : Symbol) (p : Production) (taken : List ℕ) (at0 : ℕ) (around : Around) (before : State) (known : List Value) (v : Value)
     (os : List Opened) (at : ℕ) (st : State) (w : Value) (after : State)
     → close p (byte_of taken) around at0 before (known ++ v ∷ []) st ≡ Ok (found w after)
     → Comes s (opened (standing (rule_of p) taken at0 around before) known [] ∷ os) v at st
@@ -267,11 +262,11 @@ last-of s p taken at0 around before known v os at st w after closes comes =
     ends s p taken at0 around before (known ++ v ∷ []) os at st w after comes closes
 
 -- a production without parts that takes its byte
-pub letter-comes : (s : List ℕ) (kind : Kind) (p : Production) (byte : ℕ) (around : Around) (os : List Opened) (at : ℕ) (st : State) (w : Value)
+pub letter-comes : (s : Symbol) (kind : Kind) (p : Production) (byte : ℕ) (around : Around) (os : List Opened) (at : ℕ) (st : State) (w : Value)
     (after : State)
     → choose kind byte ≡ Some p → byte < 256 → is_chain p ≡ false → ((f : Forest) → opening p f at st ≡ Ok st) → parts_of p ≡ []
     → close p byte around at st [] st ≡ Ok (found w after)
-    → Expects s kind around os at st → StandsAt s at (byte ∷ []) → Comes s os w (at + 1) after
+    → Expects s kind around os at st → StandsAt s.bytes at (byte ∷ []) → Comes s os w (at + 1) after
 unfolding byte_of
 letter-comes s kind p byte around os at st w after chosen small chain begins parts closes expects stands =
     ends s p (byte ∷ []) at around st [] os (at + 1) st w after

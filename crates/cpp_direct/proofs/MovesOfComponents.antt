@@ -16,18 +16,20 @@ use Rattle.cpp_grammar.specs.Between.{between, after, inside, extended, applied,
 use Rattle.cpp_grammar.specs.Meaning.{meaning}
 use Rattle.cpp_grammar.specs.Unfolding as unfolding_
 use Rattle.cpp_grammar.specs.Unfolding.{opening, close, byte_of}
+use Rattle.cpp_direct.specs.Symbol.{Symbol}
 use Rattle.cpp_direct.specs.Holes.{Opened, opened, StandsAt, Comes, Expects, with_candidate, unless_listed, IsNameAt, Named, AwaitsComponent}
 use Rattle.cpp_direct.specs.HolesOfNests.{IsRest, AwaitsArguments}
 use Rattle.cpp_direct.proofs.Alone.{any-list}
 use Rattle.cpp_direct.proofs.Moves.{stands-split, comes-moved, first-of, first-of-chain, next-of, last-of, expects-byte, expects-name, letter-comes}
 use Rattle.cpp_direct.proofs.MovesOfNests.{last-passes}
+use Rattle.cpp_direct.proofs.Alone.{alone-arguments}
 use Rattle.cpp_direct.proofs.Operators.{IsOperator}
 
 -- ## Behind the name so far
 
 rest-chooses : (kind : Kind) → IsRest kind → choose kind 48 ≡ Some Production.NestNext
 unfolding choose alternatives pick is_in in_ranges among
-rest-chooses Kind.NestRest is = refl
+rest-chooses Kind.NestRestAlone is = refl
 rest-chooses Kind.NestTail is = refl
 rest-chooses _ is = absurd is
 
@@ -38,7 +40,7 @@ prefix-appended around t true st = refl
 prefix-appended around t false st = refl
 
 -- a component follows, in front of which the name so far is a candidate
-pub component-awaits : (s : List ℕ) (kind : Kind) (os : List Opened) (around : Around) (t : Term) (listed : Bool) (at : ℕ) (st : State)
+pub component-awaits : (s : Symbol) (kind : Kind) (os : List Opened) (around : Around) (t : Term) (listed : Bool) (at : ℕ) (st : State)
     → IsRest kind → Expects s kind (after t listed around) os at st
     → AwaitsComponent s os around t at (unless_listed listed around.encoding t st)
 unfolding choose alternatives pick is_in in_ranges among is_chain parts_of number_of_kind between opening close unfolding_.behind meaning after prefix_tree prefix_listed tree_of part
@@ -58,8 +60,8 @@ component-awaits s kind os around t listed at st is expects =
     }
 
 -- arguments of the name so far
-pub first-arguments : (s : List ℕ) (os : List Opened) (around : Around) (t : Term) (listed : Bool) (at : ℕ) (st : State)
-    → Expects s Kind.NestRest (after t listed around) os at st → StandsAt s at (73 ∷ [])
+pub first-arguments : (s : Symbol) (os : List Opened) (around : Around) (t : Term) (listed : Bool) (at : ℕ) (st : State)
+    → Expects s Kind.NestRestAlone (after t listed around) os at st → StandsAt s.bytes at (73 ∷ [])
     → AwaitsArguments s os around t listed at st
 unfolding choose alternatives pick is_in in_ranges among is_chain parts_of number_of_kind between opening close unfolding_.behind meaning appended after inside listed_so_far prefix_tree prefix_listed tree_of part
 first-arguments s os around t listed at st expects stands =
@@ -69,7 +71,7 @@ first-arguments s os around t listed at st expects stands =
       inner = opened (standing (rule_of p) (73 ∷ []) at here st) [] (Byte 69 ∷ OfKind COMPONENT ∷ OfKind NEST_TAIL ∷ []) ∷ os;
       awaits = any-list s (inside around) (opened (standing (rule_of p) (73 ∷ []) at here st) [] (Byte 69 ∷ OfKind COMPONENT ∷ OfKind NEST_TAIL ∷ []) ∷ os) (at + 1)
           (unless_listed listed around.encoding t st)
-          (first-of s Kind.NestRest p 73 here os at st (OfKind ARGUMENTS_FIRST) (Byte 69 ∷ OfKind COMPONENT ∷ OfKind NEST_TAIL ∷ []) (inside around) []
+          (first-of s Kind.NestRestAlone p 73 here os at st (OfKind ARGUMENTS_FIRST) (Byte 69 ∷ OfKind COMPONENT ∷ OfKind NEST_TAIL ∷ []) (inside around) []
           (unless_listed listed around.encoding t st) refl (omega arith) refl (λ f. refl) refl
           (rw (prefix-appended around t listed st) refl) expects stands);
       onward = λ l to later comes ended.
@@ -91,8 +93,8 @@ first-arguments s os around t listed at st expects stands =
     }
 
 -- the name ends
-pub nest-end : (s : List ℕ) (os : List Opened) (around : Around) (t : Term) (listed : Bool) (at : ℕ) (st : State)
-    → Expects s Kind.NestTail (after t listed around) os at st → StandsAt s at (69 ∷ []) → Comes s os (tree t listed) (at + 1) st
+pub nest-end : (s : Symbol) (os : List Opened) (around : Around) (t : Term) (listed : Bool) (at : ℕ) (st : State)
+    → Expects s Kind.NestTail (after t listed around) os at st → StandsAt s.bytes at (69 ∷ []) → Comes s os (tree t listed) (at + 1) st
 unfolding choose alternatives pick is_in in_ranges among is_chain parts_of opening close unfolding_.behind meaning after prefix_tree prefix_listed
 nest-end s os around t listed at st expects stands =
     letter-comes s Kind.NestTail Production.NestEnd 69 (after t listed around) os at st (tree t listed) st refl (omega arith) refl (λ f. refl) refl
@@ -101,7 +103,7 @@ nest-end s os around t listed at st expects stands =
 -- ## Components
 
 -- what a component is named by was read
-pub named-by : (s : List ℕ) (os : List Opened) (p : Production) (taken : List ℕ) (at0 : ℕ) (around : Around) (before : State) (u : Term) (at : ℕ)
+pub named-by : (s : Symbol) (os : List Opened) (p : Production) (taken : List ℕ) (at0 : ℕ) (around : Around) (before : State) (u : Term) (at : ℕ)
     (st : State)
     → ((byte : ℕ) (here : Around) (began later : State) (v : Value)
     → close p byte here at0 began (tree u false ∷ v ∷ []) later ≡ Ok (found (tree (applied u v) false) later))
@@ -111,7 +113,7 @@ pub named-by : (s : List ℕ) (os : List Opened) (p : Production) (taken : List 
 unfolding applied is_there tree_of
 named-by s os p taken at0 around before u at st closes outer expects = record {
   inner = opened (standing (rule_of p) taken at0 around before) (tree u false ∷ []) [] ∷ os;
-  awaits = expects;
+  awaits = alone-arguments s (after u false outer) (opened (standing (rule_of p) taken at0 around before) (tree u false ∷ []) [] ∷ os) at st expects;
   bare = λ to later comes. last-of s p taken at0 around before (tree u false ∷ []) nothing_there os to later (tree u false) later
       (closes (byte_of taken) around before later nothing_there) comes;
   argued = λ a to later comes. last-of s p taken at0 around before (tree u false ∷ []) (tree a true) os to later (tree (instance u a) false) later
@@ -119,8 +121,8 @@ named-by s os p taken at0 around before u at st closes outer expects = record {
 }
 
 -- a name
-pub component-source : (s : List ℕ) (os : List Opened) (around : Around) (t : Term) (at : ℕ) (st : State) (name : List ℕ) (end : ℕ)
-    → Expects s Kind.Component (after t true around) os at st → IsNameAt s at name end
+pub component-source : (s : Symbol) (os : List Opened) (around : Around) (t : Term) (at : ℕ) (st : State) (name : List ℕ) (end : ℕ)
+    → Expects s Kind.Component (after t true around) os at st → IsNameAt s.bytes at name end
     → Named s os around (within t (source false name)) end st
 unfolding choose alternatives pick is_in in_ranges among is_chain parts_of number_of_kind between opening close unfolding_.behind meaning piece_so_far named_so_far extended after text_of tree_of part
 component-source s os around t at st name end expects is =
@@ -133,8 +135,8 @@ component-source s os around t at st name end expects is =
     (first-of-chain s Kind.Component p 48 here os at st Name (OfKind MAYBE_ARGUMENTS ∷ []) here [] st refl (omega arith) refl (λ f. refl) refl refl expects) is))
 
 -- a name of internal linkage
-pub component-internal : (s : List ℕ) (os : List Opened) (around : Around) (t : Term) (at : ℕ) (st : State) (name : List ℕ) (end : ℕ)
-    → Expects s Kind.Component (after t true around) os at st → StandsAt s at (76 ∷ []) → IsNameAt s (at + 1) name end
+pub component-internal : (s : Symbol) (os : List Opened) (around : Around) (t : Term) (at : ℕ) (st : State) (name : List ℕ) (end : ℕ)
+    → Expects s Kind.Component (after t true around) os at st → StandsAt s.bytes at (76 ∷ []) → IsNameAt s.bytes (at + 1) name end
     → Named s os around (within t (source true name)) end st
 unfolding choose alternatives pick is_in in_ranges among is_chain parts_of number_of_kind between opening close unfolding_.behind meaning piece_so_far named_so_far extended after text_of tree_of part
 component-internal s os around t at st name end expects stands is =
@@ -147,8 +149,8 @@ component-internal s os around t at st name end expects stands is =
     (first-of s Kind.Component p 76 here os at st Name (OfKind MAYBE_ARGUMENTS ∷ []) here [] st refl (omega arith) refl (λ f. refl) refl refl expects stands) is))
 
 -- an operator
-pub component-operator : (s : List ℕ) (os : List Opened) (around : Around) (t : Term) (at : ℕ) (st : State) (first second : ℕ)
-    → IsOperator first second → Expects s Kind.Component (after t true around) os at st → StandsAt s at (first ∷ second ∷ [])
+pub component-operator : (s : Symbol) (os : List Opened) (around : Around) (t : Term) (at : ℕ) (st : State) (first second : ℕ)
+    → IsOperator first second → Expects s Kind.Component (after t true around) os at st → StandsAt s.bytes at (first ∷ second ∷ [])
     → Named s os around (within t (operator first second)) (at + 2) st
 unfolding choose alternatives pick is_in in_ranges among is_chain parts_of number_of_kind between opening close unfolding_.behind meaning piece_so_far named_so_far extended after byte_of piece_of tree_of part
 component-operator s os around t at st first second is expects stands =
@@ -156,7 +158,7 @@ component-operator s os around t at st first second is expects stands =
     let here : Around = after t true around in
     let u : Term = within t (operator first second) in
     let v : Value = piece (operator first second) in
-    let two = stands-split s at (first ∷ []) (second ∷ []) stands in
+    let two = stands-split s.bytes at (first ∷ []) (second ∷ []) stands in
     let os1 : List Opened = opened (standing (rule_of p) [] at here st) [] (OfKind MAYBE_ARGUMENTS ∷ []) ∷ os in
     let os2 : List Opened = opened (standing (rule_of is.production) (first ∷ []) at here st) [] [] ∷ os1 in
     named-by s os p [] at here st u (at + 2) st (λ byte now began later w. refl) around
@@ -171,15 +173,15 @@ component-operator s os around t at st first second is expects stands =
     two.1))))
 
 -- a constructor
-pub component-constructor : (s : List ℕ) (os : List Opened) (around : Around) (t : Term) (at : ℕ) (st : State) (digit : ℕ)
-    → Expects s Kind.Component (after t true around) os at st → StandsAt s at (67 ∷ digit ∷ []) → 49 ≤ digit → digit ≤ 51
+pub component-constructor : (s : Symbol) (os : List Opened) (around : Around) (t : Term) (at : ℕ) (st : State) (digit : ℕ)
+    → Expects s Kind.Component (after t true around) os at st → StandsAt s.bytes at (67 ∷ digit ∷ []) → 49 ≤ digit → digit ≤ 51
     → Named s os around (within t (constructor digit)) (at + 2) st
 unfolding choose alternatives pick is_in in_ranges among is_chain parts_of number_of_kind between opening close unfolding_.behind meaning piece_so_far named_so_far extended after letter_of tree_of part
 component-constructor s os around t at st digit expects stands low high =
     let p : Production = Production.Constructor in
     let here : Around = after t true around in
     let u : Term = within t (constructor digit) in
-    let two = stands-split s at (67 ∷ []) (digit ∷ []) stands in
+    let two = stands-split s.bytes at (67 ∷ []) (digit ∷ []) stands in
     let os1 : List Opened = opened (standing (rule_of p) (67 ∷ []) at here st) [] (OfKind MAYBE_ARGUMENTS ∷ []) ∷ os in
     named-by s os p (67 ∷ []) at here st u (at + 2) st (λ byte now began later v. refl) around
     (next-of s p (67 ∷ []) at here st [] (letter digit) (OfKind MAYBE_ARGUMENTS) [] os (at + 2) st (after u false around) (tree u false ∷ []) st refl
@@ -190,15 +192,15 @@ component-constructor s os around t at st digit expects stands low high =
     two.1)))
 
 -- a destructor
-pub component-destructor : (s : List ℕ) (os : List Opened) (around : Around) (t : Term) (at : ℕ) (st : State) (digit : ℕ)
-    → Expects s Kind.Component (after t true around) os at st → StandsAt s at (68 ∷ digit ∷ []) → 48 ≤ digit → digit ≤ 50
+pub component-destructor : (s : Symbol) (os : List Opened) (around : Around) (t : Term) (at : ℕ) (st : State) (digit : ℕ)
+    → Expects s Kind.Component (after t true around) os at st → StandsAt s.bytes at (68 ∷ digit ∷ []) → 48 ≤ digit → digit ≤ 50
     → Named s os around (within t (destructor digit)) (at + 2) st
 unfolding choose alternatives pick is_in in_ranges among is_chain parts_of number_of_kind between opening close unfolding_.behind meaning piece_so_far named_so_far extended after letter_of tree_of part
 component-destructor s os around t at st digit expects stands low high =
     let p : Production = Production.Destructor in
     let here : Around = after t true around in
     let u : Term = within t (destructor digit) in
-    let two = stands-split s at (68 ∷ []) (digit ∷ []) stands in
+    let two = stands-split s.bytes at (68 ∷ []) (digit ∷ []) stands in
     let os1 : List Opened = opened (standing (rule_of p) (68 ∷ []) at here st) [] (OfKind MAYBE_ARGUMENTS ∷ []) ∷ os in
     named-by s os p (68 ∷ []) at here st u (at + 2) st (λ byte now began later v. refl) around
     (next-of s p (68 ∷ []) at here st [] (letter digit) (OfKind MAYBE_ARGUMENTS) [] os (at + 2) st (after u false around) (tree u false ∷ []) st refl

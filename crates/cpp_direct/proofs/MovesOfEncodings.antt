@@ -15,7 +15,6 @@ use Rattle.cpp_grammar.specs.declared.kind.Kind.{Kind}
 use Rattle.cpp_grammar.specs.declared.production.Production.{Production}
 use Rattle.cpp_grammar.specs.KindNumbers.{SYMBOL}
 use Rattle.cpp_grammar.specs.Grammar.{in_ranges, among, is_in, pick, number_of_kind, alternatives, choose, parts_of, is_chain, may_be_empty, number_of}
-use Rattle.cpp_grammar.specs.Mangled.{cpp_mangled}
 use Rattle.cpp_grammar.specs.Table.{rule_of}
 use Rattle.cpp_grammar.specs.Term.{RefQualifier, any_value, lvalue_only, rvalue_only, non_virtual, by_table, Term, symbol, special, alone, source}
 use Rattle.cpp_grammar.specs.Values.{State, outermost, Around, Value, nothing_there, letter, text, signed, tree, tree_of, text_of, signed_of, signed_digits, is_there, mark_of, part}
@@ -23,6 +22,7 @@ use Rattle.cpp_grammar.specs.Between.{Going, between, after, in_name, in_types, 
 use Rattle.cpp_grammar.specs.Meaning.{meaning}
 use Rattle.cpp_grammar.specs.Unfolding as unfolding_
 use Rattle.cpp_grammar.specs.Unfolding.{opening, close, byte_of, first_around, first_state, first_tree, unfold_cpp}
+use Rattle.cpp_direct.specs.Symbol.{Symbol, mangled_of}
 use Rattle.cpp_direct.specs.Holes.{cpp_language, Opened, opened, StandsAt, Comes, Needs, Expects, IsNameAt, Named}
 use Rattle.sym_direct.specs.Holes as direct
 use Rattle.cpp_direct.specs.ItemBytes.{one_of, is_special_letter, is_suffix_byte}
@@ -31,11 +31,13 @@ use Rattle.cpp_direct.proofs.Moves.{stands-split, comes-moved, opens, opens-chai
 use Rattle.cpp_direct.proofs.MovesOfLists.{mark-comes, integer-comes}
 use Rattle.cpp_direct.specs.Letters.{special_letters}
 use Rattle.cpp_direct.proofs.LettersTested.{each_passes, tested-one, is_small, small, takes, taken}
+use Rattle.cpp_direct.proofs.Alone.{alone-arguments}
+use Rattle.cpp_direct.proofs.Tables.{stands-by}
 
 -- ## Encodings
 
 -- an encoding begins with its name, behind which its items are expected
-pub encoding-opens : (s : List ℕ) (os : List Opened) (around : Around) (at : ℕ) (st : State)
+pub encoding-opens : (s : Symbol) (os : List Opened) (around : Around) (at : ℕ) (st : State)
     → Expects s Kind.Encoding around os at st → EncodingOpened s os at st
 unfolding choose alternatives pick is_in in_ranges among is_chain parts_of between opening close unfolding_.behind meaning part
 encoding-opens s os around at st expects =
@@ -62,8 +64,8 @@ special-letter b is = (
 )
 
 -- a special object begins with a T and its letter, and its type is expected
-pub special-opens : (s : List ℕ) (os : List Opened) (around : Around) (b at : ℕ) (st : State) → is_special_letter b ≡ true
-    → Expects s Kind.Encoding around os at st → StandsAt s at (84 ∷ b ∷ []) → SpecialOpened s os at b (at + 2) st
+pub special-opens : (s : Symbol) (os : List Opened) (around : Around) (b at : ℕ) (st : State) → is_special_letter b ≡ true
+    → Expects s Kind.Encoding around os at st → StandsAt s.bytes at (84 ∷ b ∷ []) → SpecialOpened s os at b (at + 2) st
 unfolding choose alternatives pick is_in in_ranges among is_chain parts_of between opening close unfolding_.behind meaning part tree_of byte_of
 special-opens s os around b at st is expects stands =
     let p = Production.Special in
@@ -71,7 +73,7 @@ special-opens s os around b at st is expects stands =
     let outer = standing (rule_of p) (84 ∷ []) at around st in
     let rule = standing (rule_of q) (b ∷ []) (at + 1) (in_name at) st in
     let letter_is = special-letter b is in
-    let places = stands-split s at (84 ∷ []) (b ∷ []) stands in
+    let places = stands-split s.bytes at (84 ∷ []) (b ∷ []) stands in
     let above = opened outer [] [] ∷ os in
     let needs = opens s Kind.Special q b (b ∷ []) (in_name at) above (at + 1) st letter_is.0 letter_is.1 refl (λ f. refl)
     (needs-next s p (84 ∷ []) at around st [] (OfKind (number_of_kind Kind.Special)) [] os (at + 1) st (in_name at) [] st refl
@@ -89,8 +91,8 @@ special-opens s os around b at st is expects stands =
 -- ## Thunks
 
 -- an offset is read, and its _, where a rule has them next
-offset-comes : (s : List ℕ) (p : Production) (taken : List ℕ) (at0 : ℕ) (around : Around) (before : State) (known : List Value) (todo : List Sym)
-    (os : List Opened) (at end : ℕ) (st : State) (is : IsOffsetAt s at end)
+offset-comes : (s : Symbol) (p : Production) (taken : List ℕ) (at0 : ℕ) (around : Around) (before : State) (known : List Value) (todo : List Sym)
+    (os : List Opened) (at end : ℕ) (st : State) (is : IsOffsetAt s.bytes at end)
     → ((vs : List Value) → ◌≡◌ {A = Going} (between p around at0 vs st) (Ok (record { context = around; values = vs; state = st })))
     → Needs s os (standing (rule_of p) taken at0 around before) known (OfKind (number_of_kind Kind.Integer) ∷ Byte 95 ∷ todo) at st
     → Comes s (opened (standing (rule_of p) taken at0 around before) (known ++ signed (signed_digits is.negative is.digits) ∷ []) todo ∷ os)
@@ -107,8 +109,8 @@ offset-comes s p taken at0 around before known todo os at end st is goes needs =
     is.minus is.number)) is.line)
 
 -- a thunk begins with a T, an h and an offset, and the encoding is expected that it calls
-pub thunk-opens : (s : List ℕ) (os : List Opened) (around : Around) (at end : ℕ) (st : State) → Expects s Kind.Encoding around os at st
-    → StandsAt s at (84 ∷ []) → StandsAt s (at + 1) (104 ∷ []) → (is : IsOffsetAt s (at + 1 + 1) end)
+pub thunk-opens : (s : Symbol) (os : List Opened) (around : Around) (at end : ℕ) (st : State) → Expects s Kind.Encoding around os at st
+    → StandsAt s.bytes at (84 ∷ []) → StandsAt s.bytes (at + 1) (104 ∷ []) → (is : IsOffsetAt s.bytes (at + 1 + 1) end)
     → ThunkOpened s os at (non_virtual (signed_digits is.negative is.digits)) end st
 unfolding choose alternatives pick is_in in_ranges among is_chain parts_of between opening close unfolding_.behind meaning part tree_of signed_of byte_of
 thunk-opens s os around at end st expects first second is =
@@ -132,8 +134,8 @@ thunk-opens s os around at end st expects first second is =
     }
 
 -- a virtual one begins with a T, a v and two offsets
-pub virtual-thunk-opens : (s : List ℕ) (os : List Opened) (around : Around) (at middle end : ℕ) (st : State) → Expects s Kind.Encoding around os at st
-    → StandsAt s at (84 ∷ []) → StandsAt s (at + 1) (118 ∷ []) → (is : IsOffsetAt s (at + 1 + 1) middle) (then_ : IsOffsetAt s middle end)
+pub virtual-thunk-opens : (s : Symbol) (os : List Opened) (around : Around) (at middle end : ℕ) (st : State) → Expects s Kind.Encoding around os at st
+    → StandsAt s.bytes at (84 ∷ []) → StandsAt s.bytes (at + 1) (118 ∷ []) → (is : IsOffsetAt s.bytes (at + 1 + 1) middle) (then_ : IsOffsetAt s.bytes middle end)
     → ThunkOpened s os at (by_table (signed_digits is.negative is.digits) (signed_digits then_.negative then_.digits)) end st
 unfolding choose alternatives pick is_in in_ranges among is_chain parts_of between opening close unfolding_.behind meaning part tree_of signed_of byte_of
 virtual-thunk-opens s os around at middle end st expects first second is then_ =
@@ -163,7 +165,7 @@ virtual-thunk-opens s os around at middle end st expects first second is then_ =
 -- ## Names
 
 -- the parts of a nested name, const where its third part is there, and called on what its fourth says
-nest-goes : (s : List ℕ) (os : List Opened) (around : Around) (q r : Value) (at : ℕ) (st : State) (here : ℕ) (now : State)
+nest-goes : (s : Symbol) (os : List Opened) (around : Around) (q r : Value) (at : ℕ) (st : State) (here : ℕ) (now : State)
     → Comes s (opened (standing (rule_of Production.NestedName) (78 ∷ []) at around st) (nothing_there ∷ nothing_there ∷ q ∷ [])
     (OfKind (number_of_kind Kind.Nest) ∷ []) ∷ os) r here now
     → NestOpened s os around (is_there q) (mark_of r) here now
@@ -188,8 +190,8 @@ quality-is true = refl
 quality-is false = refl
 
 -- a nested name begins with an N, and its qualifiers behind it
-pub name-nested : (s : List ℕ) (os : List Opened) (around : Around) (const : Bool) (on : RefQualifier) (at : ℕ) (st : State)
-    → Expects s Kind.CompleteName around os at st → StandsAt s at (nest_marks const on)
+pub name-nested : (s : Symbol) (os : List Opened) (around : Around) (const : Bool) (on : RefQualifier) (at : ℕ) (st : State)
+    → Expects s Kind.CompleteName around os at st → StandsAt s.bytes at (nest_marks const on)
     → NestOpened s os around const on (at + length (nest_marks const on)) st
 unfolding choose alternatives pick is_in in_ranges among is_chain parts_of between opening close unfolding_.behind meaning part is_there mark_of may_be_empty
 name-nested s os around const on at st expects stands = go on stands
@@ -203,7 +205,7 @@ name-nested s os around const on at st expects stands = go on stands
     rule : Open State Around
     rule = standing (rule_of p) (78 ∷ []) at around st
 
-    unqualified : StandsAt s at (78 ∷ []) → Needs s os rule (nothing_there ∷ nothing_there ∷ [])
+    unqualified : StandsAt s.bytes at (78 ∷ []) → Needs s os rule (nothing_there ∷ nothing_there ∷ [])
         (part_of Kind.MaybeConst ∷ part_of Kind.MaybeRef ∷ part_of Kind.Nest ∷ []) (at + 1) st
     unqualified first =
         expects-empty s Kind.MaybeVolatile around
@@ -216,17 +218,17 @@ name-nested s os around const on at st expects stands = go on stands
         (part_of Kind.MaybeVolatile ∷ part_of Kind.MaybeConst ∷ part_of Kind.MaybeRef ∷ part_of Kind.Nest ∷ []) os (at + 1) st around [] st refl
         (opens s Kind.CompleteName p 78 (78 ∷ []) around os at st refl (omega arith) refl (λ f. refl) expects first)) refl)) refl
 
-    awaits-const : StandsAt s at (78 ∷ []) → Expects s Kind.MaybeConst around
+    awaits-const : StandsAt s.bytes at (78 ∷ []) → Expects s Kind.MaybeConst around
         (opened rule (nothing_there ∷ nothing_there ∷ []) (part_of Kind.MaybeRef ∷ part_of Kind.Nest ∷ []) ∷ os) (at + 1) st
     awaits-const first =
         needs-next s p (78 ∷ []) at around st (nothing_there ∷ nothing_there ∷ []) (part_of Kind.MaybeConst)
         (part_of Kind.MaybeRef ∷ part_of Kind.Nest ∷ []) os (at + 1) st around (nothing_there ∷ nothing_there ∷ []) st refl (unqualified first)
 
-    const-comes : (c : Bool) → StandsAt s at (78 ∷ const_letter c)
+    const-comes : (c : Bool) → StandsAt s.bytes at (78 ∷ const_letter c)
         → Comes s (opened rule (nothing_there ∷ nothing_there ∷ []) (part_of Kind.MaybeRef ∷ part_of Kind.Nest ∷ []) ∷ os) (quality c)
         (at + length (78 ∷ const_letter c)) st
     const-comes true there =
-        let places = stands-split s at (78 ∷ []) (75 ∷ []) there in
+        let places = stands-split s.bytes at (78 ∷ []) (75 ∷ []) there in
         let above : List Opened = opened rule (nothing_there ∷ nothing_there ∷ []) (part_of Kind.MaybeRef ∷ part_of Kind.Nest ∷ []) ∷ os in
         comes-moved s above (letter 75) (at + 1 + 1) (at + 2) st (omega arith)
         (mark-comes s above Kind.MaybeConst 75 around (at + 1) st refl (omega arith) (awaits-const places.0) places.1)
@@ -235,7 +237,7 @@ name-nested s os around const on at st expects stands = go on stands
         (opened rule (nothing_there ∷ nothing_there ∷ []) (part_of Kind.MaybeRef ∷ part_of Kind.Nest ∷ []) ∷ os) (at + 1) st
         (awaits-const there) refl
 
-    awaits-ref : (c : Bool) → StandsAt s at (78 ∷ const_letter c) → Expects s Kind.MaybeRef around
+    awaits-ref : (c : Bool) → StandsAt s.bytes at (78 ∷ const_letter c) → Expects s Kind.MaybeRef around
         (opened rule (nothing_there ∷ nothing_there ∷ quality c ∷ []) (part_of Kind.Nest ∷ []) ∷ os) (at + length (78 ∷ const_letter c)) st
     awaits-ref c there =
         needs-next s p (78 ∷ []) at around st (nothing_there ∷ nothing_there ∷ quality c ∷ []) (part_of Kind.MaybeRef) (part_of Kind.Nest ∷ []) os
@@ -243,18 +245,18 @@ name-nested s os around const on at st expects stands = go on stands
 
     -- with the letter of a reference, which is one of these
     referred : (byte : ℕ) → choose Kind.MaybeRef byte ≡ Some Production.Mark → byte < 256
-        → StandsAt s at (78 ∷ (const_letter const ++ byte ∷ []))
+        → StandsAt s.bytes at (78 ∷ (const_letter const ++ byte ∷ []))
         → NestOpened s os around const (mark_of (letter byte)) (at + length (78 ∷ (const_letter const ++ byte ∷ []))) st
     referred byte chosen below there =
         let front : List ℕ = 78 ∷ const_letter const in
-        let places = stands-split s at front (byte ∷ []) there in
+        let places = stands-split s.bytes at front (byte ∷ []) there in
         subst (λ n. NestOpened s os around const (mark_of (letter byte)) n st) (omega (arith, length-append front (byte ∷ [])))
         (subst (λ c. NestOpened s os around c (mark_of (letter byte)) (at + length front + 1) st) (quality-is const)
         (nest-goes s os around (quality const) (letter byte) at st (at + length front + 1) st
         (mark-comes s (opened rule (nothing_there ∷ nothing_there ∷ quality const ∷ []) (part_of Kind.Nest ∷ []) ∷ os) Kind.MaybeRef byte
         around (at + length front) st chosen below (awaits-ref const places.0) places.1)))
 
-    go : (ref : RefQualifier) → StandsAt s at (nest_marks const ref) → NestOpened s os around const ref (at + length (nest_marks const ref)) st
+    go : (ref : RefQualifier) → StandsAt s.bytes at (nest_marks const ref) → NestOpened s os around const ref (at + length (nest_marks const ref)) st
     go any_value there =
         subst (λ c. NestOpened s os around c any_value (at + length (78 ∷ const_letter const)) st) (quality-is const)
         (nest-goes s os around (quality const) nothing_there at st (at + length (78 ∷ const_letter const)) st
@@ -264,8 +266,8 @@ name-nested s os around const on at st expects stands = go on stands
     go rvalue_only there = referred 79 refl (omega arith) there
 
 -- a name of its own, with or without arguments behind it
-pub name-source : (s : List ℕ) (os : List Opened) (around : Around) (at : ℕ) (name : List ℕ) (end : ℕ) (st : State)
-    → Expects s Kind.CompleteName around os at st → around.prefix ≡ outermost → IsNameAt s at name end
+pub name-source : (s : Symbol) (os : List Opened) (around : Around) (at : ℕ) (name : List ℕ) (end : ℕ) (st : State)
+    → Expects s Kind.CompleteName around os at st → around.prefix ≡ outermost → IsNameAt s.bytes at name end
     → Named s os around (alone (source false name)) end st
 unfolding choose alternatives pick is_in in_ranges among is_chain parts_of between piece_so_far named_so_far extended applied opening close unfolding_.behind meaning part tree_of is_there text_of
 name-source s os around at name end st expects first is =
@@ -275,18 +277,19 @@ name-source s os around at name end st expects first is =
     let arguments = OfKind (number_of_kind Kind.MaybeArguments) in
     record {
       inner = opened rule (tree t false ∷ []) [] ∷ os;
-      awaits = needs-next s p [] at around st (text name ∷ []) arguments [] os end st (after t false around) (tree t false ∷ []) st
+      awaits = alone-arguments s (after t false around) (opened rule (tree t false ∷ []) [] ∷ os) end st
+          (needs-next s p [] at around st (text name ∷ []) arguments [] os end st (after t false around) (tree t false ∷ []) st
           (ap (λ x. named_so_far around (extended x (source false name)) [] st) first)
           (expects-name s around (opened rule [] (arguments ∷ []) ∷ os) at st name end
           (needs-next s p [] at around st [] Name (arguments ∷ []) os at st around [] st refl
-          (opens-chain s Kind.CompleteName p 48 around os at st refl (omega arith) refl (λ f. refl) expects)) is);
+          (opens-chain s Kind.CompleteName p 48 around os at st refl (omega arith) refl (λ f. refl) expects)) is));
       bare = λ here now comes. ends s p [] at around st (tree t false ∷ nothing_there ∷ []) os here now _ now comes refl;
       argued = λ a here now comes. ends s p [] at around st (tree t false ∷ tree a true ∷ []) os here now _ now comes refl;
     }
 
 -- one with internal linkage, behind an L
-pub name-internal : (s : List ℕ) (os : List Opened) (around : Around) (at : ℕ) (name : List ℕ) (end : ℕ) (st : State)
-    → Expects s Kind.CompleteName around os at st → around.prefix ≡ outermost → StandsAt s at (76 ∷ []) → IsNameAt s (at + 1) name end
+pub name-internal : (s : Symbol) (os : List Opened) (around : Around) (at : ℕ) (name : List ℕ) (end : ℕ) (st : State)
+    → Expects s Kind.CompleteName around os at st → around.prefix ≡ outermost → StandsAt s.bytes at (76 ∷ []) → IsNameAt s.bytes (at + 1) name end
     → Named s os around (alone (source true name)) end st
 unfolding choose alternatives pick is_in in_ranges among is_chain parts_of between piece_so_far named_so_far extended applied opening close unfolding_.behind meaning part tree_of is_there text_of
 name-internal s os around at name end st expects first stands is =
@@ -296,11 +299,12 @@ name-internal s os around at name end st expects first stands is =
     let arguments = OfKind (number_of_kind Kind.MaybeArguments) in
     record {
       inner = opened rule (tree t false ∷ []) [] ∷ os;
-      awaits = needs-next s p (76 ∷ []) at around st (text name ∷ []) arguments [] os end st (after t false around) (tree t false ∷ []) st
+      awaits = alone-arguments s (after t false around) (opened rule (tree t false ∷ []) [] ∷ os) end st
+          (needs-next s p (76 ∷ []) at around st (text name ∷ []) arguments [] os end st (after t false around) (tree t false ∷ []) st
           (ap (λ x. named_so_far around (extended x (source true name)) [] st) first)
           (expects-name s around (opened rule [] (arguments ∷ []) ∷ os) (at + 1) st name end
           (needs-next s p (76 ∷ []) at around st [] Name (arguments ∷ []) os (at + 1) st around [] st refl
-          (opens s Kind.CompleteName p 76 (76 ∷ []) around os at st refl (omega arith) refl (λ f. refl) expects stands)) is);
+          (opens s Kind.CompleteName p 76 (76 ∷ []) around os at st refl (omega arith) refl (λ f. refl) expects stands)) is));
       bare = λ here now comes. ends s p (76 ∷ []) at around st (tree t false ∷ nothing_there ∷ []) os here now _ now comes refl;
       argued = λ a here now comes. ends s p (76 ∷ []) at around st (tree t false ∷ tree a true ∷ []) os here now _ now comes refl;
     }
@@ -322,8 +326,8 @@ suffix-byte b is =
     in-class false false false l h = h
 
 -- what stands for these bytes of a suffix, which may be none
-more-comes : (s : List ℕ) (bs : List ℕ) (os : List Opened) (around : Around) (at : ℕ) (st : State)
-    → AllByRecursion (λ c. is_suffix_byte c ≡ true) bs → Expects s Kind.SuffixMore around os at st → StandsAt s at bs
+more-comes : (s : Symbol) (bs : List ℕ) (os : List Opened) (around : Around) (at : ℕ) (st : State)
+    → AllByRecursion (λ c. is_suffix_byte c ≡ true) bs → Expects s Kind.SuffixMore around os at st → StandsAt s.bytes at bs
     → (v : Value) × (text_of v ≡ bs) × Comes s os v (at + length bs) st
 unfolding is_chain parts_of between opening close unfolding_.behind meaning part text_of byte_of may_be_empty
 more-comes s [] os around at st each expects stands =
@@ -332,7 +336,7 @@ more-comes s (b ∷ bs) os around at st each expects stands =
     let p = Production.SuffixByte in
     let more = OfKind (number_of_kind Kind.SuffixMore) in
     let is = suffix-byte b each.0 in
-    let places = stands-split s at (b ∷ []) bs stands in
+    let places = stands-split s.bytes at (b ∷ []) bs stands in
     let rule = standing (rule_of p) (b ∷ []) at around st in
     let rest = more-comes s bs (opened rule [] [] ∷ os) around (at + 1) st each.1
     (needs-next s p (b ∷ []) at around st [] more [] os (at + 1) st around [] st refl
@@ -344,16 +348,16 @@ more-comes s (b ∷ bs) os around at st each expects stands =
     )
 
 -- a suffix is read
-pub suffix-comes : (s : List ℕ) (suffix : List ℕ) (os : List Opened) (around : Around) (at : ℕ) (st : State)
-    → IsSuffix suffix → Expects s Kind.MaybeSuffix around os at st → StandsAt s at suffix → Comes s os (text suffix) (at + length suffix) st
+pub suffix-comes : (s : Symbol) (suffix : List ℕ) (os : List Opened) (around : Around) (at : ℕ) (st : State)
+    → IsSuffix suffix → Expects s Kind.MaybeSuffix around os at st → StandsAt s.bytes at suffix → Comes s os (text suffix) (at + length suffix) st
 unfolding choose alternatives pick is_in in_ranges among is_chain parts_of between opening close unfolding_.behind meaning part text_of byte_of
 suffix-comes s [] os around at st is expects stands = absurd is
 suffix-comes s (d ∷ []) os around at st is expects stands = absurd is
 suffix-comes s (d ∷ b ∷ bs) os around at st is expects stands =
     let p = Production.Suffix in
     let q = Production.SuffixByte in
-    let dot = stands-split s at (d ∷ []) (b ∷ bs) stands in
-    let first = stands-split s (at + 1) (b ∷ []) bs dot.1 in
+    let dot = stands-split s.bytes at (d ∷ []) (b ∷ bs) stands in
+    let first = stands-split s.bytes (at + 1) (b ∷ []) bs dot.1 in
     let small : d < 256 = omega (arith, is.0) in
     let byte_is = suffix-byte b is.1.0 in
     let outer = standing (rule_of p) (d ∷ []) at around st in
@@ -375,28 +379,28 @@ suffix-comes s (d ∷ b ∷ bs) os around at st is expects stands =
 -- ## Symbols
 
 -- a symbol is expected at the front
-symbol-expected : (s : List ℕ) → Expects s Kind.Symbol first_around [] 0 first_state
+symbol-expected : (s : Symbol) → Expects s Kind.Symbol first_around [] 0 first_state
 unfolding number_of_kind
 symbol-expected s bytes vs end reads stands =
-    let front : take (0 + length bytes) s ≡ bytes =
-    ap (λ n. take n s) (zero-add (length bytes)) ∙ ap (take (length bytes)) stands.1 ∙ take-append_seam bytes stands.0 in
-    subst (λ l. direct.Reads cpp_language s (OfKind SYMBOL) first_around 0 l first_state vs end) (sym front) reads
+    let front : take (0 + length bytes) s.bytes ≡ bytes =
+    ap (λ n. take n s.bytes) (zero-add (length bytes)) ∙ ap (take (length bytes)) stands.1 ∙ take-append_seam bytes stands.0 in
+    subst (λ l. direct.Reads (cpp_language s) s.bytes (OfKind SYMBOL) first_around 0 l first_state vs end) (sym front) reads
 
 -- what was read is the symbol
-symbol-read : (s : List ℕ) (t : Term) (end : State) → Comes s [] (tree t true) (length s) end → StandsFor cpp_mangled s (Ok t)
+symbol-read : (s : Symbol) (t : Term) (end : State) → Comes s [] (tree t true) (length s.bytes) end → StandsFor (mangled_of s) s.bytes (Ok t)
 unfolding unfold_cpp first_tree tree_of number_of_kind
 symbol-read s t end reads =
-    (reads.shape, reads.shaped, reads.spelled ∙ take_all (length s) s (omega arith), sym (rw reads.unfolds refl))
+    stands-by s.is_wide s.bytes reads.shape (Ok t) reads.shaped (reads.spelled ∙ take_all (length s.bytes) s.bytes (omega arith)) (sym (rw reads.unfolds refl))
 
 -- a symbol begins with _Z and its encoding, and ends there or with a suffix
-pub symbol-starts : (s : List ℕ) → StandsAt s 0 (95 ∷ 90 ∷ []) → SymbolOpened s
+pub symbol-starts : (s : Symbol) → StandsAt s.bytes 0 (95 ∷ 90 ∷ []) → SymbolOpened s
 unfolding choose alternatives pick is_in in_ranges among is_chain parts_of between opening close unfolding_.behind meaning part tree_of text_of may_be_empty
 symbol-starts s stands =
     let p = Production.Symbol in
     let a = first_around in
     let st = first_state in
     let rule = standing (rule_of p) (95 ∷ []) 0 a st in
-    let places = stands-split s 0 (95 ∷ []) (90 ∷ []) stands in
+    let places = stands-split s.bytes 0 (95 ∷ []) (90 ∷ []) stands in
     let encoding = OfKind (number_of_kind Kind.Encoding) in
     let suffix_ = OfKind (number_of_kind Kind.MaybeSuffix) in
     let awaits-suffix : (e : Term) (at : ℕ) (now : State) → Comes s (opened rule (nothing_there ∷ []) (suffix_ ∷ []) ∷ []) (tree e true) at now
@@ -411,12 +415,12 @@ symbol-starts s stands =
           (opens s Kind.Symbol p 95 (95 ∷ []) a [] 0 st refl (omega arith) refl (λ f. refl) (symbol-expected s) places.0)) places.1);
       ends = λ e now comes.
           symbol-read s (symbol e []) now
-          (ends s p (95 ∷ []) 0 a st (nothing_there ∷ tree e true ∷ nothing_there ∷ []) [] (length s) now _ now
-          (expects-empty s Kind.MaybeSuffix a (opened rule (nothing_there ∷ tree e true ∷ []) [] ∷ []) (length s) now
-          (awaits-suffix e (length s) now comes) refl) refl);
+          (ends s p (95 ∷ []) 0 a st (nothing_there ∷ tree e true ∷ nothing_there ∷ []) [] (length s.bytes) now _ now
+          (expects-empty s Kind.MaybeSuffix a (opened rule (nothing_there ∷ tree e true ∷ []) [] ∷ []) (length s.bytes) now
+          (awaits-suffix e (length s.bytes) now comes) refl) refl);
       ends_in = λ e at suffix now comes there whole is.
           symbol-read s (symbol e suffix) now
-          (ends s p (95 ∷ []) 0 a st (nothing_there ∷ tree e true ∷ text suffix ∷ []) [] (length s) now _ now
-          (comes-moved s (opened rule (nothing_there ∷ tree e true ∷ []) [] ∷ []) (text suffix) (at + length suffix) (length s) now whole
+          (ends s p (95 ∷ []) 0 a st (nothing_there ∷ tree e true ∷ text suffix ∷ []) [] (length s.bytes) now _ now
+          (comes-moved s (opened rule (nothing_there ∷ tree e true ∷ []) [] ∷ []) (text suffix) (at + length suffix) (length s.bytes) now whole
           (suffix-comes s suffix (opened rule (nothing_there ∷ tree e true ∷ []) [] ∷ []) a at now is (awaits-suffix e at now comes) there)) refl);
     }

@@ -17,6 +17,7 @@ use Rattle.cpp_grammar.specs.Unfolding as unfolding_
 use Rattle.cpp_grammar.specs.Unfolding.{opening, close, byte_of}
 use Rattle.cpp_grammar.specs.Values as values
 use Rattle.cpp_grammar.specs.Values.{State, Around, tree, nothing_there, tree_of, is_there, is_listed, text_of, part}
+use Rattle.cpp_direct.specs.Symbol.{Symbol}
 use Rattle.cpp_direct.specs.Holes.{Opened, opened, StandsAt, Comes, Expects, with_candidate}
 use Rattle.cpp_direct.specs.Stands.{IsScope}
 use Rattle.cpp_direct.proofs.DependentsRead.{first-number, first_token}
@@ -43,8 +44,8 @@ unfolding between parameter_so_far parameter_named listed_so_far index_of text_o
 pack-tested around at st scope = rw (scope.scope_is ∙ ap (λ l. Some l) (scope.alone refl)) refl
 
 -- the parameter comes
-pack-comes : (s : List ℕ) (around : Around) (os : List Opened) (at : ℕ) (st : State) → IsScope 0 true around
-    → Expects s Kind.Type (under_expansion around) os at (begun st) → StandsAt s at (84 ∷ 95 ∷ [])
+pack-comes : (s : Symbol) (around : Around) (os : List Opened) (at : ℕ) (st : State) → IsScope 0 true around
+    → Expects s Kind.Type (under_expansion around) os at (begun st) → StandsAt s.bytes at (84 ∷ 95 ∷ [])
     → Comes s os (tree (parameter 0) true) (at + 2) (with_candidate around.encoding (parameter 0) (named_one st))
 unfolding choose alternatives pick is_in in_ranges among is_chain parts_of number_of_kind between opening close unfolding_.behind meaning byte_of tree_of is_there part applied may_be_empty is_function_type
 pack-comes s around os at st scope expects stands =
@@ -53,7 +54,7 @@ pack-comes s around os at st scope expects stands =
     let v = tree t true in
     let here = under_expansion around in
     let later = with_candidate around.encoding t (named_one st) in
-    let both = stands-split s at (84 ∷ []) (95 ∷ []) stands in
+    let both = stands-split s.bytes at (84 ∷ []) (95 ∷ []) stands in
     let solid = solid-opens s Kind.Type here os at (begun st) tt expects in
     let rule = standing (rule_of p) (84 ∷ []) at here (begun st) in
     let number = expects-number s Decimal here (opened rule [] (OfKind ARGUMENTS_ALONE ∷ []) ∷ solid.inner) (at + 1) (begun st) first_token
@@ -73,8 +74,8 @@ with_expansion e st =
     with_candidate e (expansion each) (record (with_candidate e each (with_candidate e (parameter 0) (named_one st))) { packs = st.packs })
 
 -- a reference to each type of the pack comes, where a parameter is expected
-pub expansion-comes : (s : List ℕ) (around : Around) (os : List Opened) (at : ℕ) (st : State) → IsScope 0 true around
-    → Expects s Kind.Item around os at st → StandsAt s at (68 ∷ 112 ∷ 79 ∷ 84 ∷ 95 ∷ [])
+pub expansion-comes : (s : Symbol) (around : Around) (os : List Opened) (at : ℕ) (st : State) → IsScope 0 true around
+    → Expects s Kind.Item around os at st → StandsAt s.bytes at (68 ∷ 112 ∷ 79 ∷ 84 ∷ 95 ∷ [])
     → Comes s os (tree (expansion (rvalue (parameter 0))) true) (at + 5) (with_expansion around.encoding st)
 unfolding choose alternatives pick is_in in_ranges among is_chain parts_of number_of_kind between opening close unfolding_.behind meaning listed_value with_type byte_of tree_of is_there is_listed part appended under_expansion
 expansion-comes s around os at st scope expects stands =
@@ -83,9 +84,9 @@ expansion-comes s around os at st scope expects stands =
     let each = rvalue (parameter 0) in
     let e = around.encoding in
     let here = under_expansion around in
-    let first = stands-split s at (68 ∷ []) (112 ∷ 79 ∷ 84 ∷ 95 ∷ []) stands in
-    let second = stands-split s (at + 1) (112 ∷ []) (79 ∷ 84 ∷ 95 ∷ []) first.1 in
-    let third = stands-split s (at + 1 + 1) (79 ∷ []) (84 ∷ 95 ∷ []) second.1 in
+    let first = stands-split s.bytes at (68 ∷ []) (112 ∷ 79 ∷ 84 ∷ 95 ∷ []) stands in
+    let second = stands-split s.bytes (at + 1) (112 ∷ []) (79 ∷ 84 ∷ 95 ∷ []) first.1 in
+    let third = stands-split s.bytes (at + 1 + 1) (79 ∷ []) (84 ∷ 95 ∷ []) second.1 in
     let outer = opened (standing (rule_of p) (68 ∷ []) at around st) [] [] ∷ os in
     let inner = opened (standing (rule_of q) (112 ∷ []) (at + 1) around st) [] [] ∷ outer in
     let item = first-of s Kind.Item p 68 around os at st (OfKind ITEM_AFTER_D) [] around [] st refl (omega arith) refl (λ f. refl) refl refl expects first.0 in

@@ -7,7 +7,7 @@ use Rattle.sym_link.specs.Unfold.{found, standing, unfold_forest}
 use Rattle.cpp_grammar.specs.declared.kind.Kind.{Kind}
 use Rattle.cpp_grammar.specs.declared.production.Production.{Production}
 use Rattle.cpp_grammar.specs.Grammar.{in_ranges, among, is_in, pick, number_of_kind, alternatives, choose, parts_of, is_chain, may_be_empty}
-use Rattle.cpp_grammar.specs.Table.{abi, rule_of}
+use Rattle.cpp_grammar.specs.Table.{rule_of}
 use Rattle.cpp_grammar.specs.Term.{Term, any_value, lvalue, rvalue, list, nil}
 use Rattle.cpp_grammar.specs.Values.{State, Around, Value, outermost, nothing_there, tree, tree_of, ref_of, signature, is_there, part}
 use Rattle.cpp_grammar.specs.Between.{Going, between}
@@ -16,6 +16,7 @@ use Rattle.cpp_grammar.specs.References.{appended}
 use Rattle.cpp_grammar.specs.Unfolding as unfolding_
 use Rattle.cpp_grammar.specs.Unfolding.{opening, close, byte_of}
 use Rattle.cpp_grammar.proofs.ClosedTrees.{at_number}
+use Rattle.cpp_direct.specs.Symbol.{Symbol, table_by}
 use Rattle.cpp_direct.specs.Holes.{Opened, opened, ReadsRest, StandsAt, Comes, Expects, IsTyped, with_candidate}
 use Rattle.cpp_direct.specs.HolesOfTypes.{IsQualifiable}
 use Rattle.cpp_direct.specs.HolesOfFunctions.{plain_function, SignatureGoesOn, FunctionOpened, ParameterOpened, ReferenceOpened, reference_letter}
@@ -23,8 +24,8 @@ use Rattle.cpp_direct.proofs.Moves.{opens, opens-chain, first-of, first-of-chain
 use Rattle.cpp_direct.proofs.MovesOfTypes.{whole-opens, pointer-opens}
 
 -- the return type of a function type is expected behind its F
-pub function-opens : (s : List ℕ) (kind : Kind) (os : List Opened) (around : Around) (at : ℕ) (st : State) → IsQualifiable kind
-    → around.prefix ≡ outermost → Expects s kind around os at st → StandsAt s at (70 ∷ []) → FunctionOpened s os around false (at + 1) st
+pub function-opens : (s : Symbol) (kind : Kind) (os : List Opened) (around : Around) (at : ℕ) (st : State) → IsQualifiable kind
+    → around.prefix ≡ outermost → Expects s kind around os at st → StandsAt s.bytes at (70 ∷ []) → FunctionOpened s os around false (at + 1) st
 unfolding choose alternatives pick is_in in_ranges among is_chain parts_of number_of_kind may_be_empty between opening close unfolding_.behind meaning function_of part tree_of ref_of is_there
 function-opens s kind os around at st whole outside expects stands =
     let p = Production.Function in
@@ -52,10 +53,10 @@ function-opens s kind os around at st whole outside expects stands =
     }
 
 -- and behind PF that of one that is pointed to
-pub pointed-function-opens : (s : List ℕ) (kind : Kind) (os : List Opened) (around : Around) (at : ℕ) (st : State) → IsQualifiable kind
-    → around.prefix ≡ outermost → Expects s kind around os at st → StandsAt s at (80 ∷ 70 ∷ []) → FunctionOpened s os around true (at + 2) st
+pub pointed-function-opens : (s : Symbol) (kind : Kind) (os : List Opened) (around : Around) (at : ℕ) (st : State) → IsQualifiable kind
+    → around.prefix ≡ outermost → Expects s kind around os at st → StandsAt s.bytes at (80 ∷ 70 ∷ []) → FunctionOpened s os around true (at + 2) st
 pointed-function-opens s kind os around at st whole outside expects stands =
-    let both = stands-split s at (80 ∷ []) (70 ∷ []) stands in
+    let both = stands-split s.bytes at (80 ∷ []) (70 ∷ []) stands in
     let o = pointer-opens s kind around os at st (typed kind whole) expects both.0 in
     let f = function-opens s Kind.Type o.inner around (at + 1) st tt outside o.awaits both.1 in
     record {
@@ -78,7 +79,7 @@ pointed-function-opens s kind os around at st whole outside expects stands =
     typed _ is = absurd is
 
 -- a parameter is expected
-pub parameter-opens : (s : List ℕ) (outer : List Opened) (encoding : ℕ) (is_pointer : Bool) (made : Term → Term) (at : ℕ) (st : State)
+pub parameter-opens : (s : Symbol) (outer : List Opened) (encoding : ℕ) (is_pointer : Bool) (made : Term → Term) (at : ℕ) (st : State)
     → SignatureGoesOn s outer encoding is_pointer made at st → ParameterOpened s outer encoding is_pointer made at st
 unfolding choose alternatives pick is_in in_ranges among is_chain parts_of number_of_kind between opening close unfolding_.behind meaning with_item part tree_of ref_of
 parameter-opens s outer encoding is_pointer made at st g =
@@ -102,8 +103,8 @@ parameter-opens s outer encoding is_pointer made at st g =
     }
 
 -- an E ends a function type
-pub signature-ends : (s : List ℕ) (outer : List Opened) (encoding : ℕ) (is_pointer : Bool) (made : Term → Term) (at : ℕ) (st : State)
-    → (g : SignatureGoesOn s outer encoding is_pointer made at st) → StandsAt s at (69 ∷ []) → Comes s g.inner (signature nil any_value) (at + 1) st
+pub signature-ends : (s : Symbol) (outer : List Opened) (encoding : ℕ) (is_pointer : Bool) (made : Term → Term) (at : ℕ) (st : State)
+    → (g : SignatureGoesOn s outer encoding is_pointer made at st) → StandsAt s.bytes at (69 ∷ []) → Comes s g.inner (signature nil any_value) (at + 1) st
 unfolding choose alternatives pick is_in in_ranges among is_chain parts_of number_of_kind between opening close unfolding_.behind meaning
 signature-ends s outer encoding is_pointer made at st g stands =
     ends s Production.RestEnd (69 ∷ []) at g.around st [] g.inner (at + 1) st _ st
@@ -112,7 +113,7 @@ signature-ends s outer encoding is_pointer made at st g stands =
 -- ## References as parameters
 
 -- Behind what a reference is to, the reader makes the reference, and goes on as behind another parameter.
-rests-alike : (s : List ℕ) (item : Production) (made : Term → Term) (around : Around) (at0 : ℕ) (before : State) (t : Term) (at : ℕ) (st then_ : State)
+rests-alike : (s : Symbol) (item : Production) (made : Term → Term) (around : Around) (at0 : ℕ) (before : State) (t : Term) (at : ℕ) (st then_ : State)
     (bytes : List ℕ) (vs : List Value) (inner : State) (x : Sym)
     → ◌≡◌ {A = Going} (between item around at0 (tree t true ∷ []) st)
     (Ok (record { values = tree (made t) true ∷ []; context = around; state = then_ }))
@@ -128,7 +129,7 @@ rests-alike s item made around at0 before t at st then_ bytes vs inner x goes sa
   unfolds = go rest.forest rest.shaped rest.unfolds;
 }
   where
-    go : (f : Forest) → AreTrees abi (x ∷ []) f
+    go : (f : Forest) → AreTrees (table_by s.is_wide) (x ∷ []) f
         → unfold_forest unfolding_.cpp (standing (rule_of Production.RestItem) [] at0 around before) (tree (made t) true ∷ []) at f then_ ≡ Ok (found vs inner)
         → unfold_forest unfolding_.cpp (standing (rule_of item) [] at0 around before) (tree t true ∷ []) at f st ≡ Ok (found vs inner)
     go (grown one nothing) shaped e = rw (at_number item, goes, at_number Production.RestItem, same) refl ∙ e
@@ -136,7 +137,7 @@ rests-alike s item made around at0 before t at st then_ bytes vs inner x goes sa
     go nothing shaped e = absurd shaped
 
 -- the same of all that is open
-alike : (s : List ℕ) (item : Production) (made : Term → Term) (around : Around) (at0 : ℕ) (before : State) (os : List Opened) (x : Sym) (t : Term)
+alike : (s : Symbol) (item : Production) (made : Term → Term) (around : Around) (at0 : ℕ) (before : State) (os : List Opened) (x : Sym) (t : Term)
     (at : ℕ) (st then_ : State)
     → ◌≡◌ {A = Going} (between item around at0 (tree t true ∷ []) st)
     (Ok (record { values = tree (made t) true ∷ []; context = around; state = then_ }))
@@ -152,8 +153,8 @@ alike s item made around at0 before os x t at st then_ goes same closes comes by
     ∙ sym (ap (λ q. close q 0 around at0 before vs inner) (at_number Production.RestItem)) ∙ closed)
 
 -- a parameter that is a reference is expected behind its letter
-pub reference-opens : (s : List ℕ) (outer : List Opened) (encoding : ℕ) (is_pointer is_lvalue : Bool) (made : Term → Term) (at : ℕ) (st : State)
-    → SignatureGoesOn s outer encoding is_pointer made at st → StandsAt s at (reference_letter is_lvalue ∷ [])
+pub reference-opens : (s : Symbol) (outer : List Opened) (encoding : ℕ) (is_pointer is_lvalue : Bool) (made : Term → Term) (at : ℕ) (st : State)
+    → SignatureGoesOn s outer encoding is_pointer made at st → StandsAt s.bytes at (reference_letter is_lvalue ∷ [])
     → ReferenceOpened s outer encoding is_pointer is_lvalue made at st
 unfolding choose alternatives pick is_in in_ranges among is_chain parts_of number_of_kind between opening close unfolding_.behind meaning with_item part tree_of ref_of signature_or byte_of appended
 reference-opens s outer encoding is_pointer true made at st g stands =

@@ -9,7 +9,7 @@ use Rattle.sym_core.specs.declared.refusal.Refusal.{Refusal}
 use Rattle.cpp_grammar.specs.declared.kind.Kind.{Kind}
 use Rattle.cpp_grammar.specs.declared.production.Production.{Production}
 use Rattle.cpp_grammar.specs.Grammar.{in_ranges, among, is_in, pick, number_of_kind, alternatives, choose, parts_of, is_chain, productions, number_of}
-use Rattle.cpp_grammar.specs.Table.{abi, rule_of}
+use Rattle.cpp_grammar.specs.Table.{rule_of}
 use Rattle.cpp_grammar.specs.Term.{Term, builtin, integer, boolean, pack}
 use Rattle.cpp_grammar.specs.Values.{State, Around, nothing_there, letter, text, signed, tree, tree_of, is_listed, letter_of, text_of, signed_of, signed_digits, prefix_tree, prefix_listed, part, Value}
 use Rattle.cpp_grammar.specs.References.{appended, with_type, with_prefix}
@@ -17,6 +17,7 @@ use Rattle.cpp_grammar.specs.Between.{Going, between, after, inside, no_items}
 use Rattle.cpp_grammar.specs.Meaning.{meaning}
 use Rattle.cpp_grammar.specs.Unfolding as unfolding_
 use Rattle.cpp_grammar.specs.Unfolding.{cpp, opening, close, byte_of}
+use Rattle.cpp_direct.specs.Symbol.{Symbol, table_by}
 use Rattle.cpp_direct.specs.Holes.{Opened, opened, StandsAt, Comes, Expects, ExpectsSym, unless_listed, IsListKind, ListGoesOn, AwaitsElement, with_candidate}
 use Rattle.cpp_direct.specs.ItemBytes.{is_integer_letter}
 use Rattle.cpp_direct.specs.Letters.{integer_letters}
@@ -28,9 +29,9 @@ use Rattle.cpp_direct.proofs.Moves.{stands-split, opens, opens-chain, needs-next
 -- ## Marks
 
 -- a mark is read
-pub mark-comes : (s : List ℕ) (os : List Opened) (kind : Kind) (byte : ℕ) (around : Around) (at : ℕ) (st : State)
+pub mark-comes : (s : Symbol) (os : List Opened) (kind : Kind) (byte : ℕ) (around : Around) (at : ℕ) (st : State)
     → choose kind byte ≡ Some Production.Mark → byte < 256
-    → Expects s kind around os at st → StandsAt s at (byte ∷ [])
+    → Expects s kind around os at st → StandsAt s.bytes at (byte ∷ [])
     → Comes s os (letter byte) (at + 1) st
 unfolding is_chain parts_of opening close unfolding_.behind meaning byte_of
 mark-comes s os kind byte around at st chosen small expects stands =
@@ -47,15 +48,15 @@ prefix-listed t true around at st = refl
 prefix-listed t false around at st = refl
 
 -- arguments behind a name begin with an I, and end with an E
-pub arguments-open : (s : List ℕ) (os : List Opened) (around : Around) (t : Term) (listed : Bool) (at : ℕ) (st : State)
-    → Expects s Kind.MaybeArguments (after t listed around) os at st → StandsAt s at (73 ∷ [])
+pub arguments-open : (s : Symbol) (os : List Opened) (around : Around) (t : Term) (listed : Bool) (at : ℕ) (st : State)
+    → Expects s Kind.ArgumentsAlone (after t listed around) os at st → StandsAt s.bytes at (73 ∷ [])
     → ArgumentsOpened s os around (at + 1) (unless_listed listed around.encoding t st)
 unfolding choose alternatives pick is_in in_ranges among is_chain parts_of between opening close unfolding_.behind meaning part
 arguments-open s os around t listed at st expects stands =
     let named_ = after t listed around in
     let rule = standing (rule_of Production.Arguments) (73 ∷ []) at named_ st in
     let state = unless_listed listed around.encoding t st in
-    let needs = opens s Kind.MaybeArguments Production.Arguments 73 (73 ∷ []) named_ os at st refl (omega arith) refl (λ f. refl) expects stands in
+    let needs = opens s Kind.ArgumentsAlone Production.Arguments 73 (73 ∷ []) named_ os at st refl (omega arith) refl (λ f. refl) expects stands in
     record {
       inner = opened rule [] (Byte 69 ∷ []) ∷ os;
       awaits = any-list s (inside around) (opened rule [] (Byte 69 ∷ []) ∷ os) (at + 1) state
@@ -71,7 +72,7 @@ arguments-open s os around t listed at st expects stands =
 -- ## Elements that are types
 
 -- an element of a list of arguments or items is expected, which is a type
-pub element-awaits : (s : List ℕ) (kind : Kind) (os : List Opened) (around : Around) (at : ℕ) (st : State)
+pub element-awaits : (s : Symbol) (kind : Kind) (os : List Opened) (around : Around) (at : ℕ) (st : State)
     → IsListKind kind → Expects s kind around os at st → AwaitsElement s kind os around at st
 unfolding choose alternatives pick is_in in_ranges among is_chain parts_of between opening close unfolding_.behind meaning part tree_of
 element-awaits s Kind.ArgumentList os around at st list_kind expects =
@@ -121,8 +122,8 @@ element-awaits s _ os around at st list_kind expects = absurd list_kind
 -- ## Elements that are literals
 
 -- an argument that is a literal begins with an L, and ends with an E
-pub literal-opens : (s : List ℕ) (kind : Kind) (os : List Opened) (around : Around) (at : ℕ) (st : State) → IsArgumentKind kind
-    → Expects s kind around os at st → StandsAt s at (76 ∷ [])
+pub literal-opens : (s : Symbol) (kind : Kind) (os : List Opened) (around : Around) (at : ℕ) (st : State) → IsArgumentKind kind
+    → Expects s kind around os at st → StandsAt s.bytes at (76 ∷ [])
     → LiteralOpened s kind os around (at + 1) st
 unfolding choose alternatives pick is_in in_ranges among is_chain parts_of between opening close unfolding_.behind meaning part tree_of
 literal-opens s Kind.ArgumentList os around at st is expects stands =
@@ -170,8 +171,8 @@ literal-opens s _ os around at st is expects stands = absurd is
 -- ## Packs
 
 -- an argument that is a pack begins with a J, and ends with an E
-pub pack-opens : (s : List ℕ) (os : List Opened) (around : Around) (at : ℕ) (st : State)
-    → Expects s Kind.ArgumentList around os at st → StandsAt s at (74 ∷ []) → PackOpened s os around (at + 1) st
+pub pack-opens : (s : Symbol) (os : List Opened) (around : Around) (at : ℕ) (st : State)
+    → Expects s Kind.ArgumentList around os at st → StandsAt s.bytes at (74 ∷ []) → PackOpened s os around (at + 1) st
 unfolding choose alternatives pick is_in in_ranges among is_chain parts_of between opening close unfolding_.behind meaning part tree_of
 pack-opens s os around at st expects stands =
     let p = Production.PackArgument in
@@ -203,14 +204,14 @@ is-bit d (inl same) = (ap (choose Kind.Bit) same, omega (arith, same))
 is-bit d (inr same) = (ap (choose Kind.Bit) same, omega (arith, same))
 
 -- a boolean is read
-pub boolean-comes : (s : List ℕ) (os : List Opened) (around : Around) (d at : ℕ) (st : State) → (d ≡ 48) ⊎ (d ≡ 49)
-    → Expects s Kind.Literal around os at st → StandsAt s at (98 ∷ d ∷ [])
+pub boolean-comes : (s : Symbol) (os : List Opened) (around : Around) (d at : ℕ) (st : State) → (d ≡ 48) ⊎ (d ≡ 49)
+    → Expects s Kind.Literal around os at st → StandsAt s.bytes at (98 ∷ d ∷ [])
     → Comes s os (tree (boolean (nat_eq d 49)) true) (at + 1 + 1) st
 unfolding choose alternatives pick is_in in_ranges among is_chain parts_of between opening close unfolding_.behind meaning part letter_of
 boolean-comes s os around d at st bit expects stands =
     let p = Production.BoolLiteral in
     let rule = standing (rule_of p) (98 ∷ []) at around st in
-    let places = stands-split s at (98 ∷ []) (d ∷ []) stands in
+    let places = stands-split s.bytes at (98 ∷ []) (d ∷ []) stands in
     let is = is-bit d bit in
     ends s p (98 ∷ []) at around st (letter d ∷ []) os (at + 1 + 1) st _ st
     (mark-comes s (opened rule [] [] ∷ os) Kind.Bit d around (at + 1) st is.0 is.1
@@ -218,18 +219,18 @@ boolean-comes s os around d at st bit expects stands =
     (opens s Kind.Literal p 98 (98 ∷ []) around os at st refl (omega arith) refl (λ f. refl) expects places.0)) places.1) refl
 
 -- an argument that is a boolean
-pub bool-element : (s : List ℕ) (kind : Kind) (os : List Opened) (around : Around) (d at : ℕ) (st : State) → IsArgumentKind kind → (d ≡ 48) ⊎ (d ≡ 49)
-    → Expects s kind around os at st → StandsAt s at (76 ∷ 98 ∷ d ∷ 69 ∷ [])
+pub bool-element : (s : Symbol) (kind : Kind) (os : List Opened) (around : Around) (d at : ℕ) (st : State) → IsArgumentKind kind → (d ≡ 48) ⊎ (d ≡ 49)
+    → Expects s kind around os at st → StandsAt s.bytes at (76 ∷ 98 ∷ d ∷ 69 ∷ [])
     → ListGoesOn s kind os around (boolean (nat_eq d 49)) (at + 4) st
 bool-element s kind os around d at st is bit expects stands =
-    let first = stands-split s at (76 ∷ []) (98 ∷ d ∷ 69 ∷ []) stands in
-    let second = stands-split s (at + 1) (98 ∷ d ∷ []) (69 ∷ []) first.1 in
+    let first = stands-split s.bytes at (76 ∷ []) (98 ∷ d ∷ 69 ∷ []) stands in
+    let second = stands-split s.bytes (at + 1) (98 ∷ d ∷ []) (69 ∷ []) first.1 in
     let literal = literal-opens s kind os around at st is expects first.0 in
     let three : at + 1 + 2 ≡ at + 1 + 1 + 1 = omega arith in
     subst (λ n. ListGoesOn s kind os around (boolean (nat_eq d 49)) n st) (omega arith)
     (literal.onward (boolean (nat_eq d 49)) (at + 1 + 1 + 1) st
     (boolean-comes s literal.inner around d (at + 1) st bit literal.awaits second.0)
-    (subst (λ n. StandsAt s n (69 ∷ [])) three second.1))
+    (subst (λ n. StandsAt s.bytes n (69 ∷ [])) three second.1))
 
 -- ## Integers
 
@@ -242,8 +243,8 @@ integer-letter b is = (
 )
 
 -- a builtin type of one letter is read where the type of a literal is expected
-pub integer-type-comes : (s : List ℕ) (os : List Opened) (around : Around) (b at : ℕ) (st : State) → is_integer_letter b ≡ true
-    → Expects s Kind.LiteralType around os at st → StandsAt s at (b ∷ [])
+pub integer-type-comes : (s : Symbol) (os : List Opened) (around : Around) (b at : ℕ) (st : State) → is_integer_letter b ≡ true
+    → Expects s Kind.LiteralType around os at st → StandsAt s.bytes at (b ∷ [])
     → Comes s os (tree (builtin (b ∷ [])) true) (at + 1) st
 unfolding is_chain parts_of opening close unfolding_.behind meaning byte_of
 integer-type-comes s os around b at st is expects stands =
@@ -252,15 +253,15 @@ integer-type-comes s os around b at st is expects stands =
     (opens s Kind.LiteralType Production.Builtin b (b ∷ []) around os at st letter_is.0 letter_is.1 refl (λ f. refl) expects stands) refl
 
 -- the digits of an integer are read
-pub digits-come : (s : List ℕ) (os : List Opened) (around : Around) (at : ℕ) (digits : List ℕ) (end : ℕ) (st : State)
-    → ExpectsSym s (Number Digits) around os at st → IsDigitsAt s at digits end → Comes s os (text digits) end st
+pub digits-come : (s : Symbol) (os : List Opened) (around : Around) (at : ℕ) (digits : List ℕ) (end : ℕ) (st : State)
+    → ExpectsSym s (Number Digits) around os at st → IsDigitsAt s.bytes at digits end → Comes s os (text digits) end st
 digits-come s os around at digits end st expects is =
     subst (λ d. Comes s os (text d) end st) is.own
     (subst (λ n. Comes s os (text is.token.own) n st) (sym is.ends) (expects-number s Digits around os at st is.token expects is.is_number is.stands))
 
 -- an integer is read
-pub integer-comes : (s : List ℕ) (os : List Opened) (around : Around) (negative : Bool) (digits : List ℕ) (at end : ℕ) (st : State)
-    → Expects s Kind.Integer around os at st → StandsAt s at (minus_sign negative) → IsDigitsAt s (at + length (minus_sign negative)) digits end
+pub integer-comes : (s : Symbol) (os : List Opened) (around : Around) (negative : Bool) (digits : List ℕ) (at end : ℕ) (st : State)
+    → Expects s Kind.Integer around os at st → StandsAt s.bytes at (minus_sign negative) → IsDigitsAt s.bytes (at + length (minus_sign negative)) digits end
     → Comes s os (signed (signed_digits negative digits)) end st
 unfolding choose alternatives pick is_in in_ranges among is_chain parts_of between opening close unfolding_.behind meaning part text_of
 integer-comes s os around true digits at end st expects stands is =
@@ -279,9 +280,9 @@ integer-comes s os around false digits at end st expects stands is =
     (opens s Kind.Integer p 48 [] around os at st refl (omega arith) refl (λ f. refl) expects stands)) is) refl
 
 -- an integer with its type is read
-pub integer-literal-comes : (s : List ℕ) (os : List Opened) (around : Around) (b : ℕ) (negative : Bool) (digits : List ℕ) (at end : ℕ) (st : State)
-    → is_integer_letter b ≡ true → Expects s Kind.Literal around os at st → StandsAt s at (b ∷ minus_sign negative)
-    → IsDigitsAt s (at + 1 + length (minus_sign negative)) digits end
+pub integer-literal-comes : (s : Symbol) (os : List Opened) (around : Around) (b : ℕ) (negative : Bool) (digits : List ℕ) (at end : ℕ) (st : State)
+    → is_integer_letter b ≡ true → Expects s Kind.Literal around os at st → StandsAt s.bytes at (b ∷ minus_sign negative)
+    → IsDigitsAt s.bytes (at + 1 + length (minus_sign negative)) digits end
     → Comes s os (tree (integer (builtin (b ∷ [])) (signed_digits negative digits)) true) end st
 unfolding choose alternatives pick is_in in_ranges among is_chain parts_of between opening close unfolding_.behind meaning part tree_of signed_of with_type is_listed
 integer-literal-comes s os around b negative digits at end st letter_is expects stands is =
@@ -289,7 +290,7 @@ integer-literal-comes s os around b negative digits at end st letter_is expects 
     let rule = standing (rule_of p) [] at around st in
     let kind = tree (builtin (b ∷ [])) true in
     let number = OfKind (number_of_kind Kind.Integer) in
-    let places = stands-split s at (b ∷ []) (minus_sign negative) stands in
+    let places = stands-split s.bytes at (b ∷ []) (minus_sign negative) stands in
     ends s p [] at around st (kind ∷ signed (signed_digits negative digits) ∷ []) os end st _ st
     (integer-comes s (opened rule (kind ∷ []) [] ∷ os) around negative digits (at + 1) end st
     (needs-next s p [] at around st (kind ∷ []) number [] os (at + 1) st around (kind ∷ []) st refl
@@ -298,22 +299,22 @@ integer-literal-comes s os around b negative digits at end st letter_is expects 
     (opens-chain s Kind.Literal p 80 around os at st refl (omega arith) refl (λ f. refl) expects)) places.0)) places.1 is) refl
 
 -- an argument that is an integer
-pub integer-element : (s : List ℕ) (kind : Kind) (os : List Opened) (around : Around) (b : ℕ) (negative : Bool) (digits : List ℕ) (at end : ℕ) (st : State)
-    → IsArgumentKind kind → is_integer_letter b ≡ true → Expects s kind around os at st → StandsAt s at (76 ∷ b ∷ minus_sign negative)
-    → IsDigitsAt s (at + length (76 ∷ b ∷ minus_sign negative)) digits end → StandsAt s end (69 ∷ [])
+pub integer-element : (s : Symbol) (kind : Kind) (os : List Opened) (around : Around) (b : ℕ) (negative : Bool) (digits : List ℕ) (at end : ℕ) (st : State)
+    → IsArgumentKind kind → is_integer_letter b ≡ true → Expects s kind around os at st → StandsAt s.bytes at (76 ∷ b ∷ minus_sign negative)
+    → IsDigitsAt s.bytes (at + length (76 ∷ b ∷ minus_sign negative)) digits end → StandsAt s.bytes end (69 ∷ [])
     → ListGoesOn s kind os around (integer (builtin (b ∷ [])) (signed_digits negative digits)) (end + 1) st
 integer-element s kind os around b negative digits at end st kind_is letter_is expects stands is ended =
-    let places = stands-split s at (76 ∷ []) (b ∷ minus_sign negative) stands in
+    let places = stands-split s.bytes at (76 ∷ []) (b ∷ minus_sign negative) stands in
     let literal = literal-opens s kind os around at st kind_is expects places.0 in
     let behind_type : at + length (76 ∷ b ∷ minus_sign negative) ≡ at + 1 + 1 + length (minus_sign negative) = omega arith in
     literal.onward (integer (builtin (b ∷ [])) (signed_digits negative digits)) end st
     (integer-literal-comes s literal.inner around b negative digits (at + 1) end st letter_is literal.awaits places.1
-    (subst (λ n. IsDigitsAt s n digits end) behind_type is)) ended
+    (subst (λ n. IsDigitsAt s.bytes n digits end) behind_type is)) ended
 
 -- ## Enumerators
 
 -- the type of an enumerator comes as a candidate, which it becomes unless it is one
-enumeration-passes : (s : List ℕ) (os : List Opened) (around : Around) (place : ℕ) (before : State) (t : Term) (listed : Bool) (at : ℕ) (st : State)
+enumeration-passes : (s : Symbol) (os : List Opened) (around : Around) (place : ℕ) (before : State) (t : Term) (listed : Bool) (at : ℕ) (st : State)
     → Comes s (opened (standing (rule_of Production.IntegerLiteral) [] place around before) [] (OfKind (number_of_kind Kind.Integer) ∷ []) ∷ os)
     (tree t listed) at st
     → Comes s (opened (standing (rule_of Production.IntegerLiteral) [] place around before) [] (OfKind (number_of_kind Kind.Integer) ∷ []) ∷ os)
@@ -332,7 +333,7 @@ enumeration-passes s os around place before t false at st comes bytes vs inner w
         → cpp.close rule (tree t false ∷ y.value) y.state ≡ Ok (found w later)
     closed y same = ap (λ (f : Found (List Value) State). cpp.close rule f.value f.state) same ∙ closes
 
-    part_of : (x : Shape) → IsTree abi (OfKind (number_of_kind Kind.Integer)) x → spell_all (grown x nothing) ≡ bytes
+    part_of : (x : Shape) → IsTree (table_by s.is_wide) (OfKind (number_of_kind Kind.Integer)) x → spell_all (grown x nothing) ≡ bytes
         → (r : Result (Found (List Value) State) Refusal) → unfold_tree cpp around at x behind ≡ r
         → ◌≡◌ {A = Result (Found (List Value) State) Refusal} (r >>= λ y. Ok (found (tree t true ∷ y.value) y.state)) (Ok (found vs inner))
         → Comes s os w (at + length bytes) later
@@ -346,7 +347,7 @@ enumeration-passes s os around place before t false at st comes bytes vs inner w
         })
         there (closed y (cc same))
 
-    go : (f : Forest) → AreTrees abi (OfKind (number_of_kind Kind.Integer) ∷ []) f → spell_all f ≡ bytes
+    go : (f : Forest) → AreTrees (table_by s.is_wide) (OfKind (number_of_kind Kind.Integer) ∷ []) f → spell_all f ≡ bytes
         → unfold_forest cpp rule (tree t true ∷ []) at f behind ≡ Ok (found vs inner)
         → Comes s os w (at + length bytes) later
     go nothing shaped spelled unfolds = absurd shaped
@@ -354,8 +355,8 @@ enumeration-passes s os around place before t false at st comes bytes vs inner w
     go (grown x (grown y more)) shaped spelled unfolds = absurd shaped.1
 
 -- an argument begins that is an enumerator
-pub enumerator-opens : (s : List ℕ) (kind : Kind) (os : List Opened) (around : Around) (at : ℕ) (st : State) → IsArgumentKind kind
-    → Expects s kind around os at st → StandsAt s at (76 ∷ []) → EnumeratorOpened s kind os around (at + 1) st
+pub enumerator-opens : (s : Symbol) (kind : Kind) (os : List Opened) (around : Around) (at : ℕ) (st : State) → IsArgumentKind kind
+    → Expects s kind around os at st → StandsAt s.bytes at (76 ∷ []) → EnumeratorOpened s kind os around (at + 1) st
 unfolding choose alternatives pick is_in in_ranges among is_chain parts_of between opening close unfolding_.behind meaning part tree_of signed_of with_type is_listed
 enumerator-opens s kind os around at st is expects stands =
     let p = Production.IntegerLiteral in

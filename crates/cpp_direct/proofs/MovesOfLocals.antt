@@ -19,7 +19,7 @@ use Rattle.cpp_grammar.specs.Between.{between, no_items, after, in_signature, in
 use Rattle.cpp_grammar.specs.Meaning.{meaning, parameters, is_void, is_nil, listed_value}
 use Rattle.cpp_grammar.specs.Unfolding as unfolding_
 use Rattle.cpp_grammar.specs.Unfolding.{cpp, opening, close, byte_of, last_token, number_tested}
-use Rattle.cpp_grammar.proofs.Choosing.{empty_at_kind}
+use Rattle.cpp_direct.specs.Symbol.{Symbol}
 use Rattle.cpp_direct.specs.Holes.{cpp_language, Opened, opened, StandsAt, Comes, Expects, ExpectsSym, IsNameAt}
 use Rattle.sym_direct.specs.Holes as direct
 use Rattle.sym_direct.proofs.Moves as moves
@@ -30,12 +30,13 @@ use Rattle.cpp_direct.proofs.Scopes.{none-known}
 use Rattle.cpp_direct.proofs.ShortNumbers.{lambda-begins}
 use Rattle.cpp_direct.specs.HolesOfTypes.{IsNamedKind}
 use Rattle.cpp_direct.proofs.Moves.{stands-split, comes-moved, kind-at, reads-rule, joins, none-left, opens, opens-where, opens-chain, needs-next, ends, expects-empty, expects-byte, expects-name, expects-number}
+use Rattle.cpp_direct.proofs.Tables.{empty-by, names-by}
 
 -- ## Discriminators
 
 -- a discriminator is read, or none
-pub discriminator-comes : (s : List ℕ) (os : List Opened) (around : Around) (at : ℕ) (digit : Discriminator) (end : ℕ) (st : State)
-    → Expects s Kind.MaybeDiscriminator around os at st → IsDiscriminatorAt s at digit end → Comes s os (discriminator_value digit) end st
+pub discriminator-comes : (s : Symbol) (os : List Opened) (around : Around) (at : ℕ) (digit : Discriminator) (end : ℕ) (st : State)
+    → Expects s Kind.MaybeDiscriminator around os at st → IsDiscriminatorAt s.bytes at digit end → Comes s os (discriminator_value digit) end st
 unfolding choose alternatives pick is_in in_ranges among is_chain parts_of between opening close unfolding_.behind meaning part byte_of text_of may_be_empty
 discriminator-comes s os around at unnumbered end st expects is =
     comes-moved s os nothing_there at end st (sym is) (expects-empty s Kind.MaybeDiscriminator around os at st expects refl)
@@ -43,7 +44,7 @@ discriminator-comes s os around at (by_digit digit) end st expects is =
     let p = Production.Discriminator in
     let q = Production.OneDigit in
     let rest = OfKind (number_of_kind Kind.DiscriminatorRest) in
-    let places = stands-split s at (95 ∷ []) (digit ∷ []) is.2 in
+    let places = stands-split s.bytes at (95 ∷ []) (digit ∷ []) is.2 in
     let above = opened (standing (rule_of p) (95 ∷ []) at around st) [] [] ∷ os in
     let chosen : choose Kind.DiscriminatorRest digit ≡ Some q = rw (le-leb 48 digit is.0, le-leb digit 57 is.1) refl in
     comes-moved s os (text (digit ∷ [])) (at + 1 + 1) end st (omega (arith, is.3))
@@ -56,7 +57,7 @@ discriminator-comes s os around at (by_digits digits) end st expects is =
     let p = Production.Discriminator in
     let q = Production.ManyDigits in
     let rest = OfKind (number_of_kind Kind.DiscriminatorRest) in
-    let places = stands-split s at (95 ∷ []) (95 ∷ []) is.1 in
+    let places = stands-split s.bytes at (95 ∷ []) (95 ∷ []) is.1 in
     let d = is.2 in
     let above = opened (standing (rule_of p) (95 ∷ []) at around st) [] [] ∷ os in
     let rule = standing (rule_of q) (95 ∷ []) (at + 1) around st in
@@ -81,8 +82,8 @@ discriminator-comes s os around at (by_digits digits) end st expects is =
 -- ## Entities
 
 -- the name of an entity is read
-source-comes : (s : List ℕ) (kind : Kind) (os : List Opened) (around : Around) (e : Term) (at : ℕ) (name : List ℕ) (end : ℕ) (st : State)
-    → choose kind 48 ≡ Some Production.SourceName → Expects s kind (after e true around) os at st → IsNameAt s at name end
+source-comes : (s : Symbol) (kind : Kind) (os : List Opened) (around : Around) (e : Term) (at : ℕ) (name : List ℕ) (end : ℕ) (st : State)
+    → choose kind 48 ≡ Some Production.SourceName → Expects s kind (after e true around) os at st → IsNameAt s.bytes at name end
     → Comes s os (tree (within e (source false name)) false) end st
 unfolding is_chain parts_of between piece_so_far named_so_far extended applied after opening close unfolding_.behind meaning part tree_of is_there text_of may_be_empty
 source-comes s kind os around e at name end st chosen expects is =
@@ -100,8 +101,8 @@ source-comes s kind os around e at name end st chosen expects is =
     (opens-chain s kind p 48 here os at st chosen (omega arith) refl (λ f. refl) expects)) is)) refl) refl
 
 -- one with internal linkage
-internal-comes : (s : List ℕ) (os : List Opened) (around : Around) (e : Term) (at : ℕ) (name : List ℕ) (end : ℕ) (st : State)
-    → Expects s Kind.Entity (after e true around) os at st → StandsAt s at (76 ∷ []) → IsNameAt s (at + 1) name end
+internal-comes : (s : Symbol) (os : List Opened) (around : Around) (e : Term) (at : ℕ) (name : List ℕ) (end : ℕ) (st : State)
+    → Expects s Kind.Entity (after e true around) os at st → StandsAt s.bytes at (76 ∷ []) → IsNameAt s.bytes (at + 1) name end
     → Comes s os (tree (within e (source true name)) false) end st
 unfolding choose alternatives pick is_in in_ranges among is_chain parts_of between piece_so_far named_so_far extended applied after opening close unfolding_.behind meaning part tree_of is_there text_of may_be_empty
 internal-comes s os around e at name end st expects stands is =
@@ -119,20 +120,20 @@ internal-comes s os around e at name end st expects stands is =
     (opens s Kind.Entity p 76 (76 ∷ []) here os at st refl (omega arith) refl (λ f. refl) expects stands)) is)) refl) refl
 
 -- either of them
-name-comes : (s : List ℕ) (os : List Opened) (around : Around) (e : Term) (at : ℕ) (internal : Bool) (name : List ℕ) (end : ℕ) (st : State)
-    → Expects s Kind.Entity (after e true around) os at st → (internal ≡ true → StandsAt s at (76 ∷ []))
-    → IsNameAt s (at + cond internal 1 0) name end → Comes s os (tree (within e (source internal name)) false) end st
+name-comes : (s : Symbol) (os : List Opened) (around : Around) (e : Term) (at : ℕ) (internal : Bool) (name : List ℕ) (end : ℕ) (st : State)
+    → Expects s Kind.Entity (after e true around) os at st → (internal ≡ true → StandsAt s.bytes at (76 ∷ []))
+    → IsNameAt s.bytes (at + cond internal 1 0) name end → Comes s os (tree (within e (source internal name)) false) end st
 unfolding choose alternatives pick is_in in_ranges among
 name-comes s os around e at true name end st expects letter is = internal-comes s os around e at name end st expects (letter refl) is
 name-comes s os around e at false name end st expects letter is =
     let same : at + 0 ≡ at = omega arith in
-    source-comes s Kind.Entity os around e at name end st refl expects (subst (λ n. IsNameAt s n name end) same is)
+    source-comes s Kind.Entity os around e at name end st refl expects (subst (λ n. IsNameAt s.bytes n name end) same is)
 
 -- ## Local names
 
 -- a local name begins with a Z and the encoding that its entity stands in
-pub local-opens : (s : List ℕ) (os : List Opened) (around : Around) (at : ℕ) (st : State)
-    → Expects s Kind.CompleteName around os at st → StandsAt s at (90 ∷ []) → LocalOpened s os around (at + 1) st
+pub local-opens : (s : Symbol) (os : List Opened) (around : Around) (at : ℕ) (st : State)
+    → Expects s Kind.CompleteName around os at st → StandsAt s.bytes at (90 ∷ []) → LocalOpened s os around (at + 1) st
 unfolding choose alternatives pick is_in in_ranges among is_chain parts_of between opening close unfolding_.behind meaning part tree_of qualifiers_of ref_of
 local-opens s os around at st expects stands =
     let p = Production.LocalName in
@@ -162,13 +163,13 @@ local-opens s os around at st expects stands =
 -- ## Types in functions
 
 -- a source name is the name of one
-pub source-name-piece : (s : List ℕ) (at : ℕ) (name : List ℕ) (end : ℕ) → IsNameAt s at name end → IsPieceAt s at (source false name) end
+pub source-name-piece : (s : Symbol) (at : ℕ) (name : List ℕ) (end : ℕ) → IsNameAt s.bytes at name end → IsPieceAt s at (source false name) end
 unfolding choose alternatives pick is_in in_ranges among
 source-name-piece s at name end is os around e st expects = source-comes s Kind.TypeEntity os around e at name end st refl expects is
 
 -- void is read as an item
-void-read : (s : List ℕ) (around : Around) (at : ℕ) (st : State)
-    → direct.Reads cpp_language s (OfKind (number_of_kind Kind.Item)) around at (118 ∷ []) st (tree (builtin (118 ∷ [])) true ∷ []) st
+void-read : (s : Symbol) (around : Around) (at : ℕ) (st : State)
+    → direct.Reads (cpp_language s) s.bytes (OfKind (number_of_kind Kind.Item)) around at (118 ∷ []) st (tree (builtin (118 ∷ [])) true ∷ []) st
 unfolding choose alternatives pick is_in in_ranges among is_chain parts_of rule_of padded number_of_kind between opening close unfolding_.behind meaning
     with_type listed_value tree_of is_listed part byte_of
 void-read s around at st =
@@ -186,9 +187,9 @@ abbrev pub lambda_bytes : (digits : List ℕ) → List ℕ
 lambda_bytes digits = 108 ∷ 118 ∷ 69 ∷ (digits ++ 95 ∷ [])
 
 -- it is read
-lambda-read : (s : List ℕ) (around : Around) (at : ℕ) (digits : List ℕ) (st : State) → AreDigitsOf Decimal digits
+lambda-read : (s : Symbol) (around : Around) (at : ℕ) (digits : List ℕ) (st : State) → AreDigitsOf Decimal digits
     → number_tested (at - 1) digits st ≡ Ok st
-    → direct.Reads cpp_language s (OfKind (number_of_kind Kind.Anonymous)) around at (lambda_bytes digits ++ []) st
+    → direct.Reads (cpp_language s) s.bytes (OfKind (number_of_kind Kind.Anonymous)) around at (lambda_bytes digits ++ []) st
     (piece (lambda nil (local_number digits)) ∷ []) st
 unfolding choose alternatives pick is_in in_ranges among is_chain parts_of rule_of padded number_of_kind between opening close unfolding_.behind meaning
     last_token void-read reads-rule joins none-left moves.reads-rule moves.joins moves.none-left may_be_empty parameters is_void is_nil
@@ -209,13 +210,13 @@ lambda-read s around at digits st are small =
     (118 ∷ []) (69 ∷ ((digits ++ 95 ∷ []) ++ [])) four refl (void-read s c (at + 1) st)
     (joins s p (108 ∷ []) at around st one items (Byte 69 ∷ Number Decimal ∷ []) (at + 1 + 1) st c one st st st (nothing_there ∷ [])
     [] (69 ∷ ((digits ++ 95 ∷ []) ++ [])) four refl
-    (record { shape = empty; shaped = empty_at_kind (number_of_kind Kind.Items) Kind.Items (kind-at Kind.Items); spelled = refl; unfolds = refl })
+    (record { shape = empty; shaped = empty-by s.is_wide (number_of_kind Kind.Items) Kind.Items (kind-at Kind.Items); spelled = refl; unfolds = refl })
     (joins s p (108 ∷ []) at around st two (Byte 69) (Number Decimal ∷ []) (at + 1 + 1 + 0) st c two st st st (nothing_there ∷ [])
     (69 ∷ []) ((digits ++ 95 ∷ []) ++ []) four refl
     (record { shape = fixed 69; shaped = refl; spelled = refl; unfolds = refl })
     (joins s p (108 ∷ []) at around st three (Number Decimal) [] (at + 1 + 1 + 0 + 1) st c three st st st (text digits ∷ [])
     (digits ++ 95 ∷ []) [] four refl
-    (record { shape = token t; shaped = record { bare = refl; digits = are; ends = refl }; spelled = refl; unfolds = refl })
+    (record { shape = token t; shaped = names-by s.is_wide (Number Decimal) t (record { bare = refl; digits = are; ends = refl }); spelled = refl; unfolds = refl })
     (none-left s p (108 ∷ []) at around st four (at + 1 + 1 + 0 + 1 + length (digits ++ 95 ∷ [])) st)))))
     small refl
 
@@ -238,7 +239,7 @@ small-tested at digits st small =
     subst (λ b. elim b [ true ↦ Ok st | false ↦ Err (BadValue (at + 1 - 1)) ] ≡ Ok st) (sym is) refl
 
 -- a lambda without parameters is the name of a type
-pub lambda-piece : (s : List ℕ) (at : ℕ) (digit : Option ℕ) (end : ℕ) → IsLambdaDigit digit → StandsAt s at (85 ∷ lambda_bytes (lambda_digits digit))
+pub lambda-piece : (s : Symbol) (at : ℕ) (digit : Option ℕ) (end : ℕ) → IsLambdaDigit digit → StandsAt s.bytes at (85 ∷ lambda_bytes (lambda_digits digit))
     → end ≡ at + length (85 ∷ lambda_bytes (lambda_digits digit)) → IsPieceAt s at (lambda nil (local_number (lambda_digits digit))) end
 unfolding choose alternatives pick is_in in_ranges among is_chain parts_of between piece_so_far named_so_far extended applied after opening close unfolding_.behind meaning part tree_of is_there piece_of may_be_empty
 lambda-piece s at digit end is stands ends_ os around e st expects =
@@ -251,7 +252,7 @@ lambda-piece s at digit end is stands ends_ os around e st expects =
     let t = within e n in
     let arguments = OfKind (number_of_kind Kind.MaybeArguments) in
     let above = opened rule (tree t false ∷ []) [] ∷ os in
-    let places = stands-split s at (85 ∷ []) bytes stands in
+    let places = stands-split s.bytes at (85 ∷ []) bytes stands in
     let small = small-tested at digits st (number-is digit is) in
     let anonymous : Comes s (opened rule [] (arguments ∷ []) ∷ os) (piece n) end st =
     comes-moved s (opened rule [] (arguments ∷ []) ∷ os) (piece n) (at + 1 + length (bytes ++ [])) end st
@@ -259,7 +260,7 @@ lambda-piece s at digit end is stands ends_ os around e st expects =
     (needs-next s p (85 ∷ []) at here st [] (OfKind (number_of_kind Kind.Anonymous)) (arguments ∷ []) os (at + 1) st here [] st refl
     (opens s Kind.TypeEntity p 85 (85 ∷ []) here os at st refl (omega arith) refl (λ f. refl) expects places.0)
     (bytes ++ []) (piece n ∷ []) st (lambda-read s here (at + 1) digits st (digits-of digit is) small)
-    (subst (λ l. StandsAt s (at + 1) l) (sym (append-nil bytes)) places.1)) in
+    (subst (λ l. StandsAt s.bytes (at + 1) l) (sym (append-nil bytes)) places.1)) in
     ends s p (85 ∷ []) at here st (tree t false ∷ nothing_there ∷ []) os end st _ st
     (expects-empty s Kind.MaybeArguments (after t false around) above end st
     (needs-next s p (85 ∷ []) at here st (piece n ∷ []) arguments [] os end st (after t false around) (tree t false ∷ []) st refl anonymous) refl) refl
@@ -271,8 +272,8 @@ local-taken Kind.LiteralType is_named = refl
 local-taken _ is_named = absurd is_named
 
 -- such a type begins with a Z and the encoding that it stands in
-pub local-type-opens : (s : List ℕ) (kind : Kind) (os : List Opened) (around : Around) (at : ℕ) (st : State) → IsNamedKind kind
-    → Expects s kind around os at st → StandsAt s at (90 ∷ []) → LocalTypeOpened s os around (at + 1) st
+pub local-type-opens : (s : Symbol) (kind : Kind) (os : List Opened) (around : Around) (at : ℕ) (st : State) → IsNamedKind kind
+    → Expects s kind around os at st → StandsAt s.bytes at (90 ∷ []) → LocalTypeOpened s os around (at + 1) st
 unfolding is_chain parts_of between opening close unfolding_.behind meaning part tree_of
 local-type-opens s kind os around at st named_ expects stands =
     let p = Production.LocalType in
@@ -306,13 +307,13 @@ local-type-opens s kind os around at st named_ expects stands =
 -- ## Lambdas
 
 -- what becomes of the parameters of a lambda, in front of the E behind them
-abbrev pub LambdaEnds : (s : List ℕ) → (os : List Opened) → (e : Term) → (items : Term) → (at : ℕ) → State → Type 0
+abbrev pub LambdaEnds : (s : Symbol) → (os : List Opened) → (e : Term) → (items : Term) → (at : ℕ) → State → Type 0
 LambdaEnds s os e items at st =
-    (number : Option ℕ) (end : ℕ) → IsLambdaDigit number → StandsAt s at (lambda_ending number) → end ≡ at + length (lambda_ending number)
+    (number : Option ℕ) (end : ℕ) → IsLambdaDigit number → StandsAt s.bytes at (lambda_ending number) → end ≡ at + length (lambda_ending number)
     → Comes s os (tree (within e (lambda_with items number)) false) end st
 
 -- The first parameter of a lambda is expected.
-pub record LambdaOpened (s : List ℕ) (os : List Opened) (e : Term) (at : ℕ) (st : State) : Type 0 where
+pub record LambdaOpened (s : Symbol) (os : List Opened) (e : Term) (at : ℕ) (st : State) : Type 0 where
   pub around : Around
   pub outside : around.prefix ≡ outermost
   pub inner : List Opened
@@ -320,8 +321,8 @@ pub record LambdaOpened (s : List ℕ) (os : List Opened) (e : Term) (at : ℕ) 
   pub onward : (t : Term) (at : ℕ) (st : State) → Comes s inner (tree t true) at st → ItemsGoOn s nowhere (LambdaEnds s os e) (λ l. l) (t ∷ []) at st
 
 -- a lambda begins in a symbol without long numbers
-pub lambda-opens : (s : List ℕ) (os : List Opened) (around : Around) (e : Term) (at : ℕ) (st : State) → short_numbers 0 s ≡ true
-    → Expects s Kind.TypeEntity (after e true around) os at st → StandsAt s at (85 ∷ 108 ∷ []) → LambdaOpened s os e (at + 2) st
+pub lambda-opens : (s : Symbol) (os : List Opened) (around : Around) (e : Term) (at : ℕ) (st : State) → short_numbers 0 s.bytes ≡ true
+    → Expects s Kind.TypeEntity (after e true around) os at st → StandsAt s.bytes at (85 ∷ 108 ∷ []) → LambdaOpened s os e (at + 2) st
 unfolding choose alternatives pick is_in in_ranges among is_chain parts_of between piece_so_far named_so_far extended applied after in_signature opening
     close unfolding_.behind meaning part tree_of text_of is_there piece_of may_be_empty
 lambda-opens s os around e at st short expects stands =
@@ -333,11 +334,11 @@ lambda-opens s os around e at st short expects stands =
     let lambda_rule = standing (rule_of q) (108 ∷ []) (at + 1) here st in
     let arguments = OfKind (number_of_kind Kind.MaybeArguments) in
     let items = OfKind (number_of_kind Kind.Items) in
-    let places = stands-split s at (85 ∷ []) (108 ∷ []) stands in
+    let places = stands-split s.bytes at (85 ∷ []) (108 ∷ []) stands in
     let above = opened rule [] (arguments ∷ []) ∷ os in
     let rest = Byte 69 ∷ Number Decimal ∷ [] in
     let needs = opens-where s Kind.Anonymous q 108 (108 ∷ []) here above (at + 1) st refl (omega arith) refl
-    (λ f shaped there. lambda-begins s (at + 1 + 1) (at + 1) st short f shaped there)
+    (λ f shaped there. lambda-begins s.is_wide s.bytes (at + 1 + 1) (at + 1) st short f shaped there)
     (needs-next s p (85 ∷ []) at here st [] (OfKind (number_of_kind Kind.Anonymous)) (arguments ∷ []) os (at + 1) st here [] st refl
     (opens s Kind.TypeEntity p 85 (85 ∷ []) here os at st refl (omega arith) refl (λ f. refl) expects places.0)) places.1 in
     record {
@@ -359,7 +360,7 @@ lambda-opens s os around e at st short expects stands =
             let n = lambda_with (list t (no_items l)) number in
             let token_ : Token = record { before = []; own = digits; behind = 95 ∷ [] } in
             let u = within e n in
-            let split = stands-split s to (69 ∷ []) (digits ++ 95 ∷ []) ending in
+            let split = stands-split s.bytes to (69 ∷ []) (digits ++ 95 ∷ []) ending in
             let marked = expects-byte s 69 c (opened lambda_rule two (Number Decimal ∷ []) ∷ above) to then_
             (needs-next s q (108 ∷ []) (at + 1) here st two (Byte 69) (Number Decimal ∷ []) above to then_ c two then_ refl last) split.0 in
             let numbered = expects-number s Decimal c (opened lambda_rule three [] ∷ above) (to + 1) then_ token_
@@ -378,14 +379,14 @@ lambda-opens s os around e at st short expects stands =
 -- ## Guard variables
 
 -- a guard variable begins with GV, and the name is expected of what it guards
-pub guard-opens : (s : List ℕ) (os : List Opened) (around : Around) (at : ℕ) (st : State)
-    → Expects s Kind.Encoding around os at st → StandsAt s at (71 ∷ 86 ∷ []) → GuardOpened s os at (at + 2) st
+pub guard-opens : (s : Symbol) (os : List Opened) (around : Around) (at : ℕ) (st : State)
+    → Expects s Kind.Encoding around os at st → StandsAt s.bytes at (71 ∷ 86 ∷ []) → GuardOpened s os at (at + 2) st
 unfolding choose alternatives pick is_in in_ranges among is_chain parts_of between opening close unfolding_.behind meaning part
 guard-opens s os around at st expects stands =
     let p = Production.Guard in
     let rule = standing (rule_of p) (71 ∷ []) at around st in
     let name = OfKind (number_of_kind Kind.CompleteName) in
-    let places = stands-split s at (71 ∷ []) (86 ∷ []) stands in
+    let places = stands-split s.bytes at (71 ∷ []) (86 ∷ []) stands in
     let marked = expects-byte s 86 (in_name at) (opened rule [] (name ∷ []) ∷ os) (at + 1) st
     (needs-next s p (71 ∷ []) at around st [] (Byte 86) (name ∷ []) os (at + 1) st (in_name at) [] st refl
     (opens s Kind.Encoding p 71 (71 ∷ []) around os at st refl (omega arith) refl (λ f. refl) expects places.0)) places.1 in

@@ -23,14 +23,15 @@ use Rattle.cpp_grammar.specs.Between.{between, after, extended, applied, named_s
 use Rattle.cpp_grammar.specs.Meaning.{meaning}
 use Rattle.cpp_grammar.specs.Unfolding as unfolding_
 use Rattle.cpp_grammar.specs.Unfolding.{opening, close, byte_of}
+use Rattle.cpp_direct.specs.Symbol.{Symbol}
 use Rattle.cpp_direct.specs.Holes.{Opened, opened, StandsAt, Comes, Expects, IsNameAt, IsSeqAt, SamePasses, NestGoesOn, NestNamed}
-use Rattle.cpp_direct.proofs.Alone.{any-rest}
+use Rattle.cpp_direct.proofs.Alone.{alone-arguments, alone-rest}
 use Rattle.cpp_direct.proofs.Moves.{stands-split, comes-moved, expects-name, expects-seq, first-of, first-of-chain, next-of, last-of, letter-comes}
 
 -- ## Productions
 
 -- the last part is what the production stands for
-pub last-passes : (s : List ℕ) (p : Production) (taken : List ℕ) (at0 : ℕ) (around : Around) (before : State) (known : List Value) (os : List Opened)
+pub last-passes : (s : Symbol) (p : Production) (taken : List ℕ) (at0 : ℕ) (around : Around) (before : State) (known : List Value) (os : List Opened)
     → ((v : Value) (st : State) → close p (byte_of taken) around at0 before (known ++ v ∷ []) st ≡ Ok (found v st))
     → SamePasses s (opened (standing (rule_of p) taken at0 around before) known [] ∷ os) os
 last-passes s p taken at0 around before known os closes v at st comes =
@@ -39,8 +40,8 @@ last-passes s p taken at0 around before known os closes v at st comes =
 -- ## Pieces, abbreviations and references
 
 -- the name of an entity
-pub piece-comes : (s : List ℕ) (os : List Opened) (around : Around) (at : ℕ) (st : State) (name : List ℕ) (end : ℕ)
-    → Expects s Kind.Unqualified around os at st → IsNameAt s at name end → Comes s os (piece (source false name)) end st
+pub piece-comes : (s : Symbol) (os : List Opened) (around : Around) (at : ℕ) (st : State) (name : List ℕ) (end : ℕ)
+    → Expects s Kind.Unqualified around os at st → IsNameAt s.bytes at name end → Comes s os (piece (source false name)) end st
 unfolding choose alternatives pick is_in in_ranges among is_chain parts_of number_of_kind between opening close unfolding_.behind meaning text_of part
 piece-comes s os around at st name end expects is =
     let p : Production = Production.SourcePiece in
@@ -53,8 +54,8 @@ unfolding among
 letter-small code h = grind (arith, nat_tests)
 
 -- one of the letters behind an S that stand for a name of std
-pub abbreviation-comes : (s : List ℕ) (os : List Opened) (around : Around) (at : ℕ) (st : State) (code : ℕ)
-    → Expects s Kind.Abbreviation around os at st → StandsAt s at (code ∷ []) → among (codes "abdios") code ≡ true
+pub abbreviation-comes : (s : Symbol) (os : List Opened) (around : Around) (at : ℕ) (st : State) (code : ℕ)
+    → Expects s Kind.Abbreviation around os at st → StandsAt s.bytes at (code ∷ []) → among (codes "abdios") code ≡ true
     → Comes s os (tree (abbreviation code) true) (at + 1) st
 unfolding choose alternatives pick is_in in_ranges is_chain parts_of opening close unfolding_.behind meaning byte_of
 abbreviation-comes s os around at st code expects here is =
@@ -81,8 +82,8 @@ refers around place c st bound none =
     (ap (λ packs. with_packs place around.in_expansion packs st) (packs-none around.scope c.tree none))
 
 -- a reference to a tree that has no free parameters and names no packs
-pub reference-comes : (s : List ℕ) (os : List Opened) (around : Around) (at : ℕ) (st : State) (digits : List ℕ) (end : ℕ) (c : Candidate)
-    → Expects s Kind.Abbreviation around os at st → IsSeqAt s at digits end
+pub reference-comes : (s : Symbol) (os : List Opened) (around : Around) (at : ℕ) (st : State) (digits : List ℕ) (end : ℕ) (c : Candidate)
+    → Expects s Kind.Abbreviation around os at st → IsSeqAt s.bytes at digits end
     → slice_get st.candidates (counted_value Seq36 digits) ≡ Some c → is_open c.tree ≡ false
     → ((scope : Term) → pack_length scope c.tree ≡ None)
     → Comes s os (tree c.tree true) end st
@@ -97,25 +98,26 @@ reference-comes s os around at st digits end c expects is there bound none =
 -- ## What a nested name begins with
 
 -- a name at the front of a nested one
-pub nest-source : (s : List ℕ) (os : List Opened) (around : Around) (at : ℕ) (st : State) (name : List ℕ) (end : ℕ)
-    → around.prefix ≡ outermost → Expects s Kind.Nest around os at st → IsNameAt s at name end
-    → NestGoesOn s Kind.NestRest os around (alone (source false name)) false end st
+pub nest-source : (s : Symbol) (os : List Opened) (around : Around) (at : ℕ) (st : State) (name : List ℕ) (end : ℕ)
+    → around.prefix ≡ outermost → Expects s Kind.Nest around os at st → IsNameAt s.bytes at name end
+    → NestGoesOn s Kind.NestRestAlone os around (alone (source false name)) false end st
 unfolding choose alternatives pick is_in in_ranges among is_chain parts_of number_of_kind between opening close unfolding_.behind meaning piece_so_far named_so_far extended text_of part
 nest-source s os around at st name end first expects is =
     let p : Production = Production.NestSource in
     let u : Term = alone (source false name) in
     record {
       inner = opened (standing (rule_of p) [] at around st) (tree u false ∷ []) [] ∷ os;
-      awaits = next-of s p [] at around st [] (text name) (OfKind NEST_REST) [] os end st (after u false around) (tree u false ∷ []) st (rw first refl)
+      awaits = alone-rest s (after u false around) (opened (standing (rule_of p) [] at around st) (tree u false ∷ []) [] ∷ os) end st
+          (next-of s p [] at around st [] (text name) (OfKind NEST_REST) [] os end st (after u false around) (tree u false ∷ []) st (rw first refl)
           (expects-name s around (opened (standing (rule_of p) [] at around st) [] (OfKind NEST_REST ∷ []) ∷ os) at st name end
           (first-of-chain s Kind.Nest p 48 around os at st Name (OfKind NEST_REST ∷ []) around [] st refl (omega arith) refl (λ f. refl) refl refl expects)
-          is);
+          is));
       passes = last-passes s p [] at around st (tree u false ∷ []) os (λ v later. refl);
     }
 
 -- what an S stands in front of
-pub behind-s : (s : List ℕ) (os : List Opened) (around : Around) (at : ℕ) (st : State)
-    → Expects s Kind.Nest around os at st → StandsAt s at (83 ∷ [])
+pub behind-s : (s : Symbol) (os : List Opened) (around : Around) (at : ℕ) (st : State)
+    → Expects s Kind.Nest around os at st → StandsAt s.bytes at (83 ∷ [])
     → Expects s Kind.NestAfterS around (opened (standing (rule_of Production.NestWithS) (83 ∷ []) at around st) [] [] ∷ os) (at + 1) st
 unfolding choose alternatives pick is_in in_ranges among is_chain parts_of number_of_kind between opening
 behind-s s os around at st expects here =
@@ -123,60 +125,59 @@ behind-s s os around at st expects here =
     expects here
 
 -- and what comes of it
-pub s-passes : (s : List ℕ) (os : List Opened) (around : Around) (at : ℕ) (st : State)
+pub s-passes : (s : Symbol) (os : List Opened) (around : Around) (at : ℕ) (st : State)
     → SamePasses s (opened (standing (rule_of Production.NestWithS) (83 ∷ []) at around st) [] [] ∷ os) os
 unfolding close unfolding_.behind meaning part
 s-passes s os around at st = last-passes s Production.NestWithS (83 ∷ []) at around st [] os (λ v st. refl)
 
 -- a name that an S stands for
-pub nest-known : (s : List ℕ) (os : List Opened) (around : Around) (at : ℕ) (st : State) (t : Term) (end : ℕ)
-    → Expects s Kind.Nest around os at st → StandsAt s at (83 ∷ [])
+pub nest-known : (s : Symbol) (os : List Opened) (around : Around) (at : ℕ) (st : State) (t : Term) (end : ℕ)
+    → Expects s Kind.Nest around os at st → StandsAt s.bytes at (83 ∷ [])
     → ((inner : List Opened) → Expects s Kind.Abbreviation around inner (at + 1) st → Comes s inner (tree t true) end st)
-    → NestGoesOn s Kind.NestRest os around t true end st
+    → NestGoesOn s Kind.NestRestAlone os around t true end st
 unfolding choose alternatives pick is_in in_ranges among is_chain parts_of number_of_kind between opening close unfolding_.behind meaning listed_so_far tree_of part
 nest-known s os around at st t end expects here comes =
     let p : Production = Production.NestAbbreviated in
     let os1 : List Opened = opened (standing (rule_of Production.NestWithS) (83 ∷ []) at around st) [] [] ∷ os in
     record {
       inner = opened (standing (rule_of p) [] (at + 1) around st) (tree t true ∷ []) [] ∷ os1;
-      awaits = any-rest s (after t true around) (opened (standing (rule_of p) [] (at + 1) around st) (tree t true ∷ []) [] ∷ os1) end st
-          (next-of s p [] (at + 1) around st [] (tree t true) (OfKind NEST_REST_ALONE) [] os1 end st (after t true around) (tree t true ∷ []) st refl
+      awaits = next-of s p [] (at + 1) around st [] (tree t true) (OfKind NEST_REST_ALONE) [] os1 end st (after t true around) (tree t true ∷ []) st refl
           (comes (opened (standing (rule_of p) [] (at + 1) around st) [] (OfKind NEST_REST_ALONE ∷ []) ∷ os1)
           (first-of-chain s Kind.NestAfterS p 97 around os1 (at + 1) st (OfKind ABBREVIATION) (OfKind NEST_REST_ALONE ∷ []) around [] st refl (omega arith) refl (λ f. refl)
-          refl refl (behind-s s os around at st expects here))));
+          refl refl (behind-s s os around at st expects here)));
       passes = λ v to later given. s-passes s os around at st v to later
           (last-passes s p [] (at + 1) around st (tree t true ∷ []) os1 (λ w x. refl) v to later given);
     }
 
 -- a letter for a name of std at the front of a nested name
-pub nest-abbreviation : (s : List ℕ) (os : List Opened) (around : Around) (at : ℕ) (st : State) (code : ℕ)
-    → Expects s Kind.Nest around os at st → StandsAt s at (83 ∷ code ∷ []) → among (codes "abdios") code ≡ true
-    → NestGoesOn s Kind.NestRest os around (abbreviation code) true (at + 2) st
+pub nest-abbreviation : (s : Symbol) (os : List Opened) (around : Around) (at : ℕ) (st : State) (code : ℕ)
+    → Expects s Kind.Nest around os at st → StandsAt s.bytes at (83 ∷ code ∷ []) → among (codes "abdios") code ≡ true
+    → NestGoesOn s Kind.NestRestAlone os around (abbreviation code) true (at + 2) st
 nest-abbreviation s os around at st code expects here is =
-    let two = stands-split s at (83 ∷ []) (code ∷ []) here in
+    let two = stands-split s.bytes at (83 ∷ []) (code ∷ []) here in
     nest-known s os around at st (abbreviation code) (at + 2) expects two.0
     (λ inner awaits. comes-moved s inner (tree (abbreviation code) true) (at + 1 + 1) (at + 2) st (omega arith)
     (abbreviation-comes s inner around (at + 1) st code awaits two.1 is))
 
 -- a reference at the front of a nested name
-pub nest-substitution : (s : List ℕ) (os : List Opened) (around : Around) (at : ℕ) (st : State) (digits : List ℕ) (end : ℕ) (c : Candidate)
-    → Expects s Kind.Nest around os at st → StandsAt s at (83 ∷ []) → IsSeqAt s (at + 1) digits end
+pub nest-substitution : (s : Symbol) (os : List Opened) (around : Around) (at : ℕ) (st : State) (digits : List ℕ) (end : ℕ) (c : Candidate)
+    → Expects s Kind.Nest around os at st → StandsAt s.bytes at (83 ∷ []) → IsSeqAt s.bytes (at + 1) digits end
     → slice_get st.candidates (counted_value Seq36 digits) ≡ Some c → is_open c.tree ≡ false
     → ((scope : Term) → pack_length scope c.tree ≡ None)
-    → NestGoesOn s Kind.NestRest os around c.tree true end st
+    → NestGoesOn s Kind.NestRestAlone os around c.tree true end st
 nest-substitution s os around at st digits end c expects here is there bound none =
     nest-known s os around at st c.tree end expects here
     (λ inner awaits. reference-comes s inner around (at + 1) st digits end c awaits is there bound none)
 
 -- a name of std at the front of a nested name
-pub nest-std : (s : List ℕ) (os : List Opened) (around : Around) (at : ℕ) (st : State) (name : List ℕ) (end : ℕ)
-    → Expects s Kind.Nest around os at st → StandsAt s at (83 ∷ 116 ∷ []) → IsNameAt s (at + 2) name end
+pub nest-std : (s : Symbol) (os : List Opened) (around : Around) (at : ℕ) (st : State) (name : List ℕ) (end : ℕ)
+    → Expects s Kind.Nest around os at st → StandsAt s.bytes at (83 ∷ 116 ∷ []) → IsNameAt s.bytes (at + 2) name end
     → NestNamed s os around (in_std (source false name)) end st
 unfolding choose alternatives pick is_in in_ranges among is_chain parts_of number_of_kind between opening close unfolding_.behind meaning named_so_far applied is_there tree_of piece_of part
 nest-std s os around at st name end expects here is =
     let p : Production = Production.NestStd in
     let u : Term = in_std (source false name) in
-    let two = stands-split s at (83 ∷ []) (116 ∷ []) here in
+    let two = stands-split s.bytes at (83 ∷ []) (116 ∷ []) here in
     let os1 : List Opened = opened (standing (rule_of Production.NestWithS) (83 ∷ []) at around st) [] [] ∷ os in
     let piece_expected : Expects s Kind.Unqualified around
     (opened (standing (rule_of p) (116 ∷ []) (at + 1) around st) [] (OfKind MAYBE_ARGUMENTS ∷ OfKind NEST_TAIL ∷ []) ∷ os1) (at + 2) st =
@@ -186,10 +187,11 @@ nest-std s os around at st name end expects here is =
     (λ f. refl) refl refl (behind-s s os around at st expects two.0) two.1) in
     record {
       inner = opened (standing (rule_of p) (116 ∷ []) (at + 1) around st) (tree u false ∷ []) (OfKind NEST_TAIL ∷ []) ∷ os1;
-      awaits = next-of s p (116 ∷ []) (at + 1) around st [] (piece (source false name)) (OfKind MAYBE_ARGUMENTS) (OfKind NEST_TAIL ∷ []) os1 end st
+      awaits = alone-arguments s (after u false around) (opened (standing (rule_of p) (116 ∷ []) (at + 1) around st) (tree u false ∷ []) (OfKind NEST_TAIL ∷ []) ∷ os1) end st
+          (next-of s p (116 ∷ []) (at + 1) around st [] (piece (source false name)) (OfKind MAYBE_ARGUMENTS) (OfKind NEST_TAIL ∷ []) os1 end st
           (after u false around) (tree u false ∷ []) st refl
           (piece-comes s (opened (standing (rule_of p) (116 ∷ []) (at + 1) around st) [] (OfKind MAYBE_ARGUMENTS ∷ OfKind NEST_TAIL ∷ []) ∷ os1) around (at + 2) st name
-          end piece_expected is);
+          end piece_expected is));
       bare = λ to later comes. goes-on nothing_there to later comes;
       argued = λ a to later comes. goes-on (tree a true) to later comes;
     }

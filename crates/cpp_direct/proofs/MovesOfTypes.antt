@@ -21,9 +21,10 @@ use Rattle.cpp_grammar.specs.Between.{between, after, extended, applied, named_s
 use Rattle.cpp_grammar.specs.Meaning.{meaning, listed_value, qualified_by, reference_to}
 use Rattle.cpp_grammar.specs.Unfolding as unfolding_
 use Rattle.cpp_grammar.specs.Unfolding.{opening, close, byte_of}
+use Rattle.cpp_direct.specs.Symbol.{Symbol}
 use Rattle.cpp_direct.specs.Bytes.{is_builtin, is_builtin_with_d, is_abbreviated}
 use Rattle.cpp_direct.specs.Letters.{builtin_letters, builtin_letters_with_d, abbreviation_letters}
-use Rattle.cpp_direct.proofs.Alone.{any-arguments}
+use Rattle.cpp_direct.proofs.Alone.{alone-arguments}
 use Rattle.cpp_direct.proofs.LettersTested.{each_passes, tested, is_small, small, takes, taken}
 use Rattle.cpp_direct.specs.Holes.{Opened, opened, StandsAt, Comes, Expects, IsNameAt, IsSeqAt, IsReferable, IsTyped, TypeNamed, with_candidate, unless_listed}
 use Rattle.cpp_direct.specs.HolesOfTypes.{as_const, IsQualifiable, TypeOpens, TreePasses, TreeOpens, NameOpens, IsNamedKind}
@@ -46,7 +47,7 @@ qualified-closes around at before t true st other = rw other refl
 qualified-closes around at before t false st other = rw other refl
 
 -- a solid type is expected where a type is
-pub solid-opens : (s : List ℕ) (kind : Kind) (around : Around) (os : List Opened) (at : ℕ) (st : State) → IsTyped kind
+pub solid-opens : (s : Symbol) (kind : Kind) (around : Around) (os : List Opened) (at : ℕ) (st : State) → IsTyped kind
     → Expects s kind around os at st → TreeOpens s Kind.Solid os around at st
 unfolding choose alternatives pick is_in in_ranges among is_chain parts_of number_of_kind between opening byte_of
 solid-opens s Kind.Type around os at st typed expects = record {
@@ -80,13 +81,13 @@ solid-opens s Kind.Plain around os at st typed expects = record {
 solid-opens s _ around os at st typed expects = absurd typed
 
 -- A solid type is expected where a whole one is, be it a function type or not.
-pub record WholeOpens (s : List ℕ) (outer : List Opened) (around : Around) (at : ℕ) (st : State) : Type 0 where
+pub record WholeOpens (s : Symbol) (outer : List Opened) (around : Around) (at : ℕ) (st : State) : Type 0 where
   pub inner : List Opened
   pub awaits : Expects s Kind.Solid around inner at st
   pub passes : (t : Term) (listed : Bool) (end : ℕ) (now : State) → Comes s inner (tree t listed) end now
       → Comes s outer (tree t true) end (unless_listed listed around.encoding t now)
 
-pub whole-opens : (s : List ℕ) (kind : Kind) (around : Around) (os : List Opened) (at : ℕ) (st : State) → IsQualifiable kind
+pub whole-opens : (s : Symbol) (kind : Kind) (around : Around) (os : List Opened) (at : ℕ) (st : State) → IsQualifiable kind
     → Expects s kind around os at st → WholeOpens s os around at st
 unfolding choose alternatives pick is_in in_ranges among is_chain parts_of number_of_kind between opening byte_of
 whole-opens s Kind.Type around os at st whole expects = record {
@@ -124,8 +125,8 @@ unfolding among is_builtin each_passes is_small
 builtin-small byte is = small byte (tested builtin_letters is_small refl byte is)
 
 -- a builtin type comes, which is no candidate
-pub builtin-comes : (s : List ℕ) (kind : Kind) (around : Around) (os : List Opened) (at : ℕ) (st : State) (b : ℕ) → IsTyped kind
-    → is_builtin b ≡ true → Expects s kind around os at st → StandsAt s at (b ∷ []) → Comes s os (tree (builtin (b ∷ [])) true) (at + 1) st
+pub builtin-comes : (s : Symbol) (kind : Kind) (around : Around) (os : List Opened) (at : ℕ) (st : State) (b : ℕ) → IsTyped kind
+    → is_builtin b ≡ true → Expects s kind around os at st → StandsAt s.bytes at (b ∷ []) → Comes s os (tree (builtin (b ∷ [])) true) (at + 1) st
 unfolding is_chain parts_of opening close unfolding_.behind meaning byte_of is_function_type
 builtin-comes s kind around os at st b typed is expects stands =
     let solid = solid-opens s kind around os at st typed expects in
@@ -148,13 +149,13 @@ unfolding among is_builtin_with_d each_passes is_small
 builtin-with-d-small byte is = small byte (tested builtin_letters_with_d is_small refl byte is)
 
 -- and so does one with a code of two letters
-pub builtin-with-d-comes : (s : List ℕ) (kind : Kind) (around : Around) (os : List Opened) (at : ℕ) (st : State) (b : ℕ) → IsTyped kind
-    → is_builtin_with_d b ≡ true → Expects s kind around os at st → StandsAt s at (68 ∷ b ∷ [])
+pub builtin-with-d-comes : (s : Symbol) (kind : Kind) (around : Around) (os : List Opened) (at : ℕ) (st : State) (b : ℕ) → IsTyped kind
+    → is_builtin_with_d b ≡ true → Expects s kind around os at st → StandsAt s.bytes at (68 ∷ b ∷ [])
     → Comes s os (tree (builtin (68 ∷ b ∷ [])) true) (at + 2) st
 unfolding choose alternatives pick is_in in_ranges among is_chain parts_of number_of_kind between opening close unfolding_.behind meaning listed_value with_type with_unqualified byte_of tree_of is_listed part is_function_type
 builtin-with-d-comes s Kind.Type around os at st b typed is expects stands =
     let p = Production.TypeWithD in
-    let both = stands-split s at (68 ∷ []) (b ∷ []) stands in
+    let both = stands-split s.bytes at (68 ∷ []) (b ∷ []) stands in
     let v = tree (builtin (68 ∷ b ∷ [])) true in
     subst (λ k. Comes s os v k st) (omega arith)
     (last-of s p (68 ∷ []) at around st [] v os (at + 1 + 1) st v st refl
@@ -163,7 +164,7 @@ builtin-with-d-comes s Kind.Type around os at st b typed is expects stands =
     (first-of s Kind.Type p 68 around os at st (OfKind AFTER_D) [] around [] st refl (omega arith) refl (λ f. refl) refl refl expects both.0) both.1))
 builtin-with-d-comes s Kind.Plain around os at st b typed is expects stands =
     let p = Production.PlainWithD in
-    let both = stands-split s at (68 ∷ []) (b ∷ []) stands in
+    let both = stands-split s.bytes at (68 ∷ []) (b ∷ []) stands in
     let v = tree (builtin (68 ∷ b ∷ [])) true in
     subst (λ k. Comes s os v k st) (omega arith)
     (last-of s p (68 ∷ []) at around st [] v os (at + 1 + 1) st v st refl
@@ -172,7 +173,7 @@ builtin-with-d-comes s Kind.Plain around os at st b typed is expects stands =
     (first-of s Kind.Plain p 68 around os at st (OfKind AFTER_D) [] around [] st refl (omega arith) refl (λ f. refl) refl refl expects both.0) both.1))
 builtin-with-d-comes s Kind.Item around os at st b typed is expects stands =
     let p = Production.ItemWithD in
-    let both = stands-split s at (68 ∷ []) (b ∷ []) stands in
+    let both = stands-split s.bytes at (68 ∷ []) (b ∷ []) stands in
     let v = tree (builtin (68 ∷ b ∷ [])) true in
     let outer = opened (standing (rule_of p) (68 ∷ []) at around st) [] [] ∷ os in
     let q = Production.ItemIsType in
@@ -186,7 +187,7 @@ builtin-with-d-comes s Kind.Item around os at st b typed is expects stands =
     (first-of s Kind.Item p 68 around os at st (OfKind ITEM_AFTER_D) [] around [] st refl (omega arith) refl (λ f. refl) refl refl expects both.0)) both.1)))
 builtin-with-d-comes s Kind.ItemButRef around os at st b typed is expects stands =
     let p = Production.ItemWithD in
-    let both = stands-split s at (68 ∷ []) (b ∷ []) stands in
+    let both = stands-split s.bytes at (68 ∷ []) (b ∷ []) stands in
     let v = tree (builtin (68 ∷ b ∷ [])) true in
     let outer = opened (standing (rule_of p) (68 ∷ []) at around st) [] [] ∷ os in
     let q = Production.ItemIsType in
@@ -203,8 +204,8 @@ builtin-with-d-comes s _ around os at st b typed is expects stands = absurd type
 -- ## Types of types
 
 -- a type is expected behind a P
-pub pointer-opens : (s : List ℕ) (kind : Kind) (around : Around) (os : List Opened) (at : ℕ) (st : State) → IsTyped kind
-    → Expects s kind around os at st → StandsAt s at (80 ∷ []) → TypeOpens s Kind.Type os around pointer (at + 1) st
+pub pointer-opens : (s : Symbol) (kind : Kind) (around : Around) (os : List Opened) (at : ℕ) (st : State) → IsTyped kind
+    → Expects s kind around os at st → StandsAt s.bytes at (80 ∷ []) → TypeOpens s Kind.Type os around pointer (at + 1) st
 unfolding choose alternatives pick is_in in_ranges among is_chain parts_of number_of_kind between opening close unfolding_.behind meaning byte_of tree_of part is_function_type
 pointer-opens s kind around os at st typed expects stands =
     let solid = solid-opens s kind around os at st typed expects in
@@ -216,10 +217,10 @@ pointer-opens s kind around os at st typed expects stands =
           (last-of s Production.Pointer (80 ∷ []) at around st [] (tree t true) solid.inner end now (tree (pointer t) false) now refl comes);
     }
 
-reference-opens : (s : List ℕ) (kind : Kind) (around : Around) (os : List Opened) (at : ℕ) (st : State) (byte : ℕ) (made : Term → Term)
+reference-opens : (s : Symbol) (kind : Kind) (around : Around) (os : List Opened) (at : ℕ) (st : State) (byte : ℕ) (made : Term → Term)
     → IsReferable kind → ((k : Kind) → IsReferable k → choose k byte ≡ Some Production.ReferenceType) → byte < 256
     → ((t : Term) → reference_to byte (tree t true) ≡ tree (made t) false)
-    → Expects s kind around os at st → StandsAt s at (byte ∷ []) → TypeOpens s Kind.Type os around made (at + 1) st
+    → Expects s kind around os at st → StandsAt s.bytes at (byte ∷ []) → TypeOpens s Kind.Type os around made (at + 1) st
 unfolding is_chain parts_of number_of_kind between opening close unfolding_.behind meaning listed_value byte_of tree_of part appended
 reference-opens s kind around os at st byte made typed chosen small makes expects stands = record {
   inner = opened (standing (rule_of Production.ReferenceType) (byte ∷ []) at around st) [] [] ∷ os;
@@ -244,22 +245,22 @@ rvalue-taken Kind.Plain typed = refl
 rvalue-taken _ typed = absurd typed
 
 -- a type is expected behind an R
-pub lvalue-opens : (s : List ℕ) (kind : Kind) (around : Around) (os : List Opened) (at : ℕ) (st : State) → IsReferable kind
-    → Expects s kind around os at st → StandsAt s at (82 ∷ []) → TypeOpens s Kind.Type os around lvalue (at + 1) st
+pub lvalue-opens : (s : Symbol) (kind : Kind) (around : Around) (os : List Opened) (at : ℕ) (st : State) → IsReferable kind
+    → Expects s kind around os at st → StandsAt s.bytes at (82 ∷ []) → TypeOpens s Kind.Type os around lvalue (at + 1) st
 unfolding reference_to tree_of
 lvalue-opens s kind around os at st typed expects stands =
     reference-opens s kind around os at st 82 lvalue typed lvalue-taken (omega arith) (λ t. refl) expects stands
 
 -- and behind an O
-pub rvalue-opens : (s : List ℕ) (kind : Kind) (around : Around) (os : List Opened) (at : ℕ) (st : State) → IsReferable kind
-    → Expects s kind around os at st → StandsAt s at (79 ∷ []) → TypeOpens s Kind.Type os around rvalue (at + 1) st
+pub rvalue-opens : (s : Symbol) (kind : Kind) (around : Around) (os : List Opened) (at : ℕ) (st : State) → IsReferable kind
+    → Expects s kind around os at st → StandsAt s.bytes at (79 ∷ []) → TypeOpens s Kind.Type os around rvalue (at + 1) st
 unfolding reference_to tree_of
 rvalue-opens s kind around os at st typed expects stands =
     reference-opens s kind around os at st 79 rvalue typed rvalue-taken (omega arith) (λ t. refl) expects stands
 
 -- a plain type is expected behind a K
-pub const-opens : (s : List ℕ) (kind : Kind) (around : Around) (os : List Opened) (at : ℕ) (st : State) → IsQualifiable kind
-    → Expects s kind around os at st → StandsAt s at (75 ∷ []) → TypeOpens s Kind.Plain os around as_const (at + 1) st
+pub const-opens : (s : Symbol) (kind : Kind) (around : Around) (os : List Opened) (at : ℕ) (st : State) → IsQualifiable kind
+    → Expects s kind around os at st → StandsAt s.bytes at (75 ∷ []) → TypeOpens s Kind.Plain os around as_const (at + 1) st
 unfolding choose alternatives pick is_in in_ranges among is_chain parts_of number_of_kind between opening close unfolding_.behind meaning listed_value qualified_by byte_of tree_of is_there part appended
 const-opens s Kind.Type around os at st typed expects stands = record {
   inner = opened (standing (rule_of Production.ConstType) (75 ∷ []) at around st) [] [] ∷ os;
@@ -287,8 +288,8 @@ const-opens s _ around os at st typed expects stands = absurd typed
 -- ## Names of types
 
 -- a name of a type was read, by a production whose last part is its arguments
-named-so : (s : List ℕ) (around : Around) (os inner : List Opened) (t : Term) (listed : Bool) (at : ℕ) (st : State) (solid : List Opened)
-    → TreePasses s solid os around.encoding → Expects s Kind.MaybeArguments (after t listed around) inner at st
+named-so : (s : Symbol) (around : Around) (os inner : List Opened) (t : Term) (listed : Bool) (at : ℕ) (st : State) (solid : List Opened)
+    → TreePasses s solid os around.encoding → Expects s Kind.ArgumentsAlone (after t listed around) inner at st
     → ((end : ℕ) (now : State) → Comes s inner nothing_there end now → Comes s solid (tree t listed) end now)
     → ((a : Term) (end : ℕ) (now : State) → Comes s inner (tree a true) end now → Comes s solid (tree (instance t a) false) end now)
     → TypeNamed s os around t listed at st
@@ -319,19 +320,20 @@ nest-taken Kind.LiteralType is_named = refl
 nest-taken _ is_named = absurd is_named
 
 -- a name with its length
-pub source-opens : (s : List ℕ) (kind : Kind) (around : Around) (os : List Opened) (at : ℕ) (st : State) (name : List ℕ) (end : ℕ) → IsNamedKind kind
-    → around.prefix ≡ outermost → TreeOpens s kind os around at st → IsNameAt s at name end
+pub source-opens : (s : Symbol) (kind : Kind) (around : Around) (os : List Opened) (at : ℕ) (st : State) (name : List ℕ) (end : ℕ) → IsNamedKind kind
+    → around.prefix ≡ outermost → TreeOpens s kind os around at st → IsNameAt s.bytes at name end
     → TypeNamed s os around (alone (source false name)) false end st
 unfolding choose alternatives pick is_in in_ranges among is_chain parts_of number_of_kind between opening close unfolding_.behind meaning byte_of tree_of is_there part text_of applied named_so_far piece_so_far extended after
 source-opens s kind around os at st name end is_named first solid is =
     let named = alone (source false name) in
     let rest = opened (standing (rule_of Production.SourceName) [] at around st) (tree named false ∷ []) [] ∷ solid.inner in
     named-so s around os rest named false end st solid.inner solid.passes
+    (alone-arguments s (after named false around) rest end st
     (next-of s Production.SourceName [] at around st [] (text name) (OfKind MAYBE_ARGUMENTS) [] solid.inner end st (after named false around)
     (tree named false ∷ []) st (rw first refl)
     (expects-name s around (opened (standing (rule_of Production.SourceName) [] at around st) [] (OfKind MAYBE_ARGUMENTS ∷ []) ∷ solid.inner) at st name end
     (first-of-chain s kind Production.SourceName 48 around solid.inner at st Name (OfKind MAYBE_ARGUMENTS ∷ []) around [] st (source-taken kind is_named)
-    (omega arith) refl (λ f. refl) refl refl solid.awaits) is))
+    (omega arith) refl (λ f. refl) refl refl solid.awaits) is)))
     (λ later now comes. last-of s Production.SourceName [] at around st (tree named false ∷ []) nothing_there solid.inner later now
     (tree named false) now refl comes)
     (λ a later now comes. last-of s Production.SourceName [] at around st (tree named false ∷ []) (tree a true) solid.inner later now
@@ -348,8 +350,8 @@ listed-lost t true st = refl
 listed-lost t false st = refl
 
 -- a name behind an S
-pub name-with-s-opens : (s : List ℕ) (kind : Kind) (around : Around) (os : List Opened) (at : ℕ) (st : State) → IsNamedKind kind
-    → TreeOpens s kind os around at st → StandsAt s at (83 ∷ []) → NameOpens s Kind.TypeAfterS os around (at + 1) st
+pub name-with-s-opens : (s : Symbol) (kind : Kind) (around : Around) (os : List Opened) (at : ℕ) (st : State) → IsNamedKind kind
+    → TreeOpens s kind os around at st → StandsAt s.bytes at (83 ∷ []) → NameOpens s Kind.TypeAfterS os around (at + 1) st
 unfolding choose alternatives pick is_in in_ranges among is_chain parts_of number_of_kind between opening close unfolding_.behind meaning byte_of tree_of is_listed is_there part applied
 name-with-s-opens s kind around os at st is_named solid stands =
     let rule = standing (rule_of Production.TypeWithS) (83 ∷ []) at around st in
@@ -359,9 +361,8 @@ name-with-s-opens s kind around os at st is_named solid stands =
           refl (λ f. refl) refl refl solid.awaits stands;
       named = λ t listed end now comes.
           named-so s around os (opened rule (tree t listed ∷ []) [] ∷ solid.inner) t listed end now solid.inner solid.passes
-          (any-arguments s (after t listed around) (opened rule (tree t listed ∷ []) [] ∷ solid.inner) end now
           (next-of s Production.TypeWithS (83 ∷ []) at around st [] (tree t listed) (OfKind ARGUMENTS_ALONE) [] solid.inner end now (after t listed around)
-          (tree t listed ∷ []) now refl comes))
+          (tree t listed ∷ []) now refl comes)
           (λ later onward had. last-of s Production.TypeWithS (83 ∷ []) at around st (tree t listed ∷ []) nothing_there solid.inner later onward
           (tree t listed) onward (listed-kept t listed onward) had)
           (λ a later onward had. last-of s Production.TypeWithS (83 ∷ []) at around st (tree t listed ∷ []) (tree a true) solid.inner later onward
@@ -369,12 +370,12 @@ name-with-s-opens s kind around os at st is_named solid stands =
     }
 
 -- a name of std
-pub std-opens : (s : List ℕ) (kind : Kind) (around : Around) (os : List Opened) (at : ℕ) (st : State) (name : List ℕ) (end : ℕ) → IsNamedKind kind
-    → TreeOpens s kind os around at st → StandsAt s at (83 ∷ 116 ∷ []) → IsNameAt s (at + 2) name end
+pub std-opens : (s : Symbol) (kind : Kind) (around : Around) (os : List Opened) (at : ℕ) (st : State) (name : List ℕ) (end : ℕ) → IsNamedKind kind
+    → TreeOpens s kind os around at st → StandsAt s.bytes at (83 ∷ 116 ∷ []) → IsNameAt s.bytes (at + 2) name end
     → TypeNamed s os around (in_std (source false name)) false end st
 unfolding choose alternatives pick is_in in_ranges among is_chain parts_of number_of_kind between opening close unfolding_.behind meaning byte_of piece_of part text_of
 std-opens s kind around os at st name end is_named solid stands is =
-    let both = stands-split s at (83 ∷ []) (116 ∷ []) stands in
+    let both = stands-split s.bytes at (83 ∷ []) (116 ∷ []) stands in
     let w = name-with-s-opens s kind around os at st is_named solid both.0 in
     let std = opened (standing (rule_of Production.StdType) (116 ∷ []) (at + 1) around st) [] [] ∷ w.inner in
     let expects_piece = first-of s Kind.TypeAfterS Production.StdType 116 around w.inner (at + 1) st (OfKind SOURCE_OR_LOCAL) [] around [] st refl (omega arith)
@@ -386,7 +387,7 @@ std-opens s kind around os at st name end is_named solid stands is =
     (tree (in_std (source false name)) false) st refl
     (last-of s Production.SourcePiece [] (at + 1 + 1) around st [] (text name) std end st (piece (source false name)) st refl
     (expects-name s around (opened (standing (rule_of Production.SourcePiece) [] (at + 1 + 1) around st) [] [] ∷ std) (at + 1 + 1) st name end
-    expects_own (subst (λ k. IsNameAt s k name end) (omega arith) is))))
+    expects_own (subst (λ k. IsNameAt s.bytes k name end) (omega arith) is))))
 
 abbreviation-taken : (byte : ℕ) → is_abbreviated byte ≡ true → choose Kind.Abbreviation byte ≡ Some Production.Abbreviation
 unfolding choose alternatives pick is_in in_ranges is_abbreviated among each_passes takes number_of
@@ -399,7 +400,7 @@ unfolding among is_abbreviated each_passes is_small
 abbreviation-small byte is = small byte (tested abbreviation_letters is_small refl byte is)
 
 -- an abbreviation or a substitution is expected behind an S
-reference-behind-s : (s : List ℕ) (around : Around) (os : List Opened) (at : ℕ) (st : State) → Expects s Kind.TypeAfterS around os at st
+reference-behind-s : (s : Symbol) (around : Around) (os : List Opened) (at : ℕ) (st : State) → Expects s Kind.TypeAfterS around os at st
     → Expects s Kind.Abbreviation around (opened (standing (rule_of Production.AbbreviatedType) [] at around st) [] [] ∷ os) at st
 unfolding choose alternatives pick is_in in_ranges among is_chain parts_of number_of_kind between opening
 reference-behind-s s around os at st expects =
@@ -407,12 +408,12 @@ reference-behind-s s around os at st expects =
     refl refl expects
 
 -- an abbreviation
-pub abbreviation-opens : (s : List ℕ) (kind : Kind) (around : Around) (os : List Opened) (at : ℕ) (st : State) (letter : ℕ) → IsNamedKind kind
-    → is_abbreviated letter ≡ true → TreeOpens s kind os around at st → StandsAt s at (83 ∷ letter ∷ [])
+pub abbreviation-opens : (s : Symbol) (kind : Kind) (around : Around) (os : List Opened) (at : ℕ) (st : State) (letter : ℕ) → IsNamedKind kind
+    → is_abbreviated letter ≡ true → TreeOpens s kind os around at st → StandsAt s.bytes at (83 ∷ letter ∷ [])
     → TypeNamed s os around (abbreviation letter) true (at + 2) st
 unfolding is_chain parts_of opening close unfolding_.behind meaning byte_of part
 abbreviation-opens s kind around os at st letter is_named is solid stands =
-    let both = stands-split s at (83 ∷ []) (letter ∷ []) stands in
+    let both = stands-split s.bytes at (83 ∷ []) (letter ∷ []) stands in
     let w = name-with-s-opens s kind around os at st is_named solid both.0 in
     let rule = standing (rule_of Production.AbbreviatedType) [] (at + 1) around st in
     let v = tree (abbreviation letter) true in
@@ -477,11 +478,11 @@ unfolding close part text_of
 substitution-closes around place before digits c st at so =
     ap (λ o. substituted around (place - 1) o st) at ∙ so (place - 1)
 
-substitution-by : (s : List ℕ) (kind : Kind) (around : Around) (os : List Opened) (at : ℕ) (st : State) (digits : List ℕ) (end : ℕ)
+substitution-by : (s : Symbol) (kind : Kind) (around : Around) (os : List Opened) (at : ℕ) (st : State) (digits : List ℕ) (end : ℕ)
     (c : Candidate) → IsNamedKind kind
     → slice_get st.candidates (counted_value Seq36 digits) ≡ Some c
     → ((place : ℕ) → substituted around place (Some c) st ≡ Ok (found (tree c.tree true) st))
-    → TreeOpens s kind os around at st → StandsAt s at (83 ∷ []) → IsSeqAt s (at + 1) digits end
+    → TreeOpens s kind os around at st → StandsAt s.bytes at (83 ∷ []) → IsSeqAt s.bytes (at + 1) digits end
     → TypeNamed s os around c.tree true end st
 unfolding choose alternatives pick is_in in_ranges among is_chain parts_of number_of_kind between opening close unfolding_.behind meaning byte_of part
 substitution-by s kind around os at st digits end c is_named names_it so solid stands is =
@@ -497,24 +498,24 @@ substitution-by s kind around os at st digits end c is_named names_it so solid s
     (λ f. refl) refl refl (reference-behind-s s around w.inner (at + 1) st w.awaits)) is)))
 
 -- a substitution
-pub substitution-opens : (s : List ℕ) (kind : Kind) (around : Around) (os : List Opened) (at : ℕ) (st : State) (digits : List ℕ) (end : ℕ)
+pub substitution-opens : (s : Symbol) (kind : Kind) (around : Around) (os : List Opened) (at : ℕ) (st : State) (digits : List ℕ) (end : ℕ)
     (c : Candidate) → IsNamedKind kind
     → slice_get st.candidates (counted_value Seq36 digits) ≡ Some c → is_open c.tree ≡ false → ((scope : Term) → pack_length scope c.tree ≡ None)
-    → TreeOpens s kind os around at st → StandsAt s at (83 ∷ []) → IsSeqAt s (at + 1) digits end → TypeNamed s os around c.tree true end st
+    → TreeOpens s kind os around at st → StandsAt s.bytes at (83 ∷ []) → IsSeqAt s.bytes (at + 1) digits end → TypeNamed s os around c.tree true end st
 substitution-opens s kind around os at st digits end c is_named names_it closed none solid stands is =
     substitution-by s kind around os at st digits end c is_named names_it (λ place. substituted-so around place c st closed none) solid stands is
 
 -- one that names parameters
-pub open-substitution-opens : (s : List ℕ) (kind : Kind) (around : Around) (os : List Opened) (at : ℕ) (st : State) (digits : List ℕ) (end : ℕ)
+pub open-substitution-opens : (s : Symbol) (kind : Kind) (around : Around) (os : List Opened) (at : ℕ) (st : State) (digits : List ℕ) (end : ℕ)
     (c : Candidate) → IsNamedKind kind → slice_get st.candidates (counted_value Seq36 digits) ≡ Some c → c.encoding ≡ around.encoding
     → around.in_lambda ≡ false → packs_in around.scope c.tree ≡ None
-    → TreeOpens s kind os around at st → StandsAt s at (83 ∷ []) → IsSeqAt s (at + 1) digits end → TypeNamed s os around c.tree true end st
+    → TreeOpens s kind os around at st → StandsAt s.bytes at (83 ∷ []) → IsSeqAt s.bytes (at + 1) digits end → TypeNamed s os around c.tree true end st
 open-substitution-opens s kind around os at st digits end c is_named names_it made plain none solid stands is =
     substitution-by s kind around os at st digits end c is_named names_it (λ place. substituted-open around place c st made plain none) solid stands is
 
 -- a nested name is expected behind an N
-pub nested-type-opens : (s : List ℕ) (kind : Kind) (around : Around) (os : List Opened) (at : ℕ) (st : State) → IsNamedKind kind
-    → TreeOpens s kind os around at st → StandsAt s at (78 ∷ []) → TreeOpens s Kind.Nest os around (at + 1) st
+pub nested-type-opens : (s : Symbol) (kind : Kind) (around : Around) (os : List Opened) (at : ℕ) (st : State) → IsNamedKind kind
+    → TreeOpens s kind os around at st → StandsAt s.bytes at (78 ∷ []) → TreeOpens s Kind.Nest os around (at + 1) st
 unfolding choose alternatives pick is_in in_ranges among is_chain parts_of number_of_kind between opening close unfolding_.behind meaning byte_of part
 nested-type-opens s kind around os at st is_named solid stands =
     record {

@@ -14,18 +14,20 @@ use Rattle.cpp_grammar.specs.Between.{between, after, extended, applied, named_s
 use Rattle.cpp_grammar.specs.Meaning.{meaning}
 use Rattle.cpp_grammar.specs.Unfolding as unfolding_
 use Rattle.cpp_grammar.specs.Unfolding.{opening, close, byte_of}
+use Rattle.cpp_direct.specs.Symbol.{Symbol}
 use Rattle.cpp_direct.specs.Holes.{Opened, opened, StandsAt, Comes, Expects, Named}
 use Rattle.cpp_direct.proofs.Moves.{stands-split, comes-moved, first-of, first-of-chain, next-of, last-of, letter-comes}
 use Rattle.cpp_direct.proofs.MovesOfComponents.{named-by}
 use Rattle.cpp_direct.proofs.Operators.{IsOperator}
+use Rattle.cpp_direct.proofs.Alone.{alone-arguments}
 
 -- an operator is read
-operator-comes : (s : List ℕ) (os : List Opened) (around : Around) (at : ℕ) (st : State) (first second : ℕ) → IsOperator first second
-    → Expects s Kind.Operator around os at st → StandsAt s at (first ∷ second ∷ []) → Comes s os (piece (operator first second)) (at + 2) st
+operator-comes : (s : Symbol) (os : List Opened) (around : Around) (at : ℕ) (st : State) (first second : ℕ) → IsOperator first second
+    → Expects s Kind.Operator around os at st → StandsAt s.bytes at (first ∷ second ∷ []) → Comes s os (piece (operator first second)) (at + 2) st
 unfolding choose alternatives pick is_in in_ranges among is_chain parts_of number_of_kind between opening close unfolding_.behind meaning byte_of part
 operator-comes s os around at st first second is expects stands =
     let v : Value = piece (operator first second) in
-    let two = stands-split s at (first ∷ []) (second ∷ []) stands in
+    let two = stands-split s.bytes at (first ∷ []) (second ∷ []) stands in
     let above : List Opened = opened (standing (rule_of is.production) (first ∷ []) at around st) [] [] ∷ os in
     comes-moved s os v (at + 1 + 1) (at + 2) st (omega arith)
     (last-of s is.production (first ∷ []) at around st [] (letter second) os (at + 1 + 1) st v st (is.takes.closes first second around at st st)
@@ -35,8 +37,8 @@ operator-comes s os around at st first second is expects stands =
     two.1))
 
 -- an operator of its own, with or without arguments behind it
-pub name-operator : (s : List ℕ) (os : List Opened) (around : Around) (at : ℕ) (st : State) (first second : ℕ) → IsOperator first second
-    → Expects s Kind.CompleteName around os at st → around.prefix ≡ outermost → StandsAt s at (first ∷ second ∷ [])
+pub name-operator : (s : Symbol) (os : List Opened) (around : Around) (at : ℕ) (st : State) (first second : ℕ) → IsOperator first second
+    → Expects s Kind.CompleteName around os at st → around.prefix ≡ outermost → StandsAt s.bytes at (first ∷ second ∷ [])
     → Named s os around (alone (operator first second)) (at + 2) st
 unfolding choose alternatives pick is_in in_ranges among is_chain parts_of number_of_kind between opening close unfolding_.behind meaning piece_so_far named_so_far extended after byte_of piece_of tree_of part
 name-operator s os around at st first second is expects outside stands =
@@ -51,8 +53,8 @@ name-operator s os around at st first second is expects outside stands =
     refl expects) stands))
 
 -- an operator as the name of an entity
-pub operator-piece-comes : (s : List ℕ) (os : List Opened) (around : Around) (at : ℕ) (st : State) (first second : ℕ) → IsOperator first second
-    → Expects s Kind.Unqualified around os at st → StandsAt s at (first ∷ second ∷ []) → Comes s os (piece (operator first second)) (at + 2) st
+pub operator-piece-comes : (s : Symbol) (os : List Opened) (around : Around) (at : ℕ) (st : State) (first second : ℕ) → IsOperator first second
+    → Expects s Kind.Unqualified around os at st → StandsAt s.bytes at (first ∷ second ∷ []) → Comes s os (piece (operator first second)) (at + 2) st
 unfolding choose alternatives pick is_in in_ranges among is_chain parts_of number_of_kind between opening close unfolding_.behind meaning part
 operator-piece-comes s os around at st first second is expects stands =
     let p : Production = Production.OperatorPiece in
@@ -63,8 +65,8 @@ operator-piece-comes s os around at st first second is expects stands =
     (first-of-chain s Kind.Unqualified p 110 around os at st (OfKind OPERATOR) [] around [] st refl (omega arith) refl (λ f. refl) refl refl expects) stands)
 
 -- an entity of std, with or without arguments behind it
-pub name-std : (s : List ℕ) (os : List Opened) (around : Around) (at : ℕ) (q : Term) (end : ℕ) (st : State)
-    → Expects s Kind.CompleteName around os at st → StandsAt s at (83 ∷ 116 ∷ [])
+pub name-std : (s : Symbol) (os : List Opened) (around : Around) (at : ℕ) (q : Term) (end : ℕ) (st : State)
+    → Expects s Kind.CompleteName around os at st → StandsAt s.bytes at (83 ∷ 116 ∷ [])
     → ((inner : List Opened) → Expects s Kind.Unqualified around inner (at + 2) st → Comes s inner (piece q) end st)
     → Named s os around (in_std q) end st
 unfolding choose alternatives pick is_in in_ranges among is_chain parts_of number_of_kind between opening close unfolding_.behind meaning named_so_far applied is_there tree_of piece_of part
@@ -72,7 +74,7 @@ name-std s os around at q end st expects here comes =
     let o : Production = Production.NameWithS in
     let p : Production = Production.StdName in
     let u : Term = in_std q in
-    let two = stands-split s at (83 ∷ []) (116 ∷ []) here in
+    let two = stands-split s.bytes at (83 ∷ []) (116 ∷ []) here in
     let os1 : List Opened = opened (standing (rule_of o) (83 ∷ []) at around st) [] [] ∷ os in
     let rule = standing (rule_of p) (116 ∷ []) (at + 1) around st in
     let os2 : List Opened = opened rule [] (OfKind MAYBE_ARGUMENTS ∷ []) ∷ os1 in
@@ -84,8 +86,9 @@ name-std s os around at q end st expects here comes =
     two.1) in
     record {
       inner = opened rule (tree u false ∷ []) [] ∷ os1;
-      awaits = next-of s p (116 ∷ []) (at + 1) around st [] (piece q) (OfKind MAYBE_ARGUMENTS) [] os1 end st (after u false around) (tree u false ∷ []) st refl
-          (comes os2 expected);
+      awaits = alone-arguments s (after u false around) (opened rule (tree u false ∷ []) [] ∷ os1) end st
+          (next-of s p (116 ∷ []) (at + 1) around st [] (piece q) (OfKind MAYBE_ARGUMENTS) [] os1 end st (after u false around) (tree u false ∷ []) st refl
+          (comes os2 expected));
       bare = λ to later came. last-of s o (83 ∷ []) at around st [] (tree u false) os to later (tree u false) later refl
           (last-of s p (116 ∷ []) (at + 1) around st (tree u false ∷ []) nothing_there os1 to later (tree u false) later refl came);
       argued = λ a to later came. last-of s o (83 ∷ []) at around st [] (tree (instance u a) false) os to later (tree (instance u a) false) later refl

@@ -7,6 +7,7 @@ use Rattle.cpp_grammar.specs.Parts.{opening_text, source_text}
 use Rattle.cpp_grammar.specs.Scope.{arguments_of, has_return_type, is_structor}
 use Rattle.cpp_grammar.specs.Values as values
 use Rattle.cpp_grammar.specs.Values.{State, Around}
+use Rattle.cpp_direct.specs.Symbol.{Symbol}
 use Rattle.cpp_direct.specs.declared.open.Open.{Open}
 use Rattle.cpp_direct.specs.declared.open.Purpose.{Purpose}
 use Rattle.cpp_direct.specs.declared.open.Step.TheVariants as steps
@@ -63,7 +64,7 @@ candidates-go old new bytes cs g p =
     subst (λ l. AreCandidates l new.candidates.list.items cs) (sym g.text)
     (subst (λ ks. AreCandidates (old.text.list.items ++ bytes) ks cs) (sym g.candidates) (candidates-stay old.text.list.items bytes old.candidates.list.items cs p))
 
-serves-go : (s : List ℕ) (old new : Direct) (bytes : List ℕ) (outer : List Opened) (front : List ℕ) → Goes old new bytes
+serves-go : (s : Symbol) (old new : Direct) (bytes : List ℕ) (outer : List Opened) (front : List ℕ) → Goes old new bytes
     → Serves s old.nest.purpose (Stands s (reverse old.waiting.list.items)) outer front
     → Serves s new.nest.purpose (Stands s (reverse new.waiting.list.items)) outer front
 serves-go s old new bytes outer front g p =
@@ -73,7 +74,7 @@ serves-go s old new bytes outer front g p =
 -- ## The name of a class once more
 
 -- a constructor or a destructor stands behind a name, and was written but for the name of its class
-class-awaits : (s : List ℕ) (old new : Direct) (st : State) (t own : Term) (front bytes mark : List ℕ) (around : Around) (outer : List Opened)
+class-awaits : (s : Symbol) (old new : Direct) (st : State) (t own : Term) (front bytes mark : List ℕ) (around : Around) (outer : List Opened)
     → AreCandidates old.text.list.items old.candidates.list.items st.candidates → old.text.list.items ≡ front ++ bytes
     → (is : IsNest front bytes old.text.list.items old.nest t)
     → Serves s old.nest.purpose (Stands s (reverse old.waiting.list.items)) outer front
@@ -103,7 +104,7 @@ class-awaits s old new st t own front bytes mark around outer candidates written
 }
 
 -- what a component is read as
-component-named : (s : List ℕ) (outer : List Opened) (around : Around) (t u : Term) (at : ℕ) (st : State)
+component-named : (s : Symbol) (outer : List Opened) (around : Around) (t u : Term) (at : ℕ) (st : State)
     → (a : AwaitsComponent s outer around t at st) → (to end : ℕ) → end ≡ to → Named s a.inner around u to st → NestNamed s outer around u end st
 component-named s outer around t u at st a to end same n = subst (λ k. NestNamed s outer around u k st) (sym same) (record {
   inner = n.inner;
@@ -113,8 +114,8 @@ component-named s outer around t u at st a to end same n = subst (λ k. NestName
 })
 
 -- a constructor was read, and was written but for its class
-pub constructor-awaits : (s : List ℕ) (old between new : Direct) (digit : ℕ) → Writes between new (codes "::") → Moves old between 2
-    → IsWriting s old steps.Component → StandsAt s old.at (67 ∷ []) → StandsAt s (old.at + 1) (digit ∷ []) → 49 ≤ digit → digit ≤ 51
+pub constructor-awaits : (s : Symbol) (old between new : Direct) (digit : ℕ) → Writes between new (codes "::") → Moves old between 2
+    → IsWriting s old steps.Component → StandsAt s.bytes old.at (67 ∷ []) → StandsAt s.bytes (old.at + 1) (digit ∷ []) → 49 ≤ digit → digit ≤ 51
     → old.nest.has_class ≡ true → AwaitsClass s new
 unfolding has_return_type is_structor arguments_of
 constructor-awaits s old between new digit w m p letter next low high has =
@@ -122,12 +123,12 @@ constructor-awaits s old between new digit w m p letter next low high has =
     class-awaits s old new p.state b.0 (within b.0 (constructor digit)) b.1 b.2 (codes "::") b.3 b.4 p.candidates b.5 b.6 b.8
     (goes-marked old between new 2 (codes "::") m w) (rw (w.nest, m.nest) refl)
     (component-named s b.4 b.3 b.0 (within b.0 (constructor digit)) old.at p.state b.7 (old.at + 2) new.at (w.at ∙ m.at)
-    (component-constructor s b.7.inner b.3 b.0 old.at p.state digit b.7.awaits (stands-join s old.at (67 ∷ []) (digit ∷ []) letter next) low high))
+    (component-constructor s b.7.inner b.3 b.0 old.at p.state digit b.7.awaits (stands-join s.bytes old.at (67 ∷ []) (digit ∷ []) letter next) low high))
     (constructor-prints b.0 b.2 b.6.class b.6.prints (b.6.names_class has) digit) refl refl
 
 -- the same of a destructor
-pub destructor-awaits : (s : List ℕ) (old between new : Direct) (digit : ℕ) → Writes between new (codes "::~") → Moves old between 2
-    → IsWriting s old steps.Component → StandsAt s old.at (68 ∷ []) → StandsAt s (old.at + 1) (digit ∷ []) → 48 ≤ digit → digit ≤ 50
+pub destructor-awaits : (s : Symbol) (old between new : Direct) (digit : ℕ) → Writes between new (codes "::~") → Moves old between 2
+    → IsWriting s old steps.Component → StandsAt s.bytes old.at (68 ∷ []) → StandsAt s.bytes (old.at + 1) (digit ∷ []) → 48 ≤ digit → digit ≤ 50
     → old.nest.has_class ≡ true → AwaitsClass s new
 unfolding has_return_type is_structor arguments_of
 destructor-awaits s old between new digit w m p letter next low high has =
@@ -135,11 +136,11 @@ destructor-awaits s old between new digit w m p letter next low high has =
     class-awaits s old new p.state b.0 (within b.0 (destructor digit)) b.1 b.2 (codes "::~") b.3 b.4 p.candidates b.5 b.6 b.8
     (goes-marked old between new 2 (codes "::~") m w) (rw (w.nest, m.nest) refl)
     (component-named s b.4 b.3 b.0 (within b.0 (destructor digit)) old.at p.state b.7 (old.at + 2) new.at (w.at ∙ m.at)
-    (component-destructor s b.7.inner b.3 b.0 old.at p.state digit b.7.awaits (stands-join s old.at (68 ∷ []) (digit ∷ []) letter next) low high))
+    (component-destructor s b.7.inner b.3 b.0 old.at p.state digit b.7.awaits (stands-join s.bytes old.at (68 ∷ []) (digit ∷ []) letter next) low high))
     (destructor-prints b.0 b.2 b.6.class b.6.prints (b.6.names_class has) digit) refl refl
 
 -- The class is written: the component is named.
-named-again : (s : List ℕ) (old new : Direct) (p : AwaitsClass s old) → Goes old new p.class → new.at ≡ old.at
+named-again : (s : Symbol) (old new : Direct) (p : AwaitsClass s old) → Goes old new p.class → new.at ≡ old.at
     → new.nest.class_from ≡ old.nest.class_from → new.nest.class_to ≡ old.nest.class_to → new.nest.is_listed ≡ false
     → new.nest.has_class ≡ false → new.nest.is_instance ≡ false → IsNestNamed s new
 named-again s old new p g at from to unlisted classless no_instance =
@@ -177,7 +178,7 @@ named-again s old new p g at from to unlisted classless no_instance =
     }
 
 -- the same by what stands at the place of the class
-pub class-named : (s : List ℕ) (old between new : Direct) (p : AwaitsClass s old)
+pub class-named : (s : Symbol) (old between new : Direct) (p : AwaitsClass s old)
     → Writes old between (take (old.nest.class_to - old.nest.class_from) (drop old.nest.class_from old.text.list.items))
     → new.text.list.items ≡ between.text.list.items → new.candidates.list.items ≡ between.candidates.list.items → new.waiting.list.items ≡ between.waiting.list.items
     → new.at ≡ between.at → new.nest.from ≡ between.nest.from → new.nest.purpose ≡ between.nest.purpose
@@ -199,7 +200,7 @@ class-named s old between new p w text candidates waiting at nest_from purpose f
 -- ## A piece of a name
 
 -- A piece is written behind the name so far.
-piece-named : (s : List ℕ) (old new : Direct) (st : State) (t piece : Term) (x front bytes : List ℕ) (around : Around) (outer : List Opened)
+piece-named : (s : Symbol) (old new : Direct) (st : State) (t piece : Term) (x front bytes : List ℕ) (around : Around) (outer : List Opened)
     → AreCandidates old.text.list.items old.candidates.list.items st.candidates → old.text.list.items ≡ front ++ bytes
     → IsNest front bytes old.text.list.items old.nest t → Serves s old.nest.purpose (Stands s (reverse old.waiting.list.items)) outer front
     → Goes old new (codes "::" ++ x) → NestNamed s outer around (within t piece) new.at st → IsPiece piece x → opening_text piece ≡ codes "<"
@@ -253,7 +254,7 @@ moves-to old new at by same e =
     subst (λ (d : Direct). Moves old d by) (sym same) (record { text = refl; candidates = refl; waiting = refl; nest = refl; at = e })
 
 -- The same of a writer that goes on so.
-piece-follows : (s : List ℕ) (old start marked read new : Direct) (by : ℕ) (piece : Term) (x : List ℕ) (p : IsWriting s old steps.Component)
+piece-follows : (s : Symbol) (old start marked read new : Direct) (by : ℕ) (piece : Term) (x : List ℕ) (p : IsWriting s old steps.Component)
     → IsPiece piece x → opening_text piece ≡ codes "<" → Moves old start by → Writes start marked (codes "::") → Reads marked read x
     → NestNamed s p.is_before.4 p.is_before.3 (within p.is_before.0 piece) new.at p.state
     → new.text.list.items ≡ read.text.list.items → new.candidates.list.items ≡ read.candidates.list.items → new.waiting.list.items ≡ read.waiting.list.items
@@ -276,23 +277,23 @@ piece-follows s old start marked read new by piece x p is opening m w r named te
 -- ## A name
 
 -- what a name in a nested one is read as
-source-read : (s : List ℕ) (os : List Opened) (around : Around) (t : Term) (at : ℕ) (st : State) (a : AwaitsComponent s os around t at st)
-    → (internal : Bool) (name : List ℕ) (to from end : ℕ) → (internal ≡ true → StandsAt s at (76 ∷ [])) → IsNameAt s from name to
+source-read : (s : Symbol) (os : List Opened) (around : Around) (t : Term) (at : ℕ) (st : State) (a : AwaitsComponent s os around t at st)
+    → (internal : Bool) (name : List ℕ) (to from end : ℕ) → (internal ≡ true → StandsAt s.bytes at (76 ∷ [])) → IsNameAt s.bytes from name to
     → from ≡ at + letters internal → end ≡ to → NestNamed s os around (within t (source internal name)) end st
 source-read s os around t at st a true name to from end letter is moved same =
     component-named s os around t (within t (source true name)) at st a to end same
-    (component-internal s a.inner around t at st name to a.awaits (letter refl) (subst (λ k. IsNameAt s k name to) moved is))
+    (component-internal s a.inner around t at st name to a.awaits (letter refl) (subst (λ k. IsNameAt s.bytes k name to) moved is))
 source-read s os around t at st a false name to from end letter is moved same =
     component-named s os around t (within t (source false name)) at st a to end same
-    (component-source s a.inner around t at st name to a.awaits (subst (λ k. IsNameAt s k name to) (none moved) is))
+    (component-source s a.inner around t at st name to a.awaits (subst (λ k. IsNameAt s.bytes k name to) (none moved) is))
   where
     none : from ≡ at + 0 → from ≡ at
     none e = omega (arith, e)
 
 -- A name follows the name so far.
-pub source-follows : (s : List ℕ) (old start marked read new : Direct) (internal : Bool) → IsWriting s old steps.Component
-    → (internal ≡ true → StandsAt s old.at (76 ∷ [])) → Moves old start (letters internal) → Writes start marked (codes "::")
-    → (name : List ℕ) → IsNameAt s marked.at name read.at → name ≢ [] → Reads marked read (source_text name)
+pub source-follows : (s : Symbol) (old start marked read new : Direct) (internal : Bool) → IsWriting s old steps.Component
+    → (internal ≡ true → StandsAt s.bytes old.at (76 ∷ [])) → Moves old start (letters internal) → Writes start marked (codes "::")
+    → (name : List ℕ) → IsNameAt s.bytes marked.at name read.at → name ≢ [] → Reads marked read (source_text name)
     → new.text.list.items ≡ read.text.list.items → new.candidates.list.items ≡ read.candidates.list.items → new.waiting.list.items ≡ read.waiting.list.items
     → new.at ≡ read.at → new.nest.from ≡ read.nest.from → new.nest.purpose ≡ read.nest.purpose
     → new.nest.class_from ≡ length marked.text.list.items → new.nest.class_to ≡ length read.text.list.items → new.nest.is_listed ≡ false
@@ -307,16 +308,16 @@ source-follows s old start marked read new internal p letter m w name is filled 
 -- ## An operator
 
 -- what an operator in a nested name is read as
-operator-read : (s : List ℕ) (os : List Opened) (around : Around) (t : Term) (at : ℕ) (st : State) (a : AwaitsComponent s os around t at st)
-    → (first second to end : ℕ) → IsOperatorAt s at first second to → end ≡ to → NestNamed s os around (within t (operator first second)) end st
+operator-read : (s : Symbol) (os : List Opened) (around : Around) (t : Term) (at : ℕ) (st : State) (a : AwaitsComponent s os around t at st)
+    → (first second to end : ℕ) → IsOperatorAt s.bytes at first second to → end ≡ to → NestNamed s os around (within t (operator first second)) end st
 operator-read s os around t at st a first second to end there same =
     let is : IsOperator first second = operator-listed first second there.known in
     component-named s os around t (within t (operator first second)) at st a (at + 2) end (same ∙ there.ends)
     (component-operator s a.inner around t at st first second is a.awaits there.stands)
 
 -- An operator follows the name so far, and arguments may follow it.
-pub operator-follows : (s : List ℕ) (old marked read new : Direct) (first second : ℕ) → IsWriting s old steps.Component
-    → Writes old marked (codes "::") → IsOperatorAt s marked.at first second read.at → is_angle first second ≡ false
+pub operator-follows : (s : Symbol) (old marked read new : Direct) (first second : ℕ) → IsWriting s old steps.Component
+    → Writes old marked (codes "::") → IsOperatorAt s.bytes marked.at first second read.at → is_angle first second ≡ false
     → Reads marked read (operator_text first second)
     → new.text.list.items ≡ read.text.list.items → new.candidates.list.items ≡ read.candidates.list.items → new.waiting.list.items ≡ read.waiting.list.items
     → new.at ≡ read.at → new.nest.from ≡ read.nest.from → new.nest.purpose ≡ read.nest.purpose
@@ -327,12 +328,12 @@ operator-follows s old marked read new first second p w there plain r text candi
     piece-follows s old old marked read new 0 (operator first second) (operator_text first second) p
     (operator-piece first second) (operator-opening first second plain)
     (record { text = refl; candidates = refl; waiting = refl; nest = refl; at = omega arith }) w r
-    (operator-read s b.4 b.3 b.0 old.at p.state b.7 first second read.at new.at (subst (λ k. IsOperatorAt s k first second read.at) w.at there) at)
+    (operator-read s b.4 b.3 b.0 old.at p.state b.7 first second read.at new.at (subst (λ k. IsOperatorAt s.bytes k first second read.at) w.at there) at)
     text candidates waiting nest_from purpose from to unlisted has no_instance
 
 -- An operator follows the name so far, and ends it.
-pub operator-last : (s : List ℕ) (old marked read : Direct) (first second : ℕ) → IsWriting s old steps.Component
-    → Writes old marked (codes "::") → IsOperatorAt s marked.at first second read.at → Reads marked read (operator_text first second)
+pub operator-last : (s : Symbol) (old marked read : Direct) (first second : ℕ) → IsWriting s old steps.Component
+    → Writes old marked (codes "::") → IsOperatorAt s.bytes marked.at first second read.at → Reads marked read (operator_text first second)
     → IsOperatorRead s read
 unfolding has_return_type arguments_of
 operator-last s old marked read first second p w there r =
@@ -353,7 +354,7 @@ operator-last s old marked read first second p w there r =
       outer = b.4;
       own = within b.0 (operator first second);
       named = operator-read s b.4 b.3 b.0 old.at p.state b.7 first second read.at read.at
-          (subst (λ k. IsOperatorAt s k first second read.at) w.at there) refl;
+          (subst (λ k. IsOperatorAt s.bytes k first second read.at) w.at there) refl;
       front = b.1;
       bytes = b.2 ++ m ++ x;
       written = g.text ∙ ap (λ l. l ++ (m ++ x)) b.5 ∙ append_assoc b.1 b.2 (m ++ x) ∙ ap (λ l. b.1 ++ l) (sym (append_assoc b.2 m x));

@@ -12,6 +12,7 @@ use Rattle.cpp_grammar.specs.Parts.{source_text}
 use Rattle.cpp_grammar.specs.Scope.{has_return_type, arguments_of, is_structor}
 use Rattle.cpp_grammar.specs.Values.{State, Around, tree, named, tree_of, qualifiers_of, ref_of}
 use Rattle.cpp_grammar.specs.Between.{after, inside, no_items}
+use Rattle.cpp_direct.specs.Symbol.{Symbol}
 use Rattle.cpp_direct.specs.declared.open.Mark.{Mark}
 use Rattle.cpp_direct.specs.Marks.{has_const, called_on}
 use Rattle.cpp_direct.specs.declared.open.Candidate.{Candidate}
@@ -58,7 +59,7 @@ pub byte-there : (s : List ℕ) (at byte known : ℕ) → byte ≡ known → kno
 byte-there s at byte known is some there = subst (λ b. StandsAt s at (b ∷ [])) is (there (λ e. some (sym is ∙ e)))
 
 -- arguments begin behind a name
-list-begins : (s : List ℕ) (old mid new : Direct) (ks : List Candidate) (st : State) (owner : Open) (front name : List ℕ) (t : Term)
+list-begins : (s : Symbol) (old mid new : Direct) (ks : List Candidate) (st : State) (owner : Open) (front name : List ℕ) (t : Term)
     → Keeps old mid ks → OpensArguments mid new owner → AreCandidates old.text.list.items ks st.candidates
     → IsTemplate owner front t name (old.text.list.items ++ codes "<") → old.text.list.items ≡ front ++ name
     → ArgumentsGoOn s owner (Stands s (reverse old.waiting.list.items)) front t [] (old.at + 1) st
@@ -82,7 +83,7 @@ list-begins s old mid new ks st owner front name t keeps opening_ candidates tem
 -- ## A name with or without arguments
 
 -- no arguments stand behind a name
-pub named-goes-on : (s : List ℕ) (w : Direct) → IsNestNamed s w → IsWriting s w steps.Tail
+pub named-goes-on : (s : Symbol) (w : Direct) → IsNestNamed s w → IsWriting s w steps.Tail
 unfolding may_be_empty
 named-goes-on s w n = record {
   state = n.state;
@@ -97,7 +98,7 @@ named-goes-on s w n = record {
       written = n.written;
       is_nest = n.is_nest;
       goes = subst (λ b. NestGoesOn s Kind.NestTail n.outer n.around n.own b w.at n.state) (sym n.unlisted)
-          (n.named.bare w.at n.state (expects-empty s Kind.MaybeArguments (after n.own false n.around) n.named.inner w.at n.state n.named.awaits refl));
+          (n.named.bare w.at n.state (expects-empty s Kind.ArgumentsAlone (after n.own false n.around) n.named.inner w.at n.state n.named.awaits refl));
       serves = n.serves;
     },
     (λ e. n.no_return),
@@ -107,7 +108,7 @@ named-goes-on s w n = record {
 }
 
 -- arguments stand behind it
-pub named-opens : (s : List ℕ) (old mid new : Direct) → IsNestNamed s old → StandsAt s old.at (73 ∷ [])
+pub named-opens : (s : Symbol) (old mid new : Direct) → IsNestNamed s old → StandsAt s.bytes old.at (73 ∷ [])
     → Keeps old mid (added old old.nest.from false) → OpensArguments mid new (opens.NestArguments mid.nest) → IsWriting s new (steps.List true)
 unfolding inside
 named-opens s old mid new n here keeps opening_ =
@@ -127,7 +128,7 @@ named-opens s old mid new n here keeps opening_ =
 -- ## Behind a name so far
 
 -- what is awaited within what comes is awaited of it
-component-outside : (s : List ℕ) (inner outer : List Opened) (around : Around) (t : Term) (at : ℕ) (st : State)
+component-outside : (s : Symbol) (inner outer : List Opened) (around : Around) (t : Term) (at : ℕ) (st : State)
     → SamePasses s inner outer → AwaitsComponent s inner around t at st → AwaitsComponent s outer around t at st
 component-outside s inner outer around t at st passes a = record {
   inner = a.inner;
@@ -138,7 +139,7 @@ component-outside s inner outer around t at st passes a = record {
 }
 
 -- a component follows
-pub component-next : (s : List ℕ) (kind : Kind) (old new : Direct) (st : State) (t : Term) → IsRest kind
+pub component-next : (s : Symbol) (kind : Kind) (old new : Direct) (st : State) (t : Term) → IsRest kind
     → AreCandidates old.text.list.items old.candidates.list.items st.candidates → IsNesting s kind old t st
     → Keeps old new (added_unless old old.nest.is_listed old.nest.from) → IsWriting s new steps.Component
 component-next s kind old new st t rest candidates n keeps =
@@ -170,8 +171,8 @@ component-next s kind old new st t rest candidates n keeps =
     }
 
 -- arguments of the first piece follow
-pub first-opens : (s : List ℕ) (old mid new : Direct) (st : State) (t : Term)
-    → AreCandidates old.text.list.items old.candidates.list.items st.candidates → IsNesting s Kind.NestRest old t st → StandsAt s old.at (73 ∷ [])
+pub first-opens : (s : Symbol) (old mid new : Direct) (st : State) (t : Term)
+    → AreCandidates old.text.list.items old.candidates.list.items st.candidates → IsNesting s Kind.NestRestAlone old t st → StandsAt s.bytes old.at (73 ∷ [])
     → Keeps old mid (added_unless old old.nest.is_listed old.nest.from) → OpensArguments mid new (opens.FirstArguments mid.nest)
     → IsWriting s new (steps.List true)
 unfolding inside
@@ -199,14 +200,14 @@ first-opens s old mid new st t candidates n here keeps opening_ =
 -- ## The end of a nested name
 
 -- a name that ends comes outside
-pub nest-comes : (s : List ℕ) (old : Direct) (st : State) (t : Term) (n : IsNesting s Kind.NestTail old t st) → StandsAt s old.at (69 ∷ [])
+pub nest-comes : (s : Symbol) (old : Direct) (st : State) (t : Term) (n : IsNesting s Kind.NestTail old t st) → StandsAt s.bytes old.at (69 ∷ [])
     → Comes s n.outer (tree t old.nest.is_listed) (old.at + 1) st
 nest-comes s old st t n here = n.goes.passes (tree t old.nest.is_listed) (old.at + 1) st
     (nest-end s n.goes.inner n.around t old.nest.is_listed old.at st n.goes.awaits here)
 
 -- it is a type
-pub type-ended : (s : List ℕ) (old new : Direct) (st : State) (t : Term)
-    → AreCandidates old.text.list.items old.candidates.list.items st.candidates → IsNesting s Kind.NestTail old t st → StandsAt s old.at (69 ∷ [])
+pub type-ended : (s : Symbol) (old new : Direct) (st : State) (t : Term)
+    → AreCandidates old.text.list.items old.candidates.list.items st.candidates → IsNesting s Kind.NestTail old t st → StandsAt s.bytes old.at (69 ∷ [])
     → old.nest.purpose ≡ purposes.Type → Keeps (record old { at = old.at + 1 }) new (added_unless old old.nest.is_listed old.nest.from)
     → IsWriting s new (steps.Value false)
 type-ended s old new st t candidates n here is_type keeps =
@@ -234,11 +235,11 @@ type-ended s old new st t candidates n here is_type keeps =
     }
 
 -- it is the name of the encoding
-pub name-comes : (s : List ℕ) (old : Direct) (st : State) (t : Term) (mark : Mark)
+pub name-comes : (s : Symbol) (old : Direct) (st : State) (t : Term) (mark : Mark)
     → AreCandidates old.text.list.items old.candidates.list.items st.candidates → IsNesting s Kind.NestTail old t st
     → (old.nest.is_instance ≡ false → has_return_type t ≡ false) → (old.nest.is_instance ≡ true → has_return_type t ≡ true)
     → (old.nest.is_instance ≡ true → HasArguments old.text.list.items old.argument t)
-    → StandsAt s old.at (69 ∷ [])
+    → StandsAt s.bytes old.at (69 ∷ [])
     → old.nest.purpose ≡ purposes.Name mark → IsNameEnded s (record old { at = old.at + 1 }) mark old.nest.is_instance old.nest.from
 unfolding tree_of qualifiers_of ref_of
 name-comes s old st t mark candidates n no_return returns names here is_name =
@@ -263,14 +264,14 @@ name-comes s old st t mark candidates n no_return returns names here is_name =
     }
 
 -- the E of one that an operator ends
-pub operator-ends : (s : List ℕ) (w : Direct) (mark : Mark) → IsOperatorRead s w → StandsAt s w.at (69 ∷ [])
+pub operator-ends : (s : Symbol) (w : Direct) (mark : Mark) → IsOperatorRead s w → StandsAt s.bytes w.at (69 ∷ [])
     → w.nest.purpose ≡ purposes.Name mark → IsNameEnded s (record w { at = w.at + 1 }) mark false w.nest.from
 unfolding may_be_empty tree_of qualifiers_of ref_of
 operator-ends s w mark p here is_name =
     let t = p.own in
     let st = p.state in
     let serves = subst (λ u. Serves s u (Stands s (reverse w.waiting.list.items)) p.outer p.front) is_name p.serves in
-    let goes = p.named.bare w.at st (expects-empty s Kind.MaybeArguments (after t false p.around) p.named.inner w.at st p.named.awaits refl) in
+    let goes = p.named.bare w.at st (expects-empty s Kind.ArgumentsAlone (after t false p.around) p.named.inner w.at st p.named.awaits refl) in
     record {
       state = st;
       candidates = p.candidates;
@@ -329,10 +330,10 @@ classless-nest front bytes nest t from_is class_from class_to none prints = reco
 }
 
 -- the rest is expected behind a first piece
-nest-begins : (s : List ℕ) (old new : Direct) (purpose : Purpose) (a : AwaitsNest s old purpose) (t : Term) (bytes : List ℕ)
+nest-begins : (s : Symbol) (old new : Direct) (purpose : Purpose) (a : AwaitsNest s old purpose) (t : Term) (bytes : List ℕ)
     → new.text.list.items ≡ old.text.list.items ++ bytes → new.candidates ≡ old.candidates → new.waiting ≡ old.waiting → new.nest.purpose ≡ purpose
     → IsNest old.text.list.items bytes (old.text.list.items ++ bytes) new.nest t
-    → NestGoesOn s Kind.NestRest a.outer a.around t new.nest.is_listed new.at a.state
+    → NestGoesOn s Kind.NestRestAlone a.outer a.around t new.nest.is_listed new.at a.state
     → IsWriting s new steps.Rest
 nest-begins s old new purpose a t bytes text_is candidates_are waiting_is purpose_is is_nest goes = record {
   state = a.state;
@@ -368,8 +369,8 @@ nest_of from class_from class_to purpose is_listed has_class = record {
 }
 
 -- a name begins a nested one
-pub source-begins : (s : List ℕ) (old mid : Direct) (purpose : Purpose) (name : List ℕ) → AwaitsNest s old purpose
-    → IsNameAt s old.at name mid.at → name ≢ [] → Reads old mid (source_text name) → (from to : ℕ)
+pub source-begins : (s : Symbol) (old mid : Direct) (purpose : Purpose) (name : List ℕ) → AwaitsNest s old purpose
+    → IsNameAt s.bytes old.at name mid.at → name ≢ [] → Reads old mid (source_text name) → (from to : ℕ)
     → from ≡ length old.text.list.items → to ≡ length mid.text.list.items
     → IsWriting s (record mid { nest = nest_of from from to purpose false true }) steps.Rest
 source-begins s old mid purpose name a is filled reads from to from_is to_is =
@@ -411,8 +412,8 @@ abbreviation-letter letter there =
     (97, refl, refl, (98, refl, refl, (115, refl, refl, (105, refl, refl, (111, refl, refl, (100, refl, refl, tt)))))) there
 
 -- an abbreviation begins a nested name
-pub abbreviation-begins : (s : List ℕ) (old mid : Direct) (purpose : Purpose) (letter : ℕ) → AwaitsNest s old purpose → StandsAt s old.at (83 ∷ [])
-    → (letter ≢ 0 → StandsAt s (old.at + 1) (letter ∷ [])) → look_up (letter ∷ []) abbreviation_texts ≢ []
+pub abbreviation-begins : (s : Symbol) (old mid : Direct) (purpose : Purpose) (letter : ℕ) → AwaitsNest s old purpose → StandsAt s.bytes old.at (83 ∷ [])
+    → (letter ≢ 0 → StandsAt s.bytes (old.at + 1) (letter ∷ [])) → look_up (letter ∷ []) abbreviation_texts ≢ []
     → mid.text.list.items ≡ old.text.list.items ++ look_up (letter ∷ []) abbreviation_texts → mid.candidates ≡ old.candidates → mid.waiting ≡ old.waiting
     → mid.at ≡ old.at + 1 + 1 → (from : ℕ) → from ≡ length old.text.list.items
     → IsWriting s (record mid { nest = nest_of from from from purpose true false }) steps.Rest
@@ -424,12 +425,12 @@ abbreviation-begins s old mid purpose letter a here behind there text_is candida
     let some : letter ≢ 0 = λ e. there (ap (λ l. look_up (l ∷ []) abbreviation_texts) e) in
     nest-begins s old (record mid { nest = nest }) purpose a t bytes text_is candidates_are waiting_is refl
     (classless-nest old.text.list.items bytes nest t from_is from_is from_is refl (abbreviation-prints letter there))
-    (subst (λ n. NestGoesOn s Kind.NestRest a.outer a.around t true n a.state) (omega (arith, at_is))
-    (nest-abbreviation s a.outer a.around old.at a.state letter a.awaits (stands-join s old.at (83 ∷ []) (letter ∷ []) here (behind some))
+    (subst (λ n. NestGoesOn s Kind.NestRestAlone a.outer a.around t true n a.state) (omega (arith, at_is))
+    (nest-abbreviation s a.outer a.around old.at a.state letter a.awaits (stands-join s.bytes old.at (83 ∷ []) (letter ∷ []) here (behind some))
     (abbreviation-letter letter there)))
 
 -- what a candidate says of the text
-pub candidate-text : (s : List ℕ) (w : Direct) (purpose : Purpose) (a : AwaitsNest s w purpose) (n : ℕ) (k : Candidate)
+pub candidate-text : (s : Symbol) (w : Direct) (purpose : Purpose) (a : AwaitsNest s w purpose) (n : ℕ) (k : Candidate)
     → k.from ≤ k.to → slice_get w.candidates.list.items n ≡ Some k → (k.from ≤ k.to) × (k.to ≤ length w.text.list.items)
 candidate-text s w purpose a n k ordered found =
     let one = candidate-found w.text.list.items w.candidates.list.items a.state.candidates n k a.candidates ordered found in
@@ -438,8 +439,8 @@ candidate-text s w purpose a n k ordered found =
     (piece.0, piece.1)
 
 -- a reference begins a nested name
-pub reference-begins : (s : List ℕ) (old mid : Direct) (purpose : Purpose) (digits : List ℕ) (k : Candidate) → AwaitsNest s old purpose
-    → StandsAt s old.at (83 ∷ []) → IsSeqAt s (old.at + 1) digits mid.at
+pub reference-begins : (s : Symbol) (old mid : Direct) (purpose : Purpose) (digits : List ℕ) (k : Candidate) → AwaitsNest s old purpose
+    → StandsAt s.bytes old.at (83 ∷ []) → IsSeqAt s.bytes (old.at + 1) digits mid.at
     → k.from ≤ k.to → slice_get old.candidates.list.items (counted_value Seq36 digits) ≡ Some k → k.is_reference ≡ false → k.is_dependent ≡ false
     → mid.text.list.items ≡ old.text.list.items ++ take (k.to - k.from) (drop k.from old.text.list.items) → mid.candidates ≡ old.candidates
     → mid.waiting ≡ old.waiting → (from : ℕ) → from ≡ length old.text.list.items
@@ -456,8 +457,8 @@ reference-begins s old mid purpose digits k a here is ordered found plain closed
     (nest-substitution s a.outer a.around old.at a.state digits mid.at c a.awaits here is one.1 prints.is_closed prints.packless)
 
 -- a name in std begins a nested one
-pub std-begins : (s : List ℕ) (old mid : Direct) (purpose : Purpose) (before : ℕ) (name : List ℕ)
-    → AwaitsNest s (record old { at = before }) purpose → StandsAt s before (83 ∷ 116 ∷ []) → IsNameAt s (before + 2) name mid.at → name ≢ []
+pub std-begins : (s : Symbol) (old mid : Direct) (purpose : Purpose) (before : ℕ) (name : List ℕ)
+    → AwaitsNest s (record old { at = before }) purpose → StandsAt s.bytes before (83 ∷ 116 ∷ []) → IsNameAt s.bytes (before + 2) name mid.at → name ≢ []
     → mid.text.list.items ≡ old.text.list.items ++ codes "std::" ++ source_text name → mid.candidates ≡ old.candidates → mid.waiting ≡ old.waiting
     → (from class_from to : ℕ) → from ≡ length old.text.list.items → class_from ≡ length (old.text.list.items ++ codes "std::") → to ≡ length mid.text.list.items
     → IsNestNamed s (record mid { nest = nest_of from class_from to purpose false true })
@@ -492,7 +493,7 @@ std-begins s old mid purpose before name a here is filled text_is candidates_are
     }
 
 -- what opening arguments says where there was memory
-pub opened-by : (s : List ℕ) (r : Option Step) (old new : Direct) (owner : Open) → IfSome r (λ next. next ≡ steps.List true)
+pub opened-by : (s : Symbol) (r : Option Step) (old new : Direct) (owner : Open) → IfSome r (λ next. next ≡ steps.List true)
     → OnSome r (new.waiting.list.items ≡ old.waiting.list.items ++ owner ∷ []) → OnSome r (new.at ≡ old.at + 1)
     → OnSome r (new.text.list.items ≡ old.text.list.items ++ codes "<") → OnSome r (new.candidates ≡ old.candidates)
     → (OpensArguments old new owner → IsWriting s new (steps.List true)) → IfSome r (IsWriting s new)

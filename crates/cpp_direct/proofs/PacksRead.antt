@@ -7,6 +7,7 @@ use Rattle.cpp_grammar.specs.Grammar.{may_be_empty}
 use Rattle.cpp_grammar.specs.Term.{Term, nil, list, instance, pack}
 use Rattle.cpp_grammar.specs.Values.{nothing_there, tree_of}
 use Rattle.cpp_grammar.specs.Between.{no_items}
+use Rattle.cpp_direct.specs.Symbol.{Symbol}
 use Rattle.cpp_direct.specs.declared.open.Argument.{Argument}
 use Rattle.cpp_direct.specs.declared.open.Arguments.{Arguments}
 use Rattle.cpp_direct.specs.declared.open.Open.{Open}
@@ -26,8 +27,8 @@ use Rattle.cpp_direct.proofs.PrintedLists.{none-print, pack-element, type-elemen
 use Rattle.cpp_direct.proofs.Scopes.{none-known, none-scoped}
 
 -- the first element of such a pack comes next
-pub element-begins : (s : List ℕ) (old new : Direct) (from : ℕ) → IsWriting s old (steps.List true)
-    → EndsNamed (reverse old.waiting.list.items) → StandsAt s old.at (74 ∷ []) → from ≡ length old.text.list.items
+pub element-begins : (s : Symbol) (old new : Direct) (from : ℕ) → IsWriting s old (steps.List true)
+    → EndsNamed (reverse old.waiting.list.items) → StandsAt s.bytes old.at (74 ∷ []) → from ≡ length old.text.list.items
     → new.waiting.list.items ≡ (old.waiting.list.items ++ opens.Pack ∷ []) ++ opens.Element from ∷ [] → new.text ≡ old.text
     → new.candidates ≡ old.candidates → new.at ≡ old.at + 1 → IsWriting s new steps.Type
 unfolding no_items tree_of
@@ -95,7 +96,7 @@ element-begins s old new from p named letter from_is waits text candidates at = 
         }
 
 -- it was read
-pub value-in-pack : (s : List ℕ) (w : Direct) (is_reference : Bool) (from : ℕ) → IsWriting s w (steps.Value is_reference)
+pub value-in-pack : (s : Symbol) (w : Direct) (is_reference : Bool) (from : ℕ) → IsWriting s w (steps.Value is_reference)
     → slice_get w.waiting.list.items (length w.waiting.list.items - 1) ≡ Some (opens.Element from) → IsPackElementRead s w from is_reference
 value-in-pack s w is_reference from p found =
     let last = last-found w.waiting.list.items (opens.Element from) found in
@@ -130,7 +131,7 @@ value-in-pack s w is_reference from p found =
     go _ is waits = absurd waits
 
 -- others may follow
-pub element-passes : (s : List ℕ) (old new : Direct) (from : ℕ) (is_reference : Bool) (p : IsPackElementRead s old from is_reference)
+pub element-passes : (s : Symbol) (old new : Direct) (from : ℕ) (is_reference : Bool) (p : IsPackElementRead s old from is_reference)
     → reverse new.waiting.list.items ≡ opens.Pack ∷ p.owner ∷ p.rest → new.text ≡ old.text → new.candidates ≡ old.candidates → new.at ≡ old.at
     → IsWriting s new (steps.List false)
 element-passes s old new from is_reference p waits text candidates at = record {
@@ -175,9 +176,9 @@ one-element : (t : Term) → t ∷ [] ≢ []
 one-element t e = cc e
 
 -- or the end of the pack and that of the arguments: it is the only one
-pub element-alone : (s : List ℕ) (old new : Direct) (from to : ℕ) (is_reference : Bool) (place : Argument) (known : Arguments)
+pub element-alone : (s : Symbol) (old new : Direct) (from to : ℕ) (is_reference : Bool) (place : Argument) (known : Arguments)
     (p : IsPackElementRead s old from is_reference)
-    → StandsAt s old.at (69 ∷ []) → StandsAt s (old.at + 1) (69 ∷ []) → reverse new.waiting.list.items ≡ p.owner ∷ p.rest → new.text ≡ old.text
+    → StandsAt s.bytes old.at (69 ∷ []) → StandsAt s.bytes (old.at + 1) (69 ∷ []) → reverse new.waiting.list.items ≡ p.owner ∷ p.rest → new.text ≡ old.text
     → new.candidates ≡ old.candidates → new.at ≡ old.at + 1 + 1 → to ≡ length old.text.list.items
     → (IsKnown place → place ≡ record { from = from; to = to; is_pack = true; is_reference = is_reference }) → KnowsMore nowhere known 0 place
     → IsListEnded s new known

@@ -5,6 +5,7 @@ use Rattle.std.proofs.Math.Seq.{drop-cons}
 use Rattle.std.proofs.lemmas.List.{drop_all}
 use Rattle.std.proofs.lemmas.Bool.{and_parts, lt-ltb, ltb-true}
 use Rattle.sym_core.specs.declared.NumberKind.TheVariants.{Decimal}
+use Rattle.sym_shape.specs.declared.rule.Sym.TheVariants.{Number}
 use Rattle.sym_core.specs.declared.refusal.Refusal.TheVariants.{BadValue}
 use Rattle.sym_core.specs.Number.{AreDigits, is_decimal_digit}
 use Rattle.sym_core.specs.Token.{IsNumberToken}
@@ -14,12 +15,13 @@ use Rattle.sym_shape.specs.Table.{Token, bytes_of}
 use Rattle.sym_shape.specs.Tree.{Tree, Forest, branch, empty, token, fixed, nothing, grown, AreTrees, spell, spell_all}
 use Rattle.cpp_grammar.specs.declared.production.Production.{Production}
 use Rattle.cpp_grammar.specs.Grammar.{parts_of}
-use Rattle.cpp_grammar.specs.Table.{abi}
 use Rattle.cpp_grammar.specs.Values.{State, local_number}
 use Rattle.cpp_grammar.specs.Unfolding.{last_token, number_tested, opening}
 use Rattle.cpp_direct.specs.Bytes.{short_numbers}
 use Rattle.cpp_direct.specs.Holes.{StandsAt}
+use Rattle.cpp_direct.specs.Symbol.{table_by}
 use Rattle.cpp_direct.proofs.Moves.{stands-split}
+use Rattle.cpp_direct.proofs.Tables.{names-are}
 
 -- ## Few digits
 
@@ -135,11 +137,11 @@ own-stands s at t bare stands =
     (stands-split s at t.own t.behind (subst (λ b. StandsAt s at (b ++ t.own ++ t.behind)) bare all)).0
 
 -- Whatever stands there as the parts of a lambda, its number has 64 bits.
-pub lambda-begins : (s : List ℕ) (at place : ℕ) (st : State) → short_numbers 0 s ≡ true → (f : Forest) → AreTrees abi (parts_of Production.Lambda) f
+pub lambda-begins : (wide : Bool) (s : List ℕ) (at place : ℕ) (st : State) → short_numbers 0 s ≡ true → (f : Forest) → AreTrees (table_by wide) (parts_of Production.Lambda) f
     → StandsAt s at (spell_all f) → opening Production.Lambda f place st ≡ Ok st
-unfolding parts_of opening last_token abi
-lambda-begins s at place st short (grown a (grown b (grown c (grown (token t) nothing)))) shaped stands =
-    let is : IsNumberToken Decimal t = shaped.1.1.1.0 in
+unfolding parts_of opening last_token
+lambda-begins wide s at place st short (grown a (grown b (grown c (grown (token t) nothing)))) shaped stands =
+    let is : IsNumberToken Decimal t = names-are wide (Number Decimal) t shaped.1.1.1.0 in
     let after_a = (stands-split s at (spell a) (spell b ++ (spell c ++ (bytes_of t ++ []))) stands).1 in
     let after_b = (stands-split s (at + length (spell a)) (spell b) (spell c ++ (bytes_of t ++ [])) after_a).1 in
     let after_c = (stands-split s (at + length (spell a) + length (spell b)) (spell c) (bytes_of t ++ []) after_b).1 in
@@ -149,11 +151,11 @@ lambda-begins s at place st short (grown a (grown b (grown c (grown (token t) no
     let third = rest-last c (grown (token t) nothing) second.0 in
     ap (λ ds. number_tested (place - 1) ds st) (first.1 ∙ second.1 ∙ third.1)
     ∙ tested (place - 1) t.own st (number-small t.own (few s _ t.own short own is.digits.0) is.digits.0)
-lambda-begins s at place st short nothing shaped stands = absurd shaped
-lambda-begins s at place st short (grown a nothing) shaped stands = absurd shaped.1
-lambda-begins s at place st short (grown a (grown b nothing)) shaped stands = absurd shaped.1.1
-lambda-begins s at place st short (grown a (grown b (grown c nothing))) shaped stands = absurd shaped.1.1.1
-lambda-begins s at place st short (grown a (grown b (grown c (grown (branch r k ps) rest)))) shaped stands = absurd shaped.1.1.1.0
-lambda-begins s at place st short (grown a (grown b (grown c (grown empty rest)))) shaped stands = absurd shaped.1.1.1.0
-lambda-begins s at place st short (grown a (grown b (grown c (grown (fixed k) rest)))) shaped stands = absurd shaped.1.1.1.0
-lambda-begins s at place st short (grown a (grown b (grown c (grown (token t) (grown d rest))))) shaped stands = absurd shaped.1.1.1.1
+lambda-begins wide s at place st short nothing shaped stands = absurd shaped
+lambda-begins wide s at place st short (grown a nothing) shaped stands = absurd shaped.1
+lambda-begins wide s at place st short (grown a (grown b nothing)) shaped stands = absurd shaped.1.1
+lambda-begins wide s at place st short (grown a (grown b (grown c nothing))) shaped stands = absurd shaped.1.1.1
+lambda-begins wide s at place st short (grown a (grown b (grown c (grown (branch r k ps) rest)))) shaped stands = absurd shaped.1.1.1.0
+lambda-begins wide s at place st short (grown a (grown b (grown c (grown empty rest)))) shaped stands = absurd shaped.1.1.1.0
+lambda-begins wide s at place st short (grown a (grown b (grown c (grown (fixed k) rest)))) shaped stands = absurd shaped.1.1.1.0
+lambda-begins wide s at place st short (grown a (grown b (grown c (grown (token t) (grown d rest))))) shaped stands = absurd shaped.1.1.1.1

@@ -8,6 +8,7 @@ use Rattle.cpp_grammar.specs.Term.{Term, builtin, nil, list, pointer}
 use Rattle.cpp_grammar.specs.Values as values
 use Rattle.cpp_grammar.specs.Values.{Around, State, tree}
 use Rattle.cpp_grammar.specs.declared.kind.Kind.{Kind}
+use Rattle.cpp_direct.specs.Symbol.{Symbol}
 use Rattle.cpp_direct.specs.declared.open.Mark.{Mark}
 use Rattle.cpp_direct.specs.declared.open.Candidate.{Candidate}
 use Rattle.cpp_direct.specs.declared.open.Open.{Open}
@@ -45,7 +46,7 @@ kept old new more cs text same p =
     (subst (λ v. AreCandidates (old.text.list.items ++ more) v.list.items cs) (sym same) (candidates-stay old.text.list.items more old.candidates.list.items cs p))
 
 -- the parameters come
-pub signature-begins : (s : List ℕ) (old new : Direct) (is_pointer : Bool) (p : IsReturned s old is_pointer)
+pub signature-begins : (s : Symbol) (old new : Direct) (is_pointer : Bool) (p : IsReturned s old is_pointer)
     → new.text.list.items ≡ old.text.list.items ++ opening_text is_pointer → new.candidates ≡ old.candidates
     → reverse new.waiting.list.items ≡ opens.Signature is_pointer ∷ p.rest → new.at ≡ old.at → AwaitsSignature s new is_pointer true
 signature-begins s old new is_pointer p text candidates waits at =
@@ -76,7 +77,7 @@ signature-begins s old new is_pointer p text candidates waits at =
 -- ## Parameters
 
 -- the first one comes next
-pub first-next : (s : List ℕ) (w : Direct) (is_pointer : Bool) → AwaitsSignature s w is_pointer true → AwaitsParameter s w is_pointer
+pub first-next : (s : Symbol) (w : Direct) (is_pointer : Bool) → AwaitsSignature s w is_pointer true → AwaitsParameter s w is_pointer
 first-next s w is_pointer a = record {
   state = a.state;
   candidates = a.candidates;
@@ -103,7 +104,7 @@ first-next s w is_pointer a = record {
     in-front (t ∷ ts) l e = absurd (cc e)
 
 -- another one comes next
-pub another-next : (s : List ℕ) (old new : Direct) (is_pointer : Bool) → AwaitsSignature s old is_pointer false → Writes old new (codes ", ")
+pub another-next : (s : Symbol) (old new : Direct) (is_pointer : Bool) → AwaitsSignature s old is_pointer false → Writes old new (codes ", ")
     → AwaitsParameter s new is_pointer
 another-next s old new is_pointer a one =
     let led = a.front ++ (a.bytes ++ opening_text is_pointer) in
@@ -131,7 +132,7 @@ another-next s old new is_pointer a one =
     }
 
 -- a signature goes on behind one more
-one-more : (s : List ℕ) (outer : List Opened) (encoding : ℕ) (is_pointer : Bool) (returned : Term) (ts : List Term) (t : Term) (at : ℕ) (st : State)
+one-more : (s : Symbol) (outer : List Opened) (encoding : ℕ) (is_pointer : Bool) (returned : Term) (ts : List Term) (t : Term) (at : ℕ) (st : State)
     → SignatureGoesOn s outer encoding is_pointer (λ l. plain_function returned (list_with ts (list t l))) at st
     → SignatureGoesOn s outer encoding is_pointer (λ l. plain_function returned (list_with (ts ++ t ∷ []) l)) at st
 one-more s outer encoding is_pointer returned ts t at st g = record {
@@ -146,7 +147,7 @@ one-more s outer encoding is_pointer returned ts t at st g = record {
 }
 
 -- where a parameter comes, it is the signature's
-signature-stands : (s : List ℕ) (w : Direct) (is_pointer : Bool) (a : AwaitsParameter s w is_pointer) (os : List Opened)
+signature-stands : (s : Symbol) (w : Direct) (is_pointer : Bool) (a : AwaitsParameter s w is_pointer) (os : List Opened)
     → ((t : Term) (at : ℕ) (st : State) → Comes s os (tree t true) at st
     → SignatureGoesOn s a.outer a.encoding is_pointer (λ l. plain_function a.returned (list_with a.ts (list t l))) at st)
     → Stands s (opens.Signature is_pointer ∷ a.rest) os w.text.list.items
@@ -168,7 +169,7 @@ signature-stands s w is_pointer a os onward = (
 )
 
 -- a parameter comes that is no reference
-pub parameter-comes : (s : List ℕ) (w : Direct) (is_pointer : Bool) → AwaitsParameter s w is_pointer → NoReference s w.at → IsWriting s w steps.Type
+pub parameter-comes : (s : Symbol) (w : Direct) (is_pointer : Bool) → AwaitsParameter s w is_pointer → NoReference s.bytes w.at → IsWriting s w steps.Type
 parameter-comes s w is_pointer a none =
     let p = parameter-opens s a.outer a.encoding is_pointer (λ l. plain_function a.returned (list_with a.ts l)) w.at a.state a.goes in
     record {
@@ -197,7 +198,7 @@ abbrev pub reference_entry : (is_lvalue : Bool) → (from : ℕ) → Open
 reference_entry true from = opens.Lvalue from
 reference_entry false from = opens.Rvalue from
 
-reference-stands : (s : List ℕ) (is_lvalue : Bool) (rest : List Open) (os : List Opened) (text : List ℕ) (from : ℕ)
+reference-stands : (s : Symbol) (is_lvalue : Bool) (rest : List Open) (os : List Opened) (text : List ℕ) (from : ℕ)
     → Marks s (Stands s rest) (argument_of rest) os text from (reference is_lvalue) → Stands s (reference_entry is_lvalue from ∷ rest) os text
 reference-stands s true rest os text from marks = marks
 reference-stands s false rest os text from marks = marks
@@ -209,8 +210,8 @@ reference-scoped around true from is_pointer rest = none-scoped around (opens.Lv
 reference-scoped around false from is_pointer rest = none-scoped around (opens.Rvalue from ∷ opens.Signature is_pointer ∷ rest) refl
 
 -- a parameter comes that is a reference
-pub reference-comes : (s : List ℕ) (old new : Direct) (o : Option Step) (is_pointer is_lvalue : Bool) (from : ℕ) → AwaitsParameter s old is_pointer
-    → from ≡ length old.text.list.items → StandsAt s old.at (reference_letter is_lvalue ∷ []) → IfSome o (λ next. next ≡ steps.Type)
+pub reference-comes : (s : Symbol) (old new : Direct) (o : Option Step) (is_pointer is_lvalue : Bool) (from : ℕ) → AwaitsParameter s old is_pointer
+    → from ≡ length old.text.list.items → StandsAt s.bytes old.at (reference_letter is_lvalue ∷ []) → IfSome o (λ next. next ≡ steps.Type)
     → OnSome o (new.waiting.list.items ≡ old.waiting.list.items ++ reference_entry is_lvalue from ∷ []) → OnSome o (new.at ≡ old.at + 1)
     → new.text ≡ old.text → new.candidates ≡ old.candidates → IfSome o (IsWriting s new)
 reference-comes s old new o is_pointer is_lvalue from a begins stands is waits at text candidates =
@@ -244,8 +245,8 @@ reference-comes s old new o is_pointer is_lvalue from a begins stands is waits a
 -- ## The end
 
 -- an E ends a function type whose parameters aren't a lone void
-pub signature-closed : (s : List ℕ) (old new : Direct) (is_pointer is_first : Bool) (a : AwaitsSignature s old is_pointer is_first)
-    → StandsAt s old.at (69 ∷ []) → ends_with nat_eq old.text.list.items (codes "(void") ≡ false → new.text ≡ old.text → new.candidates ≡ old.candidates
+pub signature-closed : (s : Symbol) (old new : Direct) (is_pointer is_first : Bool) (a : AwaitsSignature s old is_pointer is_first)
+    → StandsAt s.bytes old.at (69 ∷ []) → ends_with nat_eq old.text.list.items (codes "(void") ≡ false → new.text ≡ old.text → new.candidates ≡ old.candidates
     → new.waiting ≡ old.waiting → new.at ≡ old.at + 1 → IsFunctionRead s new is_pointer
 signature-closed s old new is_pointer is_first a ends apart text candidates waits at =
     let opening = opening_text is_pointer in
@@ -288,15 +289,15 @@ none-written l all = go all.0 all.1 all.2
     go (b ∷ bs) each is = absurd each
 
 -- and a lone void is no parameter
-pub void-closed : (s : List ℕ) (old new : Direct) (is_pointer : Bool) (a : AwaitsSignature s old is_pointer true)
-    → StandsAt s old.at (118 ∷ 69 ∷ []) → new.text ≡ old.text → new.candidates ≡ old.candidates → new.waiting ≡ old.waiting
+pub void-closed : (s : Symbol) (old new : Direct) (is_pointer : Bool) (a : AwaitsSignature s old is_pointer true)
+    → StandsAt s.bytes old.at (118 ∷ 69 ∷ []) → new.text ≡ old.text → new.candidates ≡ old.candidates → new.waiting ≡ old.waiting
     → new.at ≡ old.at + 2 → IsFunctionRead s new is_pointer
 unfolding is_builtin among
 void-closed s old new is_pointer a stands text candidates waits at =
     let opening = opening_text is_pointer in
     let v = builtin (118 ∷ []) in
     let none = a.none refl in
-    let both = stands-split s old.at (118 ∷ []) (69 ∷ []) stands in
+    let both = stands-split s.bytes old.at (118 ∷ []) (69 ∷ []) stands in
     let made = plain_function a.returned (list v nil) in
     let start = subst (λ ts. SignatureGoesOn s a.outer a.encoding is_pointer (λ l. plain_function a.returned (list_with ts l)) old.at a.state) none a.goes in
     let p = parameter-opens s a.outer a.encoding is_pointer (λ l. plain_function a.returned l) old.at a.state start in
@@ -344,14 +345,14 @@ hidden-behind old new true same = ap (λ v. (v.list.items ++ hidden ∷ []) ++ h
 hidden-behind old new false same = ap (λ v. v.list.items ++ hidden ∷ []) same
 
 -- what waits for the function type, once its own entry is taken away
-pub still-popped : (s : List ℕ) (old new : Direct) (is_pointer : Bool) (p : IsFunctionRead s old is_pointer) (left : List Open) (size : ℕ)
+pub still-popped : (s : Symbol) (old new : Direct) (is_pointer : Bool) (p : IsFunctionRead s old is_pointer) (left : List Open) (size : ℕ)
     → new.waiting ≡ old.waiting → size ≡ length new.waiting.list.items → left ≡ take (size - 1) new.waiting.list.items → reverse left ≡ p.rest
 still-popped s old new is_pointer p left size same length_is is =
     popped old.waiting.list.items left p.rest (opens.Signature is_pointer) size (length_is ∙ ap (λ v. length v.list.items) same) p.open_is
     (is ∙ ap (λ v. take (size - 1) v.list.items) same)
 
 -- a function type is an element or a parameter
-pub function-handed : (s : List ℕ) (old new : Direct) (is_pointer : Bool) (o : Open) (p : IsFunctionRead s old is_pointer)
+pub function-handed : (s : Symbol) (old new : Direct) (is_pointer : Bool) (o : Open) (p : IsFunctionRead s old is_pointer)
     → new.text.list.items ≡ old.text.list.items ++ codes ")" → new.candidates.list.items ≡ with_hidden old is_pointer → reverse new.waiting.list.items ≡ p.rest
     → new.at ≡ old.at → slice_get new.waiting.list.items (length new.waiting.list.items - 1) ≡ Some o → IsElementRead s new o
 function-handed s old new is_pointer o p text candidates waits at found =

@@ -14,6 +14,7 @@ use Rattle.cpp_grammar.specs.Texts.{Naming, look_up, builtin_texts, abbreviation
 use Rattle.cpp_grammar.specs.Parts.{source_text}
 use Rattle.cpp_grammar.specs.Values.{State, tree}
 use Rattle.cpp_grammar.specs.Between.{after, inside, no_items}
+use Rattle.cpp_direct.specs.Symbol.{Symbol}
 use Rattle.cpp_direct.specs.Bytes.{is_builtin, is_builtin_with_d, is_abbreviated}
 use Rattle.cpp_direct.specs.Letters.{builtin_letters, builtin_letters_with_d, abbreviation_letters}
 use Rattle.cpp_direct.specs.declared.open.Candidate.{Candidate}
@@ -67,7 +68,7 @@ popped xs ys rest x n size e is =
 -- ## Marks
 
 -- a type ends with its mark
-pub mark-done : (s : List ℕ) (old new : Direct) (mark : List ℕ) (from : ℕ) (r : Bool) (a : AwaitsMark s old mark from r)
+pub mark-done : (s : Symbol) (old new : Direct) (mark : List ℕ) (from : ℕ) (r : Bool) (a : AwaitsMark s old mark from r)
     → reverse new.waiting.list.items ≡ a.rest → new.text.list.items ≡ old.text.list.items ++ mark
     → new.candidates.list.items ≡ old.candidates.list.items ++ record { from = from; to = length new.text.list.items; is_reference = r; is_dependent = false; number = 0; encoding = 0 } ∷ []
     → new.at ≡ old.at → IsWriting s new (steps.Value r)
@@ -94,7 +95,7 @@ mark-done s old new mark from r a waits text candidates at =
     }
 
 -- the same, by what the calls give
-pub mark-answer : (s : List ℕ) (old mid new : Direct) (mark : List ℕ) (from : ℕ) (r : Bool) (a : AwaitsMark s old mark from r)
+pub mark-answer : (s : Symbol) (old mid new : Direct) (mark : List ℕ) (from : ℕ) (r : Bool) (a : AwaitsMark s old mark from r)
     → reverse mid.waiting.list.items ≡ a.rest → mid.text.list.items ≡ old.text.list.items ++ mark → mid.candidates ≡ old.candidates → mid.at ≡ old.at
     → new.candidates.list.items ≡ added mid from r → new.text ≡ mid.text → new.waiting ≡ mid.waiting → new.at ≡ mid.at → IsWriting s new (steps.Value r)
 mark-answer s old mid new mark from r a waits text candidates at more same_text same_waits same_at =
@@ -105,7 +106,7 @@ mark-answer s old mid new mark from r a waits text candidates at more same_text 
 
 -- ## Names of types
 
-named-candidates : (s : List ℕ) (old new : Direct) (from : ℕ) (listed r : Bool) (a : IsTypeNamed s old from listed r)
+named-candidates : (s : Symbol) (old new : Direct) (from : ℕ) (listed r : Bool) (a : IsTypeNamed s old from listed r)
     → new.candidates.list.items ≡ added_unless old listed from
     → AreCandidates old.text.list.items new.candidates.list.items (unless_listed listed a.around.encoding a.own a.state).candidates
 named-candidates s old new from true r a candidates =
@@ -117,7 +118,7 @@ named-candidates s old new from false r a candidates =
     a.from_is (subst (λ b. Prints a.own a.bytes b) (a.no_reference refl) a.prints))
 
 -- nothing stands behind the name of a type
-pub bare-done : (s : List ℕ) (old new : Direct) (from : ℕ) (listed r : Bool) → IsTypeNamed s old from listed r
+pub bare-done : (s : Symbol) (old new : Direct) (from : ℕ) (listed r : Bool) → IsTypeNamed s old from listed r
     → new.waiting.list.items ≡ old.waiting.list.items → new.text.list.items ≡ old.text.list.items → new.candidates.list.items ≡ added_unless old listed from
     → new.at ≡ old.at → IsWriting s new (steps.Value r)
 unfolding may_be_empty
@@ -135,13 +136,13 @@ bare-done s old new from listed r a waits text candidates at =
         text ∙ a.written,
         a.prints,
         subst (λ k. Comes s a.outer (tree a.own true) k state) (sym at) (a.named.bare old.at a.state a.prints.no_function
-            (expects-empty s Kind.MaybeArguments (after a.own listed a.around) a.named.inner old.at a.state a.named.awaits refl)),
+            (expects-empty s Kind.ArgumentsAlone (after a.own listed a.around) a.named.inner old.at a.state a.named.awaits refl)),
         subst (λ l. Stands s (reverse l) a.outer a.front) (sym waits) a.stands,
       );
     }
 
 -- and arguments do
-pub argued-done : (s : List ℕ) (old new : Direct) (from : ℕ) (listed : Bool) → IsTypeNamed s old from listed false → StandsAt s old.at (73 ∷ [])
+pub argued-done : (s : Symbol) (old new : Direct) (from : ℕ) (listed : Bool) → IsTypeNamed s old from listed false → StandsAt s.bytes old.at (73 ∷ [])
     → new.waiting.list.items ≡ old.waiting.list.items ++ opens.TypeArguments from ∷ [] → new.text.list.items ≡ old.text.list.items ++ codes "<"
     → new.candidates.list.items ≡ added_unless old listed from → new.at ≡ old.at + 1 → IsWriting s new (steps.List true)
 unfolding inside
@@ -170,14 +171,14 @@ argued-done s old new from listed a stands waits text candidates at =
     }
 
 -- the same, by what the calls give
-pub argued-answer : (s : List ℕ) (old mid new : Direct) (from : ℕ) (listed r : Bool) (o : Option Step) → IsTypeNamed s old from listed r → r ≡ false
+pub argued-answer : (s : Symbol) (old mid new : Direct) (from : ℕ) (listed r : Bool) (o : Option Step) → IsTypeNamed s old from listed r → r ≡ false
     → mid.candidates.list.items ≡ added_unless old listed from → mid.text ≡ old.text → mid.waiting ≡ old.waiting → mid.at ≡ old.at
-    → StandsAt s mid.at (73 ∷ []) → IfSome o (λ next. next ≡ steps.List true)
+    → StandsAt s.bytes mid.at (73 ∷ []) → IfSome o (λ next. next ≡ steps.List true)
     → OnSome o (new.waiting.list.items ≡ mid.waiting.list.items ++ opens.TypeArguments from ∷ []) → OnSome o (new.at ≡ mid.at + 1)
     → OnSome o (new.text.list.items ≡ mid.text.list.items ++ codes "<") → OnSome o (new.candidates ≡ mid.candidates) → IfSome o (IsWriting s new)
 argued-answer s old mid new from listed r o a none candidates text waits at stands is new_waits new_at new_text new_candidates =
     by-step o (steps.List true) (IsWriting s new) is
-    (λ e. argued-done s old new from listed (subst (λ b. IsTypeNamed s old from listed b) none a) (subst (λ k. StandsAt s k (73 ∷ [])) at stands)
+    (λ e. argued-done s old new from listed (subst (λ b. IsTypeNamed s old from listed b) none a) (subst (λ k. StandsAt s.bytes k (73 ∷ [])) at stands)
     (given _ o (steps.List true) e new_waits ∙ ap (λ v. v.list.items ++ opens.TypeArguments from ∷ []) waits)
     (given _ o (steps.List true) e new_text ∙ ap (λ v. v.list.items ++ codes "<") text)
     (ap (λ v. v.list.items) (given _ o (steps.List true) e new_candidates) ∙ candidates)
@@ -242,7 +243,7 @@ no-abbreviation letter is none = absurd (false≢true (subst (λ l. is_abbreviat
 -- ## Types
 
 -- what is expected where a type is
-pub awaits-type : (s : List ℕ) (w : Direct) (is_plain : Bool) → IsWriting s w (if is_plain then steps.Plain else steps.Type) → AwaitsType s w
+pub awaits-type : (s : Symbol) (w : Direct) (is_plain : Bool) → IsWriting s w (if is_plain then steps.Plain else steps.Type) → AwaitsType s w
 awaits-type s w true p = record {
   state = p.state;
   candidates = p.candidates;
@@ -259,7 +260,7 @@ awaits-type s w true p = record {
 awaits-type s w false p = go p.is_before.3
   where
     go : Expects s Kind.Type p.is_before.1 p.is_before.0 w.at p.state ⊎ Expects s Kind.Item p.is_before.1 p.is_before.0 w.at p.state
-        ⊎ (Expects s Kind.ItemButRef p.is_before.1 p.is_before.0 w.at p.state × NoReference s w.at) → AwaitsType s w
+        ⊎ (Expects s Kind.ItemButRef p.is_before.1 p.is_before.0 w.at p.state × NoReference s.bytes w.at) → AwaitsType s w
     go (inl awaits) = record {
       state = p.state;
       candidates = p.candidates;
@@ -301,7 +302,7 @@ awaits-type s w false p = go p.is_before.3
     }
 
 -- a builtin type is read
-pub builtin-done : (s : List ℕ) (old new : Direct) (letter : ℕ) → AwaitsType s old → (letter ≢ 0 → StandsAt s old.at (letter ∷ []))
+pub builtin-done : (s : Symbol) (old new : Direct) (letter : ℕ) → AwaitsType s old → (letter ≢ 0 → StandsAt s.bytes old.at (letter ∷ []))
     → look_up (letter ∷ []) builtin_texts ≢ [] → new.text.list.items ≡ old.text.list.items ++ look_up (letter ∷ []) builtin_texts
     → new.candidates.list.items ≡ old.candidates.list.items → new.waiting.list.items ≡ old.waiting.list.items → new.at ≡ old.at + 1 → IsWriting s new (steps.Value false)
 builtin-done s old new letter a stands has text candidates waits at =
@@ -330,8 +331,8 @@ unfolding is_builtin_with_d among
 no-builtin-with-d letter is none = absurd (false≢true (subst (λ l. is_builtin_with_d l ≡ true) none is))
 
 -- and so is one with a code of two letters
-pub builtin-with-d-done : (s : List ℕ) (old new : Direct) (letter : ℕ) → AwaitsType s old → StandsAt s old.at (68 ∷ [])
-    → (letter ≢ 0 → StandsAt s (old.at + 1) (letter ∷ []))
+pub builtin-with-d-done : (s : Symbol) (old new : Direct) (letter : ℕ) → AwaitsType s old → StandsAt s.bytes old.at (68 ∷ [])
+    → (letter ≢ 0 → StandsAt s.bytes (old.at + 1) (letter ∷ []))
     → is_builtin_with_d letter ≡ true → new.text.list.items ≡ old.text.list.items ++ look_up (68 ∷ letter ∷ []) builtin_texts
     → new.candidates ≡ old.candidates → new.waiting ≡ old.waiting → new.at ≡ old.at + 1 + 1 → IsWriting s new (steps.Value false)
 builtin-with-d-done s old new letter a first stands is text candidates waits at =
@@ -351,7 +352,7 @@ builtin-with-d-done s old new letter a first stands is text candidates waits at 
         builtin-with-d-prints letter has,
         subst (λ k. Comes s a.os (tree (builtin (68 ∷ letter ∷ [])) true) k a.state) (omega (arith, at))
             (builtin-with-d-comes s a.kind a.around a.os old.at a.state letter a.typed is a.awaits
-            (stands-join s old.at (68 ∷ []) (letter ∷ []) first (stands (no-builtin-with-d letter is)))),
+            (stands-join s.bytes old.at (68 ∷ []) (letter ∷ []) first (stands (no-builtin-with-d letter is)))),
         subst (λ v. Stands s (reverse v.list.items) a.os old.text.list.items) (sym waits) a.stands,
       );
     }
@@ -359,7 +360,7 @@ builtin-with-d-done s old new letter a first stands is text candidates waits at 
 -- ## Names
 
 -- where a type is expected a name may be
-pub names-awaited : (s : List ℕ) (w : Direct) → AwaitsType s w → AwaitsNamedType s w
+pub names-awaited : (s : Symbol) (w : Direct) → AwaitsType s w → AwaitsNamedType s w
 names-awaited s w a = record {
   state = a.state;
   candidates = a.candidates;
@@ -374,7 +375,7 @@ names-awaited s w a = record {
 }
 
 -- a name with its length is read
-pub source-named : (s : List ℕ) (old new : Direct) (from : ℕ) (name : List ℕ) → AwaitsNamedType s old → IsNameAt s old.at name new.at → name ≢ []
+pub source-named : (s : Symbol) (old new : Direct) (from : ℕ) (name : List ℕ) → AwaitsNamedType s old → IsNameAt s.bytes old.at name new.at → name ≢ []
     → Reads old new (source_text name) → from ≡ length old.text.list.items → IsTypeNamed s new from false false
 source-named s old new from name a is some reads begins = record {
   state = a.state;
@@ -394,10 +395,10 @@ source-named s old new from name a is some reads begins = record {
 }
 
 -- a name in std
-pub std-named : (s : List ℕ) (old mid new : Direct) (from : ℕ) (name : List ℕ) → AwaitsNamedType s old → StandsAt s old.at (83 ∷ [])
-    → StandsAt s (old.at + 1) (116 ∷ [])
+pub std-named : (s : Symbol) (old mid new : Direct) (from : ℕ) (name : List ℕ) → AwaitsNamedType s old → StandsAt s.bytes old.at (83 ∷ [])
+    → StandsAt s.bytes (old.at + 1) (116 ∷ [])
     → mid.text.list.items ≡ old.text.list.items ++ codes "std::" → mid.candidates ≡ old.candidates → mid.waiting ≡ old.waiting → mid.at ≡ old.at + 1 + 1
-    → IsNameAt s mid.at name new.at → name ≢ [] → Reads mid new (source_text name) → from ≡ length old.text.list.items → IsTypeNamed s new from false false
+    → IsNameAt s.bytes mid.at name new.at → name ≢ [] → Reads mid new (source_text name) → from ≡ length old.text.list.items → IsTypeNamed s new from false false
 std-named s old mid new from name a s_stands t_stands text candidates waits at is some reads begins = record {
   state = a.state;
   candidates = candidates-read mid new (source_text name) a.state.candidates reads
@@ -408,8 +409,8 @@ std-named s old mid new from name a s_stands t_stands text candidates waits at i
   outside = a.outside;
   outer = a.os;
   own = in_std (source false name);
-  named = std-opens s a.kind a.around a.os old.at a.state name new.at a.is_named a.begins (stands-join s old.at (83 ∷ []) (116 ∷ []) s_stands t_stands)
-      (subst (λ k. IsNameAt s k name new.at) (omega (arith, at)) is);
+  named = std-opens s a.kind a.around a.os old.at a.state name new.at a.is_named a.begins (stands-join s.bytes old.at (83 ∷ []) (116 ∷ []) s_stands t_stands)
+      (subst (λ k. IsNameAt s.bytes k name new.at) (omega (arith, at)) is);
   front = old.text.list.items;
   bytes = codes "std::" ++ source_text name;
   written = reads.text ∙ ap (λ l. l ++ source_text name) text ∙ append_assoc old.text.list.items (codes "std::") (source_text name);
@@ -420,8 +421,8 @@ std-named s old mid new from name a s_stands t_stands text candidates waits at i
 }
 
 -- an abbreviation
-pub abbreviation-named : (s : List ℕ) (old new : Direct) (from letter : ℕ) → AwaitsNamedType s old → StandsAt s old.at (83 ∷ [])
-    → (letter ≢ 0 → StandsAt s (old.at + 1) (letter ∷ [])) → look_up (letter ∷ []) abbreviation_texts ≢ []
+pub abbreviation-named : (s : Symbol) (old new : Direct) (from letter : ℕ) → AwaitsNamedType s old → StandsAt s.bytes old.at (83 ∷ [])
+    → (letter ≢ 0 → StandsAt s.bytes (old.at + 1) (letter ∷ [])) → look_up (letter ∷ []) abbreviation_texts ≢ []
     → new.text.list.items ≡ old.text.list.items ++ look_up (letter ∷ []) abbreviation_texts → new.candidates ≡ old.candidates → new.waiting ≡ old.waiting
     → new.at ≡ old.at + 1 + 1 → from ≡ length old.text.list.items → IsTypeNamed s new from true false
 abbreviation-named s old new from letter a s_stands stands has text candidates waits at begins =
@@ -438,7 +439,7 @@ abbreviation-named s old new from letter a s_stands stands has text candidates w
       own = abbreviation letter;
       named = subst (λ k. TypeNamed s a.os a.around (abbreviation letter) true k a.state) (omega (arith, at))
           (abbreviation-opens s a.kind a.around a.os old.at a.state letter a.is_named is a.begins
-          (stands-join s old.at (83 ∷ []) (letter ∷ []) s_stands (stands (no-abbreviation letter is))));
+          (stands-join s.bytes old.at (83 ∷ []) (letter ∷ []) s_stands (stands (no-abbreviation letter is))));
       front = old.text.list.items;
       bytes = bytes;
       written = text;
@@ -449,7 +450,7 @@ abbreviation-named s old new from letter a s_stands stands has text candidates w
     }
 
 -- where a substitution's text stands
-pub substitution-stands : (s : List ℕ) (old : Direct) (n : ℕ) (k : Candidate) → AwaitsNamedType s old → k.from ≤ k.to → slice_get old.candidates.list.items n ≡ Some k
+pub substitution-stands : (s : Symbol) (old : Direct) (n : ℕ) (k : Candidate) → AwaitsNamedType s old → k.from ≤ k.to → slice_get old.candidates.list.items n ≡ Some k
     → (k.from ≤ k.to) × (k.to ≤ length old.text.list.items)
 substitution-stands s old n k a ordered found =
     let c = candidate-found old.text.list.items old.candidates.list.items a.state.candidates n k a.candidates ordered found in
@@ -457,8 +458,8 @@ substitution-stands s old n k a ordered found =
     (piece.0, piece.1)
 
 -- a substitution
-pub substitution-named : (s : List ℕ) (old new : Direct) (from : ℕ) (digits : List ℕ) (k : Candidate) → AwaitsNamedType s old → StandsAt s old.at (83 ∷ [])
-    → IsSeqAt s (old.at + 1) digits new.at → k.from ≤ k.to → slice_get old.candidates.list.items (counted_value Seq36 digits) ≡ Some k
+pub substitution-named : (s : Symbol) (old new : Direct) (from : ℕ) (digits : List ℕ) (k : Candidate) → AwaitsNamedType s old → StandsAt s.bytes old.at (83 ∷ [])
+    → IsSeqAt s.bytes (old.at + 1) digits new.at → k.from ≤ k.to → slice_get old.candidates.list.items (counted_value Seq36 digits) ≡ Some k
     → new.text.list.items ≡ old.text.list.items ++ take (k.to - k.from) (drop k.from old.text.list.items) → new.candidates ≡ old.candidates
     → new.waiting ≡ old.waiting → from ≡ length old.text.list.items → k.is_dependent ≡ false → IsTypeNamed s new from true k.is_reference
 substitution-named s old new from digits k a stands is ordered found text candidates waits begins plain =
@@ -487,8 +488,8 @@ substitution-named s old new from digits k a stands is ordered found text candid
     }
 
 -- one that names an argument
-pub named-again : (s : List ℕ) (old new : Direct) (digits : List ℕ) (k : Candidate) → AwaitsNamedType s old → StandsAt s old.at (83 ∷ [])
-    → IsSeqAt s (old.at + 1) digits new.at → k.from ≤ k.to → slice_get old.candidates.list.items (counted_value Seq36 digits) ≡ Some k
+pub named-again : (s : Symbol) (old new : Direct) (digits : List ℕ) (k : Candidate) → AwaitsNamedType s old → StandsAt s.bytes old.at (83 ∷ [])
+    → IsSeqAt s.bytes (old.at + 1) digits new.at → k.from ≤ k.to → slice_get old.candidates.list.items (counted_value Seq36 digits) ≡ Some k
     → new.text.list.items ≡ old.text.list.items → new.candidates ≡ old.candidates → new.waiting ≡ old.waiting → k.is_dependent ≡ true → IsNamedAgain s new k
 named-again s old new digits k a stands is ordered found text candidates waits dependent = record {
   before = old.at;
@@ -517,7 +518,7 @@ named-again s old new digits k a stands is ordered found text candidates waits d
 -- ## Types within types
 
 -- a type within another one is expected
-pub type-opened : (s : List ℕ) (old new : Direct) (o : Option Step) (entry : Open) (from : ℕ) (made : Term → Term) (a : AwaitsType s old)
+pub type-opened : (s : Symbol) (old new : Direct) (o : Option Step) (entry : Open) (from : ℕ) (made : Term → Term) (a : AwaitsType s old)
     (t : TypeOpens s Kind.Type a.os a.around made (old.at + 1) a.state) → from ≡ length old.text.list.items
     → (Marks s (Stands s (reverse old.waiting.list.items)) (argument_of (reverse old.waiting.list.items)) t.inner old.text.list.items from made → Stands s (entry ∷ reverse old.waiting.list.items) t.inner old.text.list.items)
     → IsScoped a.around (entry ∷ reverse old.waiting.list.items)
@@ -542,43 +543,43 @@ type-opened s old new o entry from made a t begins stands scoped is waits at tex
     })
 
 -- behind a P
-pub pointer-opened : (s : List ℕ) (old new : Direct) (o : Option Step) (from : ℕ) → AwaitsType s old → from ≡ length old.text.list.items
-    → StandsAt s old.at (80 ∷ []) → IfSome o (λ next. next ≡ steps.Type) → OnSome o (new.waiting.list.items ≡ old.waiting.list.items ++ opens.Pointer from ∷ [])
+pub pointer-opened : (s : Symbol) (old new : Direct) (o : Option Step) (from : ℕ) → AwaitsType s old → from ≡ length old.text.list.items
+    → StandsAt s.bytes old.at (80 ∷ []) → IfSome o (λ next. next ≡ steps.Type) → OnSome o (new.waiting.list.items ≡ old.waiting.list.items ++ opens.Pointer from ∷ [])
     → OnSome o (new.at ≡ old.at + 1) → new.text ≡ old.text → new.candidates ≡ old.candidates → IfSome o (IsWriting s new)
 pointer-opened s old new o from a begins stands is waits at text candidates =
     type-opened s old new o (opens.Pointer from) from pointer a (pointer-opens s a.kind a.around a.os old.at a.state a.typed a.awaits stands) begins
     (λ m. m) a.scoped is waits at text candidates
 
 -- behind an R
-pub lvalue-opened : (s : List ℕ) (old new : Direct) (o : Option Step) (from : ℕ) → AwaitsType s old → from ≡ length old.text.list.items
-    → StandsAt s old.at (82 ∷ []) → IfSome o (λ next. next ≡ steps.Type) → OnSome o (new.waiting.list.items ≡ old.waiting.list.items ++ opens.Lvalue from ∷ [])
+pub lvalue-opened : (s : Symbol) (old new : Direct) (o : Option Step) (from : ℕ) → AwaitsType s old → from ≡ length old.text.list.items
+    → StandsAt s.bytes old.at (82 ∷ []) → IfSome o (λ next. next ≡ steps.Type) → OnSome o (new.waiting.list.items ≡ old.waiting.list.items ++ opens.Lvalue from ∷ [])
     → OnSome o (new.at ≡ old.at + 1) → new.text ≡ old.text → new.candidates ≡ old.candidates → IfSome o (IsWriting s new)
 lvalue-opened s old new o from a begins stands is waits at text candidates =
     go a.referable
   where
-    go : IsReferable a.kind ⊎ NoReference s old.at → IfSome o (IsWriting s new)
+    go : IsReferable a.kind ⊎ NoReference s.bytes old.at → IfSome o (IsWriting s new)
     go (inr none) = absurd (none.0 stands)
     go (inl referable) =
         type-opened s old new o (opens.Lvalue from) from lvalue a (lvalue-opens s a.kind a.around a.os old.at a.state referable a.awaits stands) begins
         (λ m. m) a.scoped is waits at text candidates
 
 -- and behind an O
-pub rvalue-opened : (s : List ℕ) (old new : Direct) (o : Option Step) (from : ℕ) → AwaitsType s old → from ≡ length old.text.list.items
-    → StandsAt s old.at (79 ∷ []) → IfSome o (λ next. next ≡ steps.Type) → OnSome o (new.waiting.list.items ≡ old.waiting.list.items ++ opens.Rvalue from ∷ [])
+pub rvalue-opened : (s : Symbol) (old new : Direct) (o : Option Step) (from : ℕ) → AwaitsType s old → from ≡ length old.text.list.items
+    → StandsAt s.bytes old.at (79 ∷ []) → IfSome o (λ next. next ≡ steps.Type) → OnSome o (new.waiting.list.items ≡ old.waiting.list.items ++ opens.Rvalue from ∷ [])
     → OnSome o (new.at ≡ old.at + 1) → new.text ≡ old.text → new.candidates ≡ old.candidates → IfSome o (IsWriting s new)
 rvalue-opened s old new o from a begins stands is waits at text candidates =
     go a.referable
   where
-    go : IsReferable a.kind ⊎ NoReference s old.at → IfSome o (IsWriting s new)
+    go : IsReferable a.kind ⊎ NoReference s.bytes old.at → IfSome o (IsWriting s new)
     go (inr none) = absurd (none.1 stands)
     go (inl referable) =
         type-opened s old new o (opens.Rvalue from) from rvalue a (rvalue-opens s a.kind a.around a.os old.at a.state referable a.awaits stands) begins
         (λ m. m) a.scoped is waits at text candidates
 
 -- a plain type is expected, where one with a qualifier may be
-plain-opened : (s : List ℕ) (old new : Direct) (o : Option Step) (from : ℕ) (a : AwaitsType s old) → IsQualifiable a.kind
+plain-opened : (s : Symbol) (old new : Direct) (o : Option Step) (from : ℕ) (a : AwaitsType s old) → IsQualifiable a.kind
     → from ≡ length old.text.list.items
-    → StandsAt s old.at (75 ∷ []) → IfSome o (λ next. next ≡ steps.Plain) → OnSome o (new.waiting.list.items ≡ old.waiting.list.items ++ opens.Const from ∷ [])
+    → StandsAt s.bytes old.at (75 ∷ []) → IfSome o (λ next. next ≡ steps.Plain) → OnSome o (new.waiting.list.items ≡ old.waiting.list.items ++ opens.Const from ∷ [])
     → OnSome o (new.at ≡ old.at + 1) → new.text ≡ old.text → new.candidates ≡ old.candidates → IfSome o (IsWriting s new)
 plain-opened s old new o from a may begins stands is waits at text candidates =
     let t = const-opens s a.kind a.around a.os old.at a.state may a.awaits stands in
@@ -603,15 +604,15 @@ plain-opened s old new o from a may begins stands is waits at text candidates =
     })
 
 -- behind a K
-pub const-opened : (s : List ℕ) (old new : Direct) (o : Option Step) (from : ℕ) (is_plain : Bool)
+pub const-opened : (s : Symbol) (old new : Direct) (o : Option Step) (from : ℕ) (is_plain : Bool)
     → IsWriting s old (if is_plain then steps.Plain else steps.Type) → is_plain ≡ false → from ≡ length old.text.list.items
-    → StandsAt s old.at (75 ∷ []) → IfSome o (λ next. next ≡ steps.Plain) → OnSome o (new.waiting.list.items ≡ old.waiting.list.items ++ opens.Const from ∷ [])
+    → StandsAt s.bytes old.at (75 ∷ []) → IfSome o (λ next. next ≡ steps.Plain) → OnSome o (new.waiting.list.items ≡ old.waiting.list.items ++ opens.Const from ∷ [])
     → OnSome o (new.at ≡ old.at + 1) → new.text ≡ old.text → new.candidates ≡ old.candidates → IfSome o (IsWriting s new)
 const-opened s old new o from true p plain begins stands is waits at text candidates = absurd (false≢true (sym plain))
 const-opened s old new o from false p plain begins stands is waits at text candidates = go p.is_before.3
   where
     go : Expects s Kind.Type p.is_before.1 p.is_before.0 old.at p.state ⊎ Expects s Kind.Item p.is_before.1 p.is_before.0 old.at p.state
-        ⊎ (Expects s Kind.ItemButRef p.is_before.1 p.is_before.0 old.at p.state × NoReference s old.at) → IfSome o (IsWriting s new)
+        ⊎ (Expects s Kind.ItemButRef p.is_before.1 p.is_before.0 old.at p.state × NoReference s.bytes old.at) → IfSome o (IsWriting s new)
     go (inl awaits) = plain-opened s old new o from (record {
       state = p.state;
       candidates = p.candidates;
@@ -653,7 +654,7 @@ const-opened s old new o from false p plain begins stands is waits at text candi
     }) tt begins stands is waits at text candidates
 
 -- a nested name is expected behind an N
-pub nest-awaited : (s : List ℕ) (old : Direct) (n : ℕ) → AwaitsNamedType s old → n ≡ old.at + 1 → StandsAt s old.at (78 ∷ [])
+pub nest-awaited : (s : Symbol) (old : Direct) (n : ℕ) → AwaitsNamedType s old → n ≡ old.at + 1 → StandsAt s.bytes old.at (78 ∷ [])
     → AwaitsNest s (record old { at = n }) purposes.Type
 nest-awaited s old n a at stands =
     let t = nested-type-opens s a.kind a.around a.os old.at a.state a.is_named a.begins stands in

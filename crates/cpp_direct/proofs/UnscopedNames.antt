@@ -9,6 +9,7 @@ use Rattle.cpp_grammar.specs.Parts.{source_text}
 use Rattle.cpp_grammar.specs.Scope.{has_return_type, arguments_of, is_structor}
 use Rattle.cpp_grammar.specs.Values.{State, piece, tree, tree_of, qualifiers_of, ref_of}
 use Rattle.cpp_grammar.specs.Between.{after, in_name, inside, no_items}
+use Rattle.cpp_direct.specs.Symbol.{Symbol}
 use Rattle.cpp_direct.specs.declared.open.Mark.TheVariants as marks
 use Rattle.cpp_direct.specs.declared.open.Open.TheVariants as opens
 use Rattle.cpp_direct.specs.declared.open.Step.{Step}
@@ -39,7 +40,7 @@ not-so false other e h = sym e
 -- ## What was read
 
 -- a name that comes awaits its items, and arguments may stand behind it
-named-has : (s : List ℕ) (w : Direct) (p : AwaitsEncoding s w) (t : Term) (at : ℕ)
+named-has : (s : Symbol) (w : Direct) (p : AwaitsEncoding s w) (t : Term) (at : ℕ)
     → Named s (encoding-expected s w p).inner (in_name w.at) t at p.state → HasName s w.text.list.items w.at t at p.state
 named-has s w p t at is = record {
   inner = is.inner;
@@ -48,22 +49,22 @@ named-has s w p t at is = record {
   argued = λ a here now comes. items-await s w p (tree (instance t a) false) here now (is.argued a here now comes);
 }
 
-name-has : (s : List ℕ) (internal : Bool) (w : Direct) (p : AwaitsEncoding s w) (at : ℕ) (name : List ℕ) (end : ℕ)
-    → (internal ≡ true → StandsAt s w.at (76 ∷ [])) → at ≡ w.at + cond internal 1 0 → IsNameAt s at name end
+name-has : (s : Symbol) (internal : Bool) (w : Direct) (p : AwaitsEncoding s w) (at : ℕ) (name : List ℕ) (end : ℕ)
+    → (internal ≡ true → StandsAt s.bytes w.at (76 ∷ [])) → at ≡ w.at + cond internal 1 0 → IsNameAt s.bytes at name end
     → HasName s w.text.list.items w.at (alone (source internal name)) end p.state
 unfolding in_name
 name-has s true w p at name end letter at_is is =
     let encoding = encoding-expected s w p in
     named-has s w p (alone (source true name)) end
-    (name-internal s encoding.inner (in_name w.at) w.at name end p.state encoding.awaits refl (letter refl) (subst (λ n. IsNameAt s n name end) at_is is))
+    (name-internal s encoding.inner (in_name w.at) w.at name end p.state encoding.awaits refl (letter refl) (subst (λ n. IsNameAt s.bytes n name end) at_is is))
 name-has s false w p at name end letter at_is is =
     let encoding = encoding-expected s w p in
     let here : at ≡ w.at = omega (arith, at_is) in
     named-has s w p (alone (source false name)) end
-    (name-source s encoding.inner (in_name w.at) w.at name end p.state encoding.awaits refl (subst (λ n. IsNameAt s n name end) here is))
+    (name-source s encoding.inner (in_name w.at) w.at name end p.state encoding.awaits refl (subst (λ n. IsNameAt s.bytes n name end) here is))
 
 -- A name was read and written that stands in no class.
-unscoped-read : (s : List ℕ) (old new : Direct) (takes : Bool) (own : Term) (bytes : List ℕ) (st : State) (encoding : ℕ)
+unscoped-read : (s : Symbol) (old new : Direct) (takes : Bool) (own : Term) (bytes : List ℕ) (st : State) (encoding : ℕ)
     → AreCandidates old.text.list.items old.candidates.list.items st.candidates → HasName s old.text.list.items encoding own new.at st
     → Reads old new bytes → PrintsName own bytes → (takes ≡ true → Prints own bytes false) → has_return_type own ≡ false → is_structor own ≡ false
     → (from : ℕ) → from ≡ length old.text.list.items → IsUnscoped s new from takes
@@ -84,7 +85,7 @@ unscoped-read s old new takes own bytes st encoding candidates has reads names p
 }
 
 -- a source name
-pub source-unscoped : (s : List ℕ) (internal : Bool) (old new : Direct) (name : List ℕ) → AwaitsSource s old internal → IsNameAt s old.at name new.at
+pub source-unscoped : (s : Symbol) (internal : Bool) (old new : Direct) (name : List ℕ) → AwaitsSource s old internal → IsNameAt s.bytes old.at name new.at
     → name ≢ [] → Reads old new (source_text name) → (from : ℕ) → from ≡ length old.text.list.items → IsUnscoped s new from true
 unfolding has_return_type arguments_of is_structor
 source-unscoped s internal old new name p is filled reads from from_is =
@@ -95,7 +96,7 @@ source-unscoped s internal old new name p is filled reads from from_is =
     reads (as-name own (source_text name) false prints) (λ e. prints) refl refl from from_is
 
 -- an operator
-pub operator-unscoped : (s : List ℕ) (old new : Direct) (first second : ℕ) (takes : Bool) → AwaitsEncoding s old → IsOperatorAt s old.at first second new.at
+pub operator-unscoped : (s : Symbol) (old new : Direct) (first second : ℕ) (takes : Bool) → AwaitsEncoding s old → IsOperatorAt s.bytes old.at first second new.at
     → (takes ≡ true → is_angle first second ≡ false) → Reads old new (operator_text first second) → (from : ℕ) → from ≡ length old.text.list.items
     → IsUnscoped s new from takes
 unfolding has_return_type arguments_of is_structor in_name
@@ -119,9 +120,9 @@ std-place : (n first second at : ℕ) → first ≡ n + 1 → second ≡ first +
 std-place n first second at e f g = omega (arith, e, f, g)
 
 -- a source name in std
-pub std-source-unscoped : (s : List ℕ) (old marked read : Direct) (first second : ℕ) (name : List ℕ) → AwaitsEncoding s old
-    → StandsAt s old.at (83 ∷ []) → first ≡ old.at + 1 → StandsAt s first (116 ∷ []) → second ≡ first + 1
-    → Writes (record old { at = second }) marked (codes "std::") → IsNameAt s marked.at name read.at → name ≢ [] → Reads marked read (source_text name)
+pub std-source-unscoped : (s : Symbol) (old marked read : Direct) (first second : ℕ) (name : List ℕ) → AwaitsEncoding s old
+    → StandsAt s.bytes old.at (83 ∷ []) → first ≡ old.at + 1 → StandsAt s.bytes first (116 ∷ []) → second ≡ first + 1
+    → Writes (record old { at = second }) marked (codes "std::") → IsNameAt s.bytes marked.at name read.at → name ≢ [] → Reads marked read (source_text name)
     → (from : ℕ) → from ≡ length old.text.list.items → IsUnscoped s read from true
 unfolding has_return_type arguments_of is_structor
 std-source-unscoped s old marked read first second name p letter next mark then_ w is filled r from from_is =
@@ -129,8 +130,8 @@ std-source-unscoped s old marked read first second name p letter next mark then_
     let x = codes "std::" ++ source_text name in
     let encoding = encoding-expected s old p in
     let prints = std-prints false name filled in
-    let here = stands-join s old.at (83 ∷ []) (116 ∷ []) letter (subst (λ n. StandsAt s n (116 ∷ [])) next mark) in
-    let there = subst (λ n. IsNameAt s n name read.at) (std-place old.at first second marked.at next then_ w.at) is in
+    let here = stands-join s.bytes old.at (83 ∷ []) (116 ∷ []) letter (subst (λ n. StandsAt s.bytes n (116 ∷ [])) next mark) in
+    let there = subst (λ n. IsNameAt s.bytes n name read.at) (std-place old.at first second marked.at next then_ w.at) is in
     unscoped-read s old read true own x p.state old.at p.candidates
     (named-has s old p own read.at
     (name-std s encoding.inner (in_name old.at) old.at (source false name) read.at p.state encoding.awaits here
@@ -138,17 +139,17 @@ std-source-unscoped s old marked read first second name p letter next mark then_
     (std-reads old marked read second (source_text name) w r) (as-name own x false prints) (λ e. prints) refl refl from from_is
 
 -- an operator in std
-pub std-operator-unscoped : (s : List ℕ) (old marked read : Direct) (first second : ℕ) (a b : ℕ) (takes : Bool) → AwaitsEncoding s old
-    → StandsAt s old.at (83 ∷ []) → first ≡ old.at + 1 → StandsAt s first (116 ∷ []) → second ≡ first + 1
-    → Writes (record old { at = second }) marked (codes "std::") → IsOperatorAt s marked.at a b read.at → (takes ≡ true → is_angle a b ≡ false)
+pub std-operator-unscoped : (s : Symbol) (old marked read : Direct) (first second : ℕ) (a b : ℕ) (takes : Bool) → AwaitsEncoding s old
+    → StandsAt s.bytes old.at (83 ∷ []) → first ≡ old.at + 1 → StandsAt s.bytes first (116 ∷ []) → second ≡ first + 1
+    → Writes (record old { at = second }) marked (codes "std::") → IsOperatorAt s.bytes marked.at a b read.at → (takes ≡ true → is_angle a b ≡ false)
     → Reads marked read (operator_text a b) → (from : ℕ) → from ≡ length old.text.list.items → IsUnscoped s read from takes
 unfolding has_return_type arguments_of is_structor
 std-operator-unscoped s old marked read first second a b takes p letter next mark then_ w is plain r from from_is =
     let own = in_std (operator a b) in
     let encoding = encoding-expected s old p in
-    let here = stands-join s old.at (83 ∷ []) (116 ∷ []) letter (subst (λ n. StandsAt s n (116 ∷ [])) next mark) in
+    let here = stands-join s.bytes old.at (83 ∷ []) (116 ∷ []) letter (subst (λ n. StandsAt s.bytes n (116 ∷ [])) next mark) in
     let place = std-place old.at first second marked.at next then_ w.at in
-    let there = subst (λ n. IsOperatorAt s n a b read.at) place is in
+    let there = subst (λ n. IsOperatorAt s.bytes n a b read.at) place is in
     unscoped-read s old read takes own (codes "std::" ++ operator_text a b) p.state old.at p.candidates
     (named-has s old p own read.at
     (name-std s encoding.inner (in_name old.at) old.at (operator a b) read.at p.state encoding.awaits here
@@ -159,7 +160,7 @@ std-operator-unscoped s old marked read first second a b takes p letter next mar
 -- ## What stands behind it
 
 -- no arguments
-pub unscoped-bare : (s : List ℕ) (w : Direct) (from : ℕ) (takes : Bool) → IsUnscoped s w from takes → IsNameEnded s w marks.Plain false from
+pub unscoped-bare : (s : Symbol) (w : Direct) (from : ℕ) (takes : Bool) → IsUnscoped s w from takes → IsNameEnded s w marks.Plain false from
 unfolding may_be_empty tree_of qualifiers_of ref_of
 unscoped-bare s w from takes p = record {
   state = p.state;
@@ -178,11 +179,11 @@ unscoped-bare s w from takes p = record {
   returns = λ e. absurd (false≢true e);
   names = λ e. absurd (false≢true e);
   awaits = p.has.bare w.at p.state
-      (expects-empty s Kind.MaybeArguments (after p.own false (in_name p.encoding)) p.has.inner w.at p.state p.has.awaits refl);
+      (expects-empty s Kind.ArgumentsAlone (after p.own false (in_name p.encoding)) p.has.inner w.at p.state p.has.awaits refl);
 }
 
 -- where arguments were opened behind it
-list-stands : (s : List ℕ) (read new : Direct) (from : ℕ) (takes : Bool) → IsUnscoped s read from takes → takes ≡ true → StandsAt s read.at (73 ∷ [])
+list-stands : (s : Symbol) (read new : Direct) (from : ℕ) (takes : Bool) → IsUnscoped s read from takes → takes ≡ true → StandsAt s.bytes read.at (73 ∷ [])
     → new.candidates.list.items ≡ added read from false → new.text.list.items ≡ read.text.list.items ++ codes "<"
     → new.waiting.list.items ≡ read.waiting.list.items ++ opens.NameArguments from ∷ [] → new.at ≡ read.at + 1 → IsWriting s new (steps.List true)
 unfolding in_name inside
@@ -212,8 +213,8 @@ list-stands s read new from takes p some there candidates_are text_is waiting_is
     }
 
 -- arguments
-pub unscoped-argued : (s : List ℕ) (read kept new : Direct) (from : ℕ) (takes : Bool) (r : Option Step) → IsUnscoped s read from takes → takes ≡ true
-    → StandsAt s read.at (73 ∷ []) → kept.candidates.list.items ≡ added read from false → kept.text ≡ read.text → kept.waiting ≡ read.waiting → kept.at ≡ read.at
+pub unscoped-argued : (s : Symbol) (read kept new : Direct) (from : ℕ) (takes : Bool) (r : Option Step) → IsUnscoped s read from takes → takes ≡ true
+    → StandsAt s.bytes read.at (73 ∷ []) → kept.candidates.list.items ≡ added read from false → kept.text ≡ read.text → kept.waiting ≡ read.waiting → kept.at ≡ read.at
     → IfSome r (λ next. next ≡ steps.List true) → OnSome r (new.waiting.list.items ≡ kept.waiting.list.items ++ opens.NameArguments from ∷ []) → OnSome r (new.at ≡ kept.at + 1)
     → OnSome r (new.text.list.items ≡ kept.text.list.items ++ codes "<") → OnSome r (new.candidates ≡ kept.candidates) → IfSome r (IsWriting s new)
 unscoped-argued s read kept new from takes None p some there ks same_text same_open same_at step open_ at_ text_ candidates_ = tt

@@ -11,16 +11,16 @@ use Rattle.sym_direct.specs.Holes as direct
 use Rattle.sym_direct.specs.Holes.{Language}
 use Rattle.cpp_grammar.specs.declared.kind.Kind.{Kind}
 use Rattle.cpp_grammar.specs.Grammar.{number_of_kind}
-use Rattle.cpp_grammar.specs.Table.{abi}
 use Rattle.cpp_grammar.specs.Term.{Term, instance, list}
 use Rattle.cpp_grammar.specs.Values.{State, Around, Value, nothing_there, tree}
 use Rattle.cpp_grammar.specs.References.{is_function_type}
 use Rattle.cpp_grammar.specs.Between.{after, no_items}
 use Rattle.cpp_grammar.specs.Unfolding.{cpp, first_around, first_state}
+use Rattle.cpp_direct.specs.Symbol.{Symbol, table_by}
 
 -- C++ as a language to be read so
-abbrev pub cpp_language : Language Value State Around
-cpp_language = record { table = abi; reading = λ s. cpp; first_context = first_around; first_state = first_state }
+abbrev pub cpp_language : Symbol → Language Value State Around
+cpp_language s = record { table = table_by s.is_wide; reading = λ bytes. cpp; first_context = first_around; first_state = first_state }
 
 abbrev pub Opened : Type 0
 Opened = direct.Opened Value State Around
@@ -29,24 +29,24 @@ abbrev pub opened : Open State Around → (known : List Value) → (todo : List 
 opened rule known todo = direct.opened rule known todo
 
 -- what is left of a rule's parts is read
-abbrev pub ReadsRest : (s : List ℕ) (rule : Open State Around) (known : List Value) (todo : List Sym) (at : ℕ) (bytes : List ℕ) (before : State)
+abbrev pub ReadsRest : (s : Symbol) (rule : Open State Around) (known : List Value) (todo : List Sym) (at : ℕ) (bytes : List ℕ) (before : State)
     (vs : List Value) (after : State) → Type 0
-ReadsRest s rule known todo at bytes before vs after = direct.ReadsRest cpp_language s rule known todo at bytes before vs after
+ReadsRest s rule known todo at bytes before vs after = direct.ReadsRest (cpp_language s) s.bytes rule known todo at bytes before vs after
 
 abbrev pub StandsAt : (s : List ℕ) → (at : ℕ) → (bytes : List ℕ) → Type 0
 StandsAt s at bytes = direct.StandsAt s at bytes
 
 -- The innermost of the open rules has the next one of its values: each part has one in C++.
-abbrev pub Comes : (s : List ℕ) → List Opened → Value → (at : ℕ) → State → Type 0
-Comes s os v at state = direct.Comes cpp_language s os (v ∷ []) at state
+abbrev pub Comes : (s : Symbol) → List Opened → Value → (at : ℕ) → State → Type 0
+Comes s os v at state = direct.Comes (cpp_language s) s.bytes os (v ∷ []) at state
 
-abbrev pub Needs : (s : List ℕ) → List Opened → Open State Around → (known : List Value) → (todo : List Sym) → (at : ℕ) → State → Type 0
-Needs s os rule known todo at state = direct.Needs cpp_language s os rule known todo at state
+abbrev pub Needs : (s : Symbol) → List Opened → Open State Around → (known : List Value) → (todo : List Sym) → (at : ℕ) → State → Type 0
+Needs s os rule known todo at state = direct.Needs (cpp_language s) s.bytes os rule known todo at state
 
-abbrev pub ExpectsSym : (s : List ℕ) → Sym → Around → List Opened → (at : ℕ) → State → Type 0
-ExpectsSym s x around os at state = direct.Expects cpp_language s x around os at state
+abbrev pub ExpectsSym : (s : Symbol) → Sym → Around → List Opened → (at : ℕ) → State → Type 0
+ExpectsSym s x around os at state = direct.Expects (cpp_language s) s.bytes x around os at state
 
-abbrev pub Expects : (s : List ℕ) → Kind → Around → List Opened → (at : ℕ) → State → Type 0
+abbrev pub Expects : (s : Symbol) → Kind → Around → List Opened → (at : ℕ) → State → Type 0
 Expects s kind around os at state = ExpectsSym s (OfKind (number_of_kind kind)) around os at state
 
 -- ## States
@@ -101,57 +101,57 @@ IsListKind Kind.Items = Unit {0}
 IsListKind _ = ⊥
 
 -- what comes inside comes outside as well
-abbrev pub SamePasses : (s : List ℕ) → (inner outer : List Opened) → Type 0
+abbrev pub SamePasses : (s : Symbol) → (inner outer : List Opened) → Type 0
 SamePasses s inner outer = (v : Value) (at : ℕ) (st : State) → Comes s inner v at st → Comes s outer v at st
 
 -- a type that comes inside makes the one that comes outside, which is a candidate
-abbrev pub TypePasses : (s : List ℕ) → (inner outer : List Opened) → (encoding : ℕ) → (made : Term → Term) → Type 0
+abbrev pub TypePasses : (s : Symbol) → (inner outer : List Opened) → (encoding : ℕ) → (made : Term → Term) → Type 0
 TypePasses s inner outer e made =
     (t : Term) (at : ℕ) (st : State) → Comes s inner (tree t true) at st → Comes s outer (tree (made t) true) at (with_candidate e (made t) st)
 
 -- A name was read that is a type, with or without arguments behind it.
-pub record TypeNamed (s : List ℕ) (outer : List Opened) (around : Around) (t : Term) (listed : Bool) (at : ℕ) (st : State) : Type 0 where
+pub record TypeNamed (s : Symbol) (outer : List Opened) (around : Around) (t : Term) (listed : Bool) (at : ℕ) (st : State) : Type 0 where
   pub inner : List Opened
-  pub awaits : Expects s Kind.MaybeArguments (after t listed around) inner at st
+  pub awaits : Expects s Kind.ArgumentsAlone (after t listed around) inner at st
   pub bare : (at : ℕ) (st : State) → is_function_type t ≡ false → Comes s inner nothing_there at st
       → Comes s outer (tree t true) at (unless_listed listed around.encoding t st)
   pub argued : (a : Term) (at : ℕ) (st : State) → Comes s inner (tree a true) at st
       → Comes s outer (tree (instance t a) true) at (with_candidate around.encoding (instance t a) st)
 
 -- A name was read that is the name of an encoding or a component, with or without arguments behind it.
-pub record Named (s : List ℕ) (outer : List Opened) (around : Around) (t : Term) (at : ℕ) (st : State) : Type 0 where
+pub record Named (s : Symbol) (outer : List Opened) (around : Around) (t : Term) (at : ℕ) (st : State) : Type 0 where
   pub inner : List Opened
-  pub awaits : Expects s Kind.MaybeArguments (after t false around) inner at st
+  pub awaits : Expects s Kind.ArgumentsAlone (after t false around) inner at st
   pub bare : (at : ℕ) (st : State) → Comes s inner nothing_there at st → Comes s outer (tree t false) at st
   pub argued : (a : Term) (at : ℕ) (st : State) → Comes s inner (tree a true) at st → Comes s outer (tree (instance t a) false) at st
 
 -- Of a nested name this much is read, and what comes of it comes outside.
-pub record NestGoesOn (s : List ℕ) (kind : Kind) (outer : List Opened) (around : Around) (t : Term) (listed : Bool) (at : ℕ) (st : State) : Type 0 where
+pub record NestGoesOn (s : Symbol) (kind : Kind) (outer : List Opened) (around : Around) (t : Term) (listed : Bool) (at : ℕ) (st : State) : Type 0 where
   pub inner : List Opened
   pub awaits : Expects s kind (after t listed around) inner at st
   pub passes : SamePasses s inner outer
 
 -- A component of a nested name is expected next.
-pub record AwaitsComponent (s : List ℕ) (outer : List Opened) (around : Around) (t : Term) (at : ℕ) (st : State) : Type 0 where
+pub record AwaitsComponent (s : Symbol) (outer : List Opened) (around : Around) (t : Term) (at : ℕ) (st : State) : Type 0 where
   pub inner : List Opened
   pub awaits : Expects s Kind.Component (after t true around) inner at st
   pub onward : (u : Term) (at : ℕ) (st : State) → Comes s inner (tree u false) at st → NestGoesOn s Kind.NestTail outer around u false at st
 
 -- A std name was read at the front of a nested one, with or without arguments behind it.
-pub record NestNamed (s : List ℕ) (outer : List Opened) (around : Around) (t : Term) (at : ℕ) (st : State) : Type 0 where
+pub record NestNamed (s : Symbol) (outer : List Opened) (around : Around) (t : Term) (at : ℕ) (st : State) : Type 0 where
   pub inner : List Opened
-  pub awaits : Expects s Kind.MaybeArguments (after t false around) inner at st
+  pub awaits : Expects s Kind.ArgumentsAlone (after t false around) inner at st
   pub bare : (at : ℕ) (st : State) → Comes s inner nothing_there at st → NestGoesOn s Kind.NestTail outer around t false at st
   pub argued : (a : Term) (at : ℕ) (st : State) → Comes s inner (tree a true) at st → NestGoesOn s Kind.NestTail outer around (instance t a) false at st
 
 -- A list goes on behind an element.
-pub record ListGoesOn (s : List ℕ) (kind : Kind) (outer : List Opened) (around : Around) (t : Term) (at : ℕ) (st : State) : Type 0 where
+pub record ListGoesOn (s : Symbol) (kind : Kind) (outer : List Opened) (around : Around) (t : Term) (at : ℕ) (st : State) : Type 0 where
   pub inner : List Opened
   pub awaits : Expects s kind around inner at st
   pub passes : (l : Value) (at : ℕ) (st : State) → Comes s inner l at st → Comes s outer (tree (list t (no_items l)) true) at st
 
 -- An element of a list is expected, which is a type.
-pub record AwaitsElement (s : List ℕ) (kind : Kind) (outer : List Opened) (around : Around) (at : ℕ) (st : State) : Type 0 where
+pub record AwaitsElement (s : Symbol) (kind : Kind) (outer : List Opened) (around : Around) (at : ℕ) (st : State) : Type 0 where
   pub inner : List Opened
   pub awaits : Expects s Kind.Item around inner at st
   pub onward : (t : Term) (at : ℕ) (st : State) → Comes s inner (tree t true) at st → ListGoesOn s kind outer around t at st

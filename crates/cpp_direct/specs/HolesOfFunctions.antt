@@ -4,6 +4,7 @@ use Rattle.cpp_grammar.specs.declared.kind.Kind.{Kind}
 use Rattle.cpp_grammar.specs.Term.{Term, any_value, function_type, pointer, lvalue, rvalue, list}
 use Rattle.cpp_grammar.specs.Meaning.{parameters}
 use Rattle.cpp_grammar.specs.Values.{State, Around, outermost, tree, signature}
+use Rattle.cpp_direct.specs.Symbol.{Symbol}
 use Rattle.cpp_direct.specs.Holes.{Opened, Comes, Expects, TypePasses, with_candidate}
 
 -- a function type with this return type and these parameters, and nothing else to it
@@ -21,7 +22,7 @@ with_pointed true e t st = with_candidate e (pointer t) (with_candidate e t st)
 with_pointed false e t st = with_candidate e t st
 
 -- Of a function type, or of one that is pointed to, this much is read, and parameters go on.
-pub record SignatureGoesOn (s : List ℕ) (outer : List Opened) (encoding : ℕ) (is_pointer : Bool) (made : Term → Term) (at : ℕ) (st : State) : Type 0 where
+pub record SignatureGoesOn (s : Symbol) (outer : List Opened) (encoding : ℕ) (is_pointer : Bool) (made : Term → Term) (at : ℕ) (st : State) : Type 0 where
   pub around : Around
   pub outside : around.prefix ≡ outermost
   pub inner : List Opened
@@ -30,14 +31,14 @@ pub record SignatureGoesOn (s : List ℕ) (outer : List Opened) (encoding : ℕ)
       → Comes s outer (tree (pointed is_pointer (made l)) true) at (with_pointed is_pointer encoding (made l) st)
 
 -- Behind an F the return type is expected.
-pub record FunctionOpened (s : List ℕ) (outer : List Opened) (around : Around) (is_pointer : Bool) (at : ℕ) (st : State) : Type 0 where
+pub record FunctionOpened (s : Symbol) (outer : List Opened) (around : Around) (is_pointer : Bool) (at : ℕ) (st : State) : Type 0 where
   pub inner : List Opened
   pub awaits : Expects s Kind.Type around inner at st
   pub onward : (r : Term) (at : ℕ) (st : State) → Comes s inner (tree r true) at st
       → SignatureGoesOn s outer around.encoding is_pointer (λ l. plain_function r l) at st
 
 -- A parameter is expected that is no reference.
-pub record ParameterOpened (s : List ℕ) (outer : List Opened) (encoding : ℕ) (is_pointer : Bool) (made : Term → Term) (at : ℕ) (st : State) : Type 0 where
+pub record ParameterOpened (s : Symbol) (outer : List Opened) (encoding : ℕ) (is_pointer : Bool) (made : Term → Term) (at : ℕ) (st : State) : Type 0 where
   pub around : Around
   pub outside : around.prefix ≡ outermost
   pub inner : List Opened
@@ -56,7 +57,7 @@ reference_letter true = 82
 reference_letter false = 79
 
 -- A parameter is expected that is a reference, behind its letter: what it is a reference to comes first.
-pub record ReferenceOpened (s : List ℕ) (outer : List Opened) (encoding : ℕ) (is_pointer is_lvalue : Bool) (made : Term → Term) (at : ℕ) (st : State) : Type 0 where
+pub record ReferenceOpened (s : Symbol) (outer : List Opened) (encoding : ℕ) (is_pointer is_lvalue : Bool) (made : Term → Term) (at : ℕ) (st : State) : Type 0 where
   pub around : Around
   pub outside : around.prefix ≡ outermost
   pub whole : List Opened

@@ -5,12 +5,12 @@ use Rattle.sym_core.specs.declared.NumberKind.TheVariants.{Digits}
 use Rattle.sym_core.specs.Token.{Token, bytes_of, IsNumberToken}
 use Rattle.sym_demangle.specs.Mangled.{StandsFor}
 use Rattle.cpp_grammar.specs.declared.kind.Kind.{Kind}
-use Rattle.cpp_grammar.specs.Mangled.{cpp_mangled}
 use Rattle.cpp_grammar.specs.Term.{RefQualifier, any_value, lvalue_only, rvalue_only, Adjustment, adjusting, Term, symbol, special, thunk, integer, pack}
 use Rattle.cpp_grammar.specs.Values.{State, Around, Value, tree, named, tree_of, signed_digits}
 use Rattle.cpp_grammar.specs.Between.{in_name, in_types, inside, no_items}
 use Rattle.cpp_grammar.specs.Meaning.{encoding_of}
 use Rattle.cpp_grammar.specs.Unfolding.{first_around, first_state}
+use Rattle.cpp_direct.specs.Symbol.{Symbol, mangled_of}
 use Rattle.cpp_direct.specs.Holes.{Opened, StandsAt, Comes, Expects, ListGoesOn}
 use Rattle.cpp_direct.specs.HolesOfTypes.{TreeOpens}
 use Rattle.cpp_direct.specs.ItemBytes.{is_suffix_byte}
@@ -18,10 +18,10 @@ use Rattle.cpp_direct.specs.ItemBytes.{is_suffix_byte}
 -- ## Lists
 
 -- Behind an I the arguments are expected; at an E they are the arguments of what stands before them.
-pub record ArgumentsOpened (s : List ℕ) (outer : List Opened) (around : Around) (at : ℕ) (st : State) : Type 0 where
+pub record ArgumentsOpened (s : Symbol) (outer : List Opened) (around : Around) (at : ℕ) (st : State) : Type 0 where
   pub inner : List Opened
   pub awaits : Expects s Kind.ArgumentList (inside around) inner at st
-  pub onward : (l : Value) (at : ℕ) (st : State) → Comes s inner l at st → StandsAt s at (69 ∷ [])
+  pub onward : (l : Value) (at : ℕ) (st : State) → Comes s inner l at st → StandsAt s.bytes at (69 ∷ [])
       → Comes s outer (tree (no_items l) true) (at + 1) st
 
 -- template arguments are read as one of these kinds
@@ -31,17 +31,17 @@ IsArgumentKind Kind.PackList = Unit {0}
 IsArgumentKind _ = ⊥
 
 -- Behind an L a literal is expected, which ends at an E.
-pub record LiteralOpened (s : List ℕ) (kind : Kind) (outer : List Opened) (around : Around) (at : ℕ) (st : State) : Type 0 where
+pub record LiteralOpened (s : Symbol) (kind : Kind) (outer : List Opened) (around : Around) (at : ℕ) (st : State) : Type 0 where
   pub inner : List Opened
   pub awaits : Expects s Kind.Literal around inner at st
-  pub onward : (t : Term) (at : ℕ) (st : State) → Comes s inner (tree t true) at st → StandsAt s at (69 ∷ [])
+  pub onward : (t : Term) (at : ℕ) (st : State) → Comes s inner (tree t true) at st → StandsAt s.bytes at (69 ∷ [])
       → ListGoesOn s kind outer around t (at + 1) st
 
 -- Behind a J the elements of a pack are expected, which ends at an E.
-pub record PackOpened (s : List ℕ) (outer : List Opened) (around : Around) (at : ℕ) (st : State) : Type 0 where
+pub record PackOpened (s : Symbol) (outer : List Opened) (around : Around) (at : ℕ) (st : State) : Type 0 where
   pub inner : List Opened
   pub awaits : Expects s Kind.PackList around inner at st
-  pub onward : (l : Value) (at : ℕ) (st : State) → Comes s inner l at st → StandsAt s at (69 ∷ [])
+  pub onward : (l : Value) (at : ℕ) (st : State) → Comes s inner l at st → StandsAt s.bytes at (69 ∷ [])
       → ListGoesOn s Kind.ArgumentList outer around (pack (no_items l)) (at + 1) st
 
 -- the digits of an integer stand at the place, and this is the place behind them
@@ -58,29 +58,29 @@ minus_sign true = 110 ∷ []
 minus_sign false = []
 
 -- Behind an L the type of an enumerator is expected, then its number and an E.
-pub record EnumeratorOpened (s : List ℕ) (kind : Kind) (outer : List Opened) (around : Around) (at : ℕ) (st : State) : Type 0 where
+pub record EnumeratorOpened (s : Symbol) (kind : Kind) (outer : List Opened) (around : Around) (at : ℕ) (st : State) : Type 0 where
   pub inner : List Opened
   pub opens : TreeOpens s Kind.LiteralType inner around at st
   pub onward : (t : Term) (at : ℕ) (st : State) → Comes s inner (tree t true) at st → (negative : Bool) (digits : List ℕ) (end : ℕ)
-      → StandsAt s at (minus_sign negative) → IsDigitsAt s (at + length (minus_sign negative)) digits end → StandsAt s end (69 ∷ [])
+      → StandsAt s.bytes at (minus_sign negative) → IsDigitsAt s.bytes (at + length (minus_sign negative)) digits end → StandsAt s.bytes end (69 ∷ [])
       → ListGoesOn s kind outer around (integer t (signed_digits negative digits)) (end + 1) st
 
 -- ## Encodings
 
 -- The items of an encoding with this name are expected; there may be none.
-pub record ItemsOpened (s : List ℕ) (outer : List Opened) (encoding : ℕ) (name : Value) (at : ℕ) (st : State) : Type 0 where
+pub record ItemsOpened (s : Symbol) (outer : List Opened) (encoding : ℕ) (name : Value) (at : ℕ) (st : State) : Type 0 where
   pub inner : List Opened
   pub awaits : Expects s Kind.Items (in_types encoding (tree_of name)) inner at st
   pub onward : (l : Value) (at : ℕ) (st : State) → Comes s inner l at st → Comes s outer (tree (encoding_of name (no_items l)) true) at st
 
 -- The name of an encoding that begins here is expected.
-pub record EncodingOpened (s : List ℕ) (outer : List Opened) (at : ℕ) (st : State) : Type 0 where
+pub record EncodingOpened (s : Symbol) (outer : List Opened) (at : ℕ) (st : State) : Type 0 where
   pub inner : List Opened
   pub awaits : Expects s Kind.CompleteName (in_name at) inner at st
   pub onward : (v : Value) (here : ℕ) (st : State) → Comes s inner v here st → ItemsOpened s outer at v here st
 
 -- The type of a special object of an encoding that begins at a place is expected.
-pub record SpecialOpened (s : List ℕ) (outer : List Opened) (encoding letter : ℕ) (at : ℕ) (st : State) : Type 0 where
+pub record SpecialOpened (s : Symbol) (outer : List Opened) (encoding letter : ℕ) (at : ℕ) (st : State) : Type 0 where
   pub inner : List Opened
   pub awaits : Expects s Kind.Type (in_name encoding) inner at st
   pub onward : (t : Term) (at : ℕ) (st : State) → Comes s inner (tree t true) at st → Comes s outer (tree (special letter t) true) at st
@@ -96,7 +96,7 @@ pub record IsOffsetAt (s : List ℕ) (at : ℕ) (end : ℕ) : Type 0 where
   pub ends : end ≡ behind + 1
 
 -- The encoding is expected that a thunk calls, which begins at a place.
-pub record ThunkOpened (s : List ℕ) (outer : List Opened) (encoding : ℕ) (by : Adjustment) (at : ℕ) (st : State) : Type 0 where
+pub record ThunkOpened (s : Symbol) (outer : List Opened) (encoding : ℕ) (by : Adjustment) (at : ℕ) (st : State) : Type 0 where
   pub inner : List Opened
   pub awaits : Expects s Kind.Encoding (in_name encoding) inner at st
   pub onward : (e : Term) (at : ℕ) (st : State) → Comes s inner (tree e true) at st
@@ -118,7 +118,7 @@ abbrev pub nest_marks : (const : Bool) → RefQualifier → List ℕ
 nest_marks const on = 78 ∷ mark_letters const on
 
 -- The parts of a nested name are expected, which has these qualifiers.
-pub record NestOpened (s : List ℕ) (outer : List Opened) (around : Around) (const : Bool) (on : RefQualifier) (at : ℕ) (st : State) : Type 0 where
+pub record NestOpened (s : Symbol) (outer : List Opened) (around : Around) (const : Bool) (on : RefQualifier) (at : ℕ) (st : State) : Type 0 where
   pub inner : List Opened
   pub awaits : Expects s Kind.Nest around inner at st
   pub onward : (t : Term) (listed : Bool) (at : ℕ) (st : State) → Comes s inner (tree t listed) at st
@@ -133,9 +133,9 @@ IsSuffix (d ∷ []) = ⊥
 IsSuffix (d ∷ b ∷ bs) = (d ≡ 46) × AllByRecursion (λ c. is_suffix_byte c ≡ true) (b ∷ bs)
 
 -- The encoding of a symbol is expected, which ends the symbol or stands before its suffix.
-pub record SymbolOpened (s : List ℕ) : Type 0 where
+pub record SymbolOpened (s : Symbol) : Type 0 where
   pub inner : List Opened
   pub awaits : Expects s Kind.Encoding first_around inner 2 first_state
-  pub ends : (e : Term) (st : State) → Comes s inner (tree e true) (length s) st → StandsFor cpp_mangled s (Ok (symbol e []))
-  pub ends_in : (e : Term) (at : ℕ) (suffix : List ℕ) (st : State) → Comes s inner (tree e true) at st → StandsAt s at suffix
-      → at + length suffix ≡ length s → IsSuffix suffix → StandsFor cpp_mangled s (Ok (symbol e suffix))
+  pub ends : (e : Term) (st : State) → Comes s inner (tree e true) (length s.bytes) st → StandsFor (mangled_of s) s.bytes (Ok (symbol e []))
+  pub ends_in : (e : Term) (at : ℕ) (suffix : List ℕ) (st : State) → Comes s inner (tree e true) at st → StandsAt s.bytes at suffix
+      → at + length suffix ≡ length s.bytes → IsSuffix suffix → StandsFor (mangled_of s) s.bytes (Ok (symbol e suffix))

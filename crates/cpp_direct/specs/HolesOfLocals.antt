@@ -5,6 +5,7 @@ use Rattle.cpp_grammar.specs.Term.{Term, any_value, of_name, local, within, sour
 use Rattle.cpp_grammar.specs.Values.{State, Around, Value, local_number, normal, nothing_there, text, tree, named, unqualified, tree_of, qualifiers_of, ref_of}
 use Rattle.cpp_grammar.specs.Between.{after, in_name}
 use Rattle.cpp_grammar.specs.Meaning.{discriminator_of, parameters}
+use Rattle.cpp_direct.specs.Symbol.{Symbol}
 use Rattle.cpp_direct.specs.Holes.{Opened, StandsAt, Comes, Expects, IsNameAt}
 use Rattle.cpp_direct.specs.HolesOfLists.{IsDigitsAt}
 
@@ -45,31 +46,31 @@ abbrev pub entity_in : (e : Term) → (internal : Bool) → (name : List ℕ) �
 entity_in e internal name digit = local_in e (source internal name) digit
 
 -- The encoding is expected in which an entity stands.
-pub record LocalOpened (s : List ℕ) (outer : List Opened) (around : Around) (at : ℕ) (st : State) : Type 0 where
+pub record LocalOpened (s : Symbol) (outer : List Opened) (around : Around) (at : ℕ) (st : State) : Type 0 where
   pub inner : List Opened
   pub awaits : Expects s Kind.Encoding around inner at st
   pub onward : (e : Term) (at : ℕ) (st : State) → Comes s inner (tree e true) at st → (internal : Bool) (name : List ℕ) (digit : Discriminator) (end : ℕ)
-      → IsEntityAt s at internal name digit end → Comes s outer (named (entity_in e internal name digit) unqualified any_value) end st
+      → IsEntityAt s.bytes at internal name digit end → Comes s outer (named (entity_in e internal name digit) unqualified any_value) end st
 
 -- a piece stands at the place as the name of a type in an encoding, and this is the place behind it
-abbrev pub IsPieceAt : (s : List ℕ) → (at : ℕ) → (piece : Term) → (end : ℕ) → Type 0
+abbrev pub IsPieceAt : (s : Symbol) → (at : ℕ) → (piece : Term) → (end : ℕ) → Type 0
 IsPieceAt s at p end =
     (os : List Opened) (around : Around) (e : Term) (st : State) → Expects s Kind.TypeEntity (after e true around) os at st
     → Comes s os (tree (within e p) false) end st
 
 -- The name of a type in this encoding is expected, and something becomes of the type.
-pub record EntityOpened (s : List ℕ) (becomes : Term → (at : ℕ) → State → Type 0) (e : Term) (at : ℕ) (st : State) : Type 0 where
+pub record EntityOpened (s : Symbol) (becomes : Term → (at : ℕ) → State → Type 0) (e : Term) (at : ℕ) (st : State) : Type 0 where
   pub around : Around
   pub inner : List Opened
   pub awaits : Expects s Kind.TypeEntity (after e true around) inner at st
   pub onward : (p : Term) (at : ℕ) (st : State) → Comes s inner (tree (within e p) false) at st → (digit : Discriminator) (end : ℕ)
-      → IsDiscriminatorAt s at digit end → becomes (local_in e p digit) end st
+      → IsDiscriminatorAt s.bytes at digit end → becomes (local_in e p digit) end st
 
 -- The encoding is expected in which a type stands.
-pub record LocalTypeOpened (s : List ℕ) (outer : List Opened) (around : Around) (at : ℕ) (st : State) : Type 0 where
+pub record LocalTypeOpened (s : Symbol) (outer : List Opened) (around : Around) (at : ℕ) (st : State) : Type 0 where
   pub inner : List Opened
   pub awaits : Expects s Kind.Encoding around inner at st
-  pub onward : (e : Term) (at : ℕ) (st : State) → Comes s inner (tree e true) at st → StandsAt s at (69 ∷ [])
+  pub onward : (e : Term) (at : ℕ) (st : State) → Comes s inner (tree e true) at st → StandsAt s.bytes at (69 ∷ [])
       → EntityOpened s (λ t end now. Comes s outer (tree t false) end now) e (at + 1) st
 
 -- the digit behind a lambda's E, if it isn't the first one
@@ -96,7 +97,7 @@ abbrev pub lambda_ending : Option ℕ → List ℕ
 lambda_ending number = 69 ∷ (lambda_digits number ++ 95 ∷ [])
 
 -- The name is expected of which a variable is the guard, in an encoding that begins at a place.
-pub record GuardOpened (s : List ℕ) (outer : List Opened) (encoding : ℕ) (at : ℕ) (st : State) : Type 0 where
+pub record GuardOpened (s : Symbol) (outer : List Opened) (encoding : ℕ) (at : ℕ) (st : State) : Type 0 where
   pub inner : List Opened
   pub awaits : Expects s Kind.CompleteName (in_name encoding) inner at st
   pub onward : (v : Value) (at : ℕ) (st : State) → Comes s inner v at st

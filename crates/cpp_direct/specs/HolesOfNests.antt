@@ -4,17 +4,18 @@ use Rattle.cpp_grammar.specs.declared.kind.Kind.{Kind}
 use Rattle.cpp_grammar.specs.Term.{Term, instance}
 use Rattle.cpp_grammar.specs.Values.{State, Around, Value}
 use Rattle.cpp_grammar.specs.Between.{inside, no_items}
+use Rattle.cpp_direct.specs.Symbol.{Symbol}
 use Rattle.cpp_direct.specs.Holes.{Opened, StandsAt, Comes, Expects, unless_listed, with_candidate, AwaitsComponent}
 
 -- a nested name may go on as one of these kinds
 abbrev pub IsRest : Kind → Type 0
-IsRest Kind.NestRest = Unit {0}
+IsRest Kind.NestRestAlone = Unit {0}
 IsRest Kind.NestTail = Unit {0}
 IsRest _ = ⊥
 
 -- Arguments of the name so far are expected behind an I, and behind their E a component.
-pub record AwaitsArguments (s : List ℕ) (outer : List Opened) (around : Around) (t : Term) (listed : Bool) (at : ℕ) (st : State) : Type 0 where
+pub record AwaitsArguments (s : Symbol) (outer : List Opened) (around : Around) (t : Term) (listed : Bool) (at : ℕ) (st : State) : Type 0 where
   pub inner : List Opened
   pub awaits : Expects s Kind.ArgumentList (inside around) inner (at + 1) (unless_listed listed around.encoding t st)
-  pub onward : (l : Value) (at : ℕ) (st : State) → Comes s inner l at st → StandsAt s at (69 ∷ [])
+  pub onward : (l : Value) (at : ℕ) (st : State) → Comes s inner l at st → StandsAt s.bytes at (69 ∷ [])
       → AwaitsComponent s outer around (instance t (no_items l)) (at + 1) (with_candidate around.encoding (instance t (no_items l)) st)

@@ -4,6 +4,7 @@ use Rattle.cpp_grammar.specs.declared.kind.Kind.{Kind}
 use Rattle.cpp_grammar.specs.Term.{Term, qualified}
 use Rattle.cpp_grammar.specs.Values.{State, Around, tree}
 use Rattle.cpp_grammar.specs.References.{is_function_type}
+use Rattle.cpp_direct.specs.Symbol.{Symbol}
 use Rattle.cpp_direct.specs.Holes.{Opened, StandsAt, Comes, Expects, TypePasses, TypeNamed, unless_listed}
 
 -- const and nothing else
@@ -28,25 +29,25 @@ IsNamedKind Kind.LiteralType = Unit {0}
 IsNamedKind _ = ⊥
 
 -- A type of this kind is expected within another, which is made of it.
-pub record TypeOpens (s : List ℕ) (kind : Kind) (outer : List Opened) (around : Around) (made : Term → Term) (at : ℕ) (st : State) : Type 0 where
+pub record TypeOpens (s : Symbol) (kind : Kind) (outer : List Opened) (around : Around) (made : Term → Term) (at : ℕ) (st : State) : Type 0 where
   pub inner : List Opened
   pub awaits : Expects s kind around inner at st
   pub passes : TypePasses s inner outer around.encoding made
 
 -- a tree of this kind, which is no function type, becomes a candidate unless it is one already or never is one
-abbrev pub TreePasses : (s : List ℕ) → (inner outer : List Opened) → (encoding : ℕ) → Type 0
+abbrev pub TreePasses : (s : Symbol) → (inner outer : List Opened) → (encoding : ℕ) → Type 0
 TreePasses s inner outer e =
     (t : Term) (listed : Bool) (at : ℕ) (st : State) → is_function_type t ≡ false → Comes s inner (tree t listed) at st
     → Comes s outer (tree t true) at (unless_listed listed e t st)
 
 -- A part of this kind is expected, which is the whole type.
-pub record TreeOpens (s : List ℕ) (kind : Kind) (outer : List Opened) (around : Around) (at : ℕ) (st : State) : Type 0 where
+pub record TreeOpens (s : Symbol) (kind : Kind) (outer : List Opened) (around : Around) (at : ℕ) (st : State) : Type 0 where
   pub inner : List Opened
   pub awaits : Expects s kind around inner at st
   pub passes : TreePasses s inner outer around.encoding
 
 -- A name of a type is expected behind an S.
-pub record NameOpens (s : List ℕ) (kind : Kind) (outer : List Opened) (around : Around) (at : ℕ) (st : State) : Type 0 where
+pub record NameOpens (s : Symbol) (kind : Kind) (outer : List Opened) (around : Around) (at : ℕ) (st : State) : Type 0 where
   pub inner : List Opened
   pub awaits : Expects s kind around inner at st
   pub named : (t : Term) (listed : Bool) (at : ℕ) (st : State) → Comes s inner (tree t listed) at st → TypeNamed s outer around t listed at st

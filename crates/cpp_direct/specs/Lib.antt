@@ -11,5 +11,6 @@ pub mod Marks
 pub mod Names
 pub mod Prints
 pub mod Stands
+pub mod Symbol
 pub mod Ways
 pub mod Written

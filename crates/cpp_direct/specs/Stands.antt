@@ -4,7 +4,6 @@ use Rattle.sym_print.specs.declared.detail.Detail.TheVariants.{Full}
 use Rattle.sym_print.specs.Unshared.{text_of, cost_of}
 use Rattle.sym_demangle.specs.Mangled.{StandsFor}
 use Rattle.cpp_grammar.specs.declared.kind.Kind.{Kind}
-use Rattle.cpp_grammar.specs.Mangled.{cpp_mangled}
 use Rattle.cpp_grammar.specs.Answer.{shown, root_item}
 use Rattle.cpp_grammar.specs.Term.{Term, Qualifiers, symbol, function, special, pointer, lvalue, rvalue, qualified, instance, integer, pack, nil, list, absent}
 use Rattle.cpp_grammar.specs.Parts.{source_text}
@@ -15,6 +14,7 @@ use Rattle.cpp_grammar.specs.Values as values
 use Rattle.cpp_grammar.specs.Values.{State, Around, Value, tree, named, outermost, tree_of, qualifiers_of, ref_of, signed_digits}
 use Rattle.cpp_grammar.specs.Between.{no_items}
 use Rattle.cpp_grammar.specs.Meaning.{parameters, encoding_of}
+use Rattle.cpp_direct.specs.Symbol.{Symbol, mangled_of}
 use Rattle.cpp_direct.specs.declared.open.Candidate.{Candidate}
 use Rattle.cpp_direct.specs.declared.open.Nest.{Nest}
 use Rattle.cpp_direct.specs.declared.open.Mark.{Mark}
@@ -158,28 +158,28 @@ IsPlain p = IsKnown p × (p.is_pack ≡ false) × (p.is_reference ≡ false)
 -- ## The end
 
 -- An encoding with this tree ends at the place: with the symbol, or in front of its suffix.
-pub record Encoded (s : List ℕ) (e : Term) (at : ℕ) : Type 0 where
-  pub ends : at ≡ length s → StandsFor cpp_mangled s (Ok (symbol e []))
-  pub ends_in : (suffix : List ℕ) → StandsAt s at suffix → at + length suffix ≡ length s → IsSuffix suffix
-      → StandsFor cpp_mangled s (Ok (symbol e suffix))
+pub record Encoded (s : Symbol) (e : Term) (at : ℕ) : Type 0 where
+  pub ends : at ≡ length s.bytes → StandsFor (mangled_of s) s.bytes (Ok (symbol e []))
+  pub ends_in : (suffix : List ℕ) → StandsAt s.bytes at suffix → at + length suffix ≡ length s.bytes → IsSuffix suffix
+      → StandsFor (mangled_of s) s.bytes (Ok (symbol e suffix))
 
 -- An encoding with this tree ends the symbol at the place, behind a text: what the whole makes of it shows the text in front of its
 -- own. Of a thunk that text says that it is one; else it is empty.
-pub record EndsBehind (s : List ℕ) (lead : List ℕ) (e : Term) (at : ℕ) : Type 0 where
+pub record EndsBehind (s : Symbol) (lead : List ℕ) (e : Term) (at : ℕ) : Type 0 where
   pub made : Term
   pub encoded : Encoded s made at
   pub shows : (bytes : List ℕ) → Shows e bytes → Shows made (lead ++ bytes)
 
 -- The same of an entity in the encoding, with this name: it shows the text, and that of the encoding and of the name.
-pub record EntityBehind (s : List ℕ) (lead : List ℕ) (e : Term) (name : List ℕ) (at : ℕ) : Type 0 where
+pub record EntityBehind (s : Symbol) (lead : List ℕ) (e : Term) (name : List ℕ) (at : ℕ) : Type 0 where
   pub made : Term
   pub encoded : Encoded s made at
   pub shows : (bytes : List ℕ) → Encloses e bytes → Shows made (lead ++ (bytes ++ codes "::" ++ source_text name))
 
 -- An encoding with this tree ends at the place, behind a text. It ends the symbol, or a local entity stands behind it.
-pub record EncodedBehind (s : List ℕ) (lead : List ℕ) (e : Term) (at : ℕ) : Type 0 where
-  pub whole : is_local s ≡ false → EndsBehind s lead e at
-  pub entity : is_local s ≡ true → (internal : Bool) (name : List ℕ) (digit : Discriminator) (end : ℕ) → IsEntityAt s at internal name digit end
+pub record EncodedBehind (s : Symbol) (lead : List ℕ) (e : Term) (at : ℕ) : Type 0 where
+  pub whole : is_local s.bytes ≡ false → EndsBehind s lead e at
+  pub entity : is_local s.bytes ≡ true → (internal : Bool) (name : List ℕ) (digit : Discriminator) (end : ℕ) → IsEntityAt s.bytes at internal name digit end
       → EntityBehind s lead e name end
 
 -- where the encoding begins that a symbol has behind no text
@@ -187,20 +187,20 @@ abbrev pub encoding_place : List ℕ → ℕ
 encoding_place s = cond (is_local s) 3 2
 
 -- the name of an encoding behind a text was read, and items may follow
-pub record AwaitsItems (s : List ℕ) (lead : List ℕ) (v : Value) (at : ℕ) (st : State) : Type 0 where
+pub record AwaitsItems (s : Symbol) (lead : List ℕ) (v : Value) (at : ℕ) (st : State) : Type 0 where
   pub around : Around
   pub inner : List Opened
   pub outside : around.prefix ≡ outermost
   pub scope_is : around.scope ≡ arguments_of (tree_of v)
-  pub encoding_is : lead ≡ [] → around.encoding ≡ encoding_place s
+  pub encoding_is : lead ≡ [] → around.encoding ≡ encoding_place s.bytes
   pub no_lambda : around.in_lambda ≡ false
   pub awaits : Expects s Kind.Items around inner at st
   pub onward : (l : Value) (at : ℕ) (st : State) → Comes s inner l at st → EncodedBehind s lead (encoding_of v (no_items l)) at
 
 -- The symbol is one with this text.
-pub record IsWhole (s : List ℕ) (text : List ℕ) : Type 0 where
+pub record IsWhole (s : Symbol) (text : List ℕ) : Type 0 where
   pub whole : Term
-  pub stands : StandsFor cpp_mangled s (Ok whole)
+  pub stands : StandsFor (mangled_of s) s.bytes (Ok whole)
   pub text_is : text_of (shown Full (root_item whole)) ≡ text
   pub cost : cost_of (shown Full (root_item whole)) ≤ 4 * length text
 
@@ -240,7 +240,7 @@ in_front_of_next [] l = l
 in_front_of_next (t ∷ ts) l = l ++ codes ", "
 
 -- Parameters go on behind these. All of them make an encoding, of which something becomes. They may name arguments.
-pub record ItemsGoOn (s : List ℕ) (argument : Arguments) (becomes : Term → (at : ℕ) → State → Type 0) (make : Term → Term) (ts : List Term) (at : ℕ) (st : State) : Type 0 where
+pub record ItemsGoOn (s : Symbol) (argument : Arguments) (becomes : Term → (at : ℕ) → State → Type 0) (make : Term → Term) (ts : List Term) (at : ℕ) (st : State) : Type 0 where
   pub around : Around
   pub inner : List Opened
   pub outside : around.prefix ≡ outermost
@@ -249,7 +249,7 @@ pub record ItemsGoOn (s : List ℕ) (argument : Arguments) (becomes : Term → (
   pub onward : (l : Value) (at : ℕ) (st : State) → Comes s inner l at st → becomes (make (list_with ts (no_items l))) at st
 
 -- They are those of an encoding behind a text.
-abbrev pub ParametersGoOn : (s : List ℕ) → (argument : Arguments) → (lead : List ℕ) → (make : Term → Term) → (ts : List Term) → (at : ℕ) → State → Type 0
+abbrev pub ParametersGoOn : (s : Symbol) → (argument : Arguments) → (lead : List ℕ) → (make : Term → Term) → (ts : List Term) → (at : ℕ) → State → Type 0
 ParametersGoOn s argument lead make ts at st = ItemsGoOn s argument (λ e here now. EncodedBehind s lead e here) make ts at st
 
 -- a function of this name and these items, without a return type
@@ -295,28 +295,28 @@ abbrev pub IsEncodingOf : Option Arguments → (e : ℕ) → Type 0
 IsEncodingOf scope e = (a : Arguments) (number : ℕ) → scope ≡ Some a → IsKnown (place_of a number) → a.encoding ≢ 0 → e ≡ a.encoding
 
 -- A type that comes is marked.
-abbrev pub Marks : (s : List ℕ) → Below → (scope : Option Arguments) → List Opened → (text : List ℕ) → (from : ℕ) → (made : Term → Term) → Type 0
+abbrev pub Marks : (s : Symbol) → Below → (scope : Option Arguments) → List Opened → (text : List ℕ) → (from : ℕ) → (made : Term → Term) → Type 0
 Marks s below scope os text from made =
     (outer : List Opened) × (e : ℕ) × (from ≡ length text) × TypePasses s os outer e made × below outer text × IsEncodingOf scope e
 
 -- An encoding with this tree ends at the place, and a type that stands in it comes for what is open below, behind this text.
-abbrev pub TypeWithin : (s : List ℕ) → Below → (front : List ℕ) → (e : Term) → (at : ℕ) → State → Type 0
+abbrev pub TypeWithin : (s : Symbol) → Below → (front : List ℕ) → (e : Term) → (at : ℕ) → State → Type 0
 TypeWithin s below front e at st =
     (outer : List Opened) × (encoding : ℕ)
-    × (StandsAt s at (69 ∷ []) → EntityOpened s (λ t end now. Comes s outer (tree t true) end (with_candidate encoding t now)) e (at + 1) st)
+    × (StandsAt s.bytes at (69 ∷ []) → EntityOpened s (λ t end now. Comes s outer (tree t true) end (with_candidate encoding t now)) e (at + 1) st)
     × below outer front
 
 -- The same of the parameters of a lambda, which is such a type, in front of the E behind them.
-abbrev pub LambdaWithin : (s : List ℕ) → Below → (front : List ℕ) → (e : Term) → (items : Term) → (at : ℕ) → State → Type 0
+abbrev pub LambdaWithin : (s : Symbol) → Below → (front : List ℕ) → (e : Term) → (items : Term) → (at : ℕ) → State → Type 0
 LambdaWithin s below front e items at st =
     (outer : List Opened) × (encoding : ℕ)
-    × ((number : Option ℕ) (middle : ℕ) (digit : Discriminator) (end : ℕ) → IsLambdaDigit number → StandsAt s at (lambda_ending number)
-    → middle ≡ at + length (lambda_ending number) → IsDiscriminatorAt s middle digit end
+    × ((number : Option ℕ) (middle : ℕ) (digit : Discriminator) (end : ℕ) → IsLambdaDigit number → StandsAt s.bytes at (lambda_ending number)
+    → middle ≡ at + length (lambda_ending number) → IsDiscriminatorAt s.bytes middle digit end
     → Comes s outer (tree (local_in e (lambda_with items number) digit) true) end (with_candidate encoding (local_in e (lambda_with items number) digit) st))
     × below outer front
 
 -- A nested name that comes is what it is read as.
-abbrev pub Serves : (s : List ℕ) → Purpose → Below → List Opened → (front : List ℕ) → Type 0
+abbrev pub Serves : (s : Symbol) → Purpose → Below → List Opened → (front : List ℕ) → Type 0
 Serves s purposes.Type below os front =
     (outer : List Opened) × (e : ℕ)
     × ((t : Term) (listed : Bool) (at : ℕ) (st : State) → is_function_type t ≡ false → Comes s os (tree t listed) at st
@@ -330,7 +330,7 @@ Serves s (purposes.Enclosing mark) below os front =
     → ItemsGoOn s argument (TypeWithin s below front) (λ l. encoding_of (named t (qualifiers (has_const mark)) (called_on mark)) l) [] at st
 
 -- An instance is read, behind this text: what becomes of it.
-abbrev pub Owns : (s : List ℕ) → Open → Below → (front : List ℕ) → Term → (at : ℕ) → State → Type 0
+abbrev pub Owns : (s : Symbol) → Open → Below → (front : List ℕ) → Term → (at : ℕ) → State → Type 0
 Owns s (opens.TypeArguments from) below front u at st =
     (outer : List Opened) × (e : ℕ) × Comes s outer (tree u true) at (with_candidate e u st) × below outer front
 Owns s (opens.NestArguments nest) below front u at st =
@@ -342,13 +342,13 @@ Owns s (opens.NameArguments from) below front u at st = AwaitsItems s front (tre
 Owns s _ below front u at st = ⊥
 
 -- elements go on behind these, up to an E, and what becomes of the list that they make
-abbrev pub ElementsGoOn : (s : List ℕ) → Kind → (closes : Term → (at : ℕ) → State → Type 0) → List Term → (at : ℕ) → State → Type 0
+abbrev pub ElementsGoOn : (s : Symbol) → Kind → (closes : Term → (at : ℕ) → State → Type 0) → List Term → (at : ℕ) → State → Type 0
 ElementsGoOn s kind closes ts at st =
     (around : Around) × (inner : List Opened) × (around.prefix ≡ outermost) × Expects s kind around inner at st
-    × ((l : Value) (at : ℕ) (st : State) → Comes s inner l at st → StandsAt s at (69 ∷ []) → closes (list_with ts (no_items l)) (at + 1) st)
+    × ((l : Value) (at : ℕ) (st : State) → Comes s inner l at st → StandsAt s.bytes at (69 ∷ []) → closes (list_with ts (no_items l)) (at + 1) st)
 
 -- arguments go on behind these
-abbrev pub ArgumentsGoOn : (s : List ℕ) → Open → Below → (front : List ℕ) → (template : Term) → List Term → (at : ℕ) → State → Type 0
+abbrev pub ArgumentsGoOn : (s : Symbol) → Open → Below → (front : List ℕ) → (template : Term) → List Term → (at : ℕ) → State → Type 0
 ArgumentsGoOn s owner below front template ts at st =
     ElementsGoOn s Kind.ArgumentList (λ l now then. Owns s owner below front (instance template l) now then) ts at st
 
@@ -373,13 +373,13 @@ led_by of_template front name = front ++ name ++ codes "<"
 led_by (of_pack before written) front name = front ++ name ++ codes "<" ++ in_front_of_next before written
 
 -- what becomes of the list
-abbrev pub Closes : (s : List ℕ) → Listing → Open → Below → (front : List ℕ) → (template : Term) → Term → (at : ℕ) → State → Type 0
+abbrev pub Closes : (s : Symbol) → Listing → Open → Below → (front : List ℕ) → (template : Term) → Term → (at : ℕ) → State → Type 0
 Closes s of_template owner below front template l at st = Owns s owner below front (instance template l) at st
 Closes s (of_pack before written) owner below front template l at st =
     ArgumentsGoOn s owner below front template (before ++ pack l ∷ []) at st
 
 -- the list goes on behind these elements
-abbrev pub GoesOn : (s : List ℕ) → Listing → Open → Below → (front : List ℕ) → (template : Term) → List Term → (at : ℕ) → State → Type 0
+abbrev pub GoesOn : (s : Symbol) → Listing → Open → Below → (front : List ℕ) → (template : Term) → List Term → (at : ℕ) → State → Type 0
 GoesOn s listing owner below front template ts at st =
     ElementsGoOn s (element_kind listing) (λ l now then. Closes s listing owner below front template l now then) ts at st
 
@@ -408,7 +408,7 @@ IsTemplate (opens.NameArguments from) front template name text =
 IsTemplate _ front template name text = ⊥
 
 -- a type comes as an element
-abbrev pub AwaitsElementOf : (s : List ℕ) → Listing → Open → Below → List Opened → (text : List ℕ) → Type 0
+abbrev pub AwaitsElementOf : (s : Symbol) → Listing → Open → Below → List Opened → (text : List ℕ) → Type 0
 AwaitsElementOf s listing owner below os text =
     (front : List ℕ) × (template : Term) × (name : List ℕ) × (ts : List Term) × (elements : List ℕ)
     × IsTemplate owner front template name text × PrintAll (extra_of listing) ts elements
@@ -416,14 +416,14 @@ AwaitsElementOf s listing owner below os text =
     × ((t : Term) (at : ℕ) (st : State) → Comes s os (tree t true) at st → GoesOn s listing owner below front template (ts ++ t ∷ []) at st)
 
 -- a list goes on behind an enumerator of this type, once its number and an E are read
-abbrev pub EnumeratorGoesOn : (s : List ℕ) → Listing → Open → Below → (front : List ℕ) → (template : Term) → List Term → Term → (at : ℕ) → State → Type 0
+abbrev pub EnumeratorGoesOn : (s : Symbol) → Listing → Open → Below → (front : List ℕ) → (template : Term) → List Term → Term → (at : ℕ) → State → Type 0
 EnumeratorGoesOn s listing owner below front template ts t at st =
-    (negative : Bool) (digits : List ℕ) (end : ℕ) → StandsAt s at (minus_sign negative)
-    → IsDigitsAt s (at + length (minus_sign negative)) digits end → StandsAt s end (69 ∷ [])
+    (negative : Bool) (digits : List ℕ) (end : ℕ) → StandsAt s.bytes at (minus_sign negative)
+    → IsDigitsAt s.bytes (at + length (minus_sign negative)) digits end → StandsAt s.bytes end (69 ∷ [])
     → GoesOn s listing owner below front template (ts ++ integer t (signed_digits negative digits) ∷ []) (end + 1) st
 
 -- a type comes as that of an enumerator, which is an element
-abbrev pub AwaitsEnumerator : (s : List ℕ) → Listing → Open → Below → List Opened → (text : List ℕ) → Type 0
+abbrev pub AwaitsEnumerator : (s : Symbol) → Listing → Open → Below → List Opened → (text : List ℕ) → Type 0
 AwaitsEnumerator s listing owner below os text =
     (front : List ℕ) × (template : Term) × (name : List ℕ) × (ts : List Term) × (elements : List ℕ)
     × IsTemplate owner front template name text × PrintAll (extra_of listing) ts elements
@@ -470,14 +470,14 @@ TakesFunction (opens.Enclosing mark from argument ∷ rest) = Unit {0}
 TakesFunction _ = ⊥
 
 -- A type comes for the last of the open ones, behind what is written.
-abbrev pub Stands : (s : List ℕ) → List Open → List Opened → (text : List ℕ) → Type 0
+abbrev pub Stands : (s : Symbol) → List Open → List Opened → (text : List ℕ) → Type 0
 Stands s [] os text = ⊥
 Stands s (opens.Pointer from ∷ rest) os text = Marks s (Stands s rest) (argument_of rest) os text from pointer
 Stands s (opens.Lvalue from ∷ rest) os text = Marks s (Stands s rest) (argument_of rest) os text from lvalue
 Stands s (opens.Rvalue from ∷ rest) os text = Marks s (Stands s rest) (argument_of rest) os text from rvalue
 Stands s (opens.Const from ∷ rest) os text = Marks s (Stands s rest) (argument_of rest) os text from (qualified (qualifiers true))
 Stands s (opens.Front mark start argument ∷ rest) os text =
-    (v : Value) × (lead : List ℕ) × (name : List ℕ) × IsInstance text argument mark v name × (is_local s ≡ false → lead ≡ [])
+    (v : Value) × (lead : List ℕ) × (name : List ℕ) × IsInstance text argument mark v name × (is_local s.bytes ≡ false → lead ≡ [])
     × (text ≡ lead ++ name) × (start ≡ length text)
     × ((t : Term) (at : ℕ) (st : State) → Comes s os (tree t true) at st → ParametersGoOn s argument lead (encoding_of v) (t ∷ []) at st)
 Stands s (opens.Parameters mark start argument ∷ rest) os text =
@@ -536,7 +536,7 @@ Stands s (owner ∷ rest) os text = AwaitsElementOf s of_template owner (Stands 
 -- ## What comes next
 
 -- a nested name goes on, of which this was read
-pub record IsNesting (s : List ℕ) (kind : Kind) (w : Direct) (t : Term) (st : State) : Type 0 where
+pub record IsNesting (s : Symbol) (kind : Kind) (w : Direct) (t : Term) (st : State) : Type 0 where
   pub front : List ℕ
   pub around : Around
   pub outer : List Opened
@@ -547,11 +547,11 @@ pub record IsNesting (s : List ℕ) (kind : Kind) (w : Direct) (t : Term) (st : 
   pub serves : Serves s w.nest.purpose (Stands s (reverse w.waiting.list.items)) outer front
 
 -- where a writer is, before it takes a step
-abbrev pub IsBefore : (s : List ℕ) → Direct → State → Step → Type 0
+abbrev pub IsBefore : (s : Symbol) → Direct → State → Step → Type 0
 IsBefore s w st steps.Type =
     (os : List Opened) × (around : Around) × (around.prefix ≡ outermost)
     × (Expects s Kind.Type around os w.at st ⊎ Expects s Kind.Item around os w.at st
-    ⊎ (Expects s Kind.ItemButRef around os w.at st × NoReference s w.at)) × Stands s (reverse w.waiting.list.items) os w.text.list.items
+    ⊎ (Expects s Kind.ItemButRef around os w.at st × NoReference s.bytes w.at)) × Stands s (reverse w.waiting.list.items) os w.text.list.items
     × IsScoped around (reverse w.waiting.list.items)
 IsBefore s w st steps.Plain =
     (os : List Opened) × (around : Around) × (around.prefix ≡ outermost)
@@ -573,7 +573,7 @@ IsBefore s w st (steps.List is_first) =
     × (w.text.list.items ≡ led_by place.listing place.front place.name ++ elements)
     × (is_first ≡ true → ts ≡ []) × (is_first ≡ false → ts ≢ [])
     × GoesOn s place.listing place.owner (Stands s place.rest) place.front place.template ts w.at st
-IsBefore s w st steps.Rest = (t : Term) × IsNesting s Kind.NestRest w t st
+IsBefore s w st steps.Rest = (t : Term) × IsNesting s Kind.NestRestAlone w t st
 IsBefore s w st steps.Tail =
     (t : Term) × IsNesting s Kind.NestTail w t st × (w.nest.is_instance ≡ false → has_return_type t ≡ false)
     × (w.nest.is_instance ≡ true → has_return_type t ≡ true)
@@ -584,7 +584,7 @@ IsBefore s w st steps.Component =
 IsBefore s w st steps.Ended = IsWhole s w.text.list.items
 
 -- a writer that has come so far, and what comes next
-pub record IsWriting (s : List ℕ) (w : Direct) (step : Step) : Type 0 where
+pub record IsWriting (s : Symbol) (w : Direct) (step : Step) : Type 0 where
   pub state : State
   pub candidates : AreCandidates w.text.list.items w.candidates.list.items state.candidates
   pub is_before : IsBefore s w state step

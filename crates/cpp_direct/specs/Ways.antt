@@ -8,6 +8,7 @@ use Rattle.cpp_grammar.specs.Scope.{has_return_type, is_structor}
 use Rattle.cpp_grammar.specs.Between.{after, in_name}
 use Rattle.cpp_grammar.specs.Meaning.{encoding_of}
 use Rattle.cpp_grammar.specs.Values.{State, Around, Value, nothing_there, tree, outermost, tree_of, qualifiers_of, ref_of}
+use Rattle.cpp_direct.specs.Symbol.{Symbol}
 use Rattle.cpp_direct.specs.declared.open.Mark.{Mark}
 use Rattle.cpp_direct.specs.declared.open.Mark.TheVariants as marks
 use Rattle.cpp_direct.specs.declared.open.Candidate.{Candidate}
@@ -46,31 +47,31 @@ pub record IsFresh (w : Direct) : Type 0 where
   pub none_open : w.waiting.list.items ≡ []
 
 -- an encoding is expected behind what is written
-pub record AwaitsEncoding (s : List ℕ) (w : Direct) : Type 0 where
+pub record AwaitsEncoding (s : Symbol) (w : Direct) : Type 0 where
   pub state : State
   pub candidates : AreCandidates w.text.list.items w.candidates.list.items state.candidates
   pub around : Around
   pub outer : List Opened
-  pub begins : w.text.list.items ≡ [] → w.at ≡ encoding_place s
+  pub begins : w.text.list.items ≡ [] → w.at ≡ encoding_place s.bytes
   pub awaits : Expects s Kind.Encoding around outer w.at state
   pub onward : (e : Term) (at : ℕ) (st : State) → Comes s outer (tree e true) at st → EncodedBehind s w.text.list.items e at
 
 -- the name of an encoding that began before is expected, behind the L of internal linkage or without
-pub record AwaitsSource (s : List ℕ) (w : Direct) (is_internal : Bool) : Type 0 where
+pub record AwaitsSource (s : Symbol) (w : Direct) (is_internal : Bool) : Type 0 where
   pub before : ℕ
   pub awaits : AwaitsEncoding s (record w { at = before })
-  pub letter : is_internal ≡ true → StandsAt s before (76 ∷ [])
+  pub letter : is_internal ≡ true → StandsAt s.bytes before (76 ∷ [])
   pub at_is : w.at ≡ before + cond is_internal 1 0
 
 -- the name of an encoding was read behind a text, with or without arguments behind it
-pub record HasName (s : List ℕ) (lead : List ℕ) (encoding : ℕ) (t : Term) (at : ℕ) (st : State) : Type 0 where
+pub record HasName (s : Symbol) (lead : List ℕ) (encoding : ℕ) (t : Term) (at : ℕ) (st : State) : Type 0 where
   pub inner : List Opened
-  pub awaits : Expects s Kind.MaybeArguments (after t false (in_name encoding)) inner at st
+  pub awaits : Expects s Kind.ArgumentsAlone (after t false (in_name encoding)) inner at st
   pub bare : (at : ℕ) (st : State) → Comes s inner nothing_there at st → AwaitsItems s lead (tree t false) at st
   pub argued : (a : Term) (at : ℕ) (st : State) → Comes s inner (tree a true) at st → AwaitsItems s lead (tree (instance t a) false) at st
 
 -- The name of an encoding that stands in no class was read, and written from a place on. It takes arguments behind it, or may have none.
-pub record IsUnscoped (s : List ℕ) (w : Direct) (from : ℕ) (takes : Bool) : Type 0 where
+pub record IsUnscoped (s : Symbol) (w : Direct) (from : ℕ) (takes : Bool) : Type 0 where
   pub state : State
   pub candidates : AreCandidates w.text.list.items w.candidates.list.items state.candidates
   pub encoding : ℕ
@@ -86,12 +87,12 @@ pub record IsUnscoped (s : List ℕ) (w : Direct) (from : ℕ) (takes : Bool) : 
   pub no_structor : is_structor own ≡ false
 
 -- a type is expected
-pub record AwaitsType (s : List ℕ) (w : Direct) : Type 0 where
+pub record AwaitsType (s : Symbol) (w : Direct) : Type 0 where
   pub state : State
   pub candidates : AreCandidates w.text.list.items w.candidates.list.items state.candidates
   pub kind : Kind
   pub typed : IsTyped kind
-  pub referable : IsReferable kind ⊎ NoReference s w.at
+  pub referable : IsReferable kind ⊎ NoReference s.bytes w.at
   pub around : Around
   pub outside : around.prefix ≡ outermost
   pub os : List Opened
@@ -100,7 +101,7 @@ pub record AwaitsType (s : List ℕ) (w : Direct) : Type 0 where
   pub scoped : IsScoped around (reverse w.waiting.list.items)
 
 -- a type is expected that is a name
-pub record AwaitsNamedType (s : List ℕ) (w : Direct) : Type 0 where
+pub record AwaitsNamedType (s : Symbol) (w : Direct) : Type 0 where
   pub state : State
   pub candidates : AreCandidates w.text.list.items w.candidates.list.items state.candidates
   pub kind : Kind
@@ -113,18 +114,18 @@ pub record AwaitsNamedType (s : List ℕ) (w : Direct) : Type 0 where
   pub scoped : IsScoped around (reverse w.waiting.list.items)
 
 -- A substitution was read that names a type, which names an argument of the function's template.
-pub record IsNamedAgain (s : List ℕ) (w : Direct) (k : Candidate) : Type 0 where
+pub record IsNamedAgain (s : Symbol) (w : Direct) (k : Candidate) : Type 0 where
   pub before : ℕ
   pub awaits : AwaitsNamedType s (record w { at = before })
-  pub letter : StandsAt s before (83 ∷ [])
+  pub letter : StandsAt s.bytes before (83 ∷ [])
   pub digits : List ℕ
-  pub number : IsSeqAt s (before + 1) digits w.at
+  pub number : IsSeqAt s.bytes (before + 1) digits w.at
   pub found : slice_get w.candidates.list.items (counted_value Seq36 digits) ≡ Some k
   pub ordered : k.from ≤ k.to
   pub is : k.is_dependent ≡ true
 
 -- the name of a type was read, which is a candidate already or not, and was written from a place on
-pub record IsTypeNamed (s : List ℕ) (w : Direct) (from : ℕ) (is_listed is_reference : Bool) : Type 0 where
+pub record IsTypeNamed (s : Symbol) (w : Direct) (from : ℕ) (is_listed is_reference : Bool) : Type 0 where
   pub state : State
   pub candidates : AreCandidates w.text.list.items w.candidates.list.items state.candidates
   pub around : Around
@@ -141,7 +142,7 @@ pub record IsTypeNamed (s : List ℕ) (w : Direct) (from : ℕ) (is_listed is_re
   pub stands : Stands s (reverse w.waiting.list.items) outer front
 
 -- A type was read that what waits for it marks. It was written from a place on, but for its mark.
-pub record AwaitsMark (s : List ℕ) (w : Direct) (mark : List ℕ) (from : ℕ) (is_reference : Bool) : Type 0 where
+pub record AwaitsMark (s : Symbol) (w : Direct) (mark : List ℕ) (from : ℕ) (is_reference : Bool) : Type 0 where
   pub state : State
   pub candidates : AreCandidates w.text.list.items w.candidates.list.items state.candidates
   pub entry : Open
@@ -159,7 +160,7 @@ pub record AwaitsMark (s : List ℕ) (w : Direct) (mark : List ℕ) (from : ℕ)
   pub stands : Stands s rest outer front
 
 -- A type that names the argument of the function's template was read, and what waits for it marks it. It was written, but for its mark.
-pub record AwaitsDependentMark (s : List ℕ) (w : Direct) (mark : List ℕ) (is_reference : Bool) (begins number place : ℕ) : Type 0 where
+pub record AwaitsDependentMark (s : Symbol) (w : Direct) (mark : List ℕ) (is_reference : Bool) (begins number place : ℕ) : Type 0 where
   pub state : State
   pub candidates : AreCandidates w.text.list.items w.candidates.list.items state.candidates
   pub entry : Open
@@ -184,7 +185,7 @@ pub record AwaitsDependentMark (s : List ℕ) (w : Direct) (mark : List ℕ) (is
   pub stands : Stands s rest outer front
 
 -- An argument of a name was read, which is a type, behind so many others.
-pub record IsArgumentRead (s : List ℕ) (w : Direct) (from number : ℕ) (known : Arguments) (is_reference : Bool) : Type 0 where
+pub record IsArgumentRead (s : Symbol) (w : Direct) (from number : ℕ) (known : Arguments) (is_reference : Bool) : Type 0 where
   pub state : State
   pub candidates : AreCandidates w.text.list.items w.candidates.list.items state.candidates
   pub owner : Open
@@ -207,7 +208,7 @@ pub record IsArgumentRead (s : List ℕ) (w : Direct) (from number : ℕ) (known
   pub goes : ArgumentsGoOn s owner (Stands s rest) front template (ts ++ t ∷ []) w.at state
 
 -- A type is expected as an argument of a name, behind these and so many, of which some are known.
-pub record AwaitsKnownArgument (s : List ℕ) (w : Direct) (before : ℕ) (known : Arguments) : Type 0 where
+pub record AwaitsKnownArgument (s : Symbol) (w : Direct) (before : ℕ) (known : Arguments) : Type 0 where
   pub state : State
   pub candidates : AreCandidates w.text.list.items w.candidates.list.items state.candidates
   pub owner : Open
@@ -227,7 +228,7 @@ pub record AwaitsKnownArgument (s : List ℕ) (w : Direct) (before : ℕ) (known
   pub goes : ArgumentsGoOn s owner (Stands s rest) front template ts w.at state
 
 -- The first element of a pack was read, which is the first argument of a name.
-pub record IsPackElementRead (s : List ℕ) (w : Direct) (from : ℕ) (is_reference : Bool) : Type 0 where
+pub record IsPackElementRead (s : Symbol) (w : Direct) (from : ℕ) (is_reference : Bool) : Type 0 where
   pub state : State
   pub candidates : AreCandidates w.text.list.items w.candidates.list.items state.candidates
   pub owner : Open
@@ -245,7 +246,7 @@ pub record IsPackElementRead (s : List ℕ) (w : Direct) (from : ℕ) (is_refere
   pub goes : GoesOn s (of_pack [] []) owner (Stands s rest) front template (t ∷ []) w.at state
 
 -- the first piece of a nested name is expected
-pub record AwaitsNest (s : List ℕ) (w : Direct) (purpose : Purpose) : Type 0 where
+pub record AwaitsNest (s : Symbol) (w : Direct) (purpose : Purpose) : Type 0 where
   pub state : State
   pub candidates : AreCandidates w.text.list.items w.candidates.list.items state.candidates
   pub around : Around
@@ -255,7 +256,7 @@ pub record AwaitsNest (s : List ℕ) (w : Direct) (purpose : Purpose) : Type 0 w
   pub serves : Serves s purpose (Stands s (reverse w.waiting.list.items)) outer w.text.list.items
 
 -- A component of a nested name was read, or a name in std. Arguments may stand behind it.
-pub record IsNestNamed (s : List ℕ) (w : Direct) : Type 0 where
+pub record IsNestNamed (s : Symbol) (w : Direct) : Type 0 where
   pub state : State
   pub candidates : AreCandidates w.text.list.items w.candidates.list.items state.candidates
   pub around : Around
@@ -274,7 +275,7 @@ pub record IsNestNamed (s : List ℕ) (w : Direct) : Type 0 where
   pub serves : Serves s w.nest.purpose (Stands s (reverse w.waiting.list.items)) outer front
 
 -- An operator was read that ends a nested name: no arguments are read behind it.
-pub record IsOperatorRead (s : List ℕ) (w : Direct) : Type 0 where
+pub record IsOperatorRead (s : Symbol) (w : Direct) : Type 0 where
   pub state : State
   pub candidates : AreCandidates w.text.list.items w.candidates.list.items state.candidates
   pub around : Around
@@ -290,7 +291,7 @@ pub record IsOperatorRead (s : List ℕ) (w : Direct) : Type 0 where
   pub serves : Serves s w.nest.purpose (Stands s (reverse w.waiting.list.items)) outer front
 
 -- A constructor or a destructor was read, and was written but for the name of its class.
-pub record AwaitsClass (s : List ℕ) (w : Direct) : Type 0 where
+pub record AwaitsClass (s : Symbol) (w : Direct) : Type 0 where
   pub state : State
   pub candidates : AreCandidates w.text.list.items w.candidates.list.items state.candidates
   pub around : Around
@@ -319,7 +320,7 @@ AreKnown text a ts tail =
     × ((place_of a number).is_pack ≡ true → list_with ts tail ≡ list (packed true h.own) nil)
 
 -- The arguments of what was opened last are read and their E, but for their last bracket. Those that are known stand at their places.
-pub record IsListEnded (s : List ℕ) (w : Direct) (argument : Arguments) : Type 0 where
+pub record IsListEnded (s : Symbol) (w : Direct) (argument : Arguments) : Type 0 where
   pub state : State
   pub candidates : AreCandidates w.text.list.items w.candidates.list.items state.candidates
   pub owner : Open
@@ -339,7 +340,7 @@ pub record IsListEnded (s : List ℕ) (w : Direct) (argument : Arguments) : Type
   pub known : AreKnown w.text.list.items argument ts tail
 
 -- An element is expected, and the comma before it is written.
-pub record AwaitsNextArgument (s : List ℕ) (w : Direct) : Type 0 where
+pub record AwaitsNextArgument (s : Symbol) (w : Direct) : Type 0 where
   pub state : State
   pub candidates : AreCandidates w.text.list.items w.candidates.list.items state.candidates
   pub place : IsListing (reverse w.waiting.list.items) w.text.list.items
@@ -350,7 +351,7 @@ pub record AwaitsNextArgument (s : List ℕ) (w : Direct) : Type 0 where
   pub goes : GoesOn s place.listing place.owner (Stands s place.rest) place.front place.template ts w.at state
 
 -- The type of an enumerator was read, which is an element. Its number is expected.
-pub record AwaitsNumber (s : List ℕ) (w : Direct) : Type 0 where
+pub record AwaitsNumber (s : Symbol) (w : Direct) : Type 0 where
   pub state : State
   pub candidates : AreCandidates w.text.list.items w.candidates.list.items state.candidates
   pub opened : List Open
@@ -367,7 +368,7 @@ pub record AwaitsNumber (s : List ℕ) (w : Direct) : Type 0 where
   pub goes : EnumeratorGoesOn s place.listing place.owner (Stands s place.rest) place.front place.template ts type w.at state
 
 -- The name of an encoding was read and written from a place on, but for its qualifier.
-pub record IsNameEnded (s : List ℕ) (w : Direct) (mark : Mark) (is_instance : Bool) (from : ℕ) : Type 0 where
+pub record IsNameEnded (s : Symbol) (w : Direct) (mark : Mark) (is_instance : Bool) (from : ℕ) : Type 0 where
   pub state : State
   pub candidates : AreCandidates w.text.list.items w.candidates.list.items state.candidates
   pub own : Term
@@ -386,7 +387,7 @@ pub record IsNameEnded (s : List ℕ) (w : Direct) (mark : Mark) (is_instance : 
   pub awaits : AwaitsItems s lead v w.at state
 
 -- The return type of a function was read, and stands behind the function's name and what is written in front of it.
-pub record IsFrontRead (s : List ℕ) (w : Direct) (mark : Mark) (start : ℕ) (argument : Arguments) : Type 0 where
+pub record IsFrontRead (s : Symbol) (w : Direct) (mark : Mark) (start : ℕ) (argument : Arguments) : Type 0 where
   pub state : State
   pub candidates : AreCandidates w.text.list.items w.candidates.list.items state.candidates
   pub v : Value
@@ -395,7 +396,7 @@ pub record IsFrontRead (s : List ℕ) (w : Direct) (mark : Mark) (start : ℕ) (
   pub front : List ℕ
   pub front_is : front ≡ lead ++ name
   pub is_instance : IsInstance front argument mark v name
-  pub apart : is_local s ≡ false → lead ≡ []
+  pub apart : is_local s.bytes ≡ false → lead ≡ []
   pub start_is : start ≡ length front
   pub returned : Term
   pub bytes : List ℕ
@@ -405,7 +406,7 @@ pub record IsFrontRead (s : List ℕ) (w : Direct) (mark : Mark) (start : ℕ) (
   pub goes : ParametersGoOn s argument lead (encoding_of v) (returned ∷ []) w.at state
 
 -- A function's name was read and written, and what stands in front of it. Its parameters are expected.
-pub record AwaitsParameters (s : List ℕ) (w : Direct) (mark : Mark) (start : ℕ) (argument : Arguments) : Type 0 where
+pub record AwaitsParameters (s : Symbol) (w : Direct) (mark : Mark) (start : ℕ) (argument : Arguments) : Type 0 where
   pub state : State
   pub candidates : AreCandidates w.text.list.items w.candidates.list.items state.candidates
   pub make : Term → Term
@@ -418,7 +419,7 @@ pub record AwaitsParameters (s : List ℕ) (w : Direct) (mark : Mark) (start : �
   pub goes : ParametersGoOn s argument lead make [] w.at state
 
 -- A parameter of a function is expected.
-pub record AwaitsNextParameter (s : List ℕ) (w : Direct) (mark : Mark) (start : ℕ) (argument : Arguments) : Type 0 where
+pub record AwaitsNextParameter (s : Symbol) (w : Direct) (mark : Mark) (start : ℕ) (argument : Arguments) : Type 0 where
   pub state : State
   pub candidates : AreCandidates w.text.list.items w.candidates.list.items state.candidates
   pub rest : List Open
@@ -435,7 +436,7 @@ pub record AwaitsNextParameter (s : List ℕ) (w : Direct) (mark : Mark) (start 
   pub goes : ParametersGoOn s argument lead make ts w.at state
 
 -- A parameter of a function was read.
-pub record IsParameterEnded (s : List ℕ) (w : Direct) (mark : Mark) (start : ℕ) (argument : Arguments) : Type 0 where
+pub record IsParameterEnded (s : Symbol) (w : Direct) (mark : Mark) (start : ℕ) (argument : Arguments) : Type 0 where
   pub state : State
   pub candidates : AreCandidates w.text.list.items w.candidates.list.items state.candidates
   pub rest : List Open
@@ -453,7 +454,7 @@ pub record IsParameterEnded (s : List ℕ) (w : Direct) (mark : Mark) (start : �
   pub goes : ParametersGoOn s argument lead make ts w.at state
 
 -- An encoding was read and written behind a text, but for its qualifier.
-pub record IsEncodingEnded (s : List ℕ) (w : Direct) (mark : Mark) : Type 0 where
+pub record IsEncodingEnded (s : Symbol) (w : Direct) (mark : Mark) : Type 0 where
   pub state : State
   pub candidates : AreCandidates w.text.list.items w.candidates.list.items state.candidates
   pub e : Term
@@ -465,7 +466,7 @@ pub record IsEncodingEnded (s : List ℕ) (w : Direct) (mark : Mark) : Type 0 wh
   pub behind : EncodedBehind s lead e w.at
 
 -- The encoding of a symbol was read and written.
-pub record IsSymbolEnded (s : List ℕ) (w : Direct) : Type 0 where
+pub record IsSymbolEnded (s : Symbol) (w : Direct) : Type 0 where
   pub state : State
   pub candidates : AreCandidates w.text.list.items w.candidates.list.items state.candidates
   pub e : Term
@@ -475,18 +476,18 @@ pub record IsSymbolEnded (s : List ℕ) (w : Direct) : Type 0 where
 -- ## Local entities
 
 -- The name of a local entity is expected behind the E of the encoding before it, and behind the L of internal linkage or without.
-pub record AwaitsEntity (s : List ℕ) (w : Direct) (is_internal : Bool) : Type 0 where
+pub record AwaitsEntity (s : Symbol) (w : Direct) (is_internal : Bool) : Type 0 where
   pub before : ℕ
   pub ended : IsEncodingEnded s (record w { at = before }) marks.Plain
-  pub is_entity : is_local s ≡ true
-  pub first : StandsAt s before (69 ∷ [])
-  pub letter : is_internal ≡ true → StandsAt s (before + 1) (76 ∷ [])
+  pub is_entity : is_local s.bytes ≡ true
+  pub first : StandsAt s.bytes before (69 ∷ [])
+  pub letter : is_internal ≡ true → StandsAt s.bytes (before + 1) (76 ∷ [])
   pub at_is : w.at ≡ before + 1 + cond is_internal 1 0
 
 -- ## Types in functions
 
 -- The name of a function in which a type stands was read and written from a place on, but for its qualifier.
-pub record IsEnclosingNamed (s : List ℕ) (w : Direct) (mark : Mark) (from : ℕ) : Type 0 where
+pub record IsEnclosingNamed (s : Symbol) (w : Direct) (mark : Mark) (from : ℕ) : Type 0 where
   pub state : State
   pub candidates : AreCandidates w.text.list.items w.candidates.list.items state.candidates
   pub own : Term
@@ -504,7 +505,7 @@ pub record IsEnclosingNamed (s : List ℕ) (w : Direct) (mark : Mark) (from : �
 
 -- The same of an instance of a function template. Its return type is expected, and the argument of the template stands where it was
 -- noted last, or it isn't known.
-pub record IsEnclosingInstance (s : List ℕ) (w : Direct) (mark : Mark) (from : ℕ) : Type 0 where
+pub record IsEnclosingInstance (s : Symbol) (w : Direct) (mark : Mark) (from : ℕ) : Type 0 where
   pub state : State
   pub candidates : AreCandidates w.text.list.items w.candidates.list.items state.candidates
   pub own : Term
@@ -522,7 +523,7 @@ pub record IsEnclosingInstance (s : List ℕ) (w : Direct) (mark : Mark) (from :
   pub goes : ItemsGoOn s (named_in 0 w.argument) (TypeWithin s (Stands s (reverse w.waiting.list.items)) front) (λ l. encoding_of v l) [] w.at state
 
 -- The name of a function in which a type stands was read, and its return type if it has one. Its parameters are expected.
-pub record AwaitsEnclosingParameters (s : List ℕ) (w : Direct) (mark : Mark) (from : ℕ) (argument : Arguments) : Type 0 where
+pub record AwaitsEnclosingParameters (s : Symbol) (w : Direct) (mark : Mark) (from : ℕ) (argument : Arguments) : Type 0 where
   pub state : State
   pub candidates : AreCandidates w.text.list.items w.candidates.list.items state.candidates
   pub make : Term → Term
@@ -534,7 +535,7 @@ pub record AwaitsEnclosingParameters (s : List ℕ) (w : Direct) (mark : Mark) (
   pub goes : ItemsGoOn s argument (TypeWithin s (Stands s (reverse w.waiting.list.items)) front) make [] w.at state
 
 -- A parameter of such a function was read.
-pub record IsEnclosingParameterRead (s : List ℕ) (w : Direct) (mark : Mark) (from : ℕ) (argument : Arguments) : Type 0 where
+pub record IsEnclosingParameterRead (s : Symbol) (w : Direct) (mark : Mark) (from : ℕ) (argument : Arguments) : Type 0 where
   pub state : State
   pub candidates : AreCandidates w.text.list.items w.candidates.list.items state.candidates
   pub rest : List Open
@@ -551,7 +552,7 @@ pub record IsEnclosingParameterRead (s : List ℕ) (w : Direct) (mark : Mark) (f
   pub goes : ItemsGoOn s argument (TypeWithin s (Stands s rest) front) make ts w.at state
 
 -- Such a function was read and written from a place on, but for its qualifier.
-pub record IsEnclosingRead (s : List ℕ) (w : Direct) (mark : Mark) (from : ℕ) : Type 0 where
+pub record IsEnclosingRead (s : Symbol) (w : Direct) (mark : Mark) (from : ℕ) : Type 0 where
   pub state : State
   pub candidates : AreCandidates w.text.list.items w.candidates.list.items state.candidates
   pub e : Term
@@ -563,14 +564,14 @@ pub record IsEnclosingRead (s : List ℕ) (w : Direct) (mark : Mark) (from : ℕ
   pub within : TypeWithin s (Stands s (reverse w.waiting.list.items)) front e w.at state
 
 -- The name of a type is expected behind the E of the function that it stands in, which was written from a place on.
-pub record AwaitsTypeName (s : List ℕ) (w : Direct) (from : ℕ) : Type 0 where
+pub record AwaitsTypeName (s : Symbol) (w : Direct) (from : ℕ) : Type 0 where
   pub before : ℕ
   pub read : IsEnclosingRead s (record w { at = before }) marks.Plain from
-  pub letter : StandsAt s before (69 ∷ [])
+  pub letter : StandsAt s.bytes before (69 ∷ [])
   pub at_is : w.at ≡ before + 1
 
 -- A parameter of a lambda was read, which is a type that stands in a function.
-pub record IsLambdaParameterRead (s : List ℕ) (w : Direct) (from : ℕ) : Type 0 where
+pub record IsLambdaParameterRead (s : Symbol) (w : Direct) (from : ℕ) : Type 0 where
   pub state : State
   pub candidates : AreCandidates w.text.list.items w.candidates.list.items state.candidates
   pub rest : List Open
@@ -590,7 +591,7 @@ pub record IsLambdaParameterRead (s : List ℕ) (w : Direct) (from : ℕ) : Type
 -- ## Function types
 
 -- A type was read behind a text, as an element or a parameter of what is open.
-pub record IsElementRead (s : List ℕ) (w : Direct) (o : Open) : Type 0 where
+pub record IsElementRead (s : Symbol) (w : Direct) (o : Open) : Type 0 where
   pub state : State
   pub candidates : AreCandidates w.text.list.items w.candidates.list.items state.candidates
   pub rest : List Open
@@ -605,7 +606,7 @@ pub record IsElementRead (s : List ℕ) (w : Direct) (o : Open) : Type 0 where
   pub stands : Stands s (o ∷ rest) os front
 
 -- Of a function type the return type was read, or a parameter.
-pub record AwaitsSignature (s : List ℕ) (w : Direct) (is_pointer is_first : Bool) : Type 0 where
+pub record AwaitsSignature (s : Symbol) (w : Direct) (is_pointer is_first : Bool) : Type 0 where
   pub state : State
   pub candidates : AreCandidates w.text.list.items w.candidates.list.items state.candidates
   pub rest : List Open
@@ -628,7 +629,7 @@ pub record AwaitsSignature (s : List ℕ) (w : Direct) (is_pointer is_first : Bo
   pub stands : Stands s rest outer front
 
 -- A parameter of a function type comes next.
-pub record AwaitsParameter (s : List ℕ) (w : Direct) (is_pointer : Bool) : Type 0 where
+pub record AwaitsParameter (s : Symbol) (w : Direct) (is_pointer : Bool) : Type 0 where
   pub state : State
   pub candidates : AreCandidates w.text.list.items w.candidates.list.items state.candidates
   pub rest : List Open
@@ -649,7 +650,7 @@ pub record AwaitsParameter (s : List ℕ) (w : Direct) (is_pointer : Bool) : Typ
   pub stands : Stands s rest outer front
 
 -- The return type of a function type was read.
-pub record IsReturned (s : List ℕ) (w : Direct) (is_pointer : Bool) : Type 0 where
+pub record IsReturned (s : Symbol) (w : Direct) (is_pointer : Bool) : Type 0 where
   pub state : State
   pub candidates : AreCandidates w.text.list.items w.candidates.list.items state.candidates
   pub rest : List Open
@@ -667,7 +668,7 @@ pub record IsReturned (s : List ℕ) (w : Direct) (is_pointer : Bool) : Type 0 w
   pub stands : Stands s rest outer front
 
 -- A function type was read, or a pointer to one, and written but for its last bracket.
-pub record IsFunctionRead (s : List ℕ) (w : Direct) (is_pointer : Bool) : Type 0 where
+pub record IsFunctionRead (s : Symbol) (w : Direct) (is_pointer : Bool) : Type 0 where
   pub state : State
   pub candidates : AreCandidates w.text.list.items w.candidates.list.items state.candidates
   pub rest : List Open

@@ -11,6 +11,7 @@ ghost use Rattle.cpp_direct.specs.Prints.{PrintsPiece};
 ghost use Rattle.cpp_direct.specs.Stands.{IsWriting};
 ghost use Rattle.cpp_direct.specs.Ways.{AwaitsEnclosingParameters, AwaitsNamedType, AwaitsTypeName, IsEnclosingInstance, IsEnclosingNamed, IsEnclosingParameterRead, IsEnclosingRead, IsLambdaParameterRead};
 ghost use Rattle.cpp_direct.specs.Written.{Reads};
+ghost use Rattle.cpp_direct.specs.Symbol.{plain};
 
 use crate::direct::Direct;
 use crate::marks::mark_at;
@@ -28,8 +29,8 @@ impl Direct {
     pub(crate) fn begin_enclosing(&mut self, s: &[u8]) -> Option<Step>
         requires fits { IsReadable s.now }
         requires letter { StandsAt s.now self.old.at (90 ∷ []) }
-        requires awaits { AwaitsNamedType s.now self.old }
-        ensures { IfSome result (IsWriting s.now self.new) }
+        requires awaits { AwaitsNamedType (plain s.now) self.old }
+        ensures { IfSome result (IsWriting (plain s.now) self.new) }
     {
         self.at = self.at.checked_add(1)?;
         if byte_at(s, self.at) != b'N' {
@@ -47,8 +48,8 @@ impl Direct {
     // <encoding> ::= <function name> <bare-function-type> | <data name>
     pub(crate) fn enclosing_named(&mut self, s: &[u8], mark: Mark, from: usize) -> Option<Step>
         requires fits { IsReadable s.now }
-        requires named { IsEnclosingNamed s.now self.old mark from }
-        ensures { IfSome result (IsWriting s.now self.new) }
+        requires named { IsEnclosingNamed (plain s.now) self.old mark from }
+        ensures { IfSome result (IsWriting (plain s.now) self.new) }
     {
         if byte_at(s, self.at) == b'E' {
             return self.enclosing_ended(s, mark, from);
@@ -61,8 +62,8 @@ impl Direct {
     // <bare-function-type> ::= <return type> <parameter type>+
     pub(crate) fn enclosing_instance(&mut self, s: &[u8], mark: Mark, from: usize) -> Option<Step>
         requires fits { IsReadable s.now }
-        requires named { IsEnclosingInstance s.now self.old mark from }
-        ensures { IfSome result (IsWriting s.now self.new) }
+        requires named { IsEnclosingInstance (plain s.now) self.old mark from }
+        ensures { IfSome result (IsWriting (plain s.now) self.new) }
     {
         if cpp_layout::builtin_text(byte_at(s, self.at)).is_empty() {
             return None;
@@ -85,8 +86,8 @@ impl Direct {
         argument: Arguments,
     ) -> Option<Step>
         requires fits { IsReadable s.now }
-        requires awaits { AwaitsEnclosingParameters s.now self.old mark from argument }
-        ensures { IfSome result (IsWriting s.now self.new) }
+        requires awaits { AwaitsEnclosingParameters (plain s.now) self.old mark from argument }
+        ensures { IfSome result (IsWriting (plain s.now) self.new) }
     {
         let behind = byte_at(s, self.at.checked_add(1)?);
         if byte_at(s, self.at) == b'v' && behind == b'E' {
@@ -113,8 +114,8 @@ impl Direct {
         _argument: Arguments,
     ) -> Option<Step>
         requires fits { IsReadable s.now }
-        requires read { IsEnclosingParameterRead s.now self.old mark from _argument }
-        ensures { IfSome result (IsWriting s.now self.new) }
+        requires read { IsEnclosingParameterRead (plain s.now) self.old mark from _argument }
+        ensures { IfSome result (IsWriting (plain s.now) self.new) }
     {
         if byte_at(s, self.at) != b'E' {
             self.push_pair(b',', b' ')?;
@@ -132,8 +133,8 @@ impl Direct {
     /// Writes the qualifiers of a function in which a type stands.
     fn enclosing_ended(&mut self, s: &[u8], mark: Mark, from: usize) -> Option<Step>
         requires fits { IsReadable s.now }
-        requires read { IsEnclosingRead s.now self.old mark from }
-        ensures { IfSome result (IsWriting s.now self.new) }
+        requires read { IsEnclosingRead (plain s.now) self.old mark from }
+        ensures { IfSome result (IsWriting (plain s.now) self.new) }
     {
         self.push_mark(mark)?;
         self.enclosed(s, from)
@@ -143,8 +144,8 @@ impl Direct {
     // <local-name> ::= Z <function encoding> E <entity name> [<discriminator>]
     fn enclosed(&mut self, s: &[u8], from: usize) -> Option<Step>
         requires fits { IsReadable s.now }
-        requires read { IsEnclosingRead s.now self.old marks.Plain from }
-        ensures { IfSome result (IsWriting s.now self.new) }
+        requires read { IsEnclosingRead (plain s.now) self.old marks.Plain from }
+        ensures { IfSome result (IsWriting (plain s.now) self.new) }
     {
         if byte_at(s, self.at) != b'E' {
             return None;
@@ -164,8 +165,8 @@ impl Direct {
     // <local-name> ::= Z <function encoding> E <entity name> [<discriminator>]
     fn enclosed_named(&mut self, s: &[u8], from: usize) -> Option<Step>
         requires fits { IsReadable s.now }
-        requires awaits { AwaitsTypeName s.now self.old from }
-        ensures { IfSome result (IsWriting s.now self.new) }
+        requires awaits { AwaitsTypeName (plain s.now) self.old from }
+        ensures { IfSome result (IsWriting (plain s.now) self.new) }
     {
         self.push_pair(b':', b':')?;
         self.enclosed_piece(s)?;
@@ -180,7 +181,7 @@ impl Direct {
     #[inline(always)]
     fn enclosed_piece(&mut self, s: &[u8]) -> Option<()>
         requires { IsReadable s.now }
-        ensures { OnSome result ((p : Term) × (n : List ℕ) × IsPieceAt s.now self.old.at p self.new.at × PrintsPiece p n × Reads self.old self.new n) }
+        ensures { OnSome result ((p : Term) × (n : List ℕ) × IsPieceAt (plain s.now) self.old.at p self.new.at × PrintsPiece p n × Reads self.old self.new n) }
     {
         if byte_at(s, self.at) == b'U' {
             return self.lambda(s);
@@ -192,7 +193,7 @@ impl Direct {
     // <closure-type-name> ::= Ul <lambda-sig> E [<nonnegative number>] _
     fn lambda(&mut self, s: &[u8]) -> Option<()>
         requires letter { StandsAt s.now self.old.at (85 ∷ []) }
-        ensures { OnSome result ((p : Term) × (n : List ℕ) × IsPieceAt s.now self.old.at p self.new.at × PrintsPiece p n × Reads self.old self.new n) }
+        ensures { OnSome result ((p : Term) × (n : List ℕ) × IsPieceAt (plain s.now) self.old.at p self.new.at × PrintsPiece p n × Reads self.old self.new n) }
     {
         let second = byte_at(s, self.at.checked_add(1)?);
         let third = byte_at(s, self.at.checked_add(2)?);
@@ -230,9 +231,9 @@ impl Direct {
     /// Begins a lambda that has parameters, in a symbol that isn't a long one: each lambda goes over it once more.
     // <closure-type-name> ::= Ul <lambda-sig> E [<nonnegative number>] _
     fn begin_lambda(&mut self, s: &[u8], from: usize) -> Option<Step>
-        requires awaits { AwaitsTypeName s.now self.old from }
+        requires awaits { AwaitsTypeName (plain s.now) self.old from }
         requires letter { StandsAt s.now self.old.at (85 ∷ []) }
-        ensures { IfSome result (IsWriting s.now self.new) }
+        ensures { IfSome result (IsWriting (plain s.now) self.new) }
     {
         self.at = self.at.checked_add(1)?;
         if byte_at(s, self.at) != b'l' {
@@ -252,8 +253,8 @@ impl Direct {
     // <lambda-sig> ::= <parameter type>+
     pub(crate) fn lambda_parameter(&mut self, s: &[u8], from: usize) -> Option<Step>
         requires fits { IsReadable s.now }
-        requires read { IsLambdaParameterRead s.now self.old from }
-        ensures { IfSome result (IsWriting s.now self.new) }
+        requires read { IsLambdaParameterRead (plain s.now) self.old from }
+        ensures { IfSome result (IsWriting (plain s.now) self.new) }
     {
         if byte_at(s, self.at) != b'E' {
             self.push_pair(b',', b' ')?;

@@ -7,6 +7,7 @@ ghost use Rattle.cpp_direct.specs.declared.open.Step.TheVariants as steps;
 ghost use Rattle.cpp_direct.specs.Holes.{StandsAt};
 ghost use Rattle.cpp_direct.specs.Stands.{IsWriting};
 ghost use Rattle.cpp_direct.specs.Ways.{AwaitsParameter, AwaitsSignature, IsFunctionRead, IsReturned};
+ghost use Rattle.cpp_direct.specs.Symbol.{plain};
 
 use crate::direct::Direct;
 use crate::open::{Open, Step};
@@ -19,8 +20,8 @@ impl Direct {
     pub(crate) fn begin_function(&mut self, s: &[u8], is_pointer: bool) -> Option<Step>
         requires fits { IsReadable s.now }
         requires letters { StandsAt s.now self.old.at (if is_pointer then 80 ∷ 70 ∷ [] else 70 ∷ []) }
-        requires writing { IsWriting s.now self.old steps.Type }
-        ensures { IfSome result (IsWriting s.now self.new) }
+        requires writing { IsWriting (plain s.now) self.old steps.Type }
+        ensures { IfSome result (IsWriting (plain s.now) self.new) }
     {
         match *self.waiting.as_slice().last()? {
             Open::Pointer { .. }
@@ -45,8 +46,8 @@ impl Direct {
     // <bare-function-type> ::= <return type> <parameter type>+
     pub(crate) fn returned(&mut self, s: &[u8], is_pointer: bool) -> Option<Step>
         requires fits { IsReadable s.now }
-        requires returned { IsReturned s.now self.old is_pointer }
-        ensures { IfSome result (IsWriting s.now self.new) }
+        requires returned { IsReturned (plain s.now) self.old is_pointer }
+        ensures { IfSome result (IsWriting (plain s.now) self.new) }
     {
         let _open = self.waiting.pop();
         self.push(if is_pointer { b" (*)(" } else { b" (" })?;
@@ -58,8 +59,8 @@ impl Direct {
     // <bare-function-type> ::= <return type> v
     fn first_parameter(&mut self, s: &[u8], is_pointer: bool) -> Option<Step>
         requires fits { IsReadable s.now }
-        requires awaits { AwaitsSignature s.now self.old is_pointer true }
-        ensures { IfSome result (IsWriting s.now self.new) }
+        requires awaits { AwaitsSignature (plain s.now) self.old is_pointer true }
+        ensures { IfSome result (IsWriting (plain s.now) self.new) }
     {
         let behind = byte_at(s, self.at.checked_add(1)?);
         if byte_at(s, self.at) == b'v' && behind == b'E' {
@@ -78,8 +79,8 @@ impl Direct {
         is_first: bool,
     ) -> Option<Step>
         requires fits { IsReadable s.now }
-        requires awaits { AwaitsSignature s.now self.old is_pointer is_first }
-        ensures { IfSome result (IsWriting s.now self.new) }
+        requires awaits { AwaitsSignature (plain s.now) self.old is_pointer is_first }
+        ensures { IfSome result (IsWriting (plain s.now) self.new) }
     {
         if byte_at(s, self.at) == b'E' {
             // a lone void is no parameter
@@ -98,8 +99,8 @@ impl Direct {
     /// Reads a parameter of a function type up to the first type in it.
     // <type> ::= R <type> | O <type>
     fn parameter(&mut self, s: &[u8], _is_pointer: bool) -> Option<Step>
-        requires { AwaitsParameter s.now self.old _is_pointer }
-        ensures { IfSome result (IsWriting s.now self.new) }
+        requires { AwaitsParameter (plain s.now) self.old _is_pointer }
+        ensures { IfSome result (IsWriting (plain s.now) self.new) }
     {
         let from = self.text.len();
         let byte = byte_at(s, self.at);
@@ -119,8 +120,8 @@ impl Direct {
     // <function-type> ::= F <bare-function-type> E
     fn function_ended(&mut self, s: &[u8], is_pointer: bool) -> Option<Step>
         requires fits { IsReadable s.now }
-        requires ended { IsFunctionRead s.now self.old is_pointer }
-        ensures { IfSome result (IsWriting s.now self.new) }
+        requires ended { IsFunctionRead (plain s.now) self.old is_pointer }
+        ensures { IfSome result (IsWriting (plain s.now) self.new) }
     {
         self.push_byte(b')')?;
         self.add_hidden(is_pointer)?;

@@ -14,6 +14,7 @@ ghost use Rattle.cpp_direct.specs.ItemBytes.{is_integer_letter};
 ghost use Rattle.cpp_direct.specs.Stands.{IsWriting};
 ghost use Rattle.cpp_direct.specs.Ways.{IsListEnded, AwaitsNextArgument, AwaitsNumber, truth_text, number_text, integer_text};
 ghost use Rattle.cpp_direct.specs.Written.{Reads};
+ghost use Rattle.cpp_direct.specs.Symbol.{plain};
 
 use crate::direct::Direct;
 use crate::letters::is_integer_letter;
@@ -70,8 +71,8 @@ impl Direct {
     // <template-args> ::= I <template-arg>* E
     pub(crate) fn list_at(&mut self, s: &[u8], is_first: bool) -> Option<Step>
         requires fits { IsReadable s.now }
-        requires writing { IsWriting s.now self.old (steps.List is_first) }
-        ensures { IfSome result (IsWriting s.now self.new) }
+        requires writing { IsWriting (plain s.now) self.old (steps.List is_first) }
+        ensures { IfSome result (IsWriting (plain s.now) self.new) }
     {
         let byte = byte_at(s, self.at);
         if byte == b'E' {
@@ -105,8 +106,8 @@ impl Direct {
     #[inline(always)]
     pub(crate) fn begin_pack(&mut self, s: &[u8]) -> Option<Step>
         requires letter { StandsAt s.now self.old.at (74 ∷ []) }
-        requires awaits { AwaitsNextArgument s.now self.old }
-        ensures { IfSome result (IsWriting s.now self.new) }
+        requires awaits { AwaitsNextArgument (plain s.now) self.old }
+        ensures { IfSome result (IsWriting (plain s.now) self.new) }
     {
         match *self.waiting.as_slice().last()? {
             Open::Pack => None,
@@ -120,8 +121,8 @@ impl Direct {
     fn empty_pack(&mut self, s: &[u8], _is_first: bool) -> Option<Step>
         requires fits { IsReadable s.now }
         requires letters { StandsAt s.now self.old.at (74 ∷ 69 ∷ []) }
-        requires writing { IsWriting s.now self.old (steps.List _is_first) }
-        ensures { IfSome result (IsWriting s.now self.new) }
+        requires writing { IsWriting (plain s.now) self.old (steps.List _is_first) }
+        ensures { IfSome result (IsWriting (plain s.now) self.new) }
     {
         self.at = self.at.checked_add(2)?;
         if byte_at(s, self.at) != b'E' {
@@ -139,8 +140,8 @@ impl Direct {
     fn list_ended(&mut self, s: &[u8], is_first: bool) -> Option<Step>
         requires fits { IsReadable s.now }
         requires letter { StandsAt s.now self.old.at (69 ∷ []) }
-        requires writing { IsWriting s.now self.old (steps.List is_first) }
-        ensures { IfSome result (IsWriting s.now self.new) }
+        requires writing { IsWriting (plain s.now) self.old (steps.List is_first) }
+        ensures { IfSome result (IsWriting (plain s.now) self.new) }
     {
         self.at = self.at.checked_add(1)?;
         match *self.waiting.as_slice().last()? {
@@ -159,8 +160,8 @@ impl Direct {
     /// Ends arguments. Some of them may be known.
     pub(crate) fn close_list(&mut self, s: &[u8], argument: Arguments) -> Option<Step>
         requires fits { IsReadable s.now }
-        requires ended { IsListEnded s.now self.old argument }
-        ensures { IfSome result (IsWriting s.now self.new) }
+        requires ended { IsListEnded (plain s.now) self.old argument }
+        ensures { IfSome result (IsWriting (plain s.now) self.new) }
     {
         self.push_byte(b'>')?;
         self.argument = argument;
@@ -193,8 +194,8 @@ impl Direct {
     fn literal(&mut self, s: &[u8]) -> Option<Step>
         requires fits { IsReadable s.now }
         requires letter { StandsAt s.now self.old.at (76 ∷ []) }
-        requires awaits { AwaitsNextArgument s.now self.old }
-        ensures { IfSome result (IsWriting s.now self.new) }
+        requires awaits { AwaitsNextArgument (plain s.now) self.old }
+        ensures { IfSome result (IsWriting (plain s.now) self.new) }
     {
         self.at = self.at.checked_add(1)?;
         match byte_at(s, self.at) {
@@ -220,8 +221,8 @@ impl Direct {
     // <expr-primary> ::= L <type> <value number> E
     pub(crate) fn enumerator(&mut self, s: &[u8]) -> Option<Step>
         requires fits { IsReadable s.now }
-        requires awaits { AwaitsNumber s.now self.old }
-        ensures { IfSome result (IsWriting s.now self.new) }
+        requires awaits { AwaitsNumber (plain s.now) self.old }
+        ensures { IfSome result (IsWriting (plain s.now) self.new) }
     {
         // the integers of some builtin types stand without them
         if self.text.as_slice().ends_with(b"(int") {

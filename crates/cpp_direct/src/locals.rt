@@ -10,6 +10,7 @@ ghost use Rattle.cpp_direct.specs.HolesOfLocals.{Discriminator, IsDiscriminatorA
 ghost use Rattle.cpp_direct.specs.Stands.{IsWriting};
 ghost use Rattle.cpp_direct.specs.Ways.{IsFresh, IsEncodingEnded, AwaitsEntity};
 ghost use Rattle.cpp_direct.specs.Written.{Reads};
+ghost use Rattle.cpp_direct.specs.Symbol.{plain};
 
 use crate::direct::Direct;
 use crate::open::Step;
@@ -22,7 +23,7 @@ impl Direct {
         requires fits { IsReadable s.now }
         requires fresh { IsFresh self.old }
         requires starts { StandsAt s.now 0 (95 ∷ 90 ∷ []) }
-        ensures { IfSome result (IsWriting s.now self.new) }
+        ensures { IfSome result (IsWriting (plain s.now) self.new) }
     {
         if byte_at(s, 2) != b'Z' {
             return self.begin_guard(s);
@@ -37,7 +38,7 @@ impl Direct {
         requires fits { IsReadable s.now }
         requires fresh { IsFresh self.old }
         requires starts { StandsAt s.now 0 (95 ∷ 90 ∷ []) }
-        ensures { IfSome result (IsWriting s.now self.new) }
+        ensures { IfSome result (IsWriting (plain s.now) self.new) }
     {
         if byte_at(s, 2) != b'G' || byte_at(s, 3) != b'V' || byte_at(s, 4) != b'Z' {
             return None;
@@ -51,9 +52,9 @@ impl Direct {
     // <local-name> ::= Z <function encoding> E <entity name> [<discriminator>]
     pub(crate) fn entity(&mut self, s: &[u8]) -> Option<Step>
         requires fits { IsReadable s.now }
-        requires ended { IsEncodingEnded s.now self.old marks.Plain }
+        requires ended { IsEncodingEnded (plain s.now) self.old marks.Plain }
         requires local { is_local s.now ≡ true }
-        ensures { IfSome result (IsWriting s.now self.new) }
+        ensures { IfSome result (IsWriting (plain s.now) self.new) }
     {
         if byte_at(s, self.at) != b'E' {
             return None;
@@ -70,8 +71,8 @@ impl Direct {
     // <unscoped-name> ::= <source-name>
     fn entity_name(&mut self, s: &[u8], is_internal: bool) -> Option<Step>
         requires fits { IsReadable s.now }
-        requires awaits { AwaitsEntity s.now self.old is_internal }
-        ensures { IfSome result (IsWriting s.now self.new) }
+        requires awaits { AwaitsEntity (plain s.now) self.old is_internal }
+        ensures { IfSome result (IsWriting (plain s.now) self.new) }
     {
         self.push_pair(b':', b':')?;
         self.name(s)?;

@@ -7,6 +7,7 @@ ghost use Rattle.cpp_direct.specs.declared.open.Step.TheVariants as steps;
 ghost use Rattle.cpp_direct.specs.Holes.{StandsAt};
 ghost use Rattle.cpp_direct.specs.Stands.{IsWriting};
 ghost use Rattle.cpp_direct.specs.Ways.{AwaitsNest, AwaitsClass, IsNestNamed, IsOperatorRead};
+ghost use Rattle.cpp_direct.specs.Symbol.{plain};
 
 use crate::direct::Direct;
 use crate::open::{Nest, Open, Purpose, Step};
@@ -33,8 +34,8 @@ impl Direct {
     // <prefix> ::= <unqualified-name> | <substitution>
     pub(crate) fn nest_at(&mut self, s: &[u8], purpose: Purpose) -> Option<Step>
         requires fits { IsReadable s.now }
-        requires awaits { AwaitsNest s.now self.old purpose }
-        ensures { IfSome result (IsWriting s.now self.new) }
+        requires awaits { AwaitsNest (plain s.now) self.old purpose }
+        ensures { IfSome result (IsWriting (plain s.now) self.new) }
     {
         if byte_at(s, self.at) == b'S' {
             return self.nest_with_s(s, purpose);
@@ -57,8 +58,8 @@ impl Direct {
     fn nest_with_s(&mut self, s: &[u8], purpose: Purpose) -> Option<Step>
         requires fits { IsReadable s.now }
         requires letter { StandsAt s.now self.old.at (83 ∷ []) }
-        requires awaits { AwaitsNest s.now self.old purpose }
-        ensures { IfSome result (IsWriting s.now self.new) }
+        requires awaits { AwaitsNest (plain s.now) self.old purpose }
+        ensures { IfSome result (IsWriting (plain s.now) self.new) }
     {
         let from = self.text.len();
         self.at = self.at.checked_add(1)?;
@@ -87,8 +88,8 @@ impl Direct {
     fn nest_in_std(&mut self, s: &[u8], purpose: Purpose) -> Option<Step>
         requires fits { IsReadable s.now }
         requires awaits { (before : ℕ) × (before + 1 ≡ self.old.at) × StandsAt s.now before (83 ∷ 116 ∷ [])
-            × AwaitsNest s.now (record self.old { at = before }) purpose }
-        ensures { IfSome result (IsWriting s.now self.new) }
+            × AwaitsNest (plain s.now) (record self.old { at = before }) purpose }
+        ensures { IfSome result (IsWriting (plain s.now) self.new) }
     {
         let from = self.text.len();
         self.at = self.at.checked_add(1)?;
@@ -111,8 +112,8 @@ impl Direct {
     // <prefix> ::= <template-prefix> <template-args>
     #[inline(always)]
     fn nest_named(&mut self, s: &[u8]) -> Option<Step>
-        requires { IsNestNamed s.now self.old }
-        ensures { IfSome result (IsWriting s.now self.new) }
+        requires { IsNestNamed (plain s.now) self.old }
+        ensures { IfSome result (IsWriting (plain s.now) self.new) }
     {
         if byte_at(s, self.at) != b'I' {
             return Some(Step::Tail);
@@ -124,8 +125,8 @@ impl Direct {
     /// Reads what stands behind the first piece of a nested name.
     pub(crate) fn rest_at(&mut self, s: &[u8]) -> Option<Step>
         requires fits { IsReadable s.now }
-        requires writing { IsWriting s.now self.old steps.Rest }
-        ensures { IfSome result (IsWriting s.now self.new) }
+        requires writing { IsWriting (plain s.now) self.old steps.Rest }
+        ensures { IfSome result (IsWriting (plain s.now) self.new) }
     {
         self.add_unless(self.nest.is_listed, self.nest.from)?;
         if byte_at(s, self.at) == b'I' {
@@ -137,8 +138,8 @@ impl Direct {
     /// Reads another component of a nested name, or its end.
     pub(crate) fn tail_at(&mut self, s: &[u8]) -> Option<Step>
         requires fits { IsReadable s.now }
-        requires writing { IsWriting s.now self.old steps.Tail }
-        ensures { IfSome result (IsWriting s.now self.new) }
+        requires writing { IsWriting (plain s.now) self.old steps.Tail }
+        ensures { IfSome result (IsWriting (plain s.now) self.new) }
     {
         if byte_at(s, self.at) == b'E' {
             return self.nest_ended(s);
@@ -151,8 +152,8 @@ impl Direct {
     fn nest_ended(&mut self, s: &[u8]) -> Option<Step>
         requires fits { IsReadable s.now }
         requires end { StandsAt s.now self.old.at (69 ∷ []) }
-        requires writing { IsWriting s.now self.old steps.Tail }
-        ensures { IfSome result (IsWriting s.now self.new) }
+        requires writing { IsWriting (plain s.now) self.old steps.Tail }
+        ensures { IfSome result (IsWriting (plain s.now) self.new) }
     {
         self.at = self.at.checked_add(1)?;
         match self.nest.purpose {
@@ -178,8 +179,8 @@ impl Direct {
     // <unqualified-name> ::= <source-name> | <operator-name> | <ctor-dtor-name>
     pub(crate) fn component_at(&mut self, s: &[u8]) -> Option<Step>
         requires fits { IsReadable s.now }
-        requires writing { IsWriting s.now self.old steps.Component }
-        ensures { IfSome result (IsWriting s.now self.new) }
+        requires writing { IsWriting (plain s.now) self.old steps.Component }
+        ensures { IfSome result (IsWriting (plain s.now) self.new) }
     {
         match byte_at(s, self.at) {
             b'C' => self.constructor(s),
@@ -195,8 +196,8 @@ impl Direct {
     fn source(&mut self, s: &[u8], is_internal: bool) -> Option<Step>
         requires fits { IsReadable s.now }
         requires letter { is_internal ≡ true → StandsAt s.now self.old.at (76 ∷ []) }
-        requires writing { IsWriting s.now self.old steps.Component }
-        ensures { IfSome result (IsWriting s.now self.new) }
+        requires writing { IsWriting (plain s.now) self.old steps.Component }
+        ensures { IfSome result (IsWriting (plain s.now) self.new) }
     {
         if is_internal {
             self.at = self.at.checked_add(1)?;
@@ -219,8 +220,8 @@ impl Direct {
     #[inline(never)]
     fn operator(&mut self, s: &[u8]) -> Option<Step>
         requires fits { IsReadable s.now }
-        requires writing { IsWriting s.now self.old steps.Component }
-        ensures { IfSome result (IsWriting s.now self.new) }
+        requires writing { IsWriting (plain s.now) self.old steps.Component }
+        ensures { IfSome result (IsWriting (plain s.now) self.new) }
     {
         self.push_pair(b':', b':')?;
         let class_from = self.text.len();
@@ -241,8 +242,8 @@ impl Direct {
     /// Reads the E of a nested name behind an operator that no arguments are read of.
     fn operator_ended(&mut self, s: &[u8]) -> Option<Step>
         requires fits { IsReadable s.now }
-        requires read { IsOperatorRead s.now self.old }
-        ensures { IfSome result (IsWriting s.now self.new) }
+        requires read { IsOperatorRead (plain s.now) self.old }
+        ensures { IfSome result (IsWriting (plain s.now) self.new) }
     {
         if byte_at(s, self.at) != b'E' {
             return None;
@@ -258,8 +259,8 @@ impl Direct {
     fn constructor(&mut self, s: &[u8]) -> Option<Step>
         requires fits { IsReadable s.now }
         requires letter { StandsAt s.now self.old.at (67 ∷ []) }
-        requires writing { IsWriting s.now self.old steps.Component }
-        ensures { IfSome result (IsWriting s.now self.new) }
+        requires writing { IsWriting (plain s.now) self.old steps.Component }
+        ensures { IfSome result (IsWriting (plain s.now) self.new) }
     {
         self.at = self.at.checked_add(1)?;
         let digit = byte_at(s, self.at);
@@ -275,8 +276,8 @@ impl Direct {
     fn destructor(&mut self, s: &[u8]) -> Option<Step>
         requires fits { IsReadable s.now }
         requires letter { StandsAt s.now self.old.at (68 ∷ []) }
-        requires writing { IsWriting s.now self.old steps.Component }
-        ensures { IfSome result (IsWriting s.now self.new) }
+        requires writing { IsWriting (plain s.now) self.old steps.Component }
+        ensures { IfSome result (IsWriting (plain s.now) self.new) }
     {
         self.at = self.at.checked_add(1)?;
         let digit = byte_at(s, self.at);
@@ -291,8 +292,8 @@ impl Direct {
     /// Writes the name of the class again, as that of its constructor or destructor.
     #[inline(always)]
     fn class_again(&mut self, s: &[u8]) -> Option<Step>
-        requires { AwaitsClass s.now self.old }
-        ensures { IfSome result (IsWriting s.now self.new) }
+        requires { AwaitsClass (plain s.now) self.old }
+        ensures { IfSome result (IsWriting (plain s.now) self.new) }
     {
         self.repeat(self.nest.class_from, self.nest.class_to)?;
         self.nest = Nest {

@@ -7,6 +7,7 @@ ghost use Rattle.cpp_direct.specs.declared.open.Step.TheVariants as steps;
 ghost use Rattle.cpp_direct.specs.Holes.{StandsAt};
 ghost use Rattle.cpp_direct.specs.Stands.{EndsNamed, IsWriting, argument_of, place_of};
 ghost use Rattle.cpp_direct.specs.Ways.{AwaitsType, AwaitsDependentMark, AwaitsKnownArgument, AwaitsNextParameter, IsArgumentRead, IsNamedAgain, IsPackElementRead, KnowsMore, parameter_digits};
+ghost use Rattle.cpp_direct.specs.Symbol.{plain};
 
 use crate::direct::Direct;
 use crate::open::{Argument, Arguments, Candidate, Mark, Open, Purpose, Step};
@@ -165,8 +166,8 @@ impl Direct {
     #[inline(always)]
     pub(crate) fn first_type(&mut self, s: &[u8]) -> Option<Step>
         requires fits { IsReadable s.now }
-        requires writing { IsWriting s.now self.old (steps.List true) }
-        ensures { IfSome result (IsWriting s.now self.new) }
+        requires writing { IsWriting (plain s.now) self.old (steps.List true) }
+        ensures { IfSome result (IsWriting (plain s.now) self.new) }
     {
         if !self.is_named() {
             return Some(Step::Type);
@@ -190,8 +191,8 @@ impl Direct {
     pub(crate) fn first_pack(&mut self, s: &[u8]) -> Option<Step>
         requires fits { IsReadable s.now }
         requires letter { StandsAt s.now self.old.at (74 ∷ []) }
-        requires writing { IsWriting s.now self.old (steps.List true) }
-        ensures { IfSome result (IsWriting s.now self.new) }
+        requires writing { IsWriting (plain s.now) self.old (steps.List true) }
+        ensures { IfSome result (IsWriting (plain s.now) self.new) }
     {
         if !self.is_named() {
             return self.begin_pack(s);
@@ -217,8 +218,8 @@ impl Direct {
         is_reference: bool,
     ) -> Option<Step>
         requires fits { IsReadable s.now }
-        requires read { IsPackElementRead s.now self.old from is_reference }
-        ensures { IfSome result (IsWriting s.now self.new) }
+        requires read { IsPackElementRead (plain s.now) self.old from is_reference }
+        ensures { IfSome result (IsWriting (plain s.now) self.new) }
     {
         let _element = self.waiting.pop();
         if byte_at(s, self.at) != b'E' {
@@ -245,8 +246,8 @@ impl Direct {
         argument: Arguments,
     ) -> Option<Step>
         requires fits { IsReadable s.now }
-        requires awaits { AwaitsNextParameter s.now self.old mark start argument }
-        ensures { IfSome result (IsWriting s.now self.new) }
+        requires awaits { AwaitsNextParameter (plain s.now) self.old mark start argument }
+        ensures { IfSome result (IsWriting (plain s.now) self.new) }
     {
         if argument.first.is_pack {
             return self.expansion(s, mark, start, argument);
@@ -260,8 +261,8 @@ impl Direct {
     fn expansion(&mut self, s: &[u8], mark: Mark, start: usize, argument: Arguments) -> Option<Step>
         requires fits { IsReadable s.now }
         requires is_pack { argument.first.is_pack ≡ true }
-        requires awaits { AwaitsNextParameter s.now self.old mark start argument }
-        ensures { IfSome result (IsWriting s.now self.new) }
+        requires awaits { AwaitsNextParameter (plain s.now) self.old mark start argument }
+        ensures { IfSome result (IsWriting (plain s.now) self.new) }
     {
         let Some(end) = expansion_end(s, self.at) else {
             return Some(Step::Type);
@@ -291,8 +292,8 @@ impl Direct {
         is_reference: bool,
     ) -> Option<Step>
         requires fits { IsReadable s.now }
-        requires read { IsArgumentRead s.now self.old from number known is_reference }
-        ensures { IfSome result (IsWriting s.now self.new) }
+        requires read { IsArgumentRead (plain s.now) self.old from number known is_reference }
+        ensures { IfSome result (IsWriting (plain s.now) self.new) }
     {
         let _open = self.waiting.pop();
         let byte = byte_at(s, self.at);
@@ -313,8 +314,8 @@ impl Direct {
     // <template-args> ::= I <template-arg>* E
     fn next_argument(&mut self, s: &[u8], before: u16, known: Arguments) -> Option<Step>
         requires fits { IsReadable s.now }
-        requires awaits { AwaitsKnownArgument s.now self.old before known }
-        ensures { IfSome result (IsWriting s.now self.new) }
+        requires awaits { AwaitsKnownArgument (plain s.now) self.old before known }
+        ensures { IfSome result (IsWriting (plain s.now) self.new) }
     {
         self.push_pair(b',', b' ')?;
         let from = self.text.len();
@@ -352,8 +353,8 @@ impl Direct {
     pub(crate) fn template_parameter(&mut self, s: &[u8]) -> Option<Step>
         requires fits { IsReadable s.now }
         requires letter { StandsAt s.now self.old.at (84 ∷ []) }
-        requires awaits { AwaitsType s.now self.old }
-        ensures { IfSome result (IsWriting s.now self.new) }
+        requires awaits { AwaitsType (plain s.now) self.old }
+        ensures { IfSome result (IsWriting (plain s.now) self.new) }
     {
         let read = parameter_number(s, self.at.checked_add(1)?)?;
         let named = self.argument()?;
@@ -379,8 +380,8 @@ impl Direct {
     #[inline(never)]
     pub(crate) fn dependent_again(&mut self, s: &[u8], candidate: Candidate) -> Option<Step>
         requires fits { IsReadable s.now }
-        requires again { IsNamedAgain s.now self.old candidate }
-        ensures { IfSome result (IsWriting s.now self.new) }
+        requires again { IsNamedAgain (plain s.now) self.old candidate }
+        ensures { IfSome result (IsWriting (plain s.now) self.new) }
     {
         let named = self.argument()?;
         // in another encoding it isn't the same type
@@ -414,8 +415,8 @@ impl Direct {
         encoding: u16,
     ) -> Option<Step>
         requires fits { IsReadable s.now }
-        requires writing { IsWriting s.now self.old (steps.Dependent is_reference begins number encoding) }
-        ensures { IfSome result (IsWriting s.now self.new) }
+        requires writing { IsWriting (plain s.now) self.old (steps.Dependent is_reference begins number encoding) }
+        ensures { IfSome result (IsWriting (plain s.now) self.new) }
     {
         match *self.waiting.as_slice().last()? {
             Open::Pointer { .. } => self.mark_dependent(s, b"*", false, begins, number, encoding),
@@ -447,8 +448,8 @@ impl Direct {
     /// Ends a type that names the argument, and is no reference, with a mark.
     // <type> ::= R <type> | O <type> | <CV-qualifiers> <type>
     fn mark_plain(&mut self, s: &[u8], begins: usize, number: u16, encoding: u16) -> Option<Step>
-        requires { IsWriting s.now self.old (steps.Dependent false begins number encoding) }
-        ensures { IfSome result (IsWriting s.now self.new) }
+        requires { IsWriting (plain s.now) self.old (steps.Dependent false begins number encoding) }
+        ensures { IfSome result (IsWriting (plain s.now) self.new) }
     {
         match *self.waiting.as_slice().last()? {
             Open::Lvalue { .. } => self.mark_dependent(s, b"&", true, begins, number, encoding),
@@ -470,8 +471,8 @@ impl Direct {
         number: u16,
         encoding: u16,
     ) -> Option<Step>
-        requires { AwaitsDependentMark _s.now self.old mark.now is_reference begins number encoding }
-        ensures { IfSome result (IsWriting _s.now self.new) }
+        requires { AwaitsDependentMark (plain _s.now) self.old mark.now is_reference begins number encoding }
+        ensures { IfSome result (IsWriting (plain _s.now) self.new) }
     {
         let _open = self.waiting.pop();
         self.push(mark)?;

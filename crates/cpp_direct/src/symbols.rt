@@ -10,6 +10,7 @@ ghost use Rattle.cpp_direct.specs.Names.{IsReadable};
 ghost use Rattle.cpp_direct.specs.Stands.{IsWriting, encoding_place};
 ghost use Rattle.cpp_direct.specs.Bytes.{is_local};
 ghost use Rattle.cpp_direct.specs.Ways.{IsFresh, AwaitsEncoding, IsNameEnded, IsFrontRead, AwaitsParameters, IsParameterEnded, IsEncodingEnded, IsSymbolEnded};
+ghost use Rattle.cpp_direct.specs.Symbol.{plain};
 
 use crate::direct::Direct;
 use crate::marks::mark_at;
@@ -192,8 +193,8 @@ impl Direct {
     #[inline(always)]
     fn take(&mut self, s: &[u8], step: Step) -> Option<Step>
         requires fits { IsReadable s.now }
-        requires writing { IsWriting s.now self.old step }
-        ensures { IfSome result (IsWriting s.now self.new) }
+        requires writing { IsWriting (plain s.now) self.old step }
+        ensures { IfSome result (IsWriting (plain s.now) self.new) }
     {
         match step {
             Step::Type => self.type_at(s, false),
@@ -218,7 +219,7 @@ impl Direct {
     fn begin(&mut self, s: &[u8]) -> Option<Step>
         requires fits { IsReadable s.now }
         requires fresh { IsFresh self.old }
-        ensures { IfSome result (IsWriting s.now self.new) }
+        ensures { IfSome result (IsWriting (plain s.now) self.new) }
     {
         if byte_at(s, 0) != b'_' || byte_at(s, 1) != b'Z' {
             return None;
@@ -241,8 +242,8 @@ impl Direct {
     // <encoding> ::= <function name> <bare-function-type> | <data name>
     pub(crate) fn begin_encoding(&mut self, s: &[u8]) -> Option<Step>
         requires fits { IsReadable s.now }
-        requires awaits { AwaitsEncoding s.now self.old }
-        ensures { IfSome result (IsWriting s.now self.new) }
+        requires awaits { AwaitsEncoding (plain s.now) self.old }
+        ensures { IfSome result (IsWriting (plain s.now) self.new) }
     {
         match byte_at(s, self.at) {
             b'N' => self.begin_nested(s),
@@ -263,7 +264,7 @@ impl Direct {
         requires fresh { IsFresh self.old }
         requires starts { StandsAt s.now 0 (95 ∷ 90 ∷ []) }
         requires letter { StandsAt s.now 2 (84 ∷ []) }
-        ensures { IfSome result (IsWriting s.now self.new) }
+        ensures { IfSome result (IsWriting (plain s.now) self.new) }
     {
         let text = cpp_layout::special_text(byte_at(s, 3));
         if text.is_empty() {
@@ -278,9 +279,9 @@ impl Direct {
     // <nested-name> ::= N [<CV-qualifiers>] [<ref-qualifier>] <prefix> <unqualified-name> E
     fn begin_nested(&mut self, s: &[u8]) -> Option<Step>
         requires fits { IsReadable s.now }
-        requires awaits { AwaitsEncoding s.now self.old }
+        requires awaits { AwaitsEncoding (plain s.now) self.old }
         requires letter { StandsAt s.now self.old.at (78 ∷ []) }
-        ensures { IfSome result (IsWriting s.now self.new) }
+        ensures { IfSome result (IsWriting (plain s.now) self.new) }
     {
         self.at = self.at.checked_add(1)?;
         let place = mark_at(s, self.at)?;
@@ -298,8 +299,8 @@ impl Direct {
         from: usize,
     ) -> Option<Step>
         requires fits { IsReadable s.now }
-        requires ended { IsNameEnded s.now self.old mark is_instance from }
-        ensures { IfSome result (IsWriting s.now self.new) }
+        requires ended { IsNameEnded (plain s.now) self.old mark is_instance from }
+        ensures { IfSome result (IsWriting (plain s.now) self.new) }
     {
         if may_end(byte_at(s, self.at)) {
             return self.end(s, mark);
@@ -315,8 +316,8 @@ impl Direct {
     #[inline(never)]
     fn begin_front(&mut self, s: &[u8], mark: Mark, from: usize) -> Option<Step>
         requires fits { IsReadable s.now }
-        requires ended { IsNameEnded s.now self.old mark true from }
-        ensures { IfSome result (IsWriting s.now self.new) }
+        requires ended { IsNameEnded (plain s.now) self.old mark true from }
+        ensures { IfSome result (IsWriting (plain s.now) self.new) }
     {
         if !has_front(s, from) {
             return None;
@@ -345,8 +346,8 @@ impl Direct {
         argument: Arguments,
     ) -> Option<Step>
         requires fits { IsReadable s.now }
-        requires ended { IsFrontRead s.now self.old mark start argument }
-        ensures { IfSome result (IsWriting s.now self.new) }
+        requires ended { IsFrontRead (plain s.now) self.old mark start argument }
+        ensures { IfSome result (IsWriting (plain s.now) self.new) }
     {
         if may_end(byte_at(s, self.at)) {
             return None;
@@ -371,8 +372,8 @@ impl Direct {
     ) -> Option<Step>
         requires fits { IsReadable s.now }
         requires local { is_local s.now ≡ true }
-        requires ended { IsFrontRead s.now self.old mark start argument }
-        ensures { IfSome result (IsWriting s.now self.new) }
+        requires ended { IsFrontRead (plain s.now) self.old mark start argument }
+        ensures { IfSome result (IsWriting (plain s.now) self.new) }
     {
         let begins = self.text.len();
         self.repeat(0, start)?;
@@ -390,8 +391,8 @@ impl Direct {
         argument: Arguments,
     ) -> Option<Step>
         requires fits { IsReadable s.now }
-        requires awaits { AwaitsParameters s.now self.old mark start argument }
-        ensures { IfSome result (IsWriting s.now self.new) }
+        requires awaits { AwaitsParameters (plain s.now) self.old mark start argument }
+        ensures { IfSome result (IsWriting (plain s.now) self.new) }
     {
         let byte = byte_at(s, self.at);
         self.push_byte(b'(')?;
@@ -419,8 +420,8 @@ impl Direct {
         argument: Arguments,
     ) -> Option<Step>
         requires fits { IsReadable s.now }
-        requires ended { IsParameterEnded s.now self.old mark start argument }
-        ensures { IfSome result (IsWriting s.now self.new) }
+        requires ended { IsParameterEnded (plain s.now) self.old mark start argument }
+        ensures { IfSome result (IsWriting (plain s.now) self.new) }
     {
         let byte = byte_at(s, self.at);
         if !may_end(byte) {
@@ -441,8 +442,8 @@ impl Direct {
         _argument: Arguments,
     ) -> Option<Step>
         requires fits { IsReadable s.now }
-        requires ended { IsParameterEnded s.now self.old mark start _argument }
-        ensures { IfSome result (IsWriting s.now self.new) }
+        requires ended { IsParameterEnded (plain s.now) self.old mark start _argument }
+        ensures { IfSome result (IsWriting (plain s.now) self.new) }
     {
         // a lone void is no parameter
         if self.text.as_slice().ends_with(b"(void") {
@@ -456,8 +457,8 @@ impl Direct {
     /// The end of an encoding, behind its text but for its qualifier: a local entity follows, or the end of the symbol.
     pub(crate) fn end(&mut self, s: &[u8], mark: Mark) -> Option<Step>
         requires fits { IsReadable s.now }
-        requires ended { IsEncodingEnded s.now self.old mark }
-        ensures { IfSome result (IsWriting s.now self.new) }
+        requires ended { IsEncodingEnded (plain s.now) self.old mark }
+        ensures { IfSome result (IsWriting (plain s.now) self.new) }
     {
         self.push_mark(mark)?;
         if is_local(s) {
@@ -469,8 +470,8 @@ impl Direct {
     /// The end of a symbol, behind the text of its encoding.
     // <mangled-name> ::= _Z <encoding> . <vendor-specific suffix>
     pub(crate) fn finish(&mut self, s: &[u8]) -> Option<Step>
-        requires { IsSymbolEnded s.now self.old }
-        ensures { IfSome result (IsWriting s.now self.new) }
+        requires { IsSymbolEnded (plain s.now) self.old }
+        ensures { IfSome result (IsWriting (plain s.now) self.new) }
     {
         let suffix = s.get(self.at..)?;
         if suffix.is_empty() {

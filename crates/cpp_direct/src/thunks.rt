@@ -8,6 +8,7 @@ ghost use Rattle.cpp_direct.specs.HolesOfLists.{IsDigitsAt, IsOffsetAt};
 ghost use Rattle.cpp_direct.specs.Stands.{IsWriting};
 ghost use Rattle.cpp_direct.specs.Ways.{IsFresh};
 ghost use Rattle.cpp_direct.specs.Written.{Reads};
+ghost use Rattle.cpp_direct.specs.Symbol.{plain};
 
 use crate::direct::Direct;
 use crate::open::Step;
@@ -24,7 +25,7 @@ impl Direct {
         requires starts { StandsAt s.now 0 (95 ∷ 90 ∷ []) }
         requires letter { StandsAt s.now 2 (84 ∷ []) }
         requires kind { StandsAt s.now 3 (104 ∷ []) }
-        ensures { IfSome result (IsWriting s.now self.new) }
+        ensures { IfSome result (IsWriting (plain s.now) self.new) }
     {
         self.at = 4;
         self.offset(s)?;
@@ -41,7 +42,7 @@ impl Direct {
         requires starts { StandsAt s.now 0 (95 ∷ 90 ∷ []) }
         requires letter { StandsAt s.now 2 (84 ∷ []) }
         requires kind { StandsAt s.now 3 (118 ∷ []) }
-        ensures { IfSome result (IsWriting s.now self.new) }
+        ensures { IfSome result (IsWriting (plain s.now) self.new) }
     {
         self.at = 4;
         self.offset(s)?;

@@ -7,6 +7,7 @@ ghost use Rattle.cpp_direct.specs.declared.open.Step.TheVariants as steps;
 ghost use Rattle.cpp_direct.specs.Holes.{StandsAt};
 ghost use Rattle.cpp_direct.specs.Stands.{IsWriting};
 ghost use Rattle.cpp_direct.specs.Ways.{AwaitsType, AwaitsNamedType, IsTypeNamed, AwaitsMark};
+ghost use Rattle.cpp_direct.specs.Symbol.{plain};
 
 use crate::direct::Direct;
 use crate::letters::is_builtin_with_d;
@@ -18,8 +19,8 @@ impl Direct {
     // <type> ::= <builtin-type> | <qualified-type> | <class-enum-type> | P <type> | R <type> | O <type> | <substitution>
     pub(crate) fn type_at(&mut self, s: &[u8], is_plain: bool) -> Option<Step>
         requires fits { IsReadable s.now }
-        requires writing { IsWriting s.now self.old (if is_plain then steps.Plain else steps.Type) }
-        ensures { IfSome result (IsWriting s.now self.new) }
+        requires writing { IsWriting (plain s.now) self.old (if is_plain then steps.Plain else steps.Type) }
+        ensures { IfSome result (IsWriting (plain s.now) self.new) }
     {
         let from = self.text.len();
         match byte_at(s, self.at) {
@@ -54,8 +55,8 @@ impl Direct {
     // <class-enum-type> ::= <name>
     pub(crate) fn named_type(&mut self, s: &[u8]) -> Option<Step>
         requires fits { IsReadable s.now }
-        requires awaits { AwaitsNamedType s.now self.old }
-        ensures { IfSome result (IsWriting s.now self.new) }
+        requires awaits { AwaitsNamedType (plain s.now) self.old }
+        ensures { IfSome result (IsWriting (plain s.now) self.new) }
     {
         let from = self.text.len();
         match byte_at(s, self.at) {
@@ -76,8 +77,8 @@ impl Direct {
     #[inline(always)]
     fn builtin(&mut self, _s: &[u8], letter: u8) -> Option<Step>
         requires letter { letter ≢ 0 → StandsAt _s.now self.old.at (letter ∷ []) }
-        requires awaits { AwaitsType _s.now self.old }
-        ensures { IfSome result (IsWriting _s.now self.new) }
+        requires awaits { AwaitsType (plain _s.now) self.old }
+        ensures { IfSome result (IsWriting (plain _s.now) self.new) }
     {
         let text = cpp_layout::builtin_text(letter);
         if text.is_empty() {
@@ -94,8 +95,8 @@ impl Direct {
     #[inline(never)]
     fn builtin_with_d(&mut self, s: &[u8]) -> Option<Step>
         requires letter { StandsAt s.now self.old.at (68 ∷ []) }
-        requires awaits { AwaitsType s.now self.old }
-        ensures { IfSome result (IsWriting s.now self.new) }
+        requires awaits { AwaitsType (plain s.now) self.old }
+        ensures { IfSome result (IsWriting (plain s.now) self.new) }
     {
         self.at = self.at.checked_add(1)?;
         let letter = byte_at(s, self.at);
@@ -113,8 +114,8 @@ impl Direct {
     fn type_with_s(&mut self, s: &[u8]) -> Option<Step>
         requires fits { IsReadable s.now }
         requires letter { StandsAt s.now self.old.at (83 ∷ []) }
-        requires awaits { AwaitsNamedType s.now self.old }
-        ensures { IfSome result (IsWriting s.now self.new) }
+        requires awaits { AwaitsNamedType (plain s.now) self.old }
+        ensures { IfSome result (IsWriting (plain s.now) self.new) }
     {
         let from = self.text.len();
         self.at = self.at.checked_add(1)?;
@@ -149,8 +150,8 @@ impl Direct {
         is_listed: bool,
         is_reference: bool,
     ) -> Option<Step>
-        requires { IsTypeNamed s.now self.old from is_listed is_reference }
-        ensures { IfSome result (IsWriting s.now self.new) }
+        requires { IsTypeNamed (plain s.now) self.old from is_listed is_reference }
+        ensures { IfSome result (IsWriting (plain s.now) self.new) }
     {
         self.add_unless(is_listed, from)?;
         if byte_at(s, self.at) != b'I' {
@@ -165,8 +166,8 @@ impl Direct {
     /// Hands a type on to what waits for it.
     pub(crate) fn pass(&mut self, s: &[u8], is_reference: bool) -> Option<Step>
         requires fits { IsReadable s.now }
-        requires writing { IsWriting s.now self.old (steps.Value is_reference) }
-        ensures { IfSome result (IsWriting s.now self.new) }
+        requires writing { IsWriting (plain s.now) self.old (steps.Value is_reference) }
+        ensures { IfSome result (IsWriting (plain s.now) self.new) }
     {
         match *self.waiting.as_slice().last()? {
             Open::Pointer { from } => self.mark(s, b"*", from, false),
@@ -221,8 +222,8 @@ impl Direct {
     /// Ends a type with a mark.
     #[inline(always)]
     fn mark(&mut self, _s: &[u8], mark: &[u8], from: usize, is_reference: bool) -> Option<Step>
-        requires { AwaitsMark _s.now self.old mark.now from is_reference }
-        ensures { IfSome result (IsWriting _s.now self.new) }
+        requires { AwaitsMark (plain _s.now) self.old mark.now from is_reference }
+        ensures { IfSome result (IsWriting (plain _s.now) self.new) }
     {
         let _open = self.waiting.pop();
         self.push(mark)?;

@@ -7,6 +7,7 @@ ghost use Rattle.cpp_direct.specs.Names.{IsOperatorAt, is_angle, operator_text, 
 ghost use Rattle.cpp_direct.specs.Stands.{IsWriting};
 ghost use Rattle.cpp_direct.specs.Ways.{AwaitsEncoding, AwaitsSource, IsUnscoped};
 ghost use Rattle.cpp_direct.specs.Written.{Reads};
+ghost use Rattle.cpp_direct.specs.Symbol.{plain};
 
 use crate::direct::Direct;
 use crate::open::{Mark, Open, Step};
@@ -17,8 +18,8 @@ impl Direct {
     // <unscoped-name> ::= <source-name>
     pub(crate) fn begin_name(&mut self, s: &[u8], is_internal: bool) -> Option<Step>
         requires fits { IsReadable s.now }
-        requires awaits { AwaitsSource s.now self.old is_internal }
-        ensures { IfSome result (IsWriting s.now self.new) }
+        requires awaits { AwaitsSource (plain s.now) self.old is_internal }
+        ensures { IfSome result (IsWriting (plain s.now) self.new) }
     {
         let from = self.text.len();
         self.name(s)?;
@@ -30,8 +31,8 @@ impl Direct {
     #[inline(never)]
     pub(crate) fn begin_operator(&mut self, s: &[u8]) -> Option<Step>
         requires fits { IsReadable s.now }
-        requires awaits { AwaitsEncoding s.now self.old }
-        ensures { IfSome result (IsWriting s.now self.new) }
+        requires awaits { AwaitsEncoding (plain s.now) self.old }
+        ensures { IfSome result (IsWriting (plain s.now) self.new) }
     {
         let from = self.text.len();
         let takes = self.operator_name(s)?;
@@ -43,9 +44,9 @@ impl Direct {
     #[inline(never)]
     pub(crate) fn begin_in_std(&mut self, s: &[u8]) -> Option<Step>
         requires fits { IsReadable s.now }
-        requires awaits { AwaitsEncoding s.now self.old }
+        requires awaits { AwaitsEncoding (plain s.now) self.old }
         requires letter { StandsAt s.now self.old.at (83 ∷ []) }
-        ensures { IfSome result (IsWriting s.now self.new) }
+        ensures { IfSome result (IsWriting (plain s.now) self.new) }
     {
         let from = self.text.len();
         self.at = self.at.checked_add(1)?;
@@ -66,8 +67,8 @@ impl Direct {
     // <encoding> ::= <unscoped-template-name> <template-args> <bare-function-type>
     fn unscoped_named(&mut self, s: &[u8], from: usize, takes: bool) -> Option<Step>
         requires fits { IsReadable s.now }
-        requires named { IsUnscoped s.now self.old from takes }
-        ensures { IfSome result (IsWriting s.now self.new) }
+        requires named { IsUnscoped (plain s.now) self.old from takes }
+        ensures { IfSome result (IsWriting (plain s.now) self.new) }
     {
         if byte_at(s, self.at) != b'I' {
             return self.name_ended(s, Mark::Plain, false, from);

@@ -1,4 +1,5 @@
 use Rattle.std.proofs.Common.{refl, subst, arith, [], ◌∷◌}
+use Rattle.cpp_direct.specs.Symbol.{plain}
 use Rattle.cpp_direct.specs.Holes.{StandsAt}
 use Rattle.cpp_direct.proofs.Arguments.{argument-awaits, argument-closes, argument-passes}
 use Rattle.cpp_direct.proofs.TypesRead.{popped}
@@ -8,14 +9,14 @@ use Rattle.cpp_direct.proofs.direct.Direct.argument_ended.Goals as goal
 pub returns-then-byte-eq76 : goal.returns-then-byte-eq76
 returns-then-byte-eq76 c =
     let p = c.requires.read in
-    argument-passes c.args.s.now c.args.self.now _ c.args.from c.args.number c.args.known c.args.is_reference p
+    argument-passes (plain c.args.s.now) c.args.self.now _ c.args.from c.args.number c.args.known c.args.is_reference p
     (popped c.args.self.now.waiting.list.items c.pop-open.new.self.list.items (p.owner ∷ p.rest)
     (opens.Argument c.args.from c.args.number c.args.known) _ refl p.open_is c.pop-open.ensures.rest) refl refl refl
 
 pub next_argument-requires-clause-awaits : goal.next_argument-requires-clause-awaits
 next_argument-requires-clause-awaits c =
     let p = c.requires.read in
-    argument-awaits c.args.s.now c.args.self.now _ c.args.from c.len-to.result c.args.number c.placed.result c.args.known c.with-more.result
+    argument-awaits (plain c.args.s.now) c.args.self.now _ c.args.from c.len-to.result c.args.number c.placed.result c.args.known c.with-more.result
     c.args.is_reference p
     (popped c.args.self.now.waiting.list.items c.pop-open.new.self.list.items (p.owner ∷ p.rest)
     (opens.Argument c.args.from c.args.number c.args.known) _ refl p.open_is c.pop-open.ensures.rest) refl refl refl c.len-to.ensures c.placed.ensures
@@ -24,9 +25,9 @@ next_argument-requires-clause-awaits c =
 pub close_list-requires-clause-ended : goal.close_list-requires-clause-ended
 close_list-requires-clause-ended c =
     let p = c.requires.read in
-    let s = c.args.s.now in
+    let s = plain c.args.s.now in
     let w = c.args.self.now in
     argument-closes s w _ c.args.from c.len-to.result c.args.number c.placed.result c.args.known c.with-more.result c.args.is_reference p
-    (subst (λ b. StandsAt s w.at (b ∷ [])) c.if-byte-ne69.false (c.byte_at-byte.ensures (λ e. omega (arith, e, c.if-byte-ne69.false))))
+    (subst (λ b. StandsAt s.bytes w.at (b ∷ [])) c.if-byte-ne69.false (c.byte_at-byte.ensures (λ e. omega (arith, e, c.if-byte-ne69.false))))
     (popped w.waiting.list.items c.pop-open.new.self.list.items (p.owner ∷ p.rest) (opens.Argument c.args.from c.args.number c.args.known) _ refl
     p.open_is c.pop-open.ensures.rest) refl refl c.in_ok-self.ensures.1 c.len-to.ensures c.placed.ensures c.with-more.ensures

@@ -1,4 +1,5 @@
 use Rattle.std.proofs.Common.{◌≡◌, ◌+◌, if◌then◌else◌, refl, ap, sym, ◌∙◌}
+use Rattle.cpp_direct.specs.Symbol.{plain}
 use Rattle.cpp_direct.proofs.FunctionsRead.{takes-function, function-begins}
 use Rattle.cpp_direct.proofs.Listed.{waits-last}
 use Rattle.cpp_direct.proofs.direct.Direct.begin_function.Goals as goal
@@ -12,7 +13,7 @@ returns c =
       | then-is_pointer w ↦ w.checked_add-is ∙ ap (λ b. if b then 2 else 1) (sym w.if-is_pointer.true)
       | else-is_pointer w ↦ w.checked_add-is ∙ ap (λ b. if b then 2 else 1) (sym w.if-is_pointer.false)
     ] in
-    function-begins c.args.s.now old _ c.args.is_pointer last c.requires.writing c.requires.letters
+    function-begins (plain c.args.s.now) old _ c.args.is_pointer last c.requires.writing c.requires.letters
     (waits-last _ _ _ _ c.as_slice.ensures c.in_ok-last.ensures.value refl)
     (λ rest. takes-function last rest c.in_default.not-Pointer c.in_default.not-Lvalue c.in_default.not-Rvalue c.in_default.not-Const
     c.in_default.not-Enumerator c.in_default.not-Returned c.in_default.not-Signature c.in_default.not-Front c.in_default.not-Argument

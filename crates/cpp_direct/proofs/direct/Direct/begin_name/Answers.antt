@@ -1,8 +1,9 @@
+use Rattle.cpp_direct.specs.Symbol.{plain}
 use Rattle.cpp_direct.proofs.UnscopedNames.{source-unscoped}
 use Rattle.cpp_direct.proofs.direct.Direct.begin_name.Goals as goal
 
 pub unscoped_named-requires-clause-named : goal.unscoped_named-requires-clause-named
 unscoped_named-requires-clause-named c =
     let read = c.in_ok-name.ensures in
-    source-unscoped c.args.s.now c.args.is_internal c.args.self.now c.name.new.self read.0 c.requires.awaits read.1 read.2 read.3
+    source-unscoped (plain c.args.s.now) c.args.is_internal c.args.self.now c.name.new.self read.0 c.requires.awaits read.1 read.2 read.3
     c.len-from.result c.len-from.ensures

@@ -1,8 +1,9 @@
+use Rattle.cpp_direct.specs.Symbol.{plain}
 use Rattle.cpp_direct.proofs.UnscopedNames.{operator-unscoped}
 use Rattle.cpp_direct.proofs.direct.Direct.begin_operator.Goals as goal
 
 pub unscoped_named-requires-clause-named : goal.unscoped_named-requires-clause-named
 unscoped_named-requires-clause-named c =
     let read = c.in_ok-takes.ensures in
-    operator-unscoped c.args.s.now c.args.self.now c.operator_name.new.self read.0 read.1 _ c.requires.awaits read.2 read.3 read.4
+    operator-unscoped (plain c.args.s.now) c.args.self.now c.operator_name.new.self read.0 read.1 _ c.requires.awaits read.2 read.3 read.4
     c.len-from.result c.len-from.ensures

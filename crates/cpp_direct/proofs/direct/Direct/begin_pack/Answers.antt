@@ -1,4 +1,5 @@
 use Rattle.std.proofs.Common.{true, refl}
+use Rattle.cpp_direct.specs.Symbol.{plain}
 use Rattle.cpp_direct.specs.declared.open.Step.TheVariants as steps
 use Rattle.cpp_direct.specs.Stands.{IsWriting}
 use Rattle.cpp_direct.proofs.Listed.{waits-last, pack-begins}
@@ -9,7 +10,7 @@ pub returns-in_default : goal.returns-in_default
 returns-in_default c =
     let o = c.open_type.result in
     let list = steps.List true in
-    by-step o list (IsWriting c.args.s.now c.open_type.new.self) c.open_type.ensures.step
-    (λ e. pack-begins c.args.s.now c.args.self.now c.open_type.new.self c.in_ok-last.field-0.now c.requires.awaits c.requires.letter
+    by-step o list (IsWriting (plain c.args.s.now) c.open_type.new.self) c.open_type.ensures.step
+    (λ e. pack-begins (plain c.args.s.now) c.args.self.now c.open_type.new.self c.in_ok-last.field-0.now c.requires.awaits c.requires.letter
     (waits-last _ _ _ _ c.as_slice.ensures c.in_ok-last.ensures.value refl) c.in_default.not-Pack
     (given _ o list e c.open_type.ensures.open) (given _ o list e c.open_type.ensures.at) c.open_type.ensures.text c.open_type.ensures.candidates)

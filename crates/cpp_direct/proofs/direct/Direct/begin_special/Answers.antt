@@ -1,20 +1,21 @@
 use Rattle.std.proofs.Common.{◌≢◌, ◌∷◌, ◌++◌, [], length, ◌==◌, ap, ◌∙◌, refl}
 use Rattle.std.proofs.lemmas.Bool.{false≢true}
 use Rattle.cpp_grammar.specs.Texts.{look_up, special_texts}
+use Rattle.cpp_direct.specs.Symbol.{plain}
 use Rattle.cpp_direct.specs.declared.open.Open.TheVariants as opens
 use Rattle.cpp_direct.proofs.Begins.{special-begins, special-stands}
 use Rattle.cpp_direct.proofs.direct.Direct.begin_special.Goals as goal
 
 pub returns : goal.returns
 returns c =
-    let s = c.args.s.now in
+    let s = plain c.args.s.now in
     let letter = c.byte_at.result in
     let text_is = c.special_text-text.ensures in
     let fresh = c.requires.fresh in
     let wrote = c.in_ok-push.ensures in
     let filled : look_up (letter ∷ []) special_texts ≢ [] = λ e. absurd (false≢true (c.if-is_empty.ensures ∙ ap (λ l. length l == 0) (text_is ∙ e))) in
     special-begins s (record c.push.new.self { waiting = c.push-2.new.self; at = 4 }) letter c.requires.starts
-    (special-stands s letter filled c.requires.letter c.byte_at.ensures) refl
+    (special-stands s.bytes letter filled c.requires.letter c.byte_at.ensures) refl
     (wrote.text ∙ ap (λ l. l ++ c.special_text-text.result.now) fresh.no_text ∙ text_is) filled
     (ap (λ v. v.list.items) wrote.candidates ∙ fresh.no_candidate)
     (c.in_ok-push-2.ensures.items ∙ ap (λ v. v.list.items ++ opens.Special ∷ []) wrote.waiting ∙ ap (λ l. l ++ opens.Special ∷ []) fresh.none_open)

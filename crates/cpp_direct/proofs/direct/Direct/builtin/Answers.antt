@@ -1,10 +1,11 @@
 use Rattle.std.proofs.Common.{◌∙◌, ap, ◌++◌}
+use Rattle.cpp_direct.specs.Symbol.{plain}
 use Rattle.cpp_direct.proofs.TypesRead.{builtin-done, some-text}
 use Rattle.cpp_direct.proofs.direct.Direct.builtin.Goals as goal
 
 pub returns : goal.returns
 returns c =
-    builtin-done c.args._s.now c.args.self.now c.push.new.self c.args.letter c.requires.awaits c.requires.letter
+    builtin-done (plain c.args._s.now) c.args.self.now c.push.new.self c.args.letter c.requires.awaits c.requires.letter
     (some-text c.builtin_text-text.result.now _ c.builtin_text-text.ensures c.if-is_empty.ensures)
     (c.in_ok-push.ensures.text ∙ ap (λ l. c.args.self.now.text.list.items ++ l) c.builtin_text-text.ensures)
     (ap (λ v. v.list.items) c.in_ok-push.ensures.candidates) (ap (λ v. v.list.items) c.in_ok-push.ensures.waiting)

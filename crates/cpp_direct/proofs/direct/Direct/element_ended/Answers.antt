@@ -1,4 +1,5 @@
 use Rattle.std.proofs.Common.{refl, ap, ◌∙◌, ◌+◌, subst, arith, [], ◌∷◌}
+use Rattle.cpp_direct.specs.Symbol.{plain}
 use Rattle.cpp_direct.specs.Holes.{StandsAt}
 use Rattle.cpp_direct.proofs.PacksRead.{element-passes, element-alone}
 use Rattle.cpp_direct.proofs.TypesRead.{popped, there}
@@ -8,27 +9,27 @@ use Rattle.cpp_direct.proofs.direct.Direct.element_ended.Goals as goal
 pub returns-then-byte_at-ne69 : goal.returns-then-byte_at-ne69
 returns-then-byte_at-ne69 c =
     let p = c.requires.read in
-    element-passes c.args.s.now c.args.self.now _ c.args.from c.args.is_reference p
+    element-passes (plain c.args.s.now) c.args.self.now _ c.args.from c.args.is_reference p
     (popped c.args.self.now.waiting.list.items c.pop-element.new.self.list.items (opens.Pack ∷ p.owner ∷ p.rest) (opens.Element c.args.from) _ refl p.open_is
     c.pop-element.ensures.rest) refl refl refl
 
 pub returns-then-byte_at-ne69-2 : goal.returns-then-byte_at-ne69-2
 returns-then-byte_at-ne69-2 c =
     let p = c.requires.read in
-    element-passes c.args.s.now c.args.self.now _ c.args.from c.args.is_reference p
+    element-passes (plain c.args.s.now) c.args.self.now _ c.args.from c.args.is_reference p
     (popped c.args.self.now.waiting.list.items c.pop-element.new.self.list.items (opens.Pack ∷ p.owner ∷ p.rest) (opens.Element c.args.from) _ refl p.open_is
     c.pop-element.ensures.rest) refl refl refl
 
 pub close_list-requires-clause-ended : goal.close_list-requires-clause-ended
 close_list-requires-clause-ended c =
     let p = c.requires.read in
-    let s = c.args.s.now in
+    let s = plain c.args.s.now in
     let w = c.args.self.now in
     let left = c.pop-element.new.self.list.items in
     element-alone s w _ c.args.from c.len-to.result c.args.is_reference c.placed-place.result c.with.result p
-    (there s w.at c.byte_at.result 69 c.if-byte_at-ne69.false (omega arith) c.byte_at.ensures)
-    (subst (λ n. StandsAt s n (69 ∷ [])) c.in_ok-behind.ensures.1
-    (there s c.in_ok-behind.behind c.byte_at-2.result 69 c.if-byte_at-ne69-2.false (omega arith) c.byte_at-2.ensures))
+    (there s.bytes w.at c.byte_at.result 69 c.if-byte_at-ne69.false (omega arith) c.byte_at.ensures)
+    (subst (λ n. StandsAt s.bytes n (69 ∷ [])) c.in_ok-behind.ensures.1
+    (there s.bytes c.in_ok-behind.behind c.byte_at-2.result 69 c.if-byte_at-ne69-2.false (omega arith) c.byte_at-2.ensures))
     (popped left c.pop-pack.new.self.list.items (p.owner ∷ p.rest) opens.Pack _ refl
     (popped w.waiting.list.items left (opens.Pack ∷ p.owner ∷ p.rest) (opens.Element c.args.from) _ refl p.open_is c.pop-element.ensures.rest)
     c.pop-pack.ensures.rest)

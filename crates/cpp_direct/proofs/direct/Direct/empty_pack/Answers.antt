@@ -1,4 +1,5 @@
 use Rattle.std.proofs.Common.{◌∷◌, [], arith, refl, subst}
+use Rattle.cpp_direct.specs.Symbol.{plain}
 use Rattle.cpp_direct.specs.Holes.{StandsAt}
 use Rattle.cpp_direct.specs.Ways.{IsListEnded}
 use Rattle.cpp_direct.specs.Stands.{nowhere}
@@ -8,11 +9,11 @@ use Rattle.cpp_direct.proofs.direct.Direct.empty_pack.Goals as goal
 
 pub close_list-requires-clause-ended : goal.close_list-requires-clause-ended
 close_list-requires-clause-ended c =
-    let s = c.args.s.now in
+    let s = plain c.args.s.now in
     let w = c.args.self.now in
-    let ended = subst (λ b. StandsAt s c.in_ok-self.field-0 (b ∷ [])) c.if-byte_at-ne69.false
+    let ended = subst (λ b. StandsAt s.bytes c.in_ok-self.field-0 (b ∷ [])) c.if-byte_at-ne69.false
     (c.byte_at.ensures (λ e. omega (arith, e, c.if-byte_at-ne69.false))) in
     subst (λ n. IsListEnded s (record w { at = n }) nowhere) (omega (arith, c.in_ok-self.ensures, c.in_ok-self-2.ensures))
     (empty-pack-ends s w c.args._is_first c.in_ok-last.field-0.now c.requires.writing
-    (stands-join s w.at (74 ∷ 69 ∷ []) (69 ∷ []) c.requires.letters (subst (λ k. StandsAt s k (69 ∷ [])) c.in_ok-self.ensures.1 ended))
+    (stands-join s.bytes w.at (74 ∷ 69 ∷ []) (69 ∷ []) c.requires.letters (subst (λ k. StandsAt s.bytes k (69 ∷ [])) c.in_ok-self.ensures.1 ended))
     (waits-last _ _ _ _ c.as_slice.ensures c.in_ok-last.ensures.value refl) c.in_default.not-Pack)

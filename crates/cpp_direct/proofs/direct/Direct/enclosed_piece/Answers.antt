@@ -1,6 +1,7 @@
 use Rattle.cpp_grammar.specs.Parts.{source_text}
 use Rattle.cpp_grammar.specs.Term.{source}
 use Rattle.std.proofs.Common.{false}
+use Rattle.cpp_direct.specs.Symbol.{plain}
 use Rattle.cpp_direct.proofs.FoundTokens.{some-by}
 use Rattle.cpp_direct.proofs.MovesOfLocals.{source-name-piece}
 use Rattle.cpp_direct.proofs.PrintedNests.{source-opening, source-piece}
@@ -13,7 +14,7 @@ returns c =
     (λ r. (
       source false r.0,
       source_text r.0,
-      source-name-piece c.args.s.now c.args.self.now.at r.0 c.name.new.self.at r.1,
+      source-name-piece (plain c.args.s.now) c.args.self.now.at r.0 c.name.new.self.at r.1,
       piece-prints (source false r.0) (source_text r.0) (source-piece false r.0 r.2) (source-opening false r.0),
       r.3,
     ))

@@ -1,6 +1,7 @@
+use Rattle.cpp_direct.specs.Symbol.{plain}
 use Rattle.cpp_direct.proofs.EnclosingFunctions.{marks-written-within}
 use Rattle.cpp_direct.proofs.direct.Direct.enclosing_ended.Goals as goal
 
 pub enclosed-requires-clause-read : goal.enclosed-requires-clause-read
 enclosed-requires-clause-read c =
-    marks-written-within c.args.s.now c.args.self.now c.push_mark.new.self c.args.mark c.args.from c.requires.read c.in_ok-push_mark.ensures
+    marks-written-within (plain c.args.s.now) c.args.self.now c.push_mark.new.self c.args.mark c.args.from c.requires.read c.in_ok-push_mark.ensures

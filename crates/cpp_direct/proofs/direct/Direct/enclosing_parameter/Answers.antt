@@ -1,4 +1,5 @@
 use Rattle.std.proofs.Common.{◌++◌, reverse, ap, refl, sym, ◌∙◌}
+use Rattle.cpp_direct.specs.Symbol.{plain}
 use Rattle.cpp_direct.specs.declared.open.Open.TheVariants as opens
 use Rattle.cpp_direct.proofs.EnclosingFunctions.{function-within, next-within}
 use Rattle.cpp_direct.proofs.Ending.{no-void}
@@ -7,13 +8,13 @@ use Rattle.cpp_direct.proofs.direct.Direct.enclosing_parameter.Goals as goal
 
 pub returns-then-byte_at-ne69 : goal.returns-then-byte_at-ne69
 returns-then-byte_at-ne69 c =
-    next-within c.args.s.now c.args.self.now c.push_pair.new.self c.args.mark c.args.from c.args._argument c.requires.read c.in_ok-push_pair.ensures
+    next-within (plain c.args.s.now) c.args.self.now c.push_pair.new.self c.args.mark c.args.from c.args._argument c.requires.read c.in_ok-push_pair.ensures
 
 pub enclosing_ended-requires-clause-read : goal.enclosing_ended-requires-clause-read
 enclosing_ended-requires-clause-read c =
     let p = c.requires.read in
     let one = c.in_ok-push_byte.ensures in
-    function-within c.args.s.now c.args.self.now c.push_byte.new.self _ c.args.mark c.args.from c.args._argument p
+    function-within (plain c.args.s.now) c.args.self.now c.push_byte.new.self _ c.args.mark c.args.from c.args._argument p
     (no-void c.as_slice.result.now (p.front ++ p.name) p.texts (c.as_slice.ensures ∙ p.written)
     (sym c.ends_with.ensures.value ∙ c.if-ends_with.false))
     one refl refl refl

@@ -1,17 +1,18 @@
 use Rattle.std.proofs.Common.{arith, refl}
+use Rattle.cpp_direct.specs.Symbol.{plain}
 use Rattle.cpp_direct.proofs.EnclosingFunctions.{first-within, void-within}
 use Rattle.cpp_direct.proofs.TypesRead.{there}
 use Rattle.cpp_direct.proofs.direct.Direct.enclosing_parameters.Goals as goal
 
 pub enclosing_ended-requires-clause-read : goal.enclosing_ended-requires-clause-read
 enclosing_ended-requires-clause-read c =
-    let s = c.args.s.now in
+    let s = plain c.args.s.now in
     let w = c.args.self.now in
     void-within s w _ c.push_pair.new.self c.args.mark c.args.from c.args.argument c.requires.awaits
-    (there s w.at c.byte_at.result 118 c.if-byte_at-eq118.true (omega arith) c.byte_at.ensures)
+    (there s.bytes w.at c.byte_at.result 118 c.if-byte_at-eq118.true (omega arith) c.byte_at.ensures)
     refl refl refl c.in_ok-self.ensures.1 c.in_ok-push_pair.ensures
 
 pub returns : goal.returns
 returns c =
-    first-within c.args.s.now c.args.self.now c.push_byte.new.self _ c.args.mark c.args.from c.args.argument c.requires.awaits c.in_ok-push_byte.ensures
+    first-within (plain c.args.s.now) c.args.self.now c.push_byte.new.self _ c.args.mark c.args.from c.args.argument c.requires.awaits c.in_ok-push_byte.ensures
     refl refl refl c.in_ok-push.ensures.items

@@ -1,5 +1,6 @@
 use Rattle.std.proofs.Common.{◌≡◌, nat_eq, false, codes, refl, sym, subst, ◌∙◌}
 use Rattle.std.specs.List.{ends_with}
+use Rattle.cpp_direct.specs.Symbol.{plain}
 use Rattle.cpp_direct.specs.declared.direct.Direct.{Direct}
 use Rattle.cpp_direct.specs.declared.open.Open.TheVariants as opens
 use Rattle.cpp_direct.proofs.TypesRead.{popped}
@@ -19,7 +20,7 @@ returns c =
       at = old.at;
       rounds = old.rounds;
     } in
-    enumerator-read c.args.s.now old w c.push.new.self c.number.new.self c.literal_ended.new.self a
+    enumerator-read (plain c.args.s.now) old w c.push.new.self c.number.new.self c.literal_ended.new.self a
     (record {
       int = subst (λ l. ends_with nat_eq l (codes "(int") ≡ false) c.as_slice.ensures (sym c.ends_with.ensures.value ∙ c.if-ends_with.false);
       blank_int = subst (λ l. ends_with nat_eq l (codes " int") ≡ false) c.as_slice-2.ensures (sym c.ends_with-2.ensures.value ∙ c.if-ends_with-2.false);

@@ -1,4 +1,5 @@
 use Rattle.std.proofs.Common.{◌≡◌, ◌-◌, ◌∷◌, ◌++◌, [], take, drop, ap, sym, ◌∙◌}
+use Rattle.cpp_direct.specs.Symbol.{plain}
 use Rattle.cpp_direct.specs.Prints.{forwarded}
 use Rattle.cpp_direct.specs.Written.{hidden}
 use Rattle.cpp_direct.proofs.Ending.{parameter-expected}
@@ -8,10 +9,10 @@ use Rattle.cpp_direct.proofs.direct.Direct.expansion.Goals.{then-pack-2, else-pa
 
 pub repeat-requires-clause-to : goal.repeat-requires-clause-to
 repeat-requires-clause-to c =
-    pack-inside c.args.s.now c.args.self.now c.args.mark c.args.start c.args.argument c.requires.awaits c.if-pack.false
+    pack-inside (plain c.args.s.now) c.args.self.now c.args.mark c.args.start c.args.argument c.requires.awaits c.if-pack.false
 
 pub returns-in_default : goal.returns-in_default
-returns-in_default c = parameter-expected c.args.s.now c.args.self.now c.args.mark c.args.start c.args.argument c.requires.awaits
+returns-in_default c = parameter-expected (plain c.args.s.now) c.args.self.now c.args.mark c.args.start c.args.argument c.requires.awaits
 
 pub close_parameters-requires-clause-ended : goal.close_parameters-requires-clause-ended
 close_parameters-requires-clause-ended c =
@@ -24,7 +25,7 @@ close_parameters-requires-clause-ended c =
       | then-pack-2 b ↦ ap (λ t. t.now) b.push-is ∙ ap (λ k. forwarded k) (sym b.if-pack-2.true)
       | else-pack-2 b ↦ ap (λ t. t.now) b.push-is ∙ ap (λ k. forwarded k) (sym b.if-pack-2.false)
     ] in
-    expansion-read c.args.s.now old c.add_hidden-3.new.self c.args.mark c.args.start c.args.argument c.requires.awaits c.requires.is_pack
+    expansion-read (plain c.args.s.now) old c.add_hidden-3.new.self c.args.mark c.args.start c.args.argument c.requires.awaits c.requires.is_pack
     c.if-pack.false c.in-Some.ensures.stands
     (ap (λ v. v.list.items) (c.add_hidden-3.ensures.text ∙ c.add_hidden-2.ensures.text ∙ c.add_hidden.ensures.text) ∙ two.text
     ∙ ap (λ l. l ++ c.if-pack-2.push.now) one.text ∙ ap (λ l. (old.text.list.items ++ piece) ++ l) marks)

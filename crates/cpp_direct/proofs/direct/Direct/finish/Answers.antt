@@ -1,15 +1,16 @@
 use Rattle.std.proofs.Common.{sym, ◌∙◌}
 use Rattle.std.proofs.lemmas.Bool.{eqb-true}
+use Rattle.cpp_direct.specs.Symbol.{plain}
 use Rattle.cpp_direct.proofs.Ending.{ends-plain, ends-suffixed}
 use Rattle.cpp_direct.proofs.direct.Direct.finish.Goals as goal
 
 pub returns-then-is_empty : goal.returns-then-is_empty
 returns-then-is_empty c =
-    ends-plain c.args.s.now c.in_ok-suffix.suffix.now c.args.self.now c.requires c.in_ok-suffix.ensures.lookup.0.0 c.in_ok-suffix.ensures.lookup.0.2
+    ends-plain (plain c.args.s.now) c.in_ok-suffix.suffix.now c.args.self.now c.requires c.in_ok-suffix.ensures.lookup.0.0 c.in_ok-suffix.ensures.lookup.0.2
     (eqb-true _ _ (sym c.is_empty.ensures ∙ c.if-is_empty.true))
 
 pub returns : goal.returns
 returns c =
-    ends-suffixed c.args.s.now c.in_ok-suffix.suffix.now c.args.self.now c.push.new.self c.push-2.new.self c.push-3.new.self c.requires
+    ends-suffixed (plain c.args.s.now) c.in_ok-suffix.suffix.now c.args.self.now c.push.new.self c.push-2.new.self c.push-3.new.self c.requires
     c.in_ok-suffix.ensures.lookup.0.0 c.in_ok-suffix.ensures.lookup.0.2 (c.is_suffix.ensures c.if-not-is_suffix.false)
     c.in_ok-push.ensures c.in_ok-push-2.ensures c.in_ok-push-3.ensures

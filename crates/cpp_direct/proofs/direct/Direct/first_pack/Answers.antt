@@ -1,17 +1,18 @@
 use Rattle.std.proofs.Common.{◌∷◌, ◌++◌, [], refl, ap, ◌∙◌, true}
+use Rattle.cpp_direct.specs.Symbol.{plain}
 use Rattle.cpp_direct.specs.declared.open.Open.TheVariants as opens
 use Rattle.cpp_direct.proofs.PacksRead.{element-begins}
 use Rattle.cpp_direct.proofs.Listed.{first-expected}
 use Rattle.cpp_direct.proofs.direct.Direct.first_pack.Goals as goal
 
 pub begin_pack-requires-clause-awaits : goal.begin_pack-requires-clause-awaits
-begin_pack-requires-clause-awaits c = first-expected c.args.s.now c.args.self.now _ true c.requires.writing refl refl
+begin_pack-requires-clause-awaits c = first-expected (plain c.args.s.now) c.args.self.now _ true c.requires.writing refl refl
 
 pub begin_pack-requires-then-byte_at-eq76-clause-awaits : goal.begin_pack-requires-then-byte_at-eq76-clause-awaits
-begin_pack-requires-then-byte_at-eq76-clause-awaits c = first-expected c.args.s.now c.args.self.now _ true c.requires.writing refl refl
+begin_pack-requires-then-byte_at-eq76-clause-awaits c = first-expected (plain c.args.s.now) c.args.self.now _ true c.requires.writing refl refl
 
 pub returns : goal.returns
 returns c =
-    element-begins c.args.s.now c.args.self.now _ c.len-from.result c.requires.writing (c.is_named.ensures c.if-not-is_named.false) c.requires.letter
+    element-begins (plain c.args.s.now) c.args.self.now _ c.len-from.result c.requires.writing (c.is_named.ensures c.if-not-is_named.false) c.requires.letter
     c.len-from.ensures (c.in_ok-push-2.ensures.items ∙ ap (λ l. l ++ opens.Element c.len-from.result ∷ []) c.in_ok-push.ensures.items) refl refl
     c.in_ok-behind.ensures.1

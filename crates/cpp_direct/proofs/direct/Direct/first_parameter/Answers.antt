@@ -1,4 +1,5 @@
 use Rattle.std.proofs.Common.{◌∷◌, [], arith, refl, subst}
+use Rattle.cpp_direct.specs.Symbol.{plain}
 use Rattle.cpp_direct.specs.Holes.{StandsAt}
 use Rattle.cpp_direct.proofs.Moves.{stands-join}
 use Rattle.cpp_direct.proofs.Signatures.{void-closed}
@@ -7,10 +8,10 @@ use Rattle.cpp_direct.proofs.direct.Direct.first_parameter.Goals as goal
 
 pub function_ended-requires-clause-ended : goal.function_ended-requires-clause-ended
 function_ended-requires-clause-ended c =
-    let s = c.args.s.now in
+    let s = plain c.args.s.now in
     let w = c.args.self.now in
     void-closed s w _ c.args.is_pointer c.requires.awaits
-    (stands-join s w.at (118 ∷ []) (69 ∷ []) (there s w.at c.byte_at.result 118 c.if-byte_at-eq118.true (omega arith) c.byte_at.ensures)
-    (subst (λ k. StandsAt s k (69 ∷ [])) c.in_ok-checked_add.ensures.1
-    (there s c.in_ok-checked_add.field-0 c.byte_at-behind.result 69 c.if-behind-eq69.true (omega arith) c.byte_at-behind.ensures)))
+    (stands-join s.bytes w.at (118 ∷ []) (69 ∷ []) (there s.bytes w.at c.byte_at.result 118 c.if-byte_at-eq118.true (omega arith) c.byte_at.ensures)
+    (subst (λ k. StandsAt s.bytes k (69 ∷ [])) c.in_ok-checked_add.ensures.1
+    (there s.bytes c.in_ok-checked_add.field-0 c.byte_at-behind.result 69 c.if-behind-eq69.true (omega arith) c.byte_at-behind.ensures)))
     refl refl refl c.in_ok-self.ensures.1

@@ -1,15 +1,16 @@
 use Rattle.std.proofs.Common.{refl, true}
+use Rattle.cpp_direct.specs.Symbol.{plain}
 use Rattle.cpp_direct.proofs.Arguments.{argument-begins}
 use Rattle.cpp_direct.proofs.Listed.{first-expected, type-expected}
 use Rattle.cpp_direct.proofs.direct.Direct.first_type.Goals as goal
 
 pub returns-then-not-is_named : goal.returns-then-not-is_named
-returns-then-not-is_named c = type-expected c.args.s.now _ (first-expected c.args.s.now c.args.self.now _ true c.requires.writing refl refl)
+returns-then-not-is_named c = type-expected (plain c.args.s.now) _ (first-expected (plain c.args.s.now) c.args.self.now _ true c.requires.writing refl refl)
 
 pub returns : goal.returns
 returns c =
-    argument-begins c.args.s.now c.args.self.now _ c.len-from.result c.requires.writing (c.is_named.ensures c.if-not-is_named.false)
+    argument-begins (plain c.args.s.now) c.args.self.now _ c.len-from.result c.requires.writing (c.is_named.ensures c.if-not-is_named.false)
     c.len-from.ensures c.in_ok-push.ensures.items refl refl refl
 
 pub returns-then-is_function_at : goal.returns-then-is_function_at
-returns-then-is_function_at c = type-expected c.args.s.now _ (first-expected c.args.s.now c.args.self.now _ true c.requires.writing refl refl)
+returns-then-is_function_at c = type-expected (plain c.args.s.now) _ (first-expected (plain c.args.s.now) c.args.self.now _ true c.requires.writing refl refl)

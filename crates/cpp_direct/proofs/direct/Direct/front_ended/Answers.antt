@@ -1,8 +1,9 @@
 use Rattle.std.proofs.Common.{refl, sym, ◌∙◌}
+use Rattle.cpp_direct.specs.Symbol.{plain}
 use Rattle.cpp_direct.proofs.FrontsRead.{front-turned}
 use Rattle.cpp_direct.proofs.direct.Direct.front_ended.Goals as goal
 
 pub begin_parameters-requires-clause-awaits : goal.begin_parameters-requires-clause-awaits
 begin_parameters-requires-clause-awaits c =
-    front-turned c.args.s.now c.args.self.now _ c.push_byte.new.self c.repeat.new.self c.args.mark c.args.start c.args.argument c.requires.ended
+    front-turned (plain c.args.s.now) c.args.self.now _ c.push_byte.new.self c.repeat.new.self c.args.mark c.args.start c.args.argument c.requires.ended
     (sym c.is_local.ensures ∙ c.if-is_local.false) refl refl refl c.in_ok-push_byte.ensures c.in_ok-repeat.ensures

@@ -1,7 +1,8 @@
+use Rattle.cpp_direct.specs.Symbol.{plain}
 use Rattle.cpp_direct.proofs.FrontsRead.{front-hidden}
 use Rattle.cpp_direct.proofs.direct.Direct.front_hidden.Goals as goal
 
 pub begin_parameters-requires-clause-awaits : goal.begin_parameters-requires-clause-awaits
 begin_parameters-requires-clause-awaits c =
-    front-hidden c.args.s.now c.args.self.now c.repeat.new.self c.args.mark c.args.start c.len-begins.result c.args.argument c.requires.ended
+    front-hidden (plain c.args.s.now) c.args.self.now c.repeat.new.self c.args.mark c.args.start c.len-begins.result c.args.argument c.requires.ended
     c.requires.local c.len-begins.ensures c.in_ok-repeat.ensures

@@ -1,4 +1,5 @@
 use Rattle.std.proofs.Common.{refl, ap, sym, ◌∙◌}
+use Rattle.cpp_direct.specs.Symbol.{plain}
 use Rattle.cpp_direct.specs.declared.open.Open.TheVariants as opens
 use Rattle.cpp_direct.proofs.Handed.{argument-read, parameter-read, special-read}
 use Rattle.cpp_direct.proofs.Listed.{waits-last}
@@ -8,7 +9,7 @@ use Rattle.cpp_direct.proofs.direct.Direct.function_ended.Goals as goal
 
 pub parameter_ended-requires-clause-ended : goal.parameter_ended-requires-clause-ended
 parameter_ended-requires-clause-ended c =
-    let s = c.args.s.now in
+    let s = plain c.args.s.now in
     let w = c.args.self.now in
     let p = c.requires.ended in
     parameter-read s _ c.in-Parameters.mark c.in-Parameters.start c.in-Parameters.argument
@@ -21,7 +22,7 @@ parameter_ended-requires-clause-ended c =
 
 pub enclosing_parameter-requires-clause-read : goal.enclosing_parameter-requires-clause-read
 enclosing_parameter-requires-clause-read c =
-    let s = c.args.s.now in
+    let s = plain c.args.s.now in
     let w = c.args.self.now in
     let p = c.requires.ended in
     parameter-read-within s _ c.in-Enclosing.mark c.in-Enclosing.from c.in-Enclosing.argument
@@ -34,7 +35,7 @@ enclosing_parameter-requires-clause-read c =
 
 pub finish-requires : goal.finish-requires
 finish-requires c =
-    let s = c.args.s.now in
+    let s = plain c.args.s.now in
     let w = c.args.self.now in
     let p = c.requires.ended in
     special-read s _
@@ -47,7 +48,7 @@ finish-requires c =
 
 pub returns-in_default : goal.returns-in_default
 returns-in_default c =
-    let s = c.args.s.now in
+    let s = plain c.args.s.now in
     let w = c.args.self.now in
     let p = c.requires.ended in
     let o = c.in_ok-mark.field-0.now in

@@ -1,4 +1,5 @@
 use Rattle.std.proofs.Common.{◌++◌, reverse, ap, arith, codes, refl, sym, ◌∙◌}
+use Rattle.cpp_direct.specs.Symbol.{plain}
 use Rattle.cpp_direct.specs.declared.open.Open.TheVariants as opens
 use Rattle.cpp_direct.proofs.EnclosingFunctions.{lambda-bracket, lambda-done, lambda-next}
 use Rattle.cpp_direct.proofs.Ending.{no-void}
@@ -7,11 +8,11 @@ use Rattle.cpp_direct.proofs.direct.Direct.lambda_parameter.Goals as goal
 
 pub returns-then-byte_at-ne69 : goal.returns-then-byte_at-ne69
 returns-then-byte_at-ne69 c =
-    lambda-next c.args.s.now c.args.self.now c.push_pair.new.self c.args.from c.requires.read c.in_ok-push_pair.ensures
+    lambda-next (plain c.args.s.now) c.args.self.now c.push_pair.new.self c.args.from c.requires.read c.in_ok-push_pair.ensures
 
 pub returns : goal.returns
 returns c =
-    let s = c.args.s.now in
+    let s = plain c.args.s.now in
     let w = c.args.self.now in
     let p = c.requires.read in
     let number = c.in_ok-lambda_number.ensures in
@@ -21,7 +22,7 @@ returns c =
     (record c.lambda_number.new.self { waiting = c.pop-open.new.self }) c.discriminator.new.self c.add_candidate.new.self c.args.from p
     (no-void c.as_slice.result.now (p.front ++ (p.bytes ++ codes "::{lambda")) p.texts (c.as_slice.ensures ∙ p.written ∙ lambda-bracket p.front p.bytes p.texts)
     (sym c.ends_with.ensures.value ∙ c.if-ends_with.false))
-    (there s w.at c.byte_at.result 69 c.if-byte_at-ne69.false (omega arith) c.byte_at.ensures)
+    (there s.bytes w.at c.byte_at.result 69 c.if-byte_at-ne69.false (omega arith) c.byte_at.ensures)
     refl refl refl c.in_ok-self.ensures.1 one number.0 number.1 number.2 number.3 number.4 refl refl refl
     (popped c.lambda_number.new.self.waiting.list.items c.pop-open.new.self.list.items p.rest (opens.Lambda c.args.from) _ refl
     (ap (λ v. reverse v.list.items) (number.4.waiting ∙ one.waiting) ∙ p.open_is) c.pop-open.ensures.rest)

@@ -1,4 +1,5 @@
 use Rattle.std.proofs.Common.{refl, subst, sym}
+use Rattle.cpp_direct.specs.Symbol.{plain}
 use Rattle.cpp_direct.specs.declared.direct.Direct.{Direct}
 use Rattle.cpp_direct.specs.declared.open.Open.TheVariants as opens
 use Rattle.cpp_direct.specs.declared.open.Step.TheVariants as steps
@@ -11,8 +12,8 @@ use Rattle.cpp_direct.proofs.direct.Direct.list_ended.Goals as goal
 
 pub close_list-requires-clause-ended : goal.close_list-requires-clause-ended
 close_list-requires-clause-ended c =
-    subst (λ n. IsListEnded c.args.s.now (record c.args.self.now { at = n }) nowhere) (sym c.in_ok-self.ensures.1)
-    (list-ends c.args.s.now c.args.self.now c.args.is_first c.in_ok-last.field-0.now c.requires.writing c.requires.letter
+    subst (λ n. IsListEnded (plain c.args.s.now) (record c.args.self.now { at = n }) nowhere) (sym c.in_ok-self.ensures.1)
+    (list-ends (plain c.args.s.now) c.args.self.now c.args.is_first c.in_ok-last.field-0.now c.requires.writing c.requires.letter
     (waits-last _ _ _ _ c.as_slice.ensures c.in_ok-last.ensures.value refl) c.in_default.not-Pack)
 
 pub returns-else-is_first : goal.returns-else-is_first
@@ -27,6 +28,6 @@ returns-else-is_first c =
       at = c.in_ok-self.field-0;
       rounds = old.rounds;
     } in
-    pack-ends c.args.s.now old w (subst (λ f. IsWriting c.args.s.now old (steps.List f)) c.if-is_first.false c.requires.writing) c.requires.letter
+    pack-ends (plain c.args.s.now) old w (subst (λ f. IsWriting (plain c.args.s.now) old (steps.List f)) c.if-is_first.false c.requires.writing) c.requires.letter
     (waits-last _ _ _ _ c.as_slice.ensures c.in_ok-last.ensures.value c.in-Pack.is) refl refl c.in_ok-self.ensures.1
     (λ opened is. popped old.waiting.list.items c.pop-open.new.self.list.items opened opens.Pack _ refl is c.pop-open.ensures.rest)

@@ -1,16 +1,17 @@
 use Rattle.std.proofs.Common.{arith}
+use Rattle.cpp_direct.specs.Symbol.{plain}
 use Rattle.cpp_direct.proofs.TypesRead.{there, source-named, nest-awaited}
 use Rattle.cpp_direct.proofs.direct.Direct.named_type.Goals as goal
 
 pub nest_at-requires-clause-awaits : goal.nest_at-requires-clause-awaits
 nest_at-requires-clause-awaits c =
-    nest-awaited c.args.s.now c.args.self.now c.in_ok-self-in-78.field-0 c.requires.awaits c.in_ok-self-in-78.ensures.1
+    nest-awaited (plain c.args.s.now) c.args.self.now c.in_ok-self-in-78.field-0 c.requires.awaits c.in_ok-self-in-78.ensures.1
     (there c.args.s.now c.args.self.now.at c.byte_at.result 78 c.in-78.is (omega arith) c.byte_at.ensures)
 
 pub type_named-requires : goal.type_named-requires
 type_named-requires c =
     let got = c.in_ok-name-in_default.ensures in
-    source-named c.args.s.now c.args.self.now c.name.new.self c.len-from.result got.0
+    source-named (plain c.args.s.now) c.args.self.now c.name.new.self c.len-from.result got.0
     c.requires.awaits got.1 got.2 got.3 c.len-from.ensures
 
 pub begin_enclosing-requires-clause-letter : goal.begin_enclosing-requires-clause-letter

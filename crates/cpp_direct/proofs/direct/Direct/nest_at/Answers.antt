@@ -1,3 +1,4 @@
+use Rattle.cpp_direct.specs.Symbol.{plain}
 use Rattle.cpp_direct.proofs.Nesting.{source-begins}
 use Rattle.cpp_direct.proofs.direct.Direct.nest_at.Goals as goal
 
@@ -5,5 +6,5 @@ pub returns : goal.returns
 returns c =
     let old = c.args.self.now in
     let read = c.in_ok-name.ensures in
-    source-begins c.args.s.now old c.name.new.self c.args.purpose read.0 c.requires.awaits read.1 read.2 read.3 c.len-from.result c.len.result
+    source-begins (plain c.args.s.now) old c.name.new.self c.args.purpose read.0 c.requires.awaits read.1 read.2 read.3 c.len-from.result c.len.result
     c.len-from.ensures c.len.ensures

@@ -1,4 +1,5 @@
 use Rattle.std.proofs.Common.{subst, sym, ◌∙◌}
+use Rattle.cpp_direct.specs.Symbol.{plain}
 use Rattle.cpp_direct.specs.Ways.{IsEnclosingInstance, IsEnclosingNamed, IsNameEnded}
 use Rattle.cpp_direct.proofs.EnclosingFunctions.{instance-within, name-within}
 use Rattle.cpp_direct.proofs.Nesting.{type-ended, name-comes}
@@ -9,16 +10,16 @@ name_ended-requires-clause-ended c =
     let old = c.args.self.now in
     let writing = c.requires.writing in
     let before = writing.is_before in
-    subst (λ n. IsNameEnded c.args.s.now (record old { at = n }) c.in-Name.mark old.nest.is_instance old.nest.from) (sym c.in_ok-self.ensures.1)
-    (name-comes c.args.s.now old writing.state before.0 c.in-Name.mark writing.candidates before.1 before.2 before.3 before.4 c.requires.end c.in-Name.is)
+    subst (λ n. IsNameEnded (plain c.args.s.now) (record old { at = n }) c.in-Name.mark old.nest.is_instance old.nest.from) (sym c.in_ok-self.ensures.1)
+    (name-comes (plain c.args.s.now) old writing.state before.0 c.in-Name.mark writing.candidates before.1 before.2 before.3 before.4 c.requires.end c.in-Name.is)
 
 pub enclosing_instance-requires-clause-named : goal.enclosing_instance-requires-clause-named
 enclosing_instance-requires-clause-named c =
     let old = c.args.self.now in
     let writing = c.requires.writing in
     let before = writing.is_before in
-    subst (λ n. IsEnclosingInstance c.args.s.now (record old { at = n }) c.in-Enclosing.mark old.nest.from) (sym c.in_ok-self.ensures.1)
-    (instance-within c.args.s.now old writing.state before.0 c.in-Enclosing.mark writing.candidates before.1 (before.3 c.if-self.true)
+    subst (λ n. IsEnclosingInstance (plain c.args.s.now) (record old { at = n }) c.in-Enclosing.mark old.nest.from) (sym c.in_ok-self.ensures.1)
+    (instance-within (plain c.args.s.now) old writing.state before.0 c.in-Enclosing.mark writing.candidates before.1 (before.3 c.if-self.true)
     (before.4 c.if-self.true) c.requires.end c.in-Enclosing.is)
 
 pub enclosing_named-requires-clause-named : goal.enclosing_named-requires-clause-named
@@ -26,8 +27,8 @@ enclosing_named-requires-clause-named c =
     let old = c.args.self.now in
     let writing = c.requires.writing in
     let before = writing.is_before in
-    subst (λ n. IsEnclosingNamed c.args.s.now (record old { at = n }) c.in-Enclosing.mark old.nest.from) (sym c.in_ok-self.ensures.1)
-    (name-within c.args.s.now old writing.state before.0 c.in-Enclosing.mark writing.candidates before.1 (before.2 c.if-self.false) c.requires.end
+    subst (λ n. IsEnclosingNamed (plain c.args.s.now) (record old { at = n }) c.in-Enclosing.mark old.nest.from) (sym c.in_ok-self.ensures.1)
+    (name-within (plain c.args.s.now) old writing.state before.0 c.in-Enclosing.mark writing.candidates before.1 (before.2 c.if-self.false) c.requires.end
     c.in-Enclosing.is)
 
 pub returns-in_ok-add_unless-in-Type : goal.returns-in_ok-add_unless-in-Type
@@ -35,7 +36,7 @@ returns-in_ok-add_unless-in-Type c =
     let writing = c.requires.writing in
     let before = writing.is_before in
     let added = c.in_ok-add_unless-in-Type.ensures in
-    type-ended c.args.s.now c.args.self.now c.add_unless.new.self writing.state before.0 writing.candidates before.1 c.requires.end c.in-Type.is
+    type-ended (plain c.args.s.now) c.args.self.now c.add_unless.new.self writing.state before.0 writing.candidates before.1 c.requires.end c.in-Type.is
     (record {
       candidates = added.candidates;
       text = added.text;

@@ -1,18 +1,19 @@
 use Rattle.std.proofs.Common.{◌≡◌, ◌+◌, ◌++◌, length, subst, ap, ◌∙◌, arith}
 use Rattle.cpp_grammar.specs.Parts.{source_text}
+use Rattle.cpp_direct.specs.Symbol.{plain}
 use Rattle.cpp_direct.specs.Holes.{IsNameAt}
 use Rattle.cpp_direct.proofs.Nesting.{std-begins}
 use Rattle.cpp_direct.proofs.direct.Direct.nest_in_std.Goals as goal
 
 pub nest_named-requires : goal.nest_named-requires
 nest_named-requires c =
-    let s = c.args.s.now in
+    let s = plain c.args.s.now in
     let old = c.args.self.now in
     let a = c.requires.awaits in
     let wrote = c.in_ok-push.ensures in
     let read = c.in_ok-name.ensures in
     let there : c.push.new.self.at ≡ a.0 + 2 = omega (arith, wrote.at, c.in_ok-self.ensures.1, a.1) in
-    std-begins s old c.name.new.self c.args.purpose a.0 read.0 a.3 a.2 (subst (λ n. IsNameAt s n read.0 c.name.new.self.at) there read.1) read.2
+    std-begins s old c.name.new.self c.args.purpose a.0 read.0 a.3 a.2 (subst (λ n. IsNameAt s.bytes n read.0 c.name.new.self.at) there read.1) read.2
     (read.3.text ∙ ap (λ l. l ++ source_text read.0) wrote.text) (read.3.candidates ∙ wrote.candidates) (read.3.waiting ∙ wrote.waiting)
     c.len-from.result c.len-class_from.result c.len.result c.len-from.ensures
     (c.len-class_from.ensures ∙ ap length wrote.text) c.len.ensures

@@ -3,6 +3,7 @@ use Rattle.std.proofs.lemmas.Bool.{false≢true}
 use Rattle.std.specs.Bool.{◌==◌}
 use Rattle.sym_core.specs.declared.NumberKind.TheVariants.{Seq36}
 use Rattle.sym_core.specs.Value.{counted_value}
+use Rattle.cpp_direct.specs.Symbol.{plain}
 use Rattle.cpp_direct.specs.declared.open.Step.TheVariants as steps
 use Rattle.cpp_direct.specs.Holes.{StandsAt, IsSeqAt}
 use Rattle.cpp_direct.specs.Stands.{IsWriting}
@@ -25,19 +26,19 @@ nest_in_std-requires-clause-awaits c =
 pub repeat-requires-clause-from : goal.repeat-requires-clause-from
 repeat-requires-clause-from c =
     let is = c.in_ok-candidate.ensures.is in
-    (candidate-text c.args.s.now c.args.self.now c.args.purpose c.requires.awaits (counted_value Seq36 is.0) c.in_ok-candidate.candidate
+    (candidate-text (plain c.args.s.now) c.args.self.now c.args.purpose c.requires.awaits (counted_value Seq36 is.0) c.in_ok-candidate.candidate
     c.in_ok-candidate.ensures.ordered is.2).0
 
 pub repeat-requires-clause-to : goal.repeat-requires-clause-to
 repeat-requires-clause-to c =
     let is = c.in_ok-candidate.ensures.is in
     subst (λ l. c.in_ok-candidate.candidate.to ≤ length l) (sym (c.in_ok-candidate.ensures.same.text ∙ append-nil c.args.self.now.text.list.items))
-    (candidate-text c.args.s.now c.args.self.now c.args.purpose c.requires.awaits (counted_value Seq36 is.0) c.in_ok-candidate.candidate
+    (candidate-text (plain c.args.s.now) c.args.self.now c.args.purpose c.requires.awaits (counted_value Seq36 is.0) c.in_ok-candidate.candidate
     c.in_ok-candidate.ensures.ordered is.2).1
 
 pub returns-then-is_empty : goal.returns-then-is_empty
 returns-then-is_empty c =
-    let s = c.args.s.now in
+    let s = plain c.args.s.now in
     let old = c.args.self.now in
     let k = c.in_ok-candidate.candidate in
     let is = c.in_ok-candidate.ensures.is in
@@ -46,7 +47,7 @@ returns-then-is_empty c =
     let plain : c.substitution.new.self.text.list.items ≡ old.text.list.items = same.text ∙ append-nil old.text.list.items in
     subst (λ n. IsWriting s (record c.repeat.new.self { nest = n }) steps.Rest) (sym c.listed_nest-self.ensures)
     (reference-begins s old c.repeat.new.self c.args.purpose is.0 k c.requires.awaits c.requires.letter
-    (subst (λ n. IsSeqAt s (old.at + 1) is.0 n) (sym wrote.at) (subst (λ n. IsSeqAt s n is.0 c.substitution.new.self.at) c.in_ok-self.ensures.1 is.1))
+    (subst (λ n. IsSeqAt s.bytes (old.at + 1) is.0 n) (sym wrote.at) (subst (λ n. IsSeqAt s.bytes n is.0 c.substitution.new.self.at) c.in_ok-self.ensures.1 is.1))
     c.in_ok-candidate.ensures.ordered is.2 c.if-candidate.false c.if-candidate-2.false (wrote.text ∙ ap (λ l. l ++ take (k.to - k.from) (drop k.from l)) plain)
     (wrote.candidates ∙ same.candidates) (wrote.waiting ∙ same.waiting) c.len-from.result c.len-from.ensures)
 
@@ -56,8 +57,8 @@ returns c =
     let letter = c.byte_at-letter.result in
     let wrote = c.in_ok-push.ensures in
     let text_is = c.abbreviation_text-text.ensures in
-    subst (λ n. IsWriting c.args.s.now (record c.push.new.self { nest = n }) steps.Rest) (sym c.listed_nest-self-2.ensures)
-    (abbreviation-begins c.args.s.now old c.push.new.self c.args.purpose letter c.requires.awaits c.requires.letter
+    subst (λ n. IsWriting (plain c.args.s.now) (record c.push.new.self { nest = n }) steps.Rest) (sym c.listed_nest-self-2.ensures)
+    (abbreviation-begins (plain c.args.s.now) old c.push.new.self c.args.purpose letter c.requires.awaits c.requires.letter
     (λ some. subst (λ n. StandsAt c.args.s.now n (letter ∷ [])) c.in_ok-self.ensures.1 (c.byte_at-letter.ensures some))
     (λ e. absurd (false≢true (c.if-is_empty.ensures ∙ ap (λ l. length l == 0) (text_is ∙ e))))
     (wrote.text ∙ ap (λ l. old.text.list.items ++ l) text_is) wrote.candidates wrote.waiting

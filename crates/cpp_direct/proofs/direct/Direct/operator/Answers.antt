@@ -1,16 +1,17 @@
 use Rattle.std.proofs.Common.{refl}
+use Rattle.cpp_direct.specs.Symbol.{plain}
 use Rattle.cpp_direct.proofs.NestComponents.{operator-follows, operator-last}
 use Rattle.cpp_direct.proofs.direct.Direct.operator.Goals as goal
 
 pub operator_ended-requires-clause-read : goal.operator_ended-requires-clause-read
 operator_ended-requires-clause-read c =
     let read = c.in_ok-operator_name.ensures in
-    operator-last c.args.s.now c.args.self.now c.push_pair.new.self c.operator_name.new.self read.0 read.1 c.requires.writing
+    operator-last (plain c.args.s.now) c.args.self.now c.push_pair.new.self c.operator_name.new.self read.0 read.1 c.requires.writing
     c.in_ok-push_pair.ensures read.2 read.4
 
 pub nest_named-requires : goal.nest_named-requires
 nest_named-requires c =
     let read = c.in_ok-operator_name.ensures in
-    operator-follows c.args.s.now c.args.self.now c.push_pair.new.self c.operator_name.new.self _ read.0 read.1 c.requires.writing
+    operator-follows (plain c.args.s.now) c.args.self.now c.push_pair.new.self c.operator_name.new.self _ read.0 read.1 c.requires.writing
     c.in_ok-push_pair.ensures read.2 (read.3 c.if-not-branch.false) read.4 refl refl refl refl refl refl
     c.len-class_from.ensures c.len.ensures refl refl refl

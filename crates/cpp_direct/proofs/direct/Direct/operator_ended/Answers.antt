@@ -1,4 +1,5 @@
 use Rattle.std.proofs.Common.{arith, false, subst, sym}
+use Rattle.cpp_direct.specs.Symbol.{plain}
 use Rattle.cpp_direct.specs.Ways.{IsNameEnded}
 use Rattle.cpp_direct.proofs.Nesting.{operator-ends}
 use Rattle.cpp_direct.proofs.TypesRead.{there}
@@ -6,8 +7,8 @@ use Rattle.cpp_direct.proofs.direct.Direct.operator_ended.Goals as goal
 
 pub name_ended-requires-clause-ended : goal.name_ended-requires-clause-ended
 name_ended-requires-clause-ended c =
-    let s = c.args.s.now in
+    let s = plain c.args.s.now in
     let old = c.args.self.now in
     subst (λ n. IsNameEnded s (record old { at = n }) c.in-Name.mark false old.nest.from) (sym c.in_ok-self.ensures.1)
     (operator-ends s old c.in-Name.mark c.requires.read
-    (there s old.at c.byte_at.result 69 c.if-byte_at-ne69.false (omega arith) c.byte_at.ensures) c.in-Name.is)
+    (there s.bytes old.at c.byte_at.result 69 c.if-byte_at-ne69.false (omega arith) c.byte_at.ensures) c.in-Name.is)

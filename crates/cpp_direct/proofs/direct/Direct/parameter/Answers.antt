@@ -1,4 +1,5 @@
 use Rattle.std.proofs.Common.{true, false, arith}
+use Rattle.cpp_direct.specs.Symbol.{plain}
 use Rattle.cpp_direct.proofs.Signatures.{no-reference, parameter-comes, reference-comes}
 use Rattle.cpp_direct.proofs.TypesRead.{there}
 use Rattle.cpp_direct.proofs.direct.Direct.parameter.Goals as goal
@@ -6,7 +7,7 @@ use Rattle.cpp_direct.proofs.direct.Direct.parameter.Goals as goal
 pub returns-then-byte-eq82 : goal.returns-then-byte-eq82
 returns-then-byte-eq82 c =
     let called = c.open_type.ensures in
-    reference-comes c.args.s.now c.args.self.now c.open_type.new.self c.open_type.result c.args._is_pointer true c.len-from.result c.requires
+    reference-comes (plain c.args.s.now) c.args.self.now c.open_type.new.self c.open_type.result c.args._is_pointer true c.len-from.result c.requires
     c.len-from.ensures
     (there c.args.s.now c.args.self.now.at c.byte_at-byte.result 82 c.if-byte-eq82.true (omega arith) c.byte_at-byte.ensures)
     called.step called.open called.at called.text called.candidates
@@ -14,12 +15,12 @@ returns-then-byte-eq82 c =
 pub returns-then-byte-eq79 : goal.returns-then-byte-eq79
 returns-then-byte-eq79 c =
     let called = c.open_type-then-byte-eq79.ensures in
-    reference-comes c.args.s.now c.args.self.now c.open_type-then-byte-eq79.new.self c.open_type-then-byte-eq79.result c.args._is_pointer false c.len-from.result c.requires
+    reference-comes (plain c.args.s.now) c.args.self.now c.open_type-then-byte-eq79.new.self c.open_type-then-byte-eq79.result c.args._is_pointer false c.len-from.result c.requires
     c.len-from.ensures
     (there c.args.s.now c.args.self.now.at c.byte_at-byte.result 79 c.if-byte-eq79.true (omega arith) c.byte_at-byte.ensures)
     called.step called.open called.at called.text called.candidates
 
 pub returns : goal.returns
 returns c =
-    parameter-comes c.args.s.now c.args.self.now c.args._is_pointer c.requires
+    parameter-comes (plain c.args.s.now) c.args.self.now c.args._is_pointer c.requires
     (no-reference c.args.s.now c.args.self.now.at c.byte_at-byte.result c.byte_at-byte.ensures c.if-byte-eq0.false c.if-byte-eq82.false c.if-byte-eq79.false)

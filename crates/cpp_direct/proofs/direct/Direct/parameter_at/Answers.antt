@@ -1,5 +1,6 @@
 use Rattle.std.proofs.Common.{arith, refl, sym, subst, ap, ◌∙◌, codes, nat_eq}
 use Rattle.std.specs.List.{ends_with}
+use Rattle.cpp_direct.specs.Symbol.{plain}
 use Rattle.cpp_direct.specs.Ways.{AwaitsParameter, AwaitsSignature}
 use Rattle.cpp_direct.proofs.Signatures.{another-next, first-next, signature-closed}
 use Rattle.cpp_direct.proofs.TypesRead.{there}
@@ -8,22 +9,22 @@ use Rattle.cpp_direct.proofs.direct.Direct.parameter_at.Goals.{then-not-is_first
 
 pub function_ended-requires-clause-ended : goal.function_ended-requires-clause-ended
 function_ended-requires-clause-ended c =
-    let s = c.args.s.now in
+    let s = plain c.args.s.now in
     let w = c.args.self.now in
     signature-closed s w _ c.args.is_pointer c.args.is_first c.requires.awaits
-    (there s w.at c.byte_at.result 69 c.if-byte_at-eq69.true (omega arith) c.byte_at.ensures)
+    (there s.bytes w.at c.byte_at.result 69 c.if-byte_at-eq69.true (omega arith) c.byte_at.ensures)
     (ap (λ l. ends_with nat_eq l (codes "(void")) (sym c.as_slice.ensures) ∙ sym c.ends_with.ensures.value ∙ c.if-ends_with.false)
     refl refl refl c.in_ok-self.ensures.1
 
 pub parameter-requires : goal.parameter-requires
 parameter-requires c = elim c.if-not-is_first.branch [
   | then-not-is_first+in_ok-push_pair w ↦
-      subst (λ d. AwaitsParameter c.args.s.now d c.args.is_pointer) (sym w.self-is)
-      (another-next c.args.s.now c.args.self.now w.push_pair.new.self c.args.is_pointer
-      (subst (λ b. AwaitsSignature c.args.s.now c.args.self.now c.args.is_pointer b) w.if-not-is_first.true c.requires.awaits)
+      subst (λ d. AwaitsParameter (plain c.args.s.now) d c.args.is_pointer) (sym w.self-is)
+      (another-next (plain c.args.s.now) c.args.self.now w.push_pair.new.self c.args.is_pointer
+      (subst (λ b. AwaitsSignature (plain c.args.s.now) c.args.self.now c.args.is_pointer b) w.if-not-is_first.true c.requires.awaits)
       w.in_ok-push_pair.ensures)
   | else-not-is_first w ↦
-      subst (λ d. AwaitsParameter c.args.s.now d c.args.is_pointer) (sym w.self-is)
-      (first-next c.args.s.now c.args.self.now c.args.is_pointer
-      (subst (λ b. AwaitsSignature c.args.s.now c.args.self.now c.args.is_pointer b) w.if-not-is_first.false c.requires.awaits))
+      subst (λ d. AwaitsParameter (plain c.args.s.now) d c.args.is_pointer) (sym w.self-is)
+      (first-next (plain c.args.s.now) c.args.self.now c.args.is_pointer
+      (subst (λ b. AwaitsSignature (plain c.args.s.now) c.args.self.now c.args.is_pointer b) w.if-not-is_first.false c.requires.awaits))
 ]

@@ -1,6 +1,7 @@
+use Rattle.cpp_direct.specs.Symbol.{plain}
 use Rattle.cpp_direct.proofs.Ending.{next-expected}
 use Rattle.cpp_direct.proofs.direct.Direct.parameter_ended.Goals as goal
 
 pub next_parameter-requires-clause-awaits : goal.next_parameter-requires-clause-awaits
 next_parameter-requires-clause-awaits c =
-    next-expected c.args.s.now c.args.self.now c.push_pair.new.self c.args.mark c.args.start c.args.argument c.requires.ended c.in_ok-push_pair.ensures
+    next-expected (plain c.args.s.now) c.args.self.now c.push_pair.new.self c.args.mark c.args.start c.args.argument c.requires.ended c.in_ok-push_pair.ensures

@@ -1,5 +1,6 @@
 use Rattle.std.proofs.Common.{refl, codes, true, false, subst}
 use Rattle.cpp_grammar.specs.Term.{pointer, lvalue, rvalue, qualified}
+use Rattle.cpp_direct.specs.Symbol.{plain}
 use Rattle.cpp_direct.specs.declared.open.Open.TheVariants as opens
 use Rattle.cpp_direct.specs.Prints.{Prints}
 use Rattle.cpp_direct.specs.Stands.{qualifiers}
@@ -13,78 +14,78 @@ use Rattle.cpp_direct.proofs.direct.Direct.pass.Goals as goal
 
 pub mark-requires : goal.mark-requires
 mark-requires c =
-    value-marked c.args.s.now c.args.self.now c.args.is_reference false (opens.Pointer c.in-Pointer.from) c.in-Pointer.from pointer (codes "*")
+    value-marked (plain c.args.s.now) c.args.self.now c.args.is_reference false (opens.Pointer c.in-Pointer.from) c.in-Pointer.from pointer (codes "*")
     c.requires.writing (waits-last _ _ _ _ c.as_slice.ensures c.in_ok-from.ensures.value c.in-Pointer.is) (λ rest os text h. h)
     (λ t b h. pointer-prints t b c.args.is_reference h)
 
 pub mark-requires-in-Lvalue : goal.mark-requires-in-Lvalue
 mark-requires-in-Lvalue c =
-    value-marked c.args.s.now c.args.self.now c.args.is_reference true (opens.Lvalue c.in-Lvalue.from) c.in-Lvalue.from lvalue (codes "&")
+    value-marked (plain c.args.s.now) c.args.self.now c.args.is_reference true (opens.Lvalue c.in-Lvalue.from) c.in-Lvalue.from lvalue (codes "&")
     c.requires.writing (waits-last _ _ _ _ c.as_slice.ensures c.in_ok-from.ensures.value c.in-Lvalue.is) (λ rest os text h. h)
     (λ t b h. lvalue-prints t b (subst (λ r. Prints t b r) c.if-is_reference.false h))
 
 pub mark-requires-in-Rvalue : goal.mark-requires-in-Rvalue
 mark-requires-in-Rvalue c =
-    value-marked c.args.s.now c.args.self.now c.args.is_reference true (opens.Rvalue c.in-Rvalue.from) c.in-Rvalue.from rvalue (codes "&&")
+    value-marked (plain c.args.s.now) c.args.self.now c.args.is_reference true (opens.Rvalue c.in-Rvalue.from) c.in-Rvalue.from rvalue (codes "&&")
     c.requires.writing (waits-last _ _ _ _ c.as_slice.ensures c.in_ok-from.ensures.value c.in-Rvalue.is) (λ rest os text h. h)
     (λ t b h. rvalue-prints t b (subst (λ r. Prints t b r) c.if-is_reference-2.false h))
 
 pub mark-requires-in-Const : goal.mark-requires-in-Const
 mark-requires-in-Const c =
-    value-marked c.args.s.now c.args.self.now c.args.is_reference false (opens.Const c.in-Const.from) c.in-Const.from
+    value-marked (plain c.args.s.now) c.args.self.now c.args.is_reference false (opens.Const c.in-Const.from) c.in-Const.from
     (qualified (qualifiers true)) (codes " const")
     c.requires.writing (waits-last _ _ _ _ c.as_slice.ensures c.in_ok-from.ensures.value c.in-Const.is) (λ rest os text h. h)
     (λ t b h. const-prints t b (subst (λ r. Prints t b r) c.if-is_reference-3.false h))
 
 pub parameter_ended-requires-clause-ended : goal.parameter_ended-requires-clause-ended
 parameter_ended-requires-clause-ended c =
-    parameter-read c.args.s.now c.args.self.now c.in-Parameters.mark c.in-Parameters.start c.in-Parameters.argument
-    (value-element c.args.s.now c.args.self.now c.args.is_reference (opens.Parameters c.in-Parameters.mark c.in-Parameters.start c.in-Parameters.argument) c.requires.writing
+    parameter-read (plain c.args.s.now) c.args.self.now c.in-Parameters.mark c.in-Parameters.start c.in-Parameters.argument
+    (value-element (plain c.args.s.now) c.args.self.now c.args.is_reference (opens.Parameters c.in-Parameters.mark c.in-Parameters.start c.in-Parameters.argument) c.requires.writing
     (waits-last _ _ _ _ c.as_slice.ensures c.in_ok-from.ensures.value c.in-Parameters.is))
 
 pub front_ended-requires-clause-ended : goal.front_ended-requires-clause-ended
 front_ended-requires-clause-ended c =
-    value-front c.args.s.now c.args.self.now c.args.is_reference c.in-Front.mark c.in-Front.start c.in-Front.argument
+    value-front (plain c.args.s.now) c.args.self.now c.args.is_reference c.in-Front.mark c.in-Front.start c.in-Front.argument
     c.requires.writing (waits-last _ _ _ _ c.as_slice.ensures c.in_ok-from.ensures.value c.in-Front.is)
 
 pub returned-requires-clause-returned : goal.returned-requires-clause-returned
 returned-requires-clause-returned c =
-    value-returned c.args.s.now c.args.self.now c.args.is_reference c.in-Returned.is_pointer
+    value-returned (plain c.args.s.now) c.args.self.now c.args.is_reference c.in-Returned.is_pointer
     c.requires.writing (waits-last _ _ _ _ c.as_slice.ensures c.in_ok-from.ensures.value c.in-Returned.is)
 
 pub parameter_at-requires-clause-awaits : goal.parameter_at-requires-clause-awaits
 parameter_at-requires-clause-awaits c =
-    value-signature c.args.s.now c.args.self.now c.args.is_reference c.in-Signature.is_pointer
+    value-signature (plain c.args.s.now) c.args.self.now c.args.is_reference c.in-Signature.is_pointer
     c.requires.writing (waits-last _ _ _ _ c.as_slice.ensures c.in_ok-from.ensures.value c.in-Signature.is)
 
 pub enclosing_parameter-requires-clause-read : goal.enclosing_parameter-requires-clause-read
 enclosing_parameter-requires-clause-read c =
-    parameter-read-within c.args.s.now c.args.self.now c.in-Enclosing.mark c.in-Enclosing.from c.in-Enclosing.argument
-    (value-element c.args.s.now c.args.self.now c.args.is_reference (opens.Enclosing c.in-Enclosing.mark c.in-Enclosing.from c.in-Enclosing.argument) c.requires.writing
+    parameter-read-within (plain c.args.s.now) c.args.self.now c.in-Enclosing.mark c.in-Enclosing.from c.in-Enclosing.argument
+    (value-element (plain c.args.s.now) c.args.self.now c.args.is_reference (opens.Enclosing c.in-Enclosing.mark c.in-Enclosing.from c.in-Enclosing.argument) c.requires.writing
     (waits-last _ _ _ _ c.as_slice.ensures c.in_ok-from.ensures.value c.in-Enclosing.is))
 
 pub lambda_parameter-requires-clause-read : goal.lambda_parameter-requires-clause-read
 lambda_parameter-requires-clause-read c =
-    lambda-parameter-read c.args.s.now c.args.self.now c.in-Lambda.from
-    (value-element c.args.s.now c.args.self.now c.args.is_reference (opens.Lambda c.in-Lambda.from) c.requires.writing
+    lambda-parameter-read (plain c.args.s.now) c.args.self.now c.in-Lambda.from
+    (value-element (plain c.args.s.now) c.args.self.now c.args.is_reference (opens.Lambda c.in-Lambda.from) c.requires.writing
     (waits-last _ _ _ _ c.as_slice.ensures c.in_ok-from.ensures.value c.in-Lambda.is))
 
 pub finish-requires : goal.finish-requires
 finish-requires c =
-    special-read c.args.s.now c.args.self.now
-    (value-element c.args.s.now c.args.self.now c.args.is_reference opens.Special c.requires.writing
+    special-read (plain c.args.s.now) c.args.self.now
+    (value-element (plain c.args.s.now) c.args.self.now c.args.is_reference opens.Special c.requires.writing
     (waits-last _ _ _ _ c.as_slice.ensures c.in_ok-from.ensures.value c.in-Special.is))
 
 pub enumerator-requires-clause-awaits : goal.enumerator-requires-clause-awaits
 enumerator-requires-clause-awaits c =
-    value-enumerator c.args.s.now c.args.self.now c.args.is_reference
+    value-enumerator (plain c.args.s.now) c.args.self.now c.args.is_reference
     c.requires.writing (waits-last _ _ _ _ c.as_slice.ensures c.in_ok-from.ensures.value c.in-Enumerator.is)
 
 pub returns-in_default : goal.returns-in_default
 returns-in_default c =
     let o = c.in_ok-from.field-0.now in
-    argument-read c.args.s.now c.args.self.now o
-    (value-element c.args.s.now c.args.self.now c.args.is_reference o c.requires.writing
+    argument-read (plain c.args.s.now) c.args.self.now o
+    (value-element (plain c.args.s.now) c.args.self.now c.args.is_reference o c.requires.writing
     (waits-last _ _ _ _ c.as_slice.ensures c.in_ok-from.ensures.value refl))
     (takes-elements o c.in_default.not-Pointer c.in_default.not-Lvalue c.in_default.not-Rvalue c.in_default.not-Const
     c.in_default.not-Parameters c.in_default.not-Front c.in_default.not-Returned c.in_default.not-Signature c.in_default.not-Special c.in_default.not-Enumerator
@@ -92,10 +93,10 @@ returns-in_default c =
 
 pub argument_ended-requires-clause-read : goal.argument_ended-requires-clause-read
 argument_ended-requires-clause-read c =
-    value-argument c.args.s.now c.args.self.now c.args.is_reference c.in-Argument.from c.in-Argument.number c.in-Argument.known
+    value-argument (plain c.args.s.now) c.args.self.now c.args.is_reference c.in-Argument.from c.in-Argument.number c.in-Argument.known
     c.requires.writing (waits-last _ _ _ _ c.as_slice.ensures c.in_ok-from.ensures.value c.in-Argument.is)
 
 pub element_ended-requires-clause-read : goal.element_ended-requires-clause-read
 element_ended-requires-clause-read c =
-    value-in-pack c.args.s.now c.args.self.now c.args.is_reference c.in-Element.from
+    value-in-pack (plain c.args.s.now) c.args.self.now c.args.is_reference c.in-Element.from
     c.requires.writing (waits-last _ _ _ _ c.as_slice.ensures c.in_ok-from.ensures.value c.in-Element.is)

@@ -1,5 +1,6 @@
 use Rattle.std.proofs.Common.{◌∷◌, [], subst}
 use Rattle.cpp_grammar.specs.declared.kind.Kind.{Kind}
+use Rattle.cpp_direct.specs.Symbol.{plain}
 use Rattle.cpp_direct.specs.declared.open.Open.TheVariants as opens
 use Rattle.cpp_direct.specs.Holes.{StandsAt}
 use Rattle.cpp_direct.proofs.Nesting.{component-next, first-opens, byte-there, opened-by}
@@ -7,7 +8,7 @@ use Rattle.cpp_direct.proofs.direct.Direct.rest_at.Goals as goal
 
 pub returns-then-byte_at-eq73 : goal.returns-then-byte_at-eq73
 returns-then-byte_at-eq73 c =
-    let s = c.args.s.now in
+    let s = plain c.args.s.now in
     let mid = c.add_unless.new.self in
     let writing = c.requires.writing in
     let added = c.in_ok-add_unless.ensures in
@@ -15,13 +16,13 @@ returns-then-byte_at-eq73 c =
     opened-by s c.open_arguments.result mid c.open_arguments.new.self (opens.FirstArguments mid.nest) opened.step opened.«open» opened.at opened.text
     opened.candidates
     (first-opens s c.args.self.now mid c.open_arguments.new.self writing.state writing.is_before.0 writing.candidates writing.is_before.1
-    (subst (λ n. StandsAt s n (73 ∷ [])) added.at (byte-there s mid.at c.byte_at.result 73 c.if-byte_at-eq73.true (λ e. cc e) c.byte_at.ensures))
+    (subst (λ n. StandsAt s.bytes n (73 ∷ [])) added.at (byte-there s.bytes mid.at c.byte_at.result 73 c.if-byte_at-eq73.true (λ e. cc e) c.byte_at.ensures))
     (record { candidates = added.candidates; text = added.text; waiting = added.«open»; nest = added.nest; at = added.at }))
 
 pub component_at-requires-clause-writing : goal.component_at-requires-clause-writing
 component_at-requires-clause-writing c =
     let writing = c.requires.writing in
     let added = c.in_ok-add_unless.ensures in
-    component-next c.args.s.now Kind.NestRest c.args.self.now c.add_unless.new.self writing.state writing.is_before.0 tt writing.candidates
+    component-next (plain c.args.s.now) Kind.NestRestAlone c.args.self.now c.add_unless.new.self writing.state writing.is_before.0 tt writing.candidates
     writing.is_before.1
     (record { candidates = added.candidates; text = added.text; waiting = added.«open»; nest = added.nest; at = added.at })

@@ -1,4 +1,5 @@
 use Rattle.std.proofs.Common.{◌≡◌, ◌∷◌, ◌++◌, ap, sym, ◌∙◌, refl, reverse}
+use Rattle.cpp_direct.specs.Symbol.{plain}
 use Rattle.cpp_direct.specs.declared.open.Open.TheVariants as opens
 use Rattle.cpp_direct.specs.Stands.{opening_text}
 use Rattle.cpp_direct.proofs.Kept.{reverse-last}
@@ -9,7 +10,7 @@ use Rattle.cpp_direct.proofs.direct.Direct.returned.Goals.{then-is_pointer, else
 
 pub first_parameter-requires-clause-awaits : goal.first_parameter-requires-clause-awaits
 first_parameter-requires-clause-awaits c =
-    let s = c.args.s.now in
+    let s = plain c.args.s.now in
     let w = c.args.self.now in
     let p = c.requires.returned in
     let entry = opens.Signature c.args.is_pointer in

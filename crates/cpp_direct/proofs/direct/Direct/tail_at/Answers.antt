@@ -1,4 +1,5 @@
 use Rattle.cpp_grammar.specs.declared.kind.Kind.{Kind}
+use Rattle.cpp_direct.specs.Symbol.{plain}
 use Rattle.cpp_direct.proofs.Nesting.{component-next}
 use Rattle.cpp_direct.proofs.direct.Direct.tail_at.Goals as goal
 
@@ -6,6 +7,6 @@ pub component_at-requires-clause-writing : goal.component_at-requires-clause-wri
 component_at-requires-clause-writing c =
     let writing = c.requires.writing in
     let added = c.in_ok-add_unless.ensures in
-    component-next c.args.s.now Kind.NestTail c.args.self.now c.add_unless.new.self writing.state writing.is_before.0 tt writing.candidates
+    component-next (plain c.args.s.now) Kind.NestTail c.args.self.now c.add_unless.new.self writing.state writing.is_before.0 tt writing.candidates
     writing.is_before.1
     (record { candidates = added.candidates; text = added.text; waiting = added.«open»; nest = added.nest; at = added.at })

@@ -1,4 +1,5 @@
 use Rattle.std.proofs.Common.{◌+◌, ◌++◌, ◌∷◌, [], length, ◌∙◌, ap, subst}
+use Rattle.cpp_direct.specs.Symbol.{plain}
 use Rattle.cpp_direct.specs.Holes.{StandsAt}
 use Rattle.cpp_direct.specs.Stands.{IsKnown}
 use Rattle.cpp_direct.specs.Ways.{parameter_digits}
@@ -8,19 +9,19 @@ use Rattle.cpp_direct.proofs.direct.Direct.template_parameter.Goals as goal
 pub repeat-requires-clause-to : goal.repeat-requires-clause-to
 repeat-requires-clause-to c =
     let is = c.in_ok-argument.ensures.is in
-    argument-inside c.args.s.now c.args.self.now c.in_ok-named.named c.in_ok-read.read.number c.in_ok-argument.argument c.requires.awaits
+    argument-inside (plain c.args.s.now) c.args.self.now c.in_ok-named.named c.in_ok-read.read.number c.in_ok-argument.argument c.requires.awaits
     c.in_ok-named.ensures (is ∙ c.at.ensures (subst IsKnown is c.in_ok-argument.ensures.ordered)) c.in_ok-argument.ensures.ordered
 
 pub returns : goal.returns
 returns c =
-    let s = c.args.s.now in
+    let s = plain c.args.s.now in
     let k = c.in_ok-read.read.number in
     let is = c.in_ok-argument.ensures.is in
     let known = c.in_ok-argument.ensures.ordered in
     let wrote = c.in_ok-repeat.ensures in
     parameter-done s c.args.self.now c.repeat.new.self c.add_dependent.new.self c.in_ok-named.named k c.in_ok-argument.argument c.requires.awaits
     c.in_ok-read.ensures.few c.requires.letter
-    (subst (λ n. StandsAt s n (parameter_digits k ++ 95 ∷ [])) c.in_ok-checked_add.ensures.1 c.in_ok-read.ensures.stands)
+    (subst (λ n. StandsAt s.bytes n (parameter_digits k ++ 95 ∷ [])) c.in_ok-checked_add.ensures.1 c.in_ok-read.ensures.stands)
     c.in_ok-named.ensures (is ∙ c.at.ensures (subst IsKnown is known)) (known, c.if-argument.false, c.if-argument-2.false)
     wrote.text wrote.candidates wrote.waiting
     (wrote.at ∙ c.in_ok-read.ensures.end ∙ ap (λ n. n + length (parameter_digits k ++ 95 ∷ [])) c.in_ok-checked_add.ensures.1)

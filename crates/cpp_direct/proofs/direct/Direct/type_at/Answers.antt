@@ -1,4 +1,5 @@
 use Rattle.std.proofs.Common.{◌≢◌, ◌+◌, ◌∷◌, [], subst, arith}
+use Rattle.cpp_direct.specs.Symbol.{plain}
 use Rattle.cpp_direct.specs.Holes.{StandsAt}
 use Rattle.cpp_direct.proofs.Moves.{stands-join}
 use Rattle.cpp_direct.proofs.TypesRead.{awaits-type, names-awaited, there, pointer-opened, lvalue-opened, rvalue-opened, const-opened}
@@ -6,13 +7,13 @@ use Rattle.cpp_direct.proofs.direct.Direct.type_at.Goals as goal
 
 pub named_type-requires-clause-awaits : goal.named_type-requires-clause-awaits
 named_type-requires-clause-awaits c =
-    names-awaited c.args.s.now c.args.self.now (awaits-type c.args.s.now c.args.self.now c.args.is_plain c.requires.writing)
+    names-awaited (plain c.args.s.now) c.args.self.now (awaits-type (plain c.args.s.now) c.args.self.now c.args.is_plain c.requires.writing)
 
 pub builtin_with_d-requires-clause-awaits : goal.builtin_with_d-requires-clause-awaits
-builtin_with_d-requires-clause-awaits c = awaits-type c.args.s.now c.args.self.now c.args.is_plain c.requires.writing
+builtin_with_d-requires-clause-awaits c = awaits-type (plain c.args.s.now) c.args.self.now c.args.is_plain c.requires.writing
 
 pub builtin-requires-clause-awaits : goal.builtin-requires-clause-awaits
-builtin-requires-clause-awaits c = awaits-type c.args.s.now c.args.self.now c.args.is_plain c.requires.writing
+builtin-requires-clause-awaits c = awaits-type (plain c.args.s.now) c.args.self.now c.args.is_plain c.requires.writing
 
 pub begin_function-requires-clause-letters : goal.begin_function-requires-clause-letters
 begin_function-requires-clause-letters c =
@@ -25,34 +26,34 @@ begin_function-requires-clause-letters c =
 
 pub returns-else-not-is_plain : goal.returns-else-not-is_plain
 returns-else-not-is_plain c =
-    pointer-opened c.args.s.now c.args.self.now c.open_type.new.self c.open_type.result c.len-from.result
-    (awaits-type c.args.s.now c.args.self.now c.args.is_plain c.requires.writing) c.len-from.ensures
+    pointer-opened (plain c.args.s.now) c.args.self.now c.open_type.new.self c.open_type.result c.len-from.result
+    (awaits-type (plain c.args.s.now) c.args.self.now c.args.is_plain c.requires.writing) c.len-from.ensures
     (there c.args.s.now c.args.self.now.at c.byte_at.result 80 c.in-80.is (omega arith) c.byte_at.ensures)
     c.open_type.ensures.step c.open_type.ensures.open c.open_type.ensures.at c.open_type.ensures.text c.open_type.ensures.candidates
 
 pub returns-in-82 : goal.returns-in-82
 returns-in-82 c =
     let called = c.open_type-in-82.ensures in
-    lvalue-opened c.args.s.now c.args.self.now c.open_type-in-82.new.self c.open_type-in-82.result c.len-from.result
-    (awaits-type c.args.s.now c.args.self.now c.args.is_plain c.requires.writing) c.len-from.ensures
+    lvalue-opened (plain c.args.s.now) c.args.self.now c.open_type-in-82.new.self c.open_type-in-82.result c.len-from.result
+    (awaits-type (plain c.args.s.now) c.args.self.now c.args.is_plain c.requires.writing) c.len-from.ensures
     (there c.args.s.now c.args.self.now.at c.byte_at.result 82 c.in-82.is (omega arith) c.byte_at.ensures)
     called.step called.open called.at called.text called.candidates
 
 pub returns-in-79 : goal.returns-in-79
 returns-in-79 c =
     let called = c.open_type-in-79.ensures in
-    rvalue-opened c.args.s.now c.args.self.now c.open_type-in-79.new.self c.open_type-in-79.result c.len-from.result
-    (awaits-type c.args.s.now c.args.self.now c.args.is_plain c.requires.writing) c.len-from.ensures
+    rvalue-opened (plain c.args.s.now) c.args.self.now c.open_type-in-79.new.self c.open_type-in-79.result c.len-from.result
+    (awaits-type (plain c.args.s.now) c.args.self.now c.args.is_plain c.requires.writing) c.len-from.ensures
     (there c.args.s.now c.args.self.now.at c.byte_at.result 79 c.in-79.is (omega arith) c.byte_at.ensures)
     called.step called.open called.at called.text called.candidates
 
 pub returns-else-is_plain-2 : goal.returns-else-is_plain-2
 returns-else-is_plain-2 c =
     let called = c.open_type-in-75.ensures in
-    const-opened c.args.s.now c.args.self.now c.open_type-in-75.new.self c.open_type-in-75.result c.len-from.result c.args.is_plain
+    const-opened (plain c.args.s.now) c.args.self.now c.open_type-in-75.new.self c.open_type-in-75.result c.len-from.result c.args.is_plain
     c.requires.writing c.if-is_plain-2.false c.len-from.ensures
     (there c.args.s.now c.args.self.now.at c.byte_at.result 75 c.in-75.is (omega arith) c.byte_at.ensures)
     called.step called.open called.at called.text called.candidates
 
 pub template_parameter-requires-clause-awaits : goal.template_parameter-requires-clause-awaits
-template_parameter-requires-clause-awaits c = awaits-type c.args.s.now c.args.self.now c.args.is_plain c.requires.writing
+template_parameter-requires-clause-awaits c = awaits-type (plain c.args.s.now) c.args.self.now c.args.is_plain c.requires.writing

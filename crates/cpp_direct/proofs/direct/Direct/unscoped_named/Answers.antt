@@ -1,17 +1,18 @@
 use Rattle.std.proofs.Common.{arith}
+use Rattle.cpp_direct.specs.Symbol.{plain}
 use Rattle.cpp_direct.proofs.TypesRead.{there}
 use Rattle.cpp_direct.proofs.UnscopedNames.{unscoped-argued, unscoped-bare}
 use Rattle.cpp_direct.proofs.direct.Direct.unscoped_named.Goals as goal
 
 pub name_ended-requires-clause-ended : goal.name_ended-requires-clause-ended
-name_ended-requires-clause-ended c = unscoped-bare c.args.s.now c.args.self.now c.args.from c.args.takes c.requires.named
+name_ended-requires-clause-ended c = unscoped-bare (plain c.args.s.now) c.args.self.now c.args.from c.args.takes c.requires.named
 
 pub returns : goal.returns
 returns c =
-    let s = c.args.s.now in
+    let s = plain c.args.s.now in
     let old = c.args.self.now in
     let added = c.add_candidate.ensures in
     let opened = c.open_arguments.ensures in
     unscoped-argued s old c.add_candidate.new.self c.open_arguments.new.self c.args.from c.args.takes c.open_arguments.result c.requires.named
-    c.if-not-takes.false (there s old.at c.byte_at.result 73 c.if-byte_at-ne73.false (omega arith) c.byte_at.ensures)
+    c.if-not-takes.false (there s.bytes old.at c.byte_at.result 73 c.if-byte_at-ne73.false (omega arith) c.byte_at.ensures)
     c.in_ok-add_candidate.ensures.candidates added.text added.open added.at opened.step opened.open opened.at opened.text opened.candidates

@@ -1,0 +1,158 @@
+-- What holds of the tables of both grammars.
+use Rattle.std.proofs.Common.{◌≡◌, inl, inr, ℕ, ◌<◌, List, [], ◌∷◌, ◌++◌, slice_get, Bool, true, false, not, cond, ◌||◌, ◌&&◌, Option, Some, None, Ok, refl, sym, ap, ◌∙◌, arith}
+use Rattle.std.specs.Prelude.{Result, if◌then◌else◌}
+use Rattle.std.proofs.lemmas.Bool.{and_parts}
+use Rattle.sym_core.specs.declared.NameClass.TheVariants.{Cpp}
+use Rattle.sym_core.specs.declared.Refusal.{Refusal}
+use Rattle.sym_core.specs.Token.{Token}
+use Rattle.sym_shape.specs.declared.rule.Rule.{Rule}
+use Rattle.sym_shape.specs.declared.rule.Sym.{Sym}
+use Rattle.sym_shape.specs.declared.rule.Sym.TheVariants.{Kind as OfKind}
+use Rattle.sym_shape.specs.Table.{IsToken}
+use Rattle.sym_shape.specs.Tree.{Tree, TakesRule, IsTree, branch, empty, token, fixed, spell}
+use Rattle.sym_demangle.specs.Mangled.{StandsFor}
+use Rattle.cpp_grammar.specs.declared.kind.Kind.{Kind}
+use Rattle.cpp_grammar.specs.declared.production.Production.{Production}
+use Rattle.cpp_grammar.specs.Grammar.{Alternative, alternatives, choose, in_ranges, among, is_in, pick, number_of, is_chain, kinds, may_be_empty}
+use Rattle.cpp_grammar.specs.Wide.{wide_alternatives}
+use Rattle.cpp_grammar.specs.Either.{either_alternatives, either_choose}
+use Rattle.cpp_grammar.specs.KindNumbers.{SYMBOL, MAYBE_ARGUMENTS, ARGUMENTS_ALONE, NEST_REST, NEST_REST_ALONE, ARGUMENT_LIST, ARGUMENTS_FIRST}
+use Rattle.cpp_grammar.specs.Table.{abi, either, rule_of, rule_taken}
+use Rattle.cpp_grammar.specs.Term.{Term}
+use Rattle.cpp_grammar.specs.Unfolding.{unfold_cpp}
+use Rattle.cpp_grammar.specs.Widened.{widened}
+use Rattle.cpp_grammar.proofs.Alone.{arguments_maybe, rest_any, list_first}
+use Rattle.cpp_grammar.proofs.Choosing.{rule_at_kind, empty_at_kind, either_rule_at, either_empty_at}
+use Rattle.cpp_grammar.proofs.Growing.{same_choice, each_below, below, kept, or_parts}
+use Rattle.cpp_grammar.proofs.Widening.{widened_tree, spell_widened, either_start}
+use Rattle.cpp_grammar.proofs.WidenedMeaning.{meaning_widened}
+use Rattle.cpp_direct.specs.Symbol.{mangled_by, table_by}
+
+-- ## Choices
+
+-- what takes no byte is the same at each
+unfoldable takes_none : Option Production → Bool
+takes_none None = false
+takes_none (Some p) = is_chain p
+
+-- what the default's grammar chooses is chosen in the table of both, at the same byte, or where it takes none at the one that no symbol has
+unfoldable keeps : Kind → ℕ → Bool
+keeps kind b = same_choice (choose kind b) (either_choose kind b) || (takes_none (choose kind b) && same_choice (choose kind b) (either_choose kind 33))
+
+each-kept : (kind : Kind) → each_below 256 (keeps kind) ≡ true
+unfolding in_ranges among is_in pick alternatives choose either_choose number_of wide_alternatives either_alternatives same_choice each_below takes_none is_chain keeps
+each-kept Kind.Symbol = refl
+each-kept _ = refl
+
+-- a kind takes a production in the table of both
+either-takes : (kind : Kind) (k byte : ℕ) (p : Production) (taken : List ℕ) → slice_get kinds k ≡ Some kind → either_choose kind byte ≡ Some p → byte < 256
+    → taken ≡ (if not (is_chain p) then byte ∷ [] else []) → TakesRule either k (rule_of p) taken
+unfolding rule_of rule_taken
+either-takes kind k byte p taken at chosen small takes =
+    record { byte = byte; is_byte = small; found = either_rule_at k kind byte at ∙ ap rule_taken chosen; takes = takes }
+
+-- a kind takes a production at its byte
+pub takes-by : (wide : Bool) (kind : Kind) (k byte : ℕ) (p : Production) (taken : List ℕ) → slice_get kinds k ≡ Some kind → choose kind byte ≡ Some p → byte < 256
+    → taken ≡ (if not (is_chain p) then byte ∷ [] else []) → TakesRule (table_by wide) k (rule_of p) taken
+unfolding rule_of rule_taken takes_none keeps
+takes-by false kind k byte p taken at chosen small takes =
+    record { byte = byte; is_byte = small; found = rule_at_kind k kind byte at ∙ ap rule_taken chosen; takes = takes }
+takes-by true kind k byte p taken at chosen small takes =
+    elim (or_parts (same_choice (choose kind byte) (either_choose kind byte)) (takes_none (choose kind byte) && same_choice (choose kind byte) (either_choose kind 33))
+    (below 256 (keeps kind) byte (each-kept kind) small)) [
+      | inl same ↦ either-takes kind k byte p taken at (kept (choose kind byte) (either_choose kind byte) p same chosen) small takes
+      | inr apart ↦ (
+          let both = and_parts (takes_none (choose kind byte)) (same_choice (choose kind byte) (either_choose kind 33)) apart in
+          let chain : is_chain p ≡ true = sym (ap takes_none chosen) ∙ both.0 in
+          either-takes kind k 33 p taken at (kept (choose kind byte) (either_choose kind 33) p both.1 chosen) (omega arith)
+          (takes ∙ ap (λ b. if not b then byte ∷ [] else []) chain ∙ sym (ap (λ b. if not b then 33 ∷ [] else []) chain)))
+    ]
+
+-- one that the wide grammar alone has
+pub takes-wide : (wide : Bool) (kind : Kind) (k byte : ℕ) (p : Production) (taken : List ℕ) → wide ≡ true → slice_get kinds k ≡ Some kind
+    → either_choose kind byte ≡ Some p → byte < 256 → taken ≡ (if not (is_chain p) then byte ∷ [] else []) → TakesRule (table_by wide) k (rule_of p) taken
+takes-wide true kind k byte p taken is at chosen small takes = either-takes kind k byte p taken at chosen small takes
+takes-wide false kind k byte p taken is at chosen small takes = let clash : false ≡ true = is in absurd cc
+
+-- what may be empty there
+pub empty-by : (wide : Bool) (k : ℕ) (kind : Kind) → slice_get kinds k ≡ Some kind → (table_by wide).may_be_empty k ≡ may_be_empty kind
+empty-by true k kind at = either_empty_at k kind at
+empty-by false k kind at = empty_at_kind k kind at
+
+-- names and numbers are C++'s
+pub names-by : (wide : Bool) (x : Sym) (t : Token) → IsToken Cpp x t → IsToken (table_by wide).names x t
+unfolding abi either
+names-by true x t is = is
+names-by false x t is = is
+
+pub names-are : (wide : Bool) (x : Sym) (t : Token) → IsToken (table_by wide).names x t → IsToken Cpp x t
+unfolding abi either
+names-are true x t is = is
+names-are false x t is = is
+
+-- ## Kinds without tags, and without packs that begin with an I
+
+-- what is chosen among the first of some alternatives is chosen among all
+pick-more : (xs ys : List Alternative) (byte : ℕ) (p : Production) → pick xs byte ≡ Some p → pick (xs ++ ys) byte ≡ Some p
+unfolding pick
+pick-more [] ys byte p is = let clash : None ≡ Some p = is in absurd cc
+pick-more (a ∷ xs) ys byte p is = go (is_in a byte) (λ h. pick-more xs ys byte p h) is
+  where
+    go : (b : Bool) → (pick xs byte ≡ Some p → pick (xs ++ ys) byte ≡ Some p) → cond b (Some a.production) (pick xs byte) ≡ Some p
+        → cond b (Some a.production) (pick (xs ++ ys) byte) ≡ Some p
+    go true rest h = h
+    go false rest h = rest h
+
+rule-more : (xs ys : List Alternative) (byte : ℕ) (rule : Rule) → rule_taken (pick xs byte) ≡ Some rule → rule_taken (pick (xs ++ ys) byte) ≡ Some rule
+unfolding rule_taken
+rule-more xs ys byte rule is = go (pick xs byte) refl is
+  where
+    go : (o : Option Production) → pick xs byte ≡ o → rule_taken o ≡ Some rule → rule_taken (pick (xs ++ ys) byte) ≡ Some rule
+    go None e h = let clash : None ≡ Some rule = h in absurd cc
+    go (Some p) e h = ap rule_taken (pick-more xs ys byte p e) ∙ h
+
+-- a kind with more alternatives has the trees of one that has fewer
+grows : (j k : ℕ) (small big : Kind) (more : List Alternative) → slice_get kinds j ≡ Some small → slice_get kinds k ≡ Some big
+    → either_alternatives big ≡ either_alternatives small ++ more → may_be_empty small ≡ may_be_empty big → (t : Tree)
+    → IsTree either (OfKind j) t → IsTree either (OfKind k) t
+unfolding either_choose
+grows j k small big more at_small at_big are empties (branch rule taken parts) is =
+    let found = sym (either_rule_at j small is.0.byte at_small) ∙ is.0.found in (
+      record {
+        byte = is.0.byte;
+        is_byte = is.0.is_byte;
+        found = either_rule_at k big is.0.byte at_big ∙ ap (λ l. rule_taken (pick l is.0.byte)) are
+            ∙ rule-more (either_alternatives small) more is.0.byte rule found;
+        takes = is.0.takes;
+      },
+      is.1,
+    )
+grows j k small big more at_small at_big are empties empty is = either_empty_at k big at_big ∙ sym empties ∙ sym (either_empty_at j small at_small) ∙ is
+grows j k small big more at_small at_big are empties (token t) is = absurd is
+grows j k small big more at_small at_big are empties (fixed byte) is = absurd is
+
+-- what may stand behind a parameter or a substitution may stand behind any name
+pub arguments-by : (wide : Bool) (t : Tree) → IsTree (table_by wide) (OfKind ARGUMENTS_ALONE) t → IsTree (table_by wide) (OfKind MAYBE_ARGUMENTS) t
+unfolding kinds may_be_empty either_alternatives wide_alternatives
+arguments-by true t is = grows ARGUMENTS_ALONE MAYBE_ARGUMENTS Kind.ArgumentsAlone Kind.MaybeArguments _ refl refl refl refl t is
+arguments-by false t is = arguments_maybe t is
+
+pub rests-by : (wide : Bool) (t : Tree) → IsTree (table_by wide) (OfKind NEST_REST_ALONE) t → IsTree (table_by wide) (OfKind NEST_REST) t
+unfolding kinds may_be_empty either_alternatives wide_alternatives
+rests-by true t is = grows NEST_REST_ALONE NEST_REST Kind.NestRestAlone Kind.NestRest _ refl refl refl refl t is
+rests-by false t is = rest_any t is
+
+-- arguments are a list of them from the first one on
+pub lists-by : (wide : Bool) (t : Tree) → IsTree (table_by wide) (OfKind ARGUMENT_LIST) t → IsTree (table_by wide) (OfKind ARGUMENTS_FIRST) t
+unfolding kinds may_be_empty either_alternatives wide_alternatives
+lists-by true t is = grows ARGUMENT_LIST ARGUMENTS_FIRST Kind.ArgumentList Kind.ArgumentsFirst _ refl refl refl refl t is
+lists-by false t is = list_first t is
+
+-- ## Symbols
+
+-- what a whole tree says, the symbol stands for
+pub stands-by : (wide : Bool) (s : List ℕ) (shape : Tree) (result : Result Term Refusal) → IsTree (table_by wide) (OfKind SYMBOL) shape → spell shape ≡ s
+    → result ≡ unfold_cpp shape → StandsFor (mangled_by wide) s result
+stands-by true s shape result shaped spelled is =
+    (widened shape, widened_tree (OfKind SYMBOL) shape either_start shaped, spell_widened shape ∙ spelled, is ∙ sym (meaning_widened shape shaped))
+stands-by false s shape result shaped spelled is = (shape, shaped, spelled, is)
