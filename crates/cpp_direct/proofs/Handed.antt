@@ -5,6 +5,7 @@ use Rattle.cpp_grammar.specs.Term.{Term, special}
 use Rattle.cpp_grammar.specs.Parts.{types_of}
 use Rattle.cpp_grammar.specs.Values.{State, tree}
 use Rattle.cpp_direct.specs.Symbol.{Symbol}
+use Rattle.cpp_direct.specs.declared.open.Access.{Access}
 use Rattle.cpp_direct.specs.declared.open.Mark.{Mark}
 use Rattle.cpp_direct.specs.declared.open.Open.{Open}
 use Rattle.cpp_direct.specs.declared.open.Open.TheVariants as opens
@@ -191,26 +192,27 @@ pub takes-elements : (o : Open) → ((x : ℕ) → o ≡ opens.Pointer x → ⊥
     → ((x : Bool) → o ≡ opens.Returned x → ⊥) → ((x : Bool) → o ≡ opens.Signature x → ⊥)
     → (o ≡ opens.Special → ⊥) → (o ≡ opens.Enumerator → ⊥) → ((x : Mark) (y : ℕ) (z : Arguments) → o ≡ opens.Enclosing x y z → ⊥)
     → ((x y : ℕ) (z : Arguments) → o ≡ opens.Argument x y z → ⊥) → ((x : ℕ) → o ≡ opens.Lambda x → ⊥) → ((x : ℕ) → o ≡ opens.Element x → ⊥)
-    → TakesElements o
-takes-elements (opens.Pointer x) p l r c f k u g z n m a q e = absurd (p x refl)
-takes-elements (opens.Lvalue x) p l r c f k u g z n m a q e = absurd (l x refl)
-takes-elements (opens.Rvalue x) p l r c f k u g z n m a q e = absurd (r x refl)
-takes-elements (opens.Const x) p l r c f k u g z n m a q e = absurd (c x refl)
-takes-elements (opens.Parameters x y w) p l r c f k u g z n m a q e = absurd (f x y w refl)
-takes-elements (opens.Front x y w) p l r c f k u g z n m a q e = absurd (k x y w refl)
-takes-elements (opens.Argument x y v) p l r c f k u g z n m a q e = absurd (a x y v refl)
-takes-elements (opens.Returned x) p l r c f k u g z n m a q e = absurd (u x refl)
-takes-elements (opens.Signature x) p l r c f k u g z n m a q e = absurd (g x refl)
-takes-elements (opens.Enclosing x y w) p l r c f k u g z n m a q e = absurd (m x y w refl)
-takes-elements (opens.Lambda x) p l r c f k u g z n m a q e = absurd (q x refl)
-takes-elements (opens.Element x) p l r c f k u g z n m a q e = absurd (e x refl)
-takes-elements opens.Special p l r c f k u g z n m a q e = absurd (z refl)
-takes-elements opens.Enumerator p l r c f k u g z n m a q e = absurd (n refl)
-takes-elements opens.Pack p l r c f k u g z n m a q e = tt
-takes-elements (opens.TypeArguments x) p l r c f k u g z n m a q e = tt
-takes-elements (opens.NestArguments x) p l r c f k u g z n m a q e = tt
-takes-elements (opens.FirstArguments x) p l r c f k u g z n m a q e = tt
-takes-elements (opens.NameArguments x) p l r c f k u g z n m a q e = tt
+    → ((x : Access) (y z : ℕ) → o ≡ opens.Array x y z → ⊥) → TakesElements o
+takes-elements (opens.Pointer x) p l r c f k u g z n m a q e j = absurd (p x refl)
+takes-elements (opens.Lvalue x) p l r c f k u g z n m a q e j = absurd (l x refl)
+takes-elements (opens.Rvalue x) p l r c f k u g z n m a q e j = absurd (r x refl)
+takes-elements (opens.Const x) p l r c f k u g z n m a q e j = absurd (c x refl)
+takes-elements (opens.Parameters x y w) p l r c f k u g z n m a q e j = absurd (f x y w refl)
+takes-elements (opens.Front x y w) p l r c f k u g z n m a q e j = absurd (k x y w refl)
+takes-elements (opens.Argument x y v) p l r c f k u g z n m a q e j = absurd (a x y v refl)
+takes-elements (opens.Returned x) p l r c f k u g z n m a q e j = absurd (u x refl)
+takes-elements (opens.Signature x) p l r c f k u g z n m a q e j = absurd (g x refl)
+takes-elements (opens.Enclosing x y w) p l r c f k u g z n m a q e j = absurd (m x y w refl)
+takes-elements (opens.Lambda x) p l r c f k u g z n m a q e j = absurd (q x refl)
+takes-elements (opens.Array x y w) p l r c f k u g z n m a q e j = absurd (j x y w refl)
+takes-elements (opens.Element x) p l r c f k u g z n m a q e j = absurd (e x refl)
+takes-elements opens.Special p l r c f k u g z n m a q e j = absurd (z refl)
+takes-elements opens.Enumerator p l r c f k u g z n m a q e j = absurd (n refl)
+takes-elements opens.Pack p l r c f k u g z n m a q e j = tt
+takes-elements (opens.TypeArguments x) p l r c f k u g z n m a q e j = tt
+takes-elements (opens.NestArguments x) p l r c f k u g z n m a q e j = tt
+takes-elements (opens.FirstArguments x) p l r c f k u g z n m a q e j = tt
+takes-elements (opens.NameArguments x) p l r c f k u g z n m a q e j = tt
 
 -- an element was read
 pub argument-read : (s : Symbol) (w : Direct) (o : Open) → IsElementRead s w o → TakesElements o → IsWriting s w (steps.List false)

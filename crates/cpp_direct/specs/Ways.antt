@@ -1,17 +1,19 @@
 -- Where a writer is between two of its functions, within a step.
-use Rattle.std.specs.Prelude.{◌≡◌, ◌≢◌, ◌⊎◌, ℕ, zero, suc, ◌+◌, List, [], ◌∷◌, ◌++◌, length, reverse, slice_get, ◌≤◌, Bool, true, false, cond, Some, codes}
+use Rattle.std.specs.Prelude.{◌≡◌, ◌≢◌, ◌⊎◌, ℕ, zero, suc, ◌+◌, List, [], ◌∷◌, ◌++◌, ◌-◌, length, take, drop, reverse, slice_get, ◌≤◌, Bool, true, false, cond, Some, codes}
 use Rattle.cpp_grammar.specs.declared.kind.Kind.{Kind}
-use Rattle.cpp_grammar.specs.Term.{Term, Signed, instance, builtin, list, nil}
+use Rattle.cpp_grammar.specs.Term.{Term, Signed, array, instance, builtin, list, nil}
 use Rattle.cpp_grammar.specs.Texts.{look_up, builtin_texts, literal_endings}
 use Rattle.cpp_grammar.specs.Parts.{is_plain_integer, types_of}
 use Rattle.cpp_grammar.specs.Scope.{has_return_type, is_structor}
 use Rattle.cpp_grammar.specs.Between.{after, in_name}
 use Rattle.cpp_grammar.specs.Meaning.{encoding_of}
+use Rattle.cpp_grammar.specs.Values as values
 use Rattle.cpp_grammar.specs.Values.{State, Around, Value, nothing_there, tree, outermost, tree_of, qualifiers_of, ref_of}
 use Rattle.cpp_direct.specs.Symbol.{Symbol}
 use Rattle.cpp_direct.specs.declared.open.Mark.{Mark}
 use Rattle.cpp_direct.specs.declared.open.Mark.TheVariants as marks
 use Rattle.cpp_direct.specs.declared.open.Candidate.{Candidate}
+use Rattle.cpp_direct.specs.declared.open.Access.{Access}
 use Rattle.cpp_direct.specs.declared.open.Purpose.{Purpose}
 use Rattle.cpp_direct.specs.declared.open.Open.{Open}
 use Rattle.cpp_direct.specs.declared.open.Argument.{Argument}
@@ -23,6 +25,7 @@ use Rattle.sym_core.specs.Value.{counted_value}
 use Rattle.sym_core.specs.declared.NumberKind.TheVariants.{Seq36}
 use Rattle.cpp_direct.specs.Holes.{Opened, StandsAt, IsSeqAt, Comes, Expects, IsReferable, IsTyped, TypeNamed, NestNamed, with_candidate}
 use Rattle.cpp_direct.specs.HolesOfFunctions.{SignatureGoesOn, plain_function, pointed, with_pointed}
+use Rattle.cpp_direct.specs.HolesOfArrays.{accessed, with_accessed}
 use Rattle.cpp_direct.specs.HolesOfTypes.{IsNamedKind, NoReference, TreeOpens}
 use Rattle.cpp_direct.specs.Marks.{has_const, called_on, mark_text}
 use Rattle.cpp_direct.specs.Prints.{Prints, PrintsName, IsElement, PrintAll, Shows, Encloses, sign_text, PrintsIn, NamesArgument}
@@ -604,6 +607,43 @@ pub record IsElementRead (s : Symbol) (w : Direct) (o : Open) : Type 0 where
   pub element : (extra : ℕ) → IsElement extra own bytes
   pub comes : Comes s os (tree own true) w.at state
   pub stands : Stands s (o ∷ rest) os front
+
+-- The same of a type that prints on both sides of a name, where what is open takes it.
+pub record IsElementPassed (s : Symbol) (w : Direct) : Type 0 where
+  pub state : State
+  pub candidates : AreCandidates w.text.list.items w.candidates.list.items state.candidates
+  pub os : List Opened
+  pub own : Term
+  pub front : List ℕ
+  pub bytes : List ℕ
+  pub written : w.text.list.items ≡ front ++ bytes
+  pub element : (extra : ℕ) → IsElement extra own bytes
+  pub comes : Comes s os (tree own true) w.at state
+  pub takes : TakesFunction (reverse w.waiting.list.items)
+  pub stands : Stands s (reverse w.waiting.list.items) os front
+
+-- The type of an array's elements was read. The digits of the size stand between two places of the symbol.
+pub record IsArrayRead (s : Symbol) (w : Direct) (access : Access) (from to : ℕ) : Type 0 where
+  pub state : State
+  pub candidates : AreCandidates w.text.list.items w.candidates.list.items state.candidates
+  pub rest : List Open
+  pub open_is : reverse w.waiting.list.items ≡ opens.Array access from to ∷ rest
+  pub outer : List Opened
+  pub encoding : ℕ
+  pub digits : List ℕ
+  pub ordered : from ≤ to
+  pub inside : to ≤ length s.bytes
+  pub size : take (to - from) (drop from s.bytes) ≡ digits
+  pub own : Term
+  pub front : List ℕ
+  pub bytes : List ℕ
+  pub is_reference : Bool
+  pub prints : Prints own bytes is_reference
+  pub written : w.text.list.items ≡ front ++ bytes
+  pub comes : Comes s outer (tree (accessed access (array (values.normal digits) own)) true) w.at
+      (with_accessed access encoding (array (values.normal digits) own) state)
+  pub takes : TakesFunction rest
+  pub stands : Stands s rest outer front
 
 -- Of a function type the return type was read, or a parameter.
 pub record AwaitsSignature (s : Symbol) (w : Direct) (is_pointer is_first : Bool) : Type 0 where

@@ -24,7 +24,7 @@ use crate::tokens::byte_at;
 use sym_core::{NumberKind, find_number};
 
 /// Digits without leading zeros, 0 for zero.
-fn normal(digits: &[u8]) -> &[u8]
+pub fn normal(digits: &[u8]) -> &[u8]
     ensures { result.now ≡ values.normal digits.now }
 {
     let mut at = 0;

@@ -72,6 +72,14 @@ pub struct Nest {
     pub is_instance: bool,
 }
 
+/// How an array is read: by itself, or behind a pointer or an lvalue reference.
+#[derive(Clone, Copy)]
+pub enum Access {
+    Plain,
+    Pointer,
+    Lvalue,
+}
+
 /// What waits for the type that is being read.
 #[derive(Clone, Copy)]
 pub enum Open {
@@ -134,6 +142,13 @@ pub enum Open {
     /// its parameters
     Signature {
         is_pointer: bool,
+    },
+    /// the type of an array's elements, where the array is an element or a parameter; the digits of its size stand between these
+    /// places of the symbol
+    Array {
+        access: Access,
+        from: usize,
+        to: usize,
     },
     /// an argument of a name, so many behind the first one, whose text begins at this place: an element of what was opened before
     Argument {

@@ -114,12 +114,12 @@ fn parameter_number(s: &[u8], at: usize) -> Option<ParameterNumber>
     Some(ParameterNumber { number, end })
 }
 
-/// Whether a function type stands at a place, or a pointer to one.
-fn is_function_at(s: &[u8], at: usize) -> bool {
+/// Whether a function type or an array stands at a place, or what points or refers to one: these are elements alone.
+fn is_element_at(s: &[u8], at: usize) -> bool {
     match byte_at(s, at) {
-        b'F' => true,
-        b'P' => match s.get(at..) {
-            Some([_, behind, ..]) => *behind == b'F',
+        b'F' | b'A' => true,
+        b'P' | b'R' => match s.get(at..) {
+            Some([_, behind, ..]) => *behind == b'F' || *behind == b'A',
             _ => false,
         },
         _ => false,
@@ -172,7 +172,7 @@ impl Direct {
         if !self.is_named() {
             return Some(Step::Type);
         }
-        if is_function_at(s, self.at) {
+        if is_element_at(s, self.at) {
             return Some(Step::Type);
         }
         let from = self.text.len();
@@ -198,7 +198,7 @@ impl Direct {
             return self.begin_pack(s);
         }
         let behind = self.at.checked_add(1)?;
-        if byte_at(s, behind) == b'L' || is_function_at(s, behind) {
+        if byte_at(s, behind) == b'L' || is_element_at(s, behind) {
             return self.begin_pack(s);
         }
         self.at = behind;
@@ -298,7 +298,7 @@ impl Direct {
         let _open = self.waiting.pop();
         let byte = byte_at(s, self.at);
         // a literal or a pack isn't known, nor is what stands behind it
-        if byte == b'L' || byte == b'J' || is_function_at(s, self.at) {
+        if byte == b'L' || byte == b'J' || is_element_at(s, self.at) {
             return Some(Step::List { is_first: false });
         }
         let to = self.text.len();

@@ -1,6 +1,6 @@
 // Types.
 
-ghost use Rattle.std.specs.Prelude.{◌≢◌, ◌∷◌, [], if◌then◌else◌};
+ghost use Rattle.std.specs.Prelude.{◌≡◌, ◌≢◌, ◌+◌, ◌∷◌, [], true, if◌then◌else◌};
 ghost use Rattle.std.specs.Option.{IfSome};
 ghost use Rattle.cpp_direct.specs.Names.{IsReadable};
 ghost use Rattle.cpp_direct.specs.declared.open.Step.TheVariants as steps;
@@ -11,8 +11,19 @@ ghost use Rattle.cpp_direct.specs.Symbol.{plain};
 
 use crate::direct::Direct;
 use crate::letters::is_builtin_with_d;
-use crate::open::{Open, Purpose, Step};
+use crate::open::{Access, Open, Purpose, Step};
 use crate::tokens::byte_at;
+
+/// Whether an array begins behind the byte at a place.
+#[inline(always)]
+fn is_array_behind(s: &[u8], at: usize) -> bool
+    ensures { result ≡ true → StandsAt s.now (at + 1) (65 ∷ []) }
+{
+    match at.checked_add(1) {
+        Some(behind) => byte_at(s, behind) == b'A',
+        None => false,
+    }
+}
 
 impl Direct {
     /// Reads a type, up to the first that stands in it.
@@ -28,6 +39,9 @@ impl Direct {
                 if !is_plain && byte_at(s, self.at.checked_add(1)?) == b'F' {
                     return self.begin_function(s, true);
                 }
+                if !is_plain && is_array_behind(s, self.at) {
+                    return self.begin_array(s, Access::Pointer);
+                }
                 self.open_type(Open::Pointer { from }, Step::Type)
             }
             b'F' => {
@@ -36,7 +50,18 @@ impl Direct {
                 }
                 self.begin_function(s, false)
             }
-            b'R' => self.open_type(Open::Lvalue { from }, Step::Type),
+            b'R' => {
+                if !is_plain && is_array_behind(s, self.at) {
+                    return self.begin_array(s, Access::Lvalue);
+                }
+                self.open_type(Open::Lvalue { from }, Step::Type)
+            }
+            b'A' => {
+                if is_plain {
+                    return None;
+                }
+                self.begin_array(s, Access::Plain)
+            }
             b'O' => self.open_type(Open::Rvalue { from }, Step::Type),
             b'K' => {
                 if is_plain {
@@ -201,6 +226,7 @@ impl Direct {
             } => self.front_ended(s, mark, start, argument),
             Open::Returned { is_pointer } => self.returned(s, is_pointer),
             Open::Signature { is_pointer } => self.parameter_at(s, is_pointer, false),
+            Open::Array { access, from, to } => self.array_ended(s, access, from, to),
             Open::Enclosing {
                 mark,
                 from,

@@ -12,5 +12,5 @@ returns c =
     argument-begins (plain c.args.s.now) c.args.self.now _ c.len-from.result c.requires.writing (c.is_named.ensures c.if-not-is_named.false)
     c.len-from.ensures c.in_ok-push.ensures.items refl refl refl
 
-pub returns-then-is_function_at : goal.returns-then-is_function_at
-returns-then-is_function_at c = type-expected (plain c.args.s.now) _ (first-expected (plain c.args.s.now) c.args.self.now _ true c.requires.writing refl refl)
+pub returns-then-is_element_at : goal.returns-then-is_element_at
+returns-then-is_element_at c = type-expected (plain c.args.s.now) _ (first-expected (plain c.args.s.now) c.args.self.now _ true c.requires.writing refl refl)
