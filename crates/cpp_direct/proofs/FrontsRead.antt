@@ -23,25 +23,20 @@ use Rattle.cpp_direct.specs.Prints.{PrintsName, PrintsIn, Shows, Encloses}
 use Rattle.cpp_direct.specs.Stands.{AreCandidates, EncodedBehind, HasArguments, IsScoped, IsWriting, IsInstance, named_in, ParametersGoOn, Stands, qualifiers, plain_encoding, encoding_place}
 use Rattle.cpp_direct.specs.Ways.{IsNameEnded, IsFrontRead, AwaitsParameters}
 use Rattle.cpp_direct.specs.Written.{Writes}
-use Rattle.cpp_direct.proofs.Ending.{none-go_on, parameter-goes_on}
+use Rattle.cpp_direct.proofs.Ending.{name-scoped, no-text, none-go_on, parameter-goes_on}
 use Rattle.cpp_direct.proofs.Kept.{candidates-written, reverse-last}
 use Rattle.cpp_direct.proofs.MovesOfLists.{element-awaits}
 use Rattle.cpp_direct.proofs.PrintedLists.{none-print-in}
 use Rattle.cpp_direct.proofs.Scopes.{arguments-named, arguments-stay, front-scoped}
 use Rattle.cpp_direct.proofs.PrintedSymbols.{encoding-returned, front-shows}
 
-no-text : (l : List ℕ) (from : ℕ) → from ≡ length l → from ≡ 0 → l ≡ []
-no-text [] from is none = refl
-no-text (b ∷ bs) from is none = absurd (omega (arith, is, none))
-
 -- the return type of a function is expected behind its name
-pub front-begins : (s : Symbol) (w new : Direct) (mark : Mark) (from start place : ℕ) → IsNameEnded s w mark true from → (is_local s.bytes ≡ false → from ≡ 0)
-    → (place ≢ 0 → from ≡ 0) → (place ≢ 0 → place ≡ encoding_place s.bytes)
+pub front-begins : (s : Symbol) (w new : Direct) (mark : Mark) (argument_ : Arguments) (from start place : ℕ) → IsNameEnded s w mark true argument_ from
+    → (is_local s.bytes ≡ false → from ≡ 0) → (place ≢ 0 → from ≡ 0) → (place ≢ 0 → place ≡ encoding_place s.bytes)
     → start ≡ length w.text.list.items → new.text ≡ w.text → new.candidates ≡ w.candidates → new.at ≡ w.at
-    → new.waiting.list.items ≡ w.waiting.list.items ++ opens.Front mark start (named_in place w.argument) ∷ [] → IsWriting s new steps.Type
-front-begins s w new mark from start place p apart first place_is start_is text candidates at waiting =
-    let argument = named_in place w.argument in
-    let names = arguments-named w.text.list.items place w.argument p.own (p.names refl) in
+    → new.waiting.list.items ≡ w.waiting.list.items ++ opens.Front mark start (named_in place argument_) ∷ [] → IsWriting s new steps.Type
+front-begins s w new mark argument_ from start place p apart first place_is start_is text candidates at waiting =
+    let argument = named_in place argument_ in
     let instance_ : IsInstance w.text.list.items argument mark p.v p.name = record {
       own = p.own;
       tree_is = p.tree_is;
@@ -49,21 +44,10 @@ front-begins s w new mark from start place p apart first place_is start_is text 
       mark_is = p.mark_is;
       prints = p.prints;
       returns = p.returns refl;
-      names = names;
+      names = arguments-named w.text.list.items place argument_ p.own p.names;
     } in
     let goes : ParametersGoOn s argument p.lead (λ l. encoding_of p.v l) [] w.at p.state =
-    none-go_on s argument p.lead p.v w.at p.state p.awaits (λ k o. let n = names k o in (
-      record {
-        own = n.own;
-        all = n.all;
-        scope_is = p.awaits.scope_is ∙ ap arguments_of p.tree_is ∙ n.all_are;
-        there = n.there;
-        below = n.below;
-        alone = n.alone;
-        no_pack = n.prints.no_pack;
-      },
-      λ real. (p.awaits.encoding_is (no-text p.lead from p.from_is (first real)) ∙ sym (place_is real), p.awaits.no_lambda),
-    )) in
+    none-go_on s argument p.lead p.v w.at p.state p.awaits (name-scoped s w mark true argument_ from place p first place_is) in
     let element = element-awaits s Kind.Items goes.inner goes.around w.at p.state tt goes.awaits in
     let stands : Stands s (opens.Front mark start argument ∷ reverse w.waiting.list.items) element.inner w.text.list.items = (
       p.v,

@@ -1,4 +1,6 @@
 -- Nested names are read and written from left to right.
+use Rattle.cpp_direct.specs.declared.open.Arguments.{Arguments}
+use Rattle.cpp_direct.proofs.Scopes.{none-known}
 use Rattle.std.proofs.Common.{◌≡◌, ◌≢◌, ℕ, ◌+◌, ◌-◌, ◌≤◌, List, [], ◌∷◌, ◌++◌, length, take, drop, reverse, slice_get, Bool, true, false, Option, Some, None, refl, ap, sym, ◌∙◌, subst, arith, codes, append-nil, append_assoc, nat_eq, ◌&&◌, length-append}
 use Rattle.std.specs.Option.{IfSome, OnSome}
 use Rattle.std.proofs.lemmas.Bool.{false≢true, eqb-true}
@@ -27,7 +29,7 @@ use Rattle.cpp_direct.specs.declared.direct.Direct.{Direct}
 use Rattle.cpp_direct.specs.Holes.{Opened, Comes, StandsAt, IsNameAt, IsSeqAt, SamePasses, NestGoesOn, AwaitsComponent, with_candidate, unless_listed}
 use Rattle.cpp_direct.specs.HolesOfNests.{IsRest}
 use Rattle.cpp_direct.specs.Prints.{Prints, NamesClass}
-use Rattle.cpp_direct.specs.Stands.{HasArguments, AreCandidates, IsNest, IsNesting, IsTemplate, ArgumentsGoOn, Serves, Stands, IsWriting, qualifiers}
+use Rattle.cpp_direct.specs.Stands.{HasArguments, AreCandidates, IsNest, IsNesting, IsTemplate, ArgumentsGoOn, Serves, Stands, IsWriting, qualifiers, IsKnown, nowhere, place_of}
 use Rattle.cpp_direct.specs.Ways.{AwaitsNest, IsNestNamed, IsNameEnded, IsOperatorRead}
 use Rattle.cpp_direct.specs.Written.{Reads, added, added_unless}
 use Rattle.cpp_direct.proofs.Kept.{plainly-prints, arguments-begun, candidates-stay, candidates-with, candidates-unless, candidate-found, piece-found, nest-stays, reverse-last}
@@ -102,7 +104,7 @@ named-goes-on s w n = record {
       serves = n.serves;
     },
     (λ e. n.no_return),
-    (λ e. absurd (false≢true (sym n.no_instance ∙ e))),
+    (λ e. absurd (false≢true (sym (ap (λ b. b && w.nest.has_class) n.no_instance) ∙ e))),
     (λ e. absurd (false≢true (sym n.no_instance ∙ e))),
   );
 }
@@ -234,15 +236,24 @@ type-ended s old new st t candidates n here is_type keeps =
       );
     }
 
+-- the arguments that it ends in were noted, or none are known
+pub arguments-noted : (b : Bool) (text : List ℕ) (a r : Arguments) (t : Term) → (b ≡ true → r ≡ a) → (b ≡ false → r ≡ nowhere)
+    → (b ≡ true → HasArguments text a t) → HasArguments text r t
+arguments-noted true text a r t known none has = subst (λ (k : Arguments). HasArguments text k t) (sym (known refl)) (has refl)
+arguments-noted false text a r t known none has = λ k o. absurd (none-known k (subst (λ (q : Arguments). IsKnown (place_of q k)) (none refl) o))
+
+pub left-true : (a b : Bool) → (a && b) ≡ true → a ≡ true
+left-true true b e = refl
+left-true false b e = e
+
 -- it is the name of the encoding
-pub name-comes : (s : Symbol) (old : Direct) (st : State) (t : Term) (mark : Mark)
+pub name-comes : (s : Symbol) (old : Direct) (st : State) (t : Term) (mark : Mark) (is_function : Bool) (argument_ : Arguments)
     → AreCandidates old.text.list.items old.candidates.list.items st.candidates → IsNesting s Kind.NestTail old t st
-    → (old.nest.is_instance ≡ false → has_return_type t ≡ false) → (old.nest.is_instance ≡ true → has_return_type t ≡ true)
-    → (old.nest.is_instance ≡ true → HasArguments old.text.list.items old.argument t)
+    → (is_function ≡ false → has_return_type t ≡ false) → (is_function ≡ true → has_return_type t ≡ true) → HasArguments old.text.list.items argument_ t
     → StandsAt s.bytes old.at (69 ∷ [])
-    → old.nest.purpose ≡ purposes.Name mark → IsNameEnded s (record old { at = old.at + 1 }) mark old.nest.is_instance old.nest.from
+    → old.nest.purpose ≡ purposes.Name mark → IsNameEnded s (record old { at = old.at + 1 }) mark is_function argument_ old.nest.from
 unfolding tree_of qualifiers_of ref_of
-name-comes s old st t mark candidates n no_return returns names here is_name =
+name-comes s old st t mark is_function argument_ candidates n no_return returns names here is_name =
     let serves = subst (λ p. Serves s p (Stands s (reverse old.waiting.list.items)) n.outer n.front) is_name n.serves in
     record {
       state = st;
@@ -265,7 +276,7 @@ name-comes s old st t mark candidates n no_return returns names here is_name =
 
 -- the E of one that an operator ends
 pub operator-ends : (s : Symbol) (w : Direct) (mark : Mark) → IsOperatorRead s w → StandsAt s.bytes w.at (69 ∷ [])
-    → w.nest.purpose ≡ purposes.Name mark → IsNameEnded s (record w { at = w.at + 1 }) mark false w.nest.from
+    → w.nest.purpose ≡ purposes.Name mark → IsNameEnded s (record w { at = w.at + 1 }) mark false nowhere w.nest.from
 unfolding may_be_empty tree_of qualifiers_of ref_of
 operator-ends s w mark p here is_name =
     let t = p.own in
@@ -287,7 +298,7 @@ operator-ends s w mark p here is_name =
       prints = p.prints;
       no_return = λ e. p.no_return;
       returns = λ e. absurd (false≢true e);
-      names = λ e. absurd (false≢true e);
+      names = λ k o. absurd (none-known k o);
       awaits = serves t false (w.at + 1) st
           (goes.passes (tree t false) (w.at + 1) st (nest-end s goes.inner p.around t false w.at st goes.awaits here));
     }

@@ -1,5 +1,5 @@
 -- What a writer's lists say while a symbol is read: what is open waits for what comes next, and what was written is its text.
-use Rattle.std.specs.Prelude.{◌≡◌, ◌≢◌, ◌⊎◌, ℕ, zero, suc, ◌+◌, ◌*◌, ◌≤◌, ◌<◌, List, [], ◌∷◌, ◌++◌, ◌-◌, length, take, drop, reverse, slice_get, Bool, true, false, cond, Option, Some, None, Ok, codes}
+use Rattle.std.specs.Prelude.{◌≡◌, ◌≢◌, ◌⊎◌, ℕ, zero, suc, ◌+◌, ◌*◌, ◌≤◌, ◌<◌, List, [], ◌∷◌, ◌++◌, ◌-◌, length, take, drop, reverse, slice_get, Bool, true, false, cond, Option, Some, None, Ok, codes, ◌&&◌}
 use Rattle.sym_print.specs.declared.detail.Detail.TheVariants.{Full}
 use Rattle.sym_print.specs.Unshared.{text_of, cost_of}
 use Rattle.sym_demangle.specs.Mangled.{StandsFor}
@@ -581,8 +581,8 @@ IsBefore s w st (steps.List is_first) =
     × GoesOn s place.listing place.owner (Stands s place.rest) place.front place.template ts w.at st
 IsBefore s w st steps.Rest = (t : Term) × IsNesting s Kind.NestRestAlone w t st
 IsBefore s w st steps.Tail =
-    (t : Term) × IsNesting s Kind.NestTail w t st × (w.nest.is_instance ≡ false → has_return_type t ≡ false)
-    × (w.nest.is_instance ≡ true → has_return_type t ≡ true)
+    (t : Term) × IsNesting s Kind.NestTail w t st × (w.nest.is_instance && w.nest.has_class ≡ false → has_return_type t ≡ false)
+    × (w.nest.is_instance && w.nest.has_class ≡ true → has_return_type t ≡ true)
     × (w.nest.is_instance ≡ true → HasArguments w.text.list.items w.argument t)
 IsBefore s w st steps.Component =
     (t : Term) × (front : List ℕ) × (bytes : List ℕ) × (around : Around) × (outer : List Opened)

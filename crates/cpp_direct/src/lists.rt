@@ -175,7 +175,7 @@ impl Direct {
             Open::NestArguments { nest } => {
                 self.nest = Nest {
                     is_listed: false,
-                    is_instance: nest.has_class,
+                    is_instance: true,
                     ..nest
                 };
                 Some(Step::Tail)
@@ -185,7 +185,9 @@ impl Direct {
                 self.nest = nest;
                 Some(Step::Component)
             }
-            Open::NameArguments { from } => self.name_ended(s, Mark::Plain, true, from),
+            Open::NameArguments { from } => {
+                self.name_ended(s, Mark::Plain, true, argument, from)
+            }
             _ => None,
         }
     }

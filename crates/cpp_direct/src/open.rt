@@ -68,7 +68,7 @@ pub struct Nest {
     pub is_listed: bool,
     /// Its last piece is the name of a class.
     pub has_class: bool,
-    /// It ends in arguments, and what stands before them is no constructor or destructor.
+    /// It ends in arguments. Before those of a constructor or a destructor stands no name of a class.
     pub is_instance: bool,
 }
 

@@ -296,27 +296,38 @@ impl Direct {
         s: &[u8],
         mark: Mark,
         is_instance: bool,
+        argument: Arguments,
         from: usize,
     ) -> Option<Step>
         requires fits { IsReadable s.now }
-        requires ended { IsNameEnded (plain s.now) self.old mark is_instance from }
+        requires ended { IsNameEnded (plain s.now) self.old mark is_instance argument from }
         ensures { IfSome result (IsWriting (plain s.now) self.new) }
     {
         if may_end(byte_at(s, self.at)) {
             return self.end(s, mark);
         }
         if is_instance {
-            return self.begin_front(s, mark, from);
+            return self.begin_front(s, mark, argument, from);
         }
-        self.begin_parameters(s, mark, 0, NOWHERE)
+        let argument = Arguments {
+            encoding: encoding_place(s, from),
+            ..argument
+        };
+        self.begin_parameters(s, mark, 0, argument)
     }
 
     /// The return type of a function is expected. It is written behind the name, and behind it the name once more.
     // <bare-function-type> ::= <return type> <parameter type>+
     #[inline(never)]
-    fn begin_front(&mut self, s: &[u8], mark: Mark, from: usize) -> Option<Step>
+    fn begin_front(
+        &mut self,
+        s: &[u8],
+        mark: Mark,
+        argument: Arguments,
+        from: usize,
+    ) -> Option<Step>
         requires fits { IsReadable s.now }
-        requires ended { IsNameEnded (plain s.now) self.old mark true from }
+        requires ended { IsNameEnded (plain s.now) self.old mark true argument from }
         ensures { IfSome result (IsWriting (plain s.now) self.new) }
     {
         if !has_front(s, from) {
@@ -325,7 +336,7 @@ impl Direct {
         let start = self.text.len();
         let argument = Arguments {
             encoding: encoding_place(s, from),
-            ..self.argument
+            ..argument
         };
         self.waiting.push(Open::Front {
             mark,

@@ -11,6 +11,7 @@ ghost use Rattle.cpp_direct.specs.Symbol.{plain};
 
 use crate::direct::Direct;
 use crate::open::{Mark, Open, Step};
+use crate::symbols::NOWHERE;
 use crate::tokens::byte_at;
 
 impl Direct {
@@ -71,7 +72,7 @@ impl Direct {
         ensures { IfSome result (IsWriting (plain s.now) self.new) }
     {
         if byte_at(s, self.at) != b'I' {
-            return self.name_ended(s, Mark::Plain, false, from);
+            return self.name_ended(s, Mark::Plain, false, NOWHERE, from);
         }
         if !takes {
             return None;
