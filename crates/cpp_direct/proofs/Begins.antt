@@ -1,5 +1,5 @@
 -- The beginnings of symbols, and their answers.
-use Rattle.std.proofs.Common.{◌≡◌, ◌≢◌, ℕ, ◌+◌, ◌≤◌, ◌/◌, inl, length, List, [], ◌∷◌, ◌++◌, reverse, Bool, true, false, ◌&&◌, ◌||◌, nat_eq, nat_le, Ok, refl, ap, sym, subst, ◌∙◌, arith, codes}
+use Rattle.std.proofs.Common.{◌≡◌, ◌≢◌, ℕ, ◌+◌, ◌≤◌, ◌/◌, inl, length, List, [], ◌∷◌, ◌++◌, reverse, Bool, true, false, ◌&&◌, ◌||◌, nat_eq, nat_le, Ok, refl, ap, sym, subst, ◌∙◌, arith, codes, cond}
 use Rattle.std.proofs.lemmas.Bool.{false≢true, leb-true, eqb-true}
 use Rattle.sym_print.specs.declared.detail.Detail.TheVariants as details
 use Rattle.sym_print.proofs.Answering.{text_within-ok}
@@ -87,6 +87,7 @@ encoding-awaited s w no_text no_candidate starts at_is apart =
       candidates = subst (λ ks. AreCandidates w.text.list.items ks []) (sym no_candidate) tt;
       around = first_around;
       outer = opened_.inner;
+      begins = λ none. at_is ∙ sym (ap (λ b. cond b 3 2) apart);
       awaits = subst (λ n. Expects s Kind.Encoding first_around opened_.inner n first_state) (sym at_is) opened_.awaits;
       onward = λ e at st comes.
           whole-behind s w.text.list.items e at apart (record {
@@ -111,11 +112,18 @@ items-await s w p v at st comes =
       inner = items.inner;
       outside = refl;
       scope_is = refl;
+      encoding_is = p.begins;
+      no_lambda = refl;
       awaits = items.awaits;
       onward = λ l here now last. p.onward (encoding_of v (no_items l)) here now (items.onward l here now last);
     }
 
 -- ## Thunks
+
+thunk-text : (by : Adjustment) → thunk_text (adjusting by) ≡ [] → ⊥
+unfolding thunk_text
+thunk-text (non_virtual a) e = cc e
+thunk-text (by_table a b) e = cc e
 
 -- the encoding that a thunk calls is expected, behind the thunk's text
 thunk-awaited : (s : Symbol) (opened_ : SymbolOpened s) (by : Adjustment) (w : Direct)
@@ -127,6 +135,7 @@ thunk-awaited s opened_ by w apart thunk_ text_is no_candidate = record {
   candidates = subst (λ ks. AreCandidates w.text.list.items ks []) (sym no_candidate) tt;
   around = in_name 2;
   outer = thunk_.inner;
+  begins = λ none. absurd (thunk-text by (sym text_is ∙ none));
   awaits = thunk_.awaits;
   onward = λ e at st comes.
       whole-behind s w.text.list.items e at apart (record {

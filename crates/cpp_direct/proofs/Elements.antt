@@ -19,9 +19,10 @@ use Rattle.cpp_direct.specs.Holes.{StandsAt, ListGoesOn}
 use Rattle.cpp_direct.specs.HolesOfLists.{IsDigitsAt, minus_sign}
 use Rattle.cpp_direct.specs.ItemBytes.{is_integer_letter}
 use Rattle.cpp_direct.specs.Prints.{Prints, sign_text, EndsAsInteger}
-use Rattle.cpp_direct.specs.Stands.{AreCandidates, Belongs, Closes, GoesOn, IsTemplate, IsWriting, Stands, element_kind, extra_of, led_by, in_front_of_next}
+use Rattle.cpp_direct.specs.Stands.{AreCandidates, Belongs, Closes, GoesOn, IsTemplate, IsWriting, Stands, element_kind, extra_of, led_by, in_front_of_next, IsScoped}
 use Rattle.cpp_direct.specs.Ways.{AwaitsNextArgument, truth_text, number_text, integer_text, AwaitsNumber, AwaitsNamedType}
 use Rattle.cpp_direct.specs.Written.{Reads, Writes}
+use Rattle.cpp_direct.proofs.Scopes.{none-scoped}
 use Rattle.cpp_direct.proofs.Kept.{candidates-read, template-stays, candidates-stay, reverse-last}
 use Rattle.cpp_direct.proofs.Listed.{element-kind, element-goes-on, enumerator-stands, listing-at, some-elements}
 use Rattle.cpp_direct.proofs.Literals.{IsIntegerRead, IsNumberRead}
@@ -160,6 +161,9 @@ enumerator-expected s old begun pushed new a stands next nothing writes text can
           element-goes-on s (element_kind p.listing) (λ l now then. Closes s p.listing p.owner (Stands s p.rest) p.front p.template l now then)
           a.ts (integer t (signed_digits negative digits)) old.at (end + 1) a.state now a.goes
           (e.onward t here now comes negative digits end minus digits_there ended)));
+      scoped = subst (λ ws. IsScoped a.goes.0 ws)
+          (sym (ap reverse waiting ∙ reverse-last old.waiting.list.items opens.Enumerator))
+          (none-scoped a.goes.0 (opens.Enumerator ∷ reverse old.waiting.list.items) refl);
     }
 
 -- a text that ends so

@@ -29,7 +29,7 @@ use Rattle.cpp_direct.specs.HolesOfLocals.{Discriminator, IsDiscriminatorAt, IsL
 use Rattle.cpp_direct.specs.Bytes.{short_numbers}
 use Rattle.cpp_direct.specs.Marks.{IsMarkPlace, has_const, called_on, mark_text}
 use Rattle.cpp_direct.specs.Prints.{IsElementIn, Prints, PrintsName, PrintsPiece, Shows, Encloses, list_of}
-use Rattle.cpp_direct.specs.Stands.{AreCandidates, Below, HasArguments, IsEnclosing, IsNesting, IsWriting, ItemsGoOn, LambdaWithin, Serves, Stands, TypeWithin, in_front_of_next, qualifiers, IsScoped, nowhere}
+use Rattle.cpp_direct.specs.Stands.{AreCandidates, Below, HasArguments, IsEnclosing, IsNesting, IsWriting, ItemsGoOn, LambdaWithin, Serves, Stands, TypeWithin, in_front_of_next, qualifiers, IsScoped, named_in, nowhere}
 use Rattle.cpp_direct.specs.Ways.{AwaitsEnclosingParameters, AwaitsNamedType, AwaitsNest, AwaitsTypeName, IsElementRead, IsEnclosingInstance, IsEnclosingNamed, IsEnclosingParameterRead, IsEnclosingRead, IsLambdaParameterRead}
 use Rattle.cpp_direct.specs.Written.{Writes, Reads, added}
 use Rattle.cpp_direct.proofs.Ending.{behind-two, behind-three, behind-five, list-ends, next-written, parameter-goes_on, plain-text, qualifiers-text, void-read}
@@ -48,7 +48,7 @@ use Rattle.cpp_direct.proofs.PrintedSymbols.{encoding-plain, function-shows, enc
 use Rattle.cpp_direct.proofs.PrintedWithin.{lambda-prints, lambda-list-prints, local-prints}
 use Rattle.cpp_direct.proofs.TypesRead.{builtin-listed, no-builtin}
 use Rattle.cpp_direct.proofs.MovesOfTypes.{builtin-comes}
-use Rattle.cpp_direct.proofs.Scopes.{arguments-stay, enclosing-scoped, enclosing-stays, none-known, none-scoped}
+use Rattle.cpp_direct.proofs.Scopes.{arguments-named, arguments-stay, enclosing-scoped, enclosing-stays, none-known, none-scoped}
 
 -- ## Names
 
@@ -57,7 +57,7 @@ record NameOpened (s : Symbol) (below : Below) (front : List ℕ) (at : ℕ) (st
   pub inner : List Opened
   pub awaits : Expects s Kind.CompleteName (in_name at) inner at st
   pub onward : (text : List ℕ) (argument : Arguments) (v : Value) (here : ℕ) (now : State)
-      → HasArguments text argument (tree_of v) → Comes s inner v here now
+      → HasArguments text argument (tree_of v) → argument.encoding ≡ 0 → Comes s inner v here now
       → ItemsGoOn s argument (TypeWithin s below front) (λ l. encoding_of v l) [] here now
 
 name-opens : (s : Symbol) (w : Direct) (a : AwaitsNamedType s w) → StandsAt s.bytes w.at (90 ∷ [])
@@ -69,19 +69,22 @@ name-opens s w a letter =
     record {
       inner = encoding.inner;
       awaits = encoding.awaits;
-      onward = λ text argument v at st names comes. let items = encoding.onward v at st comes in record {
+      onward = λ text argument v at st names unplaced comes. let items = encoding.onward v at st comes in record {
         around = in_types (w.at + 1) (tree_of v);
         inner = items.inner;
         outside = refl;
-        scoped = λ k o. record {
-          own = (names k o).own;
-          all = (names k o).all;
-          scope_is = (names k o).all_are;
-          there = (names k o).there;
-          below = (names k o).below;
-          alone = (names k o).alone;
-          no_pack = (names k o).prints.no_pack;
-        };
+        scoped = λ k o. (
+          record {
+            own = (names k o).own;
+            all = (names k o).all;
+            scope_is = (names k o).all_are;
+            there = (names k o).there;
+            below = (names k o).below;
+            alone = (names k o).alone;
+            no_pack = (names k o).prints.no_pack;
+          },
+          λ real. absurd (real unplaced),
+        );
         awaits = items.awaits;
         onward = λ l there then_ last. (
           a.os,
@@ -116,8 +119,8 @@ nest-marked s old n mark a letter stands at_is =
       outside = refl;
       outer = nest.inner;
       awaits = subst (λ k. Expects s Kind.Nest (in_name (old.at + 1)) nest.inner k a.state) (sym at_is) nest.awaits;
-      serves = λ text argument t listed at st names comes.
-          e.onward text argument (named t (qualifiers (has_const mark)) (called_on mark)) at st names (nest.onward t listed at st comes);
+      serves = λ text argument t listed at st names unplaced comes.
+          e.onward text argument (named t (qualifiers (has_const mark)) (called_on mark)) at st names unplaced (nest.onward t listed at st comes);
     }
 
 -- behind an N, where they stand
@@ -160,7 +163,7 @@ source-within s old start new name from a letter same_text same_candidates same_
       no_return = refl;
       goes = subst (λ v. ItemsGoOn s nowhere (TypeWithin s (Stands s (reverse v.list.items)) front) (λ l. encoding_of (tree own false) l) [] new.at a.state)
           (sym (reads.waiting ∙ same_waiting))
-          (e.onward [] nowhere (tree own false) new.at a.state (λ k o. absurd (none-known k o))
+          (e.onward [] nowhere (tree own false) new.at a.state (λ k o. absurd (none-known k o)) refl
           (named_.bare new.at a.state (expects-empty s Kind.MaybeArguments (after own false here) named_.inner new.at a.state named_.awaits refl)));
     }
 
@@ -186,7 +189,7 @@ name-within s old st t mark candidates n no_return here is_name =
       from_is = n.is_nest.from_is;
       prints = as-name t n.bytes false n.is_nest.prints;
       no_return = no_return;
-      goes = serves [] nowhere t old.nest.is_listed (old.at + 1) st (λ k o. absurd (none-known k o)) (nest-comes s old st t n here);
+      goes = serves [] nowhere t old.nest.is_listed (old.at + 1) st (λ k o. absurd (none-known k o)) refl (nest-comes s old st t n here);
     }
 
 -- an instance is read, whose return type is expected
@@ -212,7 +215,8 @@ instance-within s old st t mark candidates n returns names here is_name =
       prints = as-name t n.bytes false n.is_nest.prints;
       returns = returns;
       names = names;
-      goes = serves old.text.list.items old.argument t old.nest.is_listed (old.at + 1) st names (nest-comes s old st t n here);
+      goes = serves old.text.list.items (named_in 0 old.argument) t old.nest.is_listed (old.at + 1) st
+          (arguments-named old.text.list.items 0 old.argument t names) refl (nest-comes s old st t n here);
     }
 
 -- ## Parameters
@@ -241,14 +245,14 @@ plain-awaits s w mark from p = record {
 -- and so does one behind its return type, which is a builtin one
 pub returned-awaits : (s : Symbol) (w : Direct) (n : ℕ) (mark : Mark) (from letter : ℕ) → IsEnclosingInstance s w mark from
     → look_up (letter ∷ []) builtin_texts ≢ [] → (letter ≢ 0 → StandsAt s.bytes w.at (letter ∷ [])) → n ≡ w.at + 1
-    → AwaitsEnclosingParameters s (record w { at = n }) mark from w.argument
+    → AwaitsEnclosingParameters s (record w { at = n }) mark from (named_in 0 w.argument)
 returned-awaits s w n mark from letter p has stands at_is =
     let r = builtin (letter ∷ []) in
     let make : Term → Term = λ l. encoding_of p.v l in
     let becomes : Term → ℕ → State → Type 0 = TypeWithin s (Stands s (reverse w.waiting.list.items)) p.front in
     let listed = builtin-listed letter has in
     let element = element-awaits s Kind.Items p.goes.inner p.goes.around w.at p.state tt p.goes.awaits in
-    let goes = parameter-goes_on s w.argument becomes make [] w.at p.state p.goes r (w.at + 1) p.state
+    let goes = parameter-goes_on s (named_in 0 w.argument) becomes make [] w.at p.state p.goes r (w.at + 1) p.state
     (element.onward r (w.at + 1) p.state
     (builtin-comes s Kind.Item p.goes.around element.inner w.at p.state letter tt listed element.awaits (stands (no-builtin letter listed)))) in
     record {
@@ -263,11 +267,11 @@ returned-awaits s w n mark from letter p has stands at_is =
         makes = λ t rest. encoding-returned p.v mark p.own p.tree_is p.qualifiers_are p.mark_is p.returns r (list t rest);
         prints = p.prints;
         elements = none-print-in (types_of p.own) 6;
-        names = p.names;
+        names = arguments-named w.text.list.items 0 w.argument p.own p.names;
       };
       written = p.written;
       from_is = p.from_is;
-      goes = subst (λ k. ItemsGoOn s w.argument becomes (λ l. make (list r l)) [] k p.state) (sym at_is)
+      goes = subst (λ k. ItemsGoOn s (named_in 0 w.argument) becomes (λ l. make (list r l)) [] k p.state) (sym at_is)
           (record { around = goes.around; inner = goes.inner; outside = goes.outside; scoped = goes.scoped; awaits = goes.awaits; onward = goes.onward });
     }
 

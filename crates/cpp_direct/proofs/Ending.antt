@@ -1,4 +1,5 @@
 -- How a symbol ends: its encoding's name, its parameters, and what stands behind them.
+use Rattle.cpp_grammar.specs.Scope.{arguments_of}
 use Rattle.std.proofs.Common.{◌≡◌, ◌≢◌, ◌⊎◌, refl, ap, sym, ◌∙◌, subst, ℕ, ◌+◌, ◌-◌, ◌≤◌, List, [], ◌∷◌, ◌++◌, length, take, drop, reverse, inl, inr, Bool, true, false, nat_eq, arith, codes, append-nil, append_assoc}
 use Rattle.std.specs.List.{ends_with}
 use Rattle.std.specs.Cmp.Lexicographic.{pointwise}
@@ -24,7 +25,7 @@ use Rattle.cpp_direct.specs.Holes.{StandsAt, ListGoesOn}
 use Rattle.cpp_direct.specs.HolesOfLists.{IsSuffix}
 use Rattle.cpp_direct.specs.Marks.{has_const, called_on, mark_text}
 use Rattle.cpp_direct.specs.Prints.{PrintsName, Shows, Encloses, list_of}
-use Rattle.cpp_direct.specs.Stands.{AreCandidates, AwaitsItems, Encoded, EndsBehind, EncodedBehind, IsWhole, IsWriting, HasScope, IsFunction, IsScoped, ItemsGoOn, ParametersGoOn, Stands, nowhere, qualifiers, list_with, in_front_of_next}
+use Rattle.cpp_direct.specs.Stands.{AreCandidates, AwaitsItems, Encoded, EndsBehind, EncodedBehind, IsWhole, IsWriting, HasScope, IsFunction, IsScoped, ItemsGoOn, ParametersGoOn, Stands, nowhere, qualifiers, list_with, in_front_of_next, encoding_place, named_in}
 use Rattle.cpp_direct.specs.Ways.{AwaitsNextParameter, IsNameEnded, AwaitsParameters, IsParameterEnded, IsEncodingEnded, IsSymbolEnded}
 use Rattle.cpp_direct.specs.Written.{Writes, Cuts}
 use Rattle.cpp_direct.proofs.Kept.{candidates-written, reverse-last}
@@ -33,7 +34,7 @@ use Rattle.cpp_direct.proofs.MovesOfLists.{element-awaits}
 use Rattle.cpp_direct.proofs.MovesOfTypes.{builtin-comes}
 use Rattle.cpp_direct.proofs.PrintedLists.{none-print-in}
 use Rattle.cpp_direct.proofs.PrintedLocals.{object-enclosing, function-encloses}
-use Rattle.cpp_direct.proofs.Scopes.{function-stays, none-known, parameters-scoped}
+use Rattle.cpp_direct.proofs.Scopes.{function-stays, none-known, parameters-scoped, arguments-named}
 use Rattle.cpp_direct.proofs.PrintedSymbols.{function-shows, void-shows, object-encoded, encoding-plain, made-with, made-void, symbol-text, symbol-cost, suffix-text, suffix-cost, parameters-kept}
 
 -- ## The end
@@ -148,10 +149,11 @@ behind-five lead a b c d q =
     ap (λ l. l ++ d ++ q) (behind-three lead a b c) ∙ ap (λ l. l ++ q) (append_assoc lead (a ++ b ++ c) d) ∙ append_assoc lead (a ++ b ++ c ++ d) q
 
 -- a name without items is an encoding
-pub object-ended : (s : Symbol) (w : Direct) (mark : Mark) (is_instance : Bool) (from : ℕ) → IsNameEnded s w mark is_instance from
+pub object-ended : (s : Symbol) (w : Direct) (mark : Mark) (is_instance : Bool) (argument_ : Arguments) (from : ℕ)
+    → IsNameEnded s w mark is_instance argument_ from
     → IsEncodingEnded s w mark
 unfolding no_items may_be_empty
-object-ended s w mark is_instance from p =
+object-ended s w mark is_instance argument_ from p =
     let b = p.name in
     let q = mark_text mark in
     let behind : EncodedBehind s p.lead (encoding_of p.v nil) w.at = p.awaits.onward nothing_there w.at p.state
@@ -238,10 +240,33 @@ parameter-expected s w mark start argument a =
       );
     }
 
+pub no-text : (l : List ℕ) (from : ℕ) → from ≡ length l → from ≡ 0 → l ≡ []
+no-text [] from is none = refl
+no-text (b ∷ bs) from is none = absurd (omega (arith, is, none))
+
+-- in the types of an encoding parameters may name the arguments that its name ends in
+pub name-scoped : (s : Symbol) (w : Direct) (mark : Mark) (is_instance : Bool) (argument_ : Arguments) (from place : ℕ)
+    (p : IsNameEnded s w mark is_instance argument_ from) → (place ≢ 0 → from ≡ 0) → (place ≢ 0 → place ≡ encoding_place s.bytes)
+    → HasScope (named_in place argument_) p.awaits.around
+name-scoped s w mark is_instance argument_ from place p first place_is k o =
+    let n = arguments-named w.text.list.items place argument_ p.own p.names k o in (
+      record {
+        own = n.own;
+        all = n.all;
+        scope_is = p.awaits.scope_is ∙ ap arguments_of p.tree_is ∙ n.all_are;
+        there = n.there;
+        below = n.below;
+        alone = n.alone;
+        no_pack = n.prints.no_pack;
+      },
+      λ real. (p.awaits.encoding_is (no-text p.lead from p.from_is (first real)) ∙ sym (place_is real), p.awaits.no_lambda),
+    )
+
 -- the name of a function is read that has no return type
-pub parameters-begin : (s : Symbol) (w : Direct) (mark : Mark) (is_instance : Bool) (from : ℕ) → IsNameEnded s w mark is_instance from → is_instance ≡ false
-    → AwaitsParameters s w mark 0 nowhere
-parameters-begin s w mark is_instance from p plain = record {
+pub parameters-begin : (s : Symbol) (w : Direct) (mark : Mark) (is_instance : Bool) (argument_ : Arguments) (from place : ℕ)
+    → IsNameEnded s w mark is_instance argument_ from → is_instance ≡ false → (place ≢ 0 → from ≡ 0) → (place ≢ 0 → place ≡ encoding_place s.bytes)
+    → AwaitsParameters s w mark 0 (named_in place argument_)
+parameters-begin s w mark is_instance argument_ from place p plain first place_is = record {
   state = p.state;
   candidates = p.candidates;
   make = λ l. encoding_of p.v l;
@@ -253,11 +278,12 @@ parameters-begin s w mark is_instance from p plain = record {
     makes = encoding-plain p.v mark p.own p.tree_is p.qualifiers_are p.mark_is (p.no_return plain);
     prints = p.prints;
     elements = none-print-in (types_of p.own) 6;
-    names = λ k o. absurd (none-known k o);
+    names = arguments-named w.text.list.items place argument_ p.own p.names;
   };
   start_is = refl;
   written = p.written;
-  goes = none-go_on s nowhere p.lead p.v w.at p.state p.awaits (λ k o. absurd (none-known k o));
+  goes = none-go_on s (named_in place argument_) p.lead p.v w.at p.state p.awaits
+      (name-scoped s w mark is_instance argument_ from place p first place_is);
 }
 
 -- the first parameter comes next

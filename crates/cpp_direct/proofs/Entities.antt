@@ -1,5 +1,5 @@
 -- Local entities and their guard variables, from the beginning of the symbol to its end.
-use Rattle.std.proofs.Common.{◌≡◌, ◌≢◌, ◌≤◌, refl, ap, sym, ◌∙◌, subst, ℕ, ◌+◌, List, [], ◌∷◌, ◌++◌, Bool, true, codes, append-nil, append_assoc}
+use Rattle.std.proofs.Common.{◌≡◌, ◌≢◌, ◌≤◌, refl, ap, sym, ◌∙◌, subst, ℕ, ◌+◌, List, [], ◌∷◌, ◌++◌, Bool, true, codes, append-nil, append_assoc, cond}
 use Rattle.std.proofs.lemmas.Bool.{false≢true}
 use Rattle.cpp_grammar.specs.declared.kind.Kind.{Kind}
 use Rattle.cpp_grammar.specs.Grammar.{may_be_empty}
@@ -51,6 +51,7 @@ local-begins s w fresh starts letter =
       candidates = subst (λ ks. AreCandidates w.text.list.items ks []) (sym fresh.no_candidate) tt;
       around = in_name 2;
       outer = here.inner;
+      begins = λ none. sym (ap (λ b. cond b 3 2) (third-tells s.bytes 90 letter));
       awaits = here.awaits;
       onward = λ e at st comes. record {
         whole = λ apart. absurd (false≢true (sym apart ∙ third-tells s.bytes 90 letter));
@@ -68,6 +69,9 @@ local-begins s w fresh starts letter =
       };
     }
 
+guard-text : codes "guard variable for " ≡ [] → ⊥
+guard-text e = cc e
+
 -- the same of a guard variable
 pub guard-begins : (s : Symbol) (old new : Direct) → IsFresh old → StandsAt s.bytes 0 (95 ∷ 90 ∷ []) → StandsAt s.bytes 2 (71 ∷ 86 ∷ []) → StandsAt s.bytes 2 (71 ∷ [])
     → StandsAt s.bytes 4 (90 ∷ []) → Writes old new (codes "guard variable for ") → AwaitsEncoding s (record new { at = 5 })
@@ -82,6 +86,7 @@ guard-begins s old new fresh starts marks letter stands writes =
       candidates = subst (λ ks. AreCandidates new.text.list.items ks []) (sym (ap (λ v. v.list.items) writes.candidates ∙ fresh.no_candidate)) tt;
       around = in_name 2;
       outer = here.inner;
+      begins = λ none. absurd (guard-text (sym text_is ∙ none));
       awaits = here.awaits;
       onward = λ e at st comes. record {
         whole = λ apart. absurd (false≢true (sym apart ∙ third-tells s.bytes 71 letter));

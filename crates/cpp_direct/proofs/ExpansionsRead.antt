@@ -70,7 +70,7 @@ expansion-read s old new mark start argument a pack ordered stands text candidat
     let bytes = b ++ forwarded r in
     let t = expansion (rvalue (parameter 0)) in
     let e = a.goes.around.encoding in
-    let scope = subst (λ k. IsScope 0 k a.goes.around) pack (a.goes.scoped 0 ordered) in
+    let scope = subst (λ k. IsScope 0 k a.goes.around) pack (a.goes.scoped 0 ordered).0 in
     let alone : arguments_of f.own ≡ Some (list (packed true n.own) nil) = n.all_are ∙ ap (λ l. Some l) (n.alone pack) in
     let later = with_expansion e a.state in
     let element = element-awaits s Kind.Items a.goes.inner a.goes.around old.at a.state tt a.goes.awaits in

@@ -7,12 +7,13 @@ use Rattle.std.proofs.Math.Seq.{drop-append_seam, take-append_seam}
 use Rattle.std.specs.Option.{OnSome}
 use Rattle.std.specs.Result.{result_ok}
 use Rattle.sym_core.specs.declared.NameClass.TheVariants.{Cpp}
-use Rattle.sym_core.specs.declared.NumberKind.TheVariants.{Seq36, Digits}
+use Rattle.sym_core.specs.declared.NumberKind.TheVariants.{Decimal, Seq36, Digits}
 use Rattle.sym_core.specs.declared.tokens.TokenPlace.{TokenPlace}
 use Rattle.sym_core.specs.Token.{Token, IsName, IsSeparator, IsNumberToken, HasToken, FindsToken}
 use Rattle.cpp_grammar.specs.Values.{signed_digits}
 use Rattle.cpp_direct.specs.declared.direct.Direct.{Direct}
 use Rattle.cpp_direct.specs.Holes.{IsNameAt, IsSeqAt}
+use Rattle.cpp_direct.specs.HolesOfArrays.{IsSizeAt}
 use Rattle.cpp_direct.specs.HolesOfLists.{IsDigitsAt}
 use Rattle.cpp_direct.specs.Ways.{number_text}
 use Rattle.cpp_direct.specs.Written.{Writes, Reads}
@@ -88,6 +89,19 @@ seq-found s at place h le = (
   record { token = h.token; is_number = h.is; own = refl; stands = (h.rest, h.split); ends = h.end },
   (own-found (IsNumberToken Seq36) s at place h le).2,
 )
+
+-- the size of an array that was found
+pub size-found : (s : List ℕ) (at : ℕ) (place : TokenPlace) → HasToken (IsNumberToken Decimal) (drop at s) at place → at ≤ length s
+    → (digits : List ℕ) × IsSizeAt s at digits place.end × (place.from ≤ place.to) × (place.to ≤ length s)
+    × (take (place.to - place.from) (drop place.from s) ≡ digits)
+size-found s at place h le =
+    let own = own-found (IsNumberToken Decimal) s at place h le in (
+      h.token.own,
+      record { token = h.token; is_number = h.is; own = refl; stands = (h.rest, h.split); ends = h.end },
+      own.0,
+      own.1,
+      own.2,
+    )
 
 -- the digits of an integer that were found
 pub digits-found : (s : List ℕ) (at : ℕ) (place : TokenPlace) → HasToken (IsNumberToken Digits) (drop at s) at place → at ≤ length s

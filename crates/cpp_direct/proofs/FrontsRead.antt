@@ -1,5 +1,6 @@
 -- Functions that have a return type: it is read behind the name, and written in front of it.
-use Rattle.std.proofs.Common.{◌≡◌, refl, ap, sym, ◌∙◌, subst, ℕ, ◌-◌, List, [], ◌∷◌, ◌++◌, length, take, drop, reverse, inl, inr, Bool, true, false, arith, codes, append_assoc}
+use Rattle.cpp_direct.proofs.PrintedLocals.{returned-enclosing}
+use Rattle.std.proofs.Common.{◌≡◌, refl, ap, sym, ◌∙◌, subst, ℕ, ◌-◌, List, [], ◌∷◌, ◌++◌, length, take, drop, reverse, inl, inr, Bool, true, false, arith, codes, append_assoc, ◌≢◌}
 use Rattle.std.proofs.lemmas.Bool.{false≢true}
 use Rattle.std.proofs.Math.Seq.{take-append_seam}
 use Rattle.cpp_grammar.specs.declared.kind.Kind.{Kind}
@@ -18,55 +19,45 @@ use Rattle.cpp_direct.specs.declared.open.Step.TheVariants as steps
 use Rattle.cpp_direct.specs.declared.direct.Direct.{Direct}
 use Rattle.cpp_direct.specs.Bytes.{is_local}
 use Rattle.cpp_direct.specs.Holes.{Expects}
-use Rattle.cpp_direct.specs.Prints.{PrintsName, PrintsIn, Shows}
-use Rattle.cpp_direct.specs.Stands.{AreCandidates, EncodedBehind, HasArguments, IsScoped, IsWriting, IsInstance, ParametersGoOn, Stands, qualifiers, plain_encoding}
+use Rattle.cpp_direct.specs.Prints.{PrintsName, PrintsIn, Shows, Encloses}
+use Rattle.cpp_direct.specs.Stands.{AreCandidates, EncodedBehind, HasArguments, IsScoped, IsWriting, IsInstance, named_in, ParametersGoOn, Stands, qualifiers, plain_encoding, encoding_place}
 use Rattle.cpp_direct.specs.Ways.{IsNameEnded, IsFrontRead, AwaitsParameters}
 use Rattle.cpp_direct.specs.Written.{Writes}
-use Rattle.cpp_direct.proofs.Ending.{none-go_on, parameter-goes_on}
+use Rattle.cpp_direct.proofs.Ending.{name-scoped, no-text, none-go_on, parameter-goes_on}
 use Rattle.cpp_direct.proofs.Kept.{candidates-written, reverse-last}
 use Rattle.cpp_direct.proofs.MovesOfLists.{element-awaits}
 use Rattle.cpp_direct.proofs.PrintedLists.{none-print-in}
-use Rattle.cpp_direct.proofs.Scopes.{arguments-stay, front-scoped}
+use Rattle.cpp_direct.proofs.Scopes.{arguments-named, arguments-stay, front-scoped}
 use Rattle.cpp_direct.proofs.PrintedSymbols.{encoding-returned, front-shows}
 
-no-text : (l : List ℕ) (from : ℕ) → from ≡ length l → from ≡ 0 → l ≡ []
-no-text [] from is none = refl
-no-text (b ∷ bs) from is none = absurd (omega (arith, is, none))
-
 -- the return type of a function is expected behind its name
-pub front-begins : (s : Symbol) (w new : Direct) (mark : Mark) (from start : ℕ) → IsNameEnded s w mark true from → from ≡ 0 → is_local s.bytes ≡ false
+pub front-begins : (s : Symbol) (w new : Direct) (mark : Mark) (argument_ : Arguments) (from start place : ℕ) → IsNameEnded s w mark true argument_ from
+    → (is_local s.bytes ≡ false → from ≡ 0) → (place ≢ 0 → from ≡ 0) → (place ≢ 0 → place ≡ encoding_place s.bytes)
     → start ≡ length w.text.list.items → new.text ≡ w.text → new.candidates ≡ w.candidates → new.at ≡ w.at
-    → new.waiting.list.items ≡ w.waiting.list.items ++ opens.Front mark start w.argument ∷ [] → IsWriting s new steps.Type
-front-begins s w new mark from start p none apart start_is text candidates at waiting =
-    let lead_is : p.lead ≡ [] = no-text p.lead from p.from_is none in
-    let named : w.text.list.items ≡ p.name = p.written ∙ ap (λ l. l ++ p.name) lead_is in
-    let instance_ : IsInstance w.argument mark p.v w.text.list.items = record {
+    → new.waiting.list.items ≡ w.waiting.list.items ++ opens.Front mark start (named_in place argument_) ∷ [] → IsWriting s new steps.Type
+front-begins s w new mark argument_ from start place p apart first place_is start_is text candidates at waiting =
+    let argument = named_in place argument_ in
+    let instance_ : IsInstance w.text.list.items argument mark p.v p.name = record {
       own = p.own;
       tree_is = p.tree_is;
       qualifiers_are = p.qualifiers_are;
       mark_is = p.mark_is;
-      prints = subst (λ l. PrintsName p.own l) (sym named) p.prints;
+      prints = p.prints;
       returns = p.returns refl;
-      names = p.names refl;
+      names = arguments-named w.text.list.items place argument_ p.own p.names;
     } in
-    let goes : ParametersGoOn s w.argument [] (λ l. encoding_of p.v l) [] w.at p.state =
-    subst (λ l. ParametersGoOn s w.argument l (λ i. encoding_of p.v i) [] w.at p.state) lead_is
-    (none-go_on s w.argument p.lead p.v w.at p.state p.awaits (λ k o. let n = p.names refl k o in record {
-      own = n.own;
-      all = n.all;
-      scope_is = p.awaits.scope_is ∙ ap arguments_of p.tree_is ∙ n.all_are;
-      there = n.there;
-      below = n.below;
-      alone = n.alone;
-      no_pack = n.prints.no_pack;
-    })) in
+    let goes : ParametersGoOn s argument p.lead (λ l. encoding_of p.v l) [] w.at p.state =
+    none-go_on s argument p.lead p.v w.at p.state p.awaits (name-scoped s w mark true argument_ from place p first place_is) in
     let element = element-awaits s Kind.Items goes.inner goes.around w.at p.state tt goes.awaits in
-    let stands : Stands s (opens.Front mark start w.argument ∷ reverse w.waiting.list.items) element.inner w.text.list.items = (
+    let stands : Stands s (opens.Front mark start argument ∷ reverse w.waiting.list.items) element.inner w.text.list.items = (
       p.v,
+      p.lead,
+      p.name,
       instance_,
-      apart,
+      λ none. no-text p.lead from p.from_is (apart none),
+      p.written,
       start_is,
-      λ t here now comes. parameter-goes_on s w.argument (λ e there then_. EncodedBehind s [] e there) (λ l. encoding_of p.v l) [] w.at p.state goes
+      λ t here now comes. parameter-goes_on s argument (λ e there then_. EncodedBehind s p.lead e there) (λ l. encoding_of p.v l) [] w.at p.state goes
           t here now (element.onward t here now comes),
     ) in
     record {
@@ -80,17 +71,17 @@ front-begins s w new mark from start p none apart start_is text candidates at wa
         inr (inl (subst (λ n. Expects s Kind.Item goes.around element.inner n p.state) (sym at) element.awaits)),
         subst (λ v. Stands s (reverse new.waiting.list.items) element.inner v.list.items) (sym text)
             (subst (λ ws. Stands s ws element.inner w.text.list.items)
-            (sym (ap reverse waiting ∙ reverse-last w.waiting.list.items (opens.Front mark start w.argument))) stands),
-        subst (λ ws. IsScoped goes.around ws) (sym (ap reverse waiting ∙ reverse-last w.waiting.list.items (opens.Front mark start w.argument)))
-            (front-scoped goes.around mark start w.argument (reverse w.waiting.list.items) goes.scoped),
+            (sym (ap reverse waiting ∙ reverse-last w.waiting.list.items (opens.Front mark start argument))) stands),
+        subst (λ ws. IsScoped goes.around ws) (sym (ap reverse waiting ∙ reverse-last w.waiting.list.items (opens.Front mark start argument)))
+            (front-scoped goes.around mark start argument (reverse w.waiting.list.items) goes.scoped),
       );
     }
 
 -- a function's return type stands in front of what it shows without one
-turned : (s : Symbol) (argument : Arguments) (mark : Mark) (v : Value) (name : List ℕ) (is : IsInstance argument mark v name) (r : Term) (b : List ℕ)
+turned : (s : Symbol) (argument : Arguments) (mark : Mark) (v : Value) (name : List ℕ) (text : List ℕ) (is : IsInstance text argument mark v name) (r : Term) (b : List ℕ)
     (is_reference : Bool) → PrintsIn (types_of is.own) 2 r b is_reference → (items : Term) (at : ℕ) → is_local s.bytes ≡ false → EncodedBehind s [] (encoding_of v (list r items)) at
     → EncodedBehind s (b ++ codes " ") (plain_encoding mark is.own items) at
-turned s argument mark v name is r b is_reference prints items at apart p = record {
+turned s argument mark v name text is r b is_reference prints items at apart p = record {
   whole = λ e. let w = p.whole e in record {
     made = w.made;
     encoded = w.encoded;
@@ -104,16 +95,19 @@ turned s argument mark v name is r b is_reference prints items at apart p = reco
 
 -- the return type is read, and behind it the name is written once more
 pub front-turned : (s : Symbol) (w here first last : Direct) (mark : Mark) (start : ℕ) (argument : Arguments) → IsFrontRead s w mark start argument
+    → is_local s.bytes ≡ false
     → here.text ≡ w.text → here.candidates ≡ w.candidates → here.at ≡ w.at → Writes here first (codes " ")
     → Writes first last (take (start - 0) (drop 0 first.text.list.items)) → AwaitsParameters s last mark start argument
-front-turned s w here first last mark start argument p text candidates at one two =
+front-turned s w here first last mark start argument p plain text candidates at one two =
     let is = p.is_instance in
     let lead = p.bytes ++ codes " " in
-    let front : first.text.list.items ≡ p.name ++ lead =
-    one.text ∙ ap (λ v. v.list.items ++ codes " ") text ∙ ap (λ l. l ++ codes " ") p.written ∙ append_assoc p.name p.bytes (codes " ") in
-    let again : take (start - 0) (drop 0 first.text.list.items) ≡ p.name =
-    ap (λ n. take n first.text.list.items) (omega (arith, p.start_is)) ∙ ap (λ l. take (length p.name) l) front ∙ take-append_seam p.name lead in
-    let written : last.text.list.items ≡ p.name ++ lead ++ p.name = two.text ∙ ap (λ l. first.text.list.items ++ l) again ∙ ap (λ l. l ++ p.name) front in
+    let none : p.lead ≡ [] = p.apart plain in
+    let named : p.front ≡ p.name = p.front_is ∙ ap (λ l. l ++ p.name) none in
+    let front : first.text.list.items ≡ p.front ++ lead =
+    one.text ∙ ap (λ v. v.list.items ++ codes " ") text ∙ ap (λ l. l ++ codes " ") p.written ∙ append_assoc p.front p.bytes (codes " ") in
+    let again : take (start - 0) (drop 0 first.text.list.items) ≡ p.front =
+    ap (λ n. take n first.text.list.items) (omega (arith, p.start_is)) ∙ ap (λ l. take (length p.front) l) front ∙ take-append_seam p.front lead in
+    let written : last.text.list.items ≡ p.front ++ lead ++ p.front = two.text ∙ ap (λ l. first.text.list.items ++ l) again ∙ ap (λ l. l ++ p.front) front in
     let known : AreCandidates here.text.list.items here.candidates.list.items p.state.candidates =
     subst (λ v. AreCandidates v.list.items here.candidates.list.items p.state.candidates) (sym text)
     (subst (λ v. AreCandidates w.text.list.items v.list.items p.state.candidates) (sym candidates) p.candidates) in
@@ -122,7 +116,7 @@ front-turned s w here first last mark start argument p text candidates at one tw
       candidates = candidates-written first last (take (start - 0) (drop 0 first.text.list.items)) p.state.candidates two
           (candidates-written here first (codes " ") p.state.candidates one known);
       make = λ l. plain_encoding mark is.own l;
-      aside = p.name;
+      aside = p.front;
       lead = lead;
       name = p.name;
       is_function = record {
@@ -131,17 +125,71 @@ front-turned s w here first last mark start argument p text candidates at one tw
         prints = is.prints;
         elements = none-print-in (types_of is.own) 6;
         names = subst (λ l. HasArguments l argument is.own) (sym written)
-            (arguments-stay (p.name ++ lead) p.name argument is.own (arguments-stay p.name lead argument is.own is.names));
+            (arguments-stay (p.front ++ lead) p.front argument is.own (arguments-stay p.front lead argument is.own is.names));
       };
       start_is = p.start_is;
-      written = written;
+      written = written ∙ ap (λ l. p.front ++ lead ++ l) named;
       goes = record {
         around = p.goes.around;
         inner = p.goes.inner;
         outside = p.goes.outside;
         scoped = p.goes.scoped;
         awaits = subst (λ n. Expects s Kind.Items p.goes.around p.goes.inner n p.state) (sym (two.at ∙ one.at ∙ at)) p.goes.awaits;
-        onward = λ l there then_ comes. turned s argument mark p.v p.name is p.returned p.bytes p.is_reference p.prints (no_items l) there p.apart
+        onward = λ l there then_ comes. turned s argument mark p.v p.name p.front is p.returned p.bytes p.is_reference p.prints (no_items l) there plain
+            (subst (λ x. EncodedBehind s x (encoding_of p.v (list p.returned (no_items l))) there) none (p.goes.onward l there then_ comes));
+      };
+    }
+
+-- in front of a local entity a function shows no return type
+hidden-return : (s : Symbol) (lead : List ℕ) (argument : Arguments) (mark : Mark) (v : Value) (name text : List ℕ) (is : IsInstance text argument mark v name)
+    (r : Term) → is_local s.bytes ≡ true → (items : Term) (at : ℕ) → EncodedBehind s lead (encoding_of v (list r items)) at
+    → EncodedBehind s lead (plain_encoding mark is.own items) at
+hidden-return s lead argument mark v name text is r local_ items at p = record {
+  whole = λ e. absurd (false≢true (sym e ∙ local_));
+  entity = λ e internal called digit end told. let w = p.entity e internal called digit end told in record {
+    made = w.made;
+    encoded = w.encoded;
+    shows = λ bytes encloses. w.shows bytes
+        (subst (λ t. Encloses t bytes)
+        (sym (encoding-returned v mark is.own is.tree_is is.qualifiers_are is.mark_is is.returns r items))
+        (returned-enclosing is.own (qualifiers (has_const mark)) (called_on mark) r (parameters items) bytes encloses));
+  };
+}
+
+-- the return type is read, and behind it the name is written once more, with what stands in front of it
+pub front-hidden : (s : Symbol) (w last : Direct) (mark : Mark) (start begins : ℕ) (argument : Arguments) → IsFrontRead s w mark start argument
+    → is_local s.bytes ≡ true → begins ≡ length w.text.list.items → Writes w last (take (start - 0) (drop 0 w.text.list.items))
+    → AwaitsParameters s last mark begins argument
+front-hidden s w last mark start begins argument p local_ begins_is one =
+    let is = p.is_instance in
+    let aside = p.front ++ p.bytes in
+    let again : take (start - 0) (drop 0 w.text.list.items) ≡ p.front =
+    ap (λ n. take n w.text.list.items) (omega (arith, p.start_is)) ∙ ap (λ l. take (length p.front) l) p.written ∙ take-append_seam p.front p.bytes in
+    let written : last.text.list.items ≡ aside ++ p.front = one.text ∙ ap (λ l. w.text.list.items ++ l) again ∙ ap (λ l. l ++ p.front) p.written in
+    record {
+      state = p.state;
+      candidates = candidates-written w last (take (start - 0) (drop 0 w.text.list.items)) p.state.candidates one p.candidates;
+      make = λ l. plain_encoding mark is.own l;
+      aside = aside;
+      lead = p.lead;
+      name = p.name;
+      is_function = record {
+        own = is.own;
+        makes = λ t rest. refl;
+        prints = is.prints;
+        elements = none-print-in (types_of is.own) 6;
+        names = subst (λ l. HasArguments l argument is.own) (sym written)
+            (arguments-stay aside p.front argument is.own (arguments-stay p.front p.bytes argument is.own is.names));
+      };
+      start_is = begins_is ∙ ap length p.written;
+      written = written ∙ ap (λ l. aside ++ l) p.front_is ∙ sym (append_assoc aside p.lead p.name);
+      goes = record {
+        around = p.goes.around;
+        inner = p.goes.inner;
+        outside = p.goes.outside;
+        scoped = p.goes.scoped;
+        awaits = subst (λ n. Expects s Kind.Items p.goes.around p.goes.inner n p.state) (sym one.at) p.goes.awaits;
+        onward = λ l there then_ comes. hidden-return s p.lead argument mark p.v p.name p.front is p.returned local_ (no_items l) there
             (p.goes.onward l there then_ comes);
       };
     }

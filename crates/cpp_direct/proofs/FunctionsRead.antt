@@ -18,34 +18,6 @@ use Rattle.cpp_direct.proofs.Listed.{last-found}
 use Rattle.cpp_direct.proofs.Scopes.{none-scoped}
 use Rattle.cpp_direct.proofs.MovesOfFunctions.{function-opens, pointed-function-opens}
 
--- ## What waits
-
--- what is none of those that take no function type
-pub takes-function : (o : Open) (rest : List Open) → ((x : ℕ) → o ≡ opens.Pointer x → ⊥) → ((x : ℕ) → o ≡ opens.Lvalue x → ⊥)
-    → ((x : ℕ) → o ≡ opens.Rvalue x → ⊥) → ((x : ℕ) → o ≡ opens.Const x → ⊥) → (o ≡ opens.Enumerator → ⊥)
-    → ((x : Bool) → o ≡ opens.Returned x → ⊥) → ((x : Bool) → o ≡ opens.Signature x → ⊥)
-    → ((x : Mark) (y : ℕ) (z : Arguments) → o ≡ opens.Front x y z → ⊥) → ((x y : ℕ) (z : Arguments) → o ≡ opens.Argument x y z → ⊥)
-    → ((x : ℕ) → o ≡ opens.Lambda x → ⊥) → ((x : ℕ) → o ≡ opens.Element x → ⊥) → TakesFunction (o ∷ rest)
-takes-function (opens.Pointer x) rest p l r c n f g k a m e = absurd (p x refl)
-takes-function (opens.Lvalue x) rest p l r c n f g k a m e = absurd (l x refl)
-takes-function (opens.Rvalue x) rest p l r c n f g k a m e = absurd (r x refl)
-takes-function (opens.Const x) rest p l r c n f g k a m e = absurd (c x refl)
-takes-function opens.Special rest p l r c n f g k a m e = tt
-takes-function (opens.Lambda x) rest p l r c n f g k a m e = absurd (m x refl)
-takes-function (opens.Enclosing x y w) rest p l r c n f g k a m e = tt
-takes-function opens.Enumerator rest p l r c n f g k a m e = absurd (n refl)
-takes-function (opens.Returned x) rest p l r c n f g k a m e = absurd (f x refl)
-takes-function (opens.Signature x) rest p l r c n f g k a m e = absurd (g x refl)
-takes-function (opens.TypeArguments x) rest p l r c n f g k a m e = tt
-takes-function (opens.NestArguments x) rest p l r c n f g k a m e = tt
-takes-function (opens.FirstArguments x) rest p l r c n f g k a m e = tt
-takes-function (opens.NameArguments x) rest p l r c n f g k a m e = tt
-takes-function (opens.Parameters x y w) rest p l r c n f g k a m e = tt
-takes-function (opens.Front x y w) rest p l r c n f g k a m e = absurd (k x y w refl)
-takes-function (opens.Argument x y z) rest p l r c n f g k a m e = absurd (a x y z refl)
-takes-function (opens.Element x) rest p l r c n f g k a m e = absurd (e x refl)
-takes-function opens.Pack rest p l r c n f g k a m e = tt
-
 -- ## The return type
 
 -- it is expected behind the letters
@@ -56,20 +28,16 @@ return-opens s true kind os around at st whole outside expects stands = pointed-
 return-opens s false kind os around at st whole outside expects stands = function-opens s kind os around at st whole outside expects stands
 
 -- a function type begins, where what was opened last takes one
-pub function-begins : (s : Symbol) (old new : Direct) (is_pointer : Bool) (o : Open) → IsWriting s old steps.Type
-    → StandsAt s.bytes old.at (if is_pointer then 80 ∷ 70 ∷ [] else 70 ∷ []) → slice_get old.waiting.list.items (length old.waiting.list.items - 1) ≡ Some o
-    → ((rest : List Open) → TakesFunction (o ∷ rest)) → new.waiting.list.items ≡ old.waiting.list.items ++ opens.Returned is_pointer ∷ []
+pub function-begins : (s : Symbol) (old new : Direct) (is_pointer : Bool) → IsWriting s old steps.Type
+    → StandsAt s.bytes old.at (if is_pointer then 80 ∷ 70 ∷ [] else 70 ∷ []) → TakesFunction (reverse old.waiting.list.items) → new.waiting.list.items ≡ old.waiting.list.items ++ opens.Returned is_pointer ∷ []
     → new.at ≡ old.at + (if is_pointer then 2 else 1) → new.text ≡ old.text → new.candidates ≡ old.candidates → IsWriting s new steps.Type
-function-begins s old new is_pointer o p letters found takes waits at text candidates = go p.is_before.3
+function-begins s old new is_pointer p letters takes waits at text candidates = go p.is_before.3
   where
     os : List Opened
     os = p.is_before.0
 
     around : Around
     around = p.is_before.1
-
-    last : (rest : List Open) × (reverse old.waiting.list.items ≡ o ∷ rest)
-    last = last-found old.waiting.list.items o found
 
     begun : (kind : Kind) → IsQualifiable kind → Expects s kind around os old.at p.state → IsWriting s new steps.Type
     begun kind whole expects =
@@ -86,7 +54,7 @@ function-begins s old new is_pointer o p letters found takes waits at text candi
             subst (λ l. Stands s l f.inner new.text.list.items)
                 (sym (ap reverse waits ∙ reverse-last old.waiting.list.items (opens.Returned is_pointer)))
                 (subst (λ v. Stands s (opens.Returned is_pointer ∷ reverse old.waiting.list.items) f.inner v.list.items) (sym text)
-                (os, around.encoding, f.onward, subst (λ l. TakesFunction l) (sym last.1) (takes last.0), p.is_before.4)),
+                (os, around.encoding, f.onward, takes, p.is_before.4)),
             subst (λ l. IsScoped around l) (sym (ap reverse waits ∙ reverse-last old.waiting.list.items (opens.Returned is_pointer)))
                 (none-scoped around (opens.Returned is_pointer ∷ reverse old.waiting.list.items) refl),
           );

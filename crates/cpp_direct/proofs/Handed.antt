@@ -5,6 +5,7 @@ use Rattle.cpp_grammar.specs.Term.{Term, special}
 use Rattle.cpp_grammar.specs.Parts.{types_of}
 use Rattle.cpp_grammar.specs.Values.{State, tree}
 use Rattle.cpp_direct.specs.Symbol.{Symbol}
+use Rattle.cpp_direct.specs.declared.open.Access.{Access}
 use Rattle.cpp_direct.specs.declared.open.Mark.{Mark}
 use Rattle.cpp_direct.specs.declared.open.Open.{Open}
 use Rattle.cpp_direct.specs.declared.open.Open.TheVariants as opens
@@ -13,7 +14,7 @@ use Rattle.cpp_direct.specs.declared.open.Step.TheVariants as steps
 use Rattle.cpp_direct.specs.declared.direct.Direct.{Direct}
 use Rattle.cpp_direct.specs.Holes.{Opened, Comes}
 use Rattle.cpp_direct.specs.Prints.{Prints, PrintsIn, IsElementIn, Shows}
-use Rattle.cpp_direct.specs.Stands.{AreCandidates, HasArguments, IsTemplate, IsWriting, Marks, AwaitsEnumerator, Belongs, Listing, of_template, of_pack, Stands, opening_text, extra_of, led_by, in_front_of_next}
+use Rattle.cpp_direct.specs.Stands.{AreCandidates, HasArguments, IsTemplate, IsWriting, Marks, AwaitsEnumerator, Belongs, Listing, of_template, of_pack, Stands, opening_text, extra_of, led_by, in_front_of_next, argument_of}
 use Rattle.cpp_direct.specs.Ways.{AwaitsMark, AwaitsNumber, AwaitsSignature, IsElementRead, IsFrontRead, IsParameterEnded, IsReturned, IsSymbolEnded}
 use Rattle.cpp_direct.proofs.Listed.{TakesElements, last-found, list-waits, listing-at, some-elements}
 use Rattle.cpp_direct.proofs.PrintedLists.{element-in, next-prints, next-prints-in, type-element}
@@ -25,7 +26,7 @@ use Rattle.cpp_direct.proofs.Scopes.{arguments-stay}
 -- it is marked
 pub value-marked : (s : Symbol) (w : Direct) (is_reference marked_reference : Bool) (entry : Open) (from : ℕ) (made : Term → Term) (mark : List ℕ)
     → IsWriting s w (steps.Value is_reference) → slice_get w.waiting.list.items (length w.waiting.list.items - 1) ≡ Some entry
-    → ((rest : List Open) (os : List Opened) (text : List ℕ) → Stands s (entry ∷ rest) os text → Marks s (Stands s rest) os text from made)
+    → ((rest : List Open) (os : List Opened) (text : List ℕ) → Stands s (entry ∷ rest) os text → Marks s (Stands s rest) (argument_of rest) os text from made)
     → ((t : Term) (b : List ℕ) → Prints t b is_reference → Prints (made t) (b ++ mark) marked_reference)
     → AwaitsMark s w mark from marked_reference
 value-marked s w is_reference marked_reference entry from made mark p found stands_as prints_as =
@@ -191,26 +192,27 @@ pub takes-elements : (o : Open) → ((x : ℕ) → o ≡ opens.Pointer x → ⊥
     → ((x : Bool) → o ≡ opens.Returned x → ⊥) → ((x : Bool) → o ≡ opens.Signature x → ⊥)
     → (o ≡ opens.Special → ⊥) → (o ≡ opens.Enumerator → ⊥) → ((x : Mark) (y : ℕ) (z : Arguments) → o ≡ opens.Enclosing x y z → ⊥)
     → ((x y : ℕ) (z : Arguments) → o ≡ opens.Argument x y z → ⊥) → ((x : ℕ) → o ≡ opens.Lambda x → ⊥) → ((x : ℕ) → o ≡ opens.Element x → ⊥)
-    → TakesElements o
-takes-elements (opens.Pointer x) p l r c f k u g z n m a q e = absurd (p x refl)
-takes-elements (opens.Lvalue x) p l r c f k u g z n m a q e = absurd (l x refl)
-takes-elements (opens.Rvalue x) p l r c f k u g z n m a q e = absurd (r x refl)
-takes-elements (opens.Const x) p l r c f k u g z n m a q e = absurd (c x refl)
-takes-elements (opens.Parameters x y w) p l r c f k u g z n m a q e = absurd (f x y w refl)
-takes-elements (opens.Front x y w) p l r c f k u g z n m a q e = absurd (k x y w refl)
-takes-elements (opens.Argument x y v) p l r c f k u g z n m a q e = absurd (a x y v refl)
-takes-elements (opens.Returned x) p l r c f k u g z n m a q e = absurd (u x refl)
-takes-elements (opens.Signature x) p l r c f k u g z n m a q e = absurd (g x refl)
-takes-elements (opens.Enclosing x y w) p l r c f k u g z n m a q e = absurd (m x y w refl)
-takes-elements (opens.Lambda x) p l r c f k u g z n m a q e = absurd (q x refl)
-takes-elements (opens.Element x) p l r c f k u g z n m a q e = absurd (e x refl)
-takes-elements opens.Special p l r c f k u g z n m a q e = absurd (z refl)
-takes-elements opens.Enumerator p l r c f k u g z n m a q e = absurd (n refl)
-takes-elements opens.Pack p l r c f k u g z n m a q e = tt
-takes-elements (opens.TypeArguments x) p l r c f k u g z n m a q e = tt
-takes-elements (opens.NestArguments x) p l r c f k u g z n m a q e = tt
-takes-elements (opens.FirstArguments x) p l r c f k u g z n m a q e = tt
-takes-elements (opens.NameArguments x) p l r c f k u g z n m a q e = tt
+    → ((x : Access) (y z : ℕ) → o ≡ opens.Array x y z → ⊥) → TakesElements o
+takes-elements (opens.Pointer x) p l r c f k u g z n m a q e j = absurd (p x refl)
+takes-elements (opens.Lvalue x) p l r c f k u g z n m a q e j = absurd (l x refl)
+takes-elements (opens.Rvalue x) p l r c f k u g z n m a q e j = absurd (r x refl)
+takes-elements (opens.Const x) p l r c f k u g z n m a q e j = absurd (c x refl)
+takes-elements (opens.Parameters x y w) p l r c f k u g z n m a q e j = absurd (f x y w refl)
+takes-elements (opens.Front x y w) p l r c f k u g z n m a q e j = absurd (k x y w refl)
+takes-elements (opens.Argument x y v) p l r c f k u g z n m a q e j = absurd (a x y v refl)
+takes-elements (opens.Returned x) p l r c f k u g z n m a q e j = absurd (u x refl)
+takes-elements (opens.Signature x) p l r c f k u g z n m a q e j = absurd (g x refl)
+takes-elements (opens.Enclosing x y w) p l r c f k u g z n m a q e j = absurd (m x y w refl)
+takes-elements (opens.Lambda x) p l r c f k u g z n m a q e j = absurd (q x refl)
+takes-elements (opens.Array x y w) p l r c f k u g z n m a q e j = absurd (j x y w refl)
+takes-elements (opens.Element x) p l r c f k u g z n m a q e j = absurd (e x refl)
+takes-elements opens.Special p l r c f k u g z n m a q e j = absurd (z refl)
+takes-elements opens.Enumerator p l r c f k u g z n m a q e j = absurd (n refl)
+takes-elements opens.Pack p l r c f k u g z n m a q e j = tt
+takes-elements (opens.TypeArguments x) p l r c f k u g z n m a q e j = tt
+takes-elements (opens.NestArguments x) p l r c f k u g z n m a q e j = tt
+takes-elements (opens.FirstArguments x) p l r c f k u g z n m a q e j = tt
+takes-elements (opens.NameArguments x) p l r c f k u g z n m a q e j = tt
 
 -- an element was read
 pub argument-read : (s : Symbol) (w : Direct) (o : Open) → IsElementRead s w o → TakesElements o → IsWriting s w (steps.List false)
@@ -243,21 +245,24 @@ argument-read s w o p takes =
 pub front-got : (s : Symbol) (w : Direct) (is_reference : Bool) (mark : Mark) (start : ℕ) (argument : Arguments) (st : State) (rest : List Open) (os : List Opened)
     (t : Term) (front bytes : List ℕ) (waits : Stands s (opens.Front mark start argument ∷ rest) os front)
     → AreCandidates w.text.list.items w.candidates.list.items st.candidates → w.text.list.items ≡ front ++ bytes → Comes s os (tree t true) w.at st
-    → PrintsIn (types_of waits.1.own) 2 t bytes is_reference → IsFrontRead s w mark start argument
+    → PrintsIn (types_of waits.3.own) 2 t bytes is_reference → IsFrontRead s w mark start argument
 front-got s w is_reference mark start argument st rest os t front bytes waits candidates written comes prints = record {
   state = st;
   candidates = candidates;
   v = waits.0;
-  name = front;
-  is_instance = waits.1;
-  apart = waits.2;
-  start_is = waits.3;
+  lead = waits.1;
+  name = waits.2;
+  front = front;
+  front_is = waits.5;
+  is_instance = waits.3;
+  apart = waits.4;
+  start_is = waits.6;
   returned = t;
   bytes = bytes;
   is_reference = is_reference;
   prints = prints;
   written = written;
-  goes = waits.4 t w.at st comes;
+  goes = waits.7 t w.at st comes;
 }
 
 pub value-front : (s : Symbol) (w : Direct) (is_reference : Bool) (mark : Mark) (start : ℕ) (argument : Arguments) → IsWriting s w (steps.Value is_reference)
@@ -268,7 +273,7 @@ value-front s w is_reference mark start argument p found =
     let last = last-found w.waiting.list.items (opens.Front mark start argument) found in
     let waits : Stands s (opens.Front mark start argument ∷ last.0) os front = subst (λ ws. Stands s ws os front) last.1 p.is_before.7 in
     front-got s w is_reference mark start argument p.state last.0 os p.is_before.1 front p.is_before.3 waits p.candidates p.is_before.4 p.is_before.6
-    (prints-in (types_of waits.1.own) 2 p.is_before.1 p.is_before.3 is_reference p.is_before.5)
+    (prints-in (types_of waits.3.own) 2 p.is_before.1 p.is_before.3 is_reference p.is_before.5)
 
 -- ## Function types
 

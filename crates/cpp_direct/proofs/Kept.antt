@@ -15,7 +15,7 @@ use Rattle.cpp_direct.specs.declared.direct.Direct.{Direct}
 use Rattle.cpp_direct.specs.Holes.{with_candidate, unless_listed}
 use Rattle.cpp_direct.specs.Prints.{Prints}
 use Rattle.cpp_direct.specs.declared.open.Step.TheVariants as steps
-use Rattle.cpp_direct.specs.Stands.{IsCandidate, AreCandidates, IsBefore, IsNest, IsTemplate, ArgumentsGoOn, Stands, of_template}
+use Rattle.cpp_direct.specs.Stands.{IsCandidate, PrintsAs, PrintsOrNames, AreCandidates, IsBefore, IsNest, IsTemplate, ArgumentsGoOn, Stands, of_template}
 use Rattle.cpp_direct.specs.Written.{Writes, Reads, added, added_unless}
 
 -- ## Pieces of a text
@@ -72,9 +72,9 @@ candidates-more text (x ∷ ks) [] k c p is = absurd p
 -- what is written from a place on becomes a candidate
 pub candidates-added : (text : List ℕ) (ks : List Candidate) (cs : List values.Candidate) (front bytes : List ℕ) (from : ℕ) (t : Term) (e : ℕ) (r : Bool)
     → AreCandidates text ks cs → text ≡ front ++ bytes → from ≡ length front → Prints t bytes r
-    → AreCandidates text (ks ++ record { from = from; to = length text; is_reference = r } ∷ []) (cs ++ record { tree = t; encoding = e } ∷ [])
+    → AreCandidates text (ks ++ record { from = from; to = length text; is_reference = r; is_dependent = false; number = 0; encoding = 0 } ∷ []) (cs ++ record { tree = t; encoding = e } ∷ [])
 candidates-added text ks cs front bytes from t e r p written from_is prints =
-    candidates-more text ks cs (record { from = from; to = length text; is_reference = r }) (record { tree = t; encoding = e }) p (λ ordered. record {
+    candidates-more text ks cs (record { from = from; to = length text; is_reference = r; is_dependent = false; number = 0; encoding = 0 }) (record { tree = t; encoding = e }) p (λ ordered. record {
       front = front;
       bytes = bytes;
       back = [];
@@ -113,6 +113,10 @@ candidates-read old new bytes cs reads p =
     subst (λ l. AreCandidates l new.candidates.list.items cs) (sym reads.text)
     (subst (λ v. AreCandidates (old.text.list.items ++ bytes) v.list.items cs) (sym reads.candidates)
     (candidates-stay old.text.list.items bytes old.candidates.list.items cs p))
+
+-- what names no argument prints its text
+pub plainly-prints : (k : Candidate) (c : values.Candidate) (bytes : List ℕ) → k.is_dependent ≡ false → PrintsAs k c bytes → Prints c.tree bytes k.is_reference
+plainly-prints k c bytes plain prints = subst (λ b. PrintsOrNames b k c bytes) plain prints
 
 -- what a substitution names
 pub candidate-found : (text : List ℕ) (ks : List Candidate) (cs : List values.Candidate) (n : ℕ) (k : Candidate)

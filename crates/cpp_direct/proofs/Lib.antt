@@ -1,4 +1,5 @@
 pub mod Arguments
+pub mod ArraysRead
 pub mod Begins
 pub mod DependentsRead
 pub mod Elements
@@ -16,6 +17,7 @@ pub mod Listed
 pub mod Literals
 pub mod MarkPlaces
 pub mod Moves
+pub mod MovesOfArrays
 pub mod MovesOfComponents
 pub mod MovesOfEncodings
 pub mod MovesOfExpansions
@@ -32,6 +34,7 @@ pub mod NestComponents
 pub mod Nesting
 pub mod Operators
 pub mod PacksRead
+pub mod PrintedArrays
 pub mod PrintedExpansions
 pub mod PrintedFunctions
 pub mod PrintedLetters

@@ -255,7 +255,7 @@ instance-returns t a h = rw h refl
 
 -- the arguments of a piece of a nested name
 pub nest-closed : (s : Symbol) (w : Direct) (nest : Nest) → IsClosed s w (opens.NestArguments nest)
-    → IsWriting s (record w { nest = record nest { is_listed = false; is_instance = nest.has_class } }) steps.Tail
+    → IsWriting s (record w { nest = record nest { is_listed = false; is_instance = true } }) steps.Tail
 nest-closed s w nest p =
     let t = instance p.template (list_with p.ts p.tail) in
     record {
@@ -269,7 +269,7 @@ nest-closed s w nest p =
           outer = p.owns.1;
           bytes = p.name ++ codes "<" ++ p.arguments ++ codes ">";
           written = p.written;
-          is_nest = instance-nest p.front p.name w.text.list.items nest false nest.has_class p.template p.ts p.tail p.arguments p.is_tail p.is_template.0
+          is_nest = instance-nest p.front p.name w.text.list.items nest false true p.template p.ts p.tail p.arguments p.is_tail p.is_template.0
               p.elements p.written;
           goes = p.owns.2;
           serves = p.owns.3;
@@ -312,7 +312,7 @@ first-closed s w new nest p candidates text waiting at =
     }
 
 -- the arguments of the name of an encoding
-pub name-closed : (s : Symbol) (w : Direct) (from : ℕ) → IsClosed s w (opens.NameArguments from) → IsNameEnded s w marks.Plain true from
+pub name-closed : (s : Symbol) (w : Direct) (from : ℕ) → IsClosed s w (opens.NameArguments from) → IsNameEnded s w marks.Plain true w.argument from
 unfolding tree_of qualifiers_of ref_of
 name-closed s w from p =
     let t = instance p.template (list_with p.ts p.tail) in
@@ -332,7 +332,7 @@ name-closed s w from p =
       prints = as-name t bytes false (instance-prints p.template p.name p.is_template.1 p.ts p.tail p.arguments p.is_tail p.elements);
       no_return = λ h. absurd (false≢true (sym h));
       returns = λ h. instance-returns p.template (list_with p.ts p.tail) p.is_template.2;
-      names = λ h. closed-arguments s w (opens.NameArguments from) p;
+      names = closed-arguments s w (opens.NameArguments from) p;
       awaits = p.owns;
     }
 

@@ -1,4 +1,5 @@
 -- Moves within types: a byte or a name is read, and a type opens, or one comes.
+use Rattle.std.proofs.lemmas.Bool.{eqb-false}
 use Rattle.std.proofs.Common.{◌≡◌, ℕ, ◌+◌, ◌-◌, ◌<◌, List, [], ◌∷◌, slice_get, Bool, true, false, ◌&&◌, ◌||◌, not, nat_eq, Option, Some, None, Result, Ok, Err, refl, ap, subst, ◌∙◌, arith}
 use Rattle.sym_core.specs.declared.refusal.Refusal.{Refusal}
 use Rattle.sym_core.specs.declared.refusal.Refusal.TheVariants.{BadReference}
@@ -440,31 +441,77 @@ substituted-so around place c st closed none = ap (λ o. whole o (packs_in aroun
       | false ↦ with_packs place around.in_expansion packs st >>= λ s. Ok (found (tree c.tree true) s)
     ]
 
+and-false : (b : Bool) → (b && false) ≡ false
+and-false true = refl
+and-false false = refl
+
+-- one that names parameters, in the encoding that it was made in
+same-place : (n : ℕ) → nat_eq n n ≡ true
+same-place n = go (nat_eq n n) refl
+  where
+    go : (b : Bool) → nat_eq n n ≡ b → nat_eq n n ≡ true
+    go true is = is
+    go false is = absurd (eqb-false n n is refl)
+
+substituted-open : (around : Around) (place : ℕ) (c : Candidate) (st : State) → c.encoding ≡ around.encoding → around.in_lambda ≡ false
+    → packs_in around.scope c.tree ≡ None → substituted around place (Some c) st ≡ Ok (found (tree c.tree true) st)
+unfolding substituted with_packs
+substituted-open around place c st made plain none =
+    ap (λ l. whole (is_open c.tree) l (nat_eq c.encoding around.encoding) (packs_in around.scope c.tree)) plain
+    ∙ ap (λ b. whole (is_open c.tree) false b (packs_in around.scope c.tree)) (ap (λ n. nat_eq n around.encoding) made ∙ same-place around.encoding)
+    ∙ ap (λ b. gated b (packs_in around.scope c.tree)) (and-false (is_open c.tree)) ∙ ap (gated false) none
+  where
+    gated : Bool → Option ℕ → Result (Found Value State) Refusal
+    gated gate packs = elim gate [
+      | true ↦ Err (BadReference place)
+      | false ↦ with_packs place around.in_expansion packs st >>= λ s. Ok (found (tree c.tree true) s)
+    ]
+
+    whole : Bool → Bool → Bool → Option ℕ → Result (Found Value State) Refusal
+    whole o lambda same packs = gated (o && (lambda || not same)) packs
+
 substitution-closes : (around : Around) (place : ℕ) (before : State) (digits : List ℕ) (c : Candidate) (st : State)
-    → slice_get st.candidates (counted_value Seq36 digits) ≡ Some c → is_open c.tree ≡ false → ((scope : Term) → pack_length scope c.tree ≡ None)
+    → slice_get st.candidates (counted_value Seq36 digits) ≡ Some c
+    → ((at : ℕ) → substituted around at (Some c) st ≡ Ok (found (tree c.tree true) st))
     → close Production.Substitution 0 around place before (text digits ∷ []) st ≡ Ok (found (tree c.tree true) st)
 unfolding close part text_of
-substitution-closes around place before digits c st at closed none =
-    ap (λ o. substituted around (place - 1) o st) at ∙ substituted-so around (place - 1) c st closed none
+substitution-closes around place before digits c st at so =
+    ap (λ o. substituted around (place - 1) o st) at ∙ so (place - 1)
 
--- a substitution
-pub substitution-opens : (s : Symbol) (kind : Kind) (around : Around) (os : List Opened) (at : ℕ) (st : State) (digits : List ℕ) (end : ℕ)
+substitution-by : (s : Symbol) (kind : Kind) (around : Around) (os : List Opened) (at : ℕ) (st : State) (digits : List ℕ) (end : ℕ)
     (c : Candidate) → IsNamedKind kind
-    → slice_get st.candidates (counted_value Seq36 digits) ≡ Some c → is_open c.tree ≡ false → ((scope : Term) → pack_length scope c.tree ≡ None)
+    → slice_get st.candidates (counted_value Seq36 digits) ≡ Some c
+    → ((place : ℕ) → substituted around place (Some c) st ≡ Ok (found (tree c.tree true) st))
     → TreeOpens s kind os around at st → StandsAt s.bytes at (83 ∷ []) → IsSeqAt s.bytes (at + 1) digits end
     → TypeNamed s os around c.tree true end st
 unfolding choose alternatives pick is_in in_ranges among is_chain parts_of number_of_kind between opening close unfolding_.behind meaning byte_of part
-substitution-opens s kind around os at st digits end c is_named names_it closed none solid stands is =
+substitution-by s kind around os at st digits end c is_named names_it so solid stands is =
     let w = name-with-s-opens s kind around os at st is_named solid stands in
     let type = opened (standing (rule_of Production.AbbreviatedType) [] (at + 1) around st) [] [] ∷ w.inner in
     let v = tree c.tree true in
     w.named c.tree true end st
     (last-of s Production.AbbreviatedType [] (at + 1) around st [] v w.inner end st v st refl
     (last-of s Production.Substitution [] (at + 1) around st [] (text digits) type end st v st
-    (substitution-closes around (at + 1) st digits c st names_it closed none)
+    (substitution-closes around (at + 1) st digits c st names_it so)
     (expects-seq s around (opened (standing (rule_of Production.Substitution) [] (at + 1) around st) [] [] ∷ type) (at + 1) st digits end
     (first-of-chain s Kind.Abbreviation Production.Substitution 48 around type (at + 1) st (Number Seq36) [] around [] st refl (omega arith) refl
     (λ f. refl) refl refl (reference-behind-s s around w.inner (at + 1) st w.awaits)) is)))
+
+-- a substitution
+pub substitution-opens : (s : Symbol) (kind : Kind) (around : Around) (os : List Opened) (at : ℕ) (st : State) (digits : List ℕ) (end : ℕ)
+    (c : Candidate) → IsNamedKind kind
+    → slice_get st.candidates (counted_value Seq36 digits) ≡ Some c → is_open c.tree ≡ false → ((scope : Term) → pack_length scope c.tree ≡ None)
+    → TreeOpens s kind os around at st → StandsAt s.bytes at (83 ∷ []) → IsSeqAt s.bytes (at + 1) digits end → TypeNamed s os around c.tree true end st
+substitution-opens s kind around os at st digits end c is_named names_it closed none solid stands is =
+    substitution-by s kind around os at st digits end c is_named names_it (λ place. substituted-so around place c st closed none) solid stands is
+
+-- one that names parameters
+pub open-substitution-opens : (s : Symbol) (kind : Kind) (around : Around) (os : List Opened) (at : ℕ) (st : State) (digits : List ℕ) (end : ℕ)
+    (c : Candidate) → IsNamedKind kind → slice_get st.candidates (counted_value Seq36 digits) ≡ Some c → c.encoding ≡ around.encoding
+    → around.in_lambda ≡ false → packs_in around.scope c.tree ≡ None
+    → TreeOpens s kind os around at st → StandsAt s.bytes at (83 ∷ []) → IsSeqAt s.bytes (at + 1) digits end → TypeNamed s os around c.tree true end st
+open-substitution-opens s kind around os at st digits end c is_named names_it made plain none solid stands is =
+    substitution-by s kind around os at st digits end c is_named names_it (λ place. substituted-open around place c st made plain none) solid stands is
 
 -- a nested name is expected behind an N
 pub nested-type-opens : (s : Symbol) (kind : Kind) (around : Around) (os : List Opened) (at : ℕ) (st : State) → IsNamedKind kind

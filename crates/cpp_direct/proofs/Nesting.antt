@@ -1,4 +1,6 @@
 -- Nested names are read and written from left to right.
+use Rattle.cpp_direct.specs.declared.open.Arguments.{Arguments}
+use Rattle.cpp_direct.proofs.Scopes.{none-known}
 use Rattle.std.proofs.Common.{◌≡◌, ◌≢◌, ℕ, ◌+◌, ◌-◌, ◌≤◌, List, [], ◌∷◌, ◌++◌, length, take, drop, reverse, slice_get, Bool, true, false, Option, Some, None, refl, ap, sym, ◌∙◌, subst, arith, codes, append-nil, append_assoc, nat_eq, ◌&&◌, length-append}
 use Rattle.std.specs.Option.{IfSome, OnSome}
 use Rattle.std.proofs.lemmas.Bool.{false≢true, eqb-true}
@@ -28,11 +30,11 @@ use Rattle.cpp_direct.specs.Holes.{Opened, Comes, StandsAt, IsNameAt, IsSeqAt, S
 use Rattle.cpp_direct.specs.HolesOfNests.{IsRest, NestKnown}
 use Rattle.cpp_direct.specs.Names.{tag_text}
 use Rattle.cpp_direct.specs.Prints.{Prints, NamesClass}
-use Rattle.cpp_direct.specs.Stands.{HasArguments, AreCandidates, IsNest, IsNesting, IsOwn, IsTemplate, ArgumentsGoOn, Serves, Stands, IsWriting, qualifiers}
+use Rattle.cpp_direct.specs.Stands.{HasArguments, AreCandidates, IsNest, IsNesting, IsOwn, IsTemplate, ArgumentsGoOn, Serves, Stands, IsWriting, qualifiers, IsKnown, nowhere, place_of}
 use Rattle.cpp_direct.specs.Ways.{AwaitsNest, IsNestKnown, IsNestNamed, IsNameEnded, IsOperatorRead}
 use Rattle.cpp_direct.specs.Written.{Reads, added, added_unless}
 use Rattle.cpp_direct.proofs.Alone.{alone-arguments}
-use Rattle.cpp_direct.proofs.Kept.{arguments-begun, candidates-read, candidates-stay, candidates-with, candidates-unless, candidate-found, piece-found, nest-stays, reverse-last}
+use Rattle.cpp_direct.proofs.Kept.{arguments-begun, candidates-read, candidates-stay, candidates-with, candidates-unless, candidate-found, piece-found, nest-stays, reverse-last, plainly-prints}
 use Rattle.cpp_direct.proofs.Moves.{expects-empty, stands-join, comes-moved}
 use Rattle.cpp_direct.proofs.MovesOfComponents.{component-awaits, first-arguments, instance-arguments, nest-end}
 use Rattle.cpp_direct.proofs.MovesOfLists.{arguments-open}
@@ -106,7 +108,7 @@ named-goes-on s w n = record {
       serves = n.serves;
     },
     (λ own e. n.no_return),
-    (λ e. absurd (false≢true (sym n.no_instance ∙ e))),
+    (λ e. absurd (false≢true (sym (ap (λ b. b && w.nest.has_class) n.no_instance) ∙ e))),
     (λ e. absurd (false≢true (sym n.no_instance ∙ e))),
   );
 }
@@ -346,15 +348,24 @@ type-ended s old new st t candidates n here is_type keeps =
       );
     }
 
+-- the arguments that it ends in were noted, or none are known
+pub arguments-noted : (b : Bool) (text : List ℕ) (a r : Arguments) (t : Term) → (b ≡ true → r ≡ a) → (b ≡ false → r ≡ nowhere)
+    → (b ≡ true → HasArguments text a t) → HasArguments text r t
+arguments-noted true text a r t known none has = subst (λ (k : Arguments). HasArguments text k t) (sym (known refl)) (has refl)
+arguments-noted false text a r t known none has = λ k o. absurd (none-known k (subst (λ (q : Arguments). IsKnown (place_of q k)) (none refl) o))
+
+pub left-true : (a b : Bool) → (a && b) ≡ true → a ≡ true
+left-true true b e = refl
+left-true false b e = e
+
 -- it is the name of the encoding
-pub name-comes : (s : Symbol) (old : Direct) (st : State) (t : Term) (mark : Mark)
+pub name-comes : (s : Symbol) (old : Direct) (st : State) (t : Term) (mark : Mark) (is_function : Bool) (argument_ : Arguments)
     → AreCandidates old.text.list.items old.candidates.list.items st.candidates → IsNesting s Kind.NestTail old t st
-    → (old.nest.is_instance ≡ false → has_return_type t ≡ false) → (old.nest.is_instance ≡ true → has_return_type t ≡ true)
-    → (old.nest.is_instance ≡ true → HasArguments old.text.list.items old.argument t)
+    → (is_function ≡ false → has_return_type t ≡ false) → (is_function ≡ true → has_return_type t ≡ true) → HasArguments old.text.list.items argument_ t
     → StandsAt s.bytes old.at (69 ∷ [])
-    → old.nest.purpose ≡ purposes.Name mark → IsNameEnded s (record old { at = old.at + 1 }) mark old.nest.is_instance old.nest.from
+    → old.nest.purpose ≡ purposes.Name mark → IsNameEnded s (record old { at = old.at + 1 }) mark is_function argument_ old.nest.from
 unfolding tree_of qualifiers_of ref_of
-name-comes s old st t mark candidates n no_return returns names here is_name =
+name-comes s old st t mark is_function argument_ candidates n no_return returns names here is_name =
     let serves = subst (λ p. Serves s p (Stands s (reverse old.waiting.list.items)) n.outer n.front) is_name n.serves in
     record {
       state = st;
@@ -377,7 +388,7 @@ name-comes s old st t mark candidates n no_return returns names here is_name =
 
 -- the E of one that an operator ends
 pub operator-ends : (s : Symbol) (w : Direct) (mark : Mark) → IsOperatorRead s w → StandsAt s.bytes w.at (69 ∷ [])
-    → w.nest.purpose ≡ purposes.Name mark → IsNameEnded s (record w { at = w.at + 1 }) mark false w.nest.from
+    → w.nest.purpose ≡ purposes.Name mark → IsNameEnded s (record w { at = w.at + 1 }) mark false nowhere w.nest.from
 unfolding may_be_empty tree_of qualifiers_of ref_of
 operator-ends s w mark p here is_name =
     let t = p.own in
@@ -399,7 +410,7 @@ operator-ends s w mark p here is_name =
       prints = p.prints;
       no_return = λ e. p.no_return;
       returns = λ e. absurd (false≢true e);
-      names = λ e. absurd (false≢true e);
+      names = λ k o. absurd (none-known k o);
       awaits = serves t false (w.at + 1) st
           (goes.passes (tree t false) (w.at + 1) st (nest-end s goes.inner p.around t false w.at st goes.awaits here));
     }
@@ -577,17 +588,17 @@ candidate-text s w purpose a n k ordered found =
 -- a reference begins a nested name
 pub reference-begins : (s : Symbol) (old mid : Direct) (purpose : Purpose) (digits : List ℕ) (k : Candidate) → AwaitsNest s old purpose
     → StandsAt s.bytes old.at (83 ∷ []) → IsSeqAt s.bytes (old.at + 1) digits mid.at
-    → k.from ≤ k.to → slice_get old.candidates.list.items (counted_value Seq36 digits) ≡ Some k → k.is_reference ≡ false
+    → k.from ≤ k.to → slice_get old.candidates.list.items (counted_value Seq36 digits) ≡ Some k → k.is_reference ≡ false → k.is_dependent ≡ false
     → mid.text.list.items ≡ old.text.list.items ++ take (k.to - k.from) (drop k.from old.text.list.items) → mid.candidates ≡ old.candidates
     → mid.waiting ≡ old.waiting → (from : ℕ) → from ≡ length old.text.list.items
     → IsNestKnown s (record mid { nest = nest_of from from from purpose true false })
-reference-begins s old mid purpose digits k a here is ordered found plain text_is candidates_are waiting_is from from_is =
+reference-begins s old mid purpose digits k a here is ordered found plain closed text_is candidates_are waiting_is from from_is =
     let nest = nest_of from from from purpose true false in
     let one = candidate-found old.text.list.items old.candidates.list.items a.state.candidates (counted_value Seq36 digits) k a.candidates ordered found in
     let c = one.0 in
     let it = one.2 in
     let piece = piece-found old.text.list.items it.front it.bytes it.back k.from k.to it.written it.from_is it.to_is in
-    let prints = subst (λ b. Prints c.tree it.bytes b) plain it.prints in
+    let prints = subst (λ b. Prints c.tree it.bytes b) plain (plainly-prints k c it.bytes closed it.prints) in
     known-begins s old (record mid { nest = nest }) purpose a c.tree it.bytes (text_is ∙ ap (λ l. old.text.list.items ++ l) piece.2) candidates_are
     waiting_is refl (classless-nest old.text.list.items it.bytes nest c.tree from_is from_is from_is refl prints)
     refl refl (nest-substitution s a.outer a.around old.at a.state digits mid.at c a.awaits here is one.1 prints.is_closed prints.packless)

@@ -54,6 +54,22 @@ returned-encloses name q ref returned items b p =
       packless = λ scope. refl;
     }
 
+-- It has the same text there as without.
+pub returned-enclosing : (name : Term) (q : Qualifiers) (ref : RefQualifier) (returned items : Term) (b : List ℕ)
+    → Encloses (function name q ref absent items) b → Encloses (function name q ref returned items) b
+unfolding bare_parts prefix_item is_open pack_length parts_in
+returned-enclosing name q ref returned items b p =
+    let e = function name q ref returned items in
+    let same : in_form bare closed e ≡ in_form bare closed (function name q ref absent items) =
+    prints_parts bare closed e ∙ sym (prints_parts bare closed (function name q ref absent items)) in
+    record {
+      as_prefix = λ c. refl;
+      bare_text = ap text_of same ∙ p.bare_text;
+      bare_cost = omega (arith, p.bare_cost, ap cost_of same);
+      is_closed = refl;
+      packless = λ scope. refl;
+    }
+
 object-encloses : (name : Term) (q : Qualifiers) (ref : RefQualifier) (b : List ℕ) → Shows (object name q ref) b → Encloses (object name q ref) b
 unfolding bare_parts full_parts prefix_item is_open pack_length
 object-encloses name q ref b p = encloses-as (object name q ref) b refl (λ c. refl) refl (λ k. refl) p

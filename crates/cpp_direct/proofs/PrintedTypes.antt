@@ -1,7 +1,7 @@
 -- Types that are made of another type: pointers, references and constant types.
 use Prim.Native.String.{String}
 use Rattle.cpp_direct.proofs.PrintedParts.{text_by, cost_by}
-use Rattle.cpp_direct.specs.Prints.{Prints, PrintsIn, EndsAsInteger, in_form, PrintsBehind, IsElementIn}
+use Rattle.cpp_direct.specs.Prints.{Prints, PrintsIn, EndsAsInteger, in_form, NamesArgument, IsElementIn}
 use Rattle.cpp_grammar.specs.Items.{closed, Form, left, right, low, Context, Head, lref, collapsed, head_with, head, is_reference, is_funarr, is_empty, argument, head_closed}
 use Rattle.cpp_grammar.specs.Meaning.{is_void}
 use Rattle.cpp_grammar.specs.Parts.{as_item, says, text_part, qualifier_text, prefix_item, last_piece, opening_text, marked_parts, reference_parts, qualified_left, qualified_right, closing_right, left_parts, right_parts, parts_in, not_empty, is_plain_integer}
@@ -261,8 +261,13 @@ parameter-in c k b r p =
       void = λ e. cc e;
     }
 
-pub parameter-prints : (k : ℕ) → PrintsBehind k (parameter k) [] false
-parameter-prints k c b p = subst (λ l. PrintsIn c 2 (parameter k) l false) (sym (append-nil b)) (parameter-in c k b false p)
+pub parameter-prints : (k : ℕ) → NamesArgument k (parameter k) [] false
+unfolding pack_length is_function_type
+parameter-prints k = record {
+  prints = λ c b p. subst (λ l. PrintsIn c 2 (parameter k) l false) (sym (append-nil b)) (parameter-in c k b false p);
+  packless = λ scope h. h;
+  no_function = refl;
+}
 
 -- An rvalue reference to a reference prints what this does.
 pub rvalue-again : (c : Context) (b : List ℕ) → Prints (argument c 0) b true → PrintsIn c 3 (rvalue (parameter 0)) b true
@@ -292,15 +297,34 @@ rvalue-again c b p =
     }
 
 -- With a mark behind it a type that names the argument prints that too.
-pub pointer-behind : (k : ℕ) (t : Term) (m : List ℕ) (r : Bool) → PrintsBehind k t m r → PrintsBehind k (pointer t) (m ++ codes "*") false
-pointer-behind k t m r h c b p = subst (λ l. PrintsIn c 2 (pointer t) l false) (append_assoc b m (codes "*")) (pointer-in c 2 t (b ++ m) r (h c b p))
+pub pointer-behind : (k : ℕ) (t : Term) (m : List ℕ) (r : Bool) → NamesArgument k t m r → NamesArgument k (pointer t) (m ++ codes "*") false
+unfolding pack_length is_function_type
+pointer-behind k t m r h = record {
+  prints = λ c b p. subst (λ l. PrintsIn c 2 (pointer t) l false) (append_assoc b m (codes "*")) (pointer-in c 2 t (b ++ m) r (h.prints c b p));
+  packless = h.packless;
+  no_function = refl;
+}
 
-pub lvalue-behind : (k : ℕ) (t : Term) (m : List ℕ) → PrintsBehind k t m false → PrintsBehind k (lvalue t) (m ++ codes "&") true
-lvalue-behind k t m h c b p = subst (λ l. PrintsIn c 2 (lvalue t) l true) (append_assoc b m (codes "&")) (lvalue-in c 2 t (b ++ m) (h c b p))
+pub lvalue-behind : (k : ℕ) (t : Term) (m : List ℕ) → NamesArgument k t m false → NamesArgument k (lvalue t) (m ++ codes "&") true
+unfolding pack_length is_function_type
+lvalue-behind k t m h = record {
+  prints = λ c b p. subst (λ l. PrintsIn c 2 (lvalue t) l true) (append_assoc b m (codes "&")) (lvalue-in c 2 t (b ++ m) (h.prints c b p));
+  packless = h.packless;
+  no_function = refl;
+}
 
-pub rvalue-behind : (k : ℕ) (t : Term) (m : List ℕ) → PrintsBehind k t m false → PrintsBehind k (rvalue t) (m ++ codes "&&") true
-rvalue-behind k t m h c b p = subst (λ l. PrintsIn c 2 (rvalue t) l true) (append_assoc b m (codes "&&")) (rvalue-in c 2 t (b ++ m) (h c b p))
+pub rvalue-behind : (k : ℕ) (t : Term) (m : List ℕ) → NamesArgument k t m false → NamesArgument k (rvalue t) (m ++ codes "&&") true
+unfolding pack_length is_function_type
+rvalue-behind k t m h = record {
+  prints = λ c b p. subst (λ l. PrintsIn c 2 (rvalue t) l true) (append_assoc b m (codes "&&")) (rvalue-in c 2 t (b ++ m) (h.prints c b p));
+  packless = h.packless;
+  no_function = refl;
+}
 
-pub const-behind : (k : ℕ) (t : Term) (m : List ℕ) → PrintsBehind k t m false → PrintsBehind k (qualified constant t) (m ++ codes " const") false
-const-behind k t m h c b p =
-    subst (λ l. PrintsIn c 2 (qualified constant t) l false) (append_assoc b m (codes " const")) (const-in c 2 t (b ++ m) (h c b p))
+pub const-behind : (k : ℕ) (t : Term) (m : List ℕ) → NamesArgument k t m false → NamesArgument k (qualified constant t) (m ++ codes " const") false
+unfolding pack_length is_function_type
+const-behind k t m h = record {
+  prints = λ c b p. subst (λ l. PrintsIn c 2 (qualified constant t) l false) (append_assoc b m (codes " const")) (const-in c 2 t (b ++ m) (h.prints c b p));
+  packless = h.packless;
+  no_function = refl;
+}

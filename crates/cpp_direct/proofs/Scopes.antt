@@ -1,5 +1,5 @@
 -- What a parameter of a template may name, and where it stands.
-use Rattle.std.proofs.Common.{◌≡◌, ℕ, zero, suc, ◌<◌, List, [], ◌∷◌, ◌++◌, slice_get, Some, None, arith, ap, sym, ◌∙◌, subst, append_assoc}
+use Rattle.std.proofs.Common.{◌≡◌, ℕ, zero, suc, ◌<◌, List, [], ◌∷◌, ◌++◌, slice_get, Some, None, arith, ap, sym, ◌∙◌, subst, append_assoc, refl}
 use Rattle.cpp_grammar.specs.Scope.{count, element}
 use Rattle.cpp_grammar.specs.Term.{Term}
 use Rattle.cpp_grammar.specs.Values.{Around}
@@ -8,7 +8,7 @@ use Rattle.cpp_direct.specs.declared.open.Open.{Open}
 use Rattle.cpp_direct.specs.declared.open.Open.TheVariants as opens
 use Rattle.cpp_direct.specs.declared.open.Argument.{Argument}
 use Rattle.cpp_direct.specs.declared.open.Arguments.{Arguments}
-use Rattle.cpp_direct.specs.Stands.{IsPlaced, IsAmong, AreAmong, IsEnclosing, HasArguments, HasScope, IsFunction, IsKnown, IsScoped, argument_of, list_with, nowhere, place_of}
+use Rattle.cpp_direct.specs.Stands.{IsArgument, IsPlaced, IsAmong, AreAmong, IsEnclosing, HasArguments, HasScope, IsEncodingOf, IsFunction, IsKnown, IsScoped, argument_of, list_with, named_in, nowhere, place_of}
 use Rattle.cpp_direct.specs.Ways.{AreKnown}
 
 -- what stands at a place stays there where more is written
@@ -117,6 +117,23 @@ front-scoped around mark start p rest h q e = scoped-by around p q (cc e) h
 pub enclosing-scoped : (around : Around) (mark : Mark) (from : ℕ) (p : Arguments) (rest : List Open) → HasScope p around
     → IsScoped around (opens.Enclosing mark from p ∷ rest)
 enclosing-scoped around mark from p rest h q e = scoped-by around p q (cc e) h
+
+-- where one may be named, the encoding is the arguments'
+pub scoped-encoding : (around : Around) (open_ : List Open) → IsScoped around open_ → IsEncodingOf (argument_of open_) around.encoding
+scoped-encoding around open_ scoped a k e known real = ((scoped a e k known).1 real).0
+
+-- they stand where they stood
+pub named-there : (place : ℕ) (a : Arguments) (k : ℕ) → place_of (named_in place a) k ≡ place_of a k
+named-there place a zero = refl
+named-there place a (suc zero) = refl
+named-there place a (suc (suc zero)) = refl
+named-there place a (suc (suc (suc zero))) = refl
+named-there place a (suc (suc (suc (suc k)))) = refl
+
+pub arguments-named : (text : List ℕ) (place : ℕ) (a : Arguments) (name : Term) → HasArguments text a name → HasArguments text (named_in place a) name
+arguments-named text place a name has k o =
+    let same = named-there place a k in
+    subst (λ (p : Argument). IsArgument text p k name) (sym same) (has k (subst IsKnown same o))
 
 -- elsewhere none does
 pub none-scoped : (around : Around) (open_ : List Open) → argument_of open_ ≡ None → IsScoped around open_

@@ -22,12 +22,12 @@ use Rattle.cpp_direct.specs.Holes.{Opened, StandsAt, Comes, Expects, with_candid
 use Rattle.cpp_direct.specs.HolesOfFunctions.{SignatureGoesOn, plain_function, pointed, with_pointed, reference, reference_letter}
 use Rattle.cpp_direct.specs.HolesOfTypes.{NoReference}
 use Rattle.cpp_direct.specs.Prints.{PrintEach, PrintAll, joined}
-use Rattle.cpp_direct.specs.Stands.{IsScoped, AreCandidates, IsWriting, Marks, Stands, TakesFunction, opening_text, list_with, in_front_of_next}
-use Rattle.cpp_direct.specs.Ways.{AwaitsParameter, AwaitsSignature, IsElementRead, IsFunctionRead, IsReturned}
+use Rattle.cpp_direct.specs.Stands.{IsScoped, AreCandidates, IsWriting, Marks, Stands, TakesFunction, opening_text, list_with, in_front_of_next, argument_of}
+use Rattle.cpp_direct.specs.Ways.{AwaitsParameter, AwaitsSignature, IsElementPassed, IsFunctionRead, IsReturned}
 use Rattle.cpp_direct.specs.Written.{Writes, hidden, with_hidden}
 use Rattle.cpp_direct.proofs.Ending.{no-void, next-written}
 use Rattle.cpp_direct.proofs.Kept.{candidates-more, candidates-stay, candidates-written, reverse-last}
-use Rattle.cpp_direct.proofs.Listed.{TakesElements, last-found, list-more}
+use Rattle.cpp_direct.proofs.Listed.{TakesElements, list-more}
 use Rattle.cpp_direct.proofs.Moves.{stands-split}
 use Rattle.cpp_direct.proofs.MovesOfFunctions.{parameter-opens, reference-opens, signature-ends}
 use Rattle.cpp_direct.proofs.MovesOfTypes.{builtin-comes}
@@ -199,7 +199,7 @@ reference_entry true from = opens.Lvalue from
 reference_entry false from = opens.Rvalue from
 
 reference-stands : (s : Symbol) (is_lvalue : Bool) (rest : List Open) (os : List Opened) (text : List ℕ) (from : ℕ)
-    → Marks s (Stands s rest) os text from (reference is_lvalue) → Stands s (reference_entry is_lvalue from ∷ rest) os text
+    → Marks s (Stands s rest) (argument_of rest) os text from (reference is_lvalue) → Stands s (reference_entry is_lvalue from ∷ rest) os text
 reference-stands s true rest os text from marks = marks
 reference-stands s false rest os text from marks = marks
 
@@ -237,7 +237,7 @@ reference-comes s old new o is_pointer is_lvalue from a begins stands is waits a
             subst (λ v. Stands s (reverse new.waiting.list.items) p.inner v.list.items) (sym text)
                 (subst (λ ws. Stands s ws p.inner old.text.list.items) (sym turned)
                 (reference-stands s is_lvalue (opens.Signature is_pointer ∷ a.rest) p.inner old.text.list.items from
-                (p.whole, p.around.encoding, begins, p.passes, whole))),
+                (p.whole, p.around.encoding, begins, p.passes, whole, λ q k found known. cc found))),
             subst (λ ws. IsScoped p.around ws) (sym turned) (reference-scoped p.around is_lvalue from is_pointer a.rest),
           );
         }
@@ -352,11 +352,10 @@ still-popped s old new is_pointer p left size same length_is is =
     (is ∙ ap (λ v. take (size - 1) v.list.items) same)
 
 -- a function type is an element or a parameter
-pub function-handed : (s : Symbol) (old new : Direct) (is_pointer : Bool) (o : Open) (p : IsFunctionRead s old is_pointer)
+pub function-handed : (s : Symbol) (old new : Direct) (is_pointer : Bool) (p : IsFunctionRead s old is_pointer)
     → new.text.list.items ≡ old.text.list.items ++ codes ")" → new.candidates.list.items ≡ with_hidden old is_pointer → reverse new.waiting.list.items ≡ p.rest
-    → new.at ≡ old.at → slice_get new.waiting.list.items (length new.waiting.list.items - 1) ≡ Some o → IsElementRead s new o
-function-handed s old new is_pointer o p text candidates waits at found =
-    let last = last-found new.waiting.list.items o found in
+    → new.at ≡ old.at → IsElementPassed s new
+function-handed s old new is_pointer p text candidates waits at =
     let own = pointed is_pointer p.made in
     let then_ = with_pointed is_pointer p.encoding p.made p.state in
     record {
@@ -365,8 +364,6 @@ function-handed s old new is_pointer o p text candidates waits at found =
           (subst (λ l. AreCandidates (old.text.list.items ++ codes ")") l then_.candidates) (sym candidates)
           (hidden-candidates old is_pointer (old.text.list.items ++ codes ")") p.encoding p.made p.state
           (candidates-stay old.text.list.items (codes ")") old.candidates.list.items p.state.candidates p.candidates)));
-      rest = last.0;
-      open_is = last.1;
       os = p.outer;
       own = own;
       front = p.front;
@@ -374,7 +371,8 @@ function-handed s old new is_pointer o p text candidates waits at found =
       written = text ∙ ap (λ l. l ++ codes ")") p.written ∙ append_assoc p.front p.bytes (codes ")");
       element = p.element;
       comes = subst (λ n. Comes s p.outer (tree own true) n then_) (sym at) p.comes;
-      stands = subst (λ ws. Stands s ws p.outer p.front) (sym waits ∙ last.1) p.stands;
+      takes = subst TakesFunction (sym waits) p.takes;
+      stands = subst (λ ws. Stands s ws p.outer p.front) (sym waits) p.stands;
     }
 
 -- what takes a function type, and isn't parameters or a special object, takes elements

@@ -27,10 +27,11 @@ use Rattle.cpp_direct.specs.declared.direct.Direct.{Direct}
 use Rattle.cpp_direct.specs.Holes.{StandsAt, Comes, Expects, IsReferable, IsNameAt, IsSeqAt, TypeNamed, with_candidate, unless_listed}
 use Rattle.cpp_direct.specs.HolesOfTypes.{NoReference, IsQualifiable, TypeOpens}
 use Rattle.cpp_direct.specs.Prints.{Prints}
-use Rattle.cpp_direct.specs.Stands.{IsScoped, AreCandidates, Marks, Stands, IsWriting}
-use Rattle.cpp_direct.specs.Ways.{AwaitsType, AwaitsNamedType, AwaitsNest, IsTypeNamed, AwaitsMark}
+use Rattle.cpp_direct.specs.Stands.{IsScoped, AreCandidates, Marks, Stands, IsWriting, argument_of}
+use Rattle.cpp_direct.specs.Ways.{AwaitsType, AwaitsNamedType, AwaitsNest, IsNamedAgain, IsTypeNamed, AwaitsMark}
 use Rattle.cpp_direct.specs.Written.{Reads, added, added_unless}
-use Rattle.cpp_direct.proofs.Kept.{arguments-begun, piece-found, candidates-stay, candidates-added, candidates-read, candidate-found, reverse-last, last-reversed}
+use Rattle.cpp_direct.proofs.Scopes.{scoped-encoding}
+use Rattle.cpp_direct.proofs.Kept.{plainly-prints, arguments-begun, piece-found, candidates-stay, candidates-added, candidates-read, candidate-found, reverse-last, last-reversed}
 use Rattle.cpp_direct.proofs.Moves.{expects-empty, stands-join}
 use Rattle.cpp_direct.proofs.MovesOfLists.{arguments-open}
 use Rattle.cpp_direct.proofs.MovesOfTypes.{solid-opens, builtin-comes, builtin-with-d-comes, pointer-opens, lvalue-opens, rvalue-opens, const-opens, source-opens, std-opens, abbreviation-opens, substitution-opens, nested-type-opens}
@@ -69,7 +70,7 @@ popped xs ys rest x n size e is =
 -- a type ends with its mark
 pub mark-done : (s : Symbol) (old new : Direct) (mark : List ℕ) (from : ℕ) (r : Bool) (a : AwaitsMark s old mark from r)
     → reverse new.waiting.list.items ≡ a.rest → new.text.list.items ≡ old.text.list.items ++ mark
-    → new.candidates.list.items ≡ old.candidates.list.items ++ record { from = from; to = length new.text.list.items; is_reference = r } ∷ []
+    → new.candidates.list.items ≡ old.candidates.list.items ++ record { from = from; to = length new.text.list.items; is_reference = r; is_dependent = false; number = 0; encoding = 0 } ∷ []
     → new.at ≡ old.at → IsWriting s new (steps.Value r)
 mark-done s old new mark from r a waits text candidates at =
     let written : new.text.list.items ≡ a.front ++ (a.bytes ++ mark)
@@ -99,8 +100,8 @@ pub mark-answer : (s : Symbol) (old mid new : Direct) (mark : List ℕ) (from : 
     → new.candidates.list.items ≡ added mid from r → new.text ≡ mid.text → new.waiting ≡ mid.waiting → new.at ≡ mid.at → IsWriting s new (steps.Value r)
 mark-answer s old mid new mark from r a waits text candidates at more same_text same_waits same_at =
     mark-done s old new mark from r a (ap (λ v. reverse v.list.items) same_waits ∙ waits) (ap (λ v. v.list.items) same_text ∙ text)
-    (more ∙ ap (λ v. v.list.items ++ record { from = from; to = length mid.text.list.items; is_reference = r } ∷ []) candidates
-    ∙ ap (λ v. old.candidates.list.items ++ record { from = from; to = length v.list.items; is_reference = r } ∷ []) (sym same_text))
+    (more ∙ ap (λ v. v.list.items ++ record { from = from; to = length mid.text.list.items; is_reference = r; is_dependent = false; number = 0; encoding = 0 } ∷ []) candidates
+    ∙ ap (λ v. old.candidates.list.items ++ record { from = from; to = length v.list.items; is_reference = r; is_dependent = false; number = 0; encoding = 0 } ∷ []) (sym same_text))
     (same_at ∙ at)
 
 -- ## Names of types
@@ -370,6 +371,7 @@ names-awaited s w a = record {
   os = a.os;
   begins = solid-opens s a.kind a.around a.os w.at a.state a.typed a.awaits;
   stands = a.stands;
+  scoped = a.scoped;
 }
 
 -- a name with its length is read
@@ -459,11 +461,12 @@ substitution-stands s old n k a ordered found =
 pub substitution-named : (s : Symbol) (old new : Direct) (from : ℕ) (digits : List ℕ) (k : Candidate) → AwaitsNamedType s old → StandsAt s.bytes old.at (83 ∷ [])
     → IsSeqAt s.bytes (old.at + 1) digits new.at → k.from ≤ k.to → slice_get old.candidates.list.items (counted_value Seq36 digits) ≡ Some k
     → new.text.list.items ≡ old.text.list.items ++ take (k.to - k.from) (drop k.from old.text.list.items) → new.candidates ≡ old.candidates
-    → new.waiting ≡ old.waiting → from ≡ length old.text.list.items → IsTypeNamed s new from true k.is_reference
-substitution-named s old new from digits k a stands is ordered found text candidates waits begins =
+    → new.waiting ≡ old.waiting → from ≡ length old.text.list.items → k.is_dependent ≡ false → IsTypeNamed s new from true k.is_reference
+substitution-named s old new from digits k a stands is ordered found text candidates waits begins plain =
     let c = candidate-found old.text.list.items old.candidates.list.items a.state.candidates (counted_value Seq36 digits) k a.candidates ordered found in
     let piece = piece-found old.text.list.items c.2.front c.2.bytes c.2.back k.from k.to c.2.written c.2.from_is c.2.to_is in
     let written : new.text.list.items ≡ old.text.list.items ++ c.2.bytes = text ∙ ap (λ l. old.text.list.items ++ l) piece.2 in
+    let prints = plainly-prints k c.0 c.2.bytes plain c.2.prints in
     record {
       state = a.state;
       candidates = subst (λ v. AreCandidates new.text.list.items v.list.items a.state.candidates) (sym candidates)
@@ -473,23 +476,51 @@ substitution-named s old new from digits k a stands is ordered found text candid
       outside = a.outside;
       outer = a.os;
       own = c.0.tree;
-      named = substitution-opens s a.kind a.around a.os old.at a.state digits new.at c.0 a.is_named c.1 c.2.prints.is_closed c.2.prints.packless
+      named = substitution-opens s a.kind a.around a.os old.at a.state digits new.at c.0 a.is_named c.1 prints.is_closed prints.packless
           a.begins stands is;
       front = old.text.list.items;
       bytes = c.2.bytes;
       written = written;
       from_is = begins;
-      prints = c.2.prints;
+      prints = prints;
       no_reference = λ e. absurd (false≢true (sym e));
       stands = subst (λ v. Stands s (reverse v.list.items) a.os old.text.list.items) (sym waits) a.stands;
     }
+
+-- one that names an argument
+pub named-again : (s : Symbol) (old new : Direct) (digits : List ℕ) (k : Candidate) → AwaitsNamedType s old → StandsAt s.bytes old.at (83 ∷ [])
+    → IsSeqAt s.bytes (old.at + 1) digits new.at → k.from ≤ k.to → slice_get old.candidates.list.items (counted_value Seq36 digits) ≡ Some k
+    → new.text.list.items ≡ old.text.list.items → new.candidates ≡ old.candidates → new.waiting ≡ old.waiting → k.is_dependent ≡ true → IsNamedAgain s new k
+named-again s old new digits k a stands is ordered found text candidates waits dependent = record {
+  before = old.at;
+  awaits = record {
+    state = a.state;
+    candidates = subst (λ v. AreCandidates new.text.list.items v.list.items a.state.candidates) (sym candidates)
+        (subst (λ l. AreCandidates l old.candidates.list.items a.state.candidates) (sym text) a.candidates);
+    kind = a.kind;
+    is_named = a.is_named;
+    around = a.around;
+    outside = a.outside;
+    os = a.os;
+    begins = a.begins;
+    stands = subst (λ l. Stands s (reverse new.waiting.list.items) a.os l) (sym text)
+        (subst (λ v. Stands s (reverse v.list.items) a.os old.text.list.items) (sym waits) a.stands);
+    scoped = subst (λ v. IsScoped a.around (reverse v.list.items)) (sym waits) a.scoped;
+  };
+  letter = stands;
+  digits = digits;
+  number = is;
+  found = subst (λ v. slice_get v.list.items (counted_value Seq36 digits) ≡ Some k) (sym candidates) found;
+  ordered = ordered;
+  is = dependent;
+}
 
 -- ## Types within types
 
 -- a type within another one is expected
 pub type-opened : (s : Symbol) (old new : Direct) (o : Option Step) (entry : Open) (from : ℕ) (made : Term → Term) (a : AwaitsType s old)
     (t : TypeOpens s Kind.Type a.os a.around made (old.at + 1) a.state) → from ≡ length old.text.list.items
-    → (Marks s (Stands s (reverse old.waiting.list.items)) t.inner old.text.list.items from made → Stands s (entry ∷ reverse old.waiting.list.items) t.inner old.text.list.items)
+    → (Marks s (Stands s (reverse old.waiting.list.items)) (argument_of (reverse old.waiting.list.items)) t.inner old.text.list.items from made → Stands s (entry ∷ reverse old.waiting.list.items) t.inner old.text.list.items)
     → IsScoped a.around (entry ∷ reverse old.waiting.list.items)
     → IfSome o (λ next. next ≡ steps.Type) → OnSome o (new.waiting.list.items ≡ old.waiting.list.items ++ entry ∷ []) → OnSome o (new.at ≡ old.at + 1)
     → new.text ≡ old.text → new.candidates ≡ old.candidates → IfSome o (IsWriting s new)
@@ -506,7 +537,7 @@ type-opened s old new o entry from made a t begins stands scoped is waits at tex
         subst (λ l. Stands s l t.inner new.text.list.items)
             (sym (ap reverse (given _ o steps.Type e waits) ∙ reverse-last old.waiting.list.items entry))
             (subst (λ v. Stands s (entry ∷ reverse old.waiting.list.items) t.inner v.list.items) (sym text)
-            (stands (a.os, a.around.encoding, begins, t.passes, a.stands))),
+            (stands (a.os, a.around.encoding, begins, t.passes, a.stands, scoped-encoding a.around (reverse old.waiting.list.items) a.scoped))),
         subst (λ l. IsScoped a.around l) (sym (ap reverse (given _ o steps.Type e waits) ∙ reverse-last old.waiting.list.items entry)) scoped,
       );
     })
@@ -566,7 +597,7 @@ plain-opened s old new o from a may begins stands is waits at text candidates =
         subst (λ l. Stands s l t.inner new.text.list.items)
             (sym (ap reverse (given _ o steps.Plain e waits) ∙ reverse-last old.waiting.list.items (opens.Const from)))
             (subst (λ v. Stands s (opens.Const from ∷ reverse old.waiting.list.items) t.inner v.list.items) (sym text)
-            (a.os, a.around.encoding, begins, t.passes, a.stands)),
+            (a.os, a.around.encoding, begins, t.passes, a.stands, scoped-encoding a.around (reverse old.waiting.list.items) a.scoped)),
         subst (λ l. IsScoped a.around l) (sym (ap reverse (given _ o steps.Plain e waits) ∙ reverse-last old.waiting.list.items (opens.Const from)))
             a.scoped,
       );

@@ -1,4 +1,5 @@
 -- Names of encodings that stand in no class: where a writer is behind them.
+use Rattle.cpp_direct.proofs.Scopes.{none-known}
 use Rattle.std.proofs.Common.{◌≡◌, ◌≢◌, ℕ, ◌+◌, length, List, [], ◌∷◌, ◌++◌, reverse, Bool, true, false, not, cond, Option, Some, None, refl, ap, sym, subst, ◌∙◌, arith, append_assoc, codes}
 use Rattle.std.specs.Option.{IfSome, OnSome}
 use Rattle.std.proofs.lemmas.Bool.{false≢true}
@@ -18,7 +19,7 @@ use Rattle.cpp_direct.specs.declared.direct.Direct.{Direct}
 use Rattle.cpp_direct.specs.Holes.{StandsAt, Comes, Expects, IsNameAt, Named, with_candidate, IsTagAt}
 use Rattle.cpp_direct.specs.Names.{IsOperatorAt, is_angle, operator_text, tag_text}
 use Rattle.cpp_direct.specs.Prints.{Prints, PrintsName}
-use Rattle.cpp_direct.specs.Stands.{AreCandidates, IsWriting}
+use Rattle.cpp_direct.specs.Stands.{AreCandidates, IsWriting, nowhere}
 use Rattle.cpp_direct.specs.Ways.{AwaitsEncoding, AwaitsSource, HasName, IsNameEnded, IsUnscoped}
 use Rattle.cpp_direct.specs.Written.{Writes, Reads, added}
 use Rattle.cpp_direct.proofs.Begins.{encoding-expected, items-await}
@@ -164,7 +165,7 @@ std-operator-unscoped s old marked read first second a b takes p letter next mar
 -- ## What stands behind it
 
 -- no arguments
-pub unscoped-bare : (s : Symbol) (w : Direct) (from : ℕ) (takes : Bool) → IsUnscoped s w from takes → IsNameEnded s w marks.Plain false from
+pub unscoped-bare : (s : Symbol) (w : Direct) (from : ℕ) (takes : Bool) → IsUnscoped s w from takes → IsNameEnded s w marks.Plain false nowhere from
 unfolding may_be_empty tree_of qualifiers_of ref_of
 unscoped-bare s w from takes p = record {
   state = p.state;
@@ -181,7 +182,7 @@ unscoped-bare s w from takes p = record {
   from_is = p.from_is;
   no_return = λ e. p.no_return;
   returns = λ e. absurd (false≢true e);
-  names = λ e. absurd (false≢true e);
+  names = λ k o. absurd (none-known k o);
   awaits = p.has.bare w.at p.state
       (expects-empty s Kind.MaybeArguments (after p.own false (in_name p.encoding)) p.has.inner w.at p.state p.has.awaits refl);
 }

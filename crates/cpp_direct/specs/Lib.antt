@@ -1,5 +1,6 @@
 pub mod Bytes
 pub mod Holes
+pub mod HolesOfArrays
 pub mod HolesOfFunctions
 pub mod HolesOfLists
 pub mod HolesOfLocals

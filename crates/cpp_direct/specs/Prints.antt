@@ -3,7 +3,7 @@ use Rattle.std.specs.Prelude.{◌≡◌, ℕ, ◌+◌, ◌*◌, ◌≤◌, List,
 use Rattle.sym_print.specs.declared.detail.Detail.TheVariants.{Full}
 use Rattle.sym_print.specs.Unshared.{Unshared, text_of, cost_of}
 use Rattle.cpp_grammar.specs.Term.{Signed, Term, nil, list}
-use Rattle.cpp_grammar.specs.Scope.{is_open, pack_length, length_if_pack}
+use Rattle.cpp_grammar.specs.Scope.{element, is_open, pack_length, length_if_pack}
 use Rattle.cpp_grammar.specs.References.{is_function_type}
 use Rattle.cpp_grammar.specs.Items.{Form, full, bare, left, right, base, piece, Context, closed, head, is_reference, is_funarr, is_empty, argument}
 use Rattle.cpp_grammar.specs.Meaning.{is_void}
@@ -57,6 +57,12 @@ pub record PrintsIn (context : Context) (extra : ℕ) (t : Term) (bytes : List �
 abbrev pub PrintsBehind : (number : ℕ) → Term → (marks : List ℕ) → (reference : Bool) → Type 0
 PrintsBehind number t marks reference =
     (context : Context) (bytes : List ℕ) → Prints (argument context number) bytes false → PrintsIn context 2 t (bytes ++ marks) reference
+
+-- A tree that names an argument of its scope, and is a type that may be named itself where that isn't a pack.
+pub record NamesArgument (number : ℕ) (t : Term) (marks : List ℕ) (reference : Bool) : Type 0 where
+  pub prints : PrintsBehind number t marks reference
+  pub packless : (scope : Term) → length_if_pack (element scope number) ≡ None → pack_length scope t ≡ None
+  pub no_function : is_function_type t ≡ false
 
 -- what an rvalue reference to a type has behind its text, if it is no reference
 abbrev pub forwarded : (reference : Bool) → List ℕ

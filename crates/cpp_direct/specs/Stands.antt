@@ -1,11 +1,11 @@
 -- What a writer's lists say while a symbol is read: what is open waits for what comes next, and what was written is its text.
-use Rattle.std.specs.Prelude.{◌≡◌, ◌≢◌, ◌⊎◌, ℕ, zero, suc, ◌+◌, ◌*◌, ◌≤◌, ◌<◌, List, [], ◌∷◌, ◌++◌, length, reverse, slice_get, Bool, true, false, Option, Some, None, Ok, codes}
+use Rattle.std.specs.Prelude.{◌≡◌, ◌≢◌, ◌⊎◌, ℕ, zero, suc, ◌+◌, ◌*◌, ◌≤◌, ◌<◌, List, [], ◌∷◌, ◌++◌, ◌-◌, length, take, drop, reverse, slice_get, Bool, true, false, cond, Option, Some, None, Ok, codes, ◌&&◌}
 use Rattle.sym_print.specs.declared.detail.Detail.TheVariants.{Full}
 use Rattle.sym_print.specs.Unshared.{text_of, cost_of}
 use Rattle.sym_demangle.specs.Mangled.{StandsFor}
 use Rattle.cpp_grammar.specs.declared.kind.Kind.{Kind}
 use Rattle.cpp_grammar.specs.Answer.{shown, root_item}
-use Rattle.cpp_grammar.specs.Term.{Term, Qualifiers, symbol, function, special, pointer, lvalue, rvalue, qualified, instance, integer, pack, nil, list, absent}
+use Rattle.cpp_grammar.specs.Term.{Term, Qualifiers, symbol, function, special, array, pointer, lvalue, rvalue, qualified, instance, integer, pack, nil, list, absent}
 use Rattle.cpp_grammar.specs.Parts.{source_text}
 use Rattle.cpp_grammar.specs.Texts.{look_up, special_texts}
 use Rattle.cpp_grammar.specs.Scope.{has_return_type, is_structor, arguments_of, length_if_pack, element, count}
@@ -30,14 +30,23 @@ use Rattle.cpp_direct.specs.declared.direct.Direct.{Direct}
 use Rattle.cpp_direct.specs.Bytes.{is_local}
 use Rattle.cpp_direct.specs.Holes.{Opened, Comes, Expects, StandsAt, TypePasses, NestGoesOn, AwaitsComponent, with_candidate, unless_listed}
 use Rattle.cpp_direct.specs.HolesOfFunctions.{SignatureGoesOn, plain_function}
+use Rattle.cpp_direct.specs.HolesOfArrays.{accessed, with_accessed}
 use Rattle.cpp_direct.specs.HolesOfTypes.{NoReference}
 use Rattle.cpp_direct.specs.HolesOfLists.{IsSuffix, IsDigitsAt, minus_sign}
 use Rattle.cpp_direct.specs.HolesOfLocals.{Discriminator, EntityOpened, IsDiscriminatorAt, IsEntityAt, IsLambdaDigit, lambda_ending, lambda_with, local_in}
 use Rattle.cpp_direct.specs.Marks.{has_const, called_on}
-use Rattle.cpp_direct.specs.Prints.{Prints, PrintsName, Shows, Encloses, NamesClass, PrintAll, PrintsBehind, PrintAllIn}
+use Rattle.cpp_direct.specs.Prints.{Prints, PrintsName, Shows, Encloses, NamesClass, PrintAll, NamesArgument, PrintAllIn}
 use Rattle.cpp_grammar.specs.Parts.{types_of}
 
 -- ## Candidates
+
+-- It prints a text, or that behind an argument, in the encoding that begins at its place, if this is known.
+abbrev pub PrintsOrNames : (is_dependent : Bool) → Candidate → values.Candidate → (bytes : List ℕ) → Type 0
+PrintsOrNames false k c bytes = Prints c.tree bytes k.is_reference
+PrintsOrNames true k c bytes = NamesArgument k.number c.tree bytes k.is_reference × (k.encoding ≢ 0 → c.encoding ≡ k.encoding)
+
+abbrev pub PrintsAs : Candidate → values.Candidate → (bytes : List ℕ) → Type 0
+PrintsAs k c bytes = PrintsOrNames k.is_dependent k c bytes
 
 -- what a substitution may name prints the text that stands at its place
 pub record IsCandidate (text : List ℕ) (k : Candidate) (c : values.Candidate) : Type 0 where
@@ -47,7 +56,7 @@ pub record IsCandidate (text : List ℕ) (k : Candidate) (c : values.Candidate) 
   pub written : text ≡ front ++ bytes ++ back
   pub from_is : k.from ≡ length front
   pub to_is : k.to ≡ length front + length bytes
-  pub prints : Prints c.tree bytes k.is_reference
+  pub prints : PrintsAs k c bytes
 
 -- each candidate is so, but for those that end before they begin, of which nothing is known
 abbrev pub AreCandidates : (text : List ℕ) → List Candidate → List values.Candidate → Type 0
@@ -70,7 +79,11 @@ abbrev pub no_place : Argument
 no_place = record { from = 1; to = 0; is_pack = false; is_reference = false }
 
 abbrev pub nowhere : Arguments
-nowhere = record { first = no_place; second = no_place; third = no_place; fourth = no_place }
+nowhere = record { first = no_place; second = no_place; third = no_place; fourth = no_place; encoding = 0 }
+
+-- the same in the types of the encoding that begins at a place
+abbrev pub named_in : (place : ℕ) → Arguments → Arguments
+named_in place a = record a { encoding = place }
 
 -- the argument with this number
 abbrev pub place_of : Arguments → (number : ℕ) → Argument
@@ -115,9 +128,14 @@ pub record IsScope (number : ℕ) (is_pack : Bool) (around : Around) : Type 0 wh
   pub alone : is_pack ≡ true → all ≡ list (packed true own) nil
   pub no_pack : length_if_pack own ≡ None
 
+-- if the place is known, the innermost encoding begins there, and none of its lambdas is read
+abbrev pub IsEncodedAt : (place : ℕ) → Around → Type 0
+IsEncodedAt place around = place ≢ 0 → (around.encoding ≡ place) × (around.in_lambda ≡ false)
+
 -- parameters may name the known arguments here
 abbrev pub HasScope : Arguments → Around → Type 0
-HasScope a around = (number : ℕ) → IsKnown (place_of a number) → IsScope number (place_of a number).is_pack around
+HasScope a around =
+    (number : ℕ) → IsKnown (place_of a number) → IsScope number (place_of a number).is_pack around × IsEncodedAt a.encoding around
 
 -- the arguments that a type names, or one that is marked
 abbrev pub argument_of : List Open → Option Arguments
@@ -165,12 +183,18 @@ pub record EncodedBehind (s : Symbol) (lead : List ℕ) (e : Term) (at : ℕ) : 
   pub entity : is_local s.bytes ≡ true → (internal : Bool) (name : List ℕ) (digit : Discriminator) (end : ℕ) → IsEntityAt s.bytes at internal name digit end
       → EntityBehind s lead e name end
 
+-- where the encoding begins that a symbol has behind no text
+abbrev pub encoding_place : List ℕ → ℕ
+encoding_place s = cond (is_local s) 3 2
+
 -- the name of an encoding behind a text was read, and items may follow
 pub record AwaitsItems (s : Symbol) (lead : List ℕ) (v : Value) (at : ℕ) (st : State) : Type 0 where
   pub around : Around
   pub inner : List Opened
   pub outside : around.prefix ≡ outermost
   pub scope_is : around.scope ≡ arguments_of (tree_of v)
+  pub encoding_is : lead ≡ [] → around.encoding ≡ encoding_place s.bytes
+  pub no_lambda : around.in_lambda ≡ false
   pub awaits : Expects s Kind.Items around inner at st
   pub onward : (l : Value) (at : ℕ) (st : State) → Comes s inner l at st → EncodedBehind s lead (encoding_of v (no_items l)) at
 
@@ -252,14 +276,14 @@ pub record IsEnclosing (text : List ℕ) (argument : Arguments) (mark : Mark) (m
   pub names : HasArguments text argument own
 
 -- the name of a function that has a return type, and its text, and where the arguments of its template stand
-pub record IsInstance (argument : Arguments) (mark : Mark) (v : Value) (name : List ℕ) : Type 0 where
+pub record IsInstance (text : List ℕ) (argument : Arguments) (mark : Mark) (v : Value) (name : List ℕ) : Type 0 where
   pub own : Term
   pub tree_is : tree_of v ≡ own
   pub qualifiers_are : qualifiers_of v ≡ qualifiers (has_const mark)
   pub mark_is : ref_of v ≡ called_on mark
   pub prints : PrintsName own name
   pub returns : has_return_type own ≡ true
-  pub names : HasArguments name argument own
+  pub names : HasArguments text argument own
 
 -- ## What is open
 
@@ -267,9 +291,14 @@ pub record IsInstance (argument : Arguments) (mark : Mark) (v : Value) (name : L
 abbrev pub Below : Type 1
 Below = List Opened → (text : List ℕ) → Type 0
 
+-- where an argument may be named, the encoding begins at its place, if this is known
+abbrev pub IsEncodingOf : Option Arguments → (e : ℕ) → Type 0
+IsEncodingOf scope e = (a : Arguments) (number : ℕ) → scope ≡ Some a → IsKnown (place_of a number) → a.encoding ≢ 0 → e ≡ a.encoding
+
 -- A type that comes is marked.
-abbrev pub Marks : (s : Symbol) → Below → List Opened → (text : List ℕ) → (from : ℕ) → (made : Term → Term) → Type 0
-Marks s below os text from made = (outer : List Opened) × (e : ℕ) × (from ≡ length text) × TypePasses s os outer e made × below outer text
+abbrev pub Marks : (s : Symbol) → Below → (scope : Option Arguments) → List Opened → (text : List ℕ) → (from : ℕ) → (made : Term → Term) → Type 0
+Marks s below scope os text from made =
+    (outer : List Opened) × (e : ℕ) × (from ≡ length text) × TypePasses s os outer e made × below outer text × IsEncodingOf scope e
 
 -- An encoding with this tree ends at the place, and a type that stands in it comes for what is open below, behind this text.
 abbrev pub TypeWithin : (s : Symbol) → Below → (front : List ℕ) → (e : Term) → (at : ℕ) → State → Type 0
@@ -298,7 +327,7 @@ Serves s (purposes.Name mark) below os front =
     (t : Term) (listed : Bool) (at : ℕ) (st : State) → Comes s os (tree t listed) at st → AwaitsItems s front (named t (qualifiers (has_const mark)) (called_on mark)) at st
 Serves s (purposes.Enclosing mark) below os front =
     (text : List ℕ) (argument : Arguments) (t : Term) (listed : Bool) (at : ℕ) (st : State)
-    → HasArguments text argument t → Comes s os (tree t listed) at st
+    → HasArguments text argument t → argument.encoding ≡ 0 → Comes s os (tree t listed) at st
     → ItemsGoOn s argument (TypeWithin s below front) (λ l. encoding_of (named t (qualifiers (has_const mark)) (called_on mark)) l) [] at st
 
 -- An instance is read, behind this text: what becomes of it.
@@ -434,7 +463,7 @@ EndsNamed (opens.NestArguments nest ∷ rest) = Unit {0}
 EndsNamed (opens.NameArguments from ∷ rest) = Unit {0}
 EndsNamed _ = ⊥
 
--- what takes an element or a parameter may take a function type, and so may a special object
+-- what takes an element or a parameter may take a function type or an array, and so may a special object
 abbrev pub TakesFunction : List Open → Type 0
 TakesFunction (opens.TypeArguments from ∷ rest) = Unit {0}
 TakesFunction (opens.NestArguments nest ∷ rest) = Unit {0}
@@ -449,13 +478,14 @@ TakesFunction _ = ⊥
 -- A type comes for the last of the open ones, behind what is written.
 abbrev pub Stands : (s : Symbol) → List Open → List Opened → (text : List ℕ) → Type 0
 Stands s [] os text = ⊥
-Stands s (opens.Pointer from ∷ rest) os text = Marks s (Stands s rest) os text from pointer
-Stands s (opens.Lvalue from ∷ rest) os text = Marks s (Stands s rest) os text from lvalue
-Stands s (opens.Rvalue from ∷ rest) os text = Marks s (Stands s rest) os text from rvalue
-Stands s (opens.Const from ∷ rest) os text = Marks s (Stands s rest) os text from (qualified (qualifiers true))
+Stands s (opens.Pointer from ∷ rest) os text = Marks s (Stands s rest) (argument_of rest) os text from pointer
+Stands s (opens.Lvalue from ∷ rest) os text = Marks s (Stands s rest) (argument_of rest) os text from lvalue
+Stands s (opens.Rvalue from ∷ rest) os text = Marks s (Stands s rest) (argument_of rest) os text from rvalue
+Stands s (opens.Const from ∷ rest) os text = Marks s (Stands s rest) (argument_of rest) os text from (qualified (qualifiers true))
 Stands s (opens.Front mark start argument ∷ rest) os text =
-    (v : Value) × IsInstance argument mark v text × (is_local s.bytes ≡ false) × (start ≡ length text)
-    × ((t : Term) (at : ℕ) (st : State) → Comes s os (tree t true) at st → ParametersGoOn s argument [] (encoding_of v) (t ∷ []) at st)
+    (v : Value) × (lead : List ℕ) × (name : List ℕ) × IsInstance text argument mark v name × (is_local s.bytes ≡ false → lead ≡ [])
+    × (text ≡ lead ++ name) × (start ≡ length text)
+    × ((t : Term) (at : ℕ) (st : State) → Comes s os (tree t true) at st → ParametersGoOn s argument lead (encoding_of v) (t ∷ []) at st)
 Stands s (opens.Parameters mark start argument ∷ rest) os text =
     (aside : List ℕ) × (lead : List ℕ) × (make : Term → Term) × (ts : List Term) × (name : List ℕ) × (texts : List ℕ)
     × IsFunction text argument mark make ts name texts × (start ≡ length aside)
@@ -483,6 +513,11 @@ Stands s (opens.Signature is_pointer ∷ rest) os text =
     × ((t : Term) (at : ℕ) (st : State) → Comes s os (tree t true) at st
     → SignatureGoesOn s outer e is_pointer (λ l. plain_function r (list_with (ts ++ t ∷ []) l)) at st)
     × TakesFunction rest × Stands s rest outer front
+Stands s (opens.Array access from to ∷ rest) os text =
+    (outer : List Opened) × (e : ℕ) × (digits : List ℕ) × (from ≤ to) × (to ≤ length s.bytes) × (take (to - from) (drop from s.bytes) ≡ digits)
+    × ((t : Term) (at : ℕ) (st : State) → Comes s os (tree t true) at st
+    → Comes s outer (tree (accessed access (array (values.normal digits) t)) true) at (with_accessed access e (array (values.normal digits) t) st))
+    × TakesFunction rest × Stands s rest outer text
 Stands s (opens.Special ∷ rest) os text =
     (letter : ℕ) × (text ≡ look_up (letter ∷ []) special_texts) × (text ≢ [])
     × ((t : Term) (at : ℕ) (st : State) → Comes s os (tree t true) at st → Encoded s (special letter t) at)
@@ -537,11 +572,12 @@ IsBefore s w st (steps.Value is_reference) =
     (os : List Opened) × (t : Term) × (front : List ℕ) × (bytes : List ℕ)
     × (w.text.list.items ≡ front ++ bytes) × Prints t bytes is_reference
     × Comes s os (tree t true) w.at st × Stands s (reverse w.waiting.list.items) os front
-IsBefore s w st (steps.Dependent is_reference) =
-    (os : List Opened) × (t : Term) × (front : List ℕ) × (bytes : List ℕ) × (marks : List ℕ) × (a : Arguments) × (number : ℕ)
-    × (w.text.list.items ≡ front ++ bytes ++ marks) × PrintsBehind number t marks is_reference
+IsBefore s w st (steps.Dependent is_reference begins number encoding) =
+    (os : List Opened) × (t : Term) × (front : List ℕ) × (bytes : List ℕ) × (marks : List ℕ) × (a : Arguments)
+    × (w.text.list.items ≡ front ++ bytes ++ marks) × NamesArgument number t marks is_reference
     × (argument_of (reverse w.waiting.list.items) ≡ Some a) × IsPlain (place_of a number) × IsPlaced front (place_of a number) bytes
-    × Comes s os (tree t true) w.at st × Stands s (reverse w.waiting.list.items) os front
+    × (begins ≡ length (front ++ bytes))
+    × Comes s os (tree t true) w.at st × Stands s (reverse w.waiting.list.items) os front × (encoding ≡ a.encoding)
 IsBefore s w st (steps.List is_first) =
     (place : IsListing (reverse w.waiting.list.items) w.text.list.items) × (ts : List Term) × (elements : List ℕ)
     × PrintAll (extra_of place.listing) ts elements
@@ -550,8 +586,8 @@ IsBefore s w st (steps.List is_first) =
     × GoesOn s place.listing place.owner (Stands s place.rest) place.front place.template ts w.at st
 IsBefore s w st steps.Rest = (t : Term) × IsNesting s Kind.NestRestAlone w t st
 IsBefore s w st steps.Tail =
-    (t : Term) × IsNesting s Kind.NestTail w t st × (IsOwn w.nest.purpose → w.nest.is_instance ≡ false → has_return_type t ≡ false)
-    × (w.nest.is_instance ≡ true → has_return_type t ≡ true)
+    (t : Term) × IsNesting s Kind.NestTail w t st × (IsOwn w.nest.purpose → w.nest.is_instance && w.nest.has_class ≡ false → has_return_type t ≡ false)
+    × (w.nest.is_instance && w.nest.has_class ≡ true → has_return_type t ≡ true)
     × (w.nest.is_instance ≡ true → HasArguments w.text.list.items w.argument t)
 IsBefore s w st steps.Component =
     (t : Term) × (front : List ℕ) × (bytes : List ℕ) × (around : Around) × (outer : List Opened)

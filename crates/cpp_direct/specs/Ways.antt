@@ -1,16 +1,19 @@
 -- Where a writer is between two of its functions, within a step.
-use Rattle.std.specs.Prelude.{◌≡◌, ◌≢◌, ◌⊎◌, ℕ, zero, suc, ◌+◌, List, [], ◌∷◌, ◌++◌, length, reverse, Bool, true, false, cond, Some, codes}
+use Rattle.std.specs.Prelude.{◌≡◌, ◌≢◌, ◌⊎◌, ℕ, zero, suc, ◌+◌, List, [], ◌∷◌, ◌++◌, length, reverse, ◌≤◌, Bool, true, false, cond, Some, codes, ◌-◌, take, drop, slice_get}
 use Rattle.cpp_grammar.specs.declared.kind.Kind.{Kind}
-use Rattle.cpp_grammar.specs.Term.{Term, Signed, instance, builtin, list, nil}
+use Rattle.cpp_grammar.specs.Term.{Term, Signed, array, instance, builtin, list, nil}
 use Rattle.cpp_grammar.specs.Texts.{look_up, builtin_texts, literal_endings}
 use Rattle.cpp_grammar.specs.Parts.{is_plain_integer, types_of}
 use Rattle.cpp_grammar.specs.Scope.{has_return_type, is_structor}
 use Rattle.cpp_grammar.specs.Between.{after, in_name, with_tag}
 use Rattle.cpp_grammar.specs.Meaning.{encoding_of}
+use Rattle.cpp_grammar.specs.Values as values
 use Rattle.cpp_grammar.specs.Values.{State, Around, Value, nothing_there, tree, outermost, tree_of, qualifiers_of, ref_of}
 use Rattle.cpp_direct.specs.Symbol.{Symbol}
 use Rattle.cpp_direct.specs.declared.open.Mark.{Mark}
 use Rattle.cpp_direct.specs.declared.open.Mark.TheVariants as marks
+use Rattle.cpp_direct.specs.declared.open.Candidate.{Candidate}
+use Rattle.cpp_direct.specs.declared.open.Access.{Access}
 use Rattle.cpp_direct.specs.declared.open.Purpose.{Purpose}
 use Rattle.cpp_direct.specs.declared.open.Open.{Open}
 use Rattle.cpp_direct.specs.declared.open.Argument.{Argument}
@@ -18,13 +21,16 @@ use Rattle.cpp_direct.specs.declared.open.Arguments.{Arguments}
 use Rattle.cpp_direct.specs.declared.open.Open.TheVariants as opens
 use Rattle.cpp_direct.specs.declared.direct.Direct.{Direct}
 use Rattle.cpp_direct.specs.Bytes.{is_local}
-use Rattle.cpp_direct.specs.Holes.{Opened, StandsAt, Comes, Expects, IsReferable, IsTyped, TypeNamed, NestNamed, bare_name, with_candidate}
+use Rattle.cpp_direct.specs.Holes.{Opened, StandsAt, Comes, Expects, IsReferable, IsTyped, TypeNamed, NestNamed, bare_name, with_candidate, IsSeqAt}
+use Rattle.sym_core.specs.Value.{counted_value}
+use Rattle.sym_core.specs.declared.NumberKind.TheVariants.{Seq36}
 use Rattle.cpp_direct.specs.HolesOfFunctions.{SignatureGoesOn, plain_function, pointed, with_pointed}
 use Rattle.cpp_direct.specs.HolesOfNests.{NestKnown}
+use Rattle.cpp_direct.specs.HolesOfArrays.{accessed, with_accessed}
 use Rattle.cpp_direct.specs.HolesOfTypes.{IsNamedKind, NoReference, TreeOpens}
 use Rattle.cpp_direct.specs.Marks.{has_const, called_on, mark_text}
-use Rattle.cpp_direct.specs.Prints.{NamesClass, Prints, PrintsName, IsElement, PrintAll, Shows, Encloses, sign_text, PrintsIn, PrintsBehind}
-use Rattle.cpp_direct.specs.Stands.{AreCandidates, AwaitsItems, Encoded, EncodedBehind, IsEnclosing, IsFunction, IsInstance, IsListing, IsNest, IsTail, IsTemplate, GoesOn, EnumeratorGoesOn, ItemsGoOn, LambdaWithin, Owns, ParametersGoOn, Serves, Stands, TypeWithin, TakesFunction, opening_text, qualifiers, extra_of, led_by, list_with, in_front_of_next, IsPlaced, IsAmong, AreAmong, HasArguments, IsKnown, IsScoped, argument_of, place_of, nowhere, packed, of_pack, IsPlain, ArgumentsGoOn}
+use Rattle.cpp_direct.specs.Prints.{NamesClass, Prints, PrintsName, IsElement, PrintAll, Shows, Encloses, sign_text, PrintsIn, NamesArgument}
+use Rattle.cpp_direct.specs.Stands.{AreCandidates, AwaitsItems, Encoded, EncodedBehind, IsEnclosing, IsFunction, IsInstance, IsListing, IsNest, IsTail, IsTemplate, GoesOn, EnumeratorGoesOn, ItemsGoOn, LambdaWithin, Owns, ParametersGoOn, Serves, Stands, TypeWithin, TakesFunction, opening_text, qualifiers, extra_of, led_by, list_with, in_front_of_next, IsPlaced, IsAmong, AreAmong, HasArguments, IsKnown, IsScoped, argument_of, place_of, nowhere, packed, of_pack, IsPlain, ArgumentsGoOn, encoding_place, named_in}
 
 -- the digits behind the T of a parameter with this number
 abbrev pub parameter_digits : (number : ℕ) → List ℕ
@@ -50,6 +56,7 @@ pub record AwaitsEncoding (s : Symbol) (w : Direct) : Type 0 where
   pub candidates : AreCandidates w.text.list.items w.candidates.list.items state.candidates
   pub around : Around
   pub outer : List Opened
+  pub begins : w.text.list.items ≡ [] → w.at ≡ encoding_place s.bytes
   pub awaits : Expects s Kind.Encoding around outer w.at state
   pub onward : (e : Term) (at : ℕ) (st : State) → Comes s outer (tree e true) at st → EncodedBehind s w.text.list.items e at
 
@@ -109,6 +116,18 @@ pub record AwaitsNamedType (s : Symbol) (w : Direct) : Type 0 where
   pub os : List Opened
   pub begins : TreeOpens s kind os around w.at state
   pub stands : Stands s (reverse w.waiting.list.items) os w.text.list.items
+  pub scoped : IsScoped around (reverse w.waiting.list.items)
+
+-- A substitution was read that names a type, which names an argument of the function's template.
+pub record IsNamedAgain (s : Symbol) (w : Direct) (k : Candidate) : Type 0 where
+  pub before : ℕ
+  pub awaits : AwaitsNamedType s (record w { at = before })
+  pub letter : StandsAt s.bytes before (83 ∷ [])
+  pub digits : List ℕ
+  pub number : IsSeqAt s.bytes (before + 1) digits w.at
+  pub found : slice_get w.candidates.list.items (counted_value Seq36 digits) ≡ Some k
+  pub ordered : k.from ≤ k.to
+  pub is : k.is_dependent ≡ true
 
 -- the name of a type was read, which is a candidate already or not, and was written from a place on
 pub record IsTypeNamed (s : Symbol) (w : Direct) (from : ℕ) (is_listed is_reference : Bool) : Type 0 where
@@ -146,7 +165,7 @@ pub record AwaitsMark (s : Symbol) (w : Direct) (mark : List ℕ) (from : ℕ) (
   pub stands : Stands s rest outer front
 
 -- A type that names the argument of the function's template was read, and what waits for it marks it. It was written, but for its mark.
-pub record AwaitsDependentMark (s : Symbol) (w : Direct) (mark : List ℕ) (is_reference : Bool) : Type 0 where
+pub record AwaitsDependentMark (s : Symbol) (w : Direct) (mark : List ℕ) (is_reference : Bool) (begins number place : ℕ) : Type 0 where
   pub state : State
   pub candidates : AreCandidates w.text.list.items w.candidates.list.items state.candidates
   pub entry : Open
@@ -160,9 +179,11 @@ pub record AwaitsDependentMark (s : Symbol) (w : Direct) (mark : List ℕ) (is_r
   pub bytes : List ℕ
   pub marks : List ℕ
   pub argument : Arguments
-  pub number : ℕ
   pub written : w.text.list.items ≡ front ++ bytes ++ marks
-  pub prints : PrintsBehind number made (marks ++ mark) is_reference
+  pub begins_is : begins ≡ length (front ++ bytes)
+  pub prints : NamesArgument number made (marks ++ mark) is_reference
+  pub encoding_is : place ≢ 0 → encoding ≡ place
+  pub place_is : place ≡ argument.encoding
   pub found : argument_of rest ≡ Some argument
   pub plain : IsPlain (place_of argument number)
   pub placed : IsPlaced front (place_of argument number) bytes
@@ -368,8 +389,9 @@ pub record AwaitsNumber (s : Symbol) (w : Direct) : Type 0 where
   pub written : w.text.list.items ≡ led_by place.listing place.front place.name ++ in_front_of_next ts texts ++ codes "(" ++ bytes
   pub goes : EnumeratorGoesOn s place.listing place.owner (Stands s place.rest) place.front place.template ts type w.at state
 
--- The name of an encoding was read and written from a place on, but for its qualifier.
-pub record IsNameEnded (s : Symbol) (w : Direct) (mark : Mark) (is_instance : Bool) (from : ℕ) : Type 0 where
+-- The name of an encoding was read and written from a place on, but for its qualifier. The known ones of these arguments stand at their
+-- places.
+pub record IsNameEnded (s : Symbol) (w : Direct) (mark : Mark) (is_instance : Bool) (argument : Arguments) (from : ℕ) : Type 0 where
   pub state : State
   pub candidates : AreCandidates w.text.list.items w.candidates.list.items state.candidates
   pub own : Term
@@ -384,24 +406,27 @@ pub record IsNameEnded (s : Symbol) (w : Direct) (mark : Mark) (is_instance : Bo
   pub prints : PrintsName own name
   pub no_return : is_instance ≡ false → has_return_type own ≡ false
   pub returns : is_instance ≡ true → has_return_type own ≡ true
-  pub names : is_instance ≡ true → HasArguments w.text.list.items w.argument own
+  pub names : HasArguments w.text.list.items argument own
   pub awaits : AwaitsItems s lead v w.at state
 
--- The return type of a function was read, and stands behind the function's name.
+-- The return type of a function was read, and stands behind the function's name and what is written in front of it.
 pub record IsFrontRead (s : Symbol) (w : Direct) (mark : Mark) (start : ℕ) (argument : Arguments) : Type 0 where
   pub state : State
   pub candidates : AreCandidates w.text.list.items w.candidates.list.items state.candidates
   pub v : Value
+  pub lead : List ℕ
   pub name : List ℕ
-  pub is_instance : IsInstance argument mark v name
-  pub apart : is_local s.bytes ≡ false
-  pub start_is : start ≡ length name
+  pub front : List ℕ
+  pub front_is : front ≡ lead ++ name
+  pub is_instance : IsInstance front argument mark v name
+  pub apart : is_local s.bytes ≡ false → lead ≡ []
+  pub start_is : start ≡ length front
   pub returned : Term
   pub bytes : List ℕ
   pub is_reference : Bool
   pub prints : PrintsIn (types_of is_instance.own) 2 returned bytes is_reference
-  pub written : w.text.list.items ≡ name ++ bytes
-  pub goes : ParametersGoOn s argument [] (encoding_of v) (returned ∷ []) w.at state
+  pub written : w.text.list.items ≡ front ++ bytes
+  pub goes : ParametersGoOn s argument lead (encoding_of v) (returned ∷ []) w.at state
 
 -- A function's name was read and written, and what stands in front of it. Its parameters are expected.
 pub record AwaitsParameters (s : Symbol) (w : Direct) (mark : Mark) (start : ℕ) (argument : Arguments) : Type 0 where
@@ -518,7 +543,7 @@ pub record IsEnclosingInstance (s : Symbol) (w : Direct) (mark : Mark) (from : �
   pub prints : PrintsName own name
   pub returns : has_return_type own ≡ true
   pub names : HasArguments w.text.list.items w.argument own
-  pub goes : ItemsGoOn s w.argument (TypeWithin s (Stands s (reverse w.waiting.list.items)) front) (λ l. encoding_of v l) [] w.at state
+  pub goes : ItemsGoOn s (named_in 0 w.argument) (TypeWithin s (Stands s (reverse w.waiting.list.items)) front) (λ l. encoding_of v l) [] w.at state
 
 -- The name of a function in which a type stands was read, and its return type if it has one. Its parameters are expected.
 pub record AwaitsEnclosingParameters (s : Symbol) (w : Direct) (mark : Mark) (from : ℕ) (argument : Arguments) : Type 0 where
@@ -602,6 +627,43 @@ pub record IsElementRead (s : Symbol) (w : Direct) (o : Open) : Type 0 where
   pub element : (extra : ℕ) → IsElement extra own bytes
   pub comes : Comes s os (tree own true) w.at state
   pub stands : Stands s (o ∷ rest) os front
+
+-- The same of a type that prints on both sides of a name, where what is open takes it.
+pub record IsElementPassed (s : Symbol) (w : Direct) : Type 0 where
+  pub state : State
+  pub candidates : AreCandidates w.text.list.items w.candidates.list.items state.candidates
+  pub os : List Opened
+  pub own : Term
+  pub front : List ℕ
+  pub bytes : List ℕ
+  pub written : w.text.list.items ≡ front ++ bytes
+  pub element : (extra : ℕ) → IsElement extra own bytes
+  pub comes : Comes s os (tree own true) w.at state
+  pub takes : TakesFunction (reverse w.waiting.list.items)
+  pub stands : Stands s (reverse w.waiting.list.items) os front
+
+-- The type of an array's elements was read. The digits of the size stand between two places of the symbol.
+pub record IsArrayRead (s : Symbol) (w : Direct) (access : Access) (from to : ℕ) : Type 0 where
+  pub state : State
+  pub candidates : AreCandidates w.text.list.items w.candidates.list.items state.candidates
+  pub rest : List Open
+  pub open_is : reverse w.waiting.list.items ≡ opens.Array access from to ∷ rest
+  pub outer : List Opened
+  pub encoding : ℕ
+  pub digits : List ℕ
+  pub ordered : from ≤ to
+  pub inside : to ≤ length s.bytes
+  pub size : take (to - from) (drop from s.bytes) ≡ digits
+  pub own : Term
+  pub front : List ℕ
+  pub bytes : List ℕ
+  pub is_reference : Bool
+  pub prints : Prints own bytes is_reference
+  pub written : w.text.list.items ≡ front ++ bytes
+  pub comes : Comes s outer (tree (accessed access (array (values.normal digits) own)) true) w.at
+      (with_accessed access encoding (array (values.normal digits) own) state)
+  pub takes : TakesFunction rest
+  pub stands : Stands s rest outer front
 
 -- Of a function type the return type was read, or a parameter.
 pub record AwaitsSignature (s : Symbol) (w : Direct) (is_pointer is_first : Bool) : Type 0 where

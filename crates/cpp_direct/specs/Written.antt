@@ -28,7 +28,15 @@ pub record Cuts (old new : Direct) (start : ℕ) : Type 0 where
 
 -- the candidates, and what is written from a place on
 abbrev pub added : Direct → (from : ℕ) → (is_reference : Bool) → List Candidate
-added w from is_reference = w.candidates.list.items ++ record { from = from; to = length w.text.list.items; is_reference = is_reference } ∷ []
+added w from is_reference =
+    w.candidates.list.items
+    ++ record { from = from; to = length w.text.list.items; is_reference = is_reference; is_dependent = false; number = 0; encoding = 0 } ∷ []
+
+-- the candidates, and what is written from a place on, which stands behind the text of an argument
+abbrev pub with_dependent : Direct → (from : ℕ) → (is_reference : Bool) → (number encoding : ℕ) → List Candidate
+with_dependent w from is_reference number encoding =
+    w.candidates.list.items
+    ++ record { from = from; to = length w.text.list.items; is_reference = is_reference; is_dependent = true; number = number; encoding = encoding } ∷ []
 
 -- the same unless that is one already
 abbrev pub added_unless : Direct → (is_listed : Bool) → (from : ℕ) → List Candidate
@@ -37,7 +45,7 @@ added_unless w false from = added w from false
 
 -- a candidate that ends before it begins
 abbrev pub hidden : Candidate
-hidden = record { from = 1; to = 0; is_reference = false }
+hidden = record { from = 1; to = 0; is_reference = false; is_dependent = false; number = 0; encoding = 0 }
 
 -- the candidates, and such a one for a function type and for the pointer to it
 abbrev pub with_hidden : Direct → (is_pointer : Bool) → List Candidate

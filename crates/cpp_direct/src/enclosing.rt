@@ -80,7 +80,11 @@ impl Direct {
             return None;
         }
         self.at = self.at.checked_add(1)?;
-        self.enclosing_parameters::<G>(s, mark, from, self.argument)
+        let argument = Arguments {
+            encoding: 0,
+            ..self.argument
+        };
+        self.enclosing_parameters::<G>(s, mark, from, argument)
     }
 
     /// Reads the parameters of a function in which a type stands, up to the first type in them.

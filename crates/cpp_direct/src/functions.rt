@@ -1,12 +1,12 @@
 // Function types, and pointers to them, as elements of lists, as parameters and in special names.
 
-ghost use Rattle.std.specs.Prelude.{◌∷◌, [], true, if◌then◌else◌};
+ghost use Rattle.std.specs.Prelude.{◌≡◌, ◌∷◌, [], reverse, true, if◌then◌else◌};
 ghost use Rattle.std.specs.Option.{IfSome};
 ghost use Rattle.cpp_direct.specs.Names.{IsReadable};
 ghost use Rattle.cpp_direct.specs.declared.open.Step.TheVariants as steps;
 ghost use Rattle.cpp_direct.specs.Holes.{StandsAt};
-ghost use Rattle.cpp_direct.specs.Stands.{IsWriting};
-ghost use Rattle.cpp_direct.specs.Ways.{AwaitsParameter, AwaitsSignature, IsFunctionRead, IsReturned};
+ghost use Rattle.cpp_direct.specs.Stands.{IsWriting, TakesFunction};
+ghost use Rattle.cpp_direct.specs.Ways.{AwaitsParameter, AwaitsSignature, IsElementPassed, IsFunctionRead, IsReturned};
 ghost use Rattle.cpp_direct.specs.Symbol.{symbol_by};
 
 use crate::direct::Direct;
@@ -15,6 +15,24 @@ use crate::open::{Open, Step};
 use crate::tokens::byte_at;
 
 impl Direct {
+    /// Whether what was opened last takes what prints on both sides of a name: an element, a parameter, or what a special object is
+    /// of.
+    pub(crate) fn takes_element(&self) -> bool
+        ensures { result ≡ true → TakesFunction (reverse self.now.waiting.list.items) }
+    {
+        match self.waiting.as_slice().last() {
+            Some(Open::TypeArguments { .. }) => true,
+            Some(Open::NestArguments { .. }) => true,
+            Some(Open::FirstArguments { .. }) => true,
+            Some(Open::NameArguments { .. }) => true,
+            Some(Open::Pack) => true,
+            Some(Open::Parameters { .. }) => true,
+            Some(Open::Enclosing { .. }) => true,
+            Some(Open::Special) => true,
+            _ => false,
+        }
+    }
+
     /// Begins a function type, or one that is pointed to, where it is an element, a parameter, or what a special object is of.
     // <function-type> ::= F <bare-function-type> E
     #[inline(never)]
@@ -24,19 +42,8 @@ impl Direct {
         requires writing { IsWriting (symbol_by G.IS_WIDE s.now) self.old steps.Type }
         ensures { IfSome result (IsWriting (symbol_by G.IS_WIDE s.now) self.new) }
     {
-        match *self.waiting.as_slice().last()? {
-            Open::Pointer { .. }
-            | Open::Lvalue { .. }
-            | Open::Rvalue { .. }
-            | Open::Const { .. }
-            | Open::Enumerator
-            | Open::Lambda { .. }
-            | Open::Front { .. }
-            | Open::Argument { .. }
-            | Open::Element { .. }
-            | Open::Returned { .. }
-            | Open::Signature { .. } => return None,
-            _ => {}
+        if !self.takes_element() {
+            return None;
         }
         self.at = self.at.checked_add(if is_pointer { 2 } else { 1 })?;
         self.waiting.push(Open::Returned { is_pointer })?;
@@ -127,6 +134,15 @@ impl Direct {
         self.push_byte(b')')?;
         self.add_hidden(is_pointer)?;
         let _open = self.waiting.pop();
+        self.pass_element::<G>(s)
+    }
+
+    /// Hands what prints on both sides of a name on to what takes it.
+    pub(crate) fn pass_element<G: Grammar>(&mut self, s: &[u8]) -> Option<Step>
+        requires fits { IsReadable s.now }
+        requires passed { IsElementPassed (symbol_by G.IS_WIDE s.now) self.old }
+        ensures { IfSome result (IsWriting (symbol_by G.IS_WIDE s.now) self.new) }
+    {
         match *self.waiting.as_slice().last()? {
             Open::Parameters {
                 mark,

@@ -3,14 +3,15 @@
 //! Functions, variables, their local entities, thunks and special objects are read so, with names, nested names,
 //! operators, constructors, template arguments, packs, literals, pointers, references and const; types that stand in
 //! functions, and lambdas there, of instances of function templates in those that return a builtin type; function types
-//! where they are arguments, parameters or what a special object is of, by themselves or behind one pointer; instances of
-//! function templates whose types name no parameter of the template, or its first four arguments, by themselves or behind
-//! pointers, references and const, or expand the one type of a pack; and by the wide grammar the constructors and destructors,
-//! the types `N S .. I .. E` and the ABI tags of that. A symbol with anything else in it is given up, and is
-//! to be read by its grammar: no answer depends on this crate, which one call in `sym_filter` (`languages`) makes and may
-//! leave out.
+//! and arrays where they are arguments, parameters or what a special object is of, by themselves or behind one pointer,
+//! arrays behind an lvalue reference, too; instances of function templates whose types name no parameter of the
+//! template, or its first four arguments, by themselves or behind pointers, references and const, or expand the one
+//! type of a pack; and by the wide grammar the constructors and destructors,
+//! the types `N S .. I .. E` and the ABI tags of that. A symbol with anything else in it is given up, and is to be read by its grammar: no answer depends
+//! on this crate, which one call in `sym_filter` (`languages`) makes and may leave out.
 #![tactic(auto)]
 
+mod arrays;
 mod direct;
 mod enclosing;
 mod functions;

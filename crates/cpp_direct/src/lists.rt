@@ -25,7 +25,7 @@ use crate::tokens::byte_at;
 use sym_core::{NumberKind, find_number};
 
 /// Digits without leading zeros, 0 for zero.
-fn normal(digits: &[u8]) -> &[u8]
+pub fn normal(digits: &[u8]) -> &[u8]
     ensures { result.now ≡ values.normal digits.now }
 {
     let mut at = 0;
@@ -176,7 +176,7 @@ impl Direct {
             Open::NestArguments { nest } => {
                 self.nest = Nest {
                     is_listed: false,
-                    is_instance: nest.has_class,
+                    is_instance: true,
                     ..nest
                 };
                 Some(Step::Tail)
@@ -186,7 +186,9 @@ impl Direct {
                 self.nest = nest;
                 Some(Step::Component)
             }
-            Open::NameArguments { from } => self.name_ended::<G>(s, Mark::Plain, true, from),
+            Open::NameArguments { from } => {
+                self.name_ended::<G>(s, Mark::Plain, true, argument, from)
+            }
             _ => None,
         }
     }

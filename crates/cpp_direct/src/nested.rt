@@ -1,17 +1,18 @@
 // Nested names.
 
-ghost use Rattle.std.specs.Prelude.{◌≡◌, ℕ, ◌+◌, ◌∷◌, [], true, false};
+ghost use Rattle.std.specs.Prelude.{◌≡◌, ℕ, ◌+◌, ◌∷◌, ◌&&◌, [], true, false};
 ghost use Rattle.std.specs.Option.{IfSome};
 ghost use Rattle.cpp_direct.specs.Names.{IsConstructorDigit, IsDestructorDigit, IsReadable};
 ghost use Rattle.cpp_direct.specs.declared.open.Step.TheVariants as steps;
 ghost use Rattle.cpp_direct.specs.Holes.{StandsAt};
-ghost use Rattle.cpp_direct.specs.Stands.{IsWriting};
+ghost use Rattle.cpp_direct.specs.Stands.{IsWriting, nowhere};
 ghost use Rattle.cpp_direct.specs.Ways.{AwaitsNest, AwaitsClass, IsNestKnown, IsNestNamed, IsOperatorRead};
 ghost use Rattle.cpp_direct.specs.Symbol.{symbol_by};
 
 use crate::direct::Direct;
 use crate::grammar::Grammar;
-use crate::open::{Nest, Open, Purpose, Step};
+use crate::open::{Arguments, Nest, Open, Purpose, Step};
+use crate::symbols::NOWHERE;
 use crate::tokens::byte_at;
 
 /// A first piece that is a candidate already, and names no class.
@@ -101,7 +102,7 @@ impl Direct {
         let text = cpp_layout::abbreviation_text(letter);
         if text.is_empty() {
             let candidate = self.substitution(s)?;
-            if candidate.is_reference {
+            if candidate.is_reference || candidate.is_dependent {
                 return None;
             }
             self.repeat(candidate.from, candidate.to)?;
@@ -210,6 +211,24 @@ impl Direct {
         self.component_at::<G>(s)
     }
 
+    /// Whether it ends in the arguments of a function that is no constructor or destructor.
+    fn is_function_instance(&self) -> bool
+        ensures { result ≡ self.now.nest.is_instance && self.now.nest.has_class }
+    {
+        self.nest.is_instance && self.nest.has_class
+    }
+
+    /// The arguments that it ends in, those of them that are known.
+    fn noted(&self) -> Arguments
+        ensures known { self.now.nest.is_instance ≡ true → result ≡ self.now.argument }
+        ensures none { self.now.nest.is_instance ≡ false → result ≡ nowhere }
+    {
+        if self.nest.is_instance {
+            return self.argument;
+        }
+        NOWHERE
+    }
+
     /// Reads the E of a nested name.
     fn nest_ended<G: Grammar>(&mut self, s: &[u8]) -> Option<Step>
         requires fits { IsReadable s.now }
@@ -226,10 +245,12 @@ impl Direct {
                 })
             }
             Purpose::Name { mark } => {
-                self.name_ended::<G>(s, mark, self.nest.is_instance, self.nest.from)
+                let argument = self.noted();
+                let is_function = self.is_function_instance();
+                self.name_ended::<G>(s, mark, is_function, argument, self.nest.from)
             }
             Purpose::Enclosing { mark } => {
-                if self.nest.is_instance {
+                if self.is_function_instance() {
                     return self.enclosing_instance::<G>(s, mark, self.nest.from);
                 }
                 self.enclosing_named::<G>(s, mark, self.nest.from)
@@ -312,7 +333,7 @@ impl Direct {
         }
         self.at = self.at.checked_add(1)?;
         match self.nest.purpose {
-            Purpose::Name { mark } => self.name_ended::<G>(s, mark, false, self.nest.from),
+            Purpose::Name { mark } => self.name_ended::<G>(s, mark, false, NOWHERE, self.nest.from),
             _ => None,
         }
     }

@@ -6,6 +6,12 @@ pub struct Candidate {
     pub from: usize,
     pub to: usize,
     pub is_reference: bool,
+    /// It names an argument of the function's template, and its text is only what stands behind the argument's.
+    pub is_dependent: bool,
+    /// the argument's number
+    pub number: u16,
+    /// the place where the encoding begins in which it names the argument, 0 if this isn't known
+    pub encoding: u16,
 }
 
 /// An argument of a name, a type or a pack of one type, and where its text stands in what is written. One that ends before it
@@ -36,6 +42,8 @@ pub struct Arguments {
     pub second: Argument,
     pub third: Argument,
     pub fourth: Argument,
+    /// the place where the encoding begins whose types may name them, 0 if this isn't known
+    pub encoding: u16,
 }
 
 /// What a nested name is read as.
@@ -60,8 +68,16 @@ pub struct Nest {
     pub is_listed: bool,
     /// Its last piece is the name of a class.
     pub has_class: bool,
-    /// It ends in arguments, and what stands before them is no constructor or destructor.
+    /// It ends in arguments. Before those of a constructor or a destructor stands no name of a class.
     pub is_instance: bool,
+}
+
+/// How an array is read: by itself, or behind a pointer or an lvalue reference.
+#[derive(Clone, Copy)]
+pub enum Access {
+    Plain,
+    Pointer,
+    Lvalue,
 }
 
 /// What waits for the type that is being read.
@@ -127,6 +143,13 @@ pub enum Open {
     Signature {
         is_pointer: bool,
     },
+    /// the type of an array's elements, where the array is an element or a parameter; the digits of its size stand between these
+    /// places of the symbol
+    Array {
+        access: Access,
+        from: usize,
+        to: usize,
+    },
     /// an argument of a name, so many behind the first one, whose text begins at this place: an element of what was opened before
     Argument {
         from: usize,
@@ -151,11 +174,21 @@ pub enum Step {
     /// a type behind a const
     Plain,
     /// a type was read
-    Value { is_reference: bool },
-    /// a type was read that names the argument of the function's template
-    Dependent { is_reference: bool },
+    Value {
+        is_reference: bool,
+    },
+    /// a type was read that names an argument of a function's template, the one with this number; what stands behind the argument's
+    /// text begins at this place, and the encoding at that one, if it is known
+    Dependent {
+        is_reference: bool,
+        begins: usize,
+        number: u16,
+        encoding: u16,
+    },
     /// an argument or an element of a pack, or the end of either
-    List { is_first: bool },
+    List {
+        is_first: bool,
+    },
     /// a component, or the arguments of the first piece of a nested name
     Rest,
     /// a component, or the end of a nested name

@@ -6,12 +6,12 @@ ghost use Rattle.cpp_direct.specs.Names.{IsReadable};
 ghost use Rattle.cpp_direct.specs.declared.open.Step.TheVariants as steps;
 ghost use Rattle.cpp_direct.specs.Holes.{StandsAt};
 ghost use Rattle.cpp_direct.specs.Stands.{EndsNamed, IsWriting, argument_of, place_of};
-ghost use Rattle.cpp_direct.specs.Ways.{AwaitsType, AwaitsDependentMark, AwaitsKnownArgument, AwaitsNextParameter, IsArgumentRead, IsPackElementRead, KnowsMore, parameter_digits};
+ghost use Rattle.cpp_direct.specs.Ways.{AwaitsType, AwaitsDependentMark, AwaitsKnownArgument, AwaitsNextParameter, IsArgumentRead, IsNamedAgain, IsPackElementRead, KnowsMore, parameter_digits};
 ghost use Rattle.cpp_direct.specs.Symbol.{symbol_by};
 
 use crate::direct::Direct;
 use crate::grammar::Grammar;
-use crate::open::{Argument, Arguments, Mark, Open, Purpose, Step};
+use crate::open::{Argument, Arguments, Candidate, Mark, Open, Purpose, Step};
 use crate::symbols::{NO_PLACE, NOWHERE};
 use crate::tokens::{byte_at, may_end};
 
@@ -115,12 +115,12 @@ fn parameter_number(s: &[u8], at: usize) -> Option<ParameterNumber>
     Some(ParameterNumber { number, end })
 }
 
-/// Whether a function type stands at a place, or a pointer to one.
-fn is_function_at(s: &[u8], at: usize) -> bool {
+/// Whether a function type or an array stands at a place, or what points or refers to one: these are elements alone.
+fn is_element_at(s: &[u8], at: usize) -> bool {
     match byte_at(s, at) {
-        b'F' => true,
-        b'P' => match s.get(at..) {
-            Some([_, behind, ..]) => *behind == b'F',
+        b'F' | b'A' => true,
+        b'P' | b'R' => match s.get(at..) {
+            Some([_, behind, ..]) => *behind == b'F' || *behind == b'A',
             _ => false,
         },
         _ => false,
@@ -173,7 +173,7 @@ impl Direct {
         if !self.is_named() {
             return Some(Step::Type);
         }
-        if is_function_at(s, self.at) {
+        if is_element_at(s, self.at) {
             return Some(Step::Type);
         }
         let from = self.text.len();
@@ -199,7 +199,7 @@ impl Direct {
             return self.begin_pack::<G>(s);
         }
         let behind = self.at.checked_add(1)?;
-        if byte_at(s, behind) == b'L' || is_function_at(s, behind) {
+        if byte_at(s, behind) == b'L' || is_element_at(s, behind) {
             return self.begin_pack::<G>(s);
         }
         self.at = behind;
@@ -305,7 +305,7 @@ impl Direct {
         let _open = self.waiting.pop();
         let byte = byte_at(s, self.at);
         // a literal or a pack isn't known, nor is what stands behind it
-        if byte == b'L' || byte == b'J' || is_function_at(s, self.at) {
+        if byte == b'L' || byte == b'J' || is_element_at(s, self.at) {
             return Some(Step::List { is_first: false });
         }
         let to = self.text.len();
@@ -364,33 +364,69 @@ impl Direct {
         ensures { IfSome result (IsWriting (symbol_by G.IS_WIDE s.now) self.new) }
     {
         let read = parameter_number(s, self.at.checked_add(1)?)?;
-        let argument = known(self.argument()?.at(read.number))?;
+        let named = self.argument()?;
+        let argument = known(named.at(read.number))?;
         // a pack is named in what is expanded alone
         if argument.is_pack || argument.is_reference {
             return None;
         }
         self.at = read.end;
         self.repeat(argument.from as usize, argument.to as usize)?;
-        self.add_hidden(false)?;
+        let begins = self.text.len();
+        self.add_dependent(begins, false, read.number, named.encoding)?;
         Some(Step::Dependent {
             is_reference: false,
+            begins,
+            number: read.number,
+            encoding: named.encoding,
         })
     }
 
-    /// Hands a type that names the argument on to what waits for it.
+    /// A type that names an argument is named once more.
+    // <substitution> ::= S <seq-id> _ | S_
+    #[inline(never)]
+    pub(crate) fn dependent_again<G: Grammar>(&mut self, s: &[u8], candidate: Candidate) -> Option<Step>
+        requires fits { IsReadable s.now }
+        requires again { IsNamedAgain (symbol_by G.IS_WIDE s.now) self.old candidate }
+        ensures { IfSome result (IsWriting (symbol_by G.IS_WIDE s.now) self.new) }
+    {
+        let named = self.argument()?;
+        // in another encoding it isn't the same type
+        if candidate.encoding == 0 || candidate.encoding != named.encoding {
+            return None;
+        }
+        let argument = known(named.at(candidate.number))?;
+        if argument.is_pack || argument.is_reference {
+            return None;
+        }
+        self.repeat(argument.from as usize, argument.to as usize)?;
+        let begins = self.text.len();
+        self.repeat(candidate.from, candidate.to)?;
+        Some(Step::Dependent {
+            is_reference: candidate.is_reference,
+            begins,
+            number: candidate.number,
+            encoding: candidate.encoding,
+        })
+    }
+
+    /// Hands a type that names an argument on to what waits for it.
     // <type> ::= P <type>
     #[inline(never)]
     pub(crate) fn pass_dependent<G: Grammar>(
         &mut self,
         s: &[u8],
         is_reference: bool,
+        begins: usize,
+        number: u16,
+        encoding: u16,
     ) -> Option<Step>
         requires fits { IsReadable s.now }
-        requires writing { IsWriting (symbol_by G.IS_WIDE s.now) self.old (steps.Dependent is_reference) }
+        requires writing { IsWriting (symbol_by G.IS_WIDE s.now) self.old (steps.Dependent is_reference begins number encoding) }
         ensures { IfSome result (IsWriting (symbol_by G.IS_WIDE s.now) self.new) }
     {
         match *self.waiting.as_slice().last()? {
-            Open::Pointer { .. } => self.mark_dependent::<G>(s, b"*", false),
+            Open::Pointer { .. } => self.mark_dependent::<G>(s, b"*", false, begins, number, encoding),
             Open::Parameters {
                 mark,
                 start,
@@ -411,21 +447,23 @@ impl Direct {
                 if is_reference {
                     return None;
                 }
-                self.mark_plain::<G>(s)
+                self.mark_plain::<G>(s, begins, number, encoding)
             }
         }
     }
 
     /// Ends a type that names the argument, and is no reference, with a mark.
     // <type> ::= R <type> | O <type> | <CV-qualifiers> <type>
-    fn mark_plain<G: Grammar>(&mut self, s: &[u8]) -> Option<Step>
-        requires { IsWriting (symbol_by G.IS_WIDE s.now) self.old (steps.Dependent false) }
+    fn mark_plain<G: Grammar>(&mut self, s: &[u8], begins: usize, number: u16, encoding: u16) -> Option<Step>
+        requires { IsWriting (symbol_by G.IS_WIDE s.now) self.old (steps.Dependent false begins number encoding) }
         ensures { IfSome result (IsWriting (symbol_by G.IS_WIDE s.now) self.new) }
     {
         match *self.waiting.as_slice().last()? {
-            Open::Lvalue { .. } => self.mark_dependent::<G>(s, b"&", true),
-            Open::Rvalue { .. } => self.mark_dependent::<G>(s, b"&&", true),
-            Open::Const { .. } => self.mark_dependent::<G>(s, b" const", false),
+            Open::Lvalue { .. } => self.mark_dependent::<G>(s, b"&", true, begins, number, encoding),
+            Open::Rvalue { .. } => self.mark_dependent::<G>(s, b"&&", true, begins, number, encoding),
+            Open::Const { .. } => self.mark_dependent::<G>(
+                s, b" const", false, begins, number, encoding,
+            ),
             _ => None,
         }
     }
@@ -436,13 +474,21 @@ impl Direct {
         _s: &[u8],
         mark: &[u8],
         is_reference: bool,
+        begins: usize,
+        number: u16,
+        encoding: u16,
     ) -> Option<Step>
-        requires { AwaitsDependentMark (symbol_by G.IS_WIDE _s.now) self.old mark.now is_reference }
+        requires { AwaitsDependentMark (symbol_by G.IS_WIDE _s.now) self.old mark.now is_reference begins number encoding }
         ensures { IfSome result (IsWriting (symbol_by G.IS_WIDE _s.now) self.new) }
     {
         let _open = self.waiting.pop();
         self.push(mark)?;
-        self.add_hidden(false)?;
-        Some(Step::Dependent { is_reference })
+        self.add_dependent(begins, is_reference, number, encoding)?;
+        Some(Step::Dependent {
+            is_reference,
+            begins,
+            number,
+            encoding,
+        })
     }
 }

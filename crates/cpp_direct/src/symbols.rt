@@ -1,13 +1,14 @@
 // A symbol from its first byte to its last.
 
-ghost use Rattle.std.specs.Prelude.{◌≡◌, ◌≢◌, ◌≤◌, ◌+◌, ◌*◌, ◌∷◌, [], length, true, Ok};
+ghost use Rattle.std.specs.Prelude.{◌≡◌, ◌≢◌, ◌≤◌, ◌+◌, ◌*◌, ◌∷◌, [], length, true, false, Ok};
 ghost use Rattle.std.specs.Option.{IfSome};
 ghost use Rattle.sym_core.specs.Number.{FitsSymbol};
 ghost use Rattle.sym_print.specs.declared.detail.Detail.TheVariants as details;
 ghost use Rattle.sym_demangle.specs.Mangled.{IsAnswer};
 ghost use Rattle.cpp_direct.specs.Holes.{StandsAt};
 ghost use Rattle.cpp_direct.specs.Names.{IsReadable};
-ghost use Rattle.cpp_direct.specs.Stands.{IsWriting};
+ghost use Rattle.cpp_direct.specs.Stands.{IsWriting, encoding_place};
+ghost use Rattle.cpp_direct.specs.Bytes.{is_local};
 ghost use Rattle.cpp_direct.specs.Ways.{IsFresh, AwaitsEncoding, IsNameEnded, IsFrontRead, AwaitsParameters, IsParameterEnded, IsEncodingEnded, IsSymbolEnded};
 ghost use Rattle.cpp_direct.specs.Symbol.{mangled_by, symbol_by};
 
@@ -57,7 +58,32 @@ pub const NOWHERE: Arguments = Arguments {
     second: NO_PLACE,
     third: NO_PLACE,
     fourth: NO_PLACE,
+    encoding: 0,
 };
+
+/// Whether a function whose name is written from a place on may have a return type. Behind a thunk's text it would have to be moved.
+fn has_front(s: &[u8], from: usize) -> bool
+    ensures { result ≡ true → is_local s.now ≡ false → from ≡ 0 }
+{
+    if is_local(s) {
+        return true;
+    }
+    from == 0
+}
+
+/// The place where the encoding begins whose name is written from a place on, 0 if a text stands in front of it.
+fn encoding_place(s: &[u8], from: usize) -> u16
+    ensures first { result ≢ 0 → from ≡ 0 }
+    ensures is { result ≢ 0 → result ≡ encoding_place s.now }
+{
+    if from != 0 {
+        return 0;
+    }
+    if is_local(s) {
+        return 3;
+    }
+    2
+}
 
 impl Direct {
     /// Lists that have no memory yet.
@@ -189,7 +215,12 @@ impl Direct {
             Step::Type => self.type_at::<G>(s, false),
             Step::Plain => self.type_at::<G>(s, true),
             Step::Value { is_reference } => self.pass::<G>(s, is_reference),
-            Step::Dependent { is_reference } => self.pass_dependent::<G>(s, is_reference),
+            Step::Dependent {
+                is_reference,
+                begins,
+                number,
+                encoding,
+            } => self.pass_dependent::<G>(s, is_reference, begins, number, encoding),
             Step::List { is_first } => self.list_at::<G>(s, is_first),
             Step::Rest => self.rest_at::<G>(s),
             Step::Tail => self.tail_at::<G>(s),
@@ -280,36 +311,48 @@ impl Direct {
         s: &[u8],
         mark: Mark,
         is_instance: bool,
+        argument: Arguments,
         from: usize,
     ) -> Option<Step>
         requires fits { IsReadable s.now }
-        requires ended { IsNameEnded (symbol_by G.IS_WIDE s.now) self.old mark is_instance from }
+        requires ended { IsNameEnded (symbol_by G.IS_WIDE s.now) self.old mark is_instance argument from }
         ensures { IfSome result (IsWriting (symbol_by G.IS_WIDE s.now) self.new) }
     {
         if may_end(byte_at(s, self.at)) {
             return self.end::<G>(s, mark);
         }
         if is_instance {
-            return self.begin_front::<G>(s, mark, from);
+            return self.begin_front::<G>(s, mark, argument, from);
         }
-        self.begin_parameters::<G>(s, mark, 0, NOWHERE)
+        let argument = Arguments {
+            encoding: encoding_place(s, from),
+            ..argument
+        };
+        self.begin_parameters::<G>(s, mark, 0, argument)
     }
 
-    /// The return type of a function is expected, which stands in front of its name in the text. It is written behind the name, and
-    /// behind it the name once more.
+    /// The return type of a function is expected. It is written behind the name, and behind it the name once more.
     // <bare-function-type> ::= <return type> <parameter type>+
     #[inline(never)]
-    fn begin_front<G: Grammar>(&mut self, s: &[u8], mark: Mark, from: usize) -> Option<Step>
+    fn begin_front<G: Grammar>(
+        &mut self,
+        s: &[u8],
+        mark: Mark,
+        argument: Arguments,
+        from: usize,
+    ) -> Option<Step>
         requires fits { IsReadable s.now }
-        requires ended { IsNameEnded (symbol_by G.IS_WIDE s.now) self.old mark true from }
+        requires ended { IsNameEnded (symbol_by G.IS_WIDE s.now) self.old mark true argument from }
         ensures { IfSome result (IsWriting (symbol_by G.IS_WIDE s.now) self.new) }
     {
-        // in front of a local entity stands no return type, and behind a text it would have to be moved
-        if from != 0 || is_local(s) {
+        if !has_front(s, from) {
             return None;
         }
         let start = self.text.len();
-        let argument = self.argument;
+        let argument = Arguments {
+            encoding: encoding_place(s, from),
+            ..argument
+        };
         self.waiting.push(Open::Front {
             mark,
             start,
@@ -336,9 +379,31 @@ impl Direct {
             return None;
         }
         let _open = self.waiting.pop();
+        if is_local(s) {
+            return self.front_hidden::<G>(s, mark, start, argument);
+        }
         self.push_byte(b' ')?;
         self.repeat(0, start)?;
         self.begin_parameters::<G>(s, mark, start, argument)
+    }
+
+    /// Of a function in which a local entity stands the return type isn't shown: the text begins behind it.
+    #[inline(never)]
+    fn front_hidden<G: Grammar>(
+        &mut self,
+        s: &[u8],
+        mark: Mark,
+        start: usize,
+        argument: Arguments,
+    ) -> Option<Step>
+        requires fits { IsReadable s.now }
+        requires local { is_local s.now ≡ true }
+        requires ended { IsFrontRead (symbol_by G.IS_WIDE s.now) self.old mark start argument }
+        ensures { IfSome result (IsWriting (symbol_by G.IS_WIDE s.now) self.new) }
+    {
+        let begins = self.text.len();
+        self.repeat(0, start)?;
+        self.begin_parameters::<G>(s, mark, begins, argument)
     }
 
     /// Reads the parameters of a function up to the first type in them. Its text begins at a place.

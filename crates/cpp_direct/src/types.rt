@@ -1,6 +1,6 @@
 // Types.
 
-ghost use Rattle.std.specs.Prelude.{◌≢◌, ◌∷◌, [], if◌then◌else◌};
+ghost use Rattle.std.specs.Prelude.{◌≡◌, ◌≢◌, ◌+◌, ◌∷◌, [], true, if◌then◌else◌};
 ghost use Rattle.std.specs.Option.{IfSome};
 ghost use Rattle.cpp_direct.specs.Names.{IsReadable};
 ghost use Rattle.cpp_direct.specs.declared.open.Step.TheVariants as steps;
@@ -12,8 +12,19 @@ ghost use Rattle.cpp_direct.specs.Symbol.{symbol_by};
 use crate::direct::Direct;
 use crate::grammar::Grammar;
 use crate::letters::is_builtin_with_d;
-use crate::open::{Open, Purpose, Step};
+use crate::open::{Access, Open, Purpose, Step};
 use crate::tokens::byte_at;
+
+/// Whether an array begins behind the byte at a place.
+#[inline(always)]
+fn is_array_behind(s: &[u8], at: usize) -> bool
+    ensures { result ≡ true → StandsAt s.now (at + 1) (65 ∷ []) }
+{
+    match at.checked_add(1) {
+        Some(behind) => byte_at(s, behind) == b'A',
+        None => false,
+    }
+}
 
 impl Direct {
     /// Reads a type, up to the first that stands in it.
@@ -29,6 +40,9 @@ impl Direct {
                 if !is_plain && byte_at(s, self.at.checked_add(1)?) == b'F' {
                     return self.begin_function::<G>(s, true);
                 }
+                if !is_plain && is_array_behind(s, self.at) {
+                    return self.begin_array::<G>(s, Access::Pointer);
+                }
                 self.open_type(Open::Pointer { from }, Step::Type)
             }
             b'F' => {
@@ -37,7 +51,18 @@ impl Direct {
                 }
                 self.begin_function::<G>(s, false)
             }
-            b'R' => self.open_type(Open::Lvalue { from }, Step::Type),
+            b'R' => {
+                if !is_plain && is_array_behind(s, self.at) {
+                    return self.begin_array::<G>(s, Access::Lvalue);
+                }
+                self.open_type(Open::Lvalue { from }, Step::Type)
+            }
+            b'A' => {
+                if is_plain {
+                    return None;
+                }
+                self.begin_array::<G>(s, Access::Plain)
+            }
             b'O' => self.open_type(Open::Rvalue { from }, Step::Type),
             b'K' => {
                 if is_plain {
@@ -134,6 +159,9 @@ impl Direct {
             return self.type_named::<G>(s, from, true, false);
         }
         let candidate = self.substitution(s)?;
+        if candidate.is_dependent {
+            return self.dependent_again::<G>(s, candidate);
+        }
         self.repeat(candidate.from, candidate.to)?;
         self.type_named::<G>(s, from, true, candidate.is_reference)
     }
@@ -199,6 +227,7 @@ impl Direct {
             } => self.front_ended::<G>(s, mark, start, argument),
             Open::Returned { is_pointer } => self.returned::<G>(s, is_pointer),
             Open::Signature { is_pointer } => self.parameter_at::<G>(s, is_pointer, false),
+            Open::Array { access, from, to } => self.array_ended::<G>(s, access, from, to),
             Open::Enclosing {
                 mark,
                 from,

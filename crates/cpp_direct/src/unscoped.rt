@@ -12,6 +12,7 @@ ghost use Rattle.cpp_direct.specs.Symbol.{symbol_by};
 use crate::direct::Direct;
 use crate::grammar::Grammar;
 use crate::open::{Mark, Open, Step};
+use crate::symbols::NOWHERE;
 use crate::tokens::byte_at;
 
 impl Direct {
@@ -88,7 +89,7 @@ impl Direct {
         ensures { IfSome result (IsWriting (symbol_by G.IS_WIDE s.now) self.new) }
     {
         if byte_at(s, self.at) != b'I' {
-            return self.name_ended::<G>(s, Mark::Plain, false, from);
+            return self.name_ended::<G>(s, Mark::Plain, false, NOWHERE, from);
         }
         if !takes {
             return None;

@@ -3,7 +3,7 @@
 ghost use Rattle.std.specs.Prelude.{◌≡◌, ◌+◌, ◌-◌, ◌≤◌, ◌∷◌, ◌++◌, [], length, take, drop, codes, true, if◌then◌else◌};
 ghost use Rattle.std.specs.Option.{OnSome, IfSome};
 ghost use Rattle.cpp_direct.specs.declared.open.Step.TheVariants as steps;
-ghost use Rattle.cpp_direct.specs.Written.{Writes, Cuts, added, added_unless, with_hidden};
+ghost use Rattle.cpp_direct.specs.Written.{Writes, Cuts, added, added_unless, with_dependent, with_hidden};
 
 use crate::direct::Direct;
 use crate::open::{Candidate, Open, Step};
@@ -13,6 +13,9 @@ const HIDDEN: Candidate = Candidate {
     from: 1,
     to: 0,
     is_reference: false,
+    is_dependent: false,
+    number: 0,
+    encoding: 0,
 };
 
 impl Direct {
@@ -55,6 +58,35 @@ impl Direct {
             from,
             to,
             is_reference,
+            is_dependent: false,
+            number: 0,
+            encoding: 0,
+        })
+    }
+
+    /// A type that names an argument becomes a candidate: what is written from a place on stands behind the argument's text.
+    pub(crate) fn add_dependent(
+        &mut self,
+        from: usize,
+        is_reference: bool,
+        number: u16,
+        encoding: u16,
+    ) -> Option<()>
+        ensures candidates { OnSome result (self.new.candidates.list.items ≡ with_dependent self.old from is_reference number encoding) }
+        ensures text { self.new.text ≡ self.old.text }
+        ensures open { self.new.waiting ≡ self.old.waiting }
+        ensures nest { self.new.nest ≡ self.old.nest }
+        ensures at { self.new.at ≡ self.old.at }
+        ensures rounds { self.new.rounds ≡ self.old.rounds }
+    {
+        let to = self.text.len();
+        self.candidates.push(Candidate {
+            from,
+            to,
+            is_reference,
+            is_dependent: true,
+            number,
+            encoding,
         })
     }
 

@@ -1,22 +1,16 @@
 use Rattle.std.proofs.Common.{◌≡◌, ◌+◌, if◌then◌else◌, refl, ap, sym, ◌∙◌}
 use Rattle.cpp_direct.specs.Symbol.{symbol_by}
-use Rattle.cpp_direct.proofs.FunctionsRead.{takes-function, function-begins}
-use Rattle.cpp_direct.proofs.Listed.{waits-last}
+use Rattle.cpp_direct.proofs.FunctionsRead.{function-begins}
 use Rattle.cpp_direct.proofs.direct.Direct.begin_function.Goals as goal
 use Rattle.cpp_direct.proofs.direct.Direct.begin_function.Goals.{then-is_pointer, else-is_pointer}
 
 pub returns : goal.returns
 returns g c =
     let old = c.args.self.now in
-    let last = c.in_ok-last.field-0.now in
     let size : c.if-is_pointer.checked_add ≡ (if c.args.is_pointer then 2 else 1) = elim c.if-is_pointer.branch [
       | then-is_pointer w ↦ w.checked_add-is ∙ ap (λ b. if b then 2 else 1) (sym w.if-is_pointer.true)
       | else-is_pointer w ↦ w.checked_add-is ∙ ap (λ b. if b then 2 else 1) (sym w.if-is_pointer.false)
     ] in
-    function-begins (symbol_by g.G.Grammar.IS_WIDE c.args.s.now) old _ c.args.is_pointer last c.requires.writing c.requires.letters
-    (waits-last _ _ _ _ c.as_slice.ensures c.in_ok-last.ensures.value refl)
-    (λ rest. takes-function last rest c.in_default.not-Pointer c.in_default.not-Lvalue c.in_default.not-Rvalue c.in_default.not-Const
-    c.in_default.not-Enumerator c.in_default.not-Returned c.in_default.not-Signature c.in_default.not-Front c.in_default.not-Argument
-    c.in_default.not-Lambda c.in_default.not-Element)
-    c.in_ok-push.ensures.items
+    function-begins (symbol_by g.G.Grammar.IS_WIDE c.args.s.now) old _ c.args.is_pointer c.requires.writing c.requires.letters
+    (c.takes_element.ensures c.if-not-takes_element.false) c.in_ok-push.ensures.items
     (c.in_ok-self.ensures.1 ∙ ap (λ n. old.at + n) size) refl refl

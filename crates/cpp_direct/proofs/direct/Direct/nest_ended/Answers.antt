@@ -3,7 +3,7 @@ use Rattle.cpp_direct.specs.Symbol.{symbol_by}
 use Rattle.cpp_direct.specs.Stands.{IsOwn}
 use Rattle.cpp_direct.specs.Ways.{IsEnclosingInstance, IsEnclosingNamed, IsNameEnded}
 use Rattle.cpp_direct.proofs.EnclosingFunctions.{instance-within, name-within}
-use Rattle.cpp_direct.proofs.Nesting.{type-ended, name-comes}
+use Rattle.cpp_direct.proofs.Nesting.{arguments-noted, left-true, type-ended, name-comes}
 use Rattle.cpp_direct.proofs.direct.Direct.nest_ended.Goals as goal
 
 pub name_ended-requires-clause-ended : goal.name_ended-requires-clause-ended
@@ -11,8 +11,12 @@ name_ended-requires-clause-ended g c =
     let old = c.args.self.now in
     let writing = c.requires.writing in
     let before = writing.is_before in
-    subst (λ n. IsNameEnded (symbol_by g.G.Grammar.IS_WIDE c.args.s.now) (record old { at = n }) c.in-Name.mark old.nest.is_instance old.nest.from) (sym c.in_ok-self.ensures.1)
-    (name-comes (symbol_by g.G.Grammar.IS_WIDE c.args.s.now) old writing.state before.0 c.in-Name.mark writing.candidates before.1 (before.2 (subst IsOwn (sym c.in-Name.is) tt)) before.3 before.4 c.requires.end c.in-Name.is)
+    subst (λ n. IsNameEnded (symbol_by g.G.Grammar.IS_WIDE c.args.s.now) (record old { at = n }) c.in-Name.mark c.is_function_instance-is_function.result c.noted-argument.result old.nest.from) (sym c.in_ok-self.ensures.1)
+    (name-comes (symbol_by g.G.Grammar.IS_WIDE c.args.s.now) old writing.state before.0 c.in-Name.mark c.is_function_instance-is_function.result c.noted-argument.result
+    writing.candidates before.1 (λ e. before.2 (subst IsOwn (sym c.in-Name.is) tt) (sym c.is_function_instance-is_function.ensures ∙ e))
+    (λ e. before.3 (sym c.is_function_instance-is_function.ensures ∙ e))
+    (arguments-noted old.nest.is_instance old.text.list.items old.argument c.noted-argument.result before.0 c.noted-argument.ensures.known
+    c.noted-argument.ensures.none before.4) c.requires.end c.in-Name.is)
 
 pub enclosing_instance-requires-clause-named : goal.enclosing_instance-requires-clause-named
 enclosing_instance-requires-clause-named g c =
@@ -20,8 +24,8 @@ enclosing_instance-requires-clause-named g c =
     let writing = c.requires.writing in
     let before = writing.is_before in
     subst (λ n. IsEnclosingInstance (symbol_by g.G.Grammar.IS_WIDE c.args.s.now) (record old { at = n }) c.in-Enclosing.mark old.nest.from) (sym c.in_ok-self.ensures.1)
-    (instance-within (symbol_by g.G.Grammar.IS_WIDE c.args.s.now) old writing.state before.0 c.in-Enclosing.mark writing.candidates before.1 (before.3 c.if-self.true)
-    (before.4 c.if-self.true) c.requires.end c.in-Enclosing.is)
+    (instance-within (symbol_by g.G.Grammar.IS_WIDE c.args.s.now) old writing.state before.0 c.in-Enclosing.mark writing.candidates before.1 (before.3 (sym c.is_function_instance.ensures ∙ c.if-is_function_instance.true))
+    (before.4 (left-true old.nest.is_instance old.nest.has_class (sym c.is_function_instance.ensures ∙ c.if-is_function_instance.true))) c.requires.end c.in-Enclosing.is)
 
 pub enclosing_named-requires-clause-named : goal.enclosing_named-requires-clause-named
 enclosing_named-requires-clause-named g c =
@@ -29,7 +33,7 @@ enclosing_named-requires-clause-named g c =
     let writing = c.requires.writing in
     let before = writing.is_before in
     subst (λ n. IsEnclosingNamed (symbol_by g.G.Grammar.IS_WIDE c.args.s.now) (record old { at = n }) c.in-Enclosing.mark old.nest.from) (sym c.in_ok-self.ensures.1)
-    (name-within (symbol_by g.G.Grammar.IS_WIDE c.args.s.now) old writing.state before.0 c.in-Enclosing.mark writing.candidates before.1 (before.2 (subst IsOwn (sym c.in-Enclosing.is) tt) c.if-self.false) c.requires.end
+    (name-within (symbol_by g.G.Grammar.IS_WIDE c.args.s.now) old writing.state before.0 c.in-Enclosing.mark writing.candidates before.1 (before.2 (subst IsOwn (sym c.in-Enclosing.is) tt) (sym c.is_function_instance.ensures ∙ c.if-is_function_instance.false)) c.requires.end
     c.in-Enclosing.is)
 
 pub returns-in_ok-add_unless-in-Type : goal.returns-in_ok-add_unless-in-Type

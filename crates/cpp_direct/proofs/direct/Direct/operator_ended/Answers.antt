@@ -1,4 +1,5 @@
 use Rattle.std.proofs.Common.{arith, false, subst, sym}
+use Rattle.cpp_direct.specs.Stands.{nowhere}
 use Rattle.cpp_direct.specs.Symbol.{symbol_by}
 use Rattle.cpp_direct.specs.Ways.{IsNameEnded}
 use Rattle.cpp_direct.proofs.Nesting.{operator-ends}
@@ -9,6 +10,6 @@ pub name_ended-requires-clause-ended : goal.name_ended-requires-clause-ended
 name_ended-requires-clause-ended g c =
     let s = symbol_by g.G.Grammar.IS_WIDE c.args.s.now in
     let old = c.args.self.now in
-    subst (λ n. IsNameEnded s (record old { at = n }) c.in-Name.mark false old.nest.from) (sym c.in_ok-self.ensures.1)
+    subst (λ n. IsNameEnded s (record old { at = n }) c.in-Name.mark false nowhere old.nest.from) (sym c.in_ok-self.ensures.1)
     (operator-ends s old c.in-Name.mark c.requires.read
     (there s.bytes old.at c.byte_at.result 69 c.if-byte_at-ne69.false (omega arith) c.byte_at.ensures) c.in-Name.is)

@@ -9,6 +9,7 @@ use Rattle.cpp_direct.proofs.Listed.{waits-last}
 use Rattle.cpp_direct.proofs.Handed.{value-element, value-marked, value-front, value-returned, value-signature, value-enumerator, argument-read, parameter-read, special-read, takes-elements}
 use Rattle.cpp_direct.proofs.EnclosingFunctions.{lambda-parameter-read, parameter-read-within}
 use Rattle.cpp_direct.proofs.Arguments.{value-argument}
+use Rattle.cpp_direct.proofs.ArraysRead.{value-array}
 use Rattle.cpp_direct.proofs.PacksRead.{value-in-pack}
 use Rattle.cpp_direct.proofs.direct.Direct.pass.Goals as goal
 
@@ -76,6 +77,11 @@ finish-requires g c =
     (value-element (symbol_by g.G.Grammar.IS_WIDE c.args.s.now) c.args.self.now c.args.is_reference opens.Special c.requires.writing
     (waits-last _ _ _ _ c.as_slice.ensures c.in_ok-from.ensures.value c.in-Special.is))
 
+pub array_ended-requires-clause-read : goal.array_ended-requires-clause-read
+array_ended-requires-clause-read g c =
+    value-array (symbol_by g.G.Grammar.IS_WIDE c.args.s.now) c.args.self.now c.args.is_reference c.in-Array.access c.in-Array.from c.in-Array.to
+    c.requires.writing (waits-last _ _ _ _ c.as_slice.ensures c.in_ok-from.ensures.value c.in-Array.is)
+
 pub enumerator-requires-clause-awaits : goal.enumerator-requires-clause-awaits
 enumerator-requires-clause-awaits g c =
     value-enumerator (symbol_by g.G.Grammar.IS_WIDE c.args.s.now) c.args.self.now c.args.is_reference
@@ -89,7 +95,7 @@ returns-in_default g c =
     (waits-last _ _ _ _ c.as_slice.ensures c.in_ok-from.ensures.value refl))
     (takes-elements o c.in_default.not-Pointer c.in_default.not-Lvalue c.in_default.not-Rvalue c.in_default.not-Const
     c.in_default.not-Parameters c.in_default.not-Front c.in_default.not-Returned c.in_default.not-Signature c.in_default.not-Special c.in_default.not-Enumerator
-    c.in_default.not-Enclosing c.in_default.not-Argument c.in_default.not-Lambda c.in_default.not-Element)
+    c.in_default.not-Enclosing c.in_default.not-Argument c.in_default.not-Lambda c.in_default.not-Element c.in_default.not-Array)
 
 pub argument_ended-requires-clause-read : goal.argument_ended-requires-clause-read
 argument_ended-requires-clause-read g c =

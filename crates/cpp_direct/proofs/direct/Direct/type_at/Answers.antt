@@ -24,20 +24,34 @@ begin_function-requires-clause-letters g c =
     (there s (at + 1) behind.result 70 c.if-byte_at-eq70.true (omega arith)
     (subst (λ n. behind.result ≢ 0 → StandsAt s n (behind.result ∷ [])) c.in_ok-checked_add-in-80.ensures.1 behind.ensures))
 
-pub returns-else-not-is_plain : goal.returns-else-not-is_plain
-returns-else-not-is_plain g c =
+pub returns-else-not-is_plain-2 : goal.returns-else-not-is_plain-2
+returns-else-not-is_plain-2 g c =
     pointer-opened (symbol_by g.G.Grammar.IS_WIDE c.args.s.now) c.args.self.now c.open_type.new.self c.open_type.result c.len-from.result
     (awaits-type (symbol_by g.G.Grammar.IS_WIDE c.args.s.now) c.args.self.now c.args.is_plain c.requires.writing) c.len-from.ensures
     (there c.args.s.now c.args.self.now.at c.byte_at.result 80 c.in-80.is (omega arith) c.byte_at.ensures)
     c.open_type.ensures.step c.open_type.ensures.open c.open_type.ensures.at c.open_type.ensures.text c.open_type.ensures.candidates
 
-pub returns-in-82 : goal.returns-in-82
-returns-in-82 g c =
+pub returns-else-not-is_plain-3 : goal.returns-else-not-is_plain-3
+returns-else-not-is_plain-3 g c =
     let called = c.open_type-in-82.ensures in
     lvalue-opened (symbol_by g.G.Grammar.IS_WIDE c.args.s.now) c.args.self.now c.open_type-in-82.new.self c.open_type-in-82.result c.len-from.result
     (awaits-type (symbol_by g.G.Grammar.IS_WIDE c.args.s.now) c.args.self.now c.args.is_plain c.requires.writing) c.len-from.ensures
     (there c.args.s.now c.args.self.now.at c.byte_at.result 82 c.in-82.is (omega arith) c.byte_at.ensures)
     called.step called.open called.at called.text called.candidates
+
+pub begin_array-requires-clause-letters : goal.begin_array-requires-clause-letters
+begin_array-requires-clause-letters g c =
+    let s = c.args.s.now in
+    let at = c.args.self.now.at in
+    stands-join s at (80 ∷ []) (65 ∷ []) (there s at c.byte_at.result 80 c.in-80.is (omega arith) c.byte_at.ensures)
+    (c.is_array_behind.ensures c.if-is_array_behind.true)
+
+pub begin_array-requires-then-is_array_behind-2-clause-letters : goal.begin_array-requires-then-is_array_behind-2-clause-letters
+begin_array-requires-then-is_array_behind-2-clause-letters g c =
+    let s = c.args.s.now in
+    let at = c.args.self.now.at in
+    stands-join s at (82 ∷ []) (65 ∷ []) (there s at c.byte_at.result 82 c.in-82.is (omega arith) c.byte_at.ensures)
+    (c.is_array_behind-then-not-is_plain-3.ensures c.if-is_array_behind-2.true)
 
 pub returns-in-79 : goal.returns-in-79
 returns-in-79 g c =
@@ -47,11 +61,11 @@ returns-in-79 g c =
     (there c.args.s.now c.args.self.now.at c.byte_at.result 79 c.in-79.is (omega arith) c.byte_at.ensures)
     called.step called.open called.at called.text called.candidates
 
-pub returns-else-is_plain-2 : goal.returns-else-is_plain-2
-returns-else-is_plain-2 g c =
+pub returns-else-is_plain-3 : goal.returns-else-is_plain-3
+returns-else-is_plain-3 g c =
     let called = c.open_type-in-75.ensures in
     const-opened (symbol_by g.G.Grammar.IS_WIDE c.args.s.now) c.args.self.now c.open_type-in-75.new.self c.open_type-in-75.result c.len-from.result c.args.is_plain
-    c.requires.writing c.if-is_plain-2.false c.len-from.ensures
+    c.requires.writing c.if-is_plain-3.false c.len-from.ensures
     (there c.args.s.now c.args.self.now.at c.byte_at.result 75 c.in-75.is (omega arith) c.byte_at.ensures)
     called.step called.open called.at called.text called.candidates
 

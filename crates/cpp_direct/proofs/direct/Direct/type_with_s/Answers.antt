@@ -1,7 +1,7 @@
 use Rattle.std.proofs.Common.{◌≢◌, ◌+◌, ◌-◌, ◌++◌, [], ◌∷◌, length, take, drop, ap, sym, subst, ◌∙◌, arith, append-nil}
 use Rattle.cpp_direct.specs.Symbol.{symbol_by}
 use Rattle.cpp_direct.specs.Holes.{StandsAt, IsSeqAt}
-use Rattle.cpp_direct.proofs.TypesRead.{there, some-text, std-named, abbreviation-named, substitution-stands, substitution-named}
+use Rattle.cpp_direct.proofs.TypesRead.{there, named-again, some-text, std-named, abbreviation-named, substitution-stands, substitution-named}
 use Rattle.cpp_direct.proofs.direct.Direct.type_with_s.Goals as goal
 
 pub type_named-requires : goal.type_named-requires
@@ -26,6 +26,14 @@ type_named-requires-then-not-is_empty g c =
     c.in_ok-push-2.ensures.candidates c.in_ok-push-2.ensures.waiting
     (c.in_ok-push-2.ensures.at ∙ c.in_ok-self-3.ensures.1 ∙ ap (λ k. k + 1) c.in_ok-self.ensures.1)
     c.len-from.ensures
+
+pub dependent_again-requires-clause-again : goal.dependent_again-requires-clause-again
+dependent_again-requires-clause-again g c =
+    let got = c.in_ok-candidate.ensures.is in
+    let same = c.in_ok-candidate.ensures.same in
+    named-again (symbol_by g.G.Grammar.IS_WIDE c.args.s.now) c.args.self.now c.substitution.new.self got.0 c.in_ok-candidate.candidate c.requires.awaits c.requires.letter
+    (subst (λ n. IsSeqAt c.args.s.now n got.0 c.substitution.new.self.at) c.in_ok-self.ensures.1 got.1) c.in_ok-candidate.ensures.ordered got.2
+    (same.text ∙ append-nil c.args.self.now.text.list.items) same.candidates same.waiting c.if-candidate.true
 
 pub repeat-requires-clause-from : goal.repeat-requires-clause-from
 repeat-requires-clause-from g c =
@@ -56,4 +64,4 @@ type_named-requires-2 g c =
     (subst (λ n. IsSeqAt c.args.s.now c.in_ok-self.field-0 got.0 n) (sym wrote.at) got.1))
     c.in_ok-candidate.ensures.ordered got.2
     (wrote.text ∙ ap (λ l. l ++ take (k.to - k.from) (drop k.from l)) (same.text ∙ append-nil c.args.self.now.text.list.items))
-    (wrote.candidates ∙ same.candidates) (wrote.waiting ∙ same.waiting) c.len-from.ensures
+    (wrote.candidates ∙ same.candidates) (wrote.waiting ∙ same.waiting) c.len-from.ensures c.if-candidate.false

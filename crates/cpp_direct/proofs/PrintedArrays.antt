@@ -1,0 +1,136 @@
+-- Arrays, and what points or refers to them, as elements of lists.
+use Rattle.std.proofs.Common.{◌≡◌, refl, ap, sym, ◌∙◌, ℕ, ◌+◌, ◌*◌, ◌≤◌, List, [], ◌∷◌, ◌++◌, length, Bool, true, false, None, arith, codes, length-append, append-nil, append_assoc}
+use Rattle.sym_print.specs.Unshared.{text_of, cost_of}
+use Rattle.cpp_grammar.specs.Term.{Term, array, pointer, lvalue}
+use Rattle.cpp_grammar.specs.Scope.{is_open, pack_length}
+use Rattle.cpp_grammar.specs.Items.{left, right, low, Context, head, head_with, is_reference, is_funarr, is_empty}
+use Rattle.cpp_grammar.specs.Meaning.{is_void}
+use Rattle.cpp_grammar.specs.Parts.{as_item, says, text_part, left_parts, right_parts, array_left, marked_parts, reference_parts, closing_right, parts_in, not_empty}
+use Rattle.cpp_direct.specs.declared.open.Access.{Access}
+use Rattle.cpp_direct.specs.declared.open.Access.TheVariants as accesses
+use Rattle.cpp_direct.specs.HolesOfArrays.{accessed, array_opening}
+use Rattle.cpp_direct.specs.Prints.{in_form, Prints, IsElement}
+use Rattle.cpp_direct.proofs.PrintedParts.{printed_by, text_by, cost_by, text_append, cost_append, part-text, part-cost}
+
+-- ## What an array prints at the left and at the right
+
+beginning : (c : Context) (t : Term) → is_funarr (head c t) ≡ false → array_left c t ≡ as_item left c t ∷ says " " ∷ []
+unfolding array_left
+beginning c t e = rw (e, array_left) refl
+
+left-text : (c : Context) (digits : List ℕ) (t : Term) (b : List ℕ) (r : Bool) → Prints t b r → text_of (in_form left c (array digits t)) ≡ b ++ codes " "
+unfolding parts_in left_parts not_empty
+left-text c digits t b r p =
+    text_by left c (array digits t) (as_item left c t ∷ says " " ∷ []) (beginning c t (p.is_funarr_head c)) ∙ ap (λ s. s ++ codes " ") (p.left_text c)
+
+left-cost : (c : Context) (digits : List ℕ) (t : Term) (b : List ℕ) (r : Bool) → Prints t b r
+    → cost_of (in_form left c (array digits t)) ≡ 2 + cost_of (in_form left c t)
+unfolding parts_in left_parts not_empty
+left-cost c digits t b r p = omega (arith, cost_by left c (array digits t) (as_item left c t ∷ says " " ∷ []) (beginning c t (p.is_funarr_head c)))
+
+sized_text : (x y l : List ℕ) → x ≡ l → y ≡ [] → (codes "[" ++ x) ++ (codes "]" ++ (y ++ [])) ≡ codes "[" ++ l ++ codes "]"
+sized_text x y l e f = rw (e, f) refl
+
+right-text : (c : Context) (digits : List ℕ) (t : Term) (b : List ℕ) (r : Bool) → Prints t b r
+    → text_of (in_form right c (array digits t)) ≡ codes "[" ++ digits ++ codes "]"
+unfolding parts_in right_parts not_empty
+right-text c digits t b r p =
+    let front = says "[" ∷ text_part digits in
+    let behind = says "]" ∷ as_item right c t ∷ [] in
+    text_by right c (array digits t) (front ++ behind) refl ∙ text_append front behind
+    ∙ sized_text (text_of (printed_by (text_part digits))) (text_of (in_form right c t)) digits (part-text digits) (p.right_text c)
+
+right-cost : (c : Context) (digits : List ℕ) (t : Term) → cost_of (in_form right c (array digits t)) ≡ 3 + cost_of (in_form right c t) + length digits
+unfolding parts_in right_parts not_empty
+right-cost c digits t =
+    let front = says "[" ∷ text_part digits in
+    let behind = says "]" ∷ as_item right c t ∷ [] in
+    omega (
+      arith,
+      cost_by right c (array digits t) (front ++ behind) refl,
+      cost_append front behind,
+      part-cost digits,
+    )
+
+-- ## What it is as an element
+
+plain_text : (x y b l : List ℕ) → x ≡ b ++ codes " " → y ≡ codes "[" ++ l ++ codes "]" → x ++ y ≡ b ++ codes " [" ++ l ++ codes "]"
+plain_text x y b l e f =
+    ap (λ k. k ++ y) e ∙ ap (λ k. (b ++ codes " ") ++ k) f ∙ sections b (codes " ") (codes "[") l (codes "]")
+  where
+    sections : (b s o l k : List ℕ) → (b ++ s) ++ (o ++ l ++ k) ≡ b ++ (s ++ o) ++ l ++ k
+    sections b s o l k =
+        sym (append_assoc (b ++ s) (o ++ l) k) ∙ ap (λ m. m ++ k) (sym (append_assoc (b ++ s) o l)) ∙ ap (λ m. m ++ l ++ k) (append_assoc b s o)
+
+marked_text : (x y b l m : List ℕ) → x ≡ b ++ codes " " → y ≡ codes "[" ++ l ++ codes "]"
+    → (x ++ (codes "(" ++ m)) ++ (codes ")" ++ (y ++ [])) ≡ b ++ (codes " (" ++ m ++ codes ")[") ++ l ++ codes "]"
+marked_text x y b l m e f =
+    ap (λ k. (k ++ (codes "(" ++ m)) ++ (codes ")" ++ (y ++ []))) e
+    ∙ ap (λ k. ((b ++ codes " ") ++ (codes "(" ++ m)) ++ (codes ")" ++ k)) (append-nil y ∙ f)
+    ∙ ap (λ k. k ++ (codes ")" ++ (codes "[" ++ l ++ codes "]"))) (append_assoc b (codes " ") (codes "(" ++ m))
+    ∙ go (codes " (" ++ m)
+  where
+    go : (front : List ℕ) → (b ++ front) ++ (codes ")" ++ (codes "[" ++ l ++ codes "]")) ≡ b ++ (front ++ codes ")[") ++ l ++ codes "]"
+    go front =
+        append_assoc b front (codes ")[" ++ (l ++ codes "]")) ∙ ap (λ k. b ++ k) (sym (append_assoc front (codes ")[") (l ++ codes "]")))
+        ∙ sym (append_assoc b (front ++ codes ")[") (l ++ codes "]")) ∙ sym (append_assoc (b ++ (front ++ codes ")[")) l (codes "]"))
+
+text-length : (b o l : List ℕ) → length (b ++ o ++ l ++ codes "]") ≡ length b + length o + length l + 1
+text-length b o l = omega (arith, length-append (b ++ o ++ l) (codes "]"), length-append (b ++ o) l, length-append b o)
+
+-- An array prints its elements' type and its size, and a mark between them where it is pointed or referred to.
+pub array-element : (extra : ℕ) (access : Access) (digits : List ℕ) (t : Term) (b : List ℕ) (r : Bool) → Prints t b r
+    → IsElement extra (accessed access (array digits t)) (b ++ array_opening access ++ digits ++ codes "]")
+unfolding parts_in left_parts right_parts marked_parts reference_parts closing_right head head_with is_reference is_funarr not_empty is_empty is_open pack_length is_void
+array-element extra accesses.Plain digits t b r p = let a = array digits t in record {
+  both_texts = λ c. plain_text (text_of (in_form left c a)) (text_of (in_form right c a)) b digits (left-text c digits t b r p) (right-text c digits t b r p);
+  cost = λ c. omega (
+    arith,
+    p.cost c,
+    left-cost c digits t b r p,
+    right-cost c digits t,
+    text-length b (codes " [") digits,
+  );
+  filled = λ c. refl;
+  is_closed = p.is_closed;
+  packless = p.packless;
+  void = λ e. cc e;
+}
+array-element extra accesses.Pointer digits t b r p = let a = array digits t in record {
+  both_texts = λ c.
+      ap (λ k. k ++ text_of (in_form right c (pointer a))) (text_by left c (pointer a) (as_item left c a ∷ says "(*" ∷ []) refl)
+      ∙ ap (λ k. (text_of (in_form left c a) ++ codes "(*") ++ k) (text_by right c (pointer a) (says ")" ∷ as_item right c a ∷ []) refl)
+      ∙ marked_text (text_of (in_form left c a)) (text_of (in_form right c a)) b digits (codes "*") (left-text c digits t b r p) (right-text c digits t b r p);
+  cost = λ c. omega (
+    arith,
+    p.cost c,
+    left-cost c digits t b r p,
+    right-cost c digits t,
+    cost_by left c (pointer a) (as_item left c a ∷ says "(*" ∷ []) refl,
+    cost_by right c (pointer a) (says ")" ∷ as_item right c a ∷ []) refl,
+    text-length b (codes " (*)[") digits,
+  );
+  filled = λ c. refl;
+  is_closed = p.is_closed;
+  packless = p.packless;
+  void = λ e. cc e;
+}
+array-element extra accesses.Lvalue digits t b r p = let a = array digits t in record {
+  both_texts = λ c.
+      ap (λ k. k ++ text_of (in_form right c (lvalue a))) (text_by left c (lvalue a) (as_item left c a ∷ says "(&" ∷ []) refl)
+      ∙ ap (λ k. (text_of (in_form left c a) ++ codes "(&") ++ k) (text_by right c (lvalue a) (says ")" ∷ as_item right c a ∷ []) refl)
+      ∙ marked_text (text_of (in_form left c a)) (text_of (in_form right c a)) b digits (codes "&") (left-text c digits t b r p) (right-text c digits t b r p);
+  cost = λ c. omega (
+    arith,
+    p.cost c,
+    left-cost c digits t b r p,
+    right-cost c digits t,
+    cost_by left c (lvalue a) (as_item left c a ∷ says "(&" ∷ []) refl,
+    cost_by right c (lvalue a) (says ")" ∷ as_item right c a ∷ []) refl,
+    text-length b (codes " (&)[") digits,
+  );
+  filled = λ c. refl;
+  is_closed = p.is_closed;
+  packless = p.packless;
+  void = λ e. cc e;
+}

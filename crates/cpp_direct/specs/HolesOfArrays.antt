@@ -1,0 +1,56 @@
+-- What is expected within an array, and what comes of it.
+use Rattle.std.specs.Prelude.{◌≡◌, ℕ, ◌+◌, List, [], ◌∷◌, length, Bool, true, false, codes}
+use Rattle.sym_core.specs.Token.{Token, IsNumberToken, bytes_of}
+use Rattle.sym_core.specs.declared.NumberKind.TheVariants.{Decimal}
+use Rattle.cpp_grammar.specs.declared.kind.Kind.{Kind}
+use Rattle.cpp_grammar.specs.Term.{Term, array, pointer, lvalue}
+use Rattle.cpp_grammar.specs.Values as values
+use Rattle.cpp_grammar.specs.Values.{State, Around, tree}
+use Rattle.cpp_direct.specs.Symbol.{Symbol}
+use Rattle.cpp_direct.specs.declared.open.Access.{Access}
+use Rattle.cpp_direct.specs.declared.open.Access.TheVariants as accesses
+use Rattle.cpp_direct.specs.Holes.{Opened, StandsAt, Comes, Expects, with_candidate}
+
+-- the size of an array stands at the place, digits or none, and this is the place behind it
+pub record IsSizeAt (s : List ℕ) (at : ℕ) (digits : List ℕ) (end : ℕ) : Type 0 where
+  pub token : Token
+  pub is_number : IsNumberToken Decimal token
+  pub own : token.own ≡ digits
+  pub stands : StandsAt s at (bytes_of token)
+  pub ends : end ≡ at + length (bytes_of token)
+
+-- an array, or a pointer or a reference to it
+abbrev pub accessed : Access → Term → Term
+accessed accesses.Plain t = t
+accessed accesses.Pointer t = pointer t
+accessed accesses.Lvalue t = lvalue t
+
+-- the letters in front of its size
+abbrev pub access_letters : Access → List ℕ
+access_letters accesses.Plain = 65 ∷ []
+access_letters accesses.Pointer = 80 ∷ 65 ∷ []
+access_letters accesses.Lvalue = 82 ∷ 65 ∷ []
+
+-- it is pointed or referred to
+abbrev pub is_marked : Access → Bool
+is_marked accesses.Plain = false
+is_marked _ = true
+
+-- each of them is a candidate
+abbrev pub with_accessed : Access → (encoding : ℕ) → Term → State → State
+with_accessed accesses.Plain e t st = with_candidate e t st
+with_accessed accesses.Pointer e t st = with_candidate e (pointer t) (with_candidate e t st)
+with_accessed accesses.Lvalue e t st = with_candidate e (lvalue t) (with_candidate e t st)
+
+-- what stands between the text of the elements' type and the size
+abbrev pub array_opening : Access → List ℕ
+array_opening accesses.Plain = codes " ["
+array_opening accesses.Pointer = codes " (*)["
+array_opening accesses.Lvalue = codes " (&)["
+
+-- Behind its size the type of an array's elements is expected.
+pub record ArrayOpened (s : Symbol) (outer : List Opened) (around : Around) (access : Access) (digits : List ℕ) (at : ℕ) (st : State) : Type 0 where
+  pub inner : List Opened
+  pub awaits : Expects s Kind.Type around inner at st
+  pub onward : (t : Term) (at : ℕ) (st : State) → Comes s inner (tree t true) at st
+      → Comes s outer (tree (accessed access (array (values.normal digits) t)) true) at (with_accessed access around.encoding (array (values.normal digits) t) st)
