@@ -1,13 +1,16 @@
 // The arguments of a function's template, and the types that name them.
 
-ghost use Rattle.std.specs.Prelude.{◌≡◌, ◌≤◌, ◌+◌, ◌∷◌, ◌++◌, [], length, reverse, true, false, Some};
-ghost use Rattle.std.specs.Option.{IfSome};
+ghost use Rattle.std.specs.Prelude.{◌≡◌, ◌≤◌, ◌+◌, ◌∷◌, ◌++◌, [], List, length, reverse, true, false, Some};
+ghost use Rattle.std.specs.Option.{OnSome, IfSome};
+ghost use Rattle.cpp_grammar.specs.Term.{Term};
+ghost use Rattle.cpp_direct.specs.declared.direct.Direct.{Direct};
 ghost use Rattle.cpp_direct.specs.Names.{IsReadable};
 ghost use Rattle.cpp_direct.specs.declared.open.Step.TheVariants as steps;
 ghost use Rattle.cpp_direct.specs.Holes.{StandsAt};
 ghost use Rattle.cpp_direct.specs.Stands.{EndsNamed, IsWriting, argument_of, place_of};
-ghost use Rattle.cpp_direct.specs.Ways.{AwaitsType, AwaitsDependentMark, AwaitsKnownArgument, AwaitsNextParameter, IsArgumentRead, IsNamedAgain, IsPackElementRead, KnowsMore, parameter_digits};
+ghost use Rattle.cpp_direct.specs.Ways.{AwaitsType, AwaitsDependentMark, AwaitsKnownArgument, AwaitsNextParameter, IsArgumentRead, IsNamedAgain, IsPackElementRead, AwaitsPackElement, AreForwarded, IsPackOf, comma_text, KnowsMore, parameter_digits};
 ghost use Rattle.cpp_direct.specs.Symbol.{plain};
+ghost use Rattle.cpp_direct.specs.Written.{Writes};
 
 use crate::direct::Direct;
 use crate::open::{Argument, Arguments, Candidate, Mark, Open, Purpose, Step};
@@ -184,8 +187,7 @@ impl Direct {
         Some(Step::Type)
     }
 
-    /// The first argument of a list, which is a pack of something. Where it is an argument of a name, it may be the only one, and
-    /// have one type alone.
+    /// The first argument of a list, which is a pack of something. Where it is an argument of a name, it may be the only one.
     // <template-arg> ::= J <template-arg>* E
     #[inline(never)]
     pub(crate) fn first_pack(&mut self, s: &[u8]) -> Option<Step>
@@ -204,26 +206,39 @@ impl Direct {
         self.at = behind;
         let from = self.text.len();
         self.waiting.push(Open::Pack)?;
-        self.waiting.push(Open::Element { from })?;
+        self.waiting.push(Open::Element {
+            from,
+            number: 0,
+            known: NOWHERE,
+        })?;
         Some(Step::Type)
     }
 
-    /// The first element of a pack is read, which is the first argument of a name: others follow, or the end of the pack, and behind
-    /// it that of the arguments.
+    /// An element of a pack is read, which is the first argument of a name: others follow, or the end of the pack, and behind it that of
+    /// the arguments.
     // <template-arg> ::= J <template-arg>* E
     pub(crate) fn element_ended(
         &mut self,
         s: &[u8],
         from: usize,
+        number: u16,
+        known: Arguments,
         is_reference: bool,
     ) -> Option<Step>
         requires fits { IsReadable s.now }
-        requires read { IsPackElementRead (plain s.now) self.old from is_reference }
+        requires read { IsPackElementRead (plain s.now) self.old from number known is_reference }
         ensures { IfSome result (IsWriting (plain s.now) self.new) }
     {
         let _element = self.waiting.pop();
-        if byte_at(s, self.at) != b'E' {
+        let byte = byte_at(s, self.at);
+        // a literal isn't known, nor is what stands behind it
+        if byte == b'L' || is_element_at(s, self.at) {
             return Some(Step::List { is_first: false });
+        }
+        let to = self.text.len();
+        let more = known.with(number, placed(from, to, true, is_reference));
+        if byte != b'E' {
+            return self.next_element(s, number, more);
         }
         let behind = self.at.checked_add(1)?;
         if byte_at(s, behind) != b'E' {
@@ -231,9 +246,26 @@ impl Direct {
         }
         let _pack = self.waiting.pop();
         self.at = behind.checked_add(1)?;
-        let to = self.text.len();
-        let place = placed(from, to, true, is_reference);
-        self.close_list(s, NOWHERE.with(0, place))
+        let elements = number.checked_add(1)?;
+        self.close_list(s, Arguments { elements, ..more })
+    }
+
+    /// An element of a pack comes next, behind so many others.
+    // <template-arg> ::= J <template-arg>* E
+    fn next_element(&mut self, s: &[u8], before: u16, known: Arguments) -> Option<Step>
+        requires fits { IsReadable s.now }
+        requires awaits { AwaitsPackElement (plain s.now) self.old before known }
+        ensures { IfSome result (IsWriting (plain s.now) self.new) }
+    {
+        self.push_pair(b',', b' ')?;
+        let from = self.text.len();
+        let number = before.checked_add(1)?;
+        self.waiting.push(Open::Element {
+            from,
+            number,
+            known,
+        })?;
+        Some(Step::Type)
     }
 
     /// A parameter of a function comes next.
@@ -267,18 +299,50 @@ impl Direct {
         let Some(end) = expansion_end(s, self.at) else {
             return Some(Step::Type);
         };
-        let pack = argument.first;
-        if pack.to < pack.from || !may_end(byte_at(s, end)) {
+        let first = argument.first;
+        if first.to < first.from || argument.elements > 4 || !may_end(byte_at(s, end)) {
             return None;
         }
         self.at = end;
-        self.repeat(pack.from as usize, pack.to as usize)?;
-        // a reference to a reference is one to what this refers to
-        self.push(if pack.is_reference { b"" } else { b"&&" })?;
+        self.forward(argument, 0)?;
+        self.forward(argument, 1)?;
+        self.forward(argument, 2)?;
+        self.forward(argument, 3)?;
         self.add_hidden(false)?;
         self.add_hidden(false)?;
         self.add_hidden(false)?;
         self.close_parameters(s, mark, start, argument)
+    }
+
+    /// Writes what stands in front of the element of a list with this number.
+    fn comma(&mut self, number: u16) -> Option<()>
+        ensures { OnSome result (Writes self.old self.new (comma_text number)) }
+    {
+        match number {
+            0 => self.push(b""),
+            _ => self.push(b", "),
+        }
+    }
+
+    /// Writes a reference to the element of a pack with this number, behind those before it. A reference to a reference is one to what
+    /// this refers to.
+    // <type> ::= O <type>
+    fn forward(&mut self, argument: Arguments, number: u16) -> Option<()>
+        requires few { number ≤ 3 }
+        requires before { (before : Direct) × (ts : List Term) × IsPackOf before.text.list.items argument ts × AreForwarded before self.old ts number }
+        ensures { OnSome result ((before : Direct) (ts : List Term) → IsPackOf before.text.list.items argument ts
+            → AreForwarded before self.old ts number → AreForwarded before self.new ts (number + 1)) }
+    {
+        if number >= argument.elements {
+            return Some(());
+        }
+        let place = known(argument.at(number))?;
+        if !place.is_pack {
+            return None;
+        }
+        self.comma(number)?;
+        self.repeat(place.from as usize, place.to as usize)?;
+        self.push(if place.is_reference { b"" } else { b"&&" })
     }
 
     /// An argument of a name is read, so many behind the first one: others follow, or the end.

@@ -58,6 +58,7 @@ pub const NOWHERE: Arguments = Arguments {
     third: NO_PLACE,
     fourth: NO_PLACE,
     encoding: 0,
+    elements: 0,
 };
 
 /// Whether a function whose name is written from a place on may have a return type. Behind a thunk's text it would have to be moved.
