@@ -86,6 +86,8 @@ impl Direct {
     /// Whatever is answered, at most eight bytes for each of the symbol's and a kilobyte are written, at most eight steps for each
     /// byte are taken, and no list has more entries than the symbol has bytes. Text and candidates only grow, up to the end of an
     /// instance of a function template, where what was written up to its return type is taken away.
+    // at the one call, which knows the grammar, so that the other one's steps aren't there
+    #[inline(always)]
     pub fn write(&mut self, s: &[u8], limit: u32, is_wide: bool) -> bool
         requires { FitsSymbol s.now }
         ensures answer { result ≡ true → IsAnswer (mangled_by is_wide) details.Full s.now limit (Ok self.new.text.list.items) }
@@ -136,6 +138,7 @@ impl Direct {
     }
 
     /// Takes steps up to the end of a symbol by the wide grammar or by that of the ABI, and counts them.
+    #[inline(always)]
     fn run_by(&mut self, s: &[u8], limit: u32, is_wide: bool, rounds: &mut usize) -> bool
         requires fits { FitsSymbol s.now }
         requires fresh { IsFresh self.old }
