@@ -16,7 +16,7 @@ use Rattle.cpp_direct.specs.declared.open.Step.TheVariants as steps
 use Rattle.cpp_direct.specs.declared.direct.Direct.{Direct}
 use Rattle.cpp_direct.specs.Holes.{Expects, StandsAt}
 use Rattle.cpp_direct.specs.Prints.{Prints, IsElement, PrintEachBy, PrintAllBy, joined}
-use Rattle.cpp_direct.specs.Stands.{AreAmong, AreCandidates, ArgumentsGoOn, Belongs, EndsNamed, GoesOn, IsAmong, IsKnown, IsScoped, IsTemplate, IsWriting, Listing, of_template, of_pack, Owns, Stands, extra_of, in_front_of_next, led_by, list_with, nowhere, packed, place_of}
+use Rattle.cpp_direct.specs.Stands.{AreAmong, AreCandidates, ArgumentsGoOn, Belongs, EndsNamed, GoesOn, IsAmong, IsKnown, IsScoped, IsTemplate, IsWriting, Listing, of_template, of_pack, Owns, Stands, extra_of, in_front_of_next, led_by, list_with, nowhere, place_of}
 use Rattle.cpp_direct.specs.Ways.{AreKnown, AwaitsKnownArgument, IsArgumentRead, IsListEnded, KnowsMore}
 use Rattle.cpp_direct.specs.Written.{Writes}
 use Rattle.cpp_direct.proofs.Ending.{next-written}
@@ -127,7 +127,7 @@ value-argument s w is_reference from number known p found =
           written = p.is_before.4 ∙ ap (λ l. l ++ bytes) waits.7;
           from_is = waits.8 ∙ ap length waits.7;
           number_is = waits.9;
-          among = subst (λ l. AreAmong l known waits.3) (sym p.is_before.4) (among-stay p.is_before.2 bytes known waits.3 waits.10);
+          among = subst (λ l. AreAmong l false known waits.3) (sym p.is_before.4) (among-stay p.is_before.2 bytes false known waits.3 waits.10);
           prints = p.is_before.5;
           goes = waits.11 p.is_before.1 w.at p.state p.is_before.6;
         }
@@ -168,30 +168,30 @@ argument-passes s old new from number known is_reference p waits text candidates
 
 -- ## What is known of them
 
-earlier-there : (ts : List Term) (t u : Term) (k : ℕ) → slice_get ts k ≡ Some u → slice_get (ts ++ t ∷ []) k ≡ Some u
+pub earlier-there : (ts : List Term) (t u : Term) (k : ℕ) → slice_get ts k ≡ Some u → slice_get (ts ++ t ∷ []) k ≡ Some u
 earlier-there [] t u k e = cc e
 earlier-there (v ∷ ts) t u zero e = e
 earlier-there (v ∷ ts) t u (suc k) e = earlier-there ts t u k e
 
-last-there : (ts : List Term) (t : Term) → slice_get (ts ++ t ∷ []) (length ts) ≡ Some t
+pub last-there : (ts : List Term) (t : Term) → slice_get (ts ++ t ∷ []) (length ts) ≡ Some t
 last-there [] t = refl
 last-there (v ∷ ts) t = last-there ts t
 
 -- one more is known
-pub known-more : (text : List ℕ) (from to number : ℕ) (is_reference : Bool) (place : Argument) (known more : Arguments) (ts : List Term) (t : Term)
+pub known-more : (text : List ℕ) (is_pack : Bool) (from to number : ℕ) (is_reference : Bool) (place : Argument) (known more : Arguments) (ts : List Term) (t : Term)
     (before bytes : List ℕ) → text ≡ before ++ bytes → from ≡ length before → to ≡ length text → number ≡ length ts → Prints t bytes is_reference
-    → (IsKnown place → place ≡ record { from = from; to = to; is_pack = false; is_reference = is_reference }) → KnowsMore known more number place
-    → AreAmong text known ts → AreAmong text more (ts ++ t ∷ [])
-known-more text from to number is_reference place known more ts t before bytes written from_is to_is number_is prints place_is knows among k o =
+    → (IsKnown place → place ≡ record { from = from; to = to; is_pack = is_pack; is_reference = is_reference }) → KnowsMore known more number place
+    → AreAmong text is_pack known ts → AreAmong text is_pack more (ts ++ t ∷ [])
+known-more text is_pack from to number is_reference place known more ts t before bytes written from_is to_is number_is prints place_is knows among k o =
     elim (knows k o) [
       | inl h ↦
-          subst (λ j. IsAmong text (place_of more k) j (ts ++ t ∷ []) × ((place_of more k).is_pack ≡ false)) (sym h.0)
-          (subst (λ (q : Argument). IsAmong text q number (ts ++ t ∷ []) × (q.is_pack ≡ false)) (sym h.1) (here (subst IsKnown h.1 o)))
+          subst (λ j. IsAmong text (place_of more k) j (ts ++ t ∷ []) × ((place_of more k).is_pack ≡ is_pack)) (sym h.0)
+          (subst (λ (q : Argument). IsAmong text q number (ts ++ t ∷ []) × (q.is_pack ≡ is_pack)) (sym h.1) (here (subst IsKnown h.1 o)))
       | inr h ↦
-          subst (λ (q : Argument). IsAmong text q k (ts ++ t ∷ []) × (q.is_pack ≡ false)) (sym h) (there (among k (subst IsKnown h o)))
+          subst (λ (q : Argument). IsAmong text q k (ts ++ t ∷ []) × (q.is_pack ≡ is_pack)) (sym h) (there (among k (subst IsKnown h o)))
     ]
   where
-    here : IsKnown place → IsAmong text place number (ts ++ t ∷ []) × (place.is_pack ≡ false)
+    here : IsKnown place → IsAmong text place number (ts ++ t ∷ []) × (place.is_pack ≡ is_pack)
     here e = (
       record {
         bytes = bytes;
@@ -203,20 +203,20 @@ known-more text from to number is_reference place known more ts t before bytes w
           to_is = ap (λ (q : Argument). q.to) (place_is e) ∙ to_is ∙ ap length written ∙ length-append before bytes;
         };
         own = t;
-        there = ap (λ n. slice_get (ts ++ t ∷ []) n) number_is ∙ last-there ts t ∙ ap (λ (q : Argument). Some (packed q.is_pack t)) (sym (place_is e));
+        there = ap (λ n. slice_get (ts ++ t ∷ []) n) number_is ∙ last-there ts t;
         prints = subst (λ (q : Argument). Prints t bytes q.is_reference) (sym (place_is e)) prints;
       },
       ap (λ (q : Argument). q.is_pack) (place_is e),
     )
 
-    there : IsAmong text (place_of known k) k ts × ((place_of known k).is_pack ≡ false)
-        → IsAmong text (place_of known k) k (ts ++ t ∷ []) × ((place_of known k).is_pack ≡ false)
+    there : IsAmong text (place_of known k) k ts × ((place_of known k).is_pack ≡ is_pack)
+        → IsAmong text (place_of known k) k (ts ++ t ∷ []) × ((place_of known k).is_pack ≡ is_pack)
     there g = (
       record {
         bytes = g.0.bytes;
         placed = g.0.placed;
         own = g.0.own;
-        there = earlier-there ts t (packed (place_of known k).is_pack g.0.own) k g.0.there;
+        there = earlier-there ts t g.0.own k g.0.there;
         prints = g.0.prints;
       },
       g.1,
@@ -226,9 +226,9 @@ known-more text from to number is_reference place known more ts t before bytes w
 argument-known : (s : Symbol) (old : Direct) (from to number : ℕ) (place : Argument) (known more : Arguments) (is_reference : Bool)
     (p : IsArgumentRead s old from number known is_reference) → to ≡ length old.text.list.items
     → (IsKnown place → place ≡ record { from = from; to = to; is_pack = false; is_reference = is_reference }) → KnowsMore known more number place
-    → AreAmong old.text.list.items more (p.ts ++ p.t ∷ [])
+    → AreAmong old.text.list.items false more (p.ts ++ p.t ∷ [])
 argument-known s old from to number place known more is_reference p to_is place_is knows =
-    known-more old.text.list.items from to number is_reference place known more p.ts p.t
+    known-more old.text.list.items false from to number is_reference place known more p.ts p.t
     (p.front ++ p.name ++ codes "<" ++ in_front_of_next p.ts p.texts) p.bytes p.written p.from_is to_is p.number_is p.prints place_is knows p.among
 
 -- the end of the arguments follows
@@ -262,7 +262,7 @@ argument-closes s old new from to number place known more is_reference p stands 
       owns = subst (λ n. Owns s p.owner (Stands s p.rest) p.front (instance p.template (list_with ts nil)) n p.state) (sym at)
           (p.goes.4 nothing_there old.at p.state (expects-empty s Kind.ArgumentList p.goes.0 p.goes.1 old.at p.state p.goes.3 refl) stands);
       known = subst (λ v. AreKnown v.list.items more ts nil) (sym text)
-          (λ k o. let h = among k o in (h.0, λ e. absurd (false≢true (sym h.1 ∙ e))));
+          (λ k o. let h = among k o in inl (h.1, h.0));
     }
 
 -- or another one
@@ -291,7 +291,7 @@ argument-awaits s old new from to number place known more is_reference p waits t
       written = ap (λ v. v.list.items) text ∙ p.written
           ∙ append_assoc (p.front ++ p.name ++ codes "<") (in_front_of_next p.ts p.texts) p.bytes;
       number_is = omega (arith, p.number_is, length-append p.ts (p.t ∷ []));
-      among = subst (λ v. AreAmong v.list.items more ts) (sym text)
+      among = subst (λ v. AreAmong v.list.items false more ts) (sym text)
           (argument-known s old from to number place known more is_reference p to_is place_is knows);
       goes = subst (λ n. ArgumentsGoOn s p.owner (Stands s p.rest) p.front p.template ts n p.state) (sym at) p.goes;
     }
@@ -324,7 +324,7 @@ next-argument-begins s old mid new before from number known p writes from_is num
       written,
       from_is,
       number_is ∙ p.number_is,
-      subst (λ l. AreAmong l known p.ts) (sym writes.text) (among-stay old.text.list.items (codes ", ") known p.ts p.among),
+      subst (λ l. AreAmong l false known p.ts) (sym writes.text) (among-stay old.text.list.items (codes ", ") false known p.ts p.among),
       λ t here now comes. element-goes-on s Kind.ArgumentList
           (λ l there later. Owns s o (Stands s p.rest) p.front (instance p.template l) there later)
           p.ts t old.at here p.state now goes (element.onward t here now comes),

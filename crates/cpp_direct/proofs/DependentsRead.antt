@@ -10,7 +10,7 @@ use Rattle.cpp_direct.proofs.PrintedTypes.{parameter-prints, type-element-in}
 use Rattle.cpp_direct.specs.declared.open.Mark.{Mark}
 use Rattle.cpp_direct.specs.Holes.{Opened, StandsAt, IsSeqAt, Comes, with_candidate, opened, Expects, IsTyped}
 use Rattle.cpp_direct.specs.Prints.{NamesArgument, Prints, PrintsIn, PrintsBehind}
-use Rattle.cpp_direct.specs.Stands.{AreCandidates, HasArguments, IsArgument, IsCandidate, IsKnown, PrintsOrNames, IsPlaced, IsPlain, IsWriting, Marks, Stands, argument_of, IsScope, packed, place_of}
+use Rattle.cpp_direct.specs.Stands.{AreCandidates, HasArguments, IsArgument, IsCandidate, IsKnown, PrintsOrNames, IsPlaced, IsPlain, IsWriting, Marks, Stands, argument_of, IsScope, place_of}
 use Rattle.cpp_direct.specs.Ways.{AwaitsType, AwaitsNamedType, AwaitsDependentMark, IsEnclosingParameterRead, IsFrontRead, IsNamedAgain, IsParameterEnded, parameter_digits}
 use Rattle.cpp_direct.specs.Written.{Writes, with_dependent}
 use Rattle.cpp_direct.specs.declared.direct.Direct.{Direct}
@@ -87,7 +87,7 @@ parameter-tested around k at st few scope =
     subst (λ n. ◌≡◌ {A = Going} (parameter_so_far around at n [] st)
     (Ok (record { context = after (parameter k) true around; values = tree (parameter k) true ∷ []; state = with_candidate around.encoding (parameter k) st })))
     (sym (digits-count k few))
-    (rw (parameter-found around k at st scope.all scope.scope_is scope.below (ap length_if_pack scope.there ∙ scope.no_pack)) refl)
+    (rw (parameter-found around k at st scope.all scope.scope_is (scope.there refl).1 (ap length_if_pack (scope.there refl).0 ∙ scope.no_pack)) refl)
 
 -- a parameter comes, and is a candidate
 pub parameter-comes : (s : Symbol) (kind : Kind) (around : Around) (os : List Opened) (k at : ℕ) (st : State) → IsTyped kind → k ≤ 3
@@ -132,12 +132,12 @@ unfolding argument types_of indexed
 argument-is name all k e = rw e refl
 
 -- what prints behind the argument prints so in the types of the name that has it
-behind-argument : (text : List ℕ) (p : Argument) (number : ℕ) (name t : Term) (bytes marks : List ℕ) (r : Bool) → IsArgument text p number name → IsPlain p
+behind-argument : (text : List ℕ) (size : ℕ) (p : Argument) (number : ℕ) (name t : Term) (bytes marks : List ℕ) (r : Bool) → IsArgument text size p number name → IsPlain p
     → IsPlaced text p bytes → PrintsBehind number t marks r → PrintsIn (types_of name) 2 t (bytes ++ marks) r
-behind-argument text p number name t bytes marks r a plain placed behind =
+behind-argument text size p number name t bytes marks r a plain placed behind =
     behind (types_of name) bytes
     (subst (λ own. Prints own bytes false)
-    (sym (argument-is name a.all number a.all_are ∙ a.there ∙ ap (λ b. packed b a.own) plain.1))
+    (sym (argument-is name a.all number a.all_are ∙ (a.there plain.1).0))
     (subst (λ k. Prints a.own bytes k) plain.2
     (subst (λ l. Prints a.own l p.is_reference) (same-placed text p a.bytes bytes a.placed placed) a.prints)))
 
@@ -146,7 +146,7 @@ same-place p q e = cc e
 
 -- what is named is an argument of that name
 named-one : (text : List ℕ) (p q : Arguments) (k : ℕ) (name : Term) → p ≡ q → HasArguments text p name → IsKnown (place_of q k)
-    → IsArgument text (place_of q k) k name
+    → IsArgument text q.elements (place_of q k) k name
 named-one text p q k name e has known = subst (λ (a : Arguments). HasArguments text a name) e has k known
 
 placed-at : (text : List ℕ) (p q : Arguments) (k : ℕ) (name : Term) → p ≡ q → HasArguments text p name → IsKnown (place_of q k)
@@ -295,7 +295,7 @@ dependent-again s w one two k all place begins p found real made is plain_ first
     let scoped = a.scoped all found k.number plain.0 in
     let scope = subst (λ j. IsScope k.number j a.around) plain.1 scoped.0 in
     let at_place = scoped.1 (λ none_. real (made ∙ none_)) in
-    let none = no-pack-named a.around.scope scope.all c.0.tree scope.scope_is (names.0.packless scope.all (ap length_if_pack scope.there ∙ scope.no_pack)) in
+    let none = no-pack-named a.around.scope scope.all c.0.tree scope.scope_is (names.0.packless scope.all (ap length_if_pack (scope.there refl).0 ∙ scope.no_pack)) in
     let named = open-substitution-opens s a.kind a.around a.os p.before a.state p.digits w.at c.0 a.is_named c.1 (names.1 real ∙ made ∙ sym at_place.0) at_place.1 none
     a.begins p.letter p.number in
     let comes : Comes s a.os (tree c.0.tree true) w.at a.state = named.bare w.at a.state names.0.no_function
@@ -414,7 +414,7 @@ dependent-parameter s w is_reference mark begins number place start argument_ p 
     let waits : Stands s (opens.Parameters mark start argument_ ∷ last.0) b.0 b.2 = subst (λ ws. Stands s ws b.0 b.2) last.1 b.13 in
     let same = same-place argument_ b.5 (ap argument_of (sym last.1) ∙ b.8) in
     let names = named-one b.2 argument_ b.5 number waits.6.own same waits.6.names b.9.0 in
-    let prints = behind-argument b.2 (place_of b.5 number) number waits.6.own b.1 b.3 b.4 is_reference names b.9 b.10 b.7.prints in
+    let prints = behind-argument b.2 b.5.elements (place_of b.5 number) number waits.6.own b.1 b.3 b.4 is_reference names b.9 b.10 b.7.prints in
     parameter-got s w mark start argument_ p.state last.0 b.0 b.1 b.2 (b.3 ++ b.4) waits p.candidates last.1
     (b.6 ∙ append_assoc b.2 b.3 b.4) b.12 (type-element-in (types_of waits.6.own) b.1 (b.3 ++ b.4) is_reference prints)
 
@@ -429,7 +429,7 @@ dependent-within s w is_reference mark begins number place from argument_ p foun
     let waits : Stands s (opens.Enclosing mark from argument_ ∷ last.0) b.0 b.2 = subst (λ ws. Stands s ws b.0 b.2) last.1 b.13 in
     let same = same-place argument_ b.5 (ap argument_of (sym last.1) ∙ b.8) in
     let names = named-one b.2 argument_ b.5 number waits.5.own same waits.5.names b.9.0 in
-    let prints = behind-argument b.2 (place_of b.5 number) number waits.5.own b.1 b.3 b.4 is_reference names b.9 b.10 b.7.prints in
+    let prints = behind-argument b.2 b.5.elements (place_of b.5 number) number waits.5.own b.1 b.3 b.4 is_reference names b.9 b.10 b.7.prints in
     parameter-got-within s w mark from argument_ p.state last.0 b.0 b.1 b.2 (b.3 ++ b.4) waits p.candidates last.1
     (b.6 ∙ append_assoc b.2 b.3 b.4) b.12 (type-element-in (types_of waits.5.own) b.1 (b.3 ++ b.4) is_reference prints)
 
@@ -444,6 +444,6 @@ dependent-front s w is_reference mark begins number place start argument_ p foun
     let waits : Stands s (opens.Front mark start argument_ ∷ last.0) b.0 b.2 = subst (λ ws. Stands s ws b.0 b.2) last.1 b.13 in
     let same = same-place argument_ b.5 (ap argument_of (sym last.1) ∙ b.8) in
     let names = named-one b.2 argument_ b.5 number waits.3.own same waits.3.names b.9.0 in
-    let prints = behind-argument b.2 (place_of b.5 number) number waits.3.own b.1 b.3 b.4 is_reference names b.9 b.10 b.7.prints in
+    let prints = behind-argument b.2 b.5.elements (place_of b.5 number) number waits.3.own b.1 b.3 b.4 is_reference names b.9 b.10 b.7.prints in
     front-got s w is_reference mark start argument_ p.state last.0 b.0 b.1 b.2 (b.3 ++ b.4) waits p.candidates
     (b.6 ∙ append_assoc b.2 b.3 b.4) b.12 prints

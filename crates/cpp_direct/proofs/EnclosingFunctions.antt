@@ -79,8 +79,8 @@ name-opens s w a letter =
             all = (names k o).all;
             scope_is = (names k o).all_are;
             there = (names k o).there;
-            below = (names k o).below;
-            alone = (names k o).alone;
+            elements = (names k o).elements;
+            alone = λ e. ((names k o).alone e).0;
             no_pack = (names k o).prints.no_pack;
           },
           λ real. absurd (real unplaced),

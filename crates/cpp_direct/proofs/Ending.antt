@@ -255,8 +255,8 @@ name-scoped s w mark is_instance argument_ from place p first place_is k o =
         all = n.all;
         scope_is = p.awaits.scope_is ∙ ap arguments_of p.tree_is ∙ n.all_are;
         there = n.there;
-        below = n.below;
-        alone = n.alone;
+        elements = n.elements;
+        alone = λ e. (n.alone e).0;
         no_pack = n.prints.no_pack;
       },
       λ real. (p.awaits.encoding_is (no-text p.lead from p.from_is (first real)) ∙ sym (place_is real), p.awaits.no_lambda),

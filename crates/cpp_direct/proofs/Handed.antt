@@ -191,7 +191,7 @@ pub takes-elements : (o : Open) → ((x : ℕ) → o ≡ opens.Pointer x → ⊥
     → ((x : Mark) (y : ℕ) (z : Arguments) → o ≡ opens.Front x y z → ⊥)
     → ((x : Bool) → o ≡ opens.Returned x → ⊥) → ((x : Bool) → o ≡ opens.Signature x → ⊥)
     → (o ≡ opens.Special → ⊥) → (o ≡ opens.Enumerator → ⊥) → ((x : Mark) (y : ℕ) (z : Arguments) → o ≡ opens.Enclosing x y z → ⊥)
-    → ((x y : ℕ) (z : Arguments) → o ≡ opens.Argument x y z → ⊥) → ((x : ℕ) → o ≡ opens.Lambda x → ⊥) → ((x : ℕ) → o ≡ opens.Element x → ⊥)
+    → ((x y : ℕ) (z : Arguments) → o ≡ opens.Argument x y z → ⊥) → ((x : ℕ) → o ≡ opens.Lambda x → ⊥) → ((x y : ℕ) (z : Arguments) → o ≡ opens.Element x y z → ⊥)
     → ((x : Access) (y z : ℕ) → o ≡ opens.Array x y z → ⊥) → TakesElements o
 takes-elements (opens.Pointer x) p l r c f k u g z n m a q e j = absurd (p x refl)
 takes-elements (opens.Lvalue x) p l r c f k u g z n m a q e j = absurd (l x refl)
@@ -205,7 +205,7 @@ takes-elements (opens.Signature x) p l r c f k u g z n m a q e j = absurd (g x r
 takes-elements (opens.Enclosing x y w) p l r c f k u g z n m a q e j = absurd (m x y w refl)
 takes-elements (opens.Lambda x) p l r c f k u g z n m a q e j = absurd (q x refl)
 takes-elements (opens.Array x y w) p l r c f k u g z n m a q e j = absurd (j x y w refl)
-takes-elements (opens.Element x) p l r c f k u g z n m a q e j = absurd (e x refl)
+takes-elements (opens.Element x y w) p l r c f k u g z n m a q e j = absurd (e x y w refl)
 takes-elements opens.Special p l r c f k u g z n m a q e j = absurd (z refl)
 takes-elements opens.Enumerator p l r c f k u g z n m a q e j = absurd (n refl)
 takes-elements opens.Pack p l r c f k u g z n m a q e j = tt

@@ -7,7 +7,7 @@ use Rattle.std.proofs.Math.Seq.{get_or-append_seam}
 use Rattle.cpp_grammar.specs.declared.kind.Kind.{Kind}
 use Rattle.cpp_grammar.specs.Grammar.{may_be_empty}
 use Rattle.cpp_grammar.specs.Term.{Term, nil, list, instance, pack}
-use Rattle.cpp_grammar.specs.Scope.{arguments_of, before_arguments, is_structor, has_return_type}
+use Rattle.cpp_grammar.specs.Scope.{arguments_of, has_return_type}
 use Rattle.cpp_grammar.specs.Values.{State, tree, nothing_there, tree_of, qualifiers_of, ref_of}
 use Rattle.cpp_grammar.specs.Between.{no_items}
 use Rattle.cpp_direct.specs.Symbol.{Symbol}
@@ -19,8 +19,8 @@ use Rattle.cpp_direct.specs.declared.open.Step.TheVariants as steps
 use Rattle.cpp_direct.specs.declared.direct.Direct.{Direct}
 use Rattle.cpp_direct.specs.Holes.{Opened, Comes, Expects, IsListKind, ListGoesOn, StandsAt, AwaitsComponent, with_candidate}
 use Rattle.cpp_direct.specs.HolesOfLists.{IsArgumentKind}
-use Rattle.cpp_direct.specs.Prints.{PrintAll, list_of}
-use Rattle.cpp_direct.specs.Stands.{HasArguments, argument_of, AreCandidates, IsListing, IsNest, IsTail, IsTemplate, IsWriting, Owns, Serves, ArgumentsGoOn, AwaitsElementOf, AwaitsEnumerator, Belongs, Closes, ElementsGoOn, EnumeratorGoesOn, GoesOn, Listing, of_template, of_pack, Stands, element_kind, extra_of, led_by, list_with, in_front_of_next, nowhere, packed, place_of}
+use Rattle.cpp_direct.specs.Prints.{PrintAll, list_of, Prints}
+use Rattle.cpp_direct.specs.Stands.{HasArguments, argument_of, AreCandidates, IsListing, IsNest, IsTail, IsTemplate, IsWriting, Owns, Serves, ArgumentsGoOn, AwaitsElementOf, AwaitsEnumerator, Belongs, Closes, ElementsGoOn, EnumeratorGoesOn, GoesOn, Listing, of_template, of_pack, Stands, element_kind, extra_of, led_by, list_with, in_front_of_next, nowhere, place_of}
 use Rattle.cpp_direct.specs.Ways.{AreKnown, IsListEnded, AwaitsNextArgument, IsNameEnded}
 use Rattle.cpp_direct.specs.Written.{Writes, added}
 use Rattle.cpp_direct.proofs.Moves.{expects-empty, stands-split}
@@ -28,7 +28,7 @@ use Rattle.cpp_direct.proofs.MovesOfLists.{element-awaits, pack-opens}
 use Rattle.cpp_direct.proofs.PrintedLists.{list-with-none, next-prints, none-print, pack-element}
 use Rattle.cpp_direct.proofs.PrintedNames.{as-name}
 use Rattle.cpp_direct.proofs.PrintedNests.{instance-prints, instance-class}
-use Rattle.cpp_direct.proofs.Scopes.{element-there, known-stay, none-known, none-scoped}
+use Rattle.cpp_direct.proofs.Scopes.{element-there, instance-returns, known-stay, none-known, none-scoped, structor-returns}
 use Rattle.cpp_direct.proofs.Kept.{candidates-stay, candidates-with, template-stays, reverse-last, last-reversed}
 
 -- ## What is open
@@ -184,21 +184,30 @@ closed-by s old mid new x owner p writes text candidates at items is =
 closed-arguments : (s : Symbol) (w : Direct) (owner : Open) (p : IsClosed s w owner)
     → HasArguments w.text.list.items w.argument (instance p.template (list_with p.ts p.tail))
 unfolding arguments_of
-closed-arguments s w owner p k known =
-    let h = p.known k known in
-    let place = place_of w.argument k in
-    let there = element-there p.ts p.tail k (packed place.is_pack h.0.own) h.0.there in
-    record {
-      bytes = h.0.bytes;
-      placed = h.0.placed;
-      own = h.0.own;
-      all = list_with p.ts p.tail;
-      all_are = refl;
-      there = there.0;
-      below = there.1;
-      alone = h.1;
-      prints = h.0.prints;
-    }
+closed-arguments s w owner p k known = elim (p.known k known) [
+  | inl h ↦ record {
+    bytes = h.1.bytes;
+    placed = h.1.placed;
+    own = h.1.own;
+    all = list_with p.ts p.tail;
+    all_are = refl;
+    there = λ e. element-there p.ts p.tail k h.1.own h.1.there;
+    elements = [];
+    alone = λ e. absurd (false≢true (sym h.0 ∙ e));
+    prints = h.1.prints;
+  }
+  | inr h ↦ record {
+    bytes = h.4.bytes;
+    placed = h.4.placed;
+    own = h.4.own;
+    all = list_with p.ts p.tail;
+    all_are = refl;
+    there = λ e. absurd (false≢true (sym e ∙ h.0));
+    elements = h.1;
+    alone = λ e. (h.2, h.4.there, h.3);
+    prints = h.4.prints;
+  }
+]
 
 -- the arguments of a type
 pub type-closed : (s : Symbol) (w new : Direct) (from : ℕ) → IsClosed s w (opens.TypeArguments from)
@@ -243,15 +252,6 @@ instance-nest front name text nest is_listed is_instance t ts tail l is p all wr
   class_to = p.class_to;
   names_class = λ h. instance-class t name p.class p.prints (p.names_class h) ts tail l is all;
 }
-
-structor-returns : (t a : Term) → is_structor t ≡ true → has_return_type (instance t a) ≡ false
-unfolding has_return_type arguments_of before_arguments
-structor-returns t a h = rw h refl
-
--- the name of a function that is no constructor and no destructor has one in front of its arguments
-instance-returns : (t a : Term) → is_structor t ≡ false → has_return_type (instance t a) ≡ true
-unfolding has_return_type arguments_of before_arguments
-instance-returns t a h = rw h refl
 
 -- the arguments of a piece of a nested name
 pub nest-closed : (s : Symbol) (w : Direct) (nest : Nest) → IsClosed s w (opens.NestArguments nest)

@@ -1,4 +1,5 @@
 -- A reference to each type of a pack is read, where a parameter of a function is expected.
+use Rattle.cpp_direct.specs.Prints.{list_of}
 use Rattle.std.proofs.Common.{◌≡◌, ◌∙◌, ap, ℕ, ◌+◌, List, [], ◌∷◌, true, false, None, Some, Ok, refl, subst, arith}
 use Rattle.sym_link.specs.Unfold.{standing}
 use Rattle.sym_shape.specs.declared.rule.Sym.TheVariants.{Kind as OfKind, Number}
@@ -28,32 +29,32 @@ use Rattle.cpp_direct.proofs.MovesOfTypes.{rvalue-opens, solid-opens}
 abbrev begun : State → State
 begun st = record st { packs = None }
 
--- a pack of one was named
-abbrev named_one : State → State
-named_one st = record st { packs = Some 1 }
+-- a pack of so many was named
+abbrev named_many : ℕ → State → State
+named_many n st = record st { packs = Some n }
 
 -- the parameter is a candidate there
-pack-tested : (around : Around) (at : ℕ) (st : State) → IsScope 0 true around
+pack-tested : (around : Around) (at : ℕ) (st : State) (scope : IsScope 0 true around)
     → ◌≡◌ {A = Going} (between Production.Parameter (under_expansion around) at (values.text [] ∷ []) (begun st))
     (Ok (record {
       context = after (parameter 0) true (under_expansion around);
       values = tree (parameter 0) true ∷ [];
-      state = with_candidate around.encoding (parameter 0) (named_one st);
+      state = with_candidate around.encoding (parameter 0) (named_many (count (list_of scope.elements)) st);
     }))
 unfolding between parameter_so_far parameter_named listed_so_far index_of text_of count element length_if_pack with_packs appended under_expansion after
 pack-tested around at st scope = rw (scope.scope_is ∙ ap (λ l. Some l) (scope.alone refl)) refl
 
 -- the parameter comes
-pack-comes : (s : Symbol) (around : Around) (os : List Opened) (at : ℕ) (st : State) → IsScope 0 true around
+pack-comes : (s : Symbol) (around : Around) (os : List Opened) (at : ℕ) (st : State) (scope : IsScope 0 true around)
     → Expects s Kind.Type (under_expansion around) os at (begun st) → StandsAt s.bytes at (84 ∷ 95 ∷ [])
-    → Comes s os (tree (parameter 0) true) (at + 2) (with_candidate around.encoding (parameter 0) (named_one st))
+    → Comes s os (tree (parameter 0) true) (at + 2) (with_candidate around.encoding (parameter 0) (named_many (count (list_of scope.elements)) st))
 unfolding choose alternatives pick is_in in_ranges among is_chain parts_of number_of_kind between opening close unfolding_.behind meaning byte_of tree_of is_there part applied may_be_empty is_function_type
 pack-comes s around os at st scope expects stands =
     let p = Production.Parameter in
     let t = parameter 0 in
     let v = tree t true in
     let here = under_expansion around in
-    let later = with_candidate around.encoding t (named_one st) in
+    let later = with_candidate around.encoding t (named_many (count (list_of scope.elements)) st) in
     let both = stands-split s.bytes at (84 ∷ []) (95 ∷ []) stands in
     let solid = solid-opens s Kind.Type here os at (begun st) tt expects in
     let rule = standing (rule_of p) (84 ∷ []) at here (begun st) in
@@ -68,15 +69,15 @@ pack-comes s around os at st scope expects stands =
     (expects-empty s Kind.ArgumentsAlone (after t true here) (opened rule (v ∷ []) [] ∷ solid.inner) (at + 1 + 1) later behind refl)))
 
 -- the candidates behind it
-abbrev pub with_expansion : (encoding : ℕ) → State → State
-with_expansion e st =
+abbrev pub with_expansion : (size encoding : ℕ) → State → State
+with_expansion size e st =
     let each = rvalue (parameter 0) in
-    with_candidate e (expansion each) (record (with_candidate e each (with_candidate e (parameter 0) (named_one st))) { packs = st.packs })
+    with_candidate e (expansion each) (record (with_candidate e each (with_candidate e (parameter 0) (named_many size st))) { packs = st.packs })
 
 -- a reference to each type of the pack comes, where a parameter is expected
-pub expansion-comes : (s : Symbol) (around : Around) (os : List Opened) (at : ℕ) (st : State) → IsScope 0 true around
+pub expansion-comes : (s : Symbol) (around : Around) (os : List Opened) (at : ℕ) (st : State) (scope : IsScope 0 true around)
     → Expects s Kind.Item around os at st → StandsAt s.bytes at (68 ∷ 112 ∷ 79 ∷ 84 ∷ 95 ∷ [])
-    → Comes s os (tree (expansion (rvalue (parameter 0))) true) (at + 5) (with_expansion around.encoding st)
+    → Comes s os (tree (expansion (rvalue (parameter 0))) true) (at + 5) (with_expansion (count (list_of scope.elements)) around.encoding st)
 unfolding choose alternatives pick is_in in_ranges among is_chain parts_of number_of_kind between opening close unfolding_.behind meaning listed_value with_type byte_of tree_of is_there is_listed part appended under_expansion
 expansion-comes s around os at st scope expects stands =
     let p = Production.ItemWithD in
@@ -94,12 +95,12 @@ expansion-comes s around os at st scope expects stands =
     item second.0 in
     let reference = rvalue-opens s Kind.Type here inner (at + 1 + 1) (begun st) tt pattern third.0 in
     let named = pack-comes s around reference.inner (at + 1 + 1 + 1) st scope reference.awaits third.1 in
-    let named_state = with_candidate e (parameter 0) (named_one st) in
+    let named_state = with_candidate e (parameter 0) (named_many (count (list_of scope.elements)) st) in
     let whole = with_candidate e each named_state in
     let at_end = at + 1 + 1 + 1 + 2 in
     let refers = reference.passes (parameter 0) at_end named_state named in
-    subst (λ k. Comes s os (tree (expansion each) true) k (with_expansion e st)) (omega arith)
+    subst (λ k. Comes s os (tree (expansion each) true) k (with_expansion (count (list_of scope.elements)) e st)) (omega arith)
     (last-of s p (68 ∷ []) at around st [] (tree (expansion each) false) os at_end (record whole { packs = st.packs }) (tree (expansion each) true)
-    (with_expansion e st) refl
+    (with_expansion (count (list_of scope.elements)) e st) refl
     (last-of s q (112 ∷ []) (at + 1) around st [] (tree each true) outer at_end whole (tree (expansion each) false) (record whole { packs = st.packs }) refl
     refers))

@@ -1,5 +1,7 @@
--- The first element of a pack that is the first argument of a name: it may be alone.
-use Rattle.std.proofs.Common.{◌≡◌, ◌≢◌, ℕ, ◌+◌, ◌-◌, length, List, [], ◌∷◌, ◌++◌, reverse, slice_get, inr, inl, Bool, true, false, Some, refl, ap, sym, ◌∙◌, subst, codes, append-nil}
+-- The elements of a pack that is the first argument of a name: it may be the only one.
+use Rattle.cpp_direct.proofs.Ending.{next-written}
+use Rattle.cpp_direct.specs.Written.{Writes}
+use Rattle.std.proofs.Common.{◌≡◌, ◌≢◌, ℕ, ◌+◌, ◌-◌, length, List, [], ◌∷◌, ◌++◌, reverse, slice_get, inr, inl, Bool, true, false, Some, refl, ap, sym, ◌∙◌, subst, codes, append-nil, arith, append_assoc}
 use Rattle.std.proofs.lemmas.Bool.{false≢true}
 use Rattle.std.proofs.lemmas.List.{length-append}
 use Rattle.cpp_grammar.specs.declared.kind.Kind.{Kind}
@@ -15,21 +17,21 @@ use Rattle.cpp_direct.specs.declared.open.Open.TheVariants as opens
 use Rattle.cpp_direct.specs.declared.open.Step.TheVariants as steps
 use Rattle.cpp_direct.specs.declared.direct.Direct.{Direct}
 use Rattle.cpp_direct.specs.Holes.{Expects, StandsAt}
-use Rattle.cpp_direct.specs.Prints.{IsElement, Prints, PrintAllBy}
-use Rattle.cpp_direct.specs.Stands.{AreCandidates, ArgumentsGoOn, Belongs, EndsNamed, Closes, GoesOn, IsAmong, IsKnown, IsScoped, IsTemplate, IsWriting, Listing, of_template, of_pack, Owns, Stands, extra_of, led_by, list_with, nowhere, packed, place_of}
-use Rattle.cpp_direct.specs.Ways.{AreKnown, IsPackElementRead, IsListEnded, KnowsMore}
-use Rattle.cpp_direct.proofs.Arguments.{none-text}
-use Rattle.cpp_direct.proofs.Kept.{reverse-last, template-stays}
-use Rattle.cpp_direct.proofs.Listed.{last-found, element-goes-on}
+use Rattle.cpp_direct.specs.Prints.{IsElement, Prints, PrintAllBy, list_of}
+use Rattle.cpp_direct.specs.Stands.{AreCandidates, ArgumentsGoOn, Belongs, EndsNamed, Closes, GoesOn, IsAmong, IsKnown, IsScoped, IsTemplate, IsWriting, Listing, of_template, of_pack, Owns, Stands, extra_of, led_by, list_with, nowhere, place_of, AreAmong, in_front_of_next}
+use Rattle.cpp_direct.specs.Ways.{AreKnown, IsPackElementRead, IsListEnded, KnowsMore, AwaitsPackElement}
+use Rattle.cpp_direct.proofs.Arguments.{none-text, known-more}
+use Rattle.cpp_direct.proofs.Kept.{reverse-last, template-stays, candidates-written}
+use Rattle.cpp_direct.proofs.Listed.{last-found, element-goes-on, some-elements}
 use Rattle.cpp_direct.proofs.Moves.{expects-empty}
 use Rattle.cpp_direct.proofs.MovesOfLists.{element-awaits, pack-opens}
-use Rattle.cpp_direct.proofs.PrintedLists.{none-print, pack-element, type-element}
-use Rattle.cpp_direct.proofs.Scopes.{none-known, none-scoped}
+use Rattle.cpp_direct.proofs.PrintedLists.{none-print, pack-element, type-element, list-with-none, next-prints}
+use Rattle.cpp_direct.proofs.Scopes.{none-known, none-scoped, among-stay, elements-there}
 
 -- the first element of such a pack comes next
 pub element-begins : (s : Symbol) (old new : Direct) (from : ℕ) → IsWriting s old (steps.List true)
     → EndsNamed (reverse old.waiting.list.items) → StandsAt s.bytes old.at (74 ∷ []) → from ≡ length old.text.list.items
-    → new.waiting.list.items ≡ (old.waiting.list.items ++ opens.Pack ∷ []) ++ opens.Element from ∷ [] → new.text ≡ old.text
+    → new.waiting.list.items ≡ (old.waiting.list.items ++ opens.Pack ∷ []) ++ opens.Element from 0 nowhere ∷ [] → new.text ≡ old.text
     → new.candidates ≡ old.candidates → new.at ≡ old.at + 1 → IsWriting s new steps.Type
 unfolding no_items tree_of
 element-begins s old new from p named letter from_is waits text candidates at = go p.is_before.0.listing refl
@@ -50,9 +52,9 @@ element-begins s old new from p named letter from_is waits text candidates at = 
         let all : PrintAllBy (IsElement (extra_of place.listing)) [] p.is_before.2 =
         subst (λ ts. PrintAllBy (IsElement (extra_of place.listing)) ts p.is_before.2) ts_is p.is_before.3 in
         let texts_is : p.is_before.2 ≡ [] = none-text (IsElement (extra_of place.listing)) p.is_before.2 all in
-        let written : old.text.list.items ≡ place.front ++ place.name ++ codes "<" =
+        let written : old.text.list.items ≡ place.front ++ place.name ++ codes "<" ++ [] =
         subst (λ l. old.text.list.items ≡ led_by l place.front place.name ++ p.is_before.2) is p.is_before.4
-        ∙ ap (λ l. place.front ++ place.name ++ codes "<" ++ l) texts_is ∙ append-nil (place.front ++ place.name ++ codes "<") in
+        ∙ ap (λ l. place.front ++ place.name ++ codes "<" ++ l) texts_is in
         let opened = pack-opens s goes.1 goes.0 old.at p.state goes.3 letter in
         let in_pack : GoesOn s (of_pack [] []) o below place.front place.template [] (old.at + 1) p.state = (
           goes.0,
@@ -66,16 +68,22 @@ element-begins s old new from p named letter from_is waits text candidates at = 
         let element = element-awaits s Kind.PackList opened.inner goes.0 (old.at + 1) p.state tt opened.awaits in
         let belongs : reverse old.waiting.list.items ≡ o ∷ rest =
         subst (λ l. Belongs l (reverse old.waiting.list.items) o rest) is place.belongs in
-        let waiting_ : reverse new.waiting.list.items ≡ opens.Element from ∷ opens.Pack ∷ o ∷ rest =
-        ap reverse waits ∙ reverse-last (old.waiting.list.items ++ opens.Pack ∷ []) (opens.Element from)
-        ∙ ap (λ ws. opens.Element from ∷ ws) (reverse-last old.waiting.list.items opens.Pack ∙ ap (λ ws. opens.Pack ∷ ws) belongs) in
-        let stands : Stands s (opens.Element from ∷ opens.Pack ∷ o ∷ rest) element.inner old.text.list.items = (
+        let entry = opens.Element from 0 nowhere in
+        let waiting_ : reverse new.waiting.list.items ≡ entry ∷ opens.Pack ∷ o ∷ rest =
+        ap reverse waits ∙ reverse-last (old.waiting.list.items ++ opens.Pack ∷ []) entry
+        ∙ ap (λ ws. entry ∷ ws) (reverse-last old.waiting.list.items opens.Pack ∙ ap (λ ws. opens.Pack ∷ ws) belongs) in
+        let stands : Stands s (entry ∷ opens.Pack ∷ o ∷ rest) element.inner old.text.list.items = (
           place.front,
           place.template,
           place.name,
+          [],
+          [],
           place.is_template,
+          none-print 0,
           written,
           from_is,
+          refl,
+          (λ k known. absurd (none-known k known)),
           λ t here now comes. element-goes-on s Kind.PackList
               (λ l there later. Closes s (of_pack [] []) o below place.front place.template l there later)
               [] t (old.at + 1) here p.state now in_pack (element.onward t here now comes),
@@ -91,19 +99,21 @@ element-begins s old new from p named letter from_is waits text candidates at = 
             inr (inl (subst (λ n. Expects s Kind.Item goes.0 element.inner n p.state) (sym at) element.awaits)),
             subst (λ v. Stands s (reverse new.waiting.list.items) element.inner v.list.items) (sym text)
                 (subst (λ ws. Stands s ws element.inner old.text.list.items) (sym waiting_) stands),
-            subst (λ ws. IsScoped goes.0 ws) (sym waiting_) (none-scoped goes.0 (opens.Element from ∷ opens.Pack ∷ o ∷ rest) refl),
+            subst (λ ws. IsScoped goes.0 ws) (sym waiting_) (none-scoped goes.0 (entry ∷ opens.Pack ∷ o ∷ rest) refl),
           );
         }
 
 -- it was read
-pub value-in-pack : (s : Symbol) (w : Direct) (is_reference : Bool) (from : ℕ) → IsWriting s w (steps.Value is_reference)
-    → slice_get w.waiting.list.items (length w.waiting.list.items - 1) ≡ Some (opens.Element from) → IsPackElementRead s w from is_reference
-value-in-pack s w is_reference from p found =
-    let last = last-found w.waiting.list.items (opens.Element from) found in
+pub value-in-pack : (s : Symbol) (w : Direct) (is_reference : Bool) (from number : ℕ) (known : Arguments) → IsWriting s w (steps.Value is_reference)
+    → slice_get w.waiting.list.items (length w.waiting.list.items - 1) ≡ Some (opens.Element from number known)
+    → IsPackElementRead s w from number known is_reference
+value-in-pack s w is_reference from number known p found =
+    let last = last-found w.waiting.list.items (opens.Element from number known) found in
     go last.0 last.1 (subst (λ ws. Stands s ws p.is_before.0 p.is_before.2) last.1 p.is_before.7)
   where
-    read : (owner : Open) (rest : List Open) → reverse w.waiting.list.items ≡ opens.Element from ∷ opens.Pack ∷ owner ∷ rest
-        → Stands s (opens.Element from ∷ opens.Pack ∷ owner ∷ rest) p.is_before.0 p.is_before.2 → IsPackElementRead s w from is_reference
+    read : (owner : Open) (rest : List Open) → reverse w.waiting.list.items ≡ opens.Element from number known ∷ opens.Pack ∷ owner ∷ rest
+        → Stands s (opens.Element from number known ∷ opens.Pack ∷ owner ∷ rest) p.is_before.0 p.is_before.2
+        → IsPackElementRead s w from number known is_reference
     read owner rest is waits =
         let bytes = p.is_before.3 in
         record {
@@ -115,78 +125,166 @@ value-in-pack s w is_reference from p found =
           front = waits.0;
           template = waits.1;
           name = waits.2;
+          ts = waits.3;
+          texts = waits.4;
           t = p.is_before.1;
           bytes = bytes;
           is_template = subst (λ l. IsTemplate owner waits.0 waits.1 waits.2 l) (sym p.is_before.4)
-              (template-stays owner waits.0 waits.1 waits.2 p.is_before.2 bytes waits.3);
-          written = p.is_before.4 ∙ ap (λ l. l ++ bytes) waits.4;
-          from_is = waits.5 ∙ ap length waits.4;
+              (template-stays owner waits.0 waits.1 waits.2 p.is_before.2 bytes waits.5);
+          elements = waits.6;
+          written = p.is_before.4 ∙ ap (λ l. l ++ bytes) waits.7;
+          from_is = waits.8 ∙ ap length waits.7;
+          number_is = waits.9;
+          among = subst (λ l. AreAmong l true known waits.3) (sym p.is_before.4) (among-stay p.is_before.2 bytes true known waits.3 waits.10);
           prints = p.is_before.5;
-          goes = waits.6 p.is_before.1 w.at p.state p.is_before.6;
+          goes = waits.11 p.is_before.1 w.at p.state p.is_before.6;
         }
 
-    go : (rest : List Open) → reverse w.waiting.list.items ≡ opens.Element from ∷ rest
-        → Stands s (opens.Element from ∷ rest) p.is_before.0 p.is_before.2 → IsPackElementRead s w from is_reference
+    go : (rest : List Open) → reverse w.waiting.list.items ≡ opens.Element from number known ∷ rest
+        → Stands s (opens.Element from number known ∷ rest) p.is_before.0 p.is_before.2 → IsPackElementRead s w from number known is_reference
     go (opens.Pack ∷ owner ∷ rest) is waits = read owner rest is waits
     go _ is waits = absurd waits
 
 -- others may follow
-pub element-passes : (s : Symbol) (old new : Direct) (from : ℕ) (is_reference : Bool) (p : IsPackElementRead s old from is_reference)
+pub element-passes : (s : Symbol) (old new : Direct) (from number : ℕ) (known : Arguments) (is_reference : Bool)
+    (p : IsPackElementRead s old from number known is_reference)
     → reverse new.waiting.list.items ≡ opens.Pack ∷ p.owner ∷ p.rest → new.text ≡ old.text → new.candidates ≡ old.candidates → new.at ≡ old.at
     → IsWriting s new (steps.List false)
-element-passes s old new from is_reference p waits text candidates at = record {
-  state = p.state;
-  candidates = subst (λ v. AreCandidates new.text.list.items v.list.items p.state.candidates) (sym candidates)
-      (subst (λ v. AreCandidates v.list.items old.candidates.list.items p.state.candidates) (sym text) p.candidates);
-  is_before = (
+element-passes s old new from number known is_reference p waits text candidates at =
+    let ts = p.ts ++ p.t ∷ [] in
+    let led = p.front ++ p.name ++ codes "<" in
+    let texts = in_front_of_next p.ts p.texts ++ p.bytes in
     record {
-      listing = of_pack [] [];
+      state = p.state;
+      candidates = subst (λ v. AreCandidates new.text.list.items v.list.items p.state.candidates) (sym candidates)
+          (subst (λ v. AreCandidates v.list.items old.candidates.list.items p.state.candidates) (sym text) p.candidates);
+      is_before = (
+        record {
+          listing = of_pack [] [];
+          owner = p.owner;
+          rest = p.rest;
+          belongs = (waits, none-print 3);
+          front = p.front;
+          template = p.template;
+          name = p.name;
+          is_template = subst (λ v. IsTemplate p.owner p.front p.template p.name v.list.items) (sym text) p.is_template;
+        },
+        ts,
+        texts,
+        next-prints 0 p.ts p.texts p.t p.bytes p.elements (type-element 0 p.t p.bytes is_reference p.prints),
+        ap (λ v. v.list.items) text ∙ p.written ∙ append_assoc led (in_front_of_next p.ts p.texts) p.bytes ∙ ap (λ l. l ++ texts) (sym (append-nil led)),
+        λ e. absurd (false≢true e),
+        λ e. some-elements p.ts p.t,
+        subst (λ n. GoesOn s (of_pack [] []) p.owner (Stands s p.rest) p.front p.template ts n p.state) (sym at) p.goes,
+      );
+    }
+
+-- the one that was read is known
+element-known : (s : Symbol) (old : Direct) (from to number : ℕ) (place : Argument) (known more : Arguments) (is_reference : Bool)
+    (p : IsPackElementRead s old from number known is_reference) → to ≡ length old.text.list.items
+    → (IsKnown place → place ≡ record { from = from; to = to; is_pack = true; is_reference = is_reference }) → KnowsMore known more number place
+    → AreAmong old.text.list.items true more (p.ts ++ p.t ∷ [])
+element-known s old from to number place known more is_reference p to_is place_is knows =
+    known-more old.text.list.items true from to number is_reference place known more p.ts p.t
+    (p.front ++ p.name ++ codes "<" ++ in_front_of_next p.ts p.texts) p.bytes p.written p.from_is to_is p.number_is p.prints place_is knows p.among
+
+-- another one may follow
+pub pack-element-awaits : (s : Symbol) (old new : Direct) (from to number : ℕ) (place : Argument) (known more : Arguments) (is_reference : Bool)
+    (p : IsPackElementRead s old from number known is_reference) → reverse new.waiting.list.items ≡ opens.Pack ∷ p.owner ∷ p.rest
+    → new.text ≡ old.text → new.candidates ≡ old.candidates → new.at ≡ old.at → to ≡ length old.text.list.items
+    → (IsKnown place → place ≡ record { from = from; to = to; is_pack = true; is_reference = is_reference }) → KnowsMore known more number place
+    → AwaitsPackElement s new number more
+pack-element-awaits s old new from to number place known more is_reference p waits text candidates at to_is place_is knows =
+    let ts = p.ts ++ p.t ∷ [] in
+    record {
+      state = p.state;
+      candidates = subst (λ v. AreCandidates new.text.list.items v.list.items p.state.candidates) (sym candidates)
+          (subst (λ v. AreCandidates v.list.items old.candidates.list.items p.state.candidates) (sym text) p.candidates);
       owner = p.owner;
       rest = p.rest;
-      belongs = (waits, none-print 3);
+      open_is = waits;
       front = p.front;
       template = p.template;
       name = p.name;
+      ts = ts;
+      texts = in_front_of_next p.ts p.texts ++ p.bytes;
       is_template = subst (λ v. IsTemplate p.owner p.front p.template p.name v.list.items) (sym text) p.is_template;
-    },
-    p.t ∷ [],
-    p.bytes,
-    (p.bytes ∷ [], (type-element 0 p.t p.bytes is_reference p.prints, tt), refl),
-    ap (λ v. v.list.items) text ∙ p.written ∙ ap (λ l. l ++ p.bytes) (sym (append-nil (p.front ++ p.name ++ codes "<"))),
-    λ e. absurd (false≢true e),
-    λ e q. cc q,
-    subst (λ n. GoesOn s (of_pack [] []) p.owner (Stands s p.rest) p.front p.template (p.t ∷ []) n p.state) (sym at) p.goes,
-  );
-}
+      elements = next-prints 0 p.ts p.texts p.t p.bytes p.elements (type-element 0 p.t p.bytes is_reference p.prints);
+      some = some-elements p.ts p.t;
+      written = ap (λ v. v.list.items) text ∙ p.written
+          ∙ append_assoc (p.front ++ p.name ++ codes "<") (in_front_of_next p.ts p.texts) p.bytes;
+      number_is = omega (arith, p.number_is, length-append p.ts (p.t ∷ []));
+      among = subst (λ v. AreAmong v.list.items true more ts) (sym text)
+          (element-known s old from to number place known more is_reference p to_is place_is knows);
+      goes = subst (λ n. GoesOn s (of_pack [] []) p.owner (Stands s p.rest) p.front p.template ts n p.state) (sym at) p.goes;
+    }
 
--- an only argument is known
-alone-known : (text : List ℕ) (place : Argument) (known : Arguments) (own : Term)
-    (among : IsKnown place → IsAmong text place 0 (own ∷ [])) → ((o : IsKnown place) → list own nil ≡ list (packed true (among o).own) nil)
-    → KnowsMore nowhere known 0 place → AreKnown text known (own ∷ []) nil
-alone-known text place known own among alone more k o = elim (more k o) [
-  | inl h ↦
-      subst (λ j. (h : IsAmong text (place_of known k) j (own ∷ []))
-      × ((place_of known k).is_pack ≡ true → list_with (own ∷ []) nil ≡ list (packed true h.own) nil)) (sym h.0)
-      (subst (λ (q : Argument). (h : IsAmong text q 0 (own ∷ [])) × (q.is_pack ≡ true → list_with (own ∷ []) nil ≡ list (packed true h.own) nil)) (sym h.1)
-      (let here = subst IsKnown h.1 o in (among here, λ e. alone here)))
-  | inr h ↦ absurd (none-known k (subst IsKnown h o))
-]
-
-one-element : (t : Term) → t ∷ [] ≢ []
-one-element t e = cc e
+-- which comes next
+pub next-element-begins : (s : Symbol) (old mid new : Direct) (before from number : ℕ) (known : Arguments) → AwaitsPackElement s old before known
+    → Writes old mid (codes ", ") → from ≡ length mid.text.list.items → number ≡ before + 1
+    → new.waiting.list.items ≡ mid.waiting.list.items ++ opens.Element from number known ∷ [] → new.text ≡ mid.text → new.candidates ≡ mid.candidates
+    → new.at ≡ mid.at → IsWriting s new steps.Type
+next-element-begins s old mid new before from number known p writes from_is number_is waits text candidates at =
+    let o = p.owner in
+    let entry = opens.Element from number known in
+    let goes = p.goes in
+    let element = element-awaits s Kind.PackList goes.1 goes.0 old.at p.state tt goes.3 in
+    let written : mid.text.list.items ≡ p.front ++ p.name ++ codes "<" ++ in_front_of_next p.ts p.texts =
+    writes.text ∙ ap (λ l. l ++ codes ", ") p.written ∙ append_assoc (p.front ++ p.name ++ codes "<") p.texts (codes ", ")
+    ∙ ap (λ l. p.front ++ p.name ++ codes "<" ++ l) (sym (next-written p.ts p.texts p.some)) in
+    let opened : reverse new.waiting.list.items ≡ entry ∷ opens.Pack ∷ o ∷ p.rest =
+    ap reverse waits ∙ reverse-last mid.waiting.list.items entry
+    ∙ ap (λ ws. entry ∷ ws) (ap (λ v. reverse v.list.items) writes.waiting ∙ p.open_is) in
+    let stands : Stands s (entry ∷ opens.Pack ∷ o ∷ p.rest) element.inner mid.text.list.items = (
+      p.front,
+      p.template,
+      p.name,
+      p.ts,
+      p.texts,
+      subst (λ l. IsTemplate o p.front p.template p.name l) (sym writes.text)
+          (template-stays o p.front p.template p.name old.text.list.items (codes ", ") p.is_template),
+      p.elements,
+      written,
+      from_is,
+      number_is ∙ p.number_is,
+      subst (λ l. AreAmong l true known p.ts) (sym writes.text) (among-stay old.text.list.items (codes ", ") true known p.ts p.among),
+      λ t here now comes. element-goes-on s Kind.PackList
+          (λ l there later. Closes s (of_pack [] []) o (Stands s p.rest) p.front p.template l there later)
+          p.ts t old.at here p.state now goes (element.onward t here now comes),
+    ) in
+    record {
+      state = p.state;
+      candidates = subst (λ v. AreCandidates new.text.list.items v.list.items p.state.candidates) (sym candidates)
+          (subst (λ v. AreCandidates v.list.items mid.candidates.list.items p.state.candidates) (sym text)
+          (candidates-written old mid (codes ", ") p.state.candidates writes p.candidates));
+      is_before = (
+        element.inner,
+        goes.0,
+        goes.2,
+        inr (inl (subst (λ n. Expects s Kind.Item goes.0 element.inner n p.state) (sym (at ∙ writes.at)) element.awaits)),
+        subst (λ v. Stands s (reverse new.waiting.list.items) element.inner v.list.items) (sym text)
+            (subst (λ ws. Stands s ws element.inner mid.text.list.items) (sym opened) stands),
+        subst (λ ws. IsScoped goes.0 ws) (sym opened) (none-scoped goes.0 (entry ∷ opens.Pack ∷ o ∷ p.rest) refl),
+      );
+    }
 
 -- or the end of the pack and that of the arguments: it is the only one
-pub element-alone : (s : Symbol) (old new : Direct) (from to : ℕ) (is_reference : Bool) (place : Argument) (known : Arguments)
-    (p : IsPackElementRead s old from is_reference)
+pub pack-closes : (s : Symbol) (old new : Direct) (from to number size : ℕ) (place : Argument) (known more : Arguments) (is_reference : Bool)
+    (p : IsPackElementRead s old from number known is_reference)
     → StandsAt s.bytes old.at (69 ∷ []) → StandsAt s.bytes (old.at + 1) (69 ∷ []) → reverse new.waiting.list.items ≡ p.owner ∷ p.rest → new.text ≡ old.text
     → new.candidates ≡ old.candidates → new.at ≡ old.at + 1 + 1 → to ≡ length old.text.list.items
-    → (IsKnown place → place ≡ record { from = from; to = to; is_pack = true; is_reference = is_reference }) → KnowsMore nowhere known 0 place
-    → IsListEnded s new known
+    → (IsKnown place → place ≡ record { from = from; to = to; is_pack = true; is_reference = is_reference }) → KnowsMore known more number place
+    → size ≡ number + 1 → IsListEnded s new (record more { elements = size })
 unfolding no_items may_be_empty
-element-alone s old new from to is_reference place known p ends stands waits text candidates at to_is place_is more =
-    let own = pack (list p.t nil) in
+pack-closes s old new from to number size place known more is_reference p ends stands waits text candidates at to_is place_is knows size_is =
+    let es = p.ts ++ p.t ∷ [] in
+    let own = pack (list_of es) in
+    let texts = in_front_of_next p.ts p.texts ++ p.bytes in
+    let among = element-known s old from to number place known more is_reference p to_is place_is knows in
     let goes = p.goes.4 nothing_there old.at p.state (expects-empty s Kind.PackList p.goes.0 p.goes.1 old.at p.state p.goes.3 refl) ends in
     let here = goes.4 nothing_there (old.at + 1) p.state (expects-empty s Kind.ArgumentList goes.0 goes.1 (old.at + 1) p.state goes.3 refl) stands in
+    let owns : Owns s p.owner (Stands s p.rest) p.front (instance p.template (list own nil)) (old.at + 1 + 1) p.state =
+    subst (λ l. Owns s p.owner (Stands s p.rest) p.front (instance p.template (list (pack l) nil)) (old.at + 1 + 1) p.state) (list-with-none es) here in
     record {
       state = p.state;
       candidates = subst (λ v. AreCandidates new.text.list.items v.list.items p.state.candidates) (sym candidates)
@@ -200,26 +298,29 @@ element-alone s old new from to is_reference place known p ends stands waits tex
       ts = own ∷ [];
       tail = nil;
       is_tail = inl refl;
-      arguments = p.bytes;
+      arguments = texts;
       is_template = subst (λ v. IsTemplate p.owner p.front p.template p.name v.list.items) (sym text) p.is_template;
       elements = (
-        p.bytes ∷ [],
-        (pack-element (p.t ∷ []) p.bytes (one-element p.t) (p.bytes ∷ [], (type-element 0 p.t p.bytes is_reference p.prints, tt), refl), tt),
+        texts ∷ [],
+        (
+          pack-element es texts (some-elements p.ts p.t)
+              (next-prints 0 p.ts p.texts p.t p.bytes p.elements (type-element 0 p.t p.bytes is_reference p.prints)),
+          tt,
+        ),
         refl,
       );
-      written = ap (λ v. v.list.items) text ∙ p.written;
-      owns = subst (λ n. Owns s p.owner (Stands s p.rest) p.front (instance p.template (list own nil)) n p.state) (sym at) here;
-      known = alone-known new.text.list.items place known own (λ o. record {
-        bytes = p.bytes;
-        placed = record {
-          front = p.front ++ p.name ++ codes "<";
-          back = [];
-          written = ap (λ v. v.list.items) text ∙ p.written ∙ sym (append-nil (p.front ++ p.name ++ codes "<" ++ p.bytes));
-          from_is = ap (λ (k : Argument). k.from) (place_is o) ∙ p.from_is;
-          to_is = ap (λ (k : Argument). k.to) (place_is o) ∙ to_is ∙ ap length p.written ∙ length-append (p.front ++ p.name ++ codes "<") p.bytes;
-        };
-        own = p.t;
-        there = ap (λ (k : Argument). Some (packed k.is_pack p.t)) (sym (place_is o));
-        prints = subst (λ (k : Argument). Prints p.t p.bytes k.is_reference) (sym (place_is o)) p.prints;
-      }) (λ o. refl) more;
+      written = ap (λ v. v.list.items) text ∙ p.written
+          ∙ append_assoc (p.front ++ p.name ++ codes "<") (in_front_of_next p.ts p.texts) p.bytes;
+      owns = subst (λ n. Owns s p.owner (Stands s p.rest) p.front (instance p.template (list own nil)) n p.state) (sym at) owns;
+      known = λ k o.
+          let there = elements-there size more k in
+          let h = among k (subst IsKnown there o) in
+          inr (
+            ap (λ (q : Argument). q.is_pack) there ∙ h.1,
+            es,
+            refl,
+            omega (arith, p.number_is, size_is, length-append p.ts (p.t ∷ [])),
+            subst (λ l. IsAmong l (place_of (record more { elements = size }) k) k es) (sym (ap (λ v. v.list.items) text))
+                (subst (λ (q : Argument). IsAmong old.text.list.items q k es) (sym there) h.0),
+          );
     }

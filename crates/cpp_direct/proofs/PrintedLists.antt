@@ -13,11 +13,11 @@ use Rattle.cpp_direct.proofs.PrintedParts.{printed_by, text_by, cost_by}
 -- ## What a list prints
 
 -- the texts of further elements
-abbrev further : List (List ℕ) → List ℕ
+abbrev pub further : List (List ℕ) → List ℕ
 further [] = []
 further (b ∷ bs) = codes ", " ++ (b ++ further bs)
 
-joined-further : (b : List ℕ) (bs : List (List ℕ)) → joined (b ∷ bs) ≡ b ++ further bs
+pub joined-further : (b : List ℕ) (bs : List (List ℕ)) → joined (b ∷ bs) ≡ b ++ further bs
 joined-further b [] = sym (append-nil b)
 joined-further b (c ∷ bs) = ap (λ s. b ++ codes ", " ++ s) (joined-further c bs) ∙ append_assoc b (codes ", ") (c ++ further bs)
 
@@ -287,7 +287,7 @@ another-prints by u ts l t b all p = go all.0 all.1 all.2
     go (c ∷ texts) each is =
         ((c ∷ texts) ++ b ∷ [], each-append by (u ∷ ts) (c ∷ texts) t b each p, joined-append c texts b ∙ ap (λ s. s ++ codes ", " ++ b) is)
 
-next-prints-by : (by : Term → List ℕ → Type 0) (ts : List Term) (l : List ℕ) (t : Term) (b : List ℕ) → PrintAllBy by ts l → by t b
+pub next-prints-by : (by : Term → List ℕ → Type 0) (ts : List Term) (l : List ℕ) (t : Term) (b : List ℕ) → PrintAllBy by ts l → by t b
     → PrintAllBy by (ts ++ t ∷ []) (in_front_of_next ts l ++ b)
 next-prints-by by [] l t b all p = go all.0 all.1 all.2
   where

@@ -1,7 +1,7 @@
 -- What a parameter of a template may name, and where it stands.
-use Rattle.std.proofs.Common.{◌≡◌, ℕ, zero, suc, ◌<◌, List, [], ◌∷◌, ◌++◌, slice_get, Some, None, arith, ap, sym, ◌∙◌, subst, append_assoc, refl}
-use Rattle.cpp_grammar.specs.Scope.{count, element}
-use Rattle.cpp_grammar.specs.Term.{Term}
+use Rattle.std.proofs.Common.{◌≡◌, ℕ, zero, suc, ◌<◌, List, [], ◌∷◌, ◌++◌, slice_get, Some, None, arith, ap, sym, ◌∙◌, subst, append_assoc, refl, ◌≤◌, inl, inr, Bool, true, false}
+use Rattle.cpp_grammar.specs.Scope.{count, element, arguments_of, before_arguments, has_return_type, is_structor}
+use Rattle.cpp_grammar.specs.Term.{Term, instance}
 use Rattle.cpp_grammar.specs.Values.{Around}
 use Rattle.cpp_direct.specs.declared.open.Mark.{Mark}
 use Rattle.cpp_direct.specs.declared.open.Open.{Open}
@@ -30,7 +30,7 @@ arguments-stay text more a name has k o = let h = has k o in record {
   all = h.all;
   all_are = h.all_are;
   there = h.there;
-  below = h.below;
+  elements = h.elements;
   alone = h.alone;
   prints = h.prints;
 }
@@ -45,21 +45,15 @@ one-stays text more p k ts h = record {
   prints = h.prints;
 }
 
-pub among-stay : (text more : List ℕ) (a : Arguments) (ts : List Term) → AreAmong text a ts → AreAmong (text ++ more) a ts
-among-stay text more a ts known k o = let h = known k o in (one-stays text more (place_of a k) k ts h.0, h.1)
+pub among-stay : (text more : List ℕ) (is_pack : Bool) (a : Arguments) (ts : List Term) → AreAmong text is_pack a ts → AreAmong (text ++ more) is_pack a ts
+among-stay text more is_pack a ts known k o = let h = known k o in (one-stays text more (place_of a k) k ts h.0, h.1)
 
 -- and behind the last of them
 pub known-stay : (text more : List ℕ) (a : Arguments) (ts : List Term) (tail : Term) → AreKnown text a ts tail → AreKnown (text ++ more) a ts tail
-known-stay text more a ts tail known k o = let h = known k o in (
-  record {
-    bytes = h.0.bytes;
-    placed = placed-stays text more (place_of a k) h.0.bytes h.0.placed;
-    own = h.0.own;
-    there = h.0.there;
-    prints = h.0.prints;
-  },
-  h.1,
-)
+known-stay text more a ts tail known k o = elim (known k o) [
+  | inl h ↦ inl (h.0, one-stays text more (place_of a k) k ts h.1)
+  | inr h ↦ inr (h.0, h.1, h.2, h.3, one-stays text more (place_of a k) k h.1 h.4)
+]
 
 -- an element of the list of elements
 pub element-there : (ts : List Term) (tail : Term) (k : ℕ) (t : Term) → slice_get ts k ≡ Some t
@@ -130,11 +124,31 @@ named-there place a (suc (suc zero)) = refl
 named-there place a (suc (suc (suc zero))) = refl
 named-there place a (suc (suc (suc (suc k)))) = refl
 
+-- how many elements a pack has says nothing of where they stand
+pub elements-there : (size : ℕ) (a : Arguments) (k : ℕ) → place_of (record a { elements = size }) k ≡ place_of a k
+elements-there size a zero = refl
+elements-there size a (suc zero) = refl
+elements-there size a (suc (suc zero)) = refl
+elements-there size a (suc (suc (suc zero))) = refl
+elements-there size a (suc (suc (suc (suc k)))) = refl
+
 pub arguments-named : (text : List ℕ) (place : ℕ) (a : Arguments) (name : Term) → HasArguments text a name → HasArguments text (named_in place a) name
 arguments-named text place a name has k o =
     let same = named-there place a k in
-    subst (λ (p : Argument). IsArgument text p k name) (sym same) (has k (subst IsKnown same o))
+    subst (λ (p : Argument). IsArgument text a.elements p k name) (sym same) (has k (subst IsKnown same o))
 
 -- elsewhere none does
 pub none-scoped : (around : Around) (open_ : List Open) → argument_of open_ ≡ None → IsScoped around open_
 none-scoped around open_ none q e k ordered = cc (none, e)
+
+-- ## Names with arguments
+
+-- a constructor or a destructor has no return type in front of its arguments
+pub structor-returns : (t a : Term) → is_structor t ≡ true → has_return_type (instance t a) ≡ false
+unfolding has_return_type arguments_of before_arguments
+structor-returns t a h = rw h refl
+
+-- the name of a function that is no constructor and no destructor has one in front of its arguments
+pub instance-returns : (t a : Term) → is_structor t ≡ false → has_return_type (instance t a) ≡ true
+unfolding has_return_type arguments_of before_arguments
+instance-returns t a h = rw h refl

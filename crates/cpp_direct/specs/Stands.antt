@@ -35,7 +35,7 @@ use Rattle.cpp_direct.specs.HolesOfTypes.{NoReference}
 use Rattle.cpp_direct.specs.HolesOfLists.{IsSuffix, IsDigitsAt, minus_sign}
 use Rattle.cpp_direct.specs.HolesOfLocals.{Discriminator, EntityOpened, IsDiscriminatorAt, IsEntityAt, IsLambdaDigit, lambda_ending, lambda_with, local_in}
 use Rattle.cpp_direct.specs.Marks.{has_const, called_on}
-use Rattle.cpp_direct.specs.Prints.{Prints, PrintsName, Shows, Encloses, NamesClass, PrintAll, NamesArgument, PrintAllIn}
+use Rattle.cpp_direct.specs.Prints.{Prints, PrintsName, Shows, Encloses, NamesClass, PrintAll, NamesArgument, PrintAllIn, list_of}
 use Rattle.cpp_grammar.specs.Parts.{types_of}
 
 -- ## Candidates
@@ -79,7 +79,7 @@ abbrev pub no_place : Argument
 no_place = record { from = 1; to = 0; is_pack = false; is_reference = false }
 
 abbrev pub nowhere : Arguments
-nowhere = record { first = no_place; second = no_place; third = no_place; fourth = no_place; encoding = 0 }
+nowhere = record { first = no_place; second = no_place; third = no_place; fourth = no_place; encoding = 0; elements = 0 }
 
 -- the same in the types of the encoding that begins at a place
 abbrev pub named_in : (place : ℕ) → Arguments → Arguments
@@ -97,35 +97,31 @@ place_of a _ = no_place
 abbrev pub IsKnown : Argument → Type 0
 IsKnown p = p.from ≤ p.to
 
--- an argument: a type, or a pack of it alone
-abbrev pub packed : (is_pack : Bool) → (own : Term) → Term
-packed false own = own
-packed true own = pack (list own nil)
-
--- The argument of a name with this number stands at a place. A pack is the only one.
-pub record IsArgument (text : List ℕ) (p : Argument) (number : ℕ) (name : Term) : Type 0 where
+-- The argument of a name with this number stands at a place, or the element with this number of the pack that is its only argument and
+-- has so many elements.
+pub record IsArgument (text : List ℕ) (size : ℕ) (p : Argument) (number : ℕ) (name : Term) : Type 0 where
   pub bytes : List ℕ
   pub placed : IsPlaced text p bytes
   pub own : Term
   pub all : Term
   pub all_are : arguments_of name ≡ Some all
-  pub there : element all number ≡ packed p.is_pack own
-  pub below : number < count all
-  pub alone : p.is_pack ≡ true → all ≡ list (packed true own) nil
+  pub there : p.is_pack ≡ false → (element all number ≡ own) × (number < count all)
+  pub elements : List Term
+  pub alone : p.is_pack ≡ true → (all ≡ list (pack (list_of elements)) nil) × (slice_get elements number ≡ Some own) × (length elements ≡ size)
   pub prints : Prints own bytes p.is_reference
 
 -- the known arguments of a name stand at their places
 abbrev pub HasArguments : (text : List ℕ) → Arguments → (name : Term) → Type 0
-HasArguments text a name = (number : ℕ) → IsKnown (place_of a number) → IsArgument text (place_of a number) number name
+HasArguments text a name = (number : ℕ) → IsKnown (place_of a number) → IsArgument text a.elements (place_of a number) number name
 
--- a parameter may name that argument here
+-- a parameter may name that argument here, or the pack
 pub record IsScope (number : ℕ) (is_pack : Bool) (around : Around) : Type 0 where
   pub own : Term
   pub all : Term
   pub scope_is : around.scope ≡ Some all
-  pub there : element all number ≡ packed is_pack own
-  pub below : number < count all
-  pub alone : is_pack ≡ true → all ≡ list (packed true own) nil
+  pub there : is_pack ≡ false → (element all number ≡ own) × (number < count all)
+  pub elements : List Term
+  pub alone : is_pack ≡ true → all ≡ list (pack (list_of elements)) nil
   pub no_pack : length_if_pack own ≡ None
 
 -- if the place is known, the innermost encoding begins there, and none of its lambdas is read
@@ -389,13 +385,13 @@ pub record IsAmong (text : List ℕ) (p : Argument) (number : ℕ) (ts : List Te
   pub bytes : List ℕ
   pub placed : IsPlaced text p bytes
   pub own : Term
-  pub there : slice_get ts number ≡ Some (packed p.is_pack own)
+  pub there : slice_get ts number ≡ Some own
   pub prints : Prints own bytes p.is_reference
 
--- those that are known are no packs
-abbrev pub AreAmong : (text : List ℕ) → Arguments → List Term → Type 0
-AreAmong text a ts =
-    (number : ℕ) → IsKnown (place_of a number) → IsAmong text (place_of a number) number ts × ((place_of a number).is_pack ≡ false)
+-- those that are known are arguments, or elements of a pack
+abbrev pub AreAmong : (text : List ℕ) → (is_pack : Bool) → Arguments → List Term → Type 0
+AreAmong text is_pack a ts =
+    (number : ℕ) → IsKnown (place_of a number) → IsAmong text (place_of a number) number ts × ((place_of a number).is_pack ≡ is_pack)
 
 -- a nested name is that of a function or of data
 abbrev pub IsOwn : Purpose → Type 0
@@ -525,15 +521,16 @@ Stands s (opens.Argument from number known ∷ []) os text = ⊥
 Stands s (opens.Argument from number known ∷ owner ∷ rest) os text =
     (front : List ℕ) × (template : Term) × (name : List ℕ) × (ts : List Term) × (elements : List ℕ) × IsTemplate owner front template name text
     × PrintAll 3 ts elements × (text ≡ front ++ name ++ codes "<" ++ in_front_of_next ts elements) × (from ≡ length text) × (number ≡ length ts)
-    × AreAmong text known ts
+    × AreAmong text false known ts
     × ((t : Term) (at : ℕ) (st : State) → Comes s os (tree t true) at st
     → ArgumentsGoOn s owner (Stands s rest) front template (ts ++ t ∷ []) at st)
-Stands s (opens.Element from ∷ opens.Pack ∷ owner ∷ rest) os text =
-    (front : List ℕ) × (template : Term) × (name : List ℕ) × IsTemplate owner front template name text
-    × (text ≡ front ++ name ++ codes "<") × (from ≡ length text)
+Stands s (opens.Element from number known ∷ opens.Pack ∷ owner ∷ rest) os text =
+    (front : List ℕ) × (template : Term) × (name : List ℕ) × (ts : List Term) × (elements : List ℕ) × IsTemplate owner front template name text
+    × PrintAll 0 ts elements × (text ≡ front ++ name ++ codes "<" ++ in_front_of_next ts elements) × (from ≡ length text) × (number ≡ length ts)
+    × AreAmong text true known ts
     × ((t : Term) (at : ℕ) (st : State) → Comes s os (tree t true) at st
-    → GoesOn s (of_pack [] []) owner (Stands s rest) front template (t ∷ []) at st)
-Stands s (opens.Element from ∷ rest) os text = ⊥
+    → GoesOn s (of_pack [] []) owner (Stands s rest) front template (ts ++ t ∷ []) at st)
+Stands s (opens.Element from number known ∷ rest) os text = ⊥
 Stands s (opens.Enumerator ∷ []) os text = ⊥
 Stands s (opens.Enumerator ∷ opens.Pack ∷ []) os text = ⊥
 Stands s (opens.Enumerator ∷ opens.Pack ∷ owner ∷ rest) os text =

@@ -1,7 +1,8 @@
 -- Where a writer is between two of its functions, within a step.
 use Rattle.std.specs.Prelude.{◌≡◌, ◌≢◌, ◌⊎◌, ℕ, zero, suc, ◌+◌, List, [], ◌∷◌, ◌++◌, length, reverse, ◌≤◌, Bool, true, false, cond, Some, codes, ◌-◌, take, drop, slice_get}
+use Rattle.cpp_direct.specs.Written.{Writes}
 use Rattle.cpp_grammar.specs.declared.kind.Kind.{Kind}
-use Rattle.cpp_grammar.specs.Term.{Term, Signed, array, instance, builtin, list, nil}
+use Rattle.cpp_grammar.specs.Term.{Term, Signed, array, instance, builtin, pack, list, nil}
 use Rattle.cpp_grammar.specs.Texts.{look_up, builtin_texts, literal_endings}
 use Rattle.cpp_grammar.specs.Parts.{is_plain_integer, types_of}
 use Rattle.cpp_grammar.specs.Scope.{has_return_type, is_structor}
@@ -29,8 +30,8 @@ use Rattle.cpp_direct.specs.HolesOfNests.{NestKnown}
 use Rattle.cpp_direct.specs.HolesOfArrays.{accessed, with_accessed}
 use Rattle.cpp_direct.specs.HolesOfTypes.{IsNamedKind, NoReference, TreeOpens}
 use Rattle.cpp_direct.specs.Marks.{has_const, called_on, mark_text}
-use Rattle.cpp_direct.specs.Prints.{NamesClass, Prints, PrintsName, IsElement, PrintAll, Shows, Encloses, sign_text, PrintsIn, NamesArgument}
-use Rattle.cpp_direct.specs.Stands.{AreCandidates, AwaitsItems, Encoded, EncodedBehind, IsEnclosing, IsFunction, IsInstance, IsListing, IsNest, IsTail, IsTemplate, GoesOn, EnumeratorGoesOn, ItemsGoOn, LambdaWithin, Owns, ParametersGoOn, Serves, Stands, TypeWithin, TakesFunction, opening_text, qualifiers, extra_of, led_by, list_with, in_front_of_next, IsPlaced, IsAmong, AreAmong, HasArguments, IsKnown, IsScoped, argument_of, place_of, nowhere, packed, of_pack, IsPlain, ArgumentsGoOn, encoding_place, named_in}
+use Rattle.cpp_direct.specs.Prints.{NamesClass, Prints, PrintsName, IsElement, PrintAll, Shows, Encloses, sign_text, PrintsIn, NamesArgument, list_of, PrintAllBy, forwarded}
+use Rattle.cpp_direct.specs.Stands.{AreCandidates, AwaitsItems, Encoded, EncodedBehind, IsEnclosing, IsFunction, IsInstance, IsListing, IsNest, IsTail, IsTemplate, GoesOn, EnumeratorGoesOn, ItemsGoOn, LambdaWithin, Owns, ParametersGoOn, Serves, Stands, TypeWithin, TakesFunction, opening_text, qualifiers, extra_of, led_by, list_with, in_front_of_next, IsPlaced, IsAmong, AreAmong, HasArguments, IsKnown, IsScoped, argument_of, place_of, nowhere, of_pack, IsPlain, ArgumentsGoOn, encoding_place, named_in}
 
 -- the digits behind the T of a parameter with this number
 abbrev pub parameter_digits : (number : ℕ) → List ℕ
@@ -208,7 +209,7 @@ pub record IsArgumentRead (s : Symbol) (w : Direct) (from number : ℕ) (known :
   pub written : w.text.list.items ≡ (front ++ name ++ codes "<" ++ in_front_of_next ts texts) ++ bytes
   pub from_is : from ≡ length (front ++ name ++ codes "<" ++ in_front_of_next ts texts)
   pub number_is : number ≡ length ts
-  pub among : AreAmong w.text.list.items known ts
+  pub among : AreAmong w.text.list.items false known ts
   pub prints : Prints t bytes is_reference
   pub goes : ArgumentsGoOn s owner (Stands s rest) front template (ts ++ t ∷ []) w.at state
 
@@ -229,26 +230,51 @@ pub record AwaitsKnownArgument (s : Symbol) (w : Direct) (before : ℕ) (known :
   pub some : ts ≢ []
   pub written : w.text.list.items ≡ front ++ name ++ codes "<" ++ texts
   pub number_is : before + 1 ≡ length ts
-  pub among : AreAmong w.text.list.items known ts
+  pub among : AreAmong w.text.list.items false known ts
   pub goes : ArgumentsGoOn s owner (Stands s rest) front template ts w.at state
 
--- The first element of a pack was read, which is the first argument of a name.
-pub record IsPackElementRead (s : Symbol) (w : Direct) (from : ℕ) (is_reference : Bool) : Type 0 where
+-- An element of a pack was read, which is the first argument of a name, behind so many others.
+pub record IsPackElementRead (s : Symbol) (w : Direct) (from number : ℕ) (known : Arguments) (is_reference : Bool) : Type 0 where
   pub state : State
   pub candidates : AreCandidates w.text.list.items w.candidates.list.items state.candidates
   pub owner : Open
   pub rest : List Open
-  pub open_is : reverse w.waiting.list.items ≡ opens.Element from ∷ opens.Pack ∷ owner ∷ rest
+  pub open_is : reverse w.waiting.list.items ≡ opens.Element from number known ∷ opens.Pack ∷ owner ∷ rest
   pub front : List ℕ
   pub template : Term
   pub name : List ℕ
+  pub ts : List Term
+  pub texts : List ℕ
   pub t : Term
   pub bytes : List ℕ
   pub is_template : IsTemplate owner front template name w.text.list.items
-  pub written : w.text.list.items ≡ front ++ name ++ codes "<" ++ bytes
-  pub from_is : from ≡ length (front ++ name ++ codes "<")
+  pub elements : PrintAll 0 ts texts
+  pub written : w.text.list.items ≡ (front ++ name ++ codes "<" ++ in_front_of_next ts texts) ++ bytes
+  pub from_is : from ≡ length (front ++ name ++ codes "<" ++ in_front_of_next ts texts)
+  pub number_is : number ≡ length ts
+  pub among : AreAmong w.text.list.items true known ts
   pub prints : Prints t bytes is_reference
-  pub goes : GoesOn s (of_pack [] []) owner (Stands s rest) front template (t ∷ []) w.at state
+  pub goes : GoesOn s (of_pack [] []) owner (Stands s rest) front template (ts ++ t ∷ []) w.at state
+
+-- Another one is expected, behind so many.
+pub record AwaitsPackElement (s : Symbol) (w : Direct) (before : ℕ) (known : Arguments) : Type 0 where
+  pub state : State
+  pub candidates : AreCandidates w.text.list.items w.candidates.list.items state.candidates
+  pub owner : Open
+  pub rest : List Open
+  pub open_is : reverse w.waiting.list.items ≡ opens.Pack ∷ owner ∷ rest
+  pub front : List ℕ
+  pub template : Term
+  pub name : List ℕ
+  pub ts : List Term
+  pub texts : List ℕ
+  pub is_template : IsTemplate owner front template name w.text.list.items
+  pub elements : PrintAll 0 ts texts
+  pub some : ts ≢ []
+  pub written : w.text.list.items ≡ front ++ name ++ codes "<" ++ texts
+  pub number_is : before + 1 ≡ length ts
+  pub among : AreAmong w.text.list.items true known ts
+  pub goes : GoesOn s (of_pack [] []) owner (Stands s rest) front template ts w.at state
 
 -- the first piece of a nested name is expected
 pub record AwaitsNest (s : Symbol) (w : Direct) (purpose : Purpose) : Type 0 where
@@ -338,8 +364,9 @@ pub record AwaitsClass (s : Symbol) (w : Direct) : Type 0 where
 -- the known ones among arguments stand at their places, and a pack is the only one
 abbrev pub AreKnown : (text : List ℕ) → Arguments → List Term → (tail : Term) → Type 0
 AreKnown text a ts tail =
-    (number : ℕ) → IsKnown (place_of a number) → (h : IsAmong text (place_of a number) number ts)
-    × ((place_of a number).is_pack ≡ true → list_with ts tail ≡ list (packed true h.own) nil)
+    (number : ℕ) → IsKnown (place_of a number) → (((place_of a number).is_pack ≡ false) × IsAmong text (place_of a number) number ts)
+    ⊎ (((place_of a number).is_pack ≡ true) × (es : List Term) × (list_with ts tail ≡ list (pack (list_of es)) nil) × (length es ≡ a.elements)
+    × IsAmong text (place_of a number) number es)
 
 -- The arguments of what was opened last are read and their E, but for their last bracket. Those that are known stand at their places.
 pub record IsListEnded (s : Symbol) (w : Direct) (argument : Arguments) : Type 0 where
@@ -457,6 +484,30 @@ pub record AwaitsNextParameter (s : Symbol) (w : Direct) (mark : Mark) (start : 
   pub start_is : start ≡ length aside
   pub written : w.text.list.items ≡ aside ++ lead ++ name ++ codes "(" ++ in_front_of_next ts texts
   pub goes : ParametersGoOn s argument lead make ts w.at state
+
+-- what stands in front of the element of a list with this number
+abbrev pub comma_text : (number : ℕ) → List ℕ
+comma_text zero = []
+comma_text (suc k) = codes ", "
+
+-- a pack has these elements, and the known ones stand at their places
+pub record IsPackOf (text : List ℕ) (a : Arguments) (ts : List Term) : Type 0 where
+  pub size : length ts ≡ a.elements
+  pub among : (k : ℕ) → IsKnown (place_of a k) → (place_of a k).is_pack ≡ true → IsAmong text (place_of a k) k ts
+
+-- a tree of which an rvalue reference has this text
+abbrev pub PrintsForwarded : Term → List ℕ → Type 0
+PrintsForwarded t bytes = (own : List ℕ) × (is_reference : Bool) × Prints t own is_reference × (bytes ≡ own ++ forwarded is_reference)
+
+-- References to so many elements of a pack were written, or to all.
+pub record AreForwarded (old new : Direct) (ts : List Term) (number : ℕ) : Type 0 where
+  pub done : List Term
+  pub rest : List Term
+  pub all : ts ≡ done ++ rest
+  pub count : (length done ≡ number) ⊎ ((rest ≡ []) × (length ts ≤ number))
+  pub bytes : List ℕ
+  pub prints : PrintAllBy PrintsForwarded done bytes
+  pub writes : Writes old new bytes
 
 -- A parameter of a function was read.
 pub record IsParameterEnded (s : Symbol) (w : Direct) (mark : Mark) (start : ℕ) (argument : Arguments) : Type 0 where

@@ -10,8 +10,8 @@ pub struct Direct {
     pub(crate) candidates: Bounded<Candidate>,
     pub(crate) waiting: Bounded<Open>,
     pub(crate) nest: Nest,
-    /// the arguments of the name that was read last: the first of them, if they are types, but no function types, or a pack of one
-    /// type, if this is the only one
+    /// the arguments of the name that was read last: the first of them, if they are types, but no function types and no arrays, or
+    /// the elements of a pack of such types, if this is the only one
     pub(crate) argument: Arguments,
     pub(crate) at: usize,
     pub(crate) rounds: usize,

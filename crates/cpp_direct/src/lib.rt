@@ -5,10 +5,10 @@
 //! functions, and lambdas there, of instances of function templates in those that return a builtin type; function types
 //! and arrays where they are arguments, parameters or what a special object is of, by themselves or behind one pointer,
 //! arrays behind an lvalue reference, too; instances of function templates whose types name no parameter of the
-//! template, or its first four arguments, by themselves or behind pointers, references and const, or expand the one
-//! type of a pack; and by the wide grammar the constructors and destructors,
-//! the types `N S .. I .. E` and the ABI tags of that. A symbol with anything else in it is given up, and is to be read by its grammar: no answer depends
-//! on this crate, which one call in `sym_filter` (`languages`) makes and may leave out.
+//! template, or its first four arguments, by themselves or behind pointers, references and const, or expand a pack of
+//! at most four types; and by the wide grammar the constructors and destructors, the types `N S .. I .. E` and the ABI
+//! tags of that. A symbol with anything else in it is given up, and is to be read by its grammar: no answer depends on
+//! this crate, which one call in `sym_filter` (`languages`) makes and may leave out.
 #![tactic(auto)]
 
 mod arrays;

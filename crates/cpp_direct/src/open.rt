@@ -14,8 +14,8 @@ pub struct Candidate {
     pub encoding: u16,
 }
 
-/// An argument of a name, a type or a pack of one type, and where its text stands in what is written. One that ends before it
-/// begins is nowhere.
+/// An argument of a name, or an element of a pack, and where its text stands in what is written. One that ends before it begins is
+/// nowhere.
 #[derive(Clone, Copy)]
 pub struct Argument {
     pub from: u16,
@@ -44,6 +44,8 @@ pub struct Arguments {
     pub fourth: Argument,
     /// the place where the encoding begins whose types may name them, 0 if this isn't known
     pub encoding: u16,
+    /// how many elements the pack has that is the only argument, and whose elements they are; 0 if there is none
+    pub elements: u16,
 }
 
 /// What a nested name is read as.
@@ -158,9 +160,11 @@ pub enum Open {
     },
     /// the elements of a pack, an argument of what was opened before
     Pack,
-    /// the first element of a pack that is the first argument of a name, whose text begins at this place
+    /// an element of a pack that is the first argument of a name, so many behind the first one, whose text begins at this place
     Element {
         from: usize,
+        number: u16,
+        known: Arguments,
     },
     /// the number of an enumerator, an element of what was opened before
     Enumerator,

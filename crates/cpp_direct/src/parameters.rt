@@ -1,13 +1,16 @@
 // The arguments of a function's template, and the types that name them.
 
-ghost use Rattle.std.specs.Prelude.{◌≡◌, ◌≤◌, ◌+◌, ◌∷◌, ◌++◌, [], length, reverse, true, false, Some};
-ghost use Rattle.std.specs.Option.{IfSome};
+ghost use Rattle.std.specs.Prelude.{◌≡◌, ◌≤◌, ◌+◌, ◌∷◌, ◌++◌, [], List, length, reverse, true, false, Some};
+ghost use Rattle.std.specs.Option.{OnSome, IfSome};
+ghost use Rattle.cpp_grammar.specs.Term.{Term};
+ghost use Rattle.cpp_direct.specs.declared.direct.Direct.{Direct};
 ghost use Rattle.cpp_direct.specs.Names.{IsReadable};
 ghost use Rattle.cpp_direct.specs.declared.open.Step.TheVariants as steps;
 ghost use Rattle.cpp_direct.specs.Holes.{StandsAt};
 ghost use Rattle.cpp_direct.specs.Stands.{EndsNamed, IsWriting, argument_of, place_of};
-ghost use Rattle.cpp_direct.specs.Ways.{AwaitsType, AwaitsDependentMark, AwaitsKnownArgument, AwaitsNextParameter, IsArgumentRead, IsNamedAgain, IsPackElementRead, KnowsMore, parameter_digits};
+ghost use Rattle.cpp_direct.specs.Ways.{AwaitsType, AwaitsDependentMark, AwaitsKnownArgument, AwaitsNextParameter, IsArgumentRead, IsNamedAgain, IsPackElementRead, AwaitsPackElement, AreForwarded, IsPackOf, comma_text, KnowsMore, parameter_digits};
 ghost use Rattle.cpp_direct.specs.Symbol.{symbol_by};
+ghost use Rattle.cpp_direct.specs.Written.{Writes};
 
 use crate::direct::Direct;
 use crate::grammar::Grammar;
@@ -185,8 +188,7 @@ impl Direct {
         Some(Step::Type)
     }
 
-    /// The first argument of a list, which is a pack of something. Where it is an argument of a name, it may be the only one, and
-    /// have one type alone.
+    /// The first argument of a list, which is a pack of something. Where it is an argument of a name, it may be the only one.
     // <template-arg> ::= J <template-arg>* E
     #[inline(never)]
     pub(crate) fn first_pack<G: Grammar>(&mut self, s: &[u8]) -> Option<Step>
@@ -205,26 +207,39 @@ impl Direct {
         self.at = behind;
         let from = self.text.len();
         self.waiting.push(Open::Pack)?;
-        self.waiting.push(Open::Element { from })?;
+        self.waiting.push(Open::Element {
+            from,
+            number: 0,
+            known: NOWHERE,
+        })?;
         Some(Step::Type)
     }
 
-    /// The first element of a pack is read, which is the first argument of a name: others follow, or the end of the pack, and behind
-    /// it that of the arguments.
+    /// An element of a pack is read, which is the first argument of a name: others follow, or the end of the pack, and behind it that of
+    /// the arguments.
     // <template-arg> ::= J <template-arg>* E
     pub(crate) fn element_ended<G: Grammar>(
         &mut self,
         s: &[u8],
         from: usize,
+        number: u16,
+        known: Arguments,
         is_reference: bool,
     ) -> Option<Step>
         requires fits { IsReadable s.now }
-        requires read { IsPackElementRead (symbol_by G.IS_WIDE s.now) self.old from is_reference }
+        requires read { IsPackElementRead (symbol_by G.IS_WIDE s.now) self.old from number known is_reference }
         ensures { IfSome result (IsWriting (symbol_by G.IS_WIDE s.now) self.new) }
     {
         let _element = self.waiting.pop();
-        if byte_at(s, self.at) != b'E' {
+        let byte = byte_at(s, self.at);
+        // a literal isn't known, nor is what stands behind it
+        if byte == b'L' || is_element_at(s, self.at) {
             return Some(Step::List { is_first: false });
+        }
+        let to = self.text.len();
+        let more = known.with(number, placed(from, to, true, is_reference));
+        if byte != b'E' {
+            return self.next_element::<G>(s, number, more);
         }
         let behind = self.at.checked_add(1)?;
         if byte_at(s, behind) != b'E' {
@@ -232,9 +247,26 @@ impl Direct {
         }
         let _pack = self.waiting.pop();
         self.at = behind.checked_add(1)?;
-        let to = self.text.len();
-        let place = placed(from, to, true, is_reference);
-        self.close_list::<G>(s, NOWHERE.with(0, place))
+        let elements = number.checked_add(1)?;
+        self.close_list::<G>(s, Arguments { elements, ..more })
+    }
+
+    /// An element of a pack comes next, behind so many others.
+    // <template-arg> ::= J <template-arg>* E
+    fn next_element<G: Grammar>(&mut self, s: &[u8], before: u16, known: Arguments) -> Option<Step>
+        requires fits { IsReadable s.now }
+        requires awaits { AwaitsPackElement (symbol_by G.IS_WIDE s.now) self.old before known }
+        ensures { IfSome result (IsWriting (symbol_by G.IS_WIDE s.now) self.new) }
+    {
+        self.push_pair(b',', b' ')?;
+        let from = self.text.len();
+        let number = before.checked_add(1)?;
+        self.waiting.push(Open::Element {
+            from,
+            number,
+            known,
+        })?;
+        Some(Step::Type)
     }
 
     /// A parameter of a function comes next.
@@ -274,18 +306,50 @@ impl Direct {
         let Some(end) = expansion_end(s, self.at) else {
             return Some(Step::Type);
         };
-        let pack = argument.first;
-        if pack.to < pack.from || !may_end(byte_at(s, end)) {
+        let first = argument.first;
+        if first.to < first.from || argument.elements > 4 || !may_end(byte_at(s, end)) {
             return None;
         }
         self.at = end;
-        self.repeat(pack.from as usize, pack.to as usize)?;
-        // a reference to a reference is one to what this refers to
-        self.push(if pack.is_reference { b"" } else { b"&&" })?;
+        self.forward(argument, 0)?;
+        self.forward(argument, 1)?;
+        self.forward(argument, 2)?;
+        self.forward(argument, 3)?;
         self.add_hidden(false)?;
         self.add_hidden(false)?;
         self.add_hidden(false)?;
         self.close_parameters::<G>(s, mark, start, argument)
+    }
+
+    /// Writes what stands in front of the element of a list with this number.
+    fn comma(&mut self, number: u16) -> Option<()>
+        ensures { OnSome result (Writes self.old self.new (comma_text number)) }
+    {
+        match number {
+            0 => self.push(b""),
+            _ => self.push(b", "),
+        }
+    }
+
+    /// Writes a reference to the element of a pack with this number, behind those before it. A reference to a reference is one to what
+    /// this refers to.
+    // <type> ::= O <type>
+    fn forward(&mut self, argument: Arguments, number: u16) -> Option<()>
+        requires few { number ≤ 3 }
+        requires before { (before : Direct) × (ts : List Term) × IsPackOf before.text.list.items argument ts × AreForwarded before self.old ts number }
+        ensures { OnSome result ((before : Direct) (ts : List Term) → IsPackOf before.text.list.items argument ts
+            → AreForwarded before self.old ts number → AreForwarded before self.new ts (number + 1)) }
+    {
+        if number >= argument.elements {
+            return Some(());
+        }
+        let place = known(argument.at(number))?;
+        if !place.is_pack {
+            return None;
+        }
+        self.comma(number)?;
+        self.repeat(place.from as usize, place.to as usize)?;
+        self.push(if place.is_reference { b"" } else { b"&&" })
     }
 
     /// An argument of a name is read, so many behind the first one: others follow, or the end.
@@ -385,7 +449,11 @@ impl Direct {
     /// A type that names an argument is named once more.
     // <substitution> ::= S <seq-id> _ | S_
     #[inline(never)]
-    pub(crate) fn dependent_again<G: Grammar>(&mut self, s: &[u8], candidate: Candidate) -> Option<Step>
+    pub(crate) fn dependent_again<G: Grammar>(
+        &mut self,
+        s: &[u8],
+        candidate: Candidate,
+    ) -> Option<Step>
         requires fits { IsReadable s.now }
         requires again { IsNamedAgain (symbol_by G.IS_WIDE s.now) self.old candidate }
         ensures { IfSome result (IsWriting (symbol_by G.IS_WIDE s.now) self.new) }
@@ -426,7 +494,9 @@ impl Direct {
         ensures { IfSome result (IsWriting (symbol_by G.IS_WIDE s.now) self.new) }
     {
         match *self.waiting.as_slice().last()? {
-            Open::Pointer { .. } => self.mark_dependent::<G>(s, b"*", false, begins, number, encoding),
+            Open::Pointer { .. } => self.mark_dependent::<G>(
+                s, b"*", false, begins, number, encoding,
+            ),
             Open::Parameters {
                 mark,
                 start,
@@ -454,13 +524,23 @@ impl Direct {
 
     /// Ends a type that names the argument, and is no reference, with a mark.
     // <type> ::= R <type> | O <type> | <CV-qualifiers> <type>
-    fn mark_plain<G: Grammar>(&mut self, s: &[u8], begins: usize, number: u16, encoding: u16) -> Option<Step>
+    fn mark_plain<G: Grammar>(
+        &mut self,
+        s: &[u8],
+        begins: usize,
+        number: u16,
+        encoding: u16,
+    ) -> Option<Step>
         requires { IsWriting (symbol_by G.IS_WIDE s.now) self.old (steps.Dependent false begins number encoding) }
         ensures { IfSome result (IsWriting (symbol_by G.IS_WIDE s.now) self.new) }
     {
         match *self.waiting.as_slice().last()? {
-            Open::Lvalue { .. } => self.mark_dependent::<G>(s, b"&", true, begins, number, encoding),
-            Open::Rvalue { .. } => self.mark_dependent::<G>(s, b"&&", true, begins, number, encoding),
+            Open::Lvalue { .. } => self.mark_dependent::<G>(
+                s, b"&", true, begins, number, encoding,
+            ),
+            Open::Rvalue { .. } => self.mark_dependent::<G>(
+                s, b"&&", true, begins, number, encoding,
+            ),
             Open::Const { .. } => self.mark_dependent::<G>(
                 s, b" const", false, begins, number, encoding,
             ),

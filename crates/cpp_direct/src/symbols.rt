@@ -59,6 +59,7 @@ pub const NOWHERE: Arguments = Arguments {
     third: NO_PLACE,
     fourth: NO_PLACE,
     encoding: 0,
+    elements: 0,
 };
 
 /// Whether a function whose name is written from a place on may have a return type. Behind a thunk's text it would have to be moved.
@@ -112,6 +113,8 @@ impl Direct {
     /// Whatever is answered, at most eight bytes for each of the symbol's and a kilobyte are written, at most eight steps for each
     /// byte are taken, and no list has more entries than the symbol has bytes. Text and candidates only grow, up to the end of an
     /// instance of a function template, where what was written up to its return type is taken away.
+    // at the one call, which knows the grammar, so that the other one's steps aren't there
+    #[inline(always)]
     pub fn write(&mut self, s: &[u8], limit: u32, is_wide: bool) -> bool
         requires { FitsSymbol s.now }
         ensures answer { result ≡ true → IsAnswer (mangled_by is_wide) details.Full s.now limit (Ok self.new.text.list.items) }
@@ -162,6 +165,7 @@ impl Direct {
     }
 
     /// Takes steps up to the end of a symbol by the wide grammar or by that of the ABI, and counts them.
+    #[inline(always)]
     fn run_by(&mut self, s: &[u8], limit: u32, is_wide: bool, rounds: &mut usize) -> bool
         requires fits { FitsSymbol s.now }
         requires fresh { IsFresh self.old }

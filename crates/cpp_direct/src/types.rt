@@ -241,7 +241,11 @@ impl Direct {
                 number,
                 known,
             } => self.argument_ended::<G>(s, from, number, known, is_reference),
-            Open::Element { from } => self.element_ended::<G>(s, from, is_reference),
+            Open::Element {
+                from,
+                number,
+                known,
+            } => self.element_ended::<G>(s, from, number, known, is_reference),
             _ => Some(Step::List { is_first: false }),
         }
     }

@@ -1,36 +1,64 @@
-use Rattle.std.proofs.Common.{◌≡◌, ◌-◌, ◌∷◌, ◌++◌, [], take, drop, ap, sym, ◌∙◌}
+use Rattle.std.proofs.Common.{◌≡◌, ◌∷◌, ◌++◌, [], ◌∙◌, ap, arith, refl}
 use Rattle.cpp_direct.specs.Symbol.{symbol_by}
-use Rattle.cpp_direct.specs.Prints.{forwarded}
 use Rattle.cpp_direct.specs.Written.{hidden}
 use Rattle.cpp_direct.proofs.Ending.{parameter-expected}
-use Rattle.cpp_direct.proofs.ExpansionsRead.{expansion-read, pack-inside}
+use Rattle.cpp_direct.proofs.ExpansionsRead.{expansion-read, none-forwarded, pack-of}
 use Rattle.cpp_direct.proofs.direct.Direct.expansion.Goals as goal
-use Rattle.cpp_direct.proofs.direct.Direct.expansion.Goals.{then-pack-2, else-pack-2}
-
-pub repeat-requires-clause-to : goal.repeat-requires-clause-to
-repeat-requires-clause-to g c =
-    pack-inside (symbol_by g.G.Grammar.IS_WIDE c.args.s.now) c.args.self.now c.args.mark c.args.start c.args.argument c.requires.awaits c.if-pack.false
 
 pub returns-in_default : goal.returns-in_default
 returns-in_default g c = parameter-expected (symbol_by g.G.Grammar.IS_WIDE c.args.s.now) c.args.self.now c.args.mark c.args.start c.args.argument c.requires.awaits
 
+pub forward-requires-clause-before : goal.forward-requires-clause-before
+forward-requires-clause-before g c =
+    let old = c.args.self.now in
+    let f = c.requires.awaits.is_function in
+    let begun = record old { at = c.in-Some.end } in
+    let ts = (f.names 0 c.if-first.false).elements in
+    (begun, ts, pack-of old.text.list.items c.args.argument f.own f.names c.requires.is_pack c.if-first.false, none-forwarded begun ts)
+
+pub forward-requires-2-clause-before : goal.forward-requires-2-clause-before
+forward-requires-2-clause-before g c =
+    let old = c.args.self.now in
+    let f = c.requires.awaits.is_function in
+    let begun = record old { at = c.in-Some.end } in
+    let ts = (f.names 0 c.if-first.false).elements in
+    let pack = pack-of old.text.list.items c.args.argument f.own f.names c.requires.is_pack c.if-first.false in
+    (begun, ts, pack, c.in_ok-forward.ensures begun ts pack (none-forwarded begun ts))
+
+pub forward-requires-3-clause-before : goal.forward-requires-3-clause-before
+forward-requires-3-clause-before g c =
+    let old = c.args.self.now in
+    let f = c.requires.awaits.is_function in
+    let begun = record old { at = c.in-Some.end } in
+    let ts = (f.names 0 c.if-first.false).elements in
+    let pack = pack-of old.text.list.items c.args.argument f.own f.names c.requires.is_pack c.if-first.false in
+    (begun, ts, pack, c.in_ok-forward-2.ensures begun ts pack (c.in_ok-forward.ensures begun ts pack (none-forwarded begun ts)))
+
+pub forward-requires-4-clause-before : goal.forward-requires-4-clause-before
+forward-requires-4-clause-before g c =
+    let old = c.args.self.now in
+    let f = c.requires.awaits.is_function in
+    let begun = record old { at = c.in-Some.end } in
+    let ts = (f.names 0 c.if-first.false).elements in
+    let pack = pack-of old.text.list.items c.args.argument f.own f.names c.requires.is_pack c.if-first.false in
+    let one = c.in_ok-forward.ensures begun ts pack (none-forwarded begun ts) in
+    (begun, ts, pack, c.in_ok-forward-3.ensures begun ts pack (c.in_ok-forward-2.ensures begun ts pack one))
+
 pub close_parameters-requires-clause-ended : goal.close_parameters-requires-clause-ended
 close_parameters-requires-clause-ended g c =
     let old = c.args.self.now in
-    let r = c.args.argument.first.is_reference in
-    let piece = take (c.args.argument.first.to - c.args.argument.first.from) (drop c.args.argument.first.from old.text.list.items) in
-    let one = c.in_ok-repeat.ensures in
-    let two = c.in_ok-push.ensures in
-    let marks : c.if-pack-2.push.now ≡ forwarded r = elim c.if-pack-2.branch [
-      | then-pack-2 b ↦ ap (λ t. t.now) b.push-is ∙ ap (λ k. forwarded k) (sym b.if-pack-2.true)
-      | else-pack-2 b ↦ ap (λ t. t.now) b.push-is ∙ ap (λ k. forwarded k) (sym b.if-pack-2.false)
-    ] in
-    expansion-read (symbol_by g.G.Grammar.IS_WIDE c.args.s.now) old c.add_hidden-3.new.self c.args.mark c.args.start c.args.argument c.requires.awaits c.requires.is_pack
-    c.if-pack.false c.in-Some.ensures.stands
-    (ap (λ v. v.list.items) (c.add_hidden-3.ensures.text ∙ c.add_hidden-2.ensures.text ∙ c.add_hidden.ensures.text) ∙ two.text
-    ∙ ap (λ l. l ++ c.if-pack-2.push.now) one.text ∙ ap (λ l. (old.text.list.items ++ piece) ++ l) marks)
+    let a = c.requires.awaits in
+    let f = a.is_function in
+    let begun = record old { at = c.in-Some.end } in
+    let ts = (f.names 0 c.if-first.false).elements in
+    let pack = pack-of old.text.list.items c.args.argument f.own f.names c.requires.is_pack c.if-first.false in
+    let one = c.in_ok-forward.ensures begun ts pack (none-forwarded begun ts) in
+    let three = c.in_ok-forward-3.ensures begun ts pack (c.in_ok-forward-2.ensures begun ts pack one) in
+    expansion-read (symbol_by g.G.Grammar.IS_WIDE c.args.s.now) old begun c.forward-4.new.self c.add_hidden-3.new.self c.args.mark c.args.start c.args.argument a
+    c.requires.is_pack c.if-first.false (omega (arith, c.if-argument-gt4.false)) c.in-Some.ensures.stands refl refl refl c.in-Some.ensures.end
+    (c.in_ok-forward-4.ensures begun ts pack three)
+    (c.add_hidden-3.ensures.text ∙ c.add_hidden-2.ensures.text ∙ c.add_hidden.ensures.text)
     (c.in_ok-add_hidden-3.ensures.candidates
-    ∙ ap (λ l. l ++ hidden ∷ []) (c.in_ok-add_hidden-2.ensures.candidates ∙ ap (λ l. l ++ hidden ∷ []) (c.in_ok-add_hidden.ensures.candidates
-    ∙ ap (λ v. v.list.items ++ hidden ∷ []) (two.candidates ∙ one.candidates))))
-    (c.add_hidden-3.ensures.open ∙ c.add_hidden-2.ensures.open ∙ c.add_hidden.ensures.open ∙ two.waiting ∙ one.waiting)
-    (c.add_hidden-3.ensures.at ∙ c.add_hidden-2.ensures.at ∙ c.add_hidden.ensures.at ∙ two.at ∙ one.at ∙ c.in-Some.ensures.end)
+    ∙ ap (λ l. l ++ hidden ∷ []) (c.in_ok-add_hidden-2.ensures.candidates ∙ ap (λ l. l ++ hidden ∷ []) c.in_ok-add_hidden.ensures.candidates))
+    (c.add_hidden-3.ensures.open ∙ c.add_hidden-2.ensures.open ∙ c.add_hidden.ensures.open)
+    (c.add_hidden-3.ensures.at ∙ c.add_hidden-2.ensures.at ∙ c.add_hidden.ensures.at)

@@ -1,4 +1,5 @@
 use Rattle.std.proofs.Common.{◌∷◌, ◌++◌, [], refl, ap, ◌∙◌, true}
+use Rattle.cpp_direct.specs.Stands.{nowhere}
 use Rattle.cpp_direct.specs.Symbol.{symbol_by}
 use Rattle.cpp_direct.specs.declared.open.Open.TheVariants as opens
 use Rattle.cpp_direct.proofs.PacksRead.{element-begins}
@@ -14,5 +15,5 @@ begin_pack-requires-then-byte_at-eq76-clause-awaits g c = first-expected (symbol
 pub returns : goal.returns
 returns g c =
     element-begins (symbol_by g.G.Grammar.IS_WIDE c.args.s.now) c.args.self.now _ c.len-from.result c.requires.writing (c.is_named.ensures c.if-not-is_named.false) c.requires.letter
-    c.len-from.ensures (c.in_ok-push-2.ensures.items ∙ ap (λ l. l ++ opens.Element c.len-from.result ∷ []) c.in_ok-push.ensures.items) refl refl
+    c.len-from.ensures (c.in_ok-push-2.ensures.items ∙ ap (λ l. l ++ opens.Element c.len-from.result 0 nowhere ∷ []) c.in_ok-push.ensures.items) refl refl
     c.in_ok-behind.ensures.1

@@ -104,5 +104,5 @@ argument_ended-requires-clause-read g c =
 
 pub element_ended-requires-clause-read : goal.element_ended-requires-clause-read
 element_ended-requires-clause-read g c =
-    value-in-pack (symbol_by g.G.Grammar.IS_WIDE c.args.s.now) c.args.self.now c.args.is_reference c.in-Element.from
+    value-in-pack (symbol_by g.G.Grammar.IS_WIDE c.args.s.now) c.args.self.now c.args.is_reference c.in-Element.from c.in-Element.number c.in-Element.known
     c.requires.writing (waits-last _ _ _ _ c.as_slice.ensures c.in_ok-from.ensures.value c.in-Element.is)
