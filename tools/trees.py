@@ -224,6 +224,60 @@ def inside():
         return " ⊎ ".join(parts) if parts else None
     return cases("Inside", [], ["x"], right, "⊥", named(PRESSED))
 
+# ## Trees whose free parameters carry another argument
+
+def carried(lines): return [l.replace("(parameter k)", "(parameter k argument)") for l in lines]
+
+def reargued():
+    """the tree again, with another argument wherever a parameter is free"""
+    def right(tree):
+        if tree[0] == "parameter": return "parameter k (argument_or c argument)"
+        if not arguments(tree, *SCOPED): return None
+        return applied(tree[0], [f"(reargued c {name})" if sort in SCOPED else name for name, sort in tree[1:]])
+    return carried(cases("reargued", ["c"], [], right, "t")[:-1]) + ["reargued c t = t"]
+
+def made_again(function, before, parameter, behind=lambda name: ""):
+    """a law of each tree by those of its subtrees: both sides are the tree, of other subtrees"""
+    def right(tree):
+        if tree[0] == "parameter": return parameter
+        subtrees = [name for name, sort in arguments(tree, *SCOPED)]
+        if not subtrees: return None
+        letters = dict(zip(subtrees, "xy"))
+        body = applied(tree[0], [letters.get(name, name) for name, sort in tree[1:]])
+        others = {name: [n for n in subtrees if n != name] for name in subtrees}
+        return applied("ap" if len(subtrees) == 1 else "both", [f"(λ {' '.join(letters.values())}. {body})", *[f"({applied(function, [*before, name])}{behind(name, subtrees)})" for name in subtrees]])
+    return right
+
+def never_open(name, subtrees):
+    """the fact that a subtree isn't open, from that of the tree"""
+    if len(subtrees) == 1: return " closed"
+    side = "or_left" if name == subtrees[0] else "or_right"
+    return f" ({side} {' '.join(f'(is_open {n})' for n in subtrees)} closed)"
+
+def erase_reargued():
+    def right(tree):
+        if tree[0] == "parameter": return None
+        subtrees = [name for name, sort in arguments(tree, *SCOPED)]
+        if not subtrees: return None
+        letters = dict(zip(subtrees, "xy"))
+        body = applied("term_." + tree[0], [letters.get(name, name) if sort not in (OWN, OUTSIDE) else f"(erase {name})" for name, sort in tree[1:]])
+        return applied("ap" if len(subtrees) == 1 else "both", [f"(λ {' '.join(letters.values())}. {body})", *[f"(erase_reargued c {name})" for name in subtrees]])
+    return cases("erase_reargued", ["c"], [], right, "refl")
+
+def reargued_laws():
+    path = "cpp_term/proofs/Reargued.antt"
+    same = made_again("reargued_none", [], "refl", lambda name, subtrees: "")
+    yield path, "reargued_none", carried(cases("reargued_none", [], [], same, "refl"))
+    again = made_again("reargued_twice", ["c", "a"], "refl", lambda name, subtrees: "")
+    yield path, "reargued_twice", carried(cases("reargued_twice", ["c", "a"], [], again, "refl"))
+    closed = made_again("reargued_closed", ["c"], "absurd (true≢false closed)", never_open)
+    yield path, "reargued_closed", carried(cases("reargued_closed", ["c"], ["closed"], closed, "refl"))
+    yield path, "open_reargued", carried(fold("open_reargued", ["c"], both_by("(λ x y. x || y)"), "refl", {}, SCOPED))
+    yield path, "generic_reargued", fold("generic_reargued", ["c"], both_by("(λ x y. x || y)"), "refl", {"lambda": None}, SCOPED)
+    def bare(parts): return parts[0] if len(parts) == 1 else applied("bare_first", [f"(bare {p.split()[-1]})" for p in parts] + ["(length_if_pack a)"] + [f"({p})" for p in parts])
+    yield path, "pack_reargued", carried(fold("pack_reargued", ["a"], bare, "refl", {"parameter": "refl", "expansion": None}, SCOPED))
+    yield path, "erase_reargued", erase_reargued()
+
 # ## Nodes
 
 # a node has the arguments of its tree; these have others. A number of a thunk stands for it, and the letters of a builtin type are told apart
@@ -501,6 +555,9 @@ def declarations():
     yield "cpp_grammar/specs/Scope.antt", "is_generic", fold("is_generic", [], either, "false", {"generic_parameter": "true", "lambda": None}, SCOPED, trees=named(SCOPES, ["generic_parameter"]))
     yield "cpp_grammar/specs/Scope.antt", "pack_length", fold("pack_length", ["scope"], first_of, "None",
         {"parameter": "length_if_pack (element scope number)", **no_expansion}, SCOPED, trees=named(SCOPES, ["parameter"]))
+    yield "cpp_term/specs/Reargued.antt", "reargued", reargued()
+    yield "cpp_term/specs/Reargued.antt", "bare", carried(fold("bare", [], either, "false", {"parameter": "true", "expansion": None}, SCOPED))
+    yield from reargued_laws()
     yield "cpp_term/proofs/Notes.antt", "open_noted", fold("open_noted", ["s"], both_by("(λ x y. x || y)"), "refl", {}, SCOPED)
     yield "cpp_term/proofs/Notes.antt", "generic_noted", fold("generic_noted", ["s"], both_by("(λ x y. x || y)"), "refl", {"lambda": None}, SCOPED)
     yield "cpp_term/proofs/Notes.antt", "closed_noted", closed_noted()

@@ -103,11 +103,11 @@ generic_noted s (pack elements) = generic_noted s elements
 generic_noted s (list e rest) = both (λ x y. x || y) (generic_noted s e) (generic_noted s rest)
 generic_noted s _ = refl
 
-or_left : (a b : Bool) → (a || b) ≡ false → a ≡ false
+pub or_left : (a b : Bool) → (a || b) ≡ false → a ≡ false
 or_left false b e = refl
 or_left true b e = absurd (true≢false e)
 
-or_right : (a b : Bool) → (a || b) ≡ false → b ≡ false
+pub or_right : (a b : Bool) → (a || b) ≡ false → b ≡ false
 or_right false b e = e
 or_right true b e = absurd (true≢false e)
 
