@@ -1,35 +1,35 @@
--- The reading of the ABI's grammar makes no parameters of lambdas.
+-- Of values in which no parameters are free a production makes one in which none are.
 use Rattle.std.proofs.Common.{◌≡◌, refl, ℕ, zero, suc, List, [], ◌∷◌, Bool, true, false, ◌&&◌, cond, nat_eq}
 use Rattle.cpp_grammar.specs.declared.production.Production.{Production}
 use Rattle.cpp_grammar.specs.Term.{RefQualifier, lvalue_only, rvalue_only, Term, symbol, function, within, instance, string_literal, conversion, lvalue, rvalue, member_pointer, function_type, nil, list, absent}
-use Rattle.cpp_grammar.specs.Scope.{is_generic, has_return_type}
+use Rattle.cpp_grammar.specs.Scope.{is_open, has_return_type}
 use Rattle.cpp_grammar.specs.Values.{Around, Prefix, outermost, behind, prefix_tree, Value, nothing_there, letter, piece, named, tree_of, text_of, piece_of, qualifiers_of, ref_of, is_there, part}
 use Rattle.cpp_grammar.specs.Between.{extended, applied, no_items}
 use Rattle.cpp_grammar.specs.Meaning.{is_void, is_nil, parameters, encoding_of, default_entity, qualified_by, listed_value, function_of, with_item, reference_to, signature_or, operator_or_literal, meaning}
 use Rattle.cpp_grammar.proofs.ClosedValues.{held, or_no}
 
--- no parameter of a lambda around the tree stands in it
+-- no parameters are free in the tree
 abbrev pub HasNone : Term → Type 0
-HasNone t = is_generic t ≡ false
+HasNone t = is_open t ≡ false
 
 abbrev pub AllNone : List Value → Type 0
 AllNone [] = Unit {0}
 AllNone (v ∷ vs) = HasNone (held v) × AllNone vs
 
 pub none_tree : (v : Value) → HasNone (held v) → HasNone (tree_of v)
-unfolding held tree_of is_generic
+unfolding held tree_of is_open
 none_tree nothing_there g = g
 none_tree (piece p) g = refl
 none_tree v g = g
 
 pub none_piece : (v : Value) → HasNone (held v) → HasNone (piece_of v)
-unfolding held piece_of is_generic
+unfolding held piece_of is_open
 none_piece (piece p) g = g
 none_piece nothing_there g = refl
 none_piece v g = refl
 
 none_held : (vs : List Value) (k : ℕ) → AllNone vs → HasNone (held (part vs k))
-unfolding part held is_generic
+unfolding part held is_open
 none_held [] k all = refl
 none_held (v ∷ vs) zero all = all.0
 none_held (v ∷ vs) (suc k) all = none_held vs k all.1
@@ -43,23 +43,23 @@ none_piece_part vs k all = none_piece (part vs k) (none_held vs k all)
 -- ## Terms
 
 none_list : (a b : Term) → HasNone a → HasNone b → HasNone (list a b)
-unfolding is_generic
+unfolding is_open
 none_list a b g h = or_no _ _ g h
 
 pub none_instance : (a b : Term) → HasNone a → HasNone b → HasNone (instance a b)
-unfolding is_generic
+unfolding is_open
 none_instance a b g h = or_no _ _ g h
 
 none_within : (a b : Term) → HasNone a → HasNone b → HasNone (within a b)
-unfolding is_generic
+unfolding is_open
 none_within a b g h = or_no _ _ g h
 
 none_member : (a b : Term) → HasNone a → HasNone b → HasNone (member_pointer a b)
-unfolding is_generic
+unfolding is_open
 none_member a b g h = or_no _ _ g h
 
 pub none_no_items : (v : Value) → HasNone (tree_of v) → HasNone (no_items v)
-unfolding no_items tree_of is_generic
+unfolding no_items tree_of is_open
 none_no_items nothing_there g = refl
 none_no_items (letter b) g = g
 none_no_items v g = g
@@ -72,7 +72,7 @@ none_applied t (named u qualifiers ref) g h = h
 none_applied t v g h = none_instance t (tree_of v) g h
 
 none_parameters : (t : Term) → HasNone t → HasNone (parameters t)
-unfolding parameters is_generic
+unfolding parameters is_open
 none_parameters (list a b) g = go (is_void a && is_nil b)
   where
     go : (c : Bool) → HasNone (elim c [ true ↦ nil | false ↦ list a b ])
@@ -86,21 +86,21 @@ PrefixHasNone outermost = Unit {0}
 PrefixHasNone (behind t listed) = HasNone t
 
 pub none_extended : (prefix : Prefix) (p : Term) → PrefixHasNone prefix → HasNone p → HasNone (extended prefix p)
-unfolding extended is_generic
+unfolding extended is_open
 none_extended outermost p g h = h
 none_extended (behind t listed) p g h = none_within t p g h
 
 pub none_prefix : (prefix : Prefix) → PrefixHasNone prefix → HasNone (prefix_tree prefix)
-unfolding prefix_tree is_generic
+unfolding prefix_tree is_open
 none_prefix outermost g = refl
 none_prefix (behind t listed) g = g
 
 none_function : (c_linkage noexcept : Bool) (ref : RefQualifier) (a b : Term) → HasNone a → HasNone b → HasNone (function_type c_linkage noexcept ref a (parameters b))
-unfolding is_generic
+unfolding is_open
 none_function c_linkage noexcept ref a b g h = or_no _ _ g (none_parameters b h)
 
 none_reference : (byte : ℕ) (v : Value) → HasNone (tree_of v) → HasNone (tree_of (reference_to byte v))
-unfolding reference_to tree_of is_generic
+unfolding reference_to tree_of is_open
 none_reference byte v g = go (nat_eq byte 82)
   where
     go : (b : Bool) → HasNone (cond b (lvalue (tree_of v)) (rvalue (tree_of v)))
@@ -108,19 +108,19 @@ none_reference byte v g = go (nat_eq byte 82)
     go false = g
 
 none_signature_or : (ref : RefQualifier) (v : Value) → HasNone (held v) → HasNone (held (signature_or ref v))
-unfolding signature_or held is_generic
+unfolding signature_or held is_open
 none_signature_or ref nothing_there g = refl
 none_signature_or ref (letter b) g = g
 none_signature_or ref v g = g
 
 none_operator : (first : ℕ) (v : Value) → HasNone (held v) → HasNone (held (operator_or_literal first v))
-unfolding operator_or_literal held is_generic
+unfolding operator_or_literal held is_open
 none_operator first (letter second) g = refl
 none_operator first nothing_there g = g
 none_operator first v g = g
 
-none_encoding : (v : Value) (items : Term) → HasNone (encoding_of v items)
-unfolding encoding_of is_generic
+pub none_encoding : (v : Value) (items : Term) → HasNone (encoding_of v items)
+unfolding encoding_of is_open
 none_encoding v (list a b) = go (has_return_type (tree_of v))
   where
     go : (r : Bool) → HasNone (elim r [
@@ -140,11 +140,15 @@ none_name : (vs : List Value) → AllNone vs → HasNone (applied (tree_of (part
 none_name vs all = none_applied _ (part vs 1) (none_part vs 0 all) (none_part vs 1 all)
 
 none_default_entity : (vs : List Value) → AllNone vs → HasNone (held (default_entity (text_of (part vs 0)) (part vs 1)))
-unfolding default_entity held is_generic
+unfolding default_entity held is_open
 none_default_entity vs all = none_part vs 1 all
 
+-- the parameters of a lambda
+pub none_signature : (vs : List Value) → AllNone vs → HasNone (parameters (list (tree_of (part vs 0)) (no_items (part vs 1))))
+none_signature vs all = none_parameters (list (tree_of (part vs 0)) (no_items (part vs 1))) (none_pair vs 0 1 all)
+
 pub meaning_none : (production : Production) (byte : ℕ) (around : Around) (vs : List Value) → PrefixHasNone around.prefix → AllNone vs → HasNone (held (meaning production byte around vs))
-unfolding meaning held tree_of is_generic listed_value qualified_by function_of with_item
+unfolding meaning held tree_of is_open listed_value qualified_by function_of with_item
 meaning_none Production.Encoding byte around vs pre all = none_encoding (part vs 0) (no_items (part vs 1))
 meaning_none Production.Special byte around vs pre all = none_held vs 0 all
 meaning_none Production.OtherSpecial byte around vs pre all = none_held vs 1 all
@@ -186,6 +190,7 @@ meaning_none Production.NestEnd byte around vs pre all = none_prefix around.pref
 meaning_none Production.StringLiteral byte around vs pre all = none_extended around.prefix string_literal pre refl
 meaning_none Production.NestedType byte around vs pre all = none_held vs 0 all
 meaning_none Production.Discriminator byte around vs pre all = none_held vs 0 all
+meaning_none Production.Lambda byte around vs pre all = none_signature vs all
 meaning_none Production.RestrictType byte around vs pre all = none_part vs 2 all
 meaning_none Production.VolatileType byte around vs pre all = none_part vs 1 all
 meaning_none Production.ConstType byte around vs pre all = none_part vs 0 all
