@@ -189,7 +189,7 @@ within own p around at state n g = record { values = all_where (Bare own around)
 -- with the values of any production
 pub goes_within : (own : Bool) (production : Production) (around : Around) (place : ℕ) (vs : List Value) (state : State) (n : Next Value State Around) (at : ℕ) → StaysInside production →
     GoodPrefix (Bare own around) around.prefix → AllGood (Within own production around) vs → between production around place vs state ≡ Ok n → Goes own (Within own production around) around at state n
-unfolding between is_lambda
+unfolding between is_lambda in_signature
 goes_within own Production.Lambda around place vs state n at stays pre all e =
     goes_by own (Within own Production.Lambda around) around at state vs (in_signature around) state n all (grows_same own around at state state refl) (fits_signature own around)
     (λ within. (refl, λ o. absurd (true≢false (within.1 o)))) e

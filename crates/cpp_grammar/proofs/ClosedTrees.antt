@@ -391,7 +391,7 @@ module _ (w : Way) (keeps : KeepsClosed w) where
   pub stepped : (rule : Open State Around) (vs : List Value) (at : ℕ) (state : State) (t : Tree) (f : Forest) (r : Found (List Value) State) (n : Next Value State Around) →
       w.between (production_at rule.rule.number) rule.context rule.place vs state ≡ Ok n → unfold_forest (reading_by w) rule vs at (grown t f) state ≡ Ok r → Stepped w rule n at t f r
   unfolding reading_by
-  stepped rule vs at state t f r n goes w.own e =
+  stepped rule vs at state t f r n goes e =
       let onward : Next Value State Around → Result (Found (List Value) State) Refusal =
       λ next. unfold_tree (reading_by w) next.context at t next.state >>= λ part. unfold_forest (reading_by w) rule (next.values ++ part.value) (at + length (spell t)) f part.state in
       let moved : onward n ≡ Ok r = sym (ap (λ x. x >>= onward) goes) ∙ e in
@@ -421,21 +421,21 @@ module _ (w : Way) (keeps : KeepsClosed w) where
   -- a production that begins an encoding, and has two parts in which nothing is named
   two_come : (p : Production) (x y : Sym) → IsSymbol either x → IsSymbol either y → is_encoding x ≡ false → is_encoding y ≡ false →
       ((around : Around) (at : ℕ) (vs : List Value) (state : State) → w.between p around at vs state ≡ Ok (nameless at vs state)) →
-      ((byte at : ℕ) (around : Around) (v w : Value) → Good (Bare w.own (in_name at)) (held w) → Good (Bare w.own around) (held (meaning p byte around (v ∷ w ∷ [])))) →
+      ((byte at : ℕ) (around : Around) (u v : Value) → Good (Bare w.own (in_name at)) (held v) → Good (Bare w.own around) (held (meaning p byte around (u ∷ v ∷ [])))) →
       (f : Forest) → AllTreesGood w f → (rule : Open State Around) (from : ℕ) (state : State) (r : Found (List Value) State) → production_at rule.rule.number ≡ p →
       AreTrees either (x ∷ y ∷ []) f → rule.context.encoding < rule.place → rule.place ≤ from → rule.place < from + length (spell_all f) → AllOld w.own rule.context rule.place state.candidates →
       unfold_forest (reading_by w) rule [] from f state ≡ Ok r → InnerComes w.own p rule.context (from + length (spell_all f)) state r
   unfolding reading_by nameless in_name
-  two_come p x y known_x known_y apart_x apart_y goes w.own means (grown t (grown u nothing)) all rule from state r is trees lt le more old e =
+  two_come p x y known_x known_y apart_x apart_y goes means (grown t (grown u nothing)) all rule from state r is trees lt le more old e =
       let around = rule.context in
       let at = rule.place in
-      let first = stepped rule [] from state t (grown u nothing) r (nameless at [] state) (ap (λ p. w.between p around at [] state) is ∙ goes w.own around at [] state) e in
+      let first = stepped rule [] from state t (grown u nothing) r (nameless at [] state) (ap (λ p. w.between p around at [] state) is ∙ goes around at [] state) e in
       let old0 = old_later w.own (in_name at) at from state.candidates le (old_inner w.own around at state.candidates lt old) in
       let c = name_comes t all.0 x at from state first.part known_x trees.0 apart_x le old0 first.is in
       let next = from + length (spell t) in
       let vs = c.value ∷ [] in
       let onward = subst (λ ws. unfold_forest (reading_by w) rule ws next (grown u nothing) first.part.state ≡ Ok r) c.is first.rest in
-      let second = stepped rule vs next first.part.state u nothing r (nameless at vs first.part.state) (ap (λ p. w.between p around at vs first.part.state) is ∙ goes w.own around at vs first.part.state) onward in
+      let second = stepped rule vs next first.part.state u nothing r (nameless at vs first.part.state) (ap (λ p. w.between p around at vs first.part.state) is ∙ goes around at vs first.part.state) onward in
       let old1 = old_grows w.own (in_name at) from next state first.part.state (omega arith) old0 c.grows in
       let d = name_comes u all.1.0 y at next first.part.state second.part known_y trees.1.0 apart_y (omega (arith, le)) old1 second.is in
       let same : found (c.value ∷ d.value ∷ []) second.part.state ≡ r = same_found vs second.part.value (d.value ∷ []) second.part.state r d.is second.rest in
@@ -447,17 +447,17 @@ module _ (w : Way) (keeps : KeepsClosed w) where
             (grows_then w.own (in_name at) next end state first.part.state second.part.state (omega (arith, length-append (spell t) (spell u ++ []))) c.grows
             (grows_on w.own (in_name at) (next + length (spell u)) end first.part.state second.part.state (omega (arith, length-append (spell t) (spell u ++ []), length-append (spell u) [])) d.grows));
       })
-  two_come p x y known_x known_y apart_x apart_y goes w.own means nothing all rule from state r is trees lt le more old e = absurd trees
-  two_come p x y known_x known_y apart_x apart_y goes w.own means (grown t nothing) all rule from state r is trees lt le more old e = absurd trees.1
-  two_come p x y known_x known_y apart_x apart_y goes w.own means (grown t (grown u (grown v f))) all rule from state r is trees lt le more old e = absurd trees.1.1
+  two_come p x y known_x known_y apart_x apart_y goes means nothing all rule from state r is trees lt le more old e = absurd trees
+  two_come p x y known_x known_y apart_x apart_y goes means (grown t nothing) all rule from state r is trees lt le more old e = absurd trees.1
+  two_come p x y known_x known_y apart_x apart_y goes means (grown t (grown u (grown v f))) all rule from state r is trees lt le more old e = absurd trees.1.1
 
   guard_comes : (f : Forest) → AllTreesGood w f → (rule : Open State Around) (from : ℕ) (state : State) (r : Found (List Value) State) → production_at rule.rule.number ≡ Production.Guard →
       AreTrees either (parts_of Production.Guard) f → rule.context.encoding < rule.place → rule.place ≤ from → rule.place < from + length (spell_all f) → AllOld w.own rule.context rule.place state.candidates →
       unfold_forest (reading_by w) rule [] from f state ≡ Ok r → InnerComes w.own Production.Guard rule.context (from + length (spell_all f)) state r
   unfolding differs parts_of number_of_kind between meaning held is_encoding nameless part is_open
   guard_comes = two_come Production.Guard (Byte 86) (OfKind COMPLETE_NAME) (lit≤ tt) (known 8 (lit≤ tt)) refl refl (keeps.plain.between Production.Guard refl)
-      (λ byte at around v w good.
-      let named = always w.own (Bare w.own around) at (tree_of w) (good_tree (Bare w.own (in_name at)) w good) in
+      (λ byte at around u v good.
+      let named = always w.own (Bare w.own around) at (tree_of v) (good_tree (Bare w.own (in_name at)) v good) in
       record { closed = λ h. refl; scopes = named.scopes })
 
   other_special_comes : (f : Forest) → AllTreesGood w f → (rule : Open State Around) (from : ℕ) (state : State) (r : Found (List Value) State) → production_at rule.rule.number ≡ Production.OtherSpecial →
@@ -465,7 +465,7 @@ module _ (w : Way) (keeps : KeepsClosed w) where
       unfold_forest (reading_by w) rule [] from f state ≡ Ok r → InnerComes w.own Production.OtherSpecial rule.context (from + length (spell_all f)) state r
   unfolding differs parts_of number_of_kind between meaning is_encoding nameless part
   other_special_comes = two_come Production.OtherSpecial (OfKind SPECIAL_MARK) (OfKind SPECIAL_AFTER_G) (known SPECIAL_MARK (lit≤ tt)) (known SPECIAL_AFTER_G (lit≤ tt)) refl refl (keeps.plain.between Production.OtherSpecial refl)
-      (λ byte at around v w good. always w.own (Bare w.own around) at (held w) good)
+      (λ byte at around u v good. always w.own (Bare w.own around) at (held v) good)
 
   encoding_comes : (f : Forest) → AllTreesGood w f → (rule : Open State Around) (from : ℕ) (state : State) (r : Found (List Value) State) → production_at rule.rule.number ≡ Production.Encoding →
       AreTrees either (parts_of Production.Encoding) f → rule.context.encoding < rule.place → rule.place ≤ from → rule.place < from + length (spell_all f) → AllOld w.own rule.context rule.place state.candidates →

@@ -93,16 +93,14 @@ indexed_weight (Some i) (pack elements) = omega (arith, element_weight elements 
 indexed_weight index t = omega arith
 
 argument_weight : (c : Context) (k : ℕ) → weight 0 None (argument c k) < 2 + scope_weight c.scope
-unfolding argument
+unfolding argument scope_weight weight
 argument_weight c k = go c.in_signature
   where
     scoped : (scope : Option Term) → weight 0 None (elim scope [ None ↦ absent | Some arguments ↦ indexed c.index (element arguments k) ]) < 2 + scope_weight scope
-    unfolding scope_weight weight
     scoped None = omega arith
     scoped (Some arguments) = omega (arith, indexed_weight c.index (element arguments k), element_weight arguments k)
 
     go : (b : Bool) → weight 0 None (elim b [ true ↦ auto | false ↦ elim c.scope [ None ↦ absent | Some arguments ↦ indexed c.index (element arguments k) ] ]) < 2 + scope_weight c.scope
-    unfolding weight
     go true = omega arith
     go false = scoped c.scope
 
@@ -119,10 +117,10 @@ abbrev Below : ℕ → Context → Term → Type 0
 Below r c t = weight_in c t < r
 
 piece_falls : (r : ℕ) (c : Context) (p : Term) → weight_in c p ≤ r → RanksBelow rank r (piece_parts c p)
-unfolding piece_parts rank rank_in weight_in weight
+unfolding piece_parts rank rank_in weight_in scope_weight weight
 piece_falls r c (source internal name) h = tt
 piece_falls r c (lambda parameters number) h = falls_append r (list_part first c parameters) _ (falls_first r c parameters (omega arith)) tt
-piece_falls r c (generic_lambda parameters number) h = falls_append r (list_part first (signature_in c) parameters) _ (falls_first r (signature_in c) parameters (omega (arith, h))) tt
+piece_falls r c (generic_lambda parameters number) h = falls_append r (list_part first (signature_in c) parameters) _ (falls_first r (signature_in c) parameters (let less : weight 0 None parameters < r = omega (arith, h) in less)) tt
 piece_falls r c (conversion t) h = (omega (arith, h), (omega (arith, h), tt))
 piece_falls r c _ h = tt
 
@@ -361,7 +359,7 @@ below_some i (Some m) e = ltb-true i m e
 below_count : (scope : Option Term) (index : Option ℕ) (in_signature : Bool) (t : Term) (i : ℕ) → is_below i (packs_of (record { scope = scope; index = index; in_signature = in_signature }) t) ≡ true → i < pack_count scope t
 unfolding packs_of pack_count is_below
 below_count None index in_signature t i e = absurd (false≢true e)
-below_count (Some arguments) index t i e = below_some i (pack_length arguments t) e
+below_count (Some arguments) index in_signature t i e = below_some i (pack_length arguments t) e
 
 rest_falls : (c : Context) (t : Term) (i : ℕ) → RanksBelow rank (rank_in c (expand i) t) (expand_rest c t (i + 1))
 unfolding rank_in expand_rest rank

@@ -223,7 +223,7 @@ between_none Production.TaggedStdType around place (v ∷ []) state settled all 
 between_none Production.AbbreviatedName around place (v ∷ []) state settled all cs = named_none around (tree_of v) true [] state settled (λ l. none_tree v (all l).0) (λ l. tt) cs
 between_none Production.NestStd around place (v ∷ []) state settled all cs = named_none around (in_std (piece_of v)) false [] state settled (λ l. none_piece v (all l).0) (λ l. tt) cs
 between_none Production.NestStd around place (v ∷ w ∷ []) state settled all cs =
-    named_none around (applied (tree_of v) w) false (w ∷ []) state settled (none_applied (tree_of v) w (λ l. none_tree v (all l).0) (none_tree w all.1.0)) all.1 cs
+    named_none around (applied (tree_of v) w) false (w ∷ []) state settled (λ l. none_applied (tree_of v) w (none_tree v (all l).0) (none_tree w (all l).1.0)) (λ l. (all l).1) cs
 between_none Production.NestAbbreviated around place (v ∷ []) state settled all cs = named_none around (tree_of v) true [] state settled (λ l. none_tree v (all l).0) (λ l. tt) cs
 between_none Production.NestTemplate around place (v ∷ []) state settled all cs = named_none around (tree_of v) true [] state settled (λ l. none_tree v (all l).0) (λ l. tt) cs
 between_none Production.NestParameter around place (v ∷ []) state settled all cs = parameter_none around place (index_of v) state settled cs
@@ -266,7 +266,7 @@ between_none _ around place vs state settled all cs = record { inside = λ l. l;
 
 -- what an encoding stands for is closed, and what else stands for something closed in a signature
 means_none : (p : Production) (byte : ℕ) (around : Around) (vs : List Value) → Settled around → (are_closed p around ≡ true → AllNone vs) → around.in_lambda ≡ true → HasNone (held (meaning p byte around vs))
-unfolding are_closed is_shut opens
+unfolding are_closed is_shut opens meaning held is_open
 means_none Production.Encoding byte around vs settled all l = none_encoding (part vs 0) (no_items (part vs 1))
 means_none Production.Guard byte around vs settled all l = refl
 means_none Production.Special byte around vs settled all l = meaning_none Production.Special byte around vs (settled.prefix l) (all refl)
@@ -406,7 +406,7 @@ unfolding are_closed is_shut close close_wide unfolding_.behind
 close_stays Production.Substitution byte around place began vs state r settled all cs e = substituted_stays around (place - 1) (counted_value Seq36 (text_of (part vs 0))) state r cs e
 close_stays Production.Lambda byte around place began vs state r settled all cs e =
     closed_stays Production.Lambda byte around began vs state r settled all cs e (Ok (found (with_own (meaning Production.Lambda byte around vs)) state))
-    (ap (λ v. Ok {T = Found Value State} (found v state)) (lambda_stays around byte vs (all refl)) ∙ e)
+    (let said : Value → Result (Found Value State) Refusal = λ v. Ok (found v state) in ap said (lambda_stays around byte vs (all refl)) ∙ e)
 close_stays p byte around place began vs state r settled all cs e = closed_stays p byte around began vs state r settled all cs e (close p byte around place began vs state) e
 
 -- ## Trees
@@ -466,11 +466,11 @@ second_of_both false y h = absurd (false≢true h)
 picked_special : (all : List Alternative) (byte : ℕ) (p : Production) → make_special all ≡ true → pick all byte ≡ Some p → makes_special p ≡ true
 unfolding pick make_special
 picked_special [] byte p h e = absurd cc
-picked_special (a ∷ rest) byte p h e = go (is_in a byte) e
+picked_special (a ∷ rest) byte p h e = go (λ i. picked_special rest byte p (second_of_both (makes_special a.production) (make_special rest) h) i) (is_in a byte) e
   where
-    go : (b : Bool) → cond b (Some a.production) (pick rest byte) ≡ Some p → makes_special p ≡ true
-    go true i = let same : a.production ≡ p = cc in sym (ap makes_special same) ∙ first_of_both (makes_special a.production) (make_special rest) h
-    go false i = picked_special rest byte p (second_of_both (makes_special a.production) (make_special rest) h) i
+    go : (pick rest byte ≡ Some p → makes_special p ≡ true) → (b : Bool) → cond b (Some a.production) (pick rest byte) ≡ Some p → makes_special p ≡ true
+    go later true i = let same : a.production ≡ p = cc in sym (ap makes_special same) ∙ first_of_both (makes_special a.production) (make_special rest) h
+    go later false i = later i
 
 implied : (a b : Bool) → not a || b ≡ true → a ≡ true → b ≡ true
 implied true b h k = h
@@ -526,7 +526,7 @@ mutual
 
   tree_stays : (t : Tree) (x : Sym) (around : Around) (place : ℕ) (state : State) (r : Found (List Value) State) → IsSymbol either x → IsTree either x t → Settled around → AllHaveNone state.candidates →
       unfold_tree cpp around place t state ≡ Ok r → Stays (is_special x || around.in_lambda) (unfold_tree cpp_wide around place t state) r
-  tree_stays (branch rule taken parts) (OfKind k) around place state r lt tree settled cs e =
+  tree_stays (branch rule taken parts) (OfKind k) around place state r lt is settled cs e =
       let whole = standing rule taken place around state in
       let p = production_at rule.number in
       let from = place + length taken in
@@ -535,26 +535,29 @@ mutual
       let inner = behind_bind (unfold_forest cpp whole [] from parts begun.value) (λ inner. close p (byte_of taken) around place state inner.value inner.state >>= alone) r begun.next in
       let ended = behind_bind (close p (byte_of taken) around place state inner.value.value inner.value.state) alone r inner.next in
       let one = ended.value in
-      let took = taken_rule k rule taken lt tree.0 in
+      let took = taken_rule k rule taken lt is.0 in
       let number : p ≡ took.production = ap (λ x. production_at x.number) took.is ∙ at_number took.production in
       let specials : has_specials p ≡ true → are_special (symbols_of rule) ≡ true =
-          λ h. ap are_special (ap symbols_of took.is ∙ its_symbols took.production) ∙ implied (has_specials took.production) (are_special (parts_of took.production)) (special_parts took.production) (sym (ap has_specials number) ∙ h) in
-      let symbols = either_sound.symbols k tree.0.byte rule lt tree.0.is_byte tree.0.found in
-      let forest = forest_stays parts whole (symbols_of rule) [] from begun.value inner.value symbols tree.1 specials settled (λ l. tt) (subst (λ s. AllHaveNone s.candidates) (sym kept) cs) inner.is in
+      λ h. ap are_special (ap symbols_of took.is ∙ its_symbols took.production) ∙ implied (has_specials took.production) (are_special (parts_of took.production)) (special_parts took.production) (sym (ap has_specials number) ∙ h) in
+      let symbols = either_sound.symbols k is.0.byte rule lt is.0.is_byte is.0.found in
+      let forest = forest_stays parts whole (symbols_of rule) [] from begun.value inner.value symbols is.1 specials settled (λ l. tt) (subst (λ s. AllHaveNone s.candidates) (sym kept) cs) inner.is in
       let closes = close_stays p (byte_of taken) around place state inner.value.value inner.value.state one settled forest.values forest.candidates ended.is in
       let same : found (one.value ∷ []) one.state ≡ r = ok_same (found (one.value ∷ []) one.state) r ended.next in
       record {
         is = then_ok (opening p parts place state) (λ begun. unfold_forest cpp_wide whole [] from parts begun >>= λ inner. close_wide p (byte_of taken) around place state inner.value inner.state >>= alone) begun.value r begun.is
             (then_ok (unfold_forest cpp_wide whole [] from parts begun.value) (λ inner. close_wide p (byte_of taken) around place state inner.value inner.state >>= alone) inner.value r forest.is
             (then_ok (close_wide p (byte_of taken) around place state inner.value.value inner.value.state) alone one r closes.is ended.next));
-        values = λ l. subst (λ x. AllNone x.value) same (closed_or (is_special (OfKind k)) around.in_lambda one.value l
-            (λ s. special_closes p (byte_of taken) around place state inner.value.value inner.value.state one (special_taken k rule taken lt tree.0 s) ended.is) closes.value, tt);
+        values = λ l. subst (λ x. AllNone x.value) same (
+          closed_or (is_special (OfKind k)) around.in_lambda one.value l
+              (λ s. special_closes p (byte_of taken) around place state inner.value.value inner.value.state one (special_taken k rule taken lt is.0 s) ended.is) closes.value,
+          tt,
+        );
         candidates = subst (λ x. AllHaveNone x.state.candidates) same closes.candidates;
       }
-  tree_stays (branch rule taken parts) _ around place state r lt tree settled cs e = absurd tree
-  tree_stays empty x around place state r lt tree settled cs e = leaf_stays (is_special x || around.in_lambda) nothing_there state r refl cs e
-  tree_stays (token t) x around place state r lt tree settled cs e = leaf_stays (is_special x || around.in_lambda) (text t.own) state r refl cs e
-  tree_stays (fixed byte) x around place state r lt tree settled cs e = leaf_stays (is_special x || around.in_lambda) nothing_there state r refl cs e
+  tree_stays (branch rule taken parts) _ around place state r lt is settled cs e = absurd is
+  tree_stays empty x around place state r lt is settled cs e = leaf_stays (is_special x || around.in_lambda) nothing_there state r refl cs e
+  tree_stays (token t) x around place state r lt is settled cs e = leaf_stays (is_special x || around.in_lambda) (text t.own) state r refl cs e
+  tree_stays (fixed byte) x around place state r lt is settled cs e = leaf_stays (is_special x || around.in_lambda) nothing_there state r refl cs e
 
   forest_stays : (f : Forest) (rule : Open State Around) (xs : List Sym) (vs : List Value) (place : ℕ) (state : State) (r : Found (List Value) State) → AreSymbols either xs → AreTrees either xs f →
       (has_specials (production_at rule.rule.number) ≡ true → are_special xs ≡ true) → Settled rule.context → (are_closed (production_at rule.rule.number) rule.context ≡ true → AllNone vs) → AllHaveNone state.candidates →
@@ -573,9 +576,9 @@ mutual
       let part_ = comes.value in
       let tree_ = tree_stays t x n.context place n.state part_ symbols.0 trees.0 next.context next.candidates comes.is in
       let inside_ : are_closed p rule.context ≡ true → (is_special x || n.context.in_lambda) ≡ true =
-          λ l. special_or (has_specials p) (is_special x) n.context.in_lambda (λ h. first_of_both (is_special x) (are_special xs) (specials h)) (next.inside l) in
+      λ l. special_or (has_specials p) (is_special x) n.context.in_lambda (λ h. first_of_both (is_special x) (are_special xs) (specials h)) (next.inside l) in
       let rest = forest_stays f rule xs (n.values ++ part_.value) later part_.state r symbols.1 trees.1 (λ h. second_of_both (is_special x) (are_special xs) (specials h)) settled
-          (λ l. all_then n.values part_.value (next.values l) (tree_.values (inside_ l))) tree_.candidates comes.next in
+      (λ l. all_then n.values part_.value (next.values l) (tree_.values (inside_ l))) tree_.candidates comes.next in
       record {
         is = then_ok (between_wide p rule.context rule.place vs state) (λ next. unfold_tree cpp_wide next.context place t next.state >>= λ part. unfold_forest cpp_wide rule (next.values ++ part.value) later f part.state) n r
             (between_stays p rule.context rule.place vs state n settled goes.is)
@@ -587,7 +590,7 @@ mutual
 -- A tree that a symbol stands for by the ABI's grammar it stands for by the wide one.
 pub meaning_stays : (shape : Tree) (t : Term) → IsTree either (OfKind SYMBOL) shape → unfold_cpp shape ≡ Ok t → unfold_wide shape ≡ Ok t
 unfolding unfold_cpp unfold_wide first_around first_state
-meaning_stays shape t tree e =
+meaning_stays shape t is e =
     let whole = behind_bind (unfold_tree cpp first_around 0 shape first_state) (λ whole. Ok (first_tree whole.value)) t e in
-    let stays = tree_stays shape (OfKind SYMBOL) first_around 0 first_state whole.value (known 0 (lit≤ tt)) tree (record { prefix = λ l. absurd (false≢true l); bare = λ h. absurd (false≢true h) }) tt whole.is in
+    let stays = tree_stays shape (OfKind SYMBOL) first_around 0 first_state whole.value (known 0 (lit≤ tt)) is (record { prefix = λ l. absurd (false≢true l); bare = λ h. absurd (false≢true h) }) tt whole.is in
     then_ok (unfold_tree cpp_wide first_around 0 shape first_state) (λ whole. Ok (first_tree whole.value)) whole.value t stays.is whole.next
