@@ -94,11 +94,11 @@ def rebuilt(function, before, closed, carried, special={}):
     return [l.replace("(parameter k)", "(parameter k argument)") for l in lines] if carried else lines
 
 ANNOTATED_FUNCTION = """
-    term_.function (annotate None name) q ref (annotate (scope_.arguments_of (annotate None name)) returned) (annotate (scope_.arguments_of (annotate None name)) parameters)"""
+    term_.function (annotate nowhere name) q ref (annotate (place_of (scope_.arguments_of (annotate nowhere name))) returned) (annotate (place_of (scope_.arguments_of (annotate nowhere name))) parameters)"""
 
 def erased():
-    within = "(erased (scope_.arguments_of (annotate None name))"
-    special = {"function": f"three (λ a b c. function a q ref b c) (erased None name) {within} returned) {within} parameters)"}
+    within = "(erased (place_of (scope_.arguments_of (annotate nowhere name)))"
+    special = {"function": f"three (λ a b c. function a q ref b c) (erased nowhere name) {within} returned) {within} parameters)"}
     def right(tree):
         if tree[0] in special: return special[tree[0]]
         subtrees = arguments(tree, *SUBTREES)
@@ -106,7 +106,7 @@ def erased():
         letters = {name: "ab"[i] for i, (name, sort) in enumerate(subtrees)}
         body = applied(tree[0], [letters.get(name, name) for name, sort in tree[1:]])
         return applied("ap" if len(subtrees) == 1 else "both", [f"(λ {' '.join(letters.values())}. {body})",
-            *[f"(erased {'None' if sort in (OWN, OUTSIDE) else 's'} {name})" for name, sort in subtrees]])
+            *[f"(erased {'nowhere' if sort in (OWN, OUTSIDE) else 'in_own' if sort == SIGNATURE else 's'} {name})" for name, sort in subtrees]])
     return cases("erased", ["s"], [], right, "refl")
 
 def summed(first): return lambda parts: " + ".join([first, *parts])
@@ -135,7 +135,7 @@ def closed_noted():
         subtrees = arguments(tree, *SCOPED)
         if not subtrees: return None
         constructor = "term_." + tree[0]
-        def argument(name, sort): return name if sort not in (OWN, OUTSIDE) else f"(annotate None {name})"
+        def argument(name, sort): return name if sort not in (OWN, OUTSIDE) else f"(annotate nowhere {name})"
         front, behind, seen = [], [], False
         for name, sort in tree[1:]:
             if sort in SCOPED: seen = True
@@ -262,7 +262,7 @@ def erase_reargued():
         subtrees = [name for name, sort in arguments(tree, *SCOPED)]
         if not subtrees: return None
         letters = dict(zip(subtrees, "xy"))
-        body = applied("term_." + tree[0], [letters.get(name, name) if sort not in (OWN, OUTSIDE) else f"(erase {name})" for name, sort in tree[1:]])
+        body = applied("term_." + tree[0], [letters.get(name, name) if sort not in APART else f"(erase {name})" for name, sort in tree[1:]])
         return applied("ap" if len(subtrees) == 1 else "both", [f"(λ {' '.join(letters.values())}. {body})", *[f"(erase_reargued c {name})" for name in subtrees]])
     return cases("erase_reargued", ["c"], [], right, "refl")
 
@@ -529,7 +529,8 @@ def declarations():
     yield "cpp_press_laws/proofs/Fits/Packs.antt", "closed-packs", closed_packs()
     yield "cpp_press/proofs/Open.antt", "open-erased", open_erased()
     yield "cpp_term/specs/Erased.antt", "erase", rebuilt("erase", [], [], True)
-    yield "cpp_term/specs/Annotated.antt", "annotate", rebuilt("annotate", ["s"], ["None"], False, {"function": ANNOTATED_FUNCTION, "parameter": "term_.parameter k (argument_in s k)"})
+    yield "cpp_term/specs/Annotated.antt", "annotate", rebuilt("annotate", ["s"], ["nowhere"], False, {"function": ANNOTATED_FUNCTION, "parameter": "term_.parameter k (argument_in s k)",
+        "generic_lambda": "term_.generic_lambda (annotate in_own parameters) number"})
     yield "cpp_term/proofs/Erasing.antt", "erased", erased()
     yield "cpp_grammar/specs/Ranks.antt", "weight", weight_of_scopes()
     yield "cpp_grammar/proofs/RanksFall.antt", "weight_grows", weight_grows()
@@ -561,7 +562,7 @@ def declarations():
     yield "cpp_term/proofs/Notes.antt", "closed_noted", closed_noted()
     yield "cpp_term/proofs/Notes.antt", "pack_none", fold("pack_none", [], both_by("first_of"), "refl", {"parameter": "refl", **no_expansion}, SCOPED)
     yield "cpp_term/proofs/Notes.antt", "pack_some", fold("pack_some", ["all"], both_by("first_of"), "refl",
-        {"parameter": "ap scope_.length_if_pack (element_noted None all k) ∙ length_noted None (element all k)", **no_expansion}, SCOPED)
+        {"parameter": "ap scope_.length_if_pack (element_noted nowhere all k) ∙ length_noted nowhere (element all k)", **no_expansion}, SCOPED)
 
 def both_free(parts): return parts[0] if len(parts) == 1 else applied("both_free", [f"({p})" for p in parts])
 

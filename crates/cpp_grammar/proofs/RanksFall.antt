@@ -94,15 +94,16 @@ indexed_weight index t = omega arith
 
 argument_weight : (c : Context) (k : ℕ) → weight 0 None (argument c k) < 2 + scope_weight c.scope
 unfolding argument scope_weight weight
-argument_weight c k = go c.in_signature
+argument_weight c k = scoped c.scope
   where
-    scoped : (scope : Option Term) → weight 0 None (elim scope [ None ↦ absent | Some arguments ↦ indexed c.index (element arguments k) ]) < 2 + scope_weight scope
-    scoped None = omega arith
-    scoped (Some arguments) = omega (arith, indexed_weight c.index (element arguments k), element_weight arguments k)
+    alone_ : (b : Bool) → weight 0 None (elim b [ true ↦ auto | false ↦ absent ]) < 2
+    alone_ true = omega arith
+    alone_ false = omega arith
 
-    go : (b : Bool) → weight 0 None (elim b [ true ↦ auto | false ↦ elim c.scope [ None ↦ absent | Some arguments ↦ indexed c.index (element arguments k) ] ]) < 2 + scope_weight c.scope
-    go true = omega arith
-    go false = scoped c.scope
+    scoped : (scope : Option Term) →
+        weight 0 None (elim scope [ None ↦ elim c.in_signature [ true ↦ auto | false ↦ absent ] | Some arguments ↦ indexed c.index (element arguments k) ]) < 2 + scope_weight scope
+    scoped None = alone_ c.in_signature
+    scoped (Some arguments) = omega (arith, indexed_weight c.index (element arguments k), element_weight arguments k)
 
 arguments_weight : (name : Term) → scope_weight (arguments_of name) ≤ weight 0 None name
 unfolding arguments_of scope_weight weight

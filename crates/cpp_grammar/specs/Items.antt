@@ -54,9 +54,9 @@ auto = builtin (68 ∷ 97 ∷ [])
 
 -- the argument that a parameter stands for; in a tree of a symbol each parameter has one
 unfoldable pub argument : Context → ℕ → Term
-argument context k = elim context.in_signature [
-  | true ↦ auto
-  | false ↦ elim context.scope [ None ↦ absent | Some arguments ↦ indexed context.index (element arguments k) ]
+argument context k = elim context.scope [
+  | None ↦ elim context.in_signature [ true ↦ auto | false ↦ absent ]
+  | Some arguments ↦ indexed context.index (element arguments k)
 ]
 
 pub data Head : Type 0 where

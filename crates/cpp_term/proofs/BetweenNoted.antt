@@ -70,7 +70,7 @@ parameter_goes around x y place k packs =
     (λ s. between_.listed_so_far (noted_around around) (term_.parameter k (argument_in (noted_scope around.scope) k)) [] s)
     (parameter_noted around place k x y packs) (λ a b h m. named_goes around x a y b (parameter k) (term_.parameter k (argument_in (noted_scope around.scope) k)) true [] [] refl refl m)
 
-index_noted : (s : Option term_.Term) (v : Value) → between_.index_of (noted_value s v) ≡ index_of v
+index_noted : (s : Place) (v : Value) → between_.index_of (noted_value s v) ≡ index_of v
 unfolding between_.index_of index_of
 index_noted s v = ap (counted_value Decimal) (text_noted s v)
 
@@ -113,7 +113,7 @@ listed_goes around x y v packs = record {
   scope = inl (refl, refl);
 }
 
-tag_noted : (s : Option term_.Term) (t : Term) (u : term_.Term) (tag other : List ℕ) → u ≡ annotate s t → other ≡ tag → between_.with_tag u other ≡ annotate s (with_tag t tag)
+tag_noted : (s : Place) (t : Term) (u : term_.Term) (tag other : List ℕ) → u ≡ annotate s t → other ≡ tag → between_.with_tag u other ≡ annotate s (with_tag t tag)
 unfolding between_.with_tag with_tag annotate
 tag_noted s t u tag other is same = rw (is, same) (ap (λ b. term_.tagged b (annotate s t) tag) (structor_noted s t))
 
@@ -260,7 +260,7 @@ here_goes : (around : Around) (x : State) (y : value_.State) (place : ℕ) (v : 
 unfolding parameter_here wide_.parameter_here noted_around
 here_goes around x y place v packs = go around.in_lambda
   where
-    s : Option term_.Term
+    s : Place
     s = noted_scope around.scope
 
     go : (b : Bool) → Alike (Goes around x y)

@@ -73,7 +73,7 @@ all_outer around inner end (c ∷ cs) (d ∷ ds) e i new all = (one i, all_outer
       by = all.0.by;
       like = all.0.like;
       closed = all.0.closed;
-      here = λ h f. all.0.closed (closed_here bare.0 h) ∙ closed_noted None (noted_scope around.scope) c.tree (closed_here bare.0 h);
+      here = λ h f. all.0.closed (closed_here bare.0 h) ∙ closed_noted nowhere (noted_scope around.scope) c.tree (closed_here bare.0 h);
     }
 all_outer around inner end [] (d ∷ ds) e i new all = absurd all
 all_outer around inner end (c ∷ cs) [] e i new all = absurd all
@@ -93,12 +93,12 @@ moves_outer around inner end x later y noted e i grows m = record {
 
 -- ## Values
 
-pub values_append : (s : Option term_.Term) (vs ws : List Value) → noted_values s (vs ++ ws) ≡ noted_values s vs ++ noted_values s ws
+pub values_append : (s : Place) (vs ws : List Value) → noted_values s (vs ++ ws) ≡ noted_values s vs ++ noted_values s ws
 unfolding noted_values
 values_append s [] ws = refl
 values_append s (v ∷ vs) ws = ap (λ us. noted_value s v ∷ us) (values_append s vs ws)
 
-pub value_closed : (s r : Option term_.Term) (v : Value) → is_open (held v) ≡ false → noted_value s v ≡ noted_value r v
+pub value_closed : (s r : Place) (v : Value) → is_open (held v) ≡ false → noted_value s v ≡ noted_value r v
 unfolding noted_value held
 value_closed s r (leaf_.piece p) h = ap value_.piece (closed_noted s r p h)
 value_closed s r (leaf_.tree t listed) h = ap (λ u. value_.tree u listed) (closed_noted s r t h)

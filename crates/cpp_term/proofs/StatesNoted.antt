@@ -44,7 +44,7 @@ pub record IsNoted (around : Around) (c : Candidate) (d : value_.Candidate) : Ty
   -- the scope by which it was annotated
   pub by : Option term_.Term
   pub like : d.tree ≡ annotate by c.tree
-  pub closed : is_open c.tree ≡ false → d.tree ≡ annotate None c.tree
+  pub closed : is_open c.tree ≡ false → d.tree ≡ annotate nowhere c.tree
   pub here : c.encoding ≡ around.encoding → around.in_lambda ≡ false → d.tree ≡ annotate (noted_scope around.scope) c.tree
 
 abbrev pub AllNoted : Around → List Candidate → List value_.Candidate → Type 0
@@ -99,13 +99,13 @@ one_moves around t u x y packs is = record {
   others = record { tree = u; encoding = around.encoding } ∷ [];
   is = refl;
   so = refl;
-  each = (record { encoding = refl; by = noted_scope around.scope; like = is; closed = λ h. is ∙ closed_noted (noted_scope around.scope) None t h; here = λ e f. is }, tt);
+  each = (record { encoding = refl; by = noted_scope around.scope; like = is; closed = λ h. is ∙ closed_noted (noted_scope around.scope) nowhere t h; here = λ e f. is }, tt);
   packs = packs;
 }
 
 -- ## Types and prefixes
 
-function_type_noted : (s : Option term_.Term) (t : Term) → noted_.is_function_type (annotate s t) ≡ is_function_type t
+function_type_noted : (s : Place) (t : Term) → noted_.is_function_type (annotate s t) ≡ is_function_type t
 unfolding noted_.is_function_type is_function_type annotate
 function_type_noted s (function_type c_linkage noexcept ref returned parameters) = refl
 function_type_noted s _ = refl
@@ -197,7 +197,7 @@ noted_here : (around : Around) (c : Candidate) (d : value_.Candidate) → IsNote
 noted_here around c d n e = go (is_open c.tree) around.in_lambda (nat_eq c.encoding around.encoding) refl refl refl e
   where
     go : (o l same : Bool) → is_open c.tree ≡ o → around.in_lambda ≡ l → nat_eq c.encoding around.encoding ≡ same → (o && (l || not same)) ≡ false → d.tree ≡ annotate (noted_scope around.scope) c.tree
-    go false l same is-open is-lambda is-same h = n.closed is-open ∙ closed_noted None (noted_scope around.scope) c.tree is-open
+    go false l same is-open is-lambda is-same h = n.closed is-open ∙ closed_noted nowhere (noted_scope around.scope) c.tree is-open
     go true true same is-open is-lambda is-same h = absurd cc
     go true false false is-open is-lambda is-same h = absurd cc
     go true false true is-open is-lambda is-same h = n.here (eqb-true c.encoding around.encoding is-same) is-lambda
@@ -212,7 +212,7 @@ substituted_noted around place (Some c) (Some d) x y packs n =
     go (is_open c.tree && (around.in_lambda || not (nat_eq c.encoding around.encoding))) (scope_.is_open d.tree && (around.in_lambda || not (nat_eq d.encoding around.encoding)))
     (both (λ a k. a && (around.in_lambda || not (nat_eq k around.encoding))) (ap scope_.is_open n.like ∙ open_noted n.by c.tree) n.encoding) refl
   where
-    s : Option term_.Term
+    s : Place
     s = noted_scope around.scope
 
     onward : (m k : Option ℕ) → k ≡ m → d.tree ≡ annotate s c.tree → Alike (Comes around x y)
@@ -230,7 +230,7 @@ substituted_noted around place (Some c) (Some d) x y packs n =
     go true false f h = absurd cc
     go false true f h = absurd cc
 
-pub named_here : (around : Around) (k : ℕ) (arguments : Term) → around.scope ≡ Some arguments → term_.parameter k (scope_.element (annotate None arguments) k) ≡ annotate (noted_scope around.scope) (parameter k)
+pub named_here : (around : Around) (k : ℕ) (arguments : Term) → around.scope ≡ Some arguments → term_.parameter k (scope_.element (annotate nowhere arguments) k) ≡ annotate (noted_scope around.scope) (parameter k)
 unfolding annotate argument_in noted_scope
 named_here around k arguments scope = ap (λ o. annotate (noted_scope o) (parameter k)) (sym scope)
 
@@ -252,12 +252,12 @@ parameter_noted around place k x y packs = go around.scope refl
         (elim b [ false ↦ Err (BadReference place) | true ↦ with_packs place around.in_expansion (length_if_pack (element arguments k)) x >>= λ z. Ok (appended around (parameter k) z) ])
         (elim c [
           | false ↦ Err (BadReference place)
-          | true ↦ noted_.with_packs place around.in_expansion (scope_.length_if_pack (scope_.element (annotate None arguments) k)) y
-              >>= λ z. Ok (noted_.appended (noted_around around) (term_.parameter k (scope_.element (annotate None arguments) k)) z)
+          | true ↦ noted_.with_packs place around.in_expansion (scope_.length_if_pack (scope_.element (annotate nowhere arguments) k)) y
+              >>= λ z. Ok (noted_.appended (noted_around around) (term_.parameter k (scope_.element (annotate nowhere arguments) k)) z)
         ])
     tested arguments scope false false f = refl
-    tested arguments scope true true f = onward arguments scope (length_if_pack (element arguments k)) (scope_.length_if_pack (scope_.element (annotate None arguments) k))
-        (ap scope_.length_if_pack (element_noted None arguments k) ∙ length_noted None (element arguments k)) (term_.parameter k (scope_.element (annotate None arguments) k)) (named_here around k arguments scope)
+    tested arguments scope true true f = onward arguments scope (length_if_pack (element arguments k)) (scope_.length_if_pack (scope_.element (annotate nowhere arguments) k))
+        (ap scope_.length_if_pack (element_noted nowhere arguments k) ∙ length_noted nowhere (element arguments k)) (term_.parameter k (scope_.element (annotate nowhere arguments) k)) (named_here around k arguments scope)
     tested arguments scope true false f = absurd cc
     tested arguments scope false true f = absurd cc
 
@@ -275,7 +275,7 @@ parameter_noted around place k x y packs = go around.scope refl
           ]
         ])
     go None scope = refl
-    go (Some arguments) scope = tested arguments scope (nat_lt k (count arguments)) (nat_lt k (scope_.count (annotate None arguments))) (ap (nat_lt k) (count_noted None arguments))
+    go (Some arguments) scope = tested arguments scope (nat_lt k (count arguments)) (nat_lt k (scope_.count (annotate nowhere arguments))) (ap (nat_lt k) (count_noted nowhere arguments))
 
 -- ## The reading of the wide grammar
 
@@ -286,12 +286,12 @@ foreign_noted around c d n =
     (both (λ a k. a && (around.in_lambda || not (nat_eq k around.encoding))) (ap scope_.is_open n.like ∙ open_noted n.by c.tree) n.encoding)
     (ap (λ a. a && not around.in_lambda) (ap scope_.is_generic n.like ∙ generic_noted n.by c.tree))
 
-parameter_number_noted : (s : Option term_.Term) (t : Term) → wide_.number_of_parameter (annotate s t) ≡ number_of_parameter t
+parameter_number_noted : (s : Place) (t : Term) → wide_.number_of_parameter (annotate s t) ≡ number_of_parameter t
 unfolding wide_.number_of_parameter number_of_parameter annotate
 parameter_number_noted s (parameter k) = refl
 parameter_number_noted s _ = refl
 
-number_noted : (s : Option term_.Term) (t : Term) → wide_.number_behind_mark (annotate s t) ≡ number_behind_mark t
+number_noted : (s : Place) (t : Term) → wide_.number_behind_mark (annotate s t) ≡ number_behind_mark t
 unfolding wide_.number_behind_mark number_behind_mark annotate wide_.number_of_parameter number_of_parameter
 number_noted s (pointer t) = parameter_number_noted s t
 number_noted s (lvalue t) = parameter_number_noted s t
@@ -299,7 +299,7 @@ number_noted s (rvalue t) = parameter_number_noted s t
 number_noted s (qualified q t) = parameter_number_noted s t
 number_noted s _ = refl
 
-with_noted : (by s : Option term_.Term) (t other : Term) (noted : term_.Term) → noted ≡ annotate s other → wide_.with_parameter (annotate by t) noted ≡ annotate s (with_parameter t other)
+with_noted : (by s : Place) (t other : Term) (noted : term_.Term) → noted ≡ annotate s other → wide_.with_parameter (annotate by t) noted ≡ annotate s (with_parameter t other)
 unfolding wide_.with_parameter with_parameter annotate
 with_noted by s (pointer t) other noted e = ap term_.pointer e
 with_noted by s (lvalue t) other noted e = ap term_.lvalue e
@@ -307,7 +307,7 @@ with_noted by s (rvalue t) other noted e = ap term_.rvalue e
 with_noted by s (qualified q t) other noted e = ap (term_.qualified q) e
 with_noted by s _ other noted e = e
 
-in_scope_noted : (around : Around) (place : ℕ) (by : Option term_.Term) (t : Term) (k : ℕ) (x : State) (y : value_.State) → y.packs ≡ x.packs →
+in_scope_noted : (around : Around) (place : ℕ) (by : Place) (t : Term) (k : ℕ) (x : State) (y : value_.State) → y.packs ≡ x.packs →
     Alike (Comes around x y) (in_scope around place t k x) (wide_.in_scope (noted_around around) place (annotate by t) k y)
 unfolding in_scope wide_.in_scope noted_around noted_scope noted_value
 in_scope_noted around place by t k x y packs = go around.scope refl
@@ -327,14 +327,14 @@ in_scope_noted around place by t k x y packs = go around.scope refl
         ])
         (elim c [
           | false ↦ Err (BadReference place)
-          | true ↦ noted_.with_packs place around.in_expansion (scope_.length_if_pack (scope_.element (annotate None arguments) k)) y
-              >>= λ z. Ok (found (value_.tree (wide_.with_parameter (annotate by t) (term_.parameter k (scope_.element (annotate None arguments) k))) true) z)
+          | true ↦ noted_.with_packs place around.in_expansion (scope_.length_if_pack (scope_.element (annotate nowhere arguments) k)) y
+              >>= λ z. Ok (found (value_.tree (wide_.with_parameter (annotate by t) (term_.parameter k (scope_.element (annotate nowhere arguments) k))) true) z)
         ])
     tested arguments scope false false f = refl
-    tested arguments scope true true f = onward arguments scope (length_if_pack (element arguments k)) (scope_.length_if_pack (scope_.element (annotate None arguments) k))
-        (ap scope_.length_if_pack (element_noted None arguments k) ∙ length_noted None (element arguments k))
-        (wide_.with_parameter (annotate by t) (term_.parameter k (scope_.element (annotate None arguments) k)))
-        (with_noted by (noted_scope around.scope) t (parameter k) (term_.parameter k (scope_.element (annotate None arguments) k)) (named_here around k arguments scope))
+    tested arguments scope true true f = onward arguments scope (length_if_pack (element arguments k)) (scope_.length_if_pack (scope_.element (annotate nowhere arguments) k))
+        (ap scope_.length_if_pack (element_noted nowhere arguments k) ∙ length_noted nowhere (element arguments k))
+        (wide_.with_parameter (annotate by t) (term_.parameter k (scope_.element (annotate nowhere arguments) k)))
+        (with_noted by (noted_scope around.scope) t (parameter k) (term_.parameter k (scope_.element (annotate nowhere arguments) k)) (named_here around k arguments scope))
     tested arguments scope true false f = absurd cc
     tested arguments scope false true f = absurd cc
 
@@ -355,9 +355,9 @@ in_scope_noted around place by t k x y packs = go around.scope refl
           ]
         ])
     go None scope = refl
-    go (Some arguments) scope = tested arguments scope (nat_lt k (count arguments)) (nat_lt k (scope_.count (annotate None arguments))) (ap (nat_lt k) (count_noted None arguments))
+    go (Some arguments) scope = tested arguments scope (nat_lt k (count arguments)) (nat_lt k (scope_.count (annotate nowhere arguments))) (ap (nat_lt k) (count_noted nowhere arguments))
 
-restated_noted : (around : Around) (place : ℕ) (by : Option term_.Term) (t : Term) (x : State) (y : value_.State) → y.packs ≡ x.packs →
+restated_noted : (around : Around) (place : ℕ) (by : Place) (t : Term) (x : State) (y : value_.State) → y.packs ≡ x.packs →
     Alike (Comes around x y) (restated around place t x) (wide_.restated (noted_around around) place (annotate by t) y)
 unfolding restated wide_.restated noted_around noted_value annotate
 restated_noted around place by t x y packs = go (number_behind_mark t) (wide_.number_behind_mark (annotate by t)) (number_noted by t)

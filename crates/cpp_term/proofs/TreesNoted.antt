@@ -100,7 +100,7 @@ all_types at b name (c ∷ cs) (d ∷ ds) old all = (
     by = all.0.by;
     like = all.0.like;
     closed = all.0.closed;
-    here = λ h f. all.0.closed (old.0.closed refl refl h) ∙ closed_noted None (noted_scope (arguments_of name)) c.tree (old.0.closed refl refl h);
+    here = λ h f. all.0.closed (old.0.closed refl refl h) ∙ closed_noted nowhere (noted_scope (arguments_of name)) c.tree (old.0.closed refl refl h);
   },
   all_types at b name cs ds old.1 all.1,
 )
@@ -137,32 +137,32 @@ noted_nameless : (at : ℕ) → List value_.Value → value_.State → Next valu
 noted_nameless at vs state = record { context = between_.in_name at; values = vs; state = state }
 
 guard_made : (around : Around) (byte : ℕ) (v w : Value) →
-    noted_.meaning Production.Guard byte (noted_around around) (noted_value None v ∷ noted_value None w ∷ []) ≡ noted_value (noted_scope around.scope) (meaning Production.Guard byte around (v ∷ w ∷ []))
+    noted_.meaning Production.Guard byte (noted_around around) (noted_value nowhere v ∷ noted_value nowhere w ∷ []) ≡ noted_value (noted_scope around.scope) (meaning Production.Guard byte around (v ∷ w ∷ []))
 unfolding meaning noted_.meaning part value_.part noted_value annotate
-guard_made around byte v w = three_ (λ x q r. value_.tree (term_.of_name 86 x q r) true) (tree_noted None w) (qualifiers_noted None w) (ref_noted None w)
+guard_made around byte v w = three_ (λ x q r. value_.tree (term_.of_name 86 x q r) true) (tree_noted nowhere w) (qualifiers_noted None w) (ref_noted None w)
 
 encoding_made : (around : Around) (byte : ℕ) (v w : Value) →
-    noted_.meaning Production.Encoding byte (noted_around around) (noted_value None v ∷ noted_value (noted_scope (arguments_of (tree_of v))) w ∷ []) ≡ noted_value (noted_scope around.scope) (meaning Production.Encoding byte around (v ∷ w ∷ []))
+    noted_.meaning Production.Encoding byte (noted_around around) (noted_value nowhere v ∷ noted_value (noted_scope (arguments_of (tree_of v))) w ∷ []) ≡ noted_value (noted_scope around.scope) (meaning Production.Encoding byte around (v ∷ w ∷ []))
 unfolding meaning noted_.meaning part value_.part noted_value
 encoding_made around byte v w =
-    ap (λ t. value_.tree (noted_.encoding_of (noted_value None v) t) true) (items_noted (noted_scope (arguments_of (tree_of v))) w)
+    ap (λ t. value_.tree (noted_.encoding_of (noted_value nowhere v) t) true) (items_noted (noted_scope (arguments_of (tree_of v))) w)
     ∙ ap (λ t. value_.tree t true) (encoding_noted (noted_scope around.scope) v (no_items w))
 
-types_noted : (at : ℕ) (v : Value) → between_.in_types at (value_.tree_of (noted_value None v)) ≡ noted_around (in_types at (tree_of v))
+types_noted : (at : ℕ) (v : Value) → between_.in_types at (value_.tree_of (noted_value nowhere v)) ≡ noted_around (in_types at (tree_of v))
 unfolding between_.in_types in_types noted_around noted_prefix
-types_noted at v = ap (λ o. between_type at o) (ap scope_.arguments_of (tree_noted None v) ∙ scope_noted (tree_of v))
+types_noted at v = ap (λ o. between_type at o) (ap scope_.arguments_of (tree_noted nowhere v) ∙ scope_noted (tree_of v))
   where
     between_type : ℕ → Option term_.Term → value_.Around
     between_type at o = record { scope = o; encoding = at; in_lambda = false; in_expansion = false; prefix = value_.outermost }
 
 -- values of a name and of what follows it
-pair_noted : (s r : Option term_.Term) (vs : List Value) (us : List value_.Value) (ws : List Value) (zs : List value_.Value) (v w : Value) → vs ≡ v ∷ [] → ws ≡ w ∷ [] → us ≡ noted_values s vs → zs ≡ noted_values r ws →
+pair_noted : (s r : Place) (vs : List Value) (us : List value_.Value) (ws : List Value) (zs : List value_.Value) (v w : Value) → vs ≡ v ∷ [] → ws ≡ w ∷ [] → us ≡ noted_values s vs → zs ≡ noted_values r ws →
     us ++ zs ≡ noted_value s v ∷ noted_value r w ∷ []
 unfolding noted_values
 pair_noted s r vs us ws zs v w e g i j = both (λ a b. a ++ b) (i ∙ ap (noted_values s) e) (j ∙ ap (noted_values r) g)
 
 guard_means : (around : Around) (byte : ℕ) (vs : List Value) (us : List value_.Value) (ws : List Value) (zs : List value_.Value) (v w : Value) → vs ≡ v ∷ [] → ws ≡ w ∷ [] → is_open (tree_of w) ≡ false →
-    us ≡ noted_values None vs → zs ≡ noted_values None ws →
+    us ≡ noted_values nowhere vs → zs ≡ noted_values nowhere ws →
     noted_.meaning Production.Guard byte (noted_around around) (us ++ zs) ≡ noted_value (noted_scope around.scope) (meaning Production.Guard byte around (vs ++ ws))
 unfolding meaning noted_.meaning part value_.part noted_value annotate
 guard_means around byte vs us ws zs v w e g closed i j =
@@ -171,7 +171,7 @@ guard_means around byte vs us ws zs v w e g closed i j =
     ∙ sym (ap (λ xs. noted_value (noted_scope around.scope) (meaning Production.Guard byte around xs)) (both (λ a b. a ++ b) e g))
 
 encoding_means : (around : Around) (byte : ℕ) (vs : List Value) (us : List value_.Value) (ws : List Value) (zs : List value_.Value) (v w : Value) → vs ≡ v ∷ [] → ws ≡ w ∷ [] →
-    us ≡ noted_values None vs → zs ≡ noted_values (noted_scope (arguments_of (tree_of v))) ws →
+    us ≡ noted_values nowhere vs → zs ≡ noted_values (noted_scope (arguments_of (tree_of v))) ws →
     noted_.meaning Production.Encoding byte (noted_around around) (us ++ zs) ≡ noted_value (noted_scope around.scope) (meaning Production.Encoding byte around (vs ++ ws))
 encoding_means around byte vs us ws zs v w e g i j =
     ap (noted_.meaning Production.Encoding byte (noted_around around)) (pair_noted None (noted_scope (arguments_of (tree_of v))) vs us ws zs v w e g i j)
@@ -185,17 +185,17 @@ types_next rule v vs x is e =
     ap (λ p. between p rule.context rule.place vs x) is ∙ ap (λ ws. between Production.Encoding rule.context rule.place ws x) e
     ∙ sym (ap (λ ws. Ok (record { context = in_types rule.place (tree_of v); values = ws; state = x })) e)
 
-noted_types_next : (rule : Open State Around) (v : Value) (vs : List Value) (us : List value_.Value) (y : value_.State) → production_at rule.rule.number ≡ Production.Encoding → vs ≡ v ∷ [] → us ≡ noted_values None vs →
+noted_types_next : (rule : Open State Around) (v : Value) (vs : List Value) (us : List value_.Value) (y : value_.State) → production_at rule.rule.number ≡ Production.Encoding → vs ≡ v ∷ [] → us ≡ noted_values nowhere vs →
     between_.between (production_at rule.rule.number) (noted_around rule.context) rule.place us y ≡ Ok (record { context = noted_around (in_types rule.place (tree_of v)); values = us; state = y })
 unfolding between_.between noted_values
 noted_types_next rule v vs us y is e g =
-    let one : us ≡ noted_value None v ∷ [] = g ∙ ap (noted_values None) e in
+    let one : us ≡ noted_value nowhere v ∷ [] = g ∙ ap (noted_values nowhere) e in
     ap (λ p. between_.between p (noted_around rule.context) rule.place us y) is ∙ ap (λ ws. between_.between Production.Encoding (noted_around rule.context) rule.place ws y) one
-    ∙ ap (λ c. Ok (record { context = c; values = noted_value None v ∷ []; state = y })) (types_noted rule.place v)
+    ∙ ap (λ c. Ok (record { context = c; values = noted_value nowhere v ∷ []; state = y })) (types_noted rule.place v)
     ∙ sym (ap (λ ws. Ok (record { context = noted_around (in_types rule.place (tree_of v)); values = ws; state = y })) one)
 
 other_special_means : (around : Around) (byte : ℕ) (vs : List Value) (us : List value_.Value) (ws : List Value) (zs : List value_.Value) (v w : Value) → vs ≡ v ∷ [] → ws ≡ w ∷ [] → is_open (held w) ≡ false →
-    us ≡ noted_values None vs → zs ≡ noted_values None ws →
+    us ≡ noted_values nowhere vs → zs ≡ noted_values nowhere ws →
     noted_.meaning Production.OtherSpecial byte (noted_around around) (us ++ zs) ≡ noted_value (noted_scope around.scope) (meaning Production.OtherSpecial byte around (vs ++ ws))
 unfolding meaning noted_.meaning part value_.part
 other_special_means around byte vs us ws zs v w e g closed i j =
@@ -296,7 +296,7 @@ module _ (way : Way) (keeps : KeepsClosed way) (noted_way : NotedWay) (ways : Is
       (λ a b a-is many.
       let c = trees_.name_comes way keeps t (trees_.tree_good_by way keeps t) (OfKind SPECIAL) at from x a (trees_.known 5 (lit≤ tt)) trees.0 refl le old0 a-is in
       record {
-        means = λ byte. ap (λ us. value_.part us 0) many.values ∙ part_noted None a.value 0 ∙ value_closed None (noted_scope around.scope) (part a.value 0) (subst (λ vs. is_open (held (part vs 0)) ≡ false) (sym c.is) (c.good.closed refl));
+        means = λ byte. ap (λ us. value_.part us 0) many.values ∙ part_noted nowhere a.value 0 ∙ value_closed None (noted_scope around.scope) (part a.value 0) (subst (λ vs. is_open (held (part vs 0)) ≡ false) (sym c.is) (c.good.closed refl));
         moves = moves_out around (in_name at) at (from + length (spell t)) x a.state y b.state refl lt c.grows many.moves;
       }))
 
@@ -305,7 +305,7 @@ module _ (way : Way) (keeps : KeepsClosed way) (noted_way : NotedWay) (ways : Is
       ((around : Around) (at : ℕ) (vs : List Value) (state : State) → way.between p around at vs state ≡ Ok (nameless_ at vs state)) →
       ((around : value_.Around) (at : ℕ) (vs : List value_.Value) (state : value_.State) → noted_way.between p around at vs state ≡ Ok (noted_nameless at vs state)) →
       ((at : ℕ) (around : Around) (byte : ℕ) (vs : List Value) (us : List value_.Value) (ws : List Value) (zs : List value_.Value) (v w : Value) → vs ≡ v ∷ [] → ws ≡ w ∷ [] → Good (Bare (in_name at)) (held w) →
-      us ≡ noted_values None vs → zs ≡ noted_values None ws →
+      us ≡ noted_values nowhere vs → zs ≡ noted_values nowhere ws →
       noted_.meaning p byte (noted_around around) (us ++ zs) ≡ noted_value (noted_scope around.scope) (meaning p byte around (vs ++ ws))) →
       (f : Forest) → AllTreesNoted way noted_way f → (rule : Open State Around) (first : value_.State) (from : ℕ) (x : State) (y : value_.State) → production_at rule.rule.number ≡ p → AreTrees either (k ∷ l ∷ []) f →
       rule.context.encoding < rule.place → rule.place ≤ from → AllOld rule.context rule.place x.candidates → Same rule.context x y →
@@ -456,10 +456,10 @@ module _ (way : Way) (keeps : KeepsClosed way) (noted_way : NotedWay) (ways : Is
 
 -- ## Each reading
 
-first_noted : (vs : List Value) → unfolded_.first_tree (noted_values None vs) ≡ annotate None (unfolding_.first_tree vs)
+first_noted : (vs : List Value) → unfolded_.first_tree (noted_values nowhere vs) ≡ annotate nowhere (unfolding_.first_tree vs)
 unfolding unfolded_.first_tree unfolding_.first_tree noted_values annotate
 first_noted [] = refl
-first_noted (v ∷ vs) = tree_noted None v
+first_noted (v ∷ vs) = tree_noted nowhere v
 
 result_noted : (x y : State) (z : value_.State) (r : Result (Found (List Value) State) Refusal) (q : Result (Found (List value_.Value) value_.State) Refusal) → Alike (Many unfolding_.first_around x z) r q →
     (q >>= λ whole. Ok (unfolded_.first_tree whole.value)) ≡ noted_tree (r >>= λ whole. Ok (unfolding_.first_tree whole.value))
