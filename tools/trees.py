@@ -129,9 +129,11 @@ def weight_grows():
         return f"omega ({', '.join(['arith', *parts])})" if parts else None
     return cases("weight_grows", ["a", "b", "scope"], ["h"], right, "omega arith")
 
-def closed_noted():
+def closed_noted(function="closed_noted", before=("s", "r"), halves=None, parameter="absurd (true≢false e)"):
+    """a law of annotated trees by those of their subtrees, and what is known of their free parameters"""
+    known = " ".join(before)
     def right(tree):
-        if tree[0] == "parameter": return "absurd (true≢false e)"
+        if tree[0] == "parameter": return parameter
         subtrees = arguments(tree, *SCOPED)
         if not subtrees: return None
         constructor = "term_." + tree[0]
@@ -141,15 +143,16 @@ def closed_noted():
             if sort in SCOPED: seen = True
             elif seen: behind.append(argument(name, sort))
             else: front.append(argument(name, sort))
-        if behind: function = f"(λ x. {applied(constructor, [*front, 'x', *behind])})"
-        elif front: function = f"({applied(constructor, front)})"
-        else: function = constructor
-        if len(subtrees) == 1: return f"ap {function} (closed_noted s r {subtrees[0][0]} e)"
+        if behind: made = f"(λ x. {applied(constructor, [*front, 'x', *behind])})"
+        elif front: made = f"({applied(constructor, front)})"
+        else: made = constructor
+        if len(subtrees) == 1: return f"ap {made} ({function} {known} {subtrees[0][0]} e)"
         a, b = subtrees[0][0], subtrees[1][0]
-        return f"both {function} (closed_noted s r {a} (or_left (is_open {a}) (is_open {b}) e)) (closed_noted s r {b} (or_right (is_open {a}) (is_open {b}) e))"
+        facts = [f"({side} (is_open {a}) (is_open {b}) e)" for side in ("or_left", "or_right")] if halves is None else [f"({halves.format(a, b)}).{i}" for i in (0, 1)]
+        return f"both {made} ({function} {known} {a} {facts[0]}) ({function} {known} {b} {facts[1]})"
     # the fact is called e
-    return [l.replace("(list e rest) e", "(list first rest) e").replace("closed_noted s r e ", "closed_noted s r first ").replace("is_open e", "is_open first")
-            for l in cases("closed_noted", ["s", "r"], ["e"], right, "refl")]
+    return [l.replace("(list e rest) e", "(list first rest) e").replace(f"{function} {known} e ", f"{function} {known} first ").replace("is_open e", "is_open first").replace("free_in e)", "free_in first)")
+            for l in cases(function, list(before), ["e"], right, "refl")]
 
 def closed_packs():
     trees = named(PRESSED)
@@ -560,6 +563,9 @@ def declarations():
     yield from reargued_laws()
     yield "cpp_term/proofs/Notes.antt", "open_noted", fold("open_noted", ["s"], both_by("(λ x y. x || y)"), "refl", {}, SCOPED)
     yield "cpp_term/proofs/Notes.antt", "closed_noted", closed_noted()
+    yield "cpp_term/proofs/Notes.antt", "renoted", closed_noted("renoted", ["r", "s", "a"], "names_both r a (free_in {0}) (free_in {1}) e", "ap (term_.parameter k) (sym e)")
+    yield "cpp_term/proofs/Notes.antt", "free_noted", fold("free_noted", ["s"], both_by("both_free"), "refl", {}, SCOPED)
+    yield "cpp_term/proofs/Notes.antt", "pack_own", fold("pack_own", [], both_by("first_of"), "refl", {"parameter": "refl", **no_expansion}, SCOPED)
     yield "cpp_term/proofs/Notes.antt", "pack_none", fold("pack_none", [], both_by("first_of"), "refl", {"parameter": "refl", **no_expansion}, SCOPED)
     yield "cpp_term/proofs/Notes.antt", "pack_some", fold("pack_some", ["all"], both_by("first_of"), "refl",
         {"parameter": "ap scope_.length_if_pack (element_noted nowhere all k) ∙ length_noted nowhere (element all k)", **no_expansion}, SCOPED)

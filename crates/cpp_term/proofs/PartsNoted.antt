@@ -15,7 +15,7 @@ use Rattle.cpp_term.specs.Items as item_
 use Rattle.cpp_term.specs.Scope as scope_
 use Rattle.cpp_term.specs.Parts as part_
 use Rattle.cpp_term.specs.Annotated.{Place, nowhere, place_of, place_in, context_place, argument_in, annotate, noted_scope, noted_context, noted_item, noted_part, noted_parts}
-use Rattle.cpp_term.proofs.Notes.{both, scope_noted, argument_noted, packs_of_noted, head_noted, empty_noted}
+use Rattle.cpp_term.proofs.Notes.{both, types_place, argument_noted, packs_of_noted, head_noted, empty_noted}
 
 noted_append : (xs ys : List (PartOf Item)) → noted_parts (xs ++ ys) ≡ noted_parts xs ++ noted_parts ys
 unfolding noted_parts
@@ -274,7 +274,7 @@ base_noted d c t = left_noted d c t
 -- ## Encodings
 
 bare_noted : (all : Bool) (name : Term) (q : Qualifiers) (ref : RefQualifier) (parameters : Term) →
-    part_.function_bare all (annotate nowhere name) q ref (annotate (place_of (noted_scope (arguments_of name))) parameters) ≡ noted_parts (leaf_.function_bare all name q ref parameters)
+    part_.function_bare all (annotate nowhere name) q ref (annotate (place_in (arguments_of name) false) parameters) ≡ noted_parts (leaf_.function_bare all name q ref parameters)
 unfolding part_.function_bare leaf_.function_bare part_.types_of leaf_.types_of noted_parts noted_part noted_item noted_context noted_scope place_in place_of
 bare_noted false name q ref parameters = refl
 bare_noted true name q ref parameters =
@@ -284,14 +284,14 @@ bare_noted true name q ref parameters =
     (ap (λ ps. part_.says ")" ∷ ps) (text_noted (encoding_text q ref)))
 
 whole_noted : (all : Bool) (name : Term) (q : Qualifiers) (ref : RefQualifier) (returned parameters : Term) →
-    part_.function_full all (annotate nowhere name) q ref (annotate (place_of (noted_scope (arguments_of name))) returned) (annotate (place_of (noted_scope (arguments_of name))) parameters)
+    part_.function_full all (annotate nowhere name) q ref (annotate (place_in (arguments_of name) false) returned) (annotate (place_in (arguments_of name) false) parameters)
     ≡ noted_parts (leaf_.function_full all name q ref returned parameters)
 unfolding part_.function_full leaf_.function_full annotate part_.types_of leaf_.types_of noted_parts noted_part noted_item noted_context
 whole_noted false name q ref returned parameters = bare_noted false name q ref parameters
 whole_noted true name q ref absent parameters = bare_noted true name q ref parameters
 whole_noted true name q ref returned parameters =
     let types = leaf_.types_of name in
-    let s = place_of (noted_scope (arguments_of name)) in
+    let s = place_in (arguments_of name) false in
     joins (leaf_.as_item left types returned ∷ leaf_.says " " ∷ []) (leaf_.function_bare true name q ref parameters ++ (leaf_.as_item right types returned ∷ [])) _ (part_.function_bare true (annotate nowhere name) q ref (annotate s parameters) ++ (part_.as_item right item_.closed (annotate s returned) ∷ []))
     refl
     (joins (leaf_.function_bare true name q ref parameters) (leaf_.as_item right types returned ∷ []) (part_.function_bare true (annotate nowhere name) q ref (annotate s parameters)) (part_.as_item right item_.closed (annotate s returned) ∷ []) (bare_noted true name q ref parameters) refl)
@@ -299,14 +299,14 @@ whole_noted true name q ref returned parameters =
 full_noted : (d : Detail) (s : Place) (t : Term) → part_.full_parts d (annotate s t) ≡ noted_parts (leaf_.full_parts d t)
 unfolding part_.full_parts leaf_.full_parts annotate noted_parts noted_part noted_item noted_context noted_scope place_in place_of
 full_noted d s (function name q ref returned parameters) =
-    ap (λ r. part_.function_full (has_parameters d) (annotate nowhere name) q ref (annotate (place_of r) returned) (annotate (place_of r) parameters)) (scope_noted name) ∙ whole_noted (has_parameters d) name q ref returned parameters
+    ap (λ r. part_.function_full (has_parameters d) (annotate nowhere name) q ref (annotate r returned) (annotate r parameters)) (types_place name) ∙ whole_noted (has_parameters d) name q ref returned parameters
 full_noted d s (object name q ref) = ap (λ ps. part_.as_item left item_.closed (annotate nowhere name) ∷ ps) (text_noted (encoding_text q ref))
 full_noted d s (of_name letter name q ref) = ap (λ ps. text (look_up (letter ∷ []) named_special_texts) ∷ part_.as_item left item_.closed (annotate nowhere name) ∷ ps) (text_noted (encoding_text q ref))
 full_noted d s _ = refl
 
 bare_all_noted : (d : Detail) (s : Place) (t : Term) → part_.bare_parts d (annotate s t) ≡ noted_parts (leaf_.bare_parts d t)
 unfolding part_.bare_parts leaf_.bare_parts annotate
-bare_all_noted d s (function name q ref returned parameters) = ap (λ r. part_.function_bare (has_parameters d) (annotate nowhere name) q ref (annotate (place_of r) parameters)) (scope_noted name) ∙ bare_noted (has_parameters d) name q ref parameters
+bare_all_noted d s (function name q ref returned parameters) = ap (λ r. part_.function_bare (has_parameters d) (annotate nowhere name) q ref (annotate r parameters)) (types_place name) ∙ bare_noted (has_parameters d) name q ref parameters
 bare_all_noted d s t = full_noted d s t
 
 root_noted : (s : Place) (t : Term) → part_.root_parts (annotate s t) ≡ noted_parts (leaf_.root_parts t)
