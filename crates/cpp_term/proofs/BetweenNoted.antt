@@ -1,19 +1,28 @@
 -- What is done between and behind the parts of a production, annotated.
-use Rattle.std.proofs.Common.{◌≡◌, refl, ap, sym, ◌∙◌, subst, ℕ, ◌-◌, List, [], ◌∷◌, Bool, true, false, slice_get, Option, None, ◌⊎◌, inl, inr}
+use Rattle.std.proofs.Common.{◌≡◌, refl, ap, sym, ◌∙◌, subst, ℕ, ◌-◌, List, [], ◌∷◌, Bool, true, false, slice_get, Option, Some, None, Result, Ok, Err, ◌&&◌, nat_lt, ◌⊎◌, inl, inr}
+use Rattle.std.proofs.lemmas.Bool.{false≢true}
+use Rattle.sym_core.specs.declared.refusal.Refusal.{Refusal}
+use Rattle.sym_core.specs.declared.refusal.Refusal.TheVariants.{BadReference}
+use Rattle.sym_link.specs.Reading.{◌>>=◌}
+use Rattle.sym_link.specs.Unfold.{found}
 use Rattle.sym_core.specs.declared.NumberKind.TheVariants.{Decimal, Seq36}
 use Rattle.sym_core.specs.Value.{counted_value}
 use Rattle.sym_link.specs.Reading.{Next}
 use Rattle.cpp_grammar.specs.declared.production.Production.{Production}
-use Rattle.cpp_grammar.specs.Rescoping.{generic_number, generic_so_far, parameter_here, substituted_wide, between_wide, close_wide}
-use Rattle.cpp_grammar.specs.Term.{Term, generic_parameter, in_std, instance, holder, parameter, lvalue, rvalue, source, operator, constructor, destructor}
+use Rattle.cpp_grammar.specs.Rescoping.{generic_number, generic_so_far, parameter_here, lambda_with, with_own, substituted_wide, between_wide, close_wide}
+use Rattle.cpp_grammar.specs.Scope.{count, element, is_open, length_if_pack}
+use Rattle.cpp_grammar.specs.Term.{Term, lambda, generic_lambda, list, in_std, instance, holder, parameter, lvalue, rvalue, source, operator, constructor, destructor}
 use Rattle.cpp_grammar.specs.Values as leaf_
-use Rattle.cpp_grammar.specs.Values.{Around, Prefix, prefix_tree, Value, State, tree_of, piece_of, is_listed, text_of, letter_of, part}
-use Rattle.cpp_grammar.specs.References.{appended, with_type, with_unqualified, with_prefix, substituted, parameter_named}
+use Rattle.cpp_grammar.specs.Values.{Around, Prefix, prefix_tree, Value, State, Candidate, local_number, tree_of, piece_of, is_listed, text_of, letter_of, part}
+use Rattle.cpp_grammar.specs.References.{appended, with_type, with_unqualified, with_prefix, with_packs, substituted, parameter_named}
 use Rattle.cpp_grammar.specs.Between.{in_signature, under_expansion, after, inside, extended, applied, no_items, named_so_far, listed_so_far, piece_so_far, with_tag, tag_so_far, parameter_so_far, index_of, between}
-use Rattle.cpp_grammar.specs.Meaning.{meaning}
+use Rattle.cpp_grammar.specs.Meaning.{parameters, meaning}
 use Rattle.cpp_grammar.specs.Unfolding as unfolding_
 use Rattle.cpp_grammar.specs.Unfolding.{close}
 use Rattle.cpp_grammar.proofs.ClosedParts.{StaysInside}
+use Rattle.cpp_grammar.proofs.Ways.{is_lambda}
+use Rattle.cpp_term.specs.Items as item_
+use Rattle.cpp_term.specs.Scope as scope_
 use Rattle.cpp_term.specs.Term as term_
 use Rattle.cpp_term.specs.Values as value_
 use Rattle.cpp_term.specs.References as reference_
@@ -22,87 +31,108 @@ use Rattle.cpp_term.specs.Meaning as noted_
 use Rattle.cpp_term.specs.Unfolding as unfolded_
 use Rattle.cpp_term.specs.Rescoping as wide_
 use Rattle.cpp_term.specs.Annotated.{Place, nowhere, around_place, place_in, in_own, argument_in, annotate, noted_scope, noted_value, noted_values, noted_prefix, noted_around}
-use Rattle.cpp_term.proofs.Notes.{both}
-use Rattle.cpp_term.proofs.MeaningNoted.{structor_noted, part_noted, tree_noted, piece_noted, text_noted, letter_noted, listed_noted, items_noted, applied_noted, text_part_, extended_noted, prefix_tree_noted, Inside, meaning_noted}
-use Rattle.cpp_term.proofs.StatesNoted.{Alike, alike_bind, Same, Moves, moves_none, one_moves, type_moves, unqualified_moves, prefix_moves, Comes, get_noted, substituted_noted, wide_substituted_noted, parameter_noted}
+use Rattle.cpp_term.proofs.Notes.{both, open_noted, closed_noted}
+use Rattle.cpp_term.proofs.MeaningNoted.{structor_noted, part_noted, tree_noted, piece_noted, text_noted, letter_noted, listed_noted, items_noted, applied_noted, text_part_, extended_noted, prefix_tree_noted, Inside, lambda_noted, meaning_noted}
+use Rattle.cpp_term.proofs.StatesNoted.{IsOutside, Settled, own_place, Alike, alike_bind, Same, Moves, moves_none, one_moves, type_moves, unqualified_moves, prefix_moves, Comes, get_noted, substituted_noted, wide_substituted_noted, parameter_noted}
 
 -- what stands inside has the same scope, or none
 abbrev pub InScope : Around → Around → Type 0
 InScope around inner = ((inner.scope ≡ around.scope) × (inner.in_lambda ≡ around.in_lambda)) ⊎ ((inner.scope ≡ None) × (inner.in_lambda ≡ true))
 
+-- what the parameters of a production's parts name: in a lambda's signature they may be its own
+unfoldable pub parts_place : (own : Bool) → Production → Around → Place
+parts_place own p around = elim (is_lambda p && own) [ true ↦ in_own | false ↦ around_place own around ]
+
 -- what goes into the next part, both ways
-pub record Goes (own : Bool) (around : Around) (x : State) (y : value_.State) (n : Next Value State Around) (m : Next value_.Value value_.State value_.Around) : Type 0 where
-  pub values : m.values ≡ noted_values (around_place own around) n.values
+pub record Goes (own : Bool) (s : Place) (around : Around) (x : State) (y : value_.State) (n : Next Value State Around) (m : Next value_.Value value_.State value_.Around) : Type 0 where
+  pub values : m.values ≡ noted_values s n.values
   pub context : m.context ≡ noted_around own n.context
   pub moves : Moves own around x y n.state m.state
   pub scope : InScope around n.context
 
 after_noted : (own : Bool) (around : Around) (t : Term) (u : term_.Term) (listed : Bool) → u ≡ annotate (around_place own around) t → between_.after u listed (noted_around own around) ≡ noted_around own (after t listed around)
-unfolding between_.after after noted_around own noted_prefix
+unfolding between_.after after noted_around noted_prefix
 after_noted own around t u listed e = ap (λ w. between_.after w listed (noted_around own around)) e
 
 named_goes : (own : Bool) (around : Around) (x new : State) (y other : value_.State) (t : Term) (u : term_.Term) (listed : Bool) (vs : List Value) (us : List value_.Value) →
     u ≡ annotate (around_place own around) t → us ≡ noted_values (around_place own around) vs → Moves own around x y new other →
-    Goes own around x y (record { context = after t listed around; values = leaf_.tree t listed ∷ vs; state = new }) (record { context = between_.after u listed (noted_around own around); values = value_.tree u listed ∷ us; state = other })
+    Goes own (around_place own around) around x y (record { context = after t listed around; values = leaf_.tree t listed ∷ vs; state = new }) (record { context = between_.after u listed (noted_around own around); values = value_.tree u listed ∷ us; state = other })
 unfolding noted_values noted_value after
 named_goes own around x new y other t u listed vs us e g m = record { values = both (λ w ws. value_.tree w listed ∷ ws) e g; context = after_noted own around t u listed e; moves = m; scope = inl (refl, refl) }
 
 same_goes : (own : Bool) (around : Around) (x : State) (y : value_.State) (vs : List Value) → y.packs ≡ x.packs →
-    Goes own around x y (record { context = around; values = vs; state = x }) (record { context = noted_around own around; values = noted_values (around_place own around) vs; state = y })
+    Goes own (around_place own around) around x y (record { context = around; values = vs; state = x }) (record { context = noted_around own around; values = noted_values (around_place own around) vs; state = y })
 same_goes own around x y vs packs = record { values = refl; context = refl; moves = moves_none own around x x y y refl refl packs; scope = inl (refl, refl) }
 
 after_goes : (own : Bool) (around : Around) (x new : State) (y other : value_.State) (v : Value) (t : Term) (u : term_.Term) (listed : Bool) (vs : List Value) → u ≡ annotate (around_place own around) t → Moves own around x y new other →
-    Goes own around x y (record { context = after t listed around; values = vs; state = new }) (record { context = between_.after u listed (noted_around own around); values = noted_values (around_place own around) vs; state = other })
+    Goes own (around_place own around) around x y (record { context = after t listed around; values = vs; state = new }) (record { context = between_.after u listed (noted_around own around); values = noted_values (around_place own around) vs; state = other })
 unfolding after
 after_goes own around x new y other v t u listed vs e m = record { values = refl; context = after_noted own around t u listed e; moves = m; scope = inl (refl, refl) }
 
 piece_goes : (own : Bool) (around : Around) (x : State) (y : value_.State) (t : Term) (u : term_.Term) → y.packs ≡ x.packs → u ≡ annotate (around_place own around) t →
-    Alike (Goes own around x y) (piece_so_far around t [] x) (between_.piece_so_far (noted_around own around) u [] y)
+    Alike (Goes own (around_place own around) around x y) (piece_so_far around t [] x) (between_.piece_so_far (noted_around own around) u [] y)
 unfolding piece_so_far between_.piece_so_far named_so_far between_.named_so_far noted_values noted_around
 piece_goes own around x y t u packs e =
     named_goes own around x x y y (extended around.prefix t) (between_.extended (noted_prefix (around_place own around) around.prefix) u) false [] []
     (ap (between_.extended (noted_prefix (around_place own around) around.prefix)) e ∙ extended_noted (around_place own around) around.prefix t) refl (moves_none own around x x y y refl refl packs)
 
-parameter_goes : (own : Bool) (around : Around) (x : State) (y : value_.State) (place k : ℕ) → y.packs ≡ x.packs → Alike (Goes own around x y) (parameter_so_far around place k [] x) (between_.parameter_so_far (noted_around own around) place k [] y)
-unfolding parameter_so_far between_.parameter_so_far listed_so_far between_.listed_so_far between_.argument_at annotate argument_in noted_values noted_around
+-- a parameter that is good names an argument
+named_argument : (own : Bool) (around : Around) (place k : ℕ) (x a : State) → parameter_named around place k x ≡ Ok a → term_.parameter k (between_.argument_at (noted_around own around) k) ≡ annotate (around_place own around) (parameter k)
+unfolding parameter_named between_.argument_at noted_around noted_scope place_in argument_in annotate
+named_argument own around place k x a e = go around.scope e
+  where
+    go : (o : Option Term) → ◌≡◌ {A = Result State Refusal} (elim o [
+      | None ↦ Err (BadReference place)
+      | Some arguments ↦ elim (nat_lt k (count arguments)) [
+        | false ↦ Err (BadReference place)
+        | true ↦ with_packs place around.in_expansion (length_if_pack (element arguments k)) x >>= λ s. Ok (appended around (parameter k) s)
+      ]
+    ]) (Ok a) → term_.parameter k (elim (noted_scope o) [ None ↦ term_.absent | Some arguments ↦ scope_.element arguments k ]) ≡ term_.parameter k (argument_in (place_in o (own && around.in_lambda)) k)
+    go None h = let clash : ◌≡◌ {A = Result State Refusal} (Err (BadReference place)) (Ok a) = h in absurd cc
+    go (Some arguments) h = refl
+
+parameter_goes : (own : Bool) (around : Around) (x : State) (y : value_.State) (place k : ℕ) → y.packs ≡ x.packs →
+    Alike (Goes own (around_place own around) around x y) (parameter_so_far around place k [] x) (between_.parameter_so_far (noted_around own around) place k [] y)
+unfolding parameter_so_far between_.parameter_so_far listed_so_far between_.listed_so_far noted_values
 parameter_goes own around x y place k packs =
-    alike_bind (Moves own around x y) (Goes own around x y) (parameter_named around place k x) (reference_.parameter_named (noted_around own around) place k y) (λ s. listed_so_far around (parameter k) [] s)
-    (λ s. between_.listed_so_far (noted_around own around) (term_.parameter k (argument_in (around_place own around) k)) [] s)
-    (parameter_noted own around place k x y packs) (λ a b h m. named_goes own around x a y b (parameter k) (term_.parameter k (argument_in (around_place own around) k)) true [] [] refl refl m)
+    alike_bind (Moves own around x y) (Goes own (around_place own around) around x y) (parameter_named around place k x) (reference_.parameter_named (noted_around own around) place k y) (λ s. listed_so_far around (parameter k) [] s)
+    (λ s. between_.listed_so_far (noted_around own around) (term_.parameter k (between_.argument_at (noted_around own around) k)) [] s)
+    (parameter_noted own around place k x y packs)
+    (λ a b h m. named_goes own around x a y b (parameter k) (term_.parameter k (between_.argument_at (noted_around own around) k)) true [] [] (named_argument own around place k x a h) refl m)
 
 index_noted : (s : Place) (v : Value) → between_.index_of (noted_value s v) ≡ index_of v
 unfolding between_.index_of index_of
 index_noted s v = ap (counted_value Decimal) (text_noted s v)
 
 named_parameter : (own : Bool) (around : Around) (x : State) (y : value_.State) (place : ℕ) (v : Value) → y.packs ≡ x.packs →
-    Alike (Goes own around x y) (parameter_so_far around place (index_of v) [] x) (between_.parameter_so_far (noted_around own around) place (between_.index_of (noted_value (around_place own around) v)) [] y)
+    Alike (Goes own (around_place own around) around x y) (parameter_so_far around place (index_of v) [] x) (between_.parameter_so_far (noted_around own around) place (between_.index_of (noted_value (around_place own around) v)) [] y)
 named_parameter own around x y place v packs =
-    subst (λ k. Alike (Goes own around x y) (parameter_so_far around place (index_of v) [] x) (between_.parameter_so_far (noted_around own around) place k [] y)) (sym (index_noted (around_place own around) v))
+    subst (λ k. Alike (Goes own (around_place own around) around x y) (parameter_so_far around place (index_of v) [] x) (between_.parameter_so_far (noted_around own around) place k [] y)) (sym (index_noted (around_place own around) v))
     (parameter_goes own around x y place (index_of v) packs)
 
 inside_goes : (own : Bool) (around : Around) (x : State) (y : value_.State) → y.packs ≡ x.packs →
-    Goes own around x y (record { context = inside around; values = []; state = with_prefix around x }) (record { context = between_.inside (noted_around own around); values = []; state = reference_.with_prefix (noted_around own around) y })
-unfolding noted_values inside between_.inside noted_around own noted_prefix
+    Goes own (around_place own around) around x y (record { context = inside around; values = []; state = with_prefix around x }) (record { context = between_.inside (noted_around own around); values = []; state = reference_.with_prefix (noted_around own around) y })
+unfolding noted_values inside between_.inside noted_around noted_prefix
 inside_goes own around x y packs = record { values = refl; context = refl; moves = prefix_moves own around x y packs; scope = inl (refl, refl) }
 
 -- in a part that no name so far goes on
 unnamed_goes : (own : Bool) (around : Around) (x : State) (y : value_.State) → y.packs ≡ x.packs →
-    Goes own around x y (record { context = inside around; values = []; state = x }) (record { context = between_.inside (noted_around own around); values = []; state = y })
-unfolding noted_values inside between_.inside noted_around own noted_prefix
+    Goes own (around_place own around) around x y (record { context = inside around; values = []; state = x }) (record { context = between_.inside (noted_around own around); values = []; state = y })
+unfolding noted_values inside between_.inside noted_around noted_prefix
 unnamed_goes own around x y packs = record { values = refl; context = refl; moves = moves_none own around x x y y refl refl packs; scope = inl (refl, refl) }
 
-signature_goes : (own : Bool) (around : Around) (x : State) (y : value_.State) (vs : List Value) → y.packs ≡ x.packs →
-    Goes own around x y (record { context = in_signature around; values = vs; state = x }) (record { context = between_.in_signature (noted_around own around); values = noted_values (around_place own around) vs; state = y })
-unfolding in_signature between_.in_signature noted_around own noted_prefix noted_scope
-signature_goes own around x y vs packs = record { values = refl; context = refl; moves = moves_none own around x x y y refl refl packs; scope = inr (refl, refl) }
+signature_goes : (own : Bool) (s : Place) (around : Around) (x : State) (y : value_.State) (vs : List Value) → y.packs ≡ x.packs →
+    Goes own s around x y (record { context = in_signature around; values = vs; state = x }) (record { context = between_.in_signature (noted_around own around); values = noted_values s vs; state = y })
+unfolding in_signature between_.in_signature noted_around noted_prefix noted_scope
+signature_goes own s around x y vs packs = record { values = refl; context = refl; moves = moves_none own around x x y y refl refl packs; scope = inr (refl, refl) }
 
 expansion_goes : (own : Bool) (around : Around) (x : State) (y : value_.State) (vs : List Value) →
-    Goes own around x y (record { context = under_expansion around; values = vs; state = record x { packs = None } }) (record { context = between_.under_expansion (noted_around own around); values = noted_values (around_place own around) vs; state = record y { packs = None } })
+    Goes own (around_place own around) around x y (record { context = under_expansion around; values = vs; state = record x { packs = None } }) (record { context = between_.under_expansion (noted_around own around); values = noted_values (around_place own around) vs; state = record y { packs = None } })
 unfolding under_expansion between_.under_expansion noted_around
 expansion_goes own around x y vs = record { values = refl; context = refl; moves = moves_none own around x (record x { packs = None }) y (record y { packs = None }) refl refl refl; scope = inl (refl, refl) }
 
 listed_goes : (own : Bool) (around : Around) (x : State) (y : value_.State) (v : Value) → y.packs ≡ x.packs →
-    Goes own around x y (record { context = after (tree_of v) (is_listed v) around; values = v ∷ []; state = x })
+    Goes own (around_place own around) around x y (record { context = after (tree_of v) (is_listed v) around; values = v ∷ []; state = x })
     (record { context = between_.after (value_.tree_of (noted_value (around_place own around) v)) (value_.is_listed (noted_value (around_place own around) v)) (noted_around own around); values = noted_value (around_place own around) v ∷ []; state = y })
 unfolding after noted_values
 listed_goes own around x y v packs = record {
@@ -118,16 +148,16 @@ unfolding between_.with_tag with_tag annotate
 tag_noted s t u tag other is same = rw (is, same) (ap (λ b. term_.tagged b (annotate s t) tag) (structor_noted s t))
 
 tag_goes : (own : Bool) (around : Around) (x : State) (y : value_.State) (v : Value) → y.packs ≡ x.packs →
-    Alike (Goes own around x y) (tag_so_far around (text_of v) x) (between_.tag_so_far (noted_around own around) (value_.text_of (noted_value (around_place own around) v)) y)
-unfolding tag_so_far between_.tag_so_far named_so_far between_.named_so_far noted_around own noted_values
+    Alike (Goes own (around_place own around) around x y) (tag_so_far around (text_of v) x) (between_.tag_so_far (noted_around own around) (value_.text_of (noted_value (around_place own around) v)) y)
+unfolding tag_so_far between_.tag_so_far named_so_far between_.named_so_far noted_around noted_values
 tag_goes own around x y v packs =
     named_goes own around x x y y (with_tag (prefix_tree around.prefix) (text_of v)) _ false [] []
     (tag_noted (around_place own around) (prefix_tree around.prefix) _ (text_of v) _ (prefix_tree_noted (around_place own around) around.prefix) (text_noted (around_place own around) v))
     refl (moves_none own around x x y y refl refl packs)
 
 pub between_noted : (own : Bool) (production : Production) (around : Around) (place : ℕ) (vs : List Value) (x : State) (y : value_.State) → StaysInside production → y.packs ≡ x.packs →
-    Alike (Goes own around x y) (between production around place vs x) (between_.between production (noted_around own around) place (noted_values (around_place own around) vs) y)
-unfolding between between_.between noted_values noted_value named_so_far between_.named_so_far listed_so_far between_.listed_so_far annotate noted_around own noted_prefix
+    Alike (Goes own (parts_place own production around) around x y) (between production around place vs x) (between_.between production (noted_around own around) place (noted_values (parts_place own production around) vs) y)
+unfolding parts_place is_lambda between between_.between noted_values noted_value named_so_far between_.named_so_far listed_so_far between_.listed_so_far annotate noted_around noted_prefix
 between_noted own Production.LocalName around place [] x y stays packs = same_goes own around x y [] packs
 between_noted own Production.LocalName around place (v ∷ vs) x y stays packs = after_goes own around x x y y v (tree_of v) _ true (v ∷ vs) (tree_noted (around_place own around) v) (moves_none own around x x y y refl refl packs)
 between_noted own Production.LocalType around place [] x y stays packs = same_goes own around x y [] packs
@@ -179,7 +209,7 @@ between_noted own Production.PackArgument around place (v ∷ []) x y stays pack
   moves = moves_none own around x x y y refl refl packs;
   scope = inl (refl, refl);
 }
-between_noted own Production.Lambda around place vs x y stays packs = signature_goes own around x y vs packs
+between_noted own Production.Lambda around place vs x y stays packs = signature_goes own (elim own [ true ↦ in_own | false ↦ around_place own around ]) around x y vs packs
 between_noted own Production.Expansion around place vs x y stays packs = expansion_goes own around x y vs
 between_noted own Production.Parameter around place (v ∷ []) x y stays packs = named_parameter own around x y place v packs
 between_noted own Production.TypeWithS around place (v ∷ []) x y stays packs = listed_goes own around x y v packs
@@ -234,59 +264,93 @@ behind_noted own Production.Expansion byte around began first vs x y packs e = m
 behind_noted own _ byte around began first vs x y packs e = moves_none own around x x y y refl refl packs
 
 -- what a production comes to, both ways
-pub close_noted : (own : Bool) (production : Production) (byte : ℕ) (around : Around) (place : ℕ) (began : State) (first : value_.State) (vs : List Value) (x : State) (y : value_.State) → Inside production vs →
-    Same own around x y → first.packs ≡ began.packs →
-    Alike (Comes own around x y) (close production byte around place began vs x) (unfolded_.close production byte (noted_around own around) place first (noted_values (around_place own around) vs) y)
-unfolding close unfolded_.close
-close_noted own Production.Substitution byte around place began first vs x y h same e =
-    subst (λ bytes. Alike (Comes own around x y) (substituted around (place - 1) (slice_get x.candidates (counted_value Seq36 (text_of (part vs 0)))) x)
-    (reference_.substituted (noted_around own around) (place - 1) (slice_get y.candidates (counted_value Seq36 bytes)) y)) (sym (text_part_ (around_place own around) vs 0))
-    (substituted_noted own around (place - 1) (slice_get x.candidates (counted_value Seq36 (text_of (part vs 0)))) (slice_get y.candidates (counted_value Seq36 (text_of (part vs 0)))) x y same.packs
-    (get_noted own around x.candidates y.candidates (counted_value Seq36 (text_of (part vs 0))) same.all))
-close_noted own production byte around place began first vs x y h same e =
+made_close : (own : Bool) (production : Production) (byte : ℕ) (around : Around) (began : State) (first : value_.State) (vs : List Value) (x : State) (y : value_.State) → Inside production vs → Same own around x y → first.packs ≡ began.packs →
+    Comes own around x y (found (meaning production byte around vs) (unfolding_.behind production byte around began vs x))
+    (found (noted_.meaning production byte (noted_around own around) (noted_values (around_place own around) vs)) (unfolded_.behind production byte (noted_around own around) first (noted_values (around_place own around) vs) y))
+made_close own production byte around began first vs x y h same e =
     record { value = meaning_noted own production byte around vs h; moves = behind_noted own production byte around began first vs x y same.packs e }
+
+pub close_noted : (production : Production) (byte : ℕ) (around : Around) (place : ℕ) (began : State) (first : value_.State) (vs : List Value) (x : State) (y : value_.State) → Inside production vs →
+    Settled around → Same false around x y → first.packs ≡ began.packs →
+    Alike (Comes false around x y) (close production byte around place began vs x) (unfolded_.close production byte (noted_around false around) place first (noted_values (parts_place false production around) vs) y)
+unfolding close unfolded_.close parts_place is_lambda
+close_noted Production.Substitution byte around place began first vs x y h settled same e =
+    subst (λ bytes. Alike (Comes false around x y) (substituted around (place - 1) (slice_get x.candidates (counted_value Seq36 (text_of (part vs 0)))) x)
+    (reference_.substituted (noted_around false around) (place - 1) (slice_get y.candidates (counted_value Seq36 bytes)) y)) (sym (text_part_ (around_place false around) vs 0))
+    (substituted_noted false around (place - 1) (slice_get x.candidates (counted_value Seq36 (text_of (part vs 0)))) (slice_get y.candidates (counted_value Seq36 (text_of (part vs 0)))) x y same.packs
+    (get_noted false around x.candidates y.candidates (counted_value Seq36 (text_of (part vs 0))) same.all) (outside (slice_get x.candidates (counted_value Seq36 (text_of (part vs 0))))))
+  where
+    outside : (o : Option Candidate) → IsOutside false o
+    outside None = tt
+    outside (Some c) = λ opens own. absurd (false≢true own)
+close_noted production byte around place began first vs x y h settled same e = made_close false production byte around began first vs x y h same e
 
 -- ## The reading of the wide grammar
 
-generic_goes : (around : Around) (x : State) (y : value_.State) (k : ℕ) → y.packs ≡ x.packs → Alike (Goes own around x y) (generic_so_far around k [] x) (wide_.generic_so_far (noted_around own around) k [] y)
-unfolding generic_so_far wide_.generic_so_far listed_so_far between_.listed_so_far annotate noted_values
-generic_goes around x y k packs =
-    let t = generic_parameter (generic_number k) in
-    let u = term_.generic_parameter (generic_number k) in
-    named_goes own around x (appended around t x) y (reference_.appended (noted_around own around) u y) t u true [] [] refl refl (one_moves own around t u x y packs refl)
+generic_goes : (around : Around) (x : State) (y : value_.State) (k : ℕ) → around.in_lambda ≡ true → Settled around → y.packs ≡ x.packs →
+    Alike (Goes true (around_place true around) around x y) (generic_so_far around k [] x) (wide_.generic_so_far (noted_around true around) k [] y)
+unfolding generic_so_far wide_.generic_so_far listed_so_far between_.listed_so_far annotate argument_in noted_values
+generic_goes around x y k is settled packs =
+    let t = parameter (generic_number k) in
+    let u = term_.parameter (generic_number k) item_.auto in
+    let same : u ≡ annotate (around_place true around) t = ap (λ s. annotate s t) (sym (own_place around (settled is) is)) in
+    named_goes true around x (appended around t x) y (reference_.appended (noted_around true around) u y) t u true [] [] same refl (one_moves true around t u x y packs same)
 
-here_goes : (around : Around) (x : State) (y : value_.State) (place : ℕ) (v : Value) → y.packs ≡ x.packs →
-    Alike (Goes own around x y) (parameter_here around place (index_of v) [] x) (wide_.parameter_here (noted_around own around) place (between_.index_of (noted_value (around_place own around) v)) [] y)
+here_goes : (around : Around) (x : State) (y : value_.State) (place : ℕ) (v : Value) → Settled around → y.packs ≡ x.packs →
+    Alike (Goes true (around_place true around) around x y) (parameter_here around place (index_of v) [] x) (wide_.parameter_here (noted_around true around) place (between_.index_of (noted_value (around_place true around) v)) [] y)
 unfolding parameter_here wide_.parameter_here noted_around
-here_goes around x y place v packs = go around.in_lambda
+here_goes around x y place v settled packs = go around.in_lambda refl
   where
     s : Place
-    s = around_place own around
+    s = around_place true around
 
-    go : (b : Bool) → Alike (Goes own around x y)
+    go : (b : Bool) → around.in_lambda ≡ b → Alike (Goes true s around x y)
         (elim b [ true ↦ generic_so_far around (index_of v) [] x | false ↦ parameter_so_far around place (index_of v) [] x ])
-        (elim b [ true ↦ wide_.generic_so_far (noted_around own around) (between_.index_of (noted_value s v)) [] y | false ↦ between_.parameter_so_far (noted_around own around) place (between_.index_of (noted_value s v)) [] y ])
-    go true = subst (λ k. Alike (Goes own around x y) (generic_so_far around (index_of v) [] x) (wide_.generic_so_far (noted_around own around) k [] y)) (sym (index_noted s v)) (generic_goes around x y (index_of v) packs)
-    go false = named_parameter own around x y place v packs
+        (elim b [ true ↦ wide_.generic_so_far (noted_around true around) (between_.index_of (noted_value s v)) [] y | false ↦ between_.parameter_so_far (noted_around true around) place (between_.index_of (noted_value s v)) [] y ])
+    go true is = subst (λ k. Alike (Goes true s around x y) (generic_so_far around (index_of v) [] x) (wide_.generic_so_far (noted_around true around) k [] y)) (sym (index_noted s v)) (generic_goes around x y (index_of v) is settled packs)
+    go false is = named_parameter true around x y place v packs
 
-pub wide_between_noted : (production : Production) (around : Around) (place : ℕ) (vs : List Value) (x : State) (y : value_.State) → StaysInside production → y.packs ≡ x.packs →
-    Alike (Goes own around x y) (between_wide production around place vs x) (wide_.between_wide production (noted_around own around) place (noted_values (around_place own around) vs) y)
-unfolding between_wide wide_.between_wide noted_values
-wide_between_noted Production.Parameter around place [] x y stays packs = between_noted own Production.Parameter around place [] x y stays packs
-wide_between_noted Production.Parameter around place (v ∷ []) x y stays packs = here_goes around x y place v packs
-wide_between_noted Production.Parameter around place (v ∷ w ∷ vs) x y stays packs = between_noted own Production.Parameter around place (v ∷ w ∷ vs) x y stays packs
-wide_between_noted Production.NestParameter around place [] x y stays packs = between_noted own Production.NestParameter around place [] x y stays packs
-wide_between_noted Production.NestParameter around place (v ∷ []) x y stays packs = here_goes around x y place v packs
-wide_between_noted Production.NestParameter around place (v ∷ w ∷ vs) x y stays packs = between_noted own Production.NestParameter around place (v ∷ w ∷ vs) x y stays packs
-wide_between_noted p around place vs x y stays packs = between_noted own p around place vs x y stays packs
+pub wide_between_noted : (production : Production) (around : Around) (place : ℕ) (vs : List Value) (x : State) (y : value_.State) → StaysInside production → Settled around → y.packs ≡ x.packs →
+    Alike (Goes true (parts_place true production around) around x y) (between_wide production around place vs x)
+    (wide_.between_wide production (noted_around true around) place (noted_values (parts_place true production around) vs) y)
+unfolding between_wide wide_.between_wide noted_values parts_place is_lambda
+wide_between_noted Production.Parameter around place [] x y stays settled packs = between_noted true Production.Parameter around place [] x y stays packs
+wide_between_noted Production.Parameter around place (v ∷ []) x y stays settled packs = here_goes around x y place v settled packs
+wide_between_noted Production.Parameter around place (v ∷ w ∷ vs) x y stays settled packs = between_noted true Production.Parameter around place (v ∷ w ∷ vs) x y stays packs
+wide_between_noted Production.NestParameter around place [] x y stays settled packs = between_noted true Production.NestParameter around place [] x y stays packs
+wide_between_noted Production.NestParameter around place (v ∷ []) x y stays settled packs = here_goes around x y place v settled packs
+wide_between_noted Production.NestParameter around place (v ∷ w ∷ vs) x y stays settled packs = between_noted true Production.NestParameter around place (v ∷ w ∷ vs) x y stays packs
+wide_between_noted p around place vs x y stays settled packs = between_noted true p around place vs x y stays packs
+
+-- a lambda is told apart alike, and what stands in its signature is under its own parameters
+lambda_with_noted : (s : Place) (t : Term) (number : ℕ) → wide_.lambda_with (annotate in_own t) number ≡ annotate s (lambda_with t number)
+unfolding lambda_with wide_.lambda_with annotate
+lambda_with_noted s t number = go (is_open t) (scope_.is_open (annotate in_own t)) (open_noted in_own t) refl
+  where
+    go : (b e : Bool) → e ≡ b → is_open t ≡ b → (elim e as (λ _. term_.Term) [ true ↦ term_.generic_lambda (annotate in_own t) number | false ↦ term_.lambda (annotate in_own t) number ]) ≡
+        annotate s (elim b [ true ↦ generic_lambda t number | false ↦ lambda t number ])
+    go true true f is = refl
+    go false false f is = ap (λ u. term_.lambda u number) (closed_noted in_own s t is)
+    go true false f is = absurd cc
+    go false true f is = absurd cc
+
+-- `meaning_noted` says it of the place of the values
+own_lambda : (s : Place) (byte : ℕ) (around : Around) (other : value_.Around) (vs : List Value) →
+    wide_.with_own (noted_.meaning Production.Lambda byte other (noted_values in_own vs)) ≡ noted_value s (with_own (meaning Production.Lambda byte around vs))
+unfolding with_own wide_.with_own meaning noted_.meaning noted_value
+own_lambda s byte around other vs =
+    ap wide_.with_own (lambda_noted in_own vs)
+    ∙ ap value_.piece (lambda_with_noted s (parameters (list (tree_of (part vs 0)) (no_items (part vs 1)))) (local_number (text_of (part vs 3))))
 
 pub wide_close_noted : (production : Production) (byte : ℕ) (around : Around) (place : ℕ) (began : State) (first : value_.State) (vs : List Value) (x : State) (y : value_.State) → Inside production vs →
-    Same own around x y → first.packs ≡ began.packs →
-    Alike (Comes own around x y) (close_wide production byte around place began vs x) (wide_.close_wide production byte (noted_around own around) place first (noted_values (around_place own around) vs) y)
-unfolding close_wide wide_.close_wide
-wide_close_noted Production.Substitution byte around place began first vs x y h same e =
-    subst (λ bytes. Alike (Comes own around x y) (substituted_wide around (place - 1) (slice_get x.candidates (counted_value Seq36 (text_of (part vs 0)))) x)
-    (wide_.substituted_wide (noted_around own around) (place - 1) (slice_get y.candidates (counted_value Seq36 bytes)) y)) (sym (text_part_ (around_place own around) vs 0))
-    (wide_substituted_noted own around (place - 1) (slice_get x.candidates (counted_value Seq36 (text_of (part vs 0)))) (slice_get y.candidates (counted_value Seq36 (text_of (part vs 0)))) x y same.packs
-    (get_noted own around x.candidates y.candidates (counted_value Seq36 (text_of (part vs 0))) same.all))
-wide_close_noted production byte around place began first vs x y h same e = close_noted own production byte around place began first vs x y h same e
+    Settled around → Same true around x y → first.packs ≡ began.packs →
+    Alike (Comes true around x y) (close_wide production byte around place began vs x) (wide_.close_wide production byte (noted_around true around) place first (noted_values (parts_place true production around) vs) y)
+unfolding close unfolded_.close close_wide wide_.close_wide parts_place is_lambda
+wide_close_noted Production.Substitution byte around place began first vs x y h settled same e =
+    subst (λ bytes. Alike (Comes true around x y) (substituted_wide around (place - 1) (slice_get x.candidates (counted_value Seq36 (text_of (part vs 0)))) x)
+    (wide_.substituted_wide (noted_around true around) (place - 1) (slice_get y.candidates (counted_value Seq36 bytes)) y)) (sym (text_part_ (around_place true around) vs 0))
+    (wide_substituted_noted around (place - 1) (slice_get x.candidates (counted_value Seq36 (text_of (part vs 0)))) (slice_get y.candidates (counted_value Seq36 (text_of (part vs 0)))) x y settled same.packs
+    (get_noted true around x.candidates y.candidates (counted_value Seq36 (text_of (part vs 0))) same.all))
+wide_close_noted Production.Lambda byte around place began first vs x y h settled same e =
+    record { value = own_lambda (around_place true around) byte around (noted_around true around) vs; moves = moves_none true around x x y y refl refl same.packs }
+wide_close_noted production byte around place began first vs x y h settled same e = made_close true production byte around began first vs x y h same e

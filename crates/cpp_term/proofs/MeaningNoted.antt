@@ -1,7 +1,7 @@
 -- What productions stand for, annotated.
 use Rattle.std.proofs.Common.{◌≡◌, refl, ap, sym, ◌∙◌, ℕ, zero, suc, List, [], ◌∷◌, Bool, true, false, not, ◌&&◌, cond, nat_eq, Option, Some, None}
 use Rattle.cpp_grammar.specs.declared.production.Production.{Production}
-use Rattle.cpp_grammar.specs.Term.{RefQualifier, any_value, lvalue_only, rvalue_only, non_virtual, by_table, adjusting, covariant, Term, function, within, instance, local, tagged, of_default, constructor, destructor, string_literal, conversion, builtin, lvalue, rvalue, nil, list, absent}
+use Rattle.cpp_grammar.specs.Term.{RefQualifier, any_value, lvalue_only, rvalue_only, non_virtual, by_table, adjusting, covariant, Term, function, within, instance, local, tagged, of_default, constructor, destructor, string_literal, conversion, builtin, lvalue, rvalue, nil, list, absent, lambda}
 use Rattle.cpp_grammar.specs.Scope.{arguments_of, before_arguments, is_structor, has_return_type, is_open}
 use Rattle.cpp_grammar.specs.Values as leaf_
 use Rattle.cpp_grammar.specs.Values.{Around, Prefix, prefix_tree, prefix_listed, Value, unqualified, tree_of, piece_of, is_listed, qualifiers_of, ref_of, letter_of, is_there, mark_of, text_of, signed_of, adjustment_of, normal, signed_digits, local_number, part}
@@ -14,7 +14,7 @@ use Rattle.cpp_term.specs.Values as value_
 use Rattle.cpp_term.specs.Between as between_
 use Rattle.cpp_term.specs.Meaning as noted_
 use Rattle.cpp_term.specs.Annotated.{Place, nowhere, around_place, place_in, in_own, annotate, noted_scope, noted_value, noted_values, noted_prefix, noted_around}
-use Rattle.cpp_term.proofs.Notes.{both, arguments_noted, noted_in, scope_noted, closed_noted}
+use Rattle.cpp_term.proofs.Notes.{both, arguments_noted, noted_in, types_place, closed_noted}
 
 pub three : {A B C D : Type 0} (f : A → B → C → D) {a b : A} {c d : B} {x y : C} → a ≡ b → c ≡ d → x ≡ y → f a c x ≡ f b d y
 three f {a} {b} {c} {d} {x} {y} e g h = ap (λ z. f z c x) e ∙ both (f b) g h
@@ -256,7 +256,7 @@ return_noted : (s : Place) (t : Term) → scope_.has_return_type (annotate s t) 
 unfolding scope_.has_return_type has_return_type
 return_noted s t = go (scope_.arguments_of (annotate s t)) (arguments_of t) (arguments_noted s t)
   where
-    go : (p : Place) (o : Option Term) → p ≡ noted_in s o →
+    go : (p : Option term_.Term) (o : Option Term) → p ≡ noted_in s o →
         ◌≡◌ {A = Bool} (elim p [ None ↦ false | Some arguments ↦ not (scope_.is_structor (scope_.before_arguments (annotate s t))) ]) (elim o [ None ↦ false | Some arguments ↦ not (is_structor (before_arguments t)) ])
     go None None e = refl
     go (Some a) (Some b) e = ap not (before_noted s t)
@@ -265,12 +265,12 @@ return_noted s t = go (scope_.arguments_of (annotate s t)) (arguments_of t) (arg
 
 -- an encoding: its name is annotated by none, and its items by the arguments of the name
 pub encoding_noted : (s : Place) (name : Value) (items : Term) →
-    noted_.encoding_of (noted_value nowhere name) (annotate (noted_scope (arguments_of (tree_of name))) items) ≡ annotate s (meaning_.encoding_of name items)
+    noted_.encoding_of (noted_value nowhere name) (annotate (place_in (arguments_of (tree_of name)) false) items) ≡ annotate s (meaning_.encoding_of name items)
 unfolding noted_.encoding_of meaning_.encoding_of annotate
-encoding_noted s name (list e rest) = go (scope_.has_return_type (value_.tree_of (noted_value nowhere name))) (has_return_type (tree_of name)) (ap scope_.has_return_type (tree_noted nowhere name) ∙ return_noted None (tree_of name))
+encoding_noted s name (list e rest) = go (scope_.has_return_type (value_.tree_of (noted_value nowhere name))) (has_return_type (tree_of name)) (ap scope_.has_return_type (tree_noted nowhere name) ∙ return_noted nowhere (tree_of name))
   where
-    r : Option term_.Term
-    r = noted_scope (arguments_of (tree_of name))
+    r : Place
+    r = place_in (arguments_of (tree_of name)) false
 
     moved : (t : Term) → annotate r t ≡ annotate (scope_.arguments_of (annotate nowhere (tree_of name))) t
     moved t = ap (λ o. annotate o t) (sym (scope_noted (tree_of name)))
@@ -313,9 +313,15 @@ default_noted : (s : Place) (vs : List Value) →
 unfolding noted_.default_entity meaning_.default_entity noted_value annotate
 default_noted s vs = four (λ d x q r. value_.named (term_.of_default (normal d) x) q r) (text_part_ s vs 0) (tree_part s vs 1) (qualifiers_part s vs 1) (ref_part s vs 1)
 
+pub lambda_noted : (s : Place) (vs : List Value) →
+    value_.piece (term_.lambda (noted_.parameters (term_.list (value_.tree_of (value_.part (noted_values s vs) 0)) (between_.no_items (value_.part (noted_values s vs) 1)))) (local_number (value_.text_of (value_.part (noted_values s vs) 3))))
+    ≡ value_.piece (annotate s (lambda (meaning_.parameters (list (tree_of (part vs 0)) (going_.no_items (part vs 1)))) (local_number (text_of (part vs 3)))))
+unfolding annotate
+lambda_noted s vs = both (λ x d. value_.piece (term_.lambda x (local_number d))) (both (λ x y. noted_.parameters (term_.list x y)) (tree_part s vs 0) (items_part s vs 1) ∙ parameters_noted s (list (tree_of (part vs 0)) (going_.no_items (part vs 1)))) (text_part_ s vs 3)
+
 pub meaning_noted : (own : Bool) (production : Production) (byte : ℕ) (around : Around) (vs : List Value) → Inside production vs →
     noted_.meaning production byte (noted_around own around) (noted_values (around_place own around) vs) ≡ noted_value (around_place own around) (meaning production byte around vs)
-unfolding noted_.meaning meaning noted_value noted_around own annotate
+unfolding noted_.meaning meaning noted_value noted_around annotate
 meaning_noted own Production.Encoding byte around vs h = absurd h
 meaning_noted own Production.Special byte around vs h = part_noted (around_place own around) vs 0
 meaning_noted own Production.OtherSpecial byte around vs h = part_noted (around_place own around) vs 1
@@ -325,7 +331,7 @@ meaning_noted own Production.NestedName byte around vs h = five (λ x a b c m. v
 meaning_noted own Production.LocalName byte around vs h = five (λ x y d q r. value_.named (term_.local x y d) q r) (closed_part (around_place own around) vs 0 h) (tree_part (around_place own around) vs 2) (discriminator_part (around_place own around) vs 3) (qualifiers_part (around_place own around) vs 2) (ref_part (around_place own around) vs 2)
 meaning_noted own Production.DefaultEntity byte around vs h = default_noted (around_place own around) vs
 meaning_noted own Production.DefaultTypeEntity byte around vs h = default_noted (around_place own around) vs
-meaning_noted own Production.Lambda byte around vs h = both (λ x d. value_.piece (term_.lambda x (local_number d))) (both (λ x y. noted_.parameters (term_.list x y)) (tree_part (around_place own around) vs 0) (items_part (around_place own around) vs 1) ∙ parameters_noted (around_place own around) (list (tree_of (part vs 0)) (going_.no_items (part vs 1)))) (text_part_ (around_place own around) vs 3)
+meaning_noted own Production.Lambda byte around vs h = lambda_noted (around_place own around) vs
 meaning_noted own Production.NestEnd byte around vs h = both value_.tree (prefix_tree_noted (around_place own around) around.prefix) (prefix_listed_noted (around_place own around) around.prefix)
 meaning_noted own Production.StringLiteral byte around vs h = ap (λ x. value_.tree x true) (extended_noted (around_place own around) around.prefix string_literal)
 meaning_noted own Production.Substitution byte around vs h = refl

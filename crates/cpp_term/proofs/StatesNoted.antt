@@ -1,25 +1,27 @@
 -- What runs along with the bytes, annotated: the candidates of an encoding by its scope, and closed ones in any way.
 use Rattle.std.proofs.Common.{◌≡◌, refl, ap, sym, ◌∙◌, subst, ℕ, zero, suc, List, [], ◌∷◌, ◌++◌, Bool, true, false, not, ◌||◌, ◌&&◌, nat_eq, nat_lt, slice_get, Option, Some, None, Result, Ok, Err}
-use Rattle.std.proofs.lemmas.Bool.{eqb-true}
+use Rattle.std.proofs.lemmas.Bool.{eqb-true, true≢false, false≢true}
 use Rattle.std.proofs.lemmas.List.{append_assoc, append-nil}
 use Rattle.sym_core.specs.declared.refusal.Refusal.{Refusal}
 use Rattle.sym_core.specs.declared.refusal.Refusal.TheVariants.{BadReference}
 use Rattle.sym_link.specs.Reading.{Found, ◌>>=◌}
 use Rattle.sym_link.specs.Unfold.{found}
-use Rattle.cpp_grammar.specs.Term.{Term, parameter, generic_parameter, pointer, lvalue, rvalue, qualified, function_type}
-use Rattle.cpp_grammar.specs.Scope.{count, element, is_open, length_if_pack}
+use Rattle.cpp_grammar.specs.Term.{Term, parameter, function_type}
+use Rattle.cpp_grammar.specs.Scope.{count, element, is_open, length_if_pack, pack_length, Free, none_free, one_free, several_free, free_in}
 use Rattle.cpp_grammar.specs.Values as leaf_
 use Rattle.cpp_grammar.specs.Values.{Around, Prefix, prefix_tree, prefix_listed, Value, State, Candidate, tree_of, is_listed}
 use Rattle.cpp_grammar.specs.References.{appended, is_function_type, with_type, with_unqualified, with_prefix, with_packs, packs_in, substituted, parameter_named}
-use Rattle.cpp_grammar.specs.Rescoping.{is_foreign, number_of_parameter, number_behind_mark, with_parameter, in_scope, restated, substituted_wide}
+use Rattle.cpp_grammar.specs.Rescoping.{is_foreign, in_scope, with_free, restated, substituted_wide}
 use Rattle.cpp_term.specs.Term as term_
 use Rattle.cpp_term.specs.Scope as scope_
 use Rattle.cpp_term.specs.Values as value_
 use Rattle.cpp_term.specs.References as noted_
 use Rattle.cpp_term.specs.Rescoping as wide_
-use Rattle.cpp_term.specs.Annotated.{Place, nowhere, around_place, place_in, in_own, argument_in, annotate, noted_scope, noted_value, noted_prefix, noted_around}
-use Rattle.cpp_term.proofs.Notes.{both, count_noted, element_noted, open_noted, generic_noted, closed_noted, length_noted, packs_noted}
-use Rattle.cpp_term.proofs.MeaningNoted.{tree_noted, listed_noted, prefix_tree_noted, prefix_listed_noted}
+use Rattle.cpp_term.specs.Items as item_
+use Rattle.cpp_term.specs.Reargued.{reargued}
+use Rattle.cpp_term.specs.Annotated.{Place, nowhere, around_place, place_in, in_own, in_arguments, argument_in, annotate, noted_scope, noted_value, noted_prefix, noted_around}
+use Rattle.cpp_term.proofs.Notes.{both, count_noted, element_noted, open_noted, closed_noted, length_noted, packs_noted, NameThis, renoted, free_noted}
+use Rattle.cpp_term.proofs.MeaningNoted.{three, tree_noted, listed_noted, prefix_tree_noted, prefix_listed_noted}
 
 -- ## Results
 
@@ -193,23 +195,28 @@ pub record Comes (own : Bool) (around : Around) (x : State) (y : value_.State) (
   pub moves : Moves own around x y a.state b.state
 
 -- a candidate that may be named here has its arguments by the scope here
-noted_here : (own : Bool) (around : Around) (c : Candidate) (d : value_.Candidate) → IsNoted own around c d → (is_open c.tree && (around.in_lambda || not (nat_eq c.encoding around.encoding))) ≡ false →
+-- a candidate that is open was made in no signature whose parameters are its own
+abbrev pub IsOutside : (own : Bool) → Option Candidate → Type 0
+IsOutside own None = Unit {0}
+IsOutside own (Some c) = is_open c.tree ≡ true → own ≡ true → c.in_lambda ≡ false
+
+noted_here : (own : Bool) (around : Around) (c : Candidate) (d : value_.Candidate) → IsNoted own around c d → (is_open c.tree ≡ true → own ≡ true → c.in_lambda ≡ false) → (is_open c.tree && (around.in_lambda || not (nat_eq c.encoding around.encoding))) ≡ false →
     d.tree ≡ annotate (around_place own around) c.tree
-noted_here own around c d n e = go (is_open c.tree) around.in_lambda (nat_eq c.encoding around.encoding) refl refl refl e
+noted_here own around c d n outside e = go (is_open c.tree) around.in_lambda (nat_eq c.encoding around.encoding) refl refl refl e
   where
     go : (o l same : Bool) → is_open c.tree ≡ o → around.in_lambda ≡ l → nat_eq c.encoding around.encoding ≡ same → (o && (l || not same)) ≡ false → d.tree ≡ annotate (around_place own around) c.tree
     go false l same is-open is-lambda is-same h = n.closed is-open ∙ closed_noted nowhere (around_place own around) c.tree is-open
     go true true same is-open is-lambda is-same h = absurd cc
     go true false false is-open is-lambda is-same h = absurd cc
-    go true false true is-open is-lambda is-same h = n.here (eqb-true c.encoding around.encoding is-same) is-lambda
+    go true false true is-open is-lambda is-same h = n.here (eqb-true c.encoding around.encoding is-same) is-lambda (outside is-open)
 
-pub substituted_noted : (own : Bool) (around : Around) (place : ℕ) (o : Option Candidate) (p : Option value_.Candidate) (x : State) (y : value_.State) → y.packs ≡ x.packs → AreNoted own around o p →
+pub substituted_noted : (own : Bool) (around : Around) (place : ℕ) (o : Option Candidate) (p : Option value_.Candidate) (x : State) (y : value_.State) → y.packs ≡ x.packs → AreNoted own around o p → IsOutside own o →
     Alike (Comes own around x y) (substituted around place o x) (noted_.substituted (noted_around own around) place p y)
-unfolding substituted noted_.substituted noted_around own noted_value
-substituted_noted own around place None None x y packs n = refl
-substituted_noted own around place None (Some d) x y packs n = absurd n
-substituted_noted own around place (Some c) None x y packs n = absurd n
-substituted_noted own around place (Some c) (Some d) x y packs n =
+unfolding substituted noted_.substituted noted_around noted_value
+substituted_noted own around place None None x y packs n outside = refl
+substituted_noted own around place None (Some d) x y packs n outside = absurd n
+substituted_noted own around place (Some c) None x y packs n outside = absurd n
+substituted_noted own around place (Some c) (Some d) x y packs n outside =
     go (is_open c.tree && (around.in_lambda || not (nat_eq c.encoding around.encoding))) (scope_.is_open d.tree && (around.in_lambda || not (nat_eq d.encoding around.encoding)))
     (both (λ a k. a && (around.in_lambda || not (nat_eq k around.encoding))) (ap scope_.is_open n.like ∙ open_noted n.by c.tree) n.encoding) refl
   where
@@ -227,18 +234,18 @@ substituted_noted own around place (Some c) (Some d) x y packs n =
         (elim b [ true ↦ Err (BadReference place) | false ↦ with_packs place around.in_expansion (packs_in around.scope c.tree) x >>= λ z. Ok (found (leaf_.tree c.tree true) z) ])
         (elim e [ true ↦ Err (BadReference place) | false ↦ noted_.with_packs place around.in_expansion (scope_.pack_length d.tree) y >>= λ z. Ok (found (value_.tree d.tree true) z) ])
     go true true f h = refl
-    go false false f h = let is = noted_here own around c d n h in onward (packs_in around.scope c.tree) (scope_.pack_length d.tree) (ap scope_.pack_length is ∙ packs_noted around.scope c.tree) is
+    go false false f h = let is = noted_here own around c d n outside h in onward (packs_in around.scope c.tree) (scope_.pack_length d.tree) (ap scope_.pack_length is ∙ packs_noted around.scope (own && around.in_lambda) c.tree) is
     go true false f h = absurd cc
     go false true f h = absurd cc
 
 pub named_here : (own : Bool) (around : Around) (k : ℕ) (arguments : Term) → around.scope ≡ Some arguments → term_.parameter k (scope_.element (annotate nowhere arguments) k) ≡ annotate (around_place own around) (parameter k)
-unfolding annotate argument_in noted_scope
-named_here own around k arguments scope = ap (λ o. annotate (noted_scope o) (parameter k)) (sym scope)
+unfolding annotate argument_in place_in
+named_here own around k arguments scope = ap (λ o. annotate (place_in o (own && around.in_lambda)) (parameter k)) (sym scope)
 
 -- a parameter that is named, as a candidate
 pub parameter_noted : (own : Bool) (around : Around) (place k : ℕ) (x : State) (y : value_.State) → y.packs ≡ x.packs →
     Alike (Moves own around x y) (parameter_named around place k x) (noted_.parameter_named (noted_around own around) place k y)
-unfolding parameter_named noted_.parameter_named noted_around own noted_scope
+unfolding parameter_named noted_.parameter_named noted_around noted_scope
 parameter_noted own around place k x y packs = go around.scope refl
   where
     onward : (arguments : Term) → around.scope ≡ Some arguments → (m n : Option ℕ) → n ≡ m → (u : term_.Term) → u ≡ annotate (around_place own around) (parameter k) → Alike (Moves own around x y)
@@ -280,136 +287,122 @@ parameter_noted own around place k x y packs = go around.scope refl
 
 -- ## The reading of the wide grammar
 
-foreign_noted : (own : Bool) (around : Around) (c : Candidate) (d : value_.Candidate) → IsNoted own around c d → wide_.is_foreign (noted_around own around) d ≡ is_foreign around c
+foreign_noted : (around : Around) (c : Candidate) (d : value_.Candidate) → IsNoted true around c d → wide_.is_foreign (noted_around true around) d ≡ is_foreign around c
 unfolding wide_.is_foreign is_foreign noted_around
-foreign_noted own around c d n =
-    both (λ a b. a || b)
-    (both (λ a k. a && (around.in_lambda || not (nat_eq k around.encoding))) (ap scope_.is_open n.like ∙ open_noted n.by c.tree) n.encoding)
-    (ap (λ a. a && not around.in_lambda) (ap scope_.is_generic n.like ∙ generic_noted n.by c.tree))
+foreign_noted around c d n =
+    three (λ a l k. a && (around.in_lambda || (l || not (nat_eq k around.encoding)))) (ap scope_.is_open n.like ∙ open_noted n.by c.tree) n.in_lambda n.encoding
 
-parameter_number_noted : (s : Place) (t : Term) → wide_.number_of_parameter (annotate s t) ≡ number_of_parameter t
-unfolding wide_.number_of_parameter number_of_parameter annotate
-parameter_number_noted s (parameter k) = refl
-parameter_number_noted s _ = refl
+-- in a signature no arguments are named
+abbrev pub Settled : Around → Type 0
+Settled around = around.in_lambda ≡ true → around.scope ≡ None
 
-number_noted : (s : Place) (t : Term) → wide_.number_behind_mark (annotate s t) ≡ number_behind_mark t
-unfolding wide_.number_behind_mark number_behind_mark annotate wide_.number_of_parameter number_of_parameter
-number_noted s (pointer t) = parameter_number_noted s t
-number_noted s (lvalue t) = parameter_number_noted s t
-number_noted s (rvalue t) = parameter_number_noted s t
-number_noted s (qualified q t) = parameter_number_noted s t
-number_noted s _ = refl
+meant_by : (around : Around) (by : Place) (t : Term) (k : ℕ) → free_in t ≡ one_free k → (arguments : Term) →
+    reargued (Some (scope_.element (annotate nowhere arguments) k)) (annotate by t) ≡ annotate (place_in (Some arguments) false) t
+unfolding place_in argument_in
+meant_by around by t k one arguments =
+    renoted (in_arguments (annotate nowhere arguments)) by (scope_.element (annotate nowhere arguments) k) t (subst (λ f. NameThis (in_arguments (annotate nowhere arguments)) (scope_.element (annotate nowhere arguments) k) f) (sym one) refl)
 
-with_noted : (by s : Place) (t other : Term) (noted : term_.Term) → noted ≡ annotate s other → wide_.with_parameter (annotate by t) noted ≡ annotate s (with_parameter t other)
-unfolding wide_.with_parameter with_parameter annotate
-with_noted by s (pointer t) other noted e = ap term_.pointer e
-with_noted by s (lvalue t) other noted e = ap term_.lvalue e
-with_noted by s (rvalue t) other noted e = ap term_.rvalue e
-with_noted by s (qualified q t) other noted e = ap (term_.qualified q) e
-with_noted by s _ other noted e = e
+scope_place : (around : Around) (arguments : Term) → around.scope ≡ Some arguments → place_in (Some arguments) false ≡ around_place true around
+unfolding place_in
+scope_place around arguments scope = ap (λ o. place_in o around.in_lambda) (sym scope)
 
-in_scope_noted : (own : Bool) (around : Around) (place : ℕ) (by : Place) (t : Term) (k : ℕ) (x : State) (y : value_.State) → y.packs ≡ x.packs →
-    Alike (Comes own around x y) (in_scope around place t k x) (wide_.in_scope (noted_around own around) place (annotate by t) k y)
-unfolding in_scope wide_.in_scope noted_around own noted_scope noted_value
-in_scope_noted own around place by t k x y packs = go around.scope refl
+pub own_place : (around : Around) → around.scope ≡ None → around.in_lambda ≡ true → around_place true around ≡ in_own
+unfolding place_in
+own_place around none inside_ = both place_in none inside_
+
+in_scope_noted : (around : Around) (place : ℕ) (by : Place) (t : Term) (k : ℕ) (x : State) (y : value_.State) → free_in t ≡ one_free k → y.packs ≡ x.packs →
+    Alike (Comes true around x y) (in_scope around place t k x) (wide_.in_scope (noted_around true around) place (annotate by t) k y)
+unfolding in_scope wide_.in_scope noted_around noted_scope noted_value packs_in
+in_scope_noted around place by t k x y one packs = go around.scope refl
   where
-    onward : (arguments : Term) → around.scope ≡ Some arguments → (m n : Option ℕ) → n ≡ m → (u : term_.Term) → u ≡ annotate (around_place own around) (with_parameter t (parameter k)) → Alike (Comes own around x y)
-        (with_packs place around.in_expansion m x >>= λ z. Ok (found (leaf_.tree (with_parameter t (parameter k)) true) z)) (noted_.with_packs place around.in_expansion n y >>= λ z. Ok (found (value_.tree u true) z))
-    onward arguments scope m n e u is = subst (λ n. Alike (Comes own around x y)
-        (with_packs place around.in_expansion m x >>= λ z. Ok (found (leaf_.tree (with_parameter t (parameter k)) true) z)) (noted_.with_packs place around.in_expansion n y >>= λ z. Ok (found (value_.tree u true) z))) (sym e)
-        (alike_bind (Kept x y) (Comes own around x y) (with_packs place around.in_expansion m x) (noted_.with_packs place around.in_expansion m y)
-        (λ z. Ok (found (leaf_.tree (with_parameter t (parameter k)) true) z)) (λ z. Ok (found (value_.tree u true) z))
-        (packs_kept place around.in_expansion m x y packs) (λ a b h kept. record { value = ap (λ w. value_.tree w true) is; moves = moves_none own around x a y b kept.is kept.so kept.packs }))
+    onward : (arguments : Term) → around.scope ≡ Some arguments → (m n : Option ℕ) → n ≡ m → (u : term_.Term) → u ≡ annotate (around_place true around) t → Alike (Comes true around x y)
+        (with_packs place around.in_expansion m x >>= λ z. Ok (found (leaf_.tree t true) z)) (noted_.with_packs place around.in_expansion n y >>= λ z. Ok (found (value_.tree u true) z))
+    onward arguments scope m n e u is = subst (λ n. Alike (Comes true around x y)
+        (with_packs place around.in_expansion m x >>= λ z. Ok (found (leaf_.tree t true) z)) (noted_.with_packs place around.in_expansion n y >>= λ z. Ok (found (value_.tree u true) z))) (sym e)
+        (alike_bind (Kept x y) (Comes true around x y) (with_packs place around.in_expansion m x) (noted_.with_packs place around.in_expansion m y) (λ z. Ok (found (leaf_.tree t true) z)) (λ z. Ok (found (value_.tree u true) z))
+        (packs_kept place around.in_expansion m x y packs) (λ a b h kept. record { value = ap (λ v. value_.tree v true) is; moves = moves_none true around x a y b kept.is kept.so kept.packs }))
 
-    tested : (arguments : Term) → around.scope ≡ Some arguments → (b c : Bool) → c ≡ b → Alike (Comes own around x y)
-        (elim b [
-          | false ↦ Err (BadReference place)
-          | true ↦ with_packs place around.in_expansion (length_if_pack (element arguments k)) x >>= λ z. Ok (found (leaf_.tree (with_parameter t (parameter k)) true) z)
-        ])
+    argument_ : Term → term_.Term
+    argument_ arguments = scope_.element (annotate nowhere arguments) k
+
+    here : (arguments : Term) → around.scope ≡ Some arguments → reargued (Some (argument_ arguments)) (annotate by t) ≡ annotate (around_place true around) t
+    here arguments scope = meant_by around by t k one arguments ∙ ap (λ s. annotate s t) (scope_place around arguments scope)
+
+    tested : (arguments : Term) → around.scope ≡ Some arguments → (b c : Bool) → c ≡ b → Alike (Comes true around x y)
+        (elim b [ false ↦ Err (BadReference place) | true ↦ with_packs place around.in_expansion (pack_length arguments t) x >>= λ z. Ok (found (leaf_.tree t true) z) ])
         (elim c [
           | false ↦ Err (BadReference place)
-          | true ↦ noted_.with_packs place around.in_expansion (scope_.length_if_pack (scope_.element (annotate nowhere arguments) k)) y
-              >>= λ z. Ok (found (value_.tree (wide_.with_parameter (annotate by t) (term_.parameter k (scope_.element (annotate nowhere arguments) k))) true) z)
+          | true ↦ noted_.with_packs place around.in_expansion (scope_.pack_length (reargued (Some (argument_ arguments)) (annotate by t))) y
+              >>= λ z. Ok (found (value_.tree (reargued (Some (argument_ arguments)) (annotate by t)) true) z)
         ])
     tested arguments scope false false f = refl
-    tested arguments scope true true f = onward arguments scope (length_if_pack (element arguments k)) (scope_.length_if_pack (scope_.element (annotate nowhere arguments) k))
-        (ap scope_.length_if_pack (element_noted nowhere arguments k) ∙ length_noted nowhere (element arguments k))
-        (wide_.with_parameter (annotate by t) (term_.parameter k (scope_.element (annotate nowhere arguments) k)))
-        (with_noted by (around_place own around) t (parameter k) (term_.parameter k (scope_.element (annotate nowhere arguments) k)) (named_here own around k arguments scope))
+    tested arguments scope true true f = onward arguments scope (pack_length arguments t) (scope_.pack_length (reargued (Some (argument_ arguments)) (annotate by t)))
+        (ap scope_.pack_length (meant_by around by t k one arguments) ∙ packs_noted (Some arguments) false t) (reargued (Some (argument_ arguments)) (annotate by t)) (here arguments scope)
     tested arguments scope true false f = absurd cc
     tested arguments scope false true f = absurd cc
 
-    go : (o : Option Term) → around.scope ≡ o → Alike (Comes own around x y)
+    go : (o : Option Term) → around.scope ≡ o → Alike (Comes true around x y)
         (elim o [
           | None ↦ Err (BadReference place)
-          | Some arguments ↦ elim (nat_lt k (count arguments)) [
-            | false ↦ Err (BadReference place)
-            | true ↦ with_packs place around.in_expansion (length_if_pack (element arguments k)) x >>= λ z. Ok (found (leaf_.tree (with_parameter t (parameter k)) true) z)
-          ]
+          | Some arguments ↦ elim (nat_lt k (count arguments)) [ false ↦ Err (BadReference place) | true ↦ with_packs place around.in_expansion (pack_length arguments t) x >>= λ z. Ok (found (leaf_.tree t true) z) ]
         ])
         (elim (noted_scope o) [
           | None ↦ Err (BadReference place)
           | Some arguments ↦ elim (nat_lt k (scope_.count arguments)) [
             | false ↦ Err (BadReference place)
-            | true ↦ noted_.with_packs place around.in_expansion (scope_.length_if_pack (scope_.element arguments k)) y
-                >>= λ z. Ok (found (value_.tree (wide_.with_parameter (annotate by t) (term_.parameter k (scope_.element arguments k))) true) z)
+            | true ↦ noted_.with_packs place around.in_expansion (scope_.pack_length (reargued (Some (scope_.element arguments k)) (annotate by t))) y
+                >>= λ z. Ok (found (value_.tree (reargued (Some (scope_.element arguments k)) (annotate by t)) true) z)
           ]
         ])
     go None scope = refl
     go (Some arguments) scope = tested arguments scope (nat_lt k (count arguments)) (nat_lt k (scope_.count (annotate nowhere arguments))) (ap (nat_lt k) (count_noted nowhere arguments))
 
-restated_noted : (own : Bool) (around : Around) (place : ℕ) (by : Place) (t : Term) (x : State) (y : value_.State) → y.packs ≡ x.packs →
-    Alike (Comes own around x y) (restated around place t x) (wide_.restated (noted_around own around) place (annotate by t) y)
-unfolding restated wide_.restated noted_around own noted_value annotate
-restated_noted own around place by t x y packs = go (number_behind_mark t) (wide_.number_behind_mark (annotate by t)) (number_noted by t)
-  where
-    tested : (k j : ℕ) → j ≡ k → (b : Bool) → Alike (Comes own around x y)
-        (elim b [
-          | true ↦ Ok (found (leaf_.tree (with_parameter t (generic_parameter k)) true) x)
-          | false ↦ in_scope around place t k x
-        ])
-        (elim b [
-          | true ↦ Ok (found (value_.tree (wide_.with_parameter (annotate by t) (term_.generic_parameter j)) true) y)
-          | false ↦ wide_.in_scope (noted_around own around) place (annotate by t) j y
-        ])
-    tested k j same true = record {
-      value = ap (λ u. value_.tree u true) (with_noted by (around_place own around) t (generic_parameter k) (term_.generic_parameter j) (ap term_.generic_parameter same));
-      moves = moves_none own around x x y y refl refl packs;
-    }
-    tested k j same false = subst (λ i. Alike (Comes own around x y) (in_scope around place t k x) (wide_.in_scope (noted_around own around) place (annotate by t) i y)) (sym same) (in_scope_noted own around place by t k x y packs)
+own_names : (f : Free) → NameThis in_own item_.auto f
+unfolding argument_in
+own_names none_free = tt
+own_names (one_free k) = refl
+own_names several_free = λ k. refl
 
-    go : (o p : Option ℕ) → p ≡ o → Alike (Comes own around x y)
-        (elim o [
-          | None ↦ Err (BadReference place)
-          | Some k ↦ elim around.in_lambda [
-            | true ↦ Ok (found (leaf_.tree (with_parameter t (generic_parameter k)) true) x)
-            | false ↦ in_scope around place t k x
-          ]
-        ])
-        (elim p [
-          | None ↦ Err (BadReference place)
-          | Some k ↦ elim around.in_lambda [
-            | true ↦ Ok (found (value_.tree (wide_.with_parameter (annotate by t) (term_.generic_parameter k)) true) y)
-            | false ↦ wide_.in_scope (noted_around own around) place (annotate by t) k y
-          ]
-        ])
-    go None None e = refl
-    go (Some k) (Some j) e = let same : j ≡ k = cc in tested k j same around.in_lambda
-    go None (Some j) e = absurd cc
-    go (Some k) None e = absurd cc
+free_noted_bad : (f : Free) (around : Around) (place : ℕ) (by : Place) (t : Term) (x : State) (y : value_.State) → free_in t ≡ f → y.packs ≡ x.packs →
+    Alike (Comes true around x y) (with_free f around place t x) (wide_.with_free f (noted_around true around) place (annotate by t) y)
+unfolding with_free wide_.with_free
+free_noted_bad none_free around place by t x y e packs = refl
+free_noted_bad (one_free k) around place by t x y e packs = in_scope_noted around place by t k x y e packs
+free_noted_bad several_free around place by t x y e packs = refl
 
-pub wide_substituted_noted : (own : Bool) (around : Around) (place : ℕ) (o : Option Candidate) (p : Option value_.Candidate) (x : State) (y : value_.State) → y.packs ≡ x.packs → AreNoted own around o p →
-    Alike (Comes own around x y) (substituted_wide around place o x) (wide_.substituted_wide (noted_around own around) place p y)
-unfolding substituted_wide wide_.substituted_wide
-wide_substituted_noted own around place None None x y packs n = refl
-wide_substituted_noted own around place None (Some d) x y packs n = absurd n
-wide_substituted_noted own around place (Some c) None x y packs n = absurd n
-wide_substituted_noted own around place (Some c) (Some d) x y packs n = go (is_foreign around c) (wide_.is_foreign (noted_around own around) d) (foreign_noted own around c d n)
+restated_noted : (around : Around) (place : ℕ) (by : Place) (t : Term) (x : State) (y : value_.State) → Settled around → y.packs ≡ x.packs →
+    Alike (Comes true around x y) (restated around place t x) (wide_.restated (noted_around true around) place (annotate by t) y)
+unfolding restated wide_.restated noted_around noted_value
+restated_noted around place by t x y settled packs = go around.in_lambda refl
   where
-    go : (b e : Bool) → e ≡ b → Alike (Comes own around x y)
+    inside_ : around.in_lambda ≡ true → reargued (Some item_.auto) (annotate by t) ≡ annotate (around_place true around) t
+    inside_ l = renoted in_own by item_.auto t (own_names (free_in t)) ∙ ap (λ s. annotate s t) (sym (own_place around (settled l) l))
+
+    go : (b : Bool) → around.in_lambda ≡ b → Alike (Comes true around x y)
+        (elim b [ true ↦ Ok (found (leaf_.tree t true) x) | false ↦ with_free (free_in t) around place t x ])
+        (elim b [ true ↦ Ok (found (value_.tree (reargued (Some item_.auto) (annotate by t)) true) y) | false ↦ wide_.with_free (scope_.free_in (annotate by t)) (noted_around true around) place (annotate by t) y ])
+    go true is = record { value = ap (λ u. value_.tree u true) (inside_ is); moves = moves_none true around x x y y refl refl packs }
+    go false is = subst (λ f. Alike (Comes true around x y) (with_free (free_in t) around place t x) (wide_.with_free f (noted_around true around) place (annotate by t) y)) (sym (free_noted by t))
+        (free_noted_bad (free_in t) around place by t x y refl packs)
+
+pub wide_substituted_noted : (around : Around) (place : ℕ) (o : Option Candidate) (p : Option value_.Candidate) (x : State) (y : value_.State) → Settled around → y.packs ≡ x.packs → AreNoted true around o p →
+    Alike (Comes true around x y) (substituted_wide around place o x) (wide_.substituted_wide (noted_around true around) place p y)
+unfolding substituted_wide wide_.substituted_wide is_foreign
+wide_substituted_noted around place None None x y settled packs n = refl
+wide_substituted_noted around place None (Some d) x y settled packs n = absurd n
+wide_substituted_noted around place (Some c) None x y settled packs n = absurd n
+wide_substituted_noted around place (Some c) (Some d) x y settled packs n = go (is_foreign around c) (wide_.is_foreign (noted_around true around) d) (foreign_noted around c d n) refl
+  where
+    outside : (o l m other : Bool) → (o && (l || (m || other))) ≡ false → o ≡ true → m ≡ false
+    outside true false false other h opens = refl
+    outside true false true other h opens = absurd (true≢false h)
+    outside true true m other h opens = absurd (true≢false h)
+    outside false l m other h opens = absurd (false≢true opens)
+
+    go : (b e : Bool) → e ≡ b → is_foreign around c ≡ b → Alike (Comes true around x y)
         (elim b [ true ↦ restated around place c.tree x | false ↦ substituted around place (Some c) x ])
-        (elim e [ true ↦ wide_.restated (noted_around own around) place d.tree y | false ↦ noted_.substituted (noted_around own around) place (Some d) y ])
-    go true true f = subst (λ u. Alike (Comes own around x y) (restated around place c.tree x) (wide_.restated (noted_around own around) place u y)) (sym n.like) (restated_noted own around place n.by c.tree x y packs)
-    go false false f = substituted_noted own around place (Some c) (Some d) x y packs n
-    go true false f = absurd cc
-    go false true f = absurd cc
+        (elim e [ true ↦ wide_.restated (noted_around true around) place d.tree y | false ↦ noted_.substituted (noted_around true around) place (Some d) y ])
+    go true true f is = subst (λ u. Alike (Comes true around x y) (restated around place c.tree x) (wide_.restated (noted_around true around) place u y)) (sym n.like) (restated_noted around place n.by c.tree x y settled packs)
+    go false false f is = substituted_noted true around place (Some c) (Some d) x y packs n (λ opens o. outside (is_open c.tree) around.in_lambda c.in_lambda (not (nat_eq c.encoding around.encoding)) is opens)
+    go true false f is = absurd cc
+    go false true f is = absurd cc
