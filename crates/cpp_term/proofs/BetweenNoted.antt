@@ -209,7 +209,7 @@ between_noted own Production.PackArgument around place (v ∷ []) x y stays pack
   moves = moves_none own around x x y y refl refl packs;
   scope = inl (refl, refl);
 }
-between_noted own Production.Lambda around place vs x y stays packs = signature_goes own (elim own [ true ↦ in_own | false ↦ around_place own around ]) around x y vs packs
+between_noted own Production.Lambda around place vs x y stays packs = signature_goes own (parts_place own Production.Lambda around) around x y vs packs
 between_noted own Production.Expansion around place vs x y stays packs = expansion_goes own around x y vs
 between_noted own Production.Parameter around place (v ∷ []) x y stays packs = named_parameter own around x y place v packs
 between_noted own Production.TypeWithS around place (v ∷ []) x y stays packs = listed_goes own around x y v packs
@@ -337,7 +337,7 @@ lambda_with_noted s t number = go (is_open t) (scope_.is_open (annotate in_own t
 -- `meaning_noted` says it of the place of the values
 own_lambda : (s : Place) (byte : ℕ) (around : Around) (other : value_.Around) (vs : List Value) →
     wide_.with_own (noted_.meaning Production.Lambda byte other (noted_values in_own vs)) ≡ noted_value s (with_own (meaning Production.Lambda byte around vs))
-unfolding with_own wide_.with_own meaning noted_.meaning noted_value
+unfolding with_own wide_.with_own meaning noted_.meaning noted_value annotate
 own_lambda s byte around other vs =
     ap wide_.with_own (lambda_noted in_own vs)
     ∙ ap value_.piece (lambda_with_noted s (parameters (list (tree_of (part vs 0)) (no_items (part vs 1)))) (local_number (text_of (part vs 3))))

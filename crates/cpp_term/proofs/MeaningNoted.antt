@@ -13,7 +13,7 @@ use Rattle.cpp_term.specs.Scope as scope_
 use Rattle.cpp_term.specs.Values as value_
 use Rattle.cpp_term.specs.Between as between_
 use Rattle.cpp_term.specs.Meaning as noted_
-use Rattle.cpp_term.specs.Annotated.{Place, nowhere, around_place, place_in, in_own, annotate, noted_scope, noted_value, noted_values, noted_prefix, noted_around}
+use Rattle.cpp_term.specs.Annotated.{Place, nowhere, around_place, place_of, place_in, in_own, annotate, noted_scope, noted_value, noted_values, noted_prefix, noted_around}
 use Rattle.cpp_term.proofs.Notes.{both, arguments_noted, noted_in, types_place, closed_noted}
 
 pub three : {A B C D : Type 0} (f : A → B → C → D) {a b : A} {c d : B} {x y : C} → a ≡ b → c ≡ d → x ≡ y → f a c x ≡ f b d y
@@ -272,8 +272,8 @@ encoding_noted s name (list e rest) = go (scope_.has_return_type (value_.tree_of
     r : Place
     r = place_in (arguments_of (tree_of name)) false
 
-    moved : (t : Term) → annotate r t ≡ annotate (scope_.arguments_of (annotate nowhere (tree_of name))) t
-    moved t = ap (λ o. annotate o t) (sym (scope_noted (tree_of name)))
+    moved : (t : Term) → annotate r t ≡ annotate (place_of (scope_.arguments_of (annotate nowhere (tree_of name)))) t
+    moved t = ap (λ o. annotate o t) (sym (types_place (tree_of name)))
 
     go : (c b : Bool) → c ≡ b → ◌≡◌ {A = term_.Term} (elim c [
       | true ↦ term_.function (value_.tree_of (noted_value nowhere name)) (value_.qualifiers_of (noted_value nowhere name)) (value_.ref_of (noted_value nowhere name)) (annotate r e) (noted_.parameters (annotate r rest))
@@ -282,11 +282,11 @@ encoding_noted s name (list e rest) = go (scope_.has_return_type (value_.tree_of
       | true ↦ function (tree_of name) (qualifiers_of name) (ref_of name) e (meaning_.parameters rest)
       | false ↦ function (tree_of name) (qualifiers_of name) (ref_of name) absent (meaning_.parameters (list e rest))
     ]))
-    go true true same = five term_.function (tree_noted nowhere name) (qualifiers_noted None name) (ref_noted None name) (moved e) (parameters_noted r rest ∙ moved (meaning_.parameters rest))
-    go false false same = five term_.function (tree_noted nowhere name) (qualifiers_noted None name) (ref_noted None name) refl (parameters_noted r (list e rest) ∙ moved (meaning_.parameters (list e rest)))
+    go true true same = five term_.function (tree_noted nowhere name) (qualifiers_noted nowhere name) (ref_noted nowhere name) (moved e) (parameters_noted r rest ∙ moved (meaning_.parameters rest))
+    go false false same = five term_.function (tree_noted nowhere name) (qualifiers_noted nowhere name) (ref_noted nowhere name) refl (parameters_noted r (list e rest) ∙ moved (meaning_.parameters (list e rest)))
     go true false same = absurd cc
     go false true same = absurd cc
-encoding_noted s name _ = three term_.object (tree_noted nowhere name) (qualifiers_noted None name) (ref_noted None name)
+encoding_noted s name _ = three term_.object (tree_noted nowhere name) (qualifiers_noted nowhere name) (ref_noted nowhere name)
 
 -- ## Meanings
 
