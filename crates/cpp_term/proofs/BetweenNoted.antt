@@ -49,6 +49,7 @@ pub record Goes (own : Bool) (s : Place) (around : Around) (x : State) (y : valu
   pub context : m.context ≡ noted_around own n.context
   pub moves : Moves own around x y n.state m.state
   pub scope : InScope around n.context
+  pub place : (around_place own n.context ≡ s) ⊎ ((n.context.scope ≡ None) × (own ≡ false))
 
 after_noted : (own : Bool) (around : Around) (t : Term) (u : term_.Term) (listed : Bool) → u ≡ annotate (around_place own around) t → between_.after u listed (noted_around own around) ≡ noted_around own (after t listed around)
 unfolding between_.after after noted_around noted_prefix
@@ -58,16 +59,16 @@ named_goes : (own : Bool) (around : Around) (x new : State) (y other : value_.St
     u ≡ annotate (around_place own around) t → us ≡ noted_values (around_place own around) vs → Moves own around x y new other →
     Goes own (around_place own around) around x y (record { context = after t listed around; values = leaf_.tree t listed ∷ vs; state = new }) (record { context = between_.after u listed (noted_around own around); values = value_.tree u listed ∷ us; state = other })
 unfolding noted_values noted_value after
-named_goes own around x new y other t u listed vs us e g m = record { values = both (λ w ws. value_.tree w listed ∷ ws) e g; context = after_noted own around t u listed e; moves = m; scope = inl (refl, refl) }
+named_goes own around x new y other t u listed vs us e g m = record { values = both (λ w ws. value_.tree w listed ∷ ws) e g; context = after_noted own around t u listed e; moves = m; scope = inl (refl, refl); place = inl refl }
 
 same_goes : (own : Bool) (around : Around) (x : State) (y : value_.State) (vs : List Value) → y.packs ≡ x.packs →
     Goes own (around_place own around) around x y (record { context = around; values = vs; state = x }) (record { context = noted_around own around; values = noted_values (around_place own around) vs; state = y })
-same_goes own around x y vs packs = record { values = refl; context = refl; moves = moves_none own around x x y y refl refl packs; scope = inl (refl, refl) }
+same_goes own around x y vs packs = record { values = refl; context = refl; moves = moves_none own around x x y y refl refl packs; scope = inl (refl, refl); place = inl refl }
 
 after_goes : (own : Bool) (around : Around) (x new : State) (y other : value_.State) (v : Value) (t : Term) (u : term_.Term) (listed : Bool) (vs : List Value) → u ≡ annotate (around_place own around) t → Moves own around x y new other →
     Goes own (around_place own around) around x y (record { context = after t listed around; values = vs; state = new }) (record { context = between_.after u listed (noted_around own around); values = noted_values (around_place own around) vs; state = other })
 unfolding after
-after_goes own around x new y other v t u listed vs e m = record { values = refl; context = after_noted own around t u listed e; moves = m; scope = inl (refl, refl) }
+after_goes own around x new y other v t u listed vs e m = record { values = refl; context = after_noted own around t u listed e; moves = m; scope = inl (refl, refl); place = inl refl }
 
 piece_goes : (own : Bool) (around : Around) (x : State) (y : value_.State) (t : Term) (u : term_.Term) → y.packs ≡ x.packs → u ≡ annotate (around_place own around) t →
     Alike (Goes own (around_place own around) around x y) (piece_so_far around t [] x) (between_.piece_so_far (noted_around own around) u [] y)
@@ -113,23 +114,28 @@ named_parameter own around x y place v packs =
 inside_goes : (own : Bool) (around : Around) (x : State) (y : value_.State) → y.packs ≡ x.packs →
     Goes own (around_place own around) around x y (record { context = inside around; values = []; state = with_prefix around x }) (record { context = between_.inside (noted_around own around); values = []; state = reference_.with_prefix (noted_around own around) y })
 unfolding noted_values inside between_.inside noted_around noted_prefix
-inside_goes own around x y packs = record { values = refl; context = refl; moves = prefix_moves own around x y packs; scope = inl (refl, refl) }
+inside_goes own around x y packs = record { values = refl; context = refl; moves = prefix_moves own around x y packs; scope = inl (refl, refl); place = inl refl }
 
 -- in a part that no name so far goes on
 unnamed_goes : (own : Bool) (around : Around) (x : State) (y : value_.State) → y.packs ≡ x.packs →
     Goes own (around_place own around) around x y (record { context = inside around; values = []; state = x }) (record { context = between_.inside (noted_around own around); values = []; state = y })
 unfolding noted_values inside between_.inside noted_around noted_prefix
-unnamed_goes own around x y packs = record { values = refl; context = refl; moves = moves_none own around x x y y refl refl packs; scope = inl (refl, refl) }
+unnamed_goes own around x y packs = record { values = refl; context = refl; moves = moves_none own around x x y y refl refl packs; scope = inl (refl, refl); place = inl refl }
 
-signature_goes : (own : Bool) (s : Place) (around : Around) (x : State) (y : value_.State) (vs : List Value) → y.packs ≡ x.packs →
+signature_goes : (own : Bool) (s : Place) (around : Around) (x : State) (y : value_.State) (vs : List Value) → (around_place own (in_signature around) ≡ s) ⊎ (((in_signature around).scope ≡ None) × (own ≡ false)) → y.packs ≡ x.packs →
     Goes own s around x y (record { context = in_signature around; values = vs; state = x }) (record { context = between_.in_signature (noted_around own around); values = noted_values s vs; state = y })
 unfolding in_signature between_.in_signature noted_around noted_prefix noted_scope
-signature_goes own s around x y vs packs = record { values = refl; context = refl; moves = moves_none own around x x y y refl refl packs; scope = inr (refl, refl) }
+signature_goes own s around x y vs there packs = record { values = refl; context = refl; moves = moves_none own around x x y y refl refl packs; scope = inr (refl, refl); place = there }
+
+signature_place : (own : Bool) (around : Around) → (around_place own (in_signature around) ≡ parts_place own Production.Lambda around) ⊎ (((in_signature around).scope ≡ None) × (own ≡ false))
+unfolding in_signature parts_place is_lambda place_in
+signature_place true around = inl refl
+signature_place false around = inr (refl, refl)
 
 expansion_goes : (own : Bool) (around : Around) (x : State) (y : value_.State) (vs : List Value) →
     Goes own (around_place own around) around x y (record { context = under_expansion around; values = vs; state = record x { packs = None } }) (record { context = between_.under_expansion (noted_around own around); values = noted_values (around_place own around) vs; state = record y { packs = None } })
 unfolding under_expansion between_.under_expansion noted_around
-expansion_goes own around x y vs = record { values = refl; context = refl; moves = moves_none own around x (record x { packs = None }) y (record y { packs = None }) refl refl refl; scope = inl (refl, refl) }
+expansion_goes own around x y vs = record { values = refl; context = refl; moves = moves_none own around x (record x { packs = None }) y (record y { packs = None }) refl refl refl; scope = inl (refl, refl); place = inl refl }
 
 listed_goes : (own : Bool) (around : Around) (x : State) (y : value_.State) (v : Value) → y.packs ≡ x.packs →
     Goes own (around_place own around) around x y (record { context = after (tree_of v) (is_listed v) around; values = v ∷ []; state = x })
@@ -141,6 +147,7 @@ listed_goes own around x y v packs = record {
       ∙ after_noted own around (tree_of v) (value_.tree_of (noted_value (around_place own around) v)) (is_listed v) (tree_noted (around_place own around) v);
   moves = moves_none own around x x y y refl refl packs;
   scope = inl (refl, refl);
+  place = inl refl;
 }
 
 tag_noted : (s : Place) (t : Term) (u : term_.Term) (tag other : List ℕ) → u ≡ annotate s t → other ≡ tag → between_.with_tag u other ≡ annotate s (with_tag t tag)
@@ -157,7 +164,7 @@ tag_goes own around x y v packs =
 
 pub between_noted : (own : Bool) (production : Production) (around : Around) (place : ℕ) (vs : List Value) (x : State) (y : value_.State) → StaysInside production → y.packs ≡ x.packs →
     Alike (Goes own (parts_place own production around) around x y) (between production around place vs x) (between_.between production (noted_around own around) place (noted_values (parts_place own production around) vs) y)
-unfolding parts_place is_lambda between between_.between noted_values noted_value named_so_far between_.named_so_far listed_so_far between_.listed_so_far annotate noted_around noted_prefix
+unfolding parts_place is_lambda after inside under_expansion between between_.between noted_values noted_value named_so_far between_.named_so_far listed_so_far between_.listed_so_far annotate noted_around noted_prefix
 between_noted own Production.LocalName around place [] x y stays packs = same_goes own around x y [] packs
 between_noted own Production.LocalName around place (v ∷ vs) x y stays packs = after_goes own around x x y y v (tree_of v) _ true (v ∷ vs) (tree_noted (around_place own around) v) (moves_none own around x x y y refl refl packs)
 between_noted own Production.LocalType around place [] x y stays packs = same_goes own around x y [] packs
@@ -208,8 +215,9 @@ between_noted own Production.PackArgument around place (v ∷ []) x y stays pack
   context = refl;
   moves = moves_none own around x x y y refl refl packs;
   scope = inl (refl, refl);
+  place = inl refl;
 }
-between_noted own Production.Lambda around place vs x y stays packs = signature_goes own (parts_place own Production.Lambda around) around x y vs packs
+between_noted own Production.Lambda around place vs x y stays packs = signature_goes own (parts_place own Production.Lambda around) around x y vs (signature_place own around) packs
 between_noted own Production.Expansion around place vs x y stays packs = expansion_goes own around x y vs
 between_noted own Production.Parameter around place (v ∷ []) x y stays packs = named_parameter own around x y place v packs
 between_noted own Production.TypeWithS around place (v ∷ []) x y stays packs = listed_goes own around x y v packs
@@ -218,14 +226,16 @@ between_noted own Production.LvalueItem around place (v ∷ []) x y stays packs 
   context = refl;
   moves = one_moves own around (lvalue (tree_of v)) _ x y packs (ap term_.lvalue (tree_noted (around_place own around) v));
   scope = inl (refl, refl);
+  place = inl refl;
 }
 between_noted own Production.RvalueItem around place (v ∷ []) x y stays packs = record {
   values = ap (λ t. value_.tree (term_.rvalue t) true ∷ []) (tree_noted (around_place own around) v);
   context = refl;
   moves = one_moves own around (rvalue (tree_of v)) _ x y packs (ap term_.rvalue (tree_noted (around_place own around) v));
   scope = inl (refl, refl);
+  place = inl refl;
 }
-between_noted own Production.IntegerLiteral around place (v ∷ []) x y stays packs = record { values = refl; context = refl; moves = type_moves own around v x y packs; scope = inl (refl, refl) }
+between_noted own Production.IntegerLiteral around place (v ∷ []) x y stays packs = record { values = refl; context = refl; moves = type_moves own around v x y packs; scope = inl (refl, refl); place = inl refl }
 between_noted own Production.Encoding around place vs x y stays packs = absurd stays
 between_noted own Production.Special around place vs x y stays packs = absurd stays
 between_noted own Production.Guard around place vs x y stays packs = absurd stays

@@ -28,7 +28,7 @@ use Rattle.cpp_grammar.proofs.Choosing.{kinds_numbered, number_at, either_rule_a
 use Rattle.cpp_grammar.proofs.ClosedValues.{AllGood, GoodPrefix, held, good_tree, good_part}
 use Rattle.cpp_grammar.proofs.ClosedStates.{Bare, AllOld, old_later, old_grows, ok_same, behind_bind}
 use Rattle.cpp_grammar.proofs.ClosedParts.{StaysInside}
-use Rattle.cpp_grammar.proofs.Ways.{Way, reading_by, abi_way, is_reference}
+use Rattle.cpp_grammar.proofs.Ways.{Way, reading_by, abi_way, differs}
 use Rattle.cpp_grammar.proofs.ClosedTrees.{is_encoding, has_encoding, opens, or_true, at_number, its_symbols, stays, takes_byte, Whole, same_rule, opening_keeps, all_append, good_fits, old_fits, grows_fits, old_inner, one_good, known, name_comes, same_found, stepped, inner_closes, KeepsClosed, opens_apart, forest_good, tree_good_by, trees_good_by}
 use Rattle.cpp_term.proofs.KindsNoted.{all_open, is_special_kind, in_special, may_be_special, encodings_open, special_types}
 use Rattle.cpp_term.proofs.MeaningNoted.{Inside}
@@ -143,8 +143,8 @@ plain_keeps Production.LocalType h around place [] state n e = goes_on [] around
 plain_keeps Production.LocalType h around place (v ∷ vs) state n e = goes_on (v ∷ vs) _ state n e
 plain_keeps _ h around place vs state n e = absurd (false≢true h)
 
-encodings_apart : (p : Production) → has_encoding (parts_of p) ≡ true → is_reference p ≡ false
-unfolding has_encoding is_encoding parts_of number_of_kind is_reference
+encodings_apart : (p : Production) → has_encoding (parts_of p) ≡ true → differs p ≡ false
+unfolding has_encoding is_encoding parts_of number_of_kind differs
 encodings_apart Production.Parameter h = absurd (false≢true h)
 encodings_apart Production.NestParameter h = absurd (false≢true h)
 encodings_apart Production.Substitution h = absurd (false≢true h)
@@ -209,7 +209,7 @@ module _ (way : Way) (keeps : KeepsClosed way) where
   special_closed : (f : Forest) (rule : Open State Around) (from : ℕ) (state : State) (r : Found (List Value) State) → production_at rule.rule.number ≡ Production.Special →
       AreTrees either (parts_of Production.Special) f → rule.context.encoding < rule.place → rule.place ≤ from → AllOld rule.context rule.place state.candidates →
       unfold_forest (reading_by way) rule [] from f state ≡ Ok r → is_open (tree_of (part r.value 0)) ≡ false
-  unfolding is_reference reading_by parts_of number_of_kind between is_encoding nameless_ part in_name
+  unfolding differs reading_by parts_of number_of_kind between is_encoding nameless_ part in_name
   special_closed (grown t nothing) rule from state r is trees lt le old e =
       let around = rule.context in
       let at = rule.place in
@@ -223,7 +223,7 @@ module _ (way : Way) (keeps : KeepsClosed way) where
   other_special_closed : (f : Forest) (rule : Open State Around) (from : ℕ) (state : State) (r : Found (List Value) State) → production_at rule.rule.number ≡ Production.OtherSpecial →
       AreTrees either (parts_of Production.OtherSpecial) f → rule.context.encoding < rule.place → rule.place ≤ from → AllOld rule.context rule.place state.candidates →
       unfold_forest (reading_by way) rule [] from f state ≡ Ok r → is_open (tree_of (part r.value 1)) ≡ false
-  unfolding is_reference reading_by parts_of number_of_kind between is_encoding nameless_ part in_name
+  unfolding differs reading_by parts_of number_of_kind between is_encoding nameless_ part in_name
   other_special_closed (grown t (grown u nothing)) rule from state r is trees lt le old e =
       let around = rule.context in
       let at = rule.place in

@@ -27,7 +27,7 @@ use Rattle.cpp_grammar.specs.Unfolding.{last_token, number_tested, opening, prod
 use Rattle.cpp_grammar.proofs.ClosedValues.{Good, GoodPrefix, held, good_tree}
 use Rattle.cpp_grammar.proofs.ClosedStates.{Bare, AllOld, AllNew, Grows, old_later, old_grows}
 use Rattle.cpp_grammar.proofs.ClosedParts.{StaysInside}
-use Rattle.cpp_grammar.proofs.Ways.{Way, reading_by, abi_way, wide_way, is_reference}
+use Rattle.cpp_grammar.proofs.Ways.{Way, reading_by, abi_way, wide_way, differs}
 use Rattle.cpp_grammar.proofs.ClosedTrees as trees_
 use Rattle.cpp_grammar.proofs.ClosedTrees.{is_encoding, has_encoding, opens, at_number, its_symbols, stays, takes_byte, Whole, Taken, taken_rule, KeepsClosed, opens_apart, abi_keeps, wide_keeps}
 use Rattle.sym_print.specs.declared.detail.Detail.{Detail}
@@ -281,7 +281,7 @@ module _ (way : Way) (keeps : KeepsClosed way) (noted_way : NotedWay) (ways : Is
   special_noted : (f : Forest) → AllTreesNoted way noted_way f → (rule : Open State Around) (first : value_.State) (from : ℕ) (x : State) (y : value_.State) → production_at rule.rule.number ≡ Production.Special → AreTrees either (parts_of Production.Special) f →
       rule.context.encoding < rule.place → rule.place ≤ from → AllOld rule.context rule.place x.candidates → Same rule.context x y →
       Alike (Inner Production.Special rule.context x y) (unfold_forest (reading_by way) rule [] from f x) (unfold_forest (reading_noted_by noted_way) (noted_open rule first) [] from f y)
-  unfolding is_reference parts_of number_of_kind between between_.between meaning noted_.meaning is_encoding nameless_ noted_nameless in_name noted_scope noted_values part
+  unfolding differs parts_of number_of_kind between between_.between meaning noted_.meaning is_encoding nameless_ noted_nameless in_name noted_scope noted_values part
   special_noted nothing all rule first from x y is trees lt le old same = absurd trees
   special_noted (grown t (grown u f)) all rule first from x y is trees lt le old same = absurd trees.1
   special_noted (grown t nothing) all rule first from x y is trees lt le old same =
@@ -345,21 +345,21 @@ module _ (way : Way) (keeps : KeepsClosed way) (noted_way : NotedWay) (ways : Is
   guard_noted : (f : Forest) → AllTreesNoted way noted_way f → (rule : Open State Around) (first : value_.State) (from : ℕ) (x : State) (y : value_.State) → production_at rule.rule.number ≡ Production.Guard → AreTrees either (parts_of Production.Guard) f →
       rule.context.encoding < rule.place → rule.place ≤ from → AllOld rule.context rule.place x.candidates → Same rule.context x y →
       Alike (Inner Production.Guard rule.context x y) (unfold_forest (reading_by way) rule [] from f x) (unfold_forest (reading_noted_by noted_way) (noted_open rule first) [] from f y)
-  unfolding is_reference parts_of number_of_kind between between_.between is_encoding nameless_ noted_nameless in_name
+  unfolding differs parts_of number_of_kind between between_.between is_encoding nameless_ noted_nameless in_name
   guard_noted = two_noted Production.Guard (Byte 86) (OfKind COMPLETE_NAME) (lit≤ tt) (trees_.known 8 (lit≤ tt)) refl refl (keeps.plain.between Production.Guard refl) (ways.plain.between Production.Guard refl)
       (λ at around byte vs us ws zs v w e g good. guard_means around byte vs us ws zs v w e g ((good_tree (Bare (in_name at)) w good).closed refl))
 
   other_special_noted : (f : Forest) → AllTreesNoted way noted_way f → (rule : Open State Around) (first : value_.State) (from : ℕ) (x : State) (y : value_.State) → production_at rule.rule.number ≡ Production.OtherSpecial → AreTrees either (parts_of Production.OtherSpecial) f →
       rule.context.encoding < rule.place → rule.place ≤ from → AllOld rule.context rule.place x.candidates → Same rule.context x y →
       Alike (Inner Production.OtherSpecial rule.context x y) (unfold_forest (reading_by way) rule [] from f x) (unfold_forest (reading_noted_by noted_way) (noted_open rule first) [] from f y)
-  unfolding is_reference parts_of number_of_kind between between_.between is_encoding nameless_ noted_nameless in_name
+  unfolding differs parts_of number_of_kind between between_.between is_encoding nameless_ noted_nameless in_name
   other_special_noted = two_noted Production.OtherSpecial (OfKind SPECIAL_MARK) (OfKind SPECIAL_AFTER_G) (trees_.known SPECIAL_MARK (lit≤ tt)) (trees_.known SPECIAL_AFTER_G (lit≤ tt)) refl refl
       (keeps.plain.between Production.OtherSpecial refl) (ways.plain.between Production.OtherSpecial refl) (λ at around byte vs us ws zs v w e g good. other_special_means around byte vs us ws zs v w e g (good.closed refl))
 
   encoding_noted_ : (f : Forest) → AllTreesNoted way noted_way f → (rule : Open State Around) (first : value_.State) (from : ℕ) (x : State) (y : value_.State) → production_at rule.rule.number ≡ Production.Encoding → AreTrees either (parts_of Production.Encoding) f →
       rule.context.encoding < rule.place → rule.place ≤ from → AllOld rule.context rule.place x.candidates → Same rule.context x y →
       Alike (Inner Production.Encoding rule.context x y) (unfold_forest (reading_by way) rule [] from f x) (unfold_forest (reading_noted_by noted_way) (noted_open rule first) [] from f y)
-  unfolding is_reference parts_of number_of_kind between between_.between is_encoding is_special is_special_kind nameless_ noted_nameless in_name in_types noted_scope noted_values
+  unfolding differs parts_of number_of_kind between between_.between is_encoding is_special is_special_kind nameless_ noted_nameless in_name in_types noted_scope noted_values
   encoding_noted_ nothing all rule first from x y is trees lt le old same = absurd trees
   encoding_noted_ (grown t nothing) all rule first from x y is trees lt le old same = absurd trees.1
   encoding_noted_ (grown t (grown u (grown v f))) all rule first from x y is trees lt le old same = absurd trees.1.1
@@ -383,7 +383,7 @@ module _ (way : Way) (keeps : KeepsClosed way) (noted_way : NotedWay) (ways : Is
       let n : Next Value State Around = record { context = in_types at name; values = a.value; state = a.state } in
       let m : Next value_.Value value_.State value_.Around = record { context = noted_around (in_types at name); values = b.value; state = b.state } in
       step (Inner Production.Encoding around x y) rule first a.value b.value next a.state b.state u nothing n m
-      (keeps.plain.between (production_at rule.rule.number) (ap is_reference is) around at a.value a.state ∙ types_next rule c.value a.value a.state is c.is) (ways.plain.between (production_at rule.rule.number) (ap is_reference is) (noted_around around) at b.value b.state ∙ noted_types_next rule c.value a.value b.value b.state is c.is many.values)
+      (keeps.plain.between (production_at rule.rule.number) (ap differs is) around at a.value a.state ∙ types_next rule c.value a.value a.state is c.is) (ways.plain.between (production_at rule.rule.number) (ap differs is) (noted_around around) at b.value b.state ∙ noted_types_next rule c.value a.value b.value b.state is c.is many.values)
       (alike_bind (Many (in_types at name) a.state b.state) (Inner Production.Encoding around x y) (unfold_tree (reading_by way) (in_types at name) next u a.state) (unfold_tree (reading_noted_by noted_way) (noted_around (in_types at name)) next u b.state)
       (λ part. unfold_forest (reading_by way) rule (a.value ++ part.value) (next + length (spell u)) nothing part.state) (λ part. unfold_forest (reading_noted_by noted_way) (noted_open rule first) (b.value ++ part.value) (next + length (spell u)) nothing part.state)
       (all.1.0 (OfKind ITEMS) (in_types at name) next a.state b.state (trees_.known 41 (lit≤ tt)) trees.1.0 (omega (arith, le)) (λ opening. absurd (false≢true opening)) (λ special. absurd (false≢true special)) tt old2 same2)
