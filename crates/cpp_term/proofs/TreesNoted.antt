@@ -45,7 +45,7 @@ use Rattle.cpp_term.specs.Annotated.{Place, nowhere, around_place, place_of, pla
 use Rattle.cpp_term.proofs.EncodingsClosed.{insides}
 use Rattle.cpp_term.proofs.Notes.{both, closed_noted, scope_noted}
 use Rattle.cpp_term.proofs.MeaningNoted.{Inside, part_noted, tree_noted, items_noted, encoding_noted, qualifiers_noted, ref_noted, three as three_}
-use Rattle.cpp_term.proofs.StatesNoted.{Alike, alike_bind, Same, Moves, moves_none, moves_then, same_moves, AllNoted, Comes}
+use Rattle.cpp_term.proofs.StatesNoted.{Settled, Alike, alike_bind, Same, Moves, moves_none, moves_then, same_moves, AllNoted, Comes}
 use Rattle.cpp_term.proofs.NotedWays.{NotedWay, reading_noted_by, abi_noted, wide_noted, IsNotedBy, abi_is_noted, wide_is_noted}
 use Rattle.cpp_term.proofs.KindsNoted.{is_special_kind}
 use Rattle.cpp_term.proofs.ForestNoted.{is_special, has_special, Many, TreeNoted, AllTreesNoted, noted_open, forest_noted, cancel, value_closed}
@@ -137,21 +137,21 @@ nameless_ at vs state = record { context = in_name at; values = vs; state = stat
 noted_nameless : (at : ℕ) → List value_.Value → value_.State → Next value_.Value value_.State value_.Around
 noted_nameless at vs state = record { context = between_.in_name at; values = vs; state = state }
 
-guard_made : (around : Around) (byte : ℕ) (v w : Value) →
+guard_made : (own : Bool) → (around : Around) (byte : ℕ) (v w : Value) →
     noted_.meaning Production.Guard byte (noted_around own around) (noted_value nowhere v ∷ noted_value nowhere w ∷ []) ≡ noted_value (around_place own around) (meaning Production.Guard byte around (v ∷ w ∷ []))
 unfolding meaning noted_.meaning part value_.part noted_value annotate
-guard_made around byte v w = three_ (λ x q r. value_.tree (term_.of_name 86 x q r) true) (tree_noted nowhere w) (qualifiers_noted None w) (ref_noted None w)
+guard_made own around byte v w = three_ (λ x q r. value_.tree (term_.of_name 86 x q r) true) (tree_noted nowhere w) (qualifiers_noted nowhere w) (ref_noted nowhere w)
 
-encoding_made : (around : Around) (byte : ℕ) (v w : Value) →
-    noted_.meaning Production.Encoding byte (noted_around own around) (noted_value nowhere v ∷ noted_value (noted_scope (arguments_of (tree_of v))) w ∷ []) ≡ noted_value (around_place own around) (meaning Production.Encoding byte around (v ∷ w ∷ []))
+encoding_made : (own : Bool) → (around : Around) (byte : ℕ) (v w : Value) →
+    noted_.meaning Production.Encoding byte (noted_around own around) (noted_value nowhere v ∷ noted_value (place_in (arguments_of (tree_of v)) false) w ∷ []) ≡ noted_value (around_place own around) (meaning Production.Encoding byte around (v ∷ w ∷ []))
 unfolding meaning noted_.meaning part value_.part noted_value
-encoding_made around byte v w =
-    ap (λ t. value_.tree (noted_.encoding_of (noted_value nowhere v) t) true) (items_noted (noted_scope (arguments_of (tree_of v))) w)
+encoding_made own around byte v w =
+    ap (λ t. value_.tree (noted_.encoding_of (noted_value nowhere v) t) true) (items_noted (place_in (arguments_of (tree_of v)) false) w)
     ∙ ap (λ t. value_.tree t true) (encoding_noted (around_place own around) v (no_items w))
 
-types_noted : (at : ℕ) (v : Value) → between_.in_types at (value_.tree_of (noted_value nowhere v)) ≡ noted_around own (in_types at (tree_of v))
-unfolding between_.in_types in_types noted_around own noted_prefix
-types_noted at v = ap (λ o. between_type at o) (ap scope_.arguments_of (tree_noted nowhere v) ∙ scope_noted (tree_of v))
+types_noted : (own : Bool) → (at : ℕ) (v : Value) → between_.in_types at (value_.tree_of (noted_value nowhere v)) ≡ noted_around own (in_types at (tree_of v))
+unfolding between_.in_types in_types noted_around noted_prefix
+types_noted own at v = ap (λ o. between_type at o) (ap scope_.arguments_of (tree_noted nowhere v) ∙ scope_noted (tree_of v))
   where
     between_type : ℕ → Option term_.Term → value_.Around
     between_type at o = record { scope = o; encoding = at; in_lambda = false; in_expansion = false; prefix = value_.outermost }
@@ -162,21 +162,21 @@ pair_noted : (s r : Place) (vs : List Value) (us : List value_.Value) (ws : List
 unfolding noted_values
 pair_noted s r vs us ws zs v w e g i j = both (λ a b. a ++ b) (i ∙ ap (noted_values s) e) (j ∙ ap (noted_values r) g)
 
-guard_means : (around : Around) (byte : ℕ) (vs : List Value) (us : List value_.Value) (ws : List Value) (zs : List value_.Value) (v w : Value) → vs ≡ v ∷ [] → ws ≡ w ∷ [] → is_open (tree_of w) ≡ false →
+guard_means : (own : Bool) → (around : Around) (byte : ℕ) (vs : List Value) (us : List value_.Value) (ws : List Value) (zs : List value_.Value) (v w : Value) → vs ≡ v ∷ [] → ws ≡ w ∷ [] → is_open (tree_of w) ≡ false →
     us ≡ noted_values nowhere vs → zs ≡ noted_values nowhere ws →
     noted_.meaning Production.Guard byte (noted_around own around) (us ++ zs) ≡ noted_value (around_place own around) (meaning Production.Guard byte around (vs ++ ws))
 unfolding meaning noted_.meaning part value_.part noted_value annotate
-guard_means around byte vs us ws zs v w e g closed i j =
-    ap (noted_.meaning Production.Guard byte (noted_around own around)) (pair_noted None None vs us ws zs v w e g i j)
-    ∙ guard_made around byte v w
+guard_means own around byte vs us ws zs v w e g closed i j =
+    ap (noted_.meaning Production.Guard byte (noted_around own around)) (pair_noted nowhere nowhere vs us ws zs v w e g i j)
+    ∙ guard_made own around byte v w
     ∙ sym (ap (λ xs. noted_value (around_place own around) (meaning Production.Guard byte around xs)) (both (λ a b. a ++ b) e g))
 
-encoding_means : (around : Around) (byte : ℕ) (vs : List Value) (us : List value_.Value) (ws : List Value) (zs : List value_.Value) (v w : Value) → vs ≡ v ∷ [] → ws ≡ w ∷ [] →
-    us ≡ noted_values nowhere vs → zs ≡ noted_values (noted_scope (arguments_of (tree_of v))) ws →
+encoding_means : (own : Bool) → (around : Around) (byte : ℕ) (vs : List Value) (us : List value_.Value) (ws : List Value) (zs : List value_.Value) (v w : Value) → vs ≡ v ∷ [] → ws ≡ w ∷ [] →
+    us ≡ noted_values nowhere vs → zs ≡ noted_values (place_in (arguments_of (tree_of v)) false) ws →
     noted_.meaning Production.Encoding byte (noted_around own around) (us ++ zs) ≡ noted_value (around_place own around) (meaning Production.Encoding byte around (vs ++ ws))
-encoding_means around byte vs us ws zs v w e g i j =
-    ap (noted_.meaning Production.Encoding byte (noted_around own around)) (pair_noted None (noted_scope (arguments_of (tree_of v))) vs us ws zs v w e g i j)
-    ∙ encoding_made around byte v w
+encoding_means own around byte vs us ws zs v w e g i j =
+    ap (noted_.meaning Production.Encoding byte (noted_around own around)) (pair_noted nowhere (place_in (arguments_of (tree_of v)) false) vs us ws zs v w e g i j)
+    ∙ encoding_made own around byte v w
     ∙ sym (ap (λ xs. noted_value (around_place own around) (meaning Production.Encoding byte around xs)) (both (λ a b. a ++ b) e g))
 
 types_next : (rule : Open State Around) (v : Value) (vs : List Value) (x : State) → production_at rule.rule.number ≡ Production.Encoding → vs ≡ v ∷ [] →
@@ -186,21 +186,21 @@ types_next rule v vs x is e =
     ap (λ p. between p rule.context rule.place vs x) is ∙ ap (λ ws. between Production.Encoding rule.context rule.place ws x) e
     ∙ sym (ap (λ ws. Ok (record { context = in_types rule.place (tree_of v); values = ws; state = x })) e)
 
-noted_types_next : (rule : Open State Around) (v : Value) (vs : List Value) (us : List value_.Value) (y : value_.State) → production_at rule.rule.number ≡ Production.Encoding → vs ≡ v ∷ [] → us ≡ noted_values nowhere vs →
+noted_types_next : (own : Bool) → (rule : Open State Around) (v : Value) (vs : List Value) (us : List value_.Value) (y : value_.State) → production_at rule.rule.number ≡ Production.Encoding → vs ≡ v ∷ [] → us ≡ noted_values nowhere vs →
     between_.between (production_at rule.rule.number) (noted_around own rule.context) rule.place us y ≡ Ok (record { context = noted_around own (in_types rule.place (tree_of v)); values = us; state = y })
 unfolding between_.between noted_values
-noted_types_next rule v vs us y is e g =
+noted_types_next own rule v vs us y is e g =
     let one : us ≡ noted_value nowhere v ∷ [] = g ∙ ap (noted_values nowhere) e in
     ap (λ p. between_.between p (noted_around own rule.context) rule.place us y) is ∙ ap (λ ws. between_.between Production.Encoding (noted_around own rule.context) rule.place ws y) one
-    ∙ ap (λ c. Ok (record { context = c; values = noted_value nowhere v ∷ []; state = y })) (types_noted rule.place v)
+    ∙ ap (λ c. Ok (record { context = c; values = noted_value nowhere v ∷ []; state = y })) (types_noted own rule.place v)
     ∙ sym (ap (λ ws. Ok (record { context = noted_around own (in_types rule.place (tree_of v)); values = ws; state = y })) one)
 
-other_special_means : (around : Around) (byte : ℕ) (vs : List Value) (us : List value_.Value) (ws : List Value) (zs : List value_.Value) (v w : Value) → vs ≡ v ∷ [] → ws ≡ w ∷ [] → is_open (held w) ≡ false →
+other_special_means : (own : Bool) → (around : Around) (byte : ℕ) (vs : List Value) (us : List value_.Value) (ws : List Value) (zs : List value_.Value) (v w : Value) → vs ≡ v ∷ [] → ws ≡ w ∷ [] → is_open (held w) ≡ false →
     us ≡ noted_values nowhere vs → zs ≡ noted_values nowhere ws →
     noted_.meaning Production.OtherSpecial byte (noted_around own around) (us ++ zs) ≡ noted_value (around_place own around) (meaning Production.OtherSpecial byte around (vs ++ ws))
 unfolding meaning noted_.meaning part value_.part
-other_special_means around byte vs us ws zs v w e g closed i j =
-    ap (noted_.meaning Production.OtherSpecial byte (noted_around own around)) (pair_noted None None vs us ws zs v w e g i j)
+other_special_means own around byte vs us ws zs v w e g closed i j =
+    ap (noted_.meaning Production.OtherSpecial byte (noted_around own around)) (pair_noted nowhere nowhere vs us ws zs v w e g i j)
     ∙ value_closed None (around_place own around) w closed
     ∙ sym (ap (λ xs. noted_value (around_place own around) (meaning Production.OtherSpecial byte around xs)) (both (λ a b. a ++ b) e g))
 
@@ -227,10 +227,10 @@ noted_closes _ o byte around place began vs x = absurd (false≢true o)
 
 module _ (way : Way) (keeps : KeepsClosed way) (noted_way : NotedWay) (ways : IsNotedBy way noted_way) where
   plain_noted : (k : ℕ) (rule : Rule) (taken : List ℕ) (parts : Forest) → AllTreesNoted way noted_way parts → (p : Production) → rule ≡ rule_of p → opens p ≡ false → (around : Around) (at : ℕ) (state : State) (other : value_.State) →
-      k < either.kinds → IsTree either (OfKind k) (branch rule taken parts) → around.encoding ≤ at → (is_special_kind k ≡ true → Bare way.own around) → GoodPrefix (Bare way.own around) around.prefix → AllOld way.own around at state.candidates → Same way.own around state other →
-      Alike (Many around state other) (unfold_tree (reading_by way) around at (branch rule taken parts) state) (unfold_tree (reading_noted_by noted_way) (noted_around way.own around) at (branch rule taken parts) other)
+      k < either.kinds → IsTree either (OfKind k) (branch rule taken parts) → around.encoding ≤ at → (is_special_kind k ≡ true → Bare way.own around) → Settled around → GoodPrefix (Bare way.own around) around.prefix → AllOld way.own around at state.candidates → Same way.own around state other →
+      Alike (Many way.own (around_place way.own around) around state other) (unfold_tree (reading_by way) around at (branch rule taken parts) state) (unfold_tree (reading_noted_by noted_way) (noted_around way.own around) at (branch rule taken parts) other)
   unfolding reading_by reading_noted_by noted_values
-  plain_noted k rule taken parts all p is plain around at state other lt tree le special pre old same =
+  plain_noted k rule taken parts all p is plain around at state other lt tree le special settled pre old same =
       let whole = Whole rule taken at around state in
       let noted = noted_open way.own whole other in
       let from = at + length taken in
@@ -239,19 +239,19 @@ module _ (way : Way) (keeps : KeepsClosed way) (noted_way : NotedWay) (ways : Is
       let inside_ : StaysInside (production_at rule.number) = subst (λ q. StaysInside q) (sym number) (stays p plain) in
       let symbols = either_sound.symbols k tree.0.byte rule lt tree.0.is_byte tree.0.found in
       let none : has_special (symbols_of rule) ≡ false = ap has_special (ap symbols_of is ∙ its_symbols p) ∙ no_special p plain in
-      opened (Many around state other) (production_at rule.number) parts at state other
+      opened (Many way.own (around_place way.own around) around state other) (production_at rule.number) parts at state other
       (λ begun. unfold_forest (reading_by way) whole [] from parts begun >>= λ inner. way.close (production_at rule.number) (byte_of taken) around at state inner.value inner.state >>= alone)
       (λ begun. unfold_forest (reading_noted_by noted_way) noted [] from parts begun >>= λ inner. noted_way.close (production_at rule.number) (byte_of taken) (noted_around way.own around) at other inner.value inner.state >>= alone)
-      (alike_bind (Many around state other) (Many around state other) (unfold_forest (reading_by way) whole [] from parts state) (unfold_forest (reading_noted_by noted_way) noted [] from parts other)
+      (alike_bind (Many way.own (around_place way.own around) around state other) (Many way.own (around_place way.own around) around state other) (unfold_forest (reading_by way) whole [] from parts state) (unfold_forest (reading_noted_by noted_way) noted [] from parts other)
       (λ inner. way.close (production_at rule.number) (byte_of taken) around at state inner.value inner.state >>= alone)
       (λ inner. noted_way.close (production_at rule.number) (byte_of taken) (noted_around way.own around) at other inner.value inner.state >>= alone)
-      (forest_noted way keeps noted_way ways parts all whole other (symbols_of rule) [] from state other inside_ symbols tree.1 (omega (arith, le)) (λ has. omega (arith, le, takes_byte p rule k taken is tree.0 has)) none pre tt
+      (forest_noted way keeps noted_way ways parts all whole other (symbols_of rule) [] from state other inside_ symbols tree.1 (omega (arith, le)) (λ has. omega (arith, le, takes_byte p rule k taken is tree.0 has)) none settled pre tt
       (old_later way.own around at from state.candidates (omega arith) old) same)
       (λ a b a-is many.
       let h = insides way keeps p rule taken parts k around at state a is plain lt tree le special pre old a-is in
-      alike_bind (Comes around a.state b.state) (Many around state other) (way.close (production_at rule.number) (byte_of taken) around at state a.value a.state)
+      alike_bind (Comes way.own around a.state b.state) (Many way.own (around_place way.own around) around state other) (way.close (production_at rule.number) (byte_of taken) around at state a.value a.state)
       (noted_way.close (production_at rule.number) (byte_of taken) (noted_around way.own around) at other b.value b.state) alone alone
-      (subst (λ us. Alike (Comes around a.state b.state) (way.close (production_at rule.number) (byte_of taken) around at state a.value a.state)
+      (subst (λ us. Alike (Comes way.own around a.state b.state) (way.close (production_at rule.number) (byte_of taken) around at state a.value a.state)
       (noted_way.close (production_at rule.number) (byte_of taken) (noted_around way.own around) at other us b.state)) (sym many.values)
       (ways.comes (production_at rule.number) (byte_of taken) around at state other a.value a.state b.state (subst (λ q. Inside q a.value) (sym number) h) (same_moves way.own around state a.state other b.state same many.moves) same.packs))
       (λ u v u-is comes. record { values = ap (λ w. w ∷ []) comes.value; moves = moves_then way.own around state a.state u.state other b.state v.state many.moves comes.moves })))
@@ -274,10 +274,10 @@ module _ (way : Way) (keeps : KeepsClosed way) (noted_way : NotedWay) (ways : Is
 
   -- one part of an encoding, in which nothing is named
   named_part : (t : Tree) → TreeNoted way noted_way t → (x : Sym) (at from : ℕ) (state : State) (other : value_.State) → IsSymbol either x → IsTree either x t → is_encoding x ≡ false → at ≤ from → AllOld way.own (in_name at) from state.candidates → Same way.own (in_name at) state other →
-      Alike (Many (in_name at) state other) (unfold_tree (reading_by way) (in_name at) from t state) (unfold_tree (reading_noted_by noted_way) (between_.in_name at) from t other)
-  unfolding in_name between_.in_name noted_around way.own noted_scope noted_prefix
+      Alike (Many way.own (around_place way.own (in_name at)) (in_name at) state other) (unfold_tree (reading_by way) (in_name at) from t state) (unfold_tree (reading_noted_by noted_way) (between_.in_name at) from t other)
+  unfolding in_name between_.in_name noted_around noted_scope noted_prefix
   named_part t noted x at from state other known is plain le old same =
-      noted x (in_name at) from state other known is le (λ opening. absurd (true≢false (sym opening ∙ plain))) (λ special. refl) tt old same
+      noted x (in_name at) from state other known is le (λ opening. absurd (true≢false (sym opening ∙ plain))) (λ special. (refl, λ o. refl)) (λ l. absurd (false≢true l)) tt old same
 
   special_noted : (f : Forest) → AllTreesNoted way noted_way f → (rule : Open State Around) (first : value_.State) (from : ℕ) (x : State) (y : value_.State) → production_at rule.rule.number ≡ Production.Special → AreTrees either (parts_of Production.Special) f →
       rule.context.encoding < rule.place → rule.place ≤ from → AllOld way.own rule.context rule.place x.candidates → Same way.own rule.context x y →
@@ -291,13 +291,13 @@ module _ (way : Way) (keeps : KeepsClosed way) (noted_way : NotedWay) (ways : Is
       let old0 = old_later way.own (in_name at) at from x.candidates le (trees_.old_inner around at x.candidates lt old) in
       let same0 : Same way.own (in_name at) x y = record { packs = same.packs; all = all_name way.own around at x.candidates y.candidates lt old same.all } in
       step (Inner way.own Production.Special around x y) rule first [] [] from x y t nothing (nameless_ at [] x) (noted_nameless at [] y) (ap (λ p. way.between p around at [] x) is ∙ keeps.plain.between Production.Special refl around at [] x) (ap (λ p. noted_way.between p (noted_around way.own around) at [] y) is ∙ ways.plain.between Production.Special refl (noted_around way.own around) at [] y)
-      (alike_bind (Many (in_name at) x y) (Inner way.own Production.Special around x y) (unfold_tree (reading_by way) (in_name at) from t x) (unfold_tree (reading_noted_by noted_way) (between_.in_name at) from t y)
+      (alike_bind (Many way.own (around_place way.own (in_name at)) (in_name at) x y) (Inner way.own Production.Special around x y) (unfold_tree (reading_by way) (in_name at) from t x) (unfold_tree (reading_noted_by noted_way) (between_.in_name at) from t y)
       (λ part. unfold_forest (reading_by way) rule ([] ++ part.value) (from + length (spell t)) nothing part.state) (λ part. unfold_forest (reading_noted_by noted_way) (noted_open way.own rule first) ([] ++ part.value) (from + length (spell t)) nothing part.state)
       (named_part t all.0 (OfKind SPECIAL) at from x y (trees_.known 5 (lit≤ tt)) trees.0 refl le old0 same0)
       (λ a b a-is many.
       let c = trees_.name_comes way keeps t (trees_.tree_good_by way keeps t) (OfKind SPECIAL) at from x a (trees_.known 5 (lit≤ tt)) trees.0 refl le old0 a-is in
       record {
-        means = λ byte. ap (λ us. value_.part us 0) many.values ∙ part_noted nowhere a.value 0 ∙ value_closed None (around_place way.own around) (part a.value 0) (subst (λ vs. is_open (held (part vs 0)) ≡ false) (sym c.is) (c.good.closed refl));
+        means = λ byte. ap (λ us. value_.part us 0) many.values ∙ part_noted nowhere a.value 0 ∙ value_closed nowhere (around_place way.own around) (part a.value 0) (subst (λ vs. is_open (held (part vs 0)) ≡ false) (sym c.is) (c.good.closed (refl, λ o. refl)));
         moves = moves_out way.own around (in_name at) at (from + length (spell t)) x a.state y b.state refl lt c.grows many.moves;
       }))
 
@@ -322,7 +322,7 @@ module _ (way : Way) (keeps : KeepsClosed way) (noted_way : NotedWay) (ways : Is
       let old0 = old_later way.own (in_name at) at from x.candidates le (trees_.old_inner around at x.candidates lt old) in
       let same0 : Same way.own (in_name at) x y = record { packs = same.packs; all = all_name way.own around at x.candidates y.candidates lt old same.all } in
       step (Inner way.own p around x y) rule first [] [] from x y t (grown u nothing) (nameless_ at [] x) (noted_nameless at [] y) (ap (λ p. way.between p around at [] x) is ∙ goes around at [] x) (ap (λ p. noted_way.between p (noted_around way.own around) at [] y) is ∙ goes_noted (noted_around way.own around) at [] y)
-      (alike_bind (Many (in_name at) x y) (Inner way.own p around x y) (unfold_tree (reading_by way) (in_name at) from t x) (unfold_tree (reading_noted_by noted_way) (between_.in_name at) from t y)
+      (alike_bind (Many way.own (around_place way.own (in_name at)) (in_name at) x y) (Inner way.own p around x y) (unfold_tree (reading_by way) (in_name at) from t x) (unfold_tree (reading_noted_by noted_way) (between_.in_name at) from t y)
       (λ part. unfold_forest (reading_by way) rule ([] ++ part.value) next (grown u nothing) part.state) (λ part. unfold_forest (reading_noted_by noted_way) (noted_open way.own rule first) ([] ++ part.value) next (grown u nothing) part.state)
       (named_part t all.0 k at from x y known_k trees.0 apart_k le old0 same0)
       (λ a b a-is many.
@@ -332,7 +332,7 @@ module _ (way : Way) (keeps : KeepsClosed way) (noted_way : NotedWay) (ways : Is
       step (Inner way.own p around x y) rule first a.value b.value next a.state b.state u nothing (nameless_ at a.value a.state) (noted_nameless at b.value b.state)
       (ap (λ p. way.between p around at a.value a.state) is ∙ goes around at a.value a.state)
       (ap (λ p. noted_way.between p (noted_around way.own around) at b.value b.state) is ∙ goes_noted (noted_around way.own around) at b.value b.state)
-      (alike_bind (Many (in_name at) a.state b.state) (Inner way.own p around x y) (unfold_tree (reading_by way) (in_name at) next u a.state) (unfold_tree (reading_noted_by noted_way) (between_.in_name at) next u b.state)
+      (alike_bind (Many way.own (around_place way.own (in_name at)) (in_name at) a.state b.state) (Inner way.own p around x y) (unfold_tree (reading_by way) (in_name at) next u a.state) (unfold_tree (reading_noted_by noted_way) (between_.in_name at) next u b.state)
       (λ part. unfold_forest (reading_by way) rule (a.value ++ part.value) (next + length (spell u)) nothing part.state) (λ part. unfold_forest (reading_noted_by noted_way) (noted_open way.own rule first) (b.value ++ part.value) (next + length (spell u)) nothing part.state)
       (named_part u all.1.0 l at next a.state b.state known_l trees.1.0 apart_l (omega (arith, le)) old1 same1)
       (λ d e d-is more.
@@ -348,14 +348,14 @@ module _ (way : Way) (keeps : KeepsClosed way) (noted_way : NotedWay) (ways : Is
       Alike (Inner way.own Production.Guard rule.context x y) (unfold_forest (reading_by way) rule [] from f x) (unfold_forest (reading_noted_by noted_way) (noted_open way.own rule first) [] from f y)
   unfolding differs parts_of number_of_kind between between_.between is_encoding nameless_ noted_nameless in_name
   guard_noted = two_noted Production.Guard (Byte 86) (OfKind COMPLETE_NAME) (lit≤ tt) (trees_.known 8 (lit≤ tt)) refl refl (keeps.plain.between Production.Guard refl) (ways.plain.between Production.Guard refl)
-      (λ at around byte vs us ws zs v w e g good. guard_means around byte vs us ws zs v w e g ((good_tree (Bare way.own (in_name at)) w good).closed refl))
+      (λ at around byte vs us ws zs v w e g good. guard_means way.own around byte vs us ws zs v w e g ((good_tree (Bare way.own (in_name at)) w good).closed (refl, λ o. refl)))
 
   other_special_noted : (f : Forest) → AllTreesNoted way noted_way f → (rule : Open State Around) (first : value_.State) (from : ℕ) (x : State) (y : value_.State) → production_at rule.rule.number ≡ Production.OtherSpecial → AreTrees either (parts_of Production.OtherSpecial) f →
       rule.context.encoding < rule.place → rule.place ≤ from → AllOld way.own rule.context rule.place x.candidates → Same way.own rule.context x y →
       Alike (Inner way.own Production.OtherSpecial rule.context x y) (unfold_forest (reading_by way) rule [] from f x) (unfold_forest (reading_noted_by noted_way) (noted_open way.own rule first) [] from f y)
   unfolding differs parts_of number_of_kind between between_.between is_encoding nameless_ noted_nameless in_name
   other_special_noted = two_noted Production.OtherSpecial (OfKind SPECIAL_MARK) (OfKind SPECIAL_AFTER_G) (trees_.known SPECIAL_MARK (lit≤ tt)) (trees_.known SPECIAL_AFTER_G (lit≤ tt)) refl refl
-      (keeps.plain.between Production.OtherSpecial refl) (ways.plain.between Production.OtherSpecial refl) (λ at around byte vs us ws zs v w e g good. other_special_means around byte vs us ws zs v w e g (good.closed refl))
+      (keeps.plain.between Production.OtherSpecial refl) (ways.plain.between Production.OtherSpecial refl) (λ at around byte vs us ws zs v w e g good. other_special_means way.own around byte vs us ws zs v w e g (good.closed (refl, λ o. refl)))
 
   encoding_noted_ : (f : Forest) → AllTreesNoted way noted_way f → (rule : Open State Around) (first : value_.State) (from : ℕ) (x : State) (y : value_.State) → production_at rule.rule.number ≡ Production.Encoding → AreTrees either (parts_of Production.Encoding) f →
       rule.context.encoding < rule.place → rule.place ≤ from → AllOld way.own rule.context rule.place x.candidates → Same way.own rule.context x y →
@@ -371,7 +371,7 @@ module _ (way : Way) (keeps : KeepsClosed way) (noted_way : NotedWay) (ways : Is
       let old0 = old_later way.own (in_name at) at from x.candidates le (trees_.old_inner around at x.candidates lt old) in
       let same0 : Same way.own (in_name at) x y = record { packs = same.packs; all = all_name way.own around at x.candidates y.candidates lt old same.all } in
       step (Inner way.own Production.Encoding around x y) rule first [] [] from x y t (grown u nothing) (nameless_ at [] x) (noted_nameless at [] y) (ap (λ p. way.between p around at [] x) is ∙ keeps.plain.between Production.Encoding refl around at [] x) (ap (λ p. noted_way.between p (noted_around way.own around) at [] y) is ∙ ways.plain.between Production.Encoding refl (noted_around way.own around) at [] y)
-      (alike_bind (Many (in_name at) x y) (Inner way.own Production.Encoding around x y) (unfold_tree (reading_by way) (in_name at) from t x) (unfold_tree (reading_noted_by noted_way) (between_.in_name at) from t y)
+      (alike_bind (Many way.own (around_place way.own (in_name at)) (in_name at) x y) (Inner way.own Production.Encoding around x y) (unfold_tree (reading_by way) (in_name at) from t x) (unfold_tree (reading_noted_by noted_way) (between_.in_name at) from t y)
       (λ part. unfold_forest (reading_by way) rule ([] ++ part.value) next (grown u nothing) part.state) (λ part. unfold_forest (reading_noted_by noted_way) (noted_open way.own rule first) ([] ++ part.value) next (grown u nothing) part.state)
       (named_part t all.0 (OfKind COMPLETE_NAME) at from x y (trees_.known 8 (lit≤ tt)) trees.0 refl le old0 same0)
       (λ a b a-is many.
@@ -384,14 +384,14 @@ module _ (way : Way) (keeps : KeepsClosed way) (noted_way : NotedWay) (ways : Is
       let n : Next Value State Around = record { context = in_types at name; values = a.value; state = a.state } in
       let m : Next value_.Value value_.State value_.Around = record { context = noted_around way.own (in_types at name); values = b.value; state = b.state } in
       step (Inner way.own Production.Encoding around x y) rule first a.value b.value next a.state b.state u nothing n m
-      (keeps.plain.between (production_at rule.rule.number) (ap differs is) around at a.value a.state ∙ types_next rule c.value a.value a.state is c.is) (ways.plain.between (production_at rule.rule.number) (ap differs is) (noted_around way.own around) at b.value b.state ∙ noted_types_next rule c.value a.value b.value b.state is c.is many.values)
-      (alike_bind (Many (in_types at name) a.state b.state) (Inner way.own Production.Encoding around x y) (unfold_tree (reading_by way) (in_types at name) next u a.state) (unfold_tree (reading_noted_by noted_way) (noted_around way.own (in_types at name)) next u b.state)
+      (keeps.plain.between (production_at rule.rule.number) (ap differs is) around at a.value a.state ∙ types_next rule c.value a.value a.state is c.is) (ways.plain.between (production_at rule.rule.number) (ap differs is) (noted_around way.own around) at b.value b.state ∙ noted_types_next way.own rule c.value a.value b.value b.state is c.is many.values)
+      (alike_bind (Many way.own (around_place way.own (in_types at name)) (in_types at name) a.state b.state) (Inner way.own Production.Encoding around x y) (unfold_tree (reading_by way) (in_types at name) next u a.state) (unfold_tree (reading_noted_by noted_way) (noted_around way.own (in_types at name)) next u b.state)
       (λ part. unfold_forest (reading_by way) rule (a.value ++ part.value) (next + length (spell u)) nothing part.state) (λ part. unfold_forest (reading_noted_by noted_way) (noted_open way.own rule first) (b.value ++ part.value) (next + length (spell u)) nothing part.state)
-      (all.1.0 (OfKind ITEMS) (in_types at name) next a.state b.state (trees_.known 41 (lit≤ tt)) trees.1.0 (omega (arith, le)) (λ opening. absurd (false≢true opening)) (λ special. absurd (false≢true special)) tt old2 same2)
+      (all.1.0 (OfKind ITEMS) (in_types at name) next a.state b.state (trees_.known 41 (lit≤ tt)) trees.1.0 (omega (arith, le)) (λ opening. absurd (false≢true opening)) (λ special. absurd (false≢true special)) (λ l. absurd (false≢true l)) tt old2 same2)
       (λ d e d-is more.
       let g = trees_.tree_good_by way keeps u (OfKind ITEMS) (in_types at name) next a.state d (trees_.known 41 (lit≤ tt)) trees.1.0 (omega (arith, le)) (λ opening. absurd (false≢true opening)) tt old2 d-is in
       record {
-        means = λ byte. encoding_means around byte a.value b.value d.value e.value c.value g.value c.is g.is many.values more.values;
+        means = λ byte. encoding_means way.own around byte a.value b.value d.value e.value c.value g.value c.is g.is many.values more.values;
         moves = moves_then way.own around x a.state d.state y b.state e.state (moves_out way.own around (in_name at) at next x a.state y b.state refl lt c.grows many.moves)
             (moves_out way.own around (in_types at name) at (next + length (spell u)) a.state d.state b.state e.state refl lt g.grows more.moves);
       }))))
@@ -409,7 +409,7 @@ module _ (way : Way) (keeps : KeepsClosed way) (noted_way : NotedWay) (ways : Is
 
   encoded_noted : (k : ℕ) (rule : Rule) (taken : List ℕ) (parts : Forest) → AllTreesNoted way noted_way parts → (p : Production) → rule ≡ rule_of p → opens p ≡ true → (around : Around) (at : ℕ) (state : State) (other : value_.State) →
       IsTree either (OfKind k) (branch rule taken parts) → around.encoding < at → AllOld way.own around at state.candidates → Same way.own around state other →
-      Alike (Many around state other) (unfold_tree (reading_by way) around at (branch rule taken parts) state) (unfold_tree (reading_noted_by noted_way) (noted_around way.own around) at (branch rule taken parts) other)
+      Alike (Many way.own (around_place way.own around) around state other) (unfold_tree (reading_by way) around at (branch rule taken parts) state) (unfold_tree (reading_noted_by noted_way) (noted_around way.own around) at (branch rule taken parts) other)
   unfolding reading_by reading_noted_by noted_values
   encoded_noted k rule taken parts all p is opening_ around at state other tree less old same =
       let whole = Whole rule taken at around state in
@@ -418,38 +418,38 @@ module _ (way : Way) (keeps : KeepsClosed way) (noted_way : NotedWay) (ways : Is
       let byte = byte_of taken in
       let number : production_at rule.number ≡ p = ap (λ x. production_at x.number) is ∙ at_number p in
       let trees = subst (λ xs. AreTrees either xs parts) (ap symbols_of is ∙ its_symbols p) tree.1 in
-      opened (Many around state other) (production_at rule.number) parts at state other
+      opened (Many way.own (around_place way.own around) around state other) (production_at rule.number) parts at state other
       (λ begun. unfold_forest (reading_by way) whole [] from parts begun >>= λ inner. way.close (production_at rule.number) byte around at state inner.value inner.state >>= alone)
       (λ begun. unfold_forest (reading_noted_by noted_way) noted [] from parts begun >>= λ inner. noted_way.close (production_at rule.number) byte (noted_around way.own around) at other inner.value inner.state >>= alone)
-      (alike_bind (Inner way.own p around state other) (Many around state other) (unfold_forest (reading_by way) whole [] from parts state) (unfold_forest (reading_noted_by noted_way) noted [] from parts other)
+      (alike_bind (Inner way.own p around state other) (Many way.own (around_place way.own around) around state other) (unfold_forest (reading_by way) whole [] from parts state) (unfold_forest (reading_noted_by noted_way) noted [] from parts other)
       (λ inner. way.close (production_at rule.number) byte around at state inner.value inner.state >>= alone)
       (λ inner. noted_way.close (production_at rule.number) byte (noted_around way.own around) at other inner.value inner.state >>= alone)
       (inner_noted p opening_ parts all whole other from state other number trees less (omega arith) old same)
       (λ a b a-is inner.
       let e = ap (λ q. way.close q byte around at state a.value a.state) number ∙ keeps.plain.close p (opens_apart p opening_) byte around at state a.value a.state ∙ inner_closes p opening_ byte around at state a.value a.state in
       let g = ap (λ q. noted_way.close q byte (noted_around way.own around) at other b.value b.state) number ∙ ways.plain.close p (opens_apart p opening_) byte (noted_around way.own around) at other b.value b.state ∙ noted_closes p opening_ byte (noted_around way.own around) at other b.value b.state in
-      subst (λ r. Alike (Many around state other) (r >>= alone) (noted_way.close (production_at rule.number) byte (noted_around way.own around) at other b.value b.state >>= alone)) (sym e)
-      (subst (λ r. Alike (Many around state other) (Ok (found (meaning p byte around a.value ∷ []) a.state)) (r >>= alone)) (sym g)
+      subst (λ r. Alike (Many way.own (around_place way.own around) around state other) (r >>= alone) (noted_way.close (production_at rule.number) byte (noted_around way.own around) at other b.value b.state >>= alone)) (sym e)
+      (subst (λ r. Alike (Many way.own (around_place way.own around) around state other) (Ok (found (meaning p byte around a.value ∷ []) a.state)) (r >>= alone)) (sym g)
       (record { values = ap (λ w. w ∷ []) (inner.means byte); moves = inner.moves }))))
 
   branch_noted : (rule : Rule) (taken : List ℕ) (parts : Forest) → AllTreesNoted way noted_way parts → TreeNoted way noted_way (branch rule taken parts)
   unfolding is_encoding is_special
-  branch_noted rule taken parts all (OfKind k) around at state other lt is le inside special pre old same =
+  branch_noted rule taken parts all (OfKind k) around at state other lt is le inside special settled pre old same =
       let t = taken_rule k rule taken lt is.0 in
       elim (cases_Bool (opens t.production)) [
         | inl opening_ ↦ encoded_noted k rule taken parts all t.production t.is opening_ around at state other is (inside (t.encoding opening_)) old same
-        | inr plain ↦ plain_noted k rule taken parts all t.production t.is plain around at state other lt is le special pre old same
+        | inr plain ↦ plain_noted k rule taken parts all t.production t.is plain around at state other lt is le special settled pre old same
       ]
-  branch_noted rule taken parts all _ around at state other lt is le inside special pre old same = absurd is
+  branch_noted rule taken parts all _ around at state other lt is le inside special settled pre old same = absurd is
 
   mutual
     unfolding reading_by reading_noted_by noted_values noted_value
 
     tree_noted_ : (t : Tree) → TreeNoted way noted_way t
     tree_noted_ (branch rule taken parts) = branch_noted rule taken parts (trees_noted parts)
-    tree_noted_ empty = λ x around at state other lt is le inside special pre old same. record { values = refl; moves = moves_none way.own around state state other other refl refl same.packs }
-    tree_noted_ (token t) = λ x around at state other lt is le inside special pre old same. record { values = refl; moves = moves_none way.own around state state other other refl refl same.packs }
-    tree_noted_ (fixed byte) = λ x around at state other lt is le inside special pre old same. record { values = refl; moves = moves_none way.own around state state other other refl refl same.packs }
+    tree_noted_ empty = λ x around at state other lt is le inside special settled pre old same. record { values = refl; moves = moves_none way.own around state state other other refl refl same.packs }
+    tree_noted_ (token t) = λ x around at state other lt is le inside special settled pre old same. record { values = refl; moves = moves_none way.own around state state other other refl refl same.packs }
+    tree_noted_ (fixed byte) = λ x around at state other lt is le inside special settled pre old same. record { values = refl; moves = moves_none way.own around state state other other refl refl same.packs }
 
     trees_noted : (f : Forest) → AllTreesNoted way noted_way f
     trees_noted nothing = tt
@@ -462,28 +462,28 @@ unfolding unfolded_.first_tree unfolding_.first_tree noted_values annotate
 first_noted [] = refl
 first_noted (v ∷ vs) = tree_noted nowhere v
 
-result_noted : (x y : State) (z : value_.State) (r : Result (Found (List Value) State) Refusal) (q : Result (Found (List value_.Value) value_.State) Refusal) → Alike (Many unfolding_.first_around x z) r q →
+result_noted : (own : Bool) → (x y : State) (z : value_.State) (r : Result (Found (List Value) State) Refusal) (q : Result (Found (List value_.Value) value_.State) Refusal) → Alike (Many own nowhere unfolding_.first_around x z) r q →
     (q >>= λ whole. Ok (unfolded_.first_tree whole.value)) ≡ noted_tree (r >>= λ whole. Ok (unfolding_.first_tree whole.value))
 unfolding noted_tree unfolding_.first_around noted_scope
-result_noted x y z (Ok a) (Ok b) many = ap Ok (ap unfolded_.first_tree many.values ∙ first_noted a.value)
-result_noted x y z (Err e) (Err d) many = ap Err many
-result_noted x y z (Ok a) (Err d) many = absurd many
-result_noted x y z (Err e) (Ok b) many = absurd many
+result_noted own x y z (Ok a) (Ok b) many = ap Ok (ap unfolded_.first_tree many.values ∙ first_noted a.value)
+result_noted own x y z (Err e) (Err d) many = ap Err many
+result_noted own x y z (Ok a) (Err d) many = absurd many
+result_noted own x y z (Err e) (Ok b) many = absurd many
 
 -- Unfolding with arguments is unfolding without: the same refusal, or the same tree with its arguments.
 pub unfold_noted : (shape : Tree) → IsTree either (OfKind SYMBOL) shape → unfolded_.unfold_cpp shape ≡ noted_tree (unfolding_.unfold_cpp shape)
-unfolding cpp unfolded_.cpp reading_by reading_noted_by abi_way abi_noted unfolded_.unfold_cpp unfolding_.unfold_cpp unfolding_.first_around unfolding_.first_state unfolded_.first_around unfolded_.first_state is_encoding is_special is_special_kind noted_around way.own noted_scope noted_prefix
+unfolding cpp unfolded_.cpp reading_by reading_noted_by abi_way abi_noted unfolded_.unfold_cpp unfolding_.unfold_cpp unfolding_.first_around unfolding_.first_state unfolded_.first_around unfolded_.first_state is_encoding is_special is_special_kind noted_around noted_scope noted_prefix
 unfold_noted shape is =
-    result_noted unfolding_.first_state unfolding_.first_state unfolded_.first_state (unfold_tree cpp unfolding_.first_around 0 shape unfolding_.first_state) (unfold_tree unfolded_.cpp unfolded_.first_around 0 shape unfolded_.first_state)
-    (tree_noted_ abi_way abi_keeps abi_noted abi_is_noted shape (OfKind SYMBOL) unfolding_.first_around 0 unfolding_.first_state unfolded_.first_state (trees_.known 0 (lit≤ tt)) is (omega arith) (λ opening. absurd (false≢true opening)) (λ special. absurd (false≢true special)) tt tt
+    result_noted false unfolding_.first_state unfolding_.first_state unfolded_.first_state (unfold_tree cpp unfolding_.first_around 0 shape unfolding_.first_state) (unfold_tree unfolded_.cpp unfolded_.first_around 0 shape unfolded_.first_state)
+    (tree_noted_ abi_way abi_keeps abi_noted abi_is_noted shape (OfKind SYMBOL) unfolding_.first_around 0 unfolding_.first_state unfolded_.first_state (trees_.known 0 (lit≤ tt)) is (omega arith) (λ opening. absurd (false≢true opening)) (λ special. absurd (false≢true special)) (λ l. absurd (false≢true l)) tt tt
     (record { packs = refl; all = tt }))
 
 -- And so it is by the wide grammar.
 pub wide_unfold_noted : (shape : Tree) → IsTree either (OfKind SYMBOL) shape → wide_.unfold_wide shape ≡ noted_tree (unfold_wide shape)
-unfolding cpp_wide wide_.cpp_wide reading_by reading_noted_by wide_way wide_noted wide_.unfold_wide unfold_wide unfolding_.first_around unfolding_.first_state unfolded_.first_around unfolded_.first_state is_encoding is_special is_special_kind noted_around way.own noted_scope noted_prefix
+unfolding cpp_wide wide_.cpp_wide reading_by reading_noted_by wide_way wide_noted wide_.unfold_wide unfold_wide unfolding_.first_around unfolding_.first_state unfolded_.first_around unfolded_.first_state is_encoding is_special is_special_kind noted_around noted_scope noted_prefix
 wide_unfold_noted shape is =
-    result_noted unfolding_.first_state unfolding_.first_state unfolded_.first_state (unfold_tree cpp_wide unfolding_.first_around 0 shape unfolding_.first_state) (unfold_tree wide_.cpp_wide unfolded_.first_around 0 shape unfolded_.first_state)
-    (tree_noted_ wide_way wide_keeps wide_noted wide_is_noted shape (OfKind SYMBOL) unfolding_.first_around 0 unfolding_.first_state unfolded_.first_state (trees_.known 0 (lit≤ tt)) is (omega arith) (λ opening. absurd (false≢true opening)) (λ special. absurd (false≢true special)) tt tt
+    result_noted true unfolding_.first_state unfolding_.first_state unfolded_.first_state (unfold_tree cpp_wide unfolding_.first_around 0 shape unfolding_.first_state) (unfold_tree wide_.cpp_wide unfolded_.first_around 0 shape unfolded_.first_state)
+    (tree_noted_ wide_way wide_keeps wide_noted wide_is_noted shape (OfKind SYMBOL) unfolding_.first_around 0 unfolding_.first_state unfolded_.first_state (trees_.known 0 (lit≤ tt)) is (omega arith) (λ opening. absurd (false≢true opening)) (λ special. absurd (false≢true special)) (λ l. absurd (false≢true l)) tt tt
     (record { packs = refl; all = tt }))
 
 -- So the answer may be read from either.
@@ -495,11 +495,11 @@ wide_same_answer d limit shape is = ap (noted_answer d limit) (wide_unfold_noted
 
 -- ## Candidates
 
-all_as_many : (around : Around) (cs : List Candidate) (ds : List value_.Candidate) → AllNoted way.own around cs ds → length ds ≡ length cs
-all_as_many around [] [] all = refl
-all_as_many around (c ∷ cs) (d ∷ ds) all = ap suc (all_as_many around cs ds all.1)
-all_as_many around [] (d ∷ ds) all = absurd all
-all_as_many around (c ∷ cs) [] all = absurd all
+all_as_many : (own : Bool) → (around : Around) (cs : List Candidate) (ds : List value_.Candidate) → AllNoted own around cs ds → length ds ≡ length cs
+all_as_many own around [] [] all = refl
+all_as_many own around (c ∷ cs) (d ∷ ds) all = ap suc (all_as_many own around cs ds all.1)
+all_as_many own around [] (d ∷ ds) all = absurd all
+all_as_many own around (c ∷ cs) [] all = absurd all
 
 -- the reading of a symbol with arguments, beside the one without: as many trees become candidates
 pub record ReadWithArguments (shape : Tree) (read : Found (List Value) State) : Type 0 where
@@ -509,16 +509,16 @@ pub record ReadWithArguments (shape : Tree) (read : Found (List Value) State) : 
 
 pub read_with_arguments : (shape : Tree) (read : Found (List Value) State) → IsTree either (OfKind SYMBOL) shape
     → unfold_tree cpp unfolding_.first_around 0 shape unfolding_.first_state ≡ Ok read → ReadWithArguments shape read
-unfolding cpp unfolded_.cpp reading_by reading_noted_by abi_way abi_noted unfolding_.first_around unfolding_.first_state unfolded_.first_around unfolded_.first_state is_encoding is_special is_special_kind noted_around way.own noted_scope noted_prefix
+unfolding cpp unfolded_.cpp reading_by reading_noted_by abi_way abi_noted unfolding_.first_around unfolding_.first_state unfolded_.first_around unfolded_.first_state is_encoding is_special is_special_kind noted_around noted_scope noted_prefix
 read_with_arguments shape read is e =
     go (unfold_tree unfolded_.cpp unfolded_.first_around 0 shape unfolded_.first_state) refl
-    (subst (λ r. Alike (Many unfolding_.first_around unfolding_.first_state unfolded_.first_state) r (unfold_tree unfolded_.cpp unfolded_.first_around 0 shape unfolded_.first_state)) e
-    (tree_noted_ abi_way abi_keeps abi_noted abi_is_noted shape (OfKind SYMBOL) unfolding_.first_around 0 unfolding_.first_state unfolded_.first_state (trees_.known 0 (lit≤ tt)) is (omega arith) (λ opening. absurd (false≢true opening)) (λ special. absurd (false≢true special)) tt tt
+    (subst (λ r. Alike (Many false nowhere unfolding_.first_around unfolding_.first_state unfolded_.first_state) r (unfold_tree unfolded_.cpp unfolded_.first_around 0 shape unfolded_.first_state)) e
+    (tree_noted_ abi_way abi_keeps abi_noted abi_is_noted shape (OfKind SYMBOL) unfolding_.first_around 0 unfolding_.first_state unfolded_.first_state (trees_.known 0 (lit≤ tt)) is (omega arith) (λ opening. absurd (false≢true opening)) (λ special. absurd (false≢true special)) (λ l. absurd (false≢true l)) tt tt
     (record { packs = refl; all = tt })))
   where
     go : (q : Result (Found (List value_.Value) value_.State) Refusal) → unfold_tree unfolded_.cpp unfolded_.first_around 0 shape unfolded_.first_state ≡ q
-        → Alike (Many unfolding_.first_around unfolding_.first_state unfolded_.first_state) (Ok read) q → ReadWithArguments shape read
+        → Alike (Many false nowhere unfolding_.first_around unfolding_.first_state unfolded_.first_state) (Ok read) q → ReadWithArguments shape read
     go (Err d) same alike = absurd alike
     go (Ok other) same alike =
         let m = alike.moves in
-        record { other = other; is = same; candidates = ap length m.so ∙ all_as_many unfolding_.first_around m.more m.others m.each ∙ sym (ap length m.is) }
+        record { other = other; is = same; candidates = ap length m.so ∙ all_as_many false unfolding_.first_around m.more m.others m.each ∙ sym (ap length m.is) }
