@@ -91,6 +91,7 @@ module _ (s : List ℕ) (us : List Thunk) (ts : List Term) (t : Term) (i : ℕ) 
   node-stays (Node.Pack elements) b = rw (early elements b) refl
   node-stays (Node.Cell first rest) b = rw (early first b.0, early rest b.1) refl
   node-stays (Node.Whole e suffix) b = rw (early e b.0) refl
+  node-stays (Node.Again x a) b = rw (early x b.0, early a b.1) refl
 
   class-stays : (c : HeadClass) → IsClassBelow i c → class_is (ts ++ t ∷ []) c ≡ class_is ts c
   unfolding class_is
