@@ -8,6 +8,7 @@ use Rattle.cpp_tree.specs.declared.node.HeadClass.{HeadClass}
 use Rattle.cpp_tree.specs.declared.node.ByArgument.{ByArgument}
 use Rattle.cpp_tree.specs.declared.compact.Words.{Words}
 use Rattle.cpp_tree.specs.declared.compact.Compact.{Compact}
+use Rattle.cpp_tree.specs.Notes.{placed_under, if_own, class_by}
 
 -- the length of packs, by what is kept: the number behind it, and 0 where there are none
 unfoldable pub packs_kept : ℕ → Option ℕ
@@ -95,6 +96,57 @@ with_arguments n packs is_open is_generic by_argument arguments returns = record
   untagged = None;
   returns = returns;
   count = 0;
+  run = 0;
+}
+
+-- the entry of a name with tags, under which this one stands
+abbrev pub with_tags : (n : Node) (packs : Option ℕ) (is_open is_generic : Bool) (by_argument : ByArgument) (untagged : Placed) → Entry
+with_tags n packs is_open is_generic by_argument untagged = record {
+  node = n;
+  packs = packs;
+  is_open = is_open;
+  is_generic = is_generic;
+  is_empty = false;
+  by_argument = by_argument;
+  class = HeadClass.Known Head.Plain;
+  arguments = None;
+  untagged = Some untagged;
+  returns = false;
+  count = 0;
+  run = 0;
+}
+
+-- the entry of a tree that is there again with an argument, where its head is its own, by the words of the tree
+abbrev pub own_entry : (n : Node) (packs : Option ℕ) (is_open is_generic is_empty : Bool) (by_argument : ByArgument) (words : Words) (first second argument : ℕ) → Entry
+own_entry n packs is_open is_generic is_empty by_argument words first second argument = record {
+  node = n;
+  packs = packs;
+  is_open = is_open;
+  is_generic = is_generic;
+  is_empty = is_empty;
+  by_argument = by_argument;
+  class = class_kept words first second;
+  arguments = placed_under argument (arguments_kept words first second);
+  untagged = placed_under argument (untagged_kept words first second);
+  returns = returns_kept words;
+  count = count_kept words first;
+  run = 0;
+}
+
+-- the same, by the entry of the tree and the head that a parameter with the argument has
+abbrev pub restated_entry : (n : Node) (packs : Option ℕ) (is_empty : Bool) (own : Entry) (argument : ℕ) (given : HeadClass) → Entry
+restated_entry n packs is_empty own argument given = record {
+  node = n;
+  packs = packs;
+  is_open = own.is_open;
+  is_generic = own.is_generic;
+  is_empty = is_empty;
+  by_argument = own.by_argument;
+  class = class_by own.by_argument.head own.class given;
+  arguments = if_own own.by_argument.head (placed_under argument own.arguments) None;
+  untagged = if_own own.by_argument.head (placed_under argument own.untagged) None;
+  returns = if_own own.by_argument.head own.returns false;
+  count = if_own own.by_argument.head own.count 0;
   run = 0;
 }
 

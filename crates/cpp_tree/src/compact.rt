@@ -43,7 +43,7 @@ pub struct Compact {
 /// The length of the packs.
 #[inline(always)]
 #[tactic(auto, unfolding(crate::specs::Compact::packs_kept))]
-fn packs(kept: u32) -> Option<u32>
+pub(crate) fn packs(kept: u32) -> Option<u32>
     ensures { result ≡ packs_kept kept }
 {
     if kept == 0 { None } else { Some(kept - 1) }
@@ -52,7 +52,7 @@ fn packs(kept: u32) -> Option<u32>
 /// The tree of the node that the first word is, under the argument that the second says.
 #[inline(always)]
 #[tactic(auto, unfolding(crate::specs::Compact::packs_kept))]
-pub(crate) fn placed(first: u32, second: u32) -> Placed
+fn placed(first: u32, second: u32) -> Placed
     ensures { result ≡ placed_kept first second }
 {
     Placed {
