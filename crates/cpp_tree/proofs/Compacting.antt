@@ -16,7 +16,7 @@ use Rattle.cpp_tree.specs.declared.node.Entry.{Entry}
 use Rattle.cpp_tree.specs.declared.compact.Words.{Words}
 use Rattle.cpp_tree.specs.declared.compact.Compact.{Compact}
 use Rattle.cpp_tree.specs.Nodes.{entry_at, by_none}
-use Rattle.cpp_tree.specs.Notes.{lent_at, passed, joined, of_expansion, of_pack, piece_lends, lends, placed_under, if_own, pack_class, class_by, collapses, piece_opens, piece_has_generic, piece_packs, argument_packs, opens, has_generic, empties, ends_in, untagging, classes, packing, returning, counting, running, noting, bare_entry}
+use Rattle.cpp_tree.specs.Notes.{lent_at, passed, joined, of_expansion, of_pack, piece_lends, lends, placed_under, if_own, packs_by, empty_by, pack_class, class_by, collapses, piece_opens, piece_has_generic, piece_packs, argument_packs, opens, has_generic, empties, ends_in, untagging, classes, packing, returning, counting, running, noting, bare_entry}
 use Rattle.cpp_tree.specs.Compact.{packs_kept, class_kept, arguments_kept, untagged_kept, returns_kept, count_kept, run_kept, kept, with_head, restated_entry, entry_of}
 
 -- a length that is kept, and one that isn't
@@ -233,3 +233,14 @@ pub collapsed-restated : (n : Node) (packs : Option ℕ) (empty : Bool) (e : Ent
     → with_head n packs e.is_open e.is_generic empty e.by_argument (collapses given) ≡ restated_entry n packs empty e argument given
 unfolding class_by if_own
 collapsed-restated n packs empty e argument given is = rw is refl
+
+pub again-is : (n : Node) (made : Entry) (held : Compact) (e : Entry) (kept_packs given_packs packs : Option ℕ) (empty none : Bool) (argument : ℕ) (given class : HeadClass)
+    → made ≡ restated_entry n kept_packs empty (entry_of held) argument given → entry_of held ≡ e → given_packs ≡ packs → given ≡ class
+    → kept_packs ≡ packs_by held.by_argument.is_bare given_packs → none ≡ heads.is_none_of given_packs → empty ≡ empty_by none held.by_argument
+    → made ≡ restated_entry n (packs_by e.by_argument.is_bare packs) (empty_by (heads.is_none_of packs) e.by_argument) e argument class
+again-is n made held e kept_packs given_packs packs empty none argument given class made-is at packs-are class-is kept-is none-is empty-is =
+    made-is ∙ ap (λ p. restated_entry n p empty (entry_of held) argument given) kept-is
+    ∙ ap (λ b. restated_entry n (packs_by held.by_argument.is_bare given_packs) b (entry_of held) argument given) (empty-is ∙ ap (λ b. empty_by b held.by_argument) none-is)
+    ∙ ap (λ p. restated_entry n (packs_by held.by_argument.is_bare p) (empty_by (heads.is_none_of p) held.by_argument) (entry_of held) argument given) packs-are
+    ∙ ap (λ h. restated_entry n (packs_by held.by_argument.is_bare packs) (empty_by (heads.is_none_of packs) held.by_argument) (entry_of held) argument h) class-is
+    ∙ ap (λ x. restated_entry n (packs_by x.by_argument.is_bare packs) (empty_by (heads.is_none_of packs) x.by_argument) x argument class) at

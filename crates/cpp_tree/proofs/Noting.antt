@@ -76,6 +76,15 @@ unfolding empty_by by_argument_of
 empty-chosen true t = refl
 empty-chosen false t = refl
 
+pub other-place : (i : ℕ) (n : Node) → ((t a : ℕ) → n ≡ Node.Again t a → ⊥) → record { node = i; under = None } ≡ place_of i n
+unfolding place_of
+other-place i (Node.Again t a) other = absurd (other t a refl)
+other-place i _ other = refl
+
+pub again-place : (i t a : ℕ) (n : Node) → n ≡ Node.Again t a → record { node = t; under = Some a } ≡ place_of i n
+unfolding place_of
+again-place i t a n is = rw is refl
+
 module _ (y : Table) (table : IsTable y) where
   at : (i : ℕ) → i < length y.nodes → open_at y.nodes i ≡ is_open (tree_at (trees y) i)
   at i less = (table.each i less).free
@@ -215,6 +224,10 @@ module _ (y : Table) (table : IsTable y) where
       go (Node.Again t a) flat is = flat
       go _ flat is = ap is_again is
 
+  pub resolved-is : (i : ℕ) (r : Placed) → i < length y.nodes → r ≡ resolved_at y.nodes i
+      → (placed_tree (trees y) r ≡ tree_at (trees y) i) × ((is_again (entry_at y.nodes r.node).node ≡ false) × IsPlacedBelow (length y.nodes) r)
+  resolved-is i r less is = rw is (place-is i less, (shape-flat i less, (place-below i less, place-under i less)))
+
   empty-at : (i : ℕ) → i < length y.nodes → (entry_at y.nodes i).is_empty ≡ items.is_empty items.closed (tree_at (trees y) i)
   empty-at i less = (table.each i less).empty
 
@@ -252,7 +265,7 @@ module _ (y : Table) (table : IsTable y) where
   node-ends (Node.Again t a) b = ends-again t a (lent_at y.nodes t).head b.0 refl
   node-ends _ b = refl
 
-  placed-below : (i n : ℕ) (p : Placed) → i < n → IsPlacedBelow i p → IsPlacedBelow n p
+  pub placed-below : (i n : ℕ) (p : Placed) → i < n → IsPlacedBelow i p → IsPlacedBelow n p
   placed-below i n p less b = (omega (arith, less, b.0), go p.under b.1)
     where
       go : (u : Option ℕ) → IsThereBelow i u → IsThereBelow n u
@@ -291,19 +304,15 @@ module _ (y : Table) (table : IsTable y) where
   untagged-again : (t a : ℕ) (h : HeadFrom) → t < length y.nodes → (lent_at y.nodes t).head ≡ h
       → untagged_is (trees y) (reargued (Some (tree_at (trees y) a)) (tree_at (trees y) t)) (if_own h (placed_under a (entry_at y.nodes t).untagged) None) ≡ without_tags (reargued (Some (tree_at (trees y) a)) (tree_at (trees y) t))
   unfolding if_own untagged_is placed_under placed_tree tree_if_there
-  untagged-again t a h less is = which h is ∙ sym (untagged_reargued c x)
+  untagged-again t a h less is = which h is ∙ sym (untagged_reargued (Some (tree_at (trees y) a)) (tree_at (trees y) t))
     where
-      abbrev c : Option Term
-      c = Some (tree_at (trees y) a)
-      abbrev x : Term
-      x = tree_at (trees y) t
-      own : (o : Option Placed) → untagged_is (trees y) x o ≡ without_tags x → untagged_is (trees y) (reargued c x) (placed_under a o) ≡ reargued c (without_tags x)
-      own None e = ap (reargued c) e
-      own (Some p) e = sym (reargued_twice (tree_if_there (trees y) p.under) (tree_at (trees y) a) (tree_at (trees y) p.node)) ∙ ap (reargued c) e
-      which : (h : HeadFrom) → (lent_at y.nodes t).head ≡ h → untagged_is (trees y) (reargued c x) (if_own h (placed_under a (entry_at y.nodes t).untagged) None) ≡ reargued c (without_tags x)
+      own : (o : Option Placed) → untagged_is (trees y) (tree_at (trees y) t) o ≡ without_tags (tree_at (trees y) t) → untagged_is (trees y) (reargued (Some (tree_at (trees y) a)) (tree_at (trees y) t)) (placed_under a o) ≡ reargued (Some (tree_at (trees y) a)) (without_tags (tree_at (trees y) t))
+      own None e = ap (reargued (Some (tree_at (trees y) a))) e
+      own (Some p) e = sym (reargued_twice (tree_if_there (trees y) p.under) (tree_at (trees y) a) (tree_at (trees y) p.node)) ∙ ap (reargued (Some (tree_at (trees y) a))) e
+      which : (h : HeadFrom) → (lent_at y.nodes t).head ≡ h → untagged_is (trees y) (reargued (Some (tree_at (trees y) a)) (tree_at (trees y) t)) (if_own h (placed_under a (entry_at y.nodes t).untagged) None) ≡ reargued (Some (tree_at (trees y) a)) (without_tags (tree_at (trees y) t))
       which HeadFrom.Own is = own (entry_at y.nodes t).untagged (table.each t less).untagged
-      which HeadFrom.Argument is = ap (reargued c) (sym (plain-at t less (λ o. cc (is, o))).no_tags)
-      which HeadFrom.Collapsed is = ap (reargued c) (sym (plain-at t less (λ o. cc (is, o))).no_tags)
+      which HeadFrom.Argument is = ap (reargued (Some (tree_at (trees y) a))) (sym (plain-at t less (λ o. cc (is, o))).no_tags)
+      which HeadFrom.Collapsed is = ap (reargued (Some (tree_at (trees y) a))) (sym (plain-at t less (λ o. cc (is, o))).no_tags)
 
   pub node-untagged : (n : Node) → IsBelow y.bytes (length y.thunks) (length y.nodes) n
       → untagged_is (trees y) (tree_of y.bytes y.thunks (trees y) n) (untagging y.nodes n) ≡ without_tags (tree_of y.bytes y.thunks (trees y) n)
@@ -372,7 +381,7 @@ module _ (y : Table) (table : IsTable y) where
   node-class (Node.Again t a) b = class-again t a b.0 b.1
   node-class _ b = refl
 
-  class-later : (i n : ℕ) (c : HeadClass) → i < n → IsClassBelow i c → IsClassBelow n c
+  pub class-later : (i n : ℕ) (c : HeadClass) → i < n → IsClassBelow i c → IsClassBelow n c
   class-later i n (HeadClass.Known h) less b = tt
   class-later i n (HeadClass.OfElement e) less b = placed-below i n e less b
   class-later i n (HeadClass.CollapsedOfElement e) less b = placed-below i n e less b
@@ -389,13 +398,13 @@ module _ (y : Table) (table : IsTable y) where
   pack-below i m under (Node.Pack elements) c less there b d = (omega (arith, less, b), there)
   pack-below i m under _ c less there b d = d
 
-  argument-below : (a : ℕ) → a < length y.nodes → IsClassBelow (length y.nodes) (argument_class y.nodes a)
+  pub argument-below : (a : ℕ) → a < length y.nodes → IsClassBelow (length y.nodes) (argument_class y.nodes a)
   argument-below a less =
       let r = resolved_at y.nodes a in
       pack-below r.node (length y.nodes) r.under (shape_at y.nodes a) (entry_at y.nodes a).class (place-below a less) (place-under a less) (table.each r.node (place-below a less)).below
       (class-later a (length y.nodes) (entry_at y.nodes a).class less (table.each a less).class_below)
 
-  chosen-below : (n : ℕ) (h : HeadFrom) (own given : HeadClass) → IsClassBelow n own → IsClassBelow n given → IsClassBelow n (class_by h own given)
+  pub chosen-below : (n : ℕ) (h : HeadFrom) (own given : HeadClass) → IsClassBelow n own → IsClassBelow n given → IsClassBelow n (class_by h own given)
   unfolding class_by
   chosen-below n HeadFrom.Own own given b d = b
   chosen-below n HeadFrom.Argument own given b d = d
