@@ -160,7 +160,7 @@ module _ (y : Table) (table : IsTable y) where
   lent-at : (i : ℕ) → i < length y.nodes → lent_at y.nodes i ≡ by_argument_of (tree_at (trees y) i)
   lent-at i less = (table.each i less).by_argument
 
-  piece-lent : (p : Piece) → IsPieceBelow y.bytes (length y.nodes) p → piece_lends y.nodes p ≡ by_argument_of (piece_of y.bytes (trees y) p)
+  piece-lent : (p : Piece) → IsPieceBelow y.bytes (length y.nodes) p → piece_lends y.nodes p ≡ passed (by_argument_of (piece_of y.bytes (trees y) p))
   unfolding piece_lends piece_of by_argument_of bare head_from is_empty_with head_noted passed
   piece-lent (Piece.Lambda parameters number) b = ap passed (lent-at parameters b)
   piece-lent (Piece.Conversion t) b = ap passed (lent-at t b)
@@ -197,6 +197,7 @@ module _ (y : Table) (table : IsTable y) where
   -- ## What a node stands for
 
   pub place-is : (i : ℕ) → i < length y.nodes → placed_tree (trees y) (resolved_at y.nodes i) ≡ tree_at (trees y) i
+  unfolding placed_tree tree_if_there place_of tree_of
   place-is i less = go (entry_at y.nodes i).node (table.each i less).built
     where
       go : (n : Node) → tree_at (trees y) i ≡ tree_of y.bytes y.thunks (trees y) n → placed_tree (trees y) (place_of i n) ≡ tree_at (trees y) i
@@ -204,6 +205,7 @@ module _ (y : Table) (table : IsTable y) where
       go _ e = reargued_none (tree_at (trees y) i)
 
   place-below : (i : ℕ) → i < length y.nodes → (resolved_at y.nodes i).node < length y.nodes
+  unfolding place_of
   place-below i less = go (entry_at y.nodes i).node (table.each i less).below
     where
       go : (n : Node) → IsBelow y.bytes (length y.thunks) i n → (place_of i n).node < length y.nodes
@@ -211,6 +213,7 @@ module _ (y : Table) (table : IsTable y) where
       go _ b = less
 
   place-under : (i : ℕ) → i < length y.nodes → IsThereBelow (length y.nodes) (resolved_at y.nodes i).under
+  unfolding place_of
   place-under i less = go (entry_at y.nodes i).node (table.each i less).below
     where
       go : (n : Node) → IsBelow y.bytes (length y.thunks) i n → IsThereBelow (length y.nodes) (place_of i n).under
@@ -218,6 +221,7 @@ module _ (y : Table) (table : IsTable y) where
       go _ b = tt
 
   pub shape-flat : (i : ℕ) → i < length y.nodes → is_again (shape_at y.nodes i) ≡ false
+  unfolding place_of is_again
   shape-flat i less = go (entry_at y.nodes i).node (table.each i less).flat refl
     where
       go : (n : Node) → IsFlat y.nodes n → (entry_at y.nodes i).node ≡ n → is_again (entry_at y.nodes (place_of i n).node).node ≡ false
@@ -246,7 +250,7 @@ module _ (y : Table) (table : IsTable y) where
 
   ends-again : (t a : ℕ) (h : HeadFrom) → t < length y.nodes → (lent_at y.nodes t).head ≡ h
       → arguments_are (trees y) (if_own h (placed_under a (entry_at y.nodes t).arguments) None) ≡ arguments_of (reargued (Some (tree_at (trees y) a)) (tree_at (trees y) t))
-  unfolding if_own arguments_are
+  unfolding if_own arguments_are reargued_if_there
   ends-again t a h less is = which h is ∙ sym (arguments_reargued (Some (tree_at (trees y) a)) (tree_at (trees y) t))
     where
       none : IsPlain (tree_at (trees y) t) → None ≡ reargued_if_there (Some (tree_at (trees y) a)) (arguments_of (tree_at (trees y) t))

@@ -14,8 +14,11 @@ use Rattle.cpp_tree.specs.declared.node.Entry.{Entry}
 use Rattle.cpp_term.specs.Reargued.{reargued}
 use Rattle.std.proofs.lemmas.Bool.{true≢false}
 use Rattle.std.specs.Prelude.{false}
-use Rattle.cpp_term.proofs.Reargued.{reargued_none, reargued_twice, element_reargued, untagged_reargued}
-use Rattle.cpp_tree.specs.Notes.{class_by, empty_by, packs_by, argument_packs, shape_at}
+use Rattle.cpp_term.proofs.Reargued.{reargued_none, reargued_twice, element_reargued, untagged_reargued, erase_reargued}
+use Rattle.cpp_tree.specs.Notes.{class_by, empty_by, packs_by, argument_packs, place_of, resolved_at, shape_at}
+use Rattle.cpp_term.specs.Erased.{erase}
+use Rattle.cpp_tree.specs.declared.view.NodeView.{NodeView}
+use Rattle.cpp_tree.specs.Views.{AreBelow}
 use Rattle.cpp_tree.proofs.Noting.{class-later, again-pack, again-empty}
 use Rattle.cpp_tree.specs.Nodes.{Table, tree_at, tree_of, trees, entry_at, IsBelow, IsThereBelow, IsPlacedBelow, IsFlat, tree_if_there, placed_tree, is_again, IsClassBelow, IsArgumentsBelow, head_of, class_is, untagged_is, IsTable}
 
@@ -151,6 +154,32 @@ flat-other es _ other = tt
 
 pub again-below : (s : List ℕ) (held n t a : ℕ) (node : Node) → node ≡ Node.Again t a → IsBelow s held n node → (t < n) × (a < n)
 again-below s held n t a node is b = subst (λ x. IsBelow s held n x) is b
+
+-- ## Trees without arguments
+
+pub erased_place : (y : Table) (p : Placed) (t : Term) → placed_tree (trees y) p ≡ t → erase (tree_at (trees y) p.node) ≡ erase t
+unfolding placed_tree
+erased_place y p t is = sym (erase_reargued (tree_if_there (trees y) p.under) (tree_at (trees y) p.node)) ∙ ap erase is
+
+pub erased_again : (y : Table) (t a : ℕ) (n : Node) → n ≡ Node.Again t a → erase (tree_of y.bytes y.thunks (trees y) n) ≡ erase (tree_at (trees y) t)
+unfolding tree_of
+erased_again y t a n is = ap (λ x. erase (tree_of y.bytes y.thunks (trees y) x)) is ∙ erase_reargued (Some (tree_at (trees y) a)) (tree_at (trees y) t)
+
+pub not_again : (n : Node) → ((t a : ℕ) → n ≡ Node.Again t a → ⊥) → is_again n ≡ false
+unfolding is_again
+not_again (Node.Again t a) other = absurd (other t a refl)
+not_again _ other = refl
+
+pub place_most : (y : Table) (i : ℕ) (p : Placed) → IsTable y → i < length y.nodes → p ≡ resolved_at y.nodes i → p.node ≤ i
+unfolding place_of
+place_most y i p table less is = rw is (go (entry_at y.nodes i).node (table.each i less).below)
+  where
+    go : (n : Node) → IsBelow y.bytes (length y.thunks) i n → (place_of i n).node ≤ i
+    go (Node.Again t a) b = omega (arith, b.0)
+    go _ b = omega arith
+
+pub later_parts : (m n : ℕ) (seen : NodeView) → m ≤ n → AreBelow m seen → AreBelow n seen
+later_parts m n seen most all = λ k d less. omega (arith, all k d less, most)
 
 -- ## Tags
 

@@ -7,11 +7,11 @@ use Rattle.cpp_tree.proofs.nodes.Nodes.first.Goals as goal
 pub returns-in-Cell : goal.returns-in-Cell
 returns-in-Cell c =
     let y = over c.args.symbol.now c.args.self.now in
-    let inside = c.settled.ensures.below.0 in
+    let inside = c.settled-settled.ensures.below.0 in
     let is = sym c.node.ensures.is ∙ c.in-Cell.is in
     record {
-      tree = cell_first y c.settled.result c.in-Cell.first c.in-Cell.rest c.requires.table inside is ∙ ap (λ t. element t 0) c.settled.ensures.tree;
-      below = (omega (arith, (cell_is y c.settled.result.node c.in-Cell.first c.in-Cell.rest c.requires.table inside is).1, inside), c.settled.ensures.below.1);
+      tree = cell_first y c.settled-settled.result c.in-Cell.first c.in-Cell.rest c.requires.table inside is ∙ ap (λ t. element t 0) c.settled-settled.ensures.tree;
+      below = (omega (arith, (cell_is y c.settled-settled.result.node c.in-Cell.first c.in-Cell.rest c.requires.table inside is).1, inside), c.settled-settled.ensures.below.1);
     }
 
 pub returns-in_default : goal.returns-in_default
@@ -19,7 +19,7 @@ returns-in_default c =
     let y = over c.args.symbol.now c.args.self.now in
     record {
       tree = placed-alone (trees y) 0 ∙ c.requires.table.no_tree
-          ∙ sym (cell_none y c.settled.result 0 c.requires.table c.settled.ensures.below.0 c.settled.ensures.flat (λ first rest is. c.in_default.not-Cell first rest (c.node.ensures.is ∙ is)))
-          ∙ ap (λ t. element t 0) c.settled.ensures.tree;
+          ∙ sym (cell_none y c.settled-settled.result 0 c.requires.table c.settled-settled.ensures.below.0 c.settled-settled.ensures.flat (λ first rest is. c.in_default.not-Cell first rest (c.node.ensures.is ∙ is)))
+          ∙ ap (λ t. element t 0) c.settled-settled.ensures.tree;
       below = (omega (arith, c.requires.table.fixed), tt);
     }

@@ -5,6 +5,6 @@ use Rattle.cpp_tree.proofs.nodes.Nodes.noted_parameter.Goals as goal
 
 pub returns : goal.returns
 returns c =
-    c.of_type.ensures c.args.node (packs_kept c.given.result.packs) true false false of_parameter c.given.result.first c.given.result.second
-    ∙ ap (λ p. with_head c.args.node p true false false of_parameter (class_kept c.given.result.words c.given.result.first c.given.result.second)) c.given.ensures.packs
-    ∙ ap (λ h. with_head c.args.node (argument_packs c.args.self.now.nodes (shape_at c.args.self.now.nodes c.args.argument)) true false false of_parameter h) c.given.ensures.class
+    c.of_type.ensures c.args.node (packs_kept c.given-given.result.packs) true false false of_parameter c.given-given.result.first c.given-given.result.second
+    ∙ ap (λ p. with_head c.args.node p true false false of_parameter (class_kept c.given-given.result.words c.given-given.result.first c.given-given.result.second)) c.given-given.ensures.packs
+    ∙ ap (λ h. with_head c.args.node (argument_packs c.args.self.now.nodes (shape_at c.args.self.now.nodes c.args.argument)) true false false of_parameter h) c.given-given.ensures.class
