@@ -2,10 +2,11 @@ use Rattle.std.proofs.Common.{ap, sym}
 use Rattle.cpp_layout.proofs.Naming.{entity-other}
 use Rattle.cpp_term.specs.Parts.{entity_of}
 use Rattle.cpp_tree.specs.Nodes.{tree_of}
+use Rattle.cpp_term.specs.Reargued.{reargued}
 use Rattle.cpp_layout.proofs.symbol.Symbol.own_entity.Goals as goal
 
 pub returns-in-OfDefault-clause-tree : goal.returns-in-OfDefault-clause-tree
-unfolding tree_of entity_of
+unfolding tree_of entity_of reargued
 returns-in-OfDefault-clause-tree c = sym (ap entity_of c.in-OfDefault.ensures.tree)
 
 pub returns-in_default-clause-tree : goal.returns-in_default-clause-tree
