@@ -1,7 +1,7 @@
 // The parts of names and types, left of a declared name.
 #![tactic(auto)]
 
-ghost use Rattle.std.specs.Prelude.{◌+◌, ◌<◌, ◌≤◌, ◌∷◌, [], length, false};
+ghost use Rattle.std.specs.Prelude.{◌≡◌, ◌+◌, ◌<◌, ◌≤◌, ◌∷◌, [], length, false};
 ghost use Rattle.sym_print.specs.Unfold.{text};
 ghost use Rattle.cpp_grammar.specs.Items as heads;
 ghost use Rattle.cpp_term.specs.Parts.{as_item, own_piece, piece_parts, left_parts, low_parts, base_parts};

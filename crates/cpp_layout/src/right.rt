@@ -1,7 +1,7 @@
 // The parts of types, right of a name.
 #![tactic(auto)]
 
-ghost use Rattle.std.specs.Prelude.{◌+◌, ◌<◌, ◌≤◌, length, false};
+ghost use Rattle.std.specs.Prelude.{◌≡◌, ◌+◌, ◌<◌, ◌≤◌, length, false};
 ghost use Rattle.cpp_grammar.specs.Parts.{qualifier_text};
 ghost use Rattle.cpp_term.specs.Parts.{right_parts, function_right, qualified_right};
 ghost use Rattle.cpp_tree.specs.Nodes.{tree_at, trees, IsTable, qualifiers_of, mark_of, IsThereBelow, is_again, entry_at};

@@ -27,4 +27,4 @@ unfolding tree_of last_piece reargued
 returns-in-Within c = c.is_angle-in-Within.ensures c.args.self.now.bytes (trees (table_of c.args.self.now)) ∙ ap opening_text (sym (ap last_piece c.in-Within.ensures.tree) ∙ c.entities.invariant.1)
 
 pub returns-in_default : goal.returns-in_default
-returns-in_default c = last-none _ _ _ c.stored.result _ c.stored.ensures.tree c.in_default.not-Alone c.in_default.not-InStd c.in_default.not-Within c.in_default.not-Local c.in_default.not-OfDefault ∙ ap opening_text c.entities.invariant.1
+returns-in_default c = last-none _ _ _ _ c.stored.result c.stored.ensures.own _ c.stored.ensures.tree c.in_default.not-Alone c.in_default.not-InStd c.in_default.not-Within c.in_default.not-Local c.in_default.not-OfDefault ∙ ap opening_text c.entities.invariant.1

@@ -11,4 +11,4 @@ unfolding tree_of bare_parts reargued
 returns-in-Function-clause-shows g c = fills c.args.self.now c.args.ctx.detail _ _ _ c.fill_bare.ensures.shows (ap (λ t. bare_parts c.args.ctx.detail t) (sym c.in-Function.ensures.tree))
 
 pub returns-in_default-clause-shows : goal.returns-in_default-clause-shows
-returns-in_default-clause-shows g c = fills c.args.self.now c.args.ctx.detail _ _ _ c.fill_full.ensures.shows (bare-other c.args.ctx.detail _ _ _ c.stored.result _ c.stored.ensures.tree c.in_default.not-Function)
+returns-in_default-clause-shows g c = fills c.args.self.now c.args.ctx.detail _ _ _ c.fill_full.ensures.shows (bare-other c.args.ctx.detail _ _ _ _ c.stored.result c.stored.ensures.own _ c.stored.ensures.tree c.in_default.not-Function)

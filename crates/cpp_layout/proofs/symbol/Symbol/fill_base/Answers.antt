@@ -46,4 +46,4 @@ unfolding tree_of base_parts reargued
 returns-in-Parameter-clause-shows g c = fills c.args.self.now c.args.ctx.detail _ _ _ c.fill_parameter.ensures.shows (ap (λ t. base_parts c.args.ctx.detail (context_of c.args.ctx) t) (sym c.in-Parameter.ensures.tree))
 
 pub returns-in_default-clause-shows : goal.returns-in_default-clause-shows
-returns-in_default-clause-shows g c = fills c.args.self.now c.args.ctx.detail _ _ _ c.fill_as_left.ensures.shows (base-other-node _ _ _ c.args.ctx.detail (context_of c.args.ctx) c.stored.result _ c.stored.ensures.tree c.in_default.not-Alone c.in_default.not-InStd c.in_default.not-Within c.in_default.not-Instance c.in_default.not-Local c.in_default.not-Tagged c.in_default.not-Abbreviation c.in_default.not-Parameter c.in_default.not-Holder)
+returns-in_default-clause-shows g c = fills c.args.self.now c.args.ctx.detail _ _ _ c.fill_as_left.ensures.shows (base-other-node _ _ _ _ c.args.ctx.detail (context_of c.args.ctx) c.stored.result c.stored.ensures.own _ c.stored.ensures.tree c.in_default.not-Alone c.in_default.not-InStd c.in_default.not-Within c.in_default.not-Instance c.in_default.not-Local c.in_default.not-Tagged c.in_default.not-Abbreviation c.in_default.not-Parameter c.in_default.not-Holder)

@@ -12,4 +12,4 @@ unfolding tree_of reargued
 returns-in-Cell-clause-shows g c = fills c.args.self.now c.args.ctx.detail _ _ _ c.fill_first.ensures.shows (ap (λ t. first_parts (context_of c.args.ctx) t) (sym c.in-Cell.ensures.tree))
 
 pub returns-in_default-clause-shows : goal.returns-in_default-clause-shows
-returns-in_default-clause-shows g c = fills c.args.self.now c.args.ctx.detail _ _ _ (starts c.args.self.now c.args.ctx.detail _) (first-other _ _ _ (context_of c.args.ctx) c.stored.result _ c.stored.ensures.tree c.in_default.not-Cell)
+returns-in_default-clause-shows g c = fills c.args.self.now c.args.ctx.detail _ _ _ (starts c.args.self.now c.args.ctx.detail _) (first-other _ _ _ _ (context_of c.args.ctx) c.stored.result c.stored.ensures.own _ c.stored.ensures.tree c.in_default.not-Cell)

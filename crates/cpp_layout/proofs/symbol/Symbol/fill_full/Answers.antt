@@ -35,4 +35,4 @@ unfolding tree_of full_parts reargued
 returns-in-CloneOf-clause-shows g c = fills c.args.self.now c.args.ctx.detail _ _ _ c.fill_clone.ensures.shows (ap (λ t. full_parts c.args.ctx.detail t) (sym c.in-CloneOf.ensures.tree))
 
 pub returns-in_default-clause-shows : goal.returns-in_default-clause-shows
-returns-in_default-clause-shows g c = fills c.args.self.now c.args.ctx.detail _ _ _ (starts c.args.self.now c.args.ctx.detail _) (full-none c.args.ctx.detail _ _ _ c.stored.result _ c.stored.ensures.tree c.in_default.not-Function c.in_default.not-Object c.in_default.not-Special c.in_default.not-Thunk c.in_default.not-OfName c.in_default.not-Construction c.in_default.not-CloneOf)
+returns-in_default-clause-shows g c = fills c.args.self.now c.args.ctx.detail _ _ _ (starts c.args.self.now c.args.ctx.detail _) (full-none c.args.ctx.detail _ _ _ _ c.stored.result c.stored.ensures.own _ c.stored.ensures.tree c.in_default.not-Function c.in_default.not-Object c.in_default.not-Special c.in_default.not-Thunk c.in_default.not-OfName c.in_default.not-Construction c.in_default.not-CloneOf)

@@ -52,7 +52,7 @@ unfolding tree_of left_parts reargued
 returns-in-Parameter-clause-shows g c = fills c.args.self.now c.args.ctx.detail _ _ _ c.fill_parameter.ensures.shows (ap (λ n. left_parts c.args.ctx.detail (context_of c.args.ctx) (node_shown c.args.self.now c.args.ctx n)) (sym c.in-Parameter.is) ∙ ap (λ t. left_parts c.args.ctx.detail (context_of c.args.ctx) t) (sym c.stored-stored.ensures.tree))
 
 pub fill_left_type-requires-clause-kind : goal.fill_left_type-requires-clause-kind
-fill_left_type-requires-clause-kind g c = no-name c.stored-stored.result c.in_default.not-Alone c.in_default.not-InStd c.in_default.not-Within c.in_default.not-Instance c.in_default.not-Local c.in_default.not-Tagged c.in_default.not-Abbreviation c.in_default.not-Parameter c.in_default.not-Holder
+fill_left_type-requires-clause-kind g c = no-name c.stored-stored.result c.stored-stored.ensures.own c.in_default.not-Alone c.in_default.not-InStd c.in_default.not-Within c.in_default.not-Instance c.in_default.not-Local c.in_default.not-Tagged c.in_default.not-Abbreviation c.in_default.not-Parameter c.in_default.not-Holder
 
 pub returns-in_default-clause-shows : goal.returns-in_default-clause-shows
 returns-in_default-clause-shows g c = fills c.args.self.now c.args.ctx.detail _ _ _ c.fill_left_type.ensures.shows (ap (λ t. left_parts c.args.ctx.detail (context_of c.args.ctx) t) (sym c.stored-stored.ensures.tree))

@@ -1,6 +1,6 @@
 use Rattle.std.proofs.Common.{ap, append-nil, sym, ◌∙◌}
 use Rattle.cpp_layout.proofs.Growing.{fills, starts}
-use Rattle.cpp_layout.proofs.Typing.{boolean-whole, left-none}
+use Rattle.cpp_layout.proofs.Typing.{no-type-flat, boolean-whole, left-none}
 use Rattle.cpp_layout.specs.Layout.{context_of, table_of, node_shown}
 use Rattle.cpp_term.specs.Parts.{left_parts}
 use Rattle.cpp_tree.specs.Nodes.{tree_of, trees}
@@ -36,4 +36,4 @@ unfolding tree_of left_parts reargued
 returns-in-AddressOf-clause-shows g c = fills c.args.self.now c.args.ctx.detail _ _ _ c.fill_encoding_literal-in-AddressOf.ensures.shows (ap (λ n. left_parts c.args.ctx.detail (context_of c.args.ctx) (node_shown c.args.self.now c.args.ctx n)) (sym c.in-AddressOf.is))
 
 pub returns-in_default-clause-shows : goal.returns-in_default-clause-shows
-returns-in_default-clause-shows g c = fills c.args.self.now c.args.ctx.detail _ _ _ (starts c.args.self.now c.args.ctx.detail _) (left-none _ _ _ c.args.ctx.detail (context_of c.args.ctx) c.args.node c.requires.kind c.in_default.not-Expansion c.in_default.not-Pack c.in_default.not-Integer c.in_default.not-Boolean c.in_default.not-NullPointer c.in_default.not-EncodingLiteral c.in_default.not-AddressOf)
+returns-in_default-clause-shows g c = fills c.args.self.now c.args.ctx.detail _ _ _ (starts c.args.self.now c.args.ctx.detail _) (left-none _ _ _ _ c.args.ctx.detail (context_of c.args.ctx) c.args.node (no-type-flat c.args.node c.requires.kind) c.requires.kind c.in_default.not-Expansion c.in_default.not-Pack c.in_default.not-Integer c.in_default.not-Boolean c.in_default.not-NullPointer c.in_default.not-EncodingLiteral c.in_default.not-AddressOf)

@@ -24,4 +24,4 @@ unfolding tree_of low_parts reargued
 returns-in-Parameter-clause-shows g c = fills c.args.self.now c.args.ctx.detail _ _ _ c.fill_parameter.ensures.shows (ap (λ t. low_parts c.args.ctx.detail (context_of c.args.ctx) t) (sym c.in-Parameter.ensures.tree))
 
 pub returns-in_default-clause-shows : goal.returns-in_default-clause-shows
-returns-in_default-clause-shows g c = fills c.args.self.now c.args.ctx.detail _ _ _ c.fill_as_left.ensures.shows (low-other _ _ _ c.args.ctx.detail (context_of c.args.ctx) c.stored.result _ c.stored.ensures.tree c.in_default.not-Lvalue c.in_default.not-Rvalue c.in_default.not-Qualified c.in_default.not-Parameter)
+returns-in_default-clause-shows g c = fills c.args.self.now c.args.ctx.detail _ _ _ c.fill_as_left.ensures.shows (low-other _ _ _ _ c.args.ctx.detail (context_of c.args.ctx) c.stored.result c.stored.ensures.own _ c.stored.ensures.tree c.in_default.not-Lvalue c.in_default.not-Rvalue c.in_default.not-Qualified c.in_default.not-Parameter)

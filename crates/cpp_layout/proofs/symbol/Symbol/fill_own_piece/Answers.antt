@@ -20,4 +20,4 @@ unfolding tree_of own_piece reargued
 returns-in-Within-clause-shows g c = fills c.args.self.now c.args.ctx.detail _ _ _ c.fill_piece-in-Within.ensures.shows (ap (λ t. piece_parts (context_of c.args.ctx) (own_piece t)) (sym c.in-Within.ensures.tree))
 
 pub returns-in_default-clause-shows : goal.returns-in_default-clause-shows
-returns-in_default-clause-shows g c = fills c.args.self.now c.args.ctx.detail _ _ _ (starts c.args.self.now c.args.ctx.detail _) (own-none _ _ _ (context_of c.args.ctx) c.stored.result _ c.stored.ensures.tree c.in_default.not-Alone c.in_default.not-InStd c.in_default.not-Within)
+returns-in_default-clause-shows g c = fills c.args.self.now c.args.ctx.detail _ _ _ (starts c.args.self.now c.args.ctx.detail _) (own-none _ _ _ _ (context_of c.args.ctx) c.stored.result c.stored.ensures.own _ c.stored.ensures.tree c.in_default.not-Alone c.in_default.not-InStd c.in_default.not-Within)

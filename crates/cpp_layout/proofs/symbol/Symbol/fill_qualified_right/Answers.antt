@@ -10,4 +10,4 @@ unfolding tree_of reargued
 returns-in-FunctionType-clause-shows g c = fills c.args.self.now c.args.ctx.detail _ _ _ c.fill_function_right.ensures.shows (qualified-function (context_of c.args.ctx) (qualifiers_of c.args.qualifiers) _ _ _ _ _ _ c.in-FunctionType.ensures.tree)
 
 pub returns-in_default-clause-shows : goal.returns-in_default-clause-shows
-returns-in_default-clause-shows g c = fills c.args.self.now c.args.ctx.detail _ _ _ (c.push_item.ensures.shows _ _ (starts c.args.self.now c.args.ctx.detail _)) (qualified-other c.args.self.now.bytes c.args.self.now.table.thunks (trees (table_of c.args.self.now)) (context_of c.args.ctx) (qualifiers_of c.args.qualifiers) c.stored.result _ c.stored.ensures.tree c.in_default.not-FunctionType)
+returns-in_default-clause-shows g c = fills c.args.self.now c.args.ctx.detail _ _ _ (c.push_item.ensures.shows _ _ (starts c.args.self.now c.args.ctx.detail _)) (qualified-other c.args.self.now.bytes c.args.self.now.table.thunks (trees (table_of c.args.self.now)) _ (context_of c.args.ctx) (qualifiers_of c.args.qualifiers) c.stored.result c.stored.ensures.own _ c.stored.ensures.tree c.in_default.not-FunctionType)

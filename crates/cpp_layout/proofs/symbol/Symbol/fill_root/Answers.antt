@@ -11,4 +11,4 @@ unfolding tree_of reargued
 returns-in-Whole-clause-shows g c = fills c.args.self.now c.args.ctx.detail _ _ _ c.fill_whole.ensures.shows (ap (λ t. root_parts t) (sym c.in-Whole.ensures.tree))
 
 pub returns-in_default-clause-shows : goal.returns-in_default-clause-shows
-returns-in_default-clause-shows g c = fills c.args.self.now c.args.ctx.detail _ _ _ (starts c.args.self.now c.args.ctx.detail _) (root-none _ _ _ c.stored.result _ c.stored.ensures.tree c.in_default.not-Whole)
+returns-in_default-clause-shows g c = fills c.args.self.now c.args.ctx.detail _ _ _ (starts c.args.self.now c.args.ctx.detail _) (root-none _ _ _ _ c.stored.result c.stored.ensures.own _ c.stored.ensures.tree c.in_default.not-Whole)
