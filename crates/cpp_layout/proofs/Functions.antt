@@ -128,14 +128,23 @@ pub function-absent : (name : Term) (q : values.Qualifiers) (m : values.RefQuali
 unfolding function_full
 function-absent name q m t parameters is = append-nil (function_bare true name q m parameters) ∙ rw is refl
 
-not-absent-node : (s : List ℕ) (us : List Thunk) (ts : List Term) (given : Option Term) (n : Node) (flat : is_again n ≡ false) → (n ≡ Node.Absent → ⊥) → tree_of s us ts n ≡ term.absent → ⊥
+not-absent-node : (s : List ℕ) (us : List Thunk) (ts : List Term) (given : Option Term) (n : Node) (flat : is_again n ≡ false) → (n ≡ Node.Absent → ⊥) → reargued given (tree_of s us ts n) ≡ term.absent → ⊥
 unfolding tree_of reargued is_again
 not-absent-node s us ts given Node.Absent flat other e = other refl
-not-absent-node s us ts given (Node.Again x z) flat other e = absurd (true≢false flat)
+not-absent-node s us ts given (Node.Again x z) flat other e = true≢false flat
 not-absent-node s us ts given _ flat other e = cc e
 
 pub not-absent : (s : List ℕ) (us : List Thunk) (ts : List Term) (given : Option Term) (n : Node) (flat : is_again n ≡ false) (t : Term) → t ≡ reargued given (tree_of s us ts n) → (n ≡ Node.Absent → ⊥) → t ≡ term.absent → ⊥
 not-absent s us ts given n flat t is other e = not-absent-node s us ts given n flat other (sym is ∙ e)
+
+not-nil-node : (s : List ℕ) (us : List Thunk) (ts : List Term) (given : Option Term) (n : Node) (flat : is_again n ≡ false) → (n ≡ Node.Nil → ⊥) → reargued given (tree_of s us ts n) ≡ term.nil → ⊥
+unfolding tree_of reargued is_again
+not-nil-node s us ts given Node.Nil flat other e = other refl
+not-nil-node s us ts given (Node.Again x z) flat other e = true≢false flat
+not-nil-node s us ts given _ flat other e = cc e
+
+pub not-nil : (s : List ℕ) (us : List Thunk) (ts : List Term) (given : Option Term) (n : Node) (flat : is_again n ≡ false) (t : Term) → t ≡ reargued given (tree_of s us ts n) → (n ≡ Node.Nil → ⊥) → t ≡ term.nil → ⊥
+not-nil s us ts given n flat t is other e = not-nil-node s us ts given n flat other (sym is ∙ e)
 
 pub clone-whole : (letter : ℕ) (i : PartOf items.Item) → ◌≡◌ {A = List (PartOf items.Item)} (text (fixed_text (if nat_eq letter 116 then CLONE else OTHER_CLONE)) ∷ i ∷ []) (text (clone_text letter) ∷ i ∷ [])
 unfolding clone_text
