@@ -1,4 +1,4 @@
-use Rattle.std.proofs.Common.{ap, sym}
+use Rattle.std.proofs.Common.{ap, sym, ◌∙◌}
 use Rattle.cpp_layout.proofs.Naming.{entity-other}
 use Rattle.cpp_term.specs.Parts.{entity_of}
 use Rattle.cpp_tree.specs.Nodes.{tree_of}
