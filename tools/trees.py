@@ -278,6 +278,7 @@ def reargued_laws():
     closed = made_again("reargued_closed", ["c"], "absurd (true≢false closed)", never_open)
     yield path, "reargued_closed", carried(cases("reargued_closed", ["c"], ["closed"], closed, "refl"))
     yield path, "open_reargued", carried(fold("open_reargued", ["c"], both_by("(λ x y. x || y)"), "refl", {}, SCOPED))
+    yield path, "bare_reargued", carried(fold("bare_reargued", ["c"], both_by("(λ x y. x || y)"), "refl", {"expansion": "refl", "parameter": "refl"}, SCOPED))
     def bare(parts): return parts[0] if len(parts) == 1 else applied("bare_first", [f"(bare {p.split()[-1]})" for p in parts] + ["(length_if_pack a)"] + [f"({p})" for p in parts])
     yield path, "pack_reargued", carried(fold("pack_reargued", ["a"], bare, "refl", {"parameter": "refl", "expansion": None}, SCOPED))
     yield path, "erase_reargued", erase_reargued()
@@ -307,6 +308,8 @@ def nodes():
             yield "Builtin", tree, [("letter", NUMBER)]
             yield "BuiltinWithD", tree, [("letter", NUMBER)]
         else: yield NAMES.get(tree, camel(tree)), tree, OTHERS.get(tree, trees[tree])
+    # a tree of another node, with another argument in its free parameters
+    yield "Again", "again", [("t", TREE), ("a", TREE)]
 
 def node_pattern(node, arguments): return f"({applied('Node.' + node, [name for name, sort in arguments])})" if arguments else "Node." + node
 
@@ -323,6 +326,7 @@ def tree_of():
     made = {QUALIFIERS: "qualifiers_of {0}", MARK: "mark_of {0}", BYTES: "bytes_at s {0}", SIGNED: "signed_of s {0}", DISCRIMINATOR: "discriminator_of s {0}",
             THUNK: "thunk_of s (slice_get us {0})", PIECE: "piece_of s ts {0}", NUMBER: None, TRUTH: None}
     def right(node, tree, args):
+        if node == "Again": return "reargued (Some (tree_at ts a)) (tree_at ts t)"
         if node == "Builtin": return "term.builtin (letter ∷ [])"
         if node == "BuiltinWithD": return "term.builtin (68 ∷ letter ∷ [])"
         def part(name, sort):
@@ -403,17 +407,17 @@ def placed(args, over):
     all_ = bounds(args)
     return [(name, sort, "b" if len(all_) == 1 else f"b.{all_.index((name, sort))}") for name, sort in args if sort in over]
 
-def through(function, text, piece, others, special={}, renamed={}, without=()):
+def through(function, text, piece, others, special={}, renamed={}, without=(), one=lambda fact: fact):
     """a fact of a node by those of its parts, with a bound"""
     def right(node, tree, args):
         if node in special: return special[node]
         if node in without: return None
         # what stands under a scope of its own is no part
-        shown = {t[0]: [sort for name, sort in t[1:]] for t in words.TREES}[tree] if tree not in ("parameter", "list", "builtin") else [sort for name, sort in args]
+        shown = {t[0]: [sort for name, sort in t[1:]] for t in words.TREES}[tree] if tree not in ("parameter", "list", "builtin", "again") else [sort for name, sort in args]
         parts = [(piece if s == PIECE else text).format(name, bound) for (name, sort, bound), s in
                  [((name, sort, bound), s) for (name, sort), s in zip(args, shown) if s in SCOPED for n2, s2, bound in placed(args, (TREE, OWN, PIECE)) if n2 == name]]
         if not parts: return None
-        return parts[0] if len(parts) == 1 else f"rw ({', '.join(parts)}) refl"
+        return one(parts[0]) if len(parts) == 1 else f"rw ({', '.join(parts)}) refl"
     return node_cases(function, [], ["b"], right, others, renamed)
 
 def node_stays():
@@ -428,17 +432,25 @@ def noted(function, text, piece, joined, others, special={}, without=()):
     def right(node, tree, args):
         if node in special: return special[node]
         if node in without: return None
-        sorts = {t[0]: [sort for name, sort in t[1:]] for t in words.TREES}[tree] if tree not in ("parameter", "builtin") else []
+        sorts = {t[0]: [sort for name, sort in t[1:]] for t in words.TREES}[tree] if tree not in ("parameter", "builtin", "again") else []
         parts = [(piece if sort == PIECE else text).format(name) for (name, _), sort in zip(args, sorts) if sort in SCOPED]
         return joined(parts) if parts else None
     return node_cases(function, ["es"], [], right, others, {("Expansion", "pattern"): "t", ("Pack", "elements"): "t"})
 
 def either(parts): return " || ".join(parts)
+def lent(parts):
+    if len(parts) == 2: return applied("joined", [f"({p})" for p in parts])
+    return parts[0] if parts[0].startswith("piece") else f"passed ({parts[0]})"
+# what is lent by nodes over which more is known than by the parts that they have
+LENT = {"Nil": "by_none true", "Parameter": "of_parameter", "Expansion": "of_expansion (lent_at es t)", "Pack": "of_pack (lent_at es t)", "Cell": "of_cell (lent_at es first) (lent_at es rest)",
+        "Rvalue": "of_head (collapses_from (lent_at es t).head) (lent_at es t)", "Qualified": "of_head (lent_at es t).head (lent_at es t)", "Again": "lent_at es t"}
+def lent_fact(fact): return fact if fact.startswith("piece") else f"ap passed ({fact})"
+def again_fact(fact, law): return f"{fact} t b.0 ∙ sym ({law} (Some (tree_at (trees y) a)) (tree_at (trees y) t))"
 def first_of(parts): return parts[0] if len(parts) == 1 else applied("first_of", [f"({p})" for p in parts])
 
 # nodes of which something is noted, by their arguments: numbers of nodes are i and j here
 NOTED = ["nil", "alone", "in_std", "within", "instance", "local", "holder", "tagged", "of_default", "parameter", "pointer", "lvalue", "rvalue", "array", "member_pointer", "function_type", "qualified",
-         "vector", "complex", "expansion", "integer", "pack", "list"]
+         "vector", "complex", "expansion", "integer", "pack", "list", "again"]
 SORTS = {PIECE: ("p", "Piece"), BYTES: ("d", "Span"), NUMBER: ("k", "ℕ"), MARK: ("m", "Mark"), QUALIFIERS: ("q", "Qualifiers"), SIGNED: ("v", "Signed"), DISCRIMINATOR: ("d", "Option Span")}
 def noted_nodes():
     """each with its name, and its arguments with their types"""
@@ -550,10 +562,14 @@ def declarations():
     yield "cpp_tree/proofs/Compacting.antt", "IsOther", is_other()
     yield "cpp_tree/proofs/Compacting.antt", "other-node", other_node()
     yield "cpp_tree/proofs/Pushed.antt", "node-stays", node_stays()
-    yield "cpp_tree/specs/Notes.antt", "opens", noted("opens", "open_at es {0}", "piece_opens es {0}", either, "false", {"Parameter": "true"})
-    yield "cpp_tree/specs/Notes.antt", "packing", noted("packing", "packs_at es {0}", "piece_packs es {0}", first_of, "None", {"Parameter": "argument_packs es (entry_at es a).node"}, ["Expansion"])
-    yield "cpp_tree/proofs/Noting.antt", "node-open", through("node-open", "at {0} {1}", "piece-open {0} {1}", "refl", without=["Parameter"])
-    yield "cpp_tree/proofs/Noting.antt", "node-pack", through("node-pack", "pack-at {0} {1}", "piece-pack {0} {1}", "refl", {"Parameter": "argument-pack a b"}, without=["Expansion"])
+    yield "cpp_tree/specs/Notes.antt", "opens", noted("opens", "open_at es {0}", "piece_opens es {0}", either, "false", {"Parameter": "true", "Again": "open_at es t"})
+    yield "cpp_tree/specs/Notes.antt", "lends", noted("lends", "lent_at es {0}", "piece_lends es {0}", lent, "by_none false", LENT)
+    yield "cpp_tree/proofs/Noting.antt", "node-lends", through("node-lends", "lent-at {0} {1}", "piece-lent {0} {1}", "refl",
+        {"Parameter": "refl", "Expansion": "expansion-lent (lent_at y.nodes pattern) (tree_at (trees y) pattern) (lent-at pattern b)", "Pack": "ap of_pack (lent-at elements b)", "Rvalue": "rvalue-lent (lent_at y.nodes t) (tree_at (trees y) t) (lent-at t b)",
+         "Qualified": "ap (λ l. of_head l.head l) (lent-at t b)", "Again": again_fact("lent-at", "by_argument_reargued")}, one=lent_fact)
+    yield "cpp_tree/specs/Notes.antt", "packing", noted("packing", "packs_at es {0}", "piece_packs es {0}", first_of, "None", {"Parameter": "argument_packs es (shape_at es a)", "Again": "packs_by (lent_at es t).is_bare (argument_packs es (shape_at es a))"}, ["Expansion"])
+    yield "cpp_tree/proofs/Noting.antt", "node-open", through("node-open", "at {0} {1}", "piece-open {0} {1}", "refl", {"Again": again_fact("at", "open_reargued")}, without=["Parameter"])
+    yield "cpp_tree/proofs/Noting.antt", "node-pack", through("node-pack", "pack-at {0} {1}", "piece-pack {0} {1}", "refl", {"Parameter": "argument-pack a b", "Again": "again-pack t a b.0 b.1"}, without=["Expansion"])
     yield "cpp_grammar/specs/Scope.antt", "is_open", fold("is_open", [], either, "false", {"parameter": "true"}, SCOPED, trees=named(SCOPES, ["parameter"]))
     yield "cpp_grammar/specs/Scope.antt", "free_in", fold("free_in", [], both_free, "none_free", {"parameter": "one_free number"}, SCOPED, trees=named(SCOPES, ["parameter"]))
     yield "cpp_grammar/specs/Scope.antt", "pack_length", fold("pack_length", ["scope"], first_of, "None",

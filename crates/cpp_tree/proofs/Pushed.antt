@@ -11,7 +11,9 @@ use Rattle.cpp_tree.specs.declared.node.HeadClass.{HeadClass}
 use Rattle.cpp_tree.specs.declared.node.Head.{Head}
 use Rattle.cpp_tree.specs.declared.node.Entry.{Entry}
 use Rattle.cpp_tree.specs.Notes.{bare_entry}
-use Rattle.cpp_tree.specs.Nodes.{Stored, over, head_of, Table, tree_at, piece_of, tree_of, trees_onto, trees, entry_at, IsPieceBelow, IsBelow, IsClassBelow, class_is, arguments_are, IsArgumentsBelow, untagged_is, IsEntry, IsTable, IsNoted, with_entry, with_thunk, IsThunkWithin}
+use Rattle.cpp_tree.specs.Nodes.{Stored, over, head_of, Table, tree_at, piece_of, tree_of, trees_onto, trees, entry_at, IsPieceBelow, IsBelow, IsThereBelow, IsPlacedBelow, IsClassBelow, tree_if_there, placed_tree, class_is, arguments_are, IsArgumentsBelow, untagged_is, head_noted, by_argument_of, by_none, is_again, IsFlat, IsEntry, IsTable, IsNoted, with_entry, with_thunk, IsThunkWithin}
+use Rattle.cpp_tree.specs.declared.node.Placed.{Placed}
+use Rattle.cpp_term.specs.Reargued.{bare, head_from, is_empty_with}
 
 get-early : {A : Type 0} (xs : List A) (x d : A) (k : ℕ) → k < length xs → get_or (xs ++ x ∷ []) k d ≡ get_or xs k d
 get-early [] x d k less = absurd (omega (arith, less))
@@ -91,28 +93,49 @@ module _ (s : List ℕ) (us : List Thunk) (ts : List Term) (t : Term) (i : ℕ) 
   node-stays (Node.Pack elements) b = rw (early elements b) refl
   node-stays (Node.Cell first rest) b = rw (early first b.0, early rest b.1) refl
   node-stays (Node.Whole e suffix) b = rw (early e b.0) refl
+  node-stays (Node.Again x a) b = rw (early x b.0, early a b.1) refl
+
+  tree-stays : (o : Option ℕ) → IsThereBelow i o → tree_if_there (ts ++ t ∷ []) o ≡ tree_if_there ts o
+  unfolding tree_if_there
+  tree-stays None b = refl
+  tree-stays (Some a) b = rw (early a b) refl
+
+  placed-stays : (p : Placed) → IsPlacedBelow i p → placed_tree (ts ++ t ∷ []) p ≡ placed_tree ts p
+  unfolding placed_tree
+  placed-stays p b = rw (early p.node b.0, tree-stays p.under b.1) refl
 
   class-stays : (c : HeadClass) → IsClassBelow i c → class_is (ts ++ t ∷ []) c ≡ class_is ts c
   unfolding class_is
   class-stays (HeadClass.Known h) b = refl
-  class-stays (HeadClass.OfElement e) b = rw (early e b) refl
-  class-stays (HeadClass.CollapsedOfElement e) b = rw (early e b) refl
+  class-stays (HeadClass.OfElement e) b = ap items.of_element (placed-stays e b)
+  class-stays (HeadClass.CollapsedOfElement e) b = ap items.collapsed_of_element (placed-stays e b)
 
-  arguments-stay : (a : Option ℕ) → IsArgumentsBelow i a → arguments_are (ts ++ t ∷ []) a ≡ arguments_are ts a
+  arguments-stay : (a : Option Placed) → IsArgumentsBelow i a → arguments_are (ts ++ t ∷ []) a ≡ arguments_are ts a
   unfolding arguments_are
   arguments-stay None b = refl
-  arguments-stay (Some a) b = rw (early a b) refl
+  arguments-stay (Some a) b = ap Some (placed-stays a b)
 
-  untagged-stays : (u : Term) (o : Option ℕ) → IsArgumentsBelow i o → untagged_is (ts ++ t ∷ []) u o ≡ untagged_is ts u o
+  untagged-stays : (u : Term) (o : Option Placed) → IsArgumentsBelow i o → untagged_is (ts ++ t ∷ []) u o ≡ untagged_is ts u o
   unfolding untagged_is
   untagged-stays u None b = refl
-  untagged-stays u (Some a) b = early a b
+  untagged-stays u (Some a) b = placed-stays a b
 
 split : (i n : ℕ) → i < suc n → (i < n) ⊎ (i ≡ n)
 split zero zero less = inr refl
 split zero (suc n) less = inl (omega arith)
 split (suc i) zero less = absurd (omega (arith, less))
 split (suc i) (suc n) less = elim (split i n (omega (arith, less))) [ inl a ↦ inl (omega (arith, a)) | inr b ↦ inr (ap suc b) ]
+
+abbrev no_entry : Entry
+no_entry = record { node = Node.Absent; packs = None; is_open = false; is_generic = false; is_empty = false; by_argument = by_none false; class = HeadClass.Known Head.Plain; arguments = None; untagged = None; returns = false; count = 0; run = 0 }
+
+flat-new : (y : Table) (e : Entry) (n : Node) → IsBelow y.bytes (length y.thunks) (length y.nodes) n → IsFlat y.nodes n → IsFlat (y.nodes ++ e ∷ []) n
+flat-new y e (Node.Again t a) b flat = ap (λ x. is_again x.node) (get-early y.nodes e no_entry t b.0) ∙ flat
+flat-new y e _ b flat = tt
+
+flat-stays : (y : Table) (e : Entry) (i : ℕ) (n : Node) → i < length y.nodes → IsBelow y.bytes (length y.thunks) i n → IsFlat y.nodes n → IsFlat (y.nodes ++ e ∷ []) n
+flat-stays y e i (Node.Again t a) less b flat = ap (λ x. is_again x.node) (get-early y.nodes e no_entry t (omega (arith, b.0, less))) ∙ flat
+flat-stays y e i _ less b flat = tt
 
 module _ (y : Table) (e : Entry) (table : IsTable y) (noted : IsNoted y e) where
   abbrev own : Term
@@ -133,6 +156,8 @@ module _ (y : Table) (e : Entry) (table : IsTable y) (noted : IsNoted y e) where
         free = was.free ∙ ap is_open (sym here);
         generic = was.generic ∙ ap is_generic (sym here);
         empty = was.empty ∙ ap (λ t. items.is_empty items.closed t) (sym here);
+        by_argument = was.by_argument ∙ ap by_argument_of (sym here);
+        flat = flat-stays y e i (entry_at y.nodes i).node less was.below was.flat;
         class = class-stays y.bytes y.thunks (trees y) own i most (entry_at y.nodes i).class was.class_below ∙ was.class ∙ ap items.class_of (sym here);
         class_below = was.class_below;
         arguments = arguments-stay y.bytes y.thunks (trees y) own i most (entry_at y.nodes i).arguments was.arguments_below ∙ was.arguments ∙ ap arguments_of (sym here);
@@ -160,6 +185,8 @@ module _ (y : Table) (e : Entry) (table : IsTable y) (noted : IsNoted y e) where
         free = noted.free ∙ ap is_open (sym last);
         generic = noted.generic ∙ ap is_generic (sym last);
         empty = noted.empty ∙ ap (λ t. items.is_empty items.closed t) (sym last);
+        by_argument = noted.by_argument ∙ ap by_argument_of (sym last);
+        flat = flat-new y e e.node noted.below noted.flat;
         class = class-stays y.bytes y.thunks (trees y) own (length y.nodes) most e.class noted.class_below ∙ noted.class ∙ ap items.class_of (sym last);
         class_below = noted.class_below;
         arguments = arguments-stay y.bytes y.thunks (trees y) own (length y.nodes) most e.arguments noted.arguments_below ∙ noted.arguments ∙ ap arguments_of (sym last);
@@ -175,7 +202,7 @@ module _ (y : Table) (e : Entry) (table : IsTable y) (noted : IsNoted y e) where
       }
 
   abbrev none : Entry
-  none = record { node = Node.Absent; packs = None; is_open = false; is_generic = false; is_empty = false; class = HeadClass.Known Head.Plain; arguments = None; untagged = None; returns = false; count = 0; run = 0 }
+  none = no_entry
 
   each-here : (i : ℕ) → (i < length y.nodes) ⊎ (i ≡ length y.nodes) → IsEntry (with_entry y e) (trees y ++ own ∷ []) i (entry_at (y.nodes ++ e ∷ []) i)
   each-here i (inl less) = subst (λ x. IsEntry (with_entry y e) (trees y ++ own ∷ []) i x) (sym (get-early y.nodes e none i less)) (old i less)
@@ -221,10 +248,10 @@ abbrev first-three : List ℕ → List Thunk → Table
 first-three s us = record { bytes = s; nodes = bare_entry Node.Absent false ∷ bare_entry Node.Nil true ∷ bare_entry (Node.Pack 1) true ∷ []; thunks = us }
 
 each-begins : (s : List ℕ) (us : List Thunk) (i : ℕ) → i < 3 → IsEntry (first-three s us) (trees (first-three s us)) i (entry_at (first-three s us).nodes i)
-unfolding trees_onto tree_of pack_length is_open is_generic arguments_of arguments_are without_tags untagged_is has_return_type count items.is_empty items.class_of class_is head_of
-each-begins s us zero less = record { built = refl; below = tt; packs = refl; free = refl; generic = refl; empty = refl; class = refl; class_below = tt; arguments = refl; arguments_below = tt; untagged = refl; untagged_below = tt; returns = refl; counted = refl; count_below = omega arith; runs = λ k n most. absurd (omega (arith, most)); run_below = omega arith }
-each-begins s us (suc zero) less = record { built = refl; below = tt; packs = refl; free = refl; generic = refl; empty = refl; class = refl; class_below = tt; arguments = refl; arguments_below = tt; untagged = refl; untagged_below = tt; returns = refl; counted = refl; count_below = omega arith; runs = λ k n most. absurd (omega (arith, most)); run_below = omega arith }
-each-begins s us (suc (suc zero)) less = record { built = refl; below = omega arith; packs = refl; free = refl; generic = refl; empty = refl; class = refl; class_below = tt; arguments = refl; arguments_below = tt; untagged = refl; untagged_below = tt; returns = refl; counted = refl; count_below = omega arith; runs = λ k n most. absurd (omega (arith, most)); run_below = omega arith }
+unfolding trees_onto tree_of pack_length is_open is_generic by_argument_of bare head_from is_empty_with head_noted arguments_of arguments_are without_tags untagged_is has_return_type count items.is_empty items.class_of class_is head_of
+each-begins s us zero less = record { built = refl; below = tt; packs = refl; free = refl; generic = refl; empty = refl; by_argument = refl; flat = tt; class = refl; class_below = tt; arguments = refl; arguments_below = tt; untagged = refl; untagged_below = tt; returns = refl; counted = refl; count_below = omega arith; runs = λ k n most. absurd (omega (arith, most)); run_below = omega arith }
+each-begins s us (suc zero) less = record { built = refl; below = tt; packs = refl; free = refl; generic = refl; empty = refl; by_argument = refl; flat = tt; class = refl; class_below = tt; arguments = refl; arguments_below = tt; untagged = refl; untagged_below = tt; returns = refl; counted = refl; count_below = omega arith; runs = λ k n most. absurd (omega (arith, most)); run_below = omega arith }
+each-begins s us (suc (suc zero)) less = record { built = refl; below = omega arith; packs = refl; free = refl; generic = refl; empty = refl; by_argument = refl; flat = tt; class = refl; class_below = tt; arguments = refl; arguments_below = tt; untagged = refl; untagged_below = tt; returns = refl; counted = refl; count_below = omega arith; runs = λ k n most. absurd (omega (arith, most)); run_below = omega arith }
 each-begins s us (suc (suc (suc i))) less = absurd (omega (arith, less))
 
 begins : (s : List ℕ) → IsTable (first-three s [])
@@ -247,6 +274,7 @@ module _ (s : List ℕ) (us : List Thunk) (u : Thunk) where
   below-adjusts (Node.Alone p) i b = b
   below-adjusts (Node.InStd p) i b = b
   below-adjusts (Node.Within prefix p) i b = b
+  below-adjusts (Node.Again t a) i b = b
   below-adjusts _ i b = b
 
   trees-adjust : (ts : List Term) (es : List Entry) → ((i : ℕ) → i < length es → (k : ℕ) × IsBelow s (length us) k (entry_at es i).node) → trees_onto s (us ++ u ∷ []) ts es ≡ trees_onto s us ts es
@@ -271,6 +299,8 @@ module _ (y : Table) (u : Thunk) (table : IsTable y) (within : IsThunkWithin y.b
         free = was.free;
         generic = was.generic;
         empty = was.empty;
+        by_argument = was.by_argument;
+        flat = was.flat;
         class = was.class;
         class_below = was.class_below;
         arguments = was.arguments;

@@ -8,6 +8,8 @@ use Rattle.cpp_term.specs.Term as term
 use Rattle.cpp_term.specs.Term.{Term}
 use Rattle.cpp_term.specs.Scope.{pack_length, is_open, is_generic, arguments_of, without_tags, has_return_type, count, element}
 use Rattle.cpp_term.specs.Items as items
+use Rattle.cpp_term.specs.Reargued as again
+use Rattle.cpp_term.specs.Reargued.{reargued, bare, head_from, is_empty_with}
 use Rattle.cpp_tree.specs.declared.node.Qualifiers.{Qualifiers}
 use Rattle.cpp_tree.specs.declared.node.Mark.{Mark}
 use Rattle.cpp_tree.specs.declared.node.Signed.{Signed}
@@ -16,7 +18,10 @@ use Rattle.cpp_tree.specs.declared.node.Thunk.{Thunk}
 use Rattle.cpp_tree.specs.declared.node.Piece.{Piece}
 use Rattle.cpp_tree.specs.declared.node.Node.{Node}
 use Rattle.cpp_tree.specs.declared.node.Head.{Head}
+use Rattle.cpp_tree.specs.declared.node.Placed.{Placed}
 use Rattle.cpp_tree.specs.declared.node.HeadClass.{HeadClass}
+use Rattle.cpp_tree.specs.declared.node.HeadFrom.{HeadFrom}
+use Rattle.cpp_tree.specs.declared.node.ByArgument.{ByArgument}
 use Rattle.cpp_tree.specs.declared.node.Entry.{Entry}
 
 -- what is stored: the nodes, and what thunks adjust; and how many of each fit without taking memory
@@ -128,6 +133,7 @@ tree_of s us ts (Node.AddressOf e) = term.address_of (tree_at ts e)
 tree_of s us ts (Node.Pack elements) = term.pack (tree_at ts elements)
 tree_of s us ts (Node.Cell first rest) = term.list (tree_at ts first) (tree_at ts rest)
 tree_of s us ts (Node.Whole e suffix) = term.symbol (tree_at ts e) (bytes_at s suffix)
+tree_of s us ts (Node.Again t a) = reargued (Some (tree_at ts a)) (tree_at ts t)
 
 unfoldable pub trees_onto : List ℕ → List Thunk → List Term → List Entry → List Term
 trees_onto s us ts [] = ts
@@ -197,6 +203,7 @@ IsBelow s held n (Node.AddressOf e) = e < n
 IsBelow s held n (Node.Pack elements) = elements < n
 IsBelow s held n (Node.Cell first rest) = (first < n) × (rest < n)
 IsBelow s held n (Node.Whole e suffix) = (e < n) × IsWithin suffix s
+IsBelow s held n (Node.Again t a) = (t < n) × (a < n)
 IsBelow s held n _ = Unit {0}
 
 abbrev pub IsAdjustmentWithin : List ℕ → Adjustment → Type 0
@@ -215,31 +222,69 @@ head_of Head.FunctionOrArray = heads.funarr
 head_of Head.Lvalue = heads.lref
 head_of Head.Rvalue = heads.rref
 
+-- the tree of a node, if one is given
+unfoldable pub tree_if_there : List Term → Option ℕ → Option Term
+tree_if_there ts None = None
+tree_if_there ts (Some i) = Some (tree_at ts i)
+
+unfoldable pub placed_tree : List Term → Placed → Term
+placed_tree ts p = reargued (tree_if_there ts p.under) (tree_at ts p.node)
+
 unfoldable pub class_is : List Term → HeadClass → items.HeadClass
 class_is ts (HeadClass.Known h) = items.known (head_of h)
-class_is ts (HeadClass.OfElement elements) = items.of_element (tree_at ts elements)
-class_is ts (HeadClass.CollapsedOfElement elements) = items.collapsed_of_element (tree_at ts elements)
+class_is ts (HeadClass.OfElement elements) = items.of_element (placed_tree ts elements)
+class_is ts (HeadClass.CollapsedOfElement elements) = items.collapsed_of_element (placed_tree ts elements)
+
+abbrev pub IsThereBelow : ℕ → Option ℕ → Type 0
+IsThereBelow n None = Unit {0}
+IsThereBelow n (Some i) = i < n
+
+abbrev pub IsPlacedBelow : ℕ → Placed → Type 0
+IsPlacedBelow n p = (p.node < n) × IsThereBelow n p.under
 
 abbrev pub IsClassBelow : ℕ → HeadClass → Type 0
 IsClassBelow n (HeadClass.Known h) = Unit {0}
-IsClassBelow n (HeadClass.OfElement elements) = elements < n
-IsClassBelow n (HeadClass.CollapsedOfElement elements) = elements < n
+IsClassBelow n (HeadClass.OfElement elements) = IsPlacedBelow n elements
+IsClassBelow n (HeadClass.CollapsedOfElement elements) = IsPlacedBelow n elements
 
-unfoldable pub arguments_are : List Term → Option ℕ → Option Term
+unfoldable pub arguments_are : List Term → Option Placed → Option Term
 arguments_are ts None = None
-arguments_are ts (Some a) = Some (tree_at ts a)
+arguments_are ts (Some a) = Some (placed_tree ts a)
 
-abbrev pub IsArgumentsBelow : ℕ → Option ℕ → Type 0
+abbrev pub IsArgumentsBelow : ℕ → Option Placed → Type 0
 IsArgumentsBelow n None = Unit {0}
-IsArgumentsBelow n (Some a) = a < n
+IsArgumentsBelow n (Some a) = IsPlacedBelow n a
 
 -- the tree of a name's tags taken away: its own where none are noted
-unfoldable pub untagged_is : List Term → Term → Option ℕ → Term
+unfoldable pub untagged_is : List Term → Term → Option Placed → Term
 untagged_is ts t None = t
-untagged_is ts t (Some i) = tree_at ts i
+untagged_is ts t (Some p) = placed_tree ts p
 
+unfoldable pub head_noted : again.HeadFrom → HeadFrom
+head_noted again.of_its_own = HeadFrom.Own
+head_noted again.of_argument = HeadFrom.Argument
+head_noted again.collapsed_of_argument = HeadFrom.Collapsed
+
+-- what of a tree depends on another argument
+unfoldable pub by_argument_of : Term → ByArgument
+by_argument_of t = record { is_bare = bare t; head = head_noted (head_from t); empty_with = is_empty_with true t; empty_without = is_empty_with false t }
+
+-- nothing does
+abbrev pub by_none : Bool → ByArgument
+by_none empty = record { is_bare = false; head = HeadFrom.Own; empty_with = empty; empty_without = empty }
+
+unfoldable pub is_again : Node → Bool
+is_again (Node.Again t a) = true
+is_again _ = false
+
+-- of a tree that is there again no further one is made
 abbrev pub entry_at : List Entry → ℕ → Entry
-entry_at es i = get_or es i (record { node = Node.Absent; packs = None; is_open = false; is_generic = false; is_empty = false; class = HeadClass.Known Head.Plain; arguments = None; untagged = None; returns = false; count = 0; run = 0 })
+entry_at es i = get_or es i (record { node = Node.Absent; packs = None; is_open = false; is_generic = false; is_empty = false; by_argument = by_none false; class = HeadClass.Known Head.Plain; arguments = None; untagged = None; returns = false; count = 0; run = 0 })
+
+-- a tree that is there again isn't one that is there again itself
+abbrev pub IsFlat : List Entry → Node → Type 0
+IsFlat es (Node.Again t a) = is_again (entry_at es t).node ≡ false
+IsFlat es _ = Unit {0}
 
 -- What holds of the node at a place: all that is noted follows from its tree. A cell's run is how many of the nodes before it are
 -- the cells behind it, so that an element is found by a subtraction.
@@ -250,6 +295,8 @@ pub record IsEntry (y : Table) (ts : List Term) (i : ℕ) (e : Entry) : Type 0 w
   pub free : e.is_open ≡ is_open (tree_at ts i)
   pub generic : e.is_generic ≡ is_generic (tree_at ts i)
   pub empty : e.is_empty ≡ items.is_empty items.closed (tree_at ts i)
+  pub by_argument : e.by_argument ≡ by_argument_of (tree_at ts i)
+  pub flat : IsFlat y.nodes e.node
   pub class : class_is ts e.class ≡ items.class_of (tree_at ts i)
   pub class_below : IsClassBelow i e.class
   pub arguments : arguments_are ts e.arguments ≡ arguments_of (tree_at ts i)
@@ -281,6 +328,8 @@ pub record IsNoted (y : Table) (e : Entry) : Type 0 where
   pub free : e.is_open ≡ is_open (tree_of y.bytes y.thunks (trees y) e.node)
   pub generic : e.is_generic ≡ is_generic (tree_of y.bytes y.thunks (trees y) e.node)
   pub empty : e.is_empty ≡ items.is_empty items.closed (tree_of y.bytes y.thunks (trees y) e.node)
+  pub by_argument : e.by_argument ≡ by_argument_of (tree_of y.bytes y.thunks (trees y) e.node)
+  pub flat : IsFlat y.nodes e.node
   pub class : class_is (trees y) e.class ≡ items.class_of (tree_of y.bytes y.thunks (trees y) e.node)
   pub class_below : IsClassBelow (length y.nodes) e.class
   pub arguments : arguments_are (trees y) e.arguments ≡ arguments_of (tree_of y.bytes y.thunks (trees y) e.node)

@@ -2,13 +2,14 @@
 #![tactic(auto)]
 
 ghost use Rattle.std.specs.Prelude.{◌≡◌};
-ghost use Rattle.cpp_tree.specs.Compact.{packs_kept, class_kept, arguments_kept, untagged_kept, returns_kept, count_kept, run_kept, entry_of};
+ghost use Rattle.cpp_tree.specs.Compact.{packs_kept, placed_kept, class_kept, arguments_kept, untagged_kept, returns_kept, count_kept, run_kept, entry_of};
+ghost use Rattle.cpp_tree.specs.Nodes.{by_none};
 ghost use Rattle.cpp_tree.specs.Notes.{bare_entry};
 
-use crate::node::{Entry, Head, HeadClass, Node};
+use crate::node::{ByArgument, Entry, Head, HeadClass, HeadFrom, Node, Placed};
 
-/// What two words beside a node tell: of a type a list of elements, of a name its arguments or itself without tags, of a list its
-/// count and its run.
+/// What two words beside a node tell: of a type a list of elements, of a name its arguments or itself without tags, each with the
+/// argument under which it stands, and of a list its count and its run.
 #[derive(Clone, Copy)]
 pub enum Words {
     Plain,
@@ -23,7 +24,7 @@ pub enum Words {
     Elements,
 }
 
-/// An entry in 40 bytes: what no node has at once (the arguments of a name, the name under its tags, the elements of a list, the head of a type) shares
+/// An entry in 44 bytes: what no node has at once (the arguments of a name, the name under its tags, the elements of a list, the head of a type) shares
 /// the two words.
 #[derive(Clone, Copy)]
 pub struct Compact {
@@ -36,29 +37,42 @@ pub struct Compact {
     pub is_generic: bool,
     pub is_empty: bool,
     pub words: Words,
+    pub by_argument: ByArgument,
 }
 
 /// The length of the packs.
 #[inline(always)]
 #[tactic(auto, unfolding(crate::specs::Compact::packs_kept))]
-fn packs(kept: u32) -> Option<u32>
+pub(crate) fn packs(kept: u32) -> Option<u32>
     ensures { result ≡ packs_kept kept }
 {
     if kept == 0 { None } else { Some(kept - 1) }
 }
 
+/// The tree of the node that the first word is, under the argument that the second says.
+#[inline(always)]
+#[tactic(auto, unfolding(crate::specs::Compact::packs_kept))]
+fn placed(first: u32, second: u32) -> Placed
+    ensures { result ≡ placed_kept first second }
+{
+    Placed {
+        node: first,
+        under: packs(second),
+    }
+}
+
 /// The head of a type.
 #[inline(always)]
 #[tactic(auto, unfolding(crate::specs::Compact::class_kept))]
-pub(crate) fn class(words: Words, first: u32) -> HeadClass
-    ensures { result ≡ class_kept words first }
+pub(crate) fn class(words: Words, first: u32, second: u32) -> HeadClass
+    ensures { result ≡ class_kept words first second }
 {
     match words {
         Words::FunctionOrArray => HeadClass::Known(Head::FunctionOrArray),
         Words::Lvalue => HeadClass::Known(Head::Lvalue),
         Words::Rvalue => HeadClass::Known(Head::Rvalue),
-        Words::OfElement => HeadClass::OfElement(first),
-        Words::CollapsedOfElement => HeadClass::CollapsedOfElement(first),
+        Words::OfElement => HeadClass::OfElement(placed(first, second)),
+        Words::CollapsedOfElement => HeadClass::CollapsedOfElement(placed(first, second)),
         _ => HeadClass::Known(Head::Plain),
     }
 }
@@ -66,12 +80,12 @@ pub(crate) fn class(words: Words, first: u32) -> HeadClass
 /// The arguments that a name ends in.
 #[inline(always)]
 #[tactic(auto, unfolding(crate::specs::Compact::arguments_kept))]
-fn arguments(words: Words, first: u32) -> Option<u32>
-    ensures { result ≡ arguments_kept words first }
+fn arguments(words: Words, first: u32, second: u32) -> Option<Placed>
+    ensures { result ≡ arguments_kept words first second }
 {
     match words {
-        Words::Arguments => Some(first),
-        Words::ReturningArguments => Some(first),
+        Words::Arguments => Some(placed(first, second)),
+        Words::ReturningArguments => Some(placed(first, second)),
         _ => None,
     }
 }
@@ -79,11 +93,11 @@ fn arguments(words: Words, first: u32) -> Option<u32>
 /// The name under the tags of a name.
 #[inline(always)]
 #[tactic(auto, unfolding(crate::specs::Compact::untagged_kept))]
-fn untagged(words: Words, first: u32) -> Option<u32>
-    ensures { result ≡ untagged_kept words first }
+fn untagged(words: Words, first: u32, second: u32) -> Option<Placed>
+    ensures { result ≡ untagged_kept words first second }
 {
     match words {
-        Words::Tagged => Some(first),
+        Words::Tagged => Some(placed(first, second)),
         _ => None,
     }
 }
@@ -136,13 +150,27 @@ impl Compact {
             is_open: self.is_open,
             is_generic: self.is_generic,
             is_empty: self.is_empty,
-            class: class(self.words, self.first),
-            arguments: arguments(self.words, self.first),
-            untagged: untagged(self.words, self.first),
+            by_argument: self.by_argument,
+            class: class(self.words, self.first, self.second),
+            arguments: arguments(self.words, self.first, self.second),
+            untagged: untagged(self.words, self.first, self.second),
             returns: returns(self.words),
             count: count(self.words, self.first),
             run: run(self.words, self.second),
         }
+    }
+}
+
+/// What another argument changes of a tree in which no parameter is free.
+#[inline(always)]
+pub(crate) fn by_none(empty: bool) -> ByArgument
+    ensures { result ≡ by_none empty }
+{
+    ByArgument {
+        is_bare: false,
+        head: HeadFrom::Own,
+        empty_with: empty,
+        empty_without: empty,
     }
 }
 
@@ -161,5 +189,6 @@ pub(crate) fn bare(node: Node, is_empty: bool) -> Compact
         is_generic: false,
         is_empty,
         words: Words::Plain,
+        by_argument: by_none(is_empty),
     }
 }

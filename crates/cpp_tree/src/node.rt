@@ -220,6 +220,11 @@ pub enum Node {
         encoding: u32,
         suffix: Span,
     },
+    /// A tree again, with this argument in each of its free parameters.
+    Again {
+        tree: u32,
+        argument: u32,
+    },
 }
 
 impl Node {
@@ -270,12 +275,40 @@ pub enum Head {
     Rvalue,
 }
 
-/// The head of a type as far as it doesn't depend on an index.
+/// The tree of a node, with the tree of another as the argument in each of its free parameters if one is given.
+#[derive(Clone, Copy)]
+pub struct Placed {
+    pub node: u32,
+    pub under: Option<u32>,
+}
+
+/// The head of a type as far as it doesn't depend on an index: it is known, or that of an element of a list.
 #[derive(Clone, Copy)]
 pub enum HeadClass {
     Known(Head),
-    OfElement(u32),
-    CollapsedOfElement(u32),
+    OfElement(Placed),
+    CollapsedOfElement(Placed),
+}
+
+/// Where the head of a type is from, if its free parameters get another argument: it is the type's own, that of the argument, or
+/// that of a reference to an rvalue of the argument.
+#[derive(Clone, Copy)]
+pub enum HeadFrom {
+    Own,
+    Argument,
+    Collapsed,
+}
+
+/// What depends on the argument of a tree's free parameters, if they get another one.
+#[derive(Clone, Copy)]
+pub struct ByArgument {
+    /// Whether one stands under no expansion of the tree, so that its packs are the argument's.
+    pub is_bare: bool,
+    pub head: HeadFrom,
+    /// Whether it prints nothing where the argument is a pack of no elements.
+    pub empty_with: bool,
+    /// And where it is none.
+    pub empty_without: bool,
 }
 
 /// A node, and what is noted of its tree.
@@ -290,11 +323,12 @@ pub struct Entry {
     pub is_generic: bool,
     /// Whether it prints nothing.
     pub is_empty: bool,
+    pub by_argument: ByArgument,
     pub class: HeadClass,
     /// The arguments that a name ends in.
-    pub arguments: Option<u32>,
+    pub arguments: Option<Placed>,
     /// The name under all its tags, if it has some.
-    pub untagged: Option<u32>,
+    pub untagged: Option<Placed>,
     /// Whether a function of this name has its return type before its parameters.
     pub returns: bool,
     /// How many elements a list has.

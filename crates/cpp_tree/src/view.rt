@@ -1,10 +1,10 @@
 // The view of a node.
 #![tactic(auto)]
 
-ghost use Rattle.std.specs.Prelude.{◌≡◌, ℕ, ◌≤◌, [], ◌∷◌, length};
+ghost use Rattle.std.specs.Prelude.{◌≡◌, ℕ, ◌≤◌, ◌<◌, [], ◌∷◌, length, false};
 ghost use Rattle.cpp_term.specs.Erased.{erase};
 ghost use Rattle.cpp_grammar.specs.Term.{Term};
-ghost use Rattle.cpp_tree.specs.Nodes.{over, trees, tree_of, piece_of, qualifiers_of, mark_of, thunk_of, discriminator_of, IsSpan, IsBelow, IsPieceBelow, IsTable};
+ghost use Rattle.cpp_tree.specs.Nodes.{over, trees, tree_of, piece_of, qualifiers_of, mark_of, thunk_of, discriminator_of, is_again, IsSpan, IsBelow, IsPieceBelow, IsTable};
 ghost use Rattle.cpp_tree.specs.Fields.{bit, mark_number, qualifiers_number, linkage_number, name_fields, named_fields, local_fields, thunk_fields, fields_of, offsets_of};
 ghost use Rattle.cpp_tree.specs.Views.{plain_tree, prefix_trees, seen_of, seen_behind, seen_fields, no_text, offsets_in, AreBelow, IsSlotBelow, AreWithin, IsKnownThunk};
 
@@ -299,10 +299,39 @@ fn view_of_thunk(symbol: &[u8], nodes: &Nodes, thunk: Option<Thunk>, encoding: u
     }
 }
 
-/// The view of a node, and its parts.
-#[tactic(auto, unfolding(crate::specs::Fields::fields_of, cpp_term::specs::Erased::erase, crate::specs::Nodes::tree_of))]
+/// The view of a node, and its parts. Without arguments a tree that is there again is that tree.
 pub fn view_of(symbol: &[u8], nodes: &Nodes, node: node::Node) -> NodeView
     requires table { IsTable (over symbol.now nodes.now) }
+    requires node { IsBelow symbol.now (length nodes.now.thunks) (length nodes.now.nodes) node }
+    ensures fields { seen_fields (over symbol.now nodes.now) result ≡ fields_of (erase (tree_of symbol.now nodes.now.thunks (trees (over symbol.now nodes.now)) node)) }
+    ensures texts { AreWithin symbol.now result.node.texts }
+    ensures parts { (n : ℕ) → IsBelow symbol.now (length nodes.now.thunks) n node → AreBelow n result }
+    ensures few { result.node.parts ≤ 3 }
+{
+    match node {
+        node::Node::Again { tree, .. } => view_of_tree(symbol, nodes, tree),
+        _ => view_of_own(symbol, nodes, node),
+    }
+}
+
+/// The view of the tree at a node.
+fn view_of_tree(symbol: &[u8], nodes: &Nodes, tree: u32) -> NodeView
+    requires table { IsTable (over symbol.now nodes.now) }
+    requires tree { tree < length nodes.now.nodes }
+    ensures fields { seen_fields (over symbol.now nodes.now) result ≡ fields_of (plain_tree (over symbol.now nodes.now) tree) }
+    ensures texts { AreWithin symbol.now result.node.texts }
+    ensures parts { AreBelow tree result }
+    ensures few { result.node.parts ≤ 3 }
+{
+    let place = nodes.resolved(symbol, tree);
+    view_of_own(symbol, nodes, nodes.node(symbol, place.node))
+}
+
+/// The view of a node whose tree isn't there again.
+#[tactic(auto, unfolding(crate::specs::Fields::fields_of, cpp_term::specs::Erased::erase, crate::specs::Nodes::tree_of, crate::specs::Nodes::is_again))]
+fn view_of_own(symbol: &[u8], nodes: &Nodes, node: node::Node) -> NodeView
+    requires table { IsTable (over symbol.now nodes.now) }
+    requires own { is_again node ≡ false }
     requires node { IsBelow symbol.now (length nodes.now.thunks) (length nodes.now.nodes) node }
     ensures fields { seen_fields (over symbol.now nodes.now) result ≡ fields_of (erase (tree_of symbol.now nodes.now.thunks (trees (over symbol.now nodes.now)) node)) }
     ensures texts { AreWithin symbol.now result.node.texts }
@@ -415,14 +444,32 @@ pub fn view_of(symbol: &[u8], nodes: &Nodes, node: node::Node) -> NodeView
         node::Node::Pack(elements) => one(PACK, none, NO_TEXT, elements),
         node::Node::Cell { first, rest } => two(LIST, none, NO_TEXT, first, rest),
         node::Node::Whole { encoding, suffix } => one(SYMBOL, none, suffix, encoding),
+        node::Node::Again { .. } => leaf(ABSENT, 0),
     }
 }
 
 /// The offsets of a node that is a thunk.
-#[tactic(auto, unfolding(crate::specs::Fields::offsets_of, cpp_term::specs::Erased::erase, crate::specs::Nodes::tree_of))]
 pub fn offsets_of(symbol: &[u8], nodes: &Nodes, node: node::Node) -> Option<Thunk>
     requires table { IsTable (over symbol.now nodes.now) }
     requires node { IsBelow symbol.now (length nodes.now.thunks) (length nodes.now.nodes) node }
+    ensures offsets { offsets_in symbol.now result ≡ offsets_of (erase (tree_of symbol.now nodes.now.thunks (trees (over symbol.now nodes.now)) node)) }
+    ensures within { IsKnownThunk symbol.now result }
+{
+    match node {
+        node::Node::Again { tree, .. } => {
+            let place = nodes.resolved(symbol, tree);
+            own_offsets_of(symbol, nodes, nodes.node(symbol, place.node))
+        }
+        _ => own_offsets_of(symbol, nodes, node),
+    }
+}
+
+/// The same of a node whose tree isn't there again.
+#[tactic(auto, unfolding(crate::specs::Fields::offsets_of, cpp_term::specs::Erased::erase, crate::specs::Nodes::tree_of, crate::specs::Nodes::is_again))]
+fn own_offsets_of(symbol: &[u8], nodes: &Nodes, node: node::Node) -> Option<Thunk>
+    requires table { IsTable (over symbol.now nodes.now) }
+    requires node { IsBelow symbol.now (length nodes.now.thunks) (length nodes.now.nodes) node }
+    requires own { is_again node ≡ false }
     ensures offsets { offsets_in symbol.now result ≡ offsets_of (erase (tree_of symbol.now nodes.now.thunks (trees (over symbol.now nodes.now)) node)) }
     ensures within { IsKnownThunk symbol.now result }
 {

@@ -10,4 +10,4 @@ returns-then-has_parameters-clause-shows g c = fills c.args.self.now c.args.deta
 
 pub returns-else-has_parameters-clause-shows : goal.returns-else-has_parameters-clause-shows
 unfolding function_full function_bare
-returns-else-has_parameters-clause-shows g c = fills c.args.self.now c.args.detail _ _ _ (c.push_item.ensures.shows _ _ (starts c.args.self.now c.args.detail _)) (ap (λ b. function_full b (tree_at (trees (table_of c.args.self.now)) c.args.name) (qualifiers_of c.args.qualifiers) (mark_of c.args.mark) (tree_at (trees (table_of c.args.self.now)) c.args.returned) (tree_at (trees (table_of c.args.self.now)) c.args.parameters)) (sym (sym c.has_parameters.ensures ∙ c.if-has_parameters.false)))
+returns-else-has_parameters-clause-shows g c = fills c.args.self.now c.args.detail _ _ _ (c.push_closed.ensures.shows _ _ (starts c.args.self.now c.args.detail _)) (ap (λ b. function_full b (tree_at (trees (table_of c.args.self.now)) c.args.name) (qualifiers_of c.args.qualifiers) (mark_of c.args.mark) (tree_at (trees (table_of c.args.self.now)) c.args.returned) (tree_at (trees (table_of c.args.self.now)) c.args.parameters)) (sym (sym c.has_parameters.ensures ∙ c.if-has_parameters.false)))

@@ -8,4 +8,4 @@ unfolding tree_of
 returns-in-Absent-clause-shows g c = fills c.args.self.now c.args.detail _ _ _ (c.push_bare.ensures.shows _ _ (starts c.args.self.now c.args.detail _)) (function-absent _ _ _ _ _ c.in-Absent.ensures.tree)
 
 pub fill_returning-requires-clause-there : goal.fill_returning-requires-clause-there
-fill_returning-requires-clause-there g c = not-absent _ _ _ c.stored.result _ c.stored.ensures.tree c.in_default.not-Absent
+fill_returning-requires-clause-there g c = not-absent _ _ _ _ c.stored.result c.stored.ensures.own _ c.stored.ensures.tree c.in_default.not-Absent
