@@ -34,7 +34,7 @@ impl Direct {
         requires writing { IsWriting (symbol_by G.IS_WIDE s.now) self.old (if is_plain then steps.Plain else steps.Type) }
         ensures { IfSome result (IsWriting (symbol_by G.IS_WIDE s.now) self.new) }
     {
-        let from = self.text.len();
+        let from = self.text.end();
         match byte_at(s, self.at) {
             b'P' => {
                 if !is_plain && byte_at(s, self.at.checked_add(1)?) == b'F' {
@@ -84,7 +84,7 @@ impl Direct {
         requires awaits { AwaitsNamedType (symbol_by G.IS_WIDE s.now) self.old }
         ensures { IfSome result (IsWriting (symbol_by G.IS_WIDE s.now) self.new) }
     {
-        let from = self.text.len();
+        let from = self.text.end();
         match byte_at(s, self.at) {
             b'N' => {
                 self.at = self.at.checked_add(1)?;
@@ -143,7 +143,7 @@ impl Direct {
         requires awaits { AwaitsNamedType (symbol_by G.IS_WIDE s.now) self.old }
         ensures { IfSome result (IsWriting (symbol_by G.IS_WIDE s.now) self.new) }
     {
-        let from = self.text.len();
+        let from = self.text.end();
         self.at = self.at.checked_add(1)?;
         let letter = byte_at(s, self.at);
         if letter == b't' {
@@ -172,7 +172,7 @@ impl Direct {
     fn type_named<G: Grammar>(
         &mut self,
         s: &[u8],
-        from: usize,
+        from: u32,
         is_listed: bool,
         is_reference: bool,
     ) -> Option<Step>
@@ -256,7 +256,7 @@ impl Direct {
         &mut self,
         _s: &[u8],
         mark: &[u8],
-        from: usize,
+        from: u32,
         is_reference: bool,
     ) -> Option<Step>
         requires { AwaitsMark (symbol_by G.IS_WIDE _s.now) self.old mark.now from is_reference }

@@ -1,6 +1,6 @@
 // Lists that grow up to a bound.
 
-ghost use Rattle.std.specs.Prelude.{◌≡◌, ◌+◌, ◌-◌, ◌≤◌, ◌∷◌, ◌++◌, [], length, take, drop, vec_capacity};
+ghost use Rattle.std.specs.Prelude.{◌≡◌, ◌+◌, ◌-◌, ◌≤◌, ◌∷◌, ◌++◌, ◌<◌, ◌^◌, [], length, take, drop, vec_capacity};
 ghost use Rattle.std.specs.Option.{OnSome, option_to_list};
 
 use std::alloc::Global;
@@ -13,6 +13,7 @@ pub struct Bounded<T> {
     // So many entries need no more memory.
     ready: usize,
     pub ghost fits: { length list.items ≤ room },
+    pub ghost is_small: { room < 2 ^ 32 },
     ghost has_memory: { (length list.items ≤ ready) × (ready ≤ room) × (ready ≤ vec_capacity list) },
 }
 
@@ -27,13 +28,13 @@ impl<T: Copy> Bounded<T> {
     }
 
     /// Empties the list, and gives it room for so many entries.
-    pub fn begin(&mut self, room: usize)
+    pub fn begin(&mut self, room: u32)
         ensures items { self.new.list.items ≡ [] }
         ensures room { self.new.room ≡ room }
     {
         self.list.clear();
-        self.room = room;
-        self.ready = room.min(self.list.capacity());
+        self.room = room as usize;
+        self.ready = self.room.min(self.list.capacity());
     }
 
     /// Sees to memory for more entries, if there is room for them.
@@ -57,6 +58,14 @@ impl<T: Copy> Bounded<T> {
         ensures { result ≡ length self.now.list.items }
     {
         self.list.len()
+    }
+
+    /// The place behind its entries.
+    #[inline(always)]
+    pub fn end(&self) -> u32
+        ensures { result ≡ length self.now.list.items }
+    {
+        self.list.len() as u32
     }
 
     /// The entries.

@@ -26,16 +26,16 @@ begin_function-requires-clause-letters g c =
 
 pub returns-else-not-is_plain-2 : goal.returns-else-not-is_plain-2
 returns-else-not-is_plain-2 g c =
-    pointer-opened (symbol_by g.G.Grammar.IS_WIDE c.args.s.now) c.args.self.now c.open_type.new.self c.open_type.result c.len-from.result
-    (awaits-type (symbol_by g.G.Grammar.IS_WIDE c.args.s.now) c.args.self.now c.args.is_plain c.requires.writing) c.len-from.ensures
+    pointer-opened (symbol_by g.G.Grammar.IS_WIDE c.args.s.now) c.args.self.now c.open_type.new.self c.open_type.result c.end-from.result
+    (awaits-type (symbol_by g.G.Grammar.IS_WIDE c.args.s.now) c.args.self.now c.args.is_plain c.requires.writing) c.end-from.ensures
     (there c.args.s.now c.args.self.now.at c.byte_at.result 80 c.in-80.is (omega arith) c.byte_at.ensures)
     c.open_type.ensures.step c.open_type.ensures.open c.open_type.ensures.at c.open_type.ensures.text c.open_type.ensures.candidates
 
 pub returns-else-not-is_plain-3 : goal.returns-else-not-is_plain-3
 returns-else-not-is_plain-3 g c =
     let called = c.open_type-in-82.ensures in
-    lvalue-opened (symbol_by g.G.Grammar.IS_WIDE c.args.s.now) c.args.self.now c.open_type-in-82.new.self c.open_type-in-82.result c.len-from.result
-    (awaits-type (symbol_by g.G.Grammar.IS_WIDE c.args.s.now) c.args.self.now c.args.is_plain c.requires.writing) c.len-from.ensures
+    lvalue-opened (symbol_by g.G.Grammar.IS_WIDE c.args.s.now) c.args.self.now c.open_type-in-82.new.self c.open_type-in-82.result c.end-from.result
+    (awaits-type (symbol_by g.G.Grammar.IS_WIDE c.args.s.now) c.args.self.now c.args.is_plain c.requires.writing) c.end-from.ensures
     (there c.args.s.now c.args.self.now.at c.byte_at.result 82 c.in-82.is (omega arith) c.byte_at.ensures)
     called.step called.open called.at called.text called.candidates
 
@@ -56,16 +56,16 @@ begin_array-requires-then-is_array_behind-2-clause-letters g c =
 pub returns-in-79 : goal.returns-in-79
 returns-in-79 g c =
     let called = c.open_type-in-79.ensures in
-    rvalue-opened (symbol_by g.G.Grammar.IS_WIDE c.args.s.now) c.args.self.now c.open_type-in-79.new.self c.open_type-in-79.result c.len-from.result
-    (awaits-type (symbol_by g.G.Grammar.IS_WIDE c.args.s.now) c.args.self.now c.args.is_plain c.requires.writing) c.len-from.ensures
+    rvalue-opened (symbol_by g.G.Grammar.IS_WIDE c.args.s.now) c.args.self.now c.open_type-in-79.new.self c.open_type-in-79.result c.end-from.result
+    (awaits-type (symbol_by g.G.Grammar.IS_WIDE c.args.s.now) c.args.self.now c.args.is_plain c.requires.writing) c.end-from.ensures
     (there c.args.s.now c.args.self.now.at c.byte_at.result 79 c.in-79.is (omega arith) c.byte_at.ensures)
     called.step called.open called.at called.text called.candidates
 
 pub returns-else-is_plain-3 : goal.returns-else-is_plain-3
 returns-else-is_plain-3 g c =
     let called = c.open_type-in-75.ensures in
-    const-opened (symbol_by g.G.Grammar.IS_WIDE c.args.s.now) c.args.self.now c.open_type-in-75.new.self c.open_type-in-75.result c.len-from.result c.args.is_plain
-    c.requires.writing c.if-is_plain-3.false c.len-from.ensures
+    const-opened (symbol_by g.G.Grammar.IS_WIDE c.args.s.now) c.args.self.now c.open_type-in-75.new.self c.open_type-in-75.result c.end-from.result c.args.is_plain
+    c.requires.writing c.if-is_plain-3.false c.end-from.ensures
     (there c.args.s.now c.args.self.now.at c.byte_at.result 75 c.in-75.is (omega arith) c.byte_at.ensures)
     called.step called.open called.at called.text called.candidates
 
