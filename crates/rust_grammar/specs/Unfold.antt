@@ -8,10 +8,10 @@ use Rattle.sym_core.specs.Value.{value_of, counted_value}
 use Rattle.sym_shape.specs.Tree.{Tree, spell}
 use Rattle.sym_link.specs.Reading.{Found, Open, Reading, ◌>>=◌}
 use Rattle.sym_link.specs.Unfold.{found, unfold_tree}
-use Rattle.rust_v0.specs.declared.production.Production.{Production}
-use Rattle.rust_v0.specs.declared.production.Production.TheVariants as rules
-use Rattle.rust_v0.specs.Productions.{production_of}
-use Rattle.rust_v0.specs.Value.{Value, Ended, State, Integer, number, an_integer, letter, a_name, an_identifier, a_disambiguator, a_binder, a_lifetime, unsafe_mark, an_abi, a_truth, minus_mark, a_path, a_type, a_constant, some_arguments, some_types, some_bounds, some_bindings, a_suffix, suffix_rest, a_symbol}
+use Rattle.rust_grammar.specs.declared.production.Production.{Production}
+use Rattle.rust_grammar.specs.declared.production.Production.TheVariants as rules
+use Rattle.rust_grammar.specs.Productions.{production_of}
+use Rattle.rust_grammar.specs.Value.{Value, Ended, State, Integer, number, an_integer, letter, a_name, an_identifier, a_disambiguator, a_binder, a_lifetime, unsafe_mark, an_abi, a_truth, minus_mark, a_path, a_type, a_constant, some_arguments, some_types, some_bounds, some_bindings, a_suffix, suffix_rest, a_symbol}
 use Rattle.rust_tree.specs.Nodes.{most_bound}
 use Rattle.rust_tree.specs.Symbol as tree
 use Rattle.rust_tree.specs.Need.{need, need_of_type}

@@ -3,10 +3,10 @@
 ghost use Rattle.std.specs.Prelude.{◌≡◌, ◌<◌, [], IfSome, MatchOption};
 ghost use Rattle.sym_shape.specs.Listing.{listed_in, StandsAt};
 ghost use Rattle.sym_shape.specs.Table.{symbols_of};
-ghost use Rattle.rust_v0.specs.declared.table.TheConstants.{SYMBOLS};
-ghost use Rattle.rust_v0.specs.Listed.{listed_rule};
-ghost use Rattle.rust_v0.specs.Rules.{v0_table};
-ghost use Rattle.rust_v0.specs.declared.table.Head.{Head};
+ghost use Rattle.rust_grammar.specs.declared.table.TheConstants.{SYMBOLS};
+ghost use Rattle.rust_grammar.specs.Listed.{listed_rule};
+ghost use Rattle.rust_grammar.specs.Rules.{v0_table};
+ghost use Rattle.rust_grammar.specs.declared.table.Head.{Head};
 
 use crate::kind::{
     self, ABI, ABI_NAME, ARGUMENTS, BINDER, BINDINGS, BOUNDS, CONSTANT, DISAMBIGUATOR, IDENTIFIER,

@@ -1,4 +1,4 @@
--- Rust's mangling: what its symbols read as, and their answers.
+-- What the demangler is told of a Rust symbol that was read: its tree, its refusals and the numbers of its nodes.
 use Rattle.std.proofs.Common.{arith, ℕ, List, length, Result}
 use Rattle.std.specs.Prelude.{slice_get}
 use Rattle.sym_core.specs.declared.refusal.Refusal.{Refusal}
@@ -16,29 +16,16 @@ use Rattle.rust_tree.specs.Symbol as tree
 use Rattle.rust_tree.specs.Layout.{ReadSymbol, trees_of}
 use Rattle.rust_tree.specs.Nodes.{symbol_in}
 use Rattle.rust_tree.specs.Shown.{symbol_parts}
-use Rattle.rust_v0.specs.Rules.{v0_table}
-use Rattle.rust_v0.specs.TableLaws.{lawful}
-use Rattle.rust_v0.specs.Unfold.{unfolded, symbol_of}
+use Rattle.rust_grammar.specs.Rules.{v0_table}
+use Rattle.rust_grammar.specs.TableLaws.{lawful}
+use Rattle.rust_grammar.specs.Unfold.{unfolded, symbol_of}
 use Rattle.rust_v0.specs.declared.nodes.RustNodes.{RustNodes}
 use Rattle.rust_v0.specs.RustNodes.{v0_view, first_nodes}
 use Rattle.rust_v0.specs.NodeCount.{made_by, v0_counted}
 
-abbrev pub v0_mangled : Mangled tree.Symbol
-v0_mangled = record { table = v0_table; unfolded = unfolded; shown = symbol_parts; lawful = lawful }
-
 -- the tree of a symbol that was read
 abbrev pub whole_of : ReadSymbol → tree.Symbol
 whole_of y = symbol_in (slice_get (trees_of y) y.root)
-
--- what a symbol reads as, and the answer to it
-abbrev pub IsReading : List ℕ → Result tree.Symbol Refusal → Type 0
-IsReading s result = demangle.IsReading v0_mangled s result
-
-abbrev pub IsAnswer : Detail → List ℕ → ℕ → Result (List ℕ) Refusal → Type 0
-IsAnswer detail s limit result = demangle.IsAnswer v0_mangled detail s limit result
-
-abbrev pub answer_of_shape : Detail → ℕ → Tree → Result (List ℕ) Refusal
-answer_of_shape detail limit shape = demangle.answer_of_shape v0_mangled detail limit shape
 
 pub v0_fails : (shape : Tree) (e : Refusal) → IsTree v0_table (Kind 0) shape → Fails e (meaning_of (v0_counted (spell shape)) shape) → Fails e (unfolded shape)
 v0_fails shape e is fails =

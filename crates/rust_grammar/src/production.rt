@@ -1,7 +1,7 @@
 // The productions of the grammar (RFC 2603, "Syntax of mangled names").
 
 ghost use Rattle.std.specs.Prelude.{◌≡◌};
-ghost use Rattle.rust_v0.specs.Productions.{production_of};
+ghost use Rattle.rust_grammar.specs.Productions.{production_of};
 
 /// The productions of the grammar. The number of a rule is that of its production, counted from 0 in this order.
 #[derive(Clone, Copy, Debug, PartialEq, Eq)]

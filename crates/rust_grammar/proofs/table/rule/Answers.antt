@@ -1,7 +1,7 @@
 use Rattle.std.proofs.Common.{false, sym}
-use Rattle.rust_v0.specs.Listed.{listed_rule}
-use Rattle.rust_v0.specs.declared.table.Head.{Head}
-use Rattle.rust_v0.proofs.table.rule.Goals as goal
+use Rattle.rust_grammar.specs.Listed.{listed_rule}
+use Rattle.rust_grammar.specs.declared.table.Head.{Head}
+use Rattle.rust_grammar.proofs.table.rule.Goals as goal
 
 pub returns-in-Some : goal.returns-in-Some
 unfolding listed_rule

@@ -1,6 +1,6 @@
 use Rattle.std.proofs.Common.{ap, sym, ◌∙◌, arith}
-use Rattle.rust_v0.proofs.Letters.{letter, rule_of, choice, rule_at, letter_range}
-use Rattle.rust_v0.proofs.table.number.Goals as goal
+use Rattle.rust_grammar.proofs.Letters.{letter, rule_of, choice, rule_at, letter_range}
+use Rattle.rust_grammar.proofs.table.number.Goals as goal
 
 pub overflow_sub-result : goal.overflow_sub-result
 unfolding letter

@@ -1,6 +1,6 @@
 -- What the parts of a symbol stand for.
 use Rattle.std.specs.Prelude.{ℕ, List, Bool, Option}
-use Rattle.rust_v0.specs.declared.production.Production.{Production}
+use Rattle.rust_grammar.specs.declared.production.Production.{Production}
 use Rattle.rust_tree.specs.Symbol as tree
 
 -- an integer by its sign and its magnitude; zero has no minus

@@ -1,10 +1,10 @@
 use Rattle.std.proofs.Common.{◌≡◌, ◌∙◌, IfSome, ap, false, subst, sym}
 use Rattle.sym_shape.specs.Listing.{listed_in}
 use Rattle.sym_shape.specs.Table.{symbols_of}
-use Rattle.rust_v0.specs.declared.table.Head.{Head}
-use Rattle.rust_v0.specs.declared.table.TheConstants.{SYMBOLS}
-use Rattle.rust_v0.proofs.Letters.{place_at}
-use Rattle.rust_v0.proofs.table.place.Goals as goal
+use Rattle.rust_grammar.specs.declared.table.Head.{Head}
+use Rattle.rust_grammar.specs.declared.table.TheConstants.{SYMBOLS}
+use Rattle.rust_grammar.proofs.Letters.{place_at}
+use Rattle.rust_grammar.proofs.table.place.Goals as goal
 
 pub returns-in-Some : goal.returns-in-Some
 returns-in-Some c =

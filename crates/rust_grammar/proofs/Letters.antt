@@ -8,10 +8,10 @@ use Rattle.sym_shape.specs.Listing.{listed_in, letter_below, unless_blank}
 use Rattle.sym_shape.specs.Sheet.{choice_at}
 use Rattle.sym_shape.specs.Table.{symbols_of}
 use Rattle.sym_shape.proofs.Listed.{alike_at, alike_in}
-use Rattle.rust_v0.specs.Listed.{listed_rule}
-use Rattle.rust_v0.specs.Rules.{kinds, no_kind}
-use Rattle.rust_v0.specs.declared.table.Head.{Head}
-use Rattle.rust_v0.specs.declared.table.TheConstants.{LETTERS, SYMBOLS}
+use Rattle.rust_grammar.specs.Listed.{listed_rule}
+use Rattle.rust_grammar.specs.Rules.{kinds, no_kind}
+use Rattle.rust_grammar.specs.declared.table.Head.{Head}
+use Rattle.rust_grammar.specs.declared.table.TheConstants.{LETTERS, SYMBOLS}
 
 -- the letter of a kind's row below a byte; `row` stands for what isn't there
 unfoldable pub letter : List ℕ → ℕ → ℕ → Option ℕ

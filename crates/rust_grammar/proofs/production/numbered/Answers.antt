@@ -1,7 +1,7 @@
 use Rattle.std.proofs.Common.{arith, ◌≤◌, length, sym}
 use Rattle.std.proofs.lemmas.Option.{slice_get_past}
-use Rattle.rust_v0.specs.Productions.{productions}
-use Rattle.rust_v0.proofs.production.numbered.Goals as goal
+use Rattle.rust_grammar.specs.Productions.{productions}
+use Rattle.rust_grammar.proofs.production.numbered.Goals as goal
 
 -- there are 48 productions
 pub returns-in_default : goal.returns-in_default

@@ -9,11 +9,11 @@ use Rattle.sym_shape.specs.declared.sheet.ByteRange.{ByteRange}
 use Rattle.sym_shape.specs.declared.sheet.Choice.{Choice}
 use Rattle.sym_shape.specs.Sheet.{KindSheet, table_of, range}
 use Rattle.sym_shape.specs.Table.{Table}
-use Rattle.rust_v0.specs.declared.production.Production.{Production}
-use Rattle.rust_v0.specs.declared.production.Production.TheVariants as rules
-use Rattle.rust_v0.specs.declared.kind.TheConstants.{PATH, OTHER_PATH, SUFFIX, SUFFIX_BYTE, SUFFIX_REST, NAMESPACE, DISAMBIGUATOR, IDENTIFIER, NAME, ARGUMENTS, TYPE, TYPES, SOME_LIFETIME, LIFETIME, BINDER, UNSAFE, ABI, ABI_NAME, BOUNDS, BINDINGS, CONSTANT, MINUS, TRUTH}
-use Rattle.rust_v0.specs.Productions.{number_of}
-use Rattle.rust_v0.specs.BasicLetters.{basic_letters, signed_letters, unsigned_letters}
+use Rattle.rust_grammar.specs.declared.production.Production.{Production}
+use Rattle.rust_grammar.specs.declared.production.Production.TheVariants as rules
+use Rattle.rust_grammar.specs.declared.kind.TheConstants.{PATH, OTHER_PATH, SUFFIX, SUFFIX_BYTE, SUFFIX_REST, NAMESPACE, DISAMBIGUATOR, IDENTIFIER, NAME, ARGUMENTS, TYPE, TYPES, SOME_LIFETIME, LIFETIME, BINDER, UNSAFE, ABI, ABI_NAME, BOUNDS, BINDINGS, CONSTANT, MINUS, TRUTH}
+use Rattle.rust_grammar.specs.Productions.{number_of}
+use Rattle.rust_grammar.specs.BasicLetters.{basic_letters, signed_letters, unsigned_letters}
 
 -- symbols filled up to five
 abbrev pub filled : List Sym → List Sym

@@ -1,7 +1,7 @@
 -- The productions of the grammar by number.
 use Rattle.std.specs.Prelude.{ℕ, Bool, true, false, List, [], ◌∷◌, Option, slice_get}
-use Rattle.rust_v0.specs.declared.production.Production.{Production}
-use Rattle.rust_v0.specs.declared.production.Production.TheVariants.{Symbol, PathReference, Crate, InherentImpl, TraitImpl, TraitDefinition, Nested, Generic, Suffix, SuffixByte, Namespace, Disambiguator, DisambiguatedIdentifier, PunycodeName, PlainName, LifetimeArgument, ConstantArgument, TypeArgument, BasicType, TypeReference, Array, Slice, Tuple, SharedReference, MutableReference, ConstPointer, MutPointer, Function, Dyn, TypesEnd, TypesMore, Lifetime, Binder, Unsafe, Abi, AbiC, BoundsEnd, BoundsMore, Binding, SignedConstant, UnsignedConstant, BoolConstant, CharConstant, Placeholder, ConstantReference, Minus, False, True}
+use Rattle.rust_grammar.specs.declared.production.Production.{Production}
+use Rattle.rust_grammar.specs.declared.production.Production.TheVariants.{Symbol, PathReference, Crate, InherentImpl, TraitImpl, TraitDefinition, Nested, Generic, Suffix, SuffixByte, Namespace, Disambiguator, DisambiguatedIdentifier, PunycodeName, PlainName, LifetimeArgument, ConstantArgument, TypeArgument, BasicType, TypeReference, Array, Slice, Tuple, SharedReference, MutableReference, ConstPointer, MutPointer, Function, Dyn, TypesEnd, TypesMore, Lifetime, Binder, Unsafe, Abi, AbiC, BoundsEnd, BoundsMore, Binding, SignedConstant, UnsignedConstant, BoolConstant, CharConstant, Placeholder, ConstantReference, Minus, False, True}
 
 abbrev pub productions : List Production
 productions =
