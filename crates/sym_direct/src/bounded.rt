@@ -5,9 +5,6 @@ ghost use Rattle.std.specs.Option.{OnSome, option_to_list};
 
 use std::alloc::Global;
 
-/// So many bytes of a list are copied to its end at once.
-const PIECE: usize = 64;
-
 /// A list that has at most so many entries at any time.
 #[derive(Drop)]
 pub struct Bounded<T> {
@@ -150,34 +147,13 @@ impl Bounded<u8> {
         ensures room { self.new.room ≡ self.old.room }
     {
         let left = self.list.len() - count;
-        self.list.rotate_left(count);
+        self.list.copy_within(count.., 0);
         self.list.truncate(left);
     }
 }
 
 /// Adds bytes of a list to its end.
-#[inline(always)]
 fn copy_to_end(bytes: &mut Vec<u8>, from: usize, to: usize) -> Option<()>
-    requires from { from ≤ to }
-    requires to { to ≤ length bytes.old.items }
-    ensures items { OnSome result (bytes.new.items ≡ bytes.old.items ++ take (to - from) (drop from bytes.old.items)) }
-    ensures most { length bytes.new.items ≤ length bytes.old.items + (to - from) }
-    ensures capacity { vec_capacity bytes.old ≤ vec_capacity bytes.new }
-{
-    if to - from > PIECE {
-        return copy_many_to_end(bytes, from, to);
-    }
-    let end = bytes.len();
-    let mut piece = [0; PIECE];
-    piece[..to - from].copy_from_slice(&bytes[from..to]);
-    // a whole piece is moved without a call, and what is behind the bytes taken away again
-    bytes.extend_from_slice(&piece).ok()?;
-    bytes.truncate(end + (to - from));
-    Some(())
-}
-
-/// Adds bytes of a list to its end, as many as there may be.
-fn copy_many_to_end(bytes: &mut Vec<u8>, from: usize, to: usize) -> Option<()>
     requires from { from ≤ to }
     requires to { to ≤ length bytes.old.items }
     ensures items { OnSome result (bytes.new.items ≡ bytes.old.items ++ take (to - from) (drop from bytes.old.items)) }
