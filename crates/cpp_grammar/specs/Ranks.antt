@@ -35,6 +35,7 @@ weight a scope (of_default digits entity) = 1 + weight a scope entity
 weight a scope (parameter k) = 2 + a
 weight a scope (lambda parameters number) = 1 + weight a scope parameters
 weight a scope (conversion t) = 1 + weight a scope t
+weight a scope (generic_parameter number) = 2
 weight a scope (pointer t) = 1 + weight a scope t
 weight a scope (lvalue t) = 1 + weight a scope t
 weight a scope (rvalue t) = 1 + weight a scope t

@@ -32,6 +32,7 @@ weight (of_default digits entity) = 1 + weight entity
 weight (parameter k argument) = 2 + weight argument
 weight (lambda parameters number) = 1 + weight parameters
 weight (conversion t) = 1 + weight t
+weight (generic_parameter number) = 2
 weight (pointer t) = 1 + weight t
 weight (lvalue t) = 1 + weight t
 weight (rvalue t) = 1 + weight t
