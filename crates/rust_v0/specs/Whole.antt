@@ -1,23 +1,18 @@
 -- What the demangler is told of a Rust symbol that was read: its tree, its refusals and the numbers of its nodes.
-use Rattle.std.proofs.Common.{arith, ℕ, List, length, Result}
+use Rattle.std.proofs.Common.{arith, ℕ, List, length}
 use Rattle.std.specs.Prelude.{slice_get}
 use Rattle.sym_core.specs.declared.refusal.Refusal.{Refusal}
-use Rattle.sym_print.specs.declared.detail.Detail.{Detail}
 use Rattle.sym_shape.specs.declared.rule.Sym.TheVariants.{Kind}
 use Rattle.sym_shape.specs.Tree.{Tree, IsTree, spell}
 use Rattle.sym_link.specs.Driving.{Fails}
 use Rattle.sym_link.specs.Following.{meaning_of}
 use Rattle.sym_link.specs.Tally.{closing_makes}
 use Rattle.sym_link.proofs.Tally.{fails_behind, fails_untallied}
-use Rattle.sym_demangle.specs.Mangled as demangle
-use Rattle.sym_demangle.specs.Mangled.{Mangled}
 use Rattle.sym_demangle.specs.Standing.{CountsNodes}
 use Rattle.rust_tree.specs.Symbol as tree
 use Rattle.rust_tree.specs.Layout.{ReadSymbol, trees_of}
 use Rattle.rust_tree.specs.Nodes.{symbol_in}
-use Rattle.rust_tree.specs.Shown.{symbol_parts}
 use Rattle.rust_grammar.specs.Rules.{v0_table}
-use Rattle.rust_grammar.specs.TableLaws.{lawful}
 use Rattle.rust_grammar.specs.Unfold.{unfolded, symbol_of}
 use Rattle.rust_v0.specs.declared.nodes.RustNodes.{RustNodes}
 use Rattle.rust_v0.specs.RustNodes.{v0_view, first_nodes}
