@@ -255,6 +255,8 @@ impl Words {
     }
 
     /// Holds a part of a run, or passes the run on where it is too long for a word that names a symbol.
+    // As a call of its own this and `put_behind` took 1 % of the filter's instructions over a list of symbols.
+    #[inline(always)]
     fn hold(&mut self, part: &[u8], out: &mut Vec<u8>) -> Result<Taken, AllocError>
         requires in_run { list_all (is_byte_of self.old.letters) part.now ≡ true }
         requires holds { self.old.passes ≡ false }
