@@ -5,6 +5,11 @@ ghost use Rattle.std.specs.Option.{OnSome, option_to_list};
 
 use std::alloc::Global;
 
+/// So many entries have room at least where a list first gets memory, and so many bytes where bytes are added together: most
+/// symbols need no more.
+const ENTRIES_AT_ONCE: usize = 16;
+const BYTES_AT_ONCE: usize = 128;
+
 /// A list that has at most so many entries at any time.
 #[derive(Drop)]
 pub struct Bounded<T> {
@@ -37,17 +42,18 @@ impl<T: Copy> Bounded<T> {
         self.ready = self.room.min(self.list.capacity());
     }
 
-    /// Sees to memory for more entries, if there is room for them.
+    /// Sees to memory for more entries, if there is room for them, and for some at once, as far as there is.
     #[inline(never)]
-    fn make_ready(&mut self, more: usize) -> Option<()>
+    fn make_ready(&mut self, more: usize, at_once: usize) -> Option<()>
         ensures ready { OnSome result (length self.new.list.items + more ≤ self.new.ready) }
         ensures items { self.new.list.items ≡ self.old.list.items }
         ensures room { self.new.room ≡ self.old.room }
     {
-        if more > self.room - self.list.len() {
+        let left = self.room - self.list.len();
+        if more > left {
             return None;
         }
-        self.list.reserve(more).ok()?;
+        self.list.reserve(more.max(at_once.min(left))).ok()?;
         self.ready = self.room.min(self.list.capacity());
         Some(())
     }
@@ -83,7 +89,7 @@ impl<T: Copy> Bounded<T> {
         ensures room { self.new.room ≡ self.old.room }
     {
         if self.list.len() >= self.ready {
-            self.make_ready(1)?;
+            self.make_ready(1, ENTRIES_AT_ONCE)?;
         }
         self.list.push_reserved(entry);
         Some(())
@@ -108,7 +114,7 @@ impl Bounded<u8> {
         ensures room { self.new.room ≡ self.old.room }
     {
         if bytes.len() > self.ready - self.list.len() {
-            self.make_ready(bytes.len())?;
+            self.make_ready(bytes.len(), BYTES_AT_ONCE)?;
         }
         self.list.extend_from_slice(bytes).ok()
     }
@@ -120,7 +126,7 @@ impl Bounded<u8> {
         ensures room { self.new.room ≡ self.old.room }
     {
         if self.ready - self.list.len() < 2 {
-            self.make_ready(2)?;
+            self.make_ready(2, BYTES_AT_ONCE)?;
         }
         self.list.push_reserved(first);
         self.list.push_reserved(second);
@@ -135,7 +141,7 @@ impl Bounded<u8> {
         ensures room { self.new.room ≡ self.old.room }
     {
         if to - from > self.ready - self.list.len() {
-            self.make_ready(to - from)?;
+            self.make_ready(to - from, BYTES_AT_ONCE)?;
         }
         copy_to_end(&mut self.list, from, to)
     }
