@@ -127,10 +127,12 @@ def build(extended=True, widened=False):
     kind("MaybeArguments", ARGUMENTS, wide(eats("B", "Tag", NAME, "MaybeArguments")), empty=True)
     kind("Arguments", ARGUMENTS)
     arguments = [eats("J", "PackArgument", "PackList", "'E'", "ArgumentList"), eats("L", "LiteralArgument", "Literal", "'E'", "ArgumentList"),
-                 eats("X", "AddressArgument", "'a'", "'d'", "Address", "ArgumentList"), chain("TypeArgument", "Item", "ArgumentList")]
+                 narrow(eats("X", "AddressArgument", "'a'", "'d'", "Address", "ArgumentList")), wide(chain("ExpressionArgument", "Expression", "ArgumentList")),
+                 chain("TypeArgument", "Item", "ArgumentList")]
     kind("ArgumentList", *arguments, empty=True)
     kind("PackList", eats("L", "LiteralElement", "Literal", "'E'", "PackList"),
-         eats("X", "AddressElement", "'a'", "'d'", "Address", "PackList"), chain("TypeElement", "Item", "PackList"), empty=True)
+         narrow(eats("X", "AddressElement", "'a'", "'d'", "Address", "PackList")), wide(chain("ExpressionElement", "Expression", "PackList")),
+         chain("TypeElement", "Item", "PackList"), empty=True)
     kind("Address", eats("L", "Address", "'_'", "'Z'", "Encoding", "'E'", "'E'"))
     kind("Literal", eats("_", "EncodingLiteral", "'Z'", "Encoding"), eats("b", "BoolLiteral", "Bit"), eats("D", "LiteralWithD", "LiteralAfterD"),
          chain("IntegerLiteral", "LiteralType", "Integer"))
@@ -165,6 +167,9 @@ def build(extended=True, widened=False):
     kind("CloneLetter", MARK("tn"))
     kind("TypeInStd", eats("t", "TaggedStdType", "SourceOrLocal", "MaybeTags"))
     kind("MaybeTags", eats("B", "TypeTag", NAME, "MaybeTags"), empty=True)
+    # an argument that is an expression: the address of an encoding, or a parameter
+    kind("Expression", eats("X", "Expression", "ExpressionRest"))
+    kind("ExpressionRest", eats("a", "AddressExpression", "'d'", "Address"), eats("T", "ParameterExpression", DECIMAL, "'E'"))
     shared = {p for k in abi_kinds for cls, p in K[k][1] if (k, cls, p) not in MARKED}
     for p in [p for (k, cls, p), mark in MARKED.items() if mark == "wide" and p not in shared]: P[p] = P.pop(p)
 

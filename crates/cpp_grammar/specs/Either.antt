@@ -20,6 +20,9 @@ either_alternatives Kind.Encoding = on "T" Production.Special ∷ on_ranges "0-9
 either_alternatives Kind.NestAfterS = on "t" Production.NestStd ∷ on_ranges "0-9A-Z" "_abdios" Production.NestTemplate ∷ on "!" Production.NestAbbreviated ∷ []
 either_alternatives Kind.Component = on "C" Production.Constructor ∷ on "D" Production.Destructor ∷ on "L" Production.InternalName ∷ on "U" Production.LocalTypeName ∷ on_ranges "0-9" "" Production.SourceName ∷ on "c" Production.ComponentWithC ∷ on_ranges "l-p" "adegirs" Production.OtherOperatorName ∷ on "M" Production.Holder ∷ on "!" Production.OperatorName ∷ []
 either_alternatives Kind.TypeAfterS = on_ranges "0-9A-Z" "_abdios" Production.AbbreviatedType ∷ on "t" Production.StdType ∷ on "!" Production.TypeInStd ∷ []
+either_alternatives Kind.ArgumentList = on "J" Production.PackArgument ∷ on "L" Production.LiteralArgument ∷ on_ranges "0-9M-PR-Va-jl-or-z" "ACDFKZ" Production.TypeArgument ∷ on "X" Production.AddressArgument ∷ on "!" Production.ExpressionArgument ∷ []
+either_alternatives Kind.PackList = on "L" Production.LiteralElement ∷ on_ranges "0-9M-PR-Va-jl-or-z" "ACDFKZ" Production.TypeElement ∷ on "X" Production.AddressElement ∷ on "!" Production.ExpressionElement ∷ []
+either_alternatives Kind.ArgumentsFirst = on "J" Production.PackArgument ∷ on "L" Production.LiteralArgument ∷ on_ranges "0-9M-PR-Va-jl-or-z" "ACDFKZ" Production.TypeArgument ∷ on "I" Production.PackArgument ∷ on "X" Production.AddressArgument ∷ on "!" Production.ExpressionArgument ∷ []
 either_alternatives kind = wide_alternatives kind
 
 -- the production that a kind takes at a byte

@@ -86,6 +86,8 @@ after_ranges Kind.SpecialAfterG = codes ".-.E-E"
 after_ranges Kind.CloneLetter = codes "0-9G-GL-LN-NS-UZ-Za-ac-eg-gi-il-pr-s"
 after_ranges Kind.TypeInStd = codes ".-.0-9A-AC-FI-PR-VX-XZ-Za-jl-pr-z"
 after_ranges Kind.MaybeTags = codes ".-.0-9A-AC-FI-PR-VX-XZ-Za-jl-pr-z"
+after_ranges Kind.Expression = codes "0-9A-AC-FJ-PR-VX-XZ-Za-jl-or-z"
+after_ranges Kind.ExpressionRest = codes "0-9A-AC-FJ-PR-VX-XZ-Za-jl-or-z"
 
 -- how many chains may stand on one another at the beginning of a kind
 unfoldable pub rank : Kind → ℕ
@@ -195,4 +197,6 @@ height Kind.SpecialMark = 1
 height Kind.SpecialAfterG = 2
 height Kind.CloneLetter = 1
 height Kind.TypeInStd = 2
+height Kind.Expression = 2
+height Kind.ExpressionRest = 1
 height _ = 0

@@ -3,10 +3,10 @@ use Rattle.std.specs.Prelude.{ℕ}
 
 -- how many kinds there are, and how many productions
 abbrev pub KIND_COUNT : ℕ
-KIND_COUNT = 82
+KIND_COUNT = 84
 
 abbrev pub PRODUCTION_COUNT : ℕ
-PRODUCTION_COUNT = 131
+PRODUCTION_COUNT = 136
 
 abbrev pub SYMBOL : ℕ
 SYMBOL = 0
@@ -253,3 +253,9 @@ TYPE_IN_STD = 80
 
 abbrev pub MAYBE_TAGS : ℕ
 MAYBE_TAGS = 81
+
+abbrev pub EXPRESSION : ℕ
+EXPRESSION = 82
+
+abbrev pub EXPRESSION_REST : ℕ
+EXPRESSION_REST = 83

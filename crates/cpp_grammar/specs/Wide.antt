@@ -57,8 +57,8 @@ wide_alternatives Kind.AfterO = on "E" Production.RefEnd ∷ on_ranges "0-9M-PR-
 wide_alternatives Kind.Items = on_ranges "0-9M-PR-Va-jl-or-z" "ACDFKZ" Production.Items ∷ []
 wide_alternatives Kind.MaybeArguments = on "I" Production.Arguments ∷ on "B" Production.Tag ∷ []
 wide_alternatives Kind.Arguments = on "I" Production.Arguments ∷ []
-wide_alternatives Kind.ArgumentList = on "J" Production.PackArgument ∷ on "L" Production.LiteralArgument ∷ on "X" Production.AddressArgument ∷ on_ranges "0-9M-PR-Va-jl-or-z" "ACDFKZ" Production.TypeArgument ∷ []
-wide_alternatives Kind.PackList = on "L" Production.LiteralElement ∷ on "X" Production.AddressElement ∷ on_ranges "0-9M-PR-Va-jl-or-z" "ACDFKZ" Production.TypeElement ∷ []
+wide_alternatives Kind.ArgumentList = on "J" Production.PackArgument ∷ on "L" Production.LiteralArgument ∷ on "X" Production.ExpressionArgument ∷ on_ranges "0-9M-PR-Va-jl-or-z" "ACDFKZ" Production.TypeArgument ∷ []
+wide_alternatives Kind.PackList = on "L" Production.LiteralElement ∷ on "X" Production.ExpressionElement ∷ on_ranges "0-9M-PR-Va-jl-or-z" "ACDFKZ" Production.TypeElement ∷ []
 wide_alternatives Kind.Address = on "L" Production.Address ∷ []
 wide_alternatives Kind.Literal = on "_" Production.EncodingLiteral ∷ on "b" Production.BoolLiteral ∷ on "D" Production.LiteralWithD ∷ on_ranges "0-9S-Uh-jl-ow-y" "MNPZacst" Production.IntegerLiteral ∷ []
 wide_alternatives Kind.Bit = on "01" Production.Mark ∷ []
@@ -87,7 +87,7 @@ wide_alternatives Kind.HeldComponent = on "C" Production.Constructor ∷ on "D" 
 wide_alternatives Kind.FloatEnd = on "_bx" Production.Mark ∷ []
 wide_alternatives Kind.ComponentAfterC = on "v" Production.Conversion ∷ on "lmo" Production.OperatorNameWithC ∷ []
 wide_alternatives Kind.OtherOperator = on "n" Production.OperatorN ∷ on "d" Production.OperatorD ∷ on "a" Production.OperatorA ∷ on "p" Production.OperatorP ∷ on "m" Production.OperatorM ∷ on "r" Production.OperatorR ∷ on "o" Production.OperatorO ∷ on "e" Production.OperatorE ∷ on "l" Production.OperatorL ∷ on "s" Production.OperatorS ∷ on "i" Production.OperatorI ∷ on "g" Production.OperatorG ∷ []
-wide_alternatives Kind.ArgumentsFirst = on "J" Production.PackArgument ∷ on "L" Production.LiteralArgument ∷ on "X" Production.AddressArgument ∷ on_ranges "0-9M-PR-Va-jl-or-z" "ACDFKZ" Production.TypeArgument ∷ on "I" Production.PackArgument ∷ []
+wide_alternatives Kind.ArgumentsFirst = on "J" Production.PackArgument ∷ on "L" Production.LiteralArgument ∷ on "X" Production.ExpressionArgument ∷ on_ranges "0-9M-PR-Va-jl-or-z" "ACDFKZ" Production.TypeArgument ∷ on "I" Production.PackArgument ∷ []
 wide_alternatives Kind.PlainEntity = on "N" Production.NestedName ∷ on "L" Production.InternalName ∷ on "U" Production.LocalTypeName ∷ on_ranges "0-9" "" Production.SourceName ∷ []
 wide_alternatives Kind.PlainTypeEntity = on "N" Production.NestedType ∷ on "L" Production.InternalName ∷ on "U" Production.LocalTypeName ∷ on_ranges "0-9" "" Production.SourceName ∷ []
 wide_alternatives Kind.SpecialMark = on "G" Production.Mark ∷ []
@@ -95,6 +95,8 @@ wide_alternatives Kind.SpecialAfterG = on "V" Production.SpecialName ∷ on "T" 
 wide_alternatives Kind.CloneLetter = on "nt" Production.Mark ∷ []
 wide_alternatives Kind.TypeInStd = on "t" Production.TaggedStdType ∷ []
 wide_alternatives Kind.MaybeTags = on "B" Production.TypeTag ∷ []
+wide_alternatives Kind.Expression = on "X" Production.Expression ∷ []
+wide_alternatives Kind.ExpressionRest = on "a" Production.AddressExpression ∷ on "T" Production.ParameterExpression ∷ []
 
 -- the production that a kind takes at a byte
 unfoldable pub wide_choose : Kind → ℕ → Option Production

@@ -88,6 +88,8 @@ pub enum Kind {
     CloneLetter,
     TypeInStd,
     MaybeTags,
+    Expression,
+    ExpressionRest,
 }
 
 /// The kind with a number.
@@ -178,6 +180,8 @@ pub fn kind_of(number: u16) -> Option<Kind>
         79 => Some(Kind::CloneLetter),
         80 => Some(Kind::TypeInStd),
         81 => Some(Kind::MaybeTags),
+        82 => Some(Kind::Expression),
+        83 => Some(Kind::ExpressionRest),
         _ => None,
     }
 }

@@ -121,6 +121,9 @@ pub enum Production {
     Clone,
     TaggedStdType,
     TypeTag,
+    Expression,
+    AddressExpression,
+    ParameterExpression,
     OtherSpecial,
     SpecialName,
     ConstructionVtable,
@@ -134,4 +137,6 @@ pub enum Production {
     SizedFloat,
     TypeInStd,
     Tag,
+    ExpressionElement,
+    ExpressionArgument,
 }

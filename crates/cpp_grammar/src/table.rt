@@ -173,6 +173,10 @@ const TYPE_IN_STD: Sym = Sym::Kind(80);
 
 const MAYBE_TAGS: Sym = Sym::Kind(81);
 
+const EXPRESSION: Sym = Sym::Kind(82);
+
+const EXPRESSION_REST: Sym = Sym::Kind(83);
+
 const NAME: Sym = Sym::Name;
 
 const DECIMAL: Sym = Sym::Number(NumberKind::Decimal);
@@ -185,7 +189,7 @@ const DIGITS: Sym = Sym::Number(NumberKind::Digits);
 pub const FIRST_LETTER: u8 = b'!';
 
 // For each kind a row: for each byte from `$` to `z` the letter of the production that the kind takes there.
-static LETTERS: [[u8; 87]; 82] = [
+static LETTERS: [[u8; 87]; 84] = [
     // $%&'()*+,-./0123456789:;<=>?@ABCDEFGHIJKLMNOPQRSTUVWXYZ[\]^_`abcdefghijklmnopqrstuvwxyz
     *b"                                                           *                           ", // Symbol
     *b"          +                                                                            ", // MaybeSuffix
@@ -257,7 +261,7 @@ static LETTERS: [[u8; 87]; 82] = [
     *b"                                     t                                                 ", // ArgumentsAlone
     *b"            EEEEEEEEEE         EE    D  E        E           E EEE E E  EEEEE EE       ", // NestRestAlone
     *b"                                         !                                             ", // HolderMark
-    *b"            $$$$$$$$$$         GH       \"        #           \x9d \x9c\x9d\x9d \x9d \x9d  \x9d\x9d\x9d\x9d\x9d \x9d\x9d       ", // HeldComponent
+    *b"            $$$$$$$$$$         GH       \"        #           \xa0 \x9f\xa0\xa0 \xa0 \xa0  \xa0\xa0\xa0\xa0\xa0 \xa0\xa0       ", // HeldComponent
     *b"                                                           !  !                     !  ", // FloatEnd
     *b"                                                                        \x93\x93 \x93      \x92    ", // ComponentAfterC
     *b"                                                             \x85  \x84\x8b \x8f \x8e  \x8c\x88\x83\x8a\x86 \x89\x8d       ", // OtherOperator
@@ -265,10 +269,12 @@ static LETTERS: [[u8; 87]; 82] = [
     *b"            $$$$$$$$$$                  \" )      #                                     ", // PlainEntity
     *b"            $$$$$$$$$$                  \" K      #                                     ", // PlainTypeEntity
     *b"                                   !                                                   ", // SpecialMark
-    *b"                                                \x94 \x98                                    ", // SpecialAfterG
+    *b"                                                \x94 \x9b                                    ", // SpecialAfterG
     *b"                                                                          !     !      ", // CloneLetter
     *b"                                                                                \x95      ", // TypeInStd
     *b"                              \x96                                                        ", // MaybeTags
+    *b"                                                    \x97                                  ", // Expression
+    *b"                                                \x99            \x98                         ", // ExpressionRest
 ];
 
 /// A rule without its number and its symbols.
@@ -298,7 +304,7 @@ macro_rules! chains {
 }
 
 // The rules of the productions, in the order of their numbers.
-pub static HEADS: [Head; 131] = [
+pub static HEADS: [Head; 136] = [
     takes!(0), // ! Mark
     takes!(2), // \" InternalName
     takes!(2), // # LocalTypeName
@@ -417,23 +423,28 @@ pub static HEADS: [Head; 131] = [
     takes!(2), // \x94 Clone
     takes!(2), // \x95 TaggedStdType
     takes!(2), // \x96 TypeTag
-    chains!(2), // \x97 OtherSpecial
-    takes!(1), // \x98 SpecialName
-    takes!(4), // \x99 ConstructionVtable
-    chains!(2), // \x9a NestTemplate
-    takes!(2), // \x9b NestTag
-    takes!(1), // \x9c ComponentWithC
-    chains!(2), // \x9d OtherOperatorName
-    chains!(2), // \x9e Holder
-    takes!(2), // \x9f DefaultEntity
-    takes!(2), // \xa0 DefaultTypeEntity
-    takes!(2), // \xa1 SizedFloat
-    chains!(1), // \xa2 TypeInStd
-    takes!(2), // \xa3 Tag
+    takes!(1), // \x97 Expression
+    takes!(2), // \x98 AddressExpression
+    takes!(2), // \x99 ParameterExpression
+    chains!(2), // \x9a OtherSpecial
+    takes!(1), // \x9b SpecialName
+    takes!(4), // \x9c ConstructionVtable
+    chains!(2), // \x9d NestTemplate
+    takes!(2), // \x9e NestTag
+    takes!(1), // \x9f ComponentWithC
+    chains!(2), // \xa0 OtherOperatorName
+    chains!(2), // \xa1 Holder
+    takes!(2), // \xa2 DefaultEntity
+    takes!(2), // \xa3 DefaultTypeEntity
+    takes!(2), // \xa4 SizedFloat
+    chains!(1), // \xa5 TypeInStd
+    takes!(2), // \xa6 Tag
+    chains!(2), // \xa7 ExpressionElement
+    chains!(2), // \xa8 ExpressionArgument
 ];
 
 // The symbols of the rules, in the same order.
-pub static SYMBOLS: [Sym; 792] = symbols_listed! {
+pub static SYMBOLS: [Sym; 822] = symbols_listed! {
     [NONE, NONE, NONE, NONE, NONE], // ! Mark
     [NAME, MAYBE_ARGUMENTS, NONE, NONE, NONE], // \" InternalName
     [ANONYMOUS, MAYBE_ARGUMENTS, NONE, NONE, NONE], // # LocalTypeName
@@ -552,26 +563,31 @@ pub static SYMBOLS: [Sym; 792] = symbols_listed! {
     [CLONE_LETTER, ENCODING, NONE, NONE, NONE], // \x94 Clone
     [SOURCE_OR_LOCAL, MAYBE_TAGS, NONE, NONE, NONE], // \x95 TaggedStdType
     [NAME, MAYBE_TAGS, NONE, NONE, NONE], // \x96 TypeTag
-    [SPECIAL_MARK, SPECIAL_AFTER_G, NONE, NONE, NONE], // \x97 OtherSpecial
-    [COMPLETE_NAME, NONE, NONE, NONE, NONE], // \x98 SpecialName
-    [TYPE, DIGITS, Sym::Byte(b'_'), TYPE, NONE], // \x99 ConstructionVtable
-    [ABBREVIATION, NEST_REST_OR_END, NONE, NONE, NONE], // \x9a NestTemplate
-    [NAME, NEST_REST, NONE, NONE, NONE], // \x9b NestTag
-    [COMPONENT_AFTER_C, NONE, NONE, NONE, NONE], // \x9c ComponentWithC
-    [OTHER_OPERATOR, MAYBE_ARGUMENTS, NONE, NONE, NONE], // \x9d OtherOperatorName
-    [HOLDER_MARK, HELD_COMPONENT, NONE, NONE, NONE], // \x9e Holder
-    [DECIMAL, PLAIN_ENTITY, NONE, NONE, NONE], // \x9f DefaultEntity
-    [DECIMAL, PLAIN_TYPE_ENTITY, NONE, NONE, NONE], // \xa0 DefaultTypeEntity
-    [DIGITS, FLOAT_END, NONE, NONE, NONE], // \xa1 SizedFloat
-    [TYPE_IN_STD, NONE, NONE, NONE, NONE], // \xa2 TypeInStd
-    [NAME, MAYBE_ARGUMENTS, NONE, NONE, NONE], // \xa3 Tag
+    [EXPRESSION_REST, NONE, NONE, NONE, NONE], // \x97 Expression
+    [Sym::Byte(b'd'), ADDRESS, NONE, NONE, NONE], // \x98 AddressExpression
+    [DECIMAL, Sym::Byte(b'E'), NONE, NONE, NONE], // \x99 ParameterExpression
+    [SPECIAL_MARK, SPECIAL_AFTER_G, NONE, NONE, NONE], // \x9a OtherSpecial
+    [COMPLETE_NAME, NONE, NONE, NONE, NONE], // \x9b SpecialName
+    [TYPE, DIGITS, Sym::Byte(b'_'), TYPE, NONE], // \x9c ConstructionVtable
+    [ABBREVIATION, NEST_REST_OR_END, NONE, NONE, NONE], // \x9d NestTemplate
+    [NAME, NEST_REST, NONE, NONE, NONE], // \x9e NestTag
+    [COMPONENT_AFTER_C, NONE, NONE, NONE, NONE], // \x9f ComponentWithC
+    [OTHER_OPERATOR, MAYBE_ARGUMENTS, NONE, NONE, NONE], // \xa0 OtherOperatorName
+    [HOLDER_MARK, HELD_COMPONENT, NONE, NONE, NONE], // \xa1 Holder
+    [DECIMAL, PLAIN_ENTITY, NONE, NONE, NONE], // \xa2 DefaultEntity
+    [DECIMAL, PLAIN_TYPE_ENTITY, NONE, NONE, NONE], // \xa3 DefaultTypeEntity
+    [DIGITS, FLOAT_END, NONE, NONE, NONE], // \xa4 SizedFloat
+    [TYPE_IN_STD, NONE, NONE, NONE, NONE], // \xa5 TypeInStd
+    [NAME, MAYBE_ARGUMENTS, NONE, NONE, NONE], // \xa6 Tag
+    [EXPRESSION, PACK_LIST, NONE, NONE, NONE], // \xa7 ExpressionElement
+    [EXPRESSION, ARGUMENT_LIST, NONE, NONE, NONE], // \xa8 ExpressionArgument
 };
 
 /// The number of the rule that a kind takes at a byte, if it takes one.
 #[inline]
 fn number(kind: u16, byte: u8) -> Option<usize>
     requires { kind < abi.kinds }
-    ensures few { IfSome result (λ number. number < 131) }
+    ensures few { IfSome result (λ number. number < 136) }
     ensures rule { (head : Head) → MatchOption result (abi.rule kind byte ≡ None) (λ number. abi.rule kind byte ≡ Some (listed_rule head number)) }
 {
     match letter_in(&LETTERS[kind as usize], byte) {

@@ -3,7 +3,7 @@
 use cpp_grammar::production::Production;
 
 /// The productions.
-pub(crate) const PRODUCTIONS: [Production; 131] = [
+pub(crate) const PRODUCTIONS: [Production; 136] = [
     Production::Mark,
     Production::InternalName,
     Production::LocalTypeName,
@@ -122,6 +122,9 @@ pub(crate) const PRODUCTIONS: [Production; 131] = [
     Production::Clone,
     Production::TaggedStdType,
     Production::TypeTag,
+    Production::Expression,
+    Production::AddressExpression,
+    Production::ParameterExpression,
     Production::OtherSpecial,
     Production::SpecialName,
     Production::ConstructionVtable,
@@ -135,10 +138,12 @@ pub(crate) const PRODUCTIONS: [Production; 131] = [
     Production::SizedFloat,
     Production::TypeInStd,
     Production::Tag,
+    Production::ExpressionElement,
+    Production::ExpressionArgument,
 ];
 
 /// How many parts each has.
-pub(crate) const PART_COUNTS: [u8; 131] = [
+pub(crate) const PART_COUNTS: [u8; 136] = [
     0, // Mark
     2, // InternalName
     2, // LocalTypeName
@@ -257,6 +262,9 @@ pub(crate) const PART_COUNTS: [u8; 131] = [
     2, // Clone
     2, // TaggedStdType
     2, // TypeTag
+    1, // Expression
+    2, // AddressExpression
+    2, // ParameterExpression
     2, // OtherSpecial
     1, // SpecialName
     4, // ConstructionVtable
@@ -270,10 +278,12 @@ pub(crate) const PART_COUNTS: [u8; 131] = [
     2, // SizedFloat
     1, // TypeInStd
     2, // Tag
+    2, // ExpressionElement
+    2, // ExpressionArgument
 ];
 
 /// Whether parts without a row may stand between those of each.
-pub(crate) const SKIPS_PARTS: [bool; 131] = [
+pub(crate) const SKIPS_PARTS: [bool; 136] = [
     false, // Mark
     false, // InternalName
     false, // LocalTypeName
@@ -392,6 +402,9 @@ pub(crate) const SKIPS_PARTS: [bool; 131] = [
     false, // Clone
     false, // TaggedStdType
     false, // TypeTag
+    false, // Expression
+    true, // AddressExpression
+    false, // ParameterExpression
     false, // OtherSpecial
     false, // SpecialName
     true, // ConstructionVtable
@@ -405,10 +418,12 @@ pub(crate) const SKIPS_PARTS: [bool; 131] = [
     false, // SizedFloat
     false, // TypeInStd
     false, // Tag
+    false, // ExpressionElement
+    false, // ExpressionArgument
 ];
 
 /// Before how many of its parts nothing is done in each: before none, the first, or all, which are five at most.
-pub(crate) const QUIET_PARTS: [u8; 131] = [
+pub(crate) const QUIET_PARTS: [u8; 136] = [
     5, // Mark
     1, // InternalName
     1, // LocalTypeName
@@ -527,6 +542,9 @@ pub(crate) const QUIET_PARTS: [u8; 131] = [
     5, // Clone
     1, // TaggedStdType
     1, // TypeTag
+    5, // Expression
+    5, // AddressExpression
+    1, // ParameterExpression
     0, // OtherSpecial
     5, // SpecialName
     5, // ConstructionVtable
@@ -540,4 +558,6 @@ pub(crate) const QUIET_PARTS: [u8; 131] = [
     5, // SizedFloat
     5, // TypeInStd
     1, // Tag
+    5, // ExpressionElement
+    5, // ExpressionArgument
 ];
