@@ -22,7 +22,7 @@ use Rattle.cpp_grammar.specs.Between.{in_name, inside, after, no_items, applied,
 use Rattle.cpp_grammar.specs.Meaning.{meaning}
 use Rattle.cpp_grammar.specs.Unfolding as unfolding_
 use Rattle.cpp_grammar.specs.Unfolding.{last_token, number_tested, opening, close, production_at, byte_of, cpp, first_around, first_state, first_tree, unfold_cpp}
-use Rattle.cpp_grammar.specs.Widened.{Change, with_rest, within_name, with_g, with_t, unchanged, rest_or_end, with_rest_or_end, letters_component, operator_component, variable_with_g, type_without_tags, change_of, changed, widened_branch, widened_as, widened_all, widened}
+use Rattle.cpp_grammar.specs.Widened.{Change, with_rest, within_name, with_g, with_t, with_x, unchanged, rest_or_end, with_rest_or_end, letters_component, operator_component, variable_with_g, type_without_tags, address_as_expression, change_of, changed, widened_branch, widened_as, widened_all, widened}
 use Rattle.cpp_grammar.proofs.Widening.{arguments_rule, next_rule, rest_rule, takes_its, as_wide, aside, behind_s, of_operator, of_variable, in_std_, chosen_rule, with_c, without_c, operator_rule, without_c_letters, same_branch, spell_as, widened_trees, either_symbols, either_start}
 
 -- ## A tree has one value
@@ -348,13 +348,15 @@ operator_last taken (grown (branch rule first (grown second nothing)) (grown arg
 operator_last taken _ rest digits = refl
 
 last_behind : (change : Change) (rule : Rule) (taken : List ℕ) (parts rest : Forest) (digits : List ℕ) → last_token (grown (changed change rule taken parts) rest) digits ≡ last_token rest digits
-unfolding changed variable_with_g type_without_tags last_token
+unfolding changed variable_with_g type_without_tags address_as_expression last_token
 last_behind with_rest rule taken parts rest digits = refl
 last_behind within_name rule taken parts rest digits = operator_last taken parts rest digits
 last_behind with_g rule taken (grown (fixed letter) (grown name nothing)) rest digits = refl
 last_behind with_g rule taken _ rest digits = refl
 last_behind with_t rule taken (grown piece nothing) rest digits = refl
 last_behind with_t rule taken _ rest digits = refl
+last_behind (with_x own) rule taken (grown (fixed a) (grown (fixed d) (grown address (grown rest_ nothing)))) rest digits = refl
+last_behind (with_x own) rule taken _ rest digits = refl
 last_behind unchanged rule taken parts rest digits = refl
 
 last_same : (f : Forest) (xs : List Sym) (digits : List ℕ) → last_token (widened_all f xs) digits ≡ last_token f digits

@@ -13,27 +13,27 @@ use Rattle.sym_shape.proofs.Firsts.{branch_first, branch_filled}
 use Rattle.sym_link.specs.Sound.{IsSound}
 use Rattle.cpp_grammar.specs.declared.kind.Kind.{Kind}
 use Rattle.cpp_grammar.specs.declared.production.Production.{Production}
-use Rattle.cpp_grammar.specs.KindNumbers.{SYMBOL, ENCODING, NEST_AFTER_S, NEST_REST_ALONE, NEST_TAIL, COMPONENT, TYPE_AFTER_S, MAYBE_ARGUMENTS, OPERATOR, NEST_REST_OR_END, COMPONENT_AFTER_C, OTHER_OPERATOR, SPECIAL_MARK, SPECIAL_AFTER_G, TYPE_IN_STD, MAYBE_TAGS}
+use Rattle.cpp_grammar.specs.KindNumbers.{SYMBOL, ENCODING, NEST_AFTER_S, NEST_REST_ALONE, NEST_TAIL, COMPONENT, TYPE_AFTER_S, MAYBE_ARGUMENTS, OPERATOR, NEST_REST_OR_END, COMPONENT_AFTER_C, OTHER_OPERATOR, SPECIAL_MARK, SPECIAL_AFTER_G, TYPE_IN_STD, MAYBE_TAGS, ADDRESS, ARGUMENT_LIST, PACK_LIST, EXPRESSION, EXPRESSION_REST}
 use Rattle.cpp_grammar.specs.Grammar.{Alternative, in_ranges, among, is_in, pick, kinds, number_of, number_of_kind, parts_of, is_chain, may_be_empty}
 use Rattle.cpp_grammar.specs.Wide.{wide_alternatives, wide_choose}
 use Rattle.cpp_grammar.specs.Either.{either_alternatives, either_choose}
 use Rattle.cpp_grammar.specs.Table.{rule_of, rule_taken, padded, sheet_with, wide_sheet, wide, either_sheet, either}
 use Rattle.cpp_grammar.specs.TableLaws.{wide_lawful}
-use Rattle.cpp_grammar.specs.Widened.{Change, with_rest, within_name, with_g, with_t, unchanged, rest_or_end, with_rest_or_end, letters_component, operator_component, variable_with_g, type_without_tags, change_of, changed, widened_branch, widened_as, widened_all, widened}
+use Rattle.cpp_grammar.specs.Widened.{Change, with_rest, within_name, with_g, with_t, with_x, unchanged, rest_or_end, with_rest_or_end, letters_component, operator_component, variable_with_g, type_without_tags, address_as_expression, change_of, changed, widened_branch, widened_as, widened_all, widened}
 use Rattle.cpp_grammar.proofs.Choosing.{kinds_numbered, number_at, wide_rule_at, wide_empty_at, either_rule_at, is_either_kind}
 use Rattle.cpp_grammar.proofs.Growing.{same_choice, each_below, below, or_parts, kept, same_production, empty_keeps, wide_rule_kept}
 
 -- ## What a kind takes
 
--- where the wide grammar has a rule that stands aside in the table of both: behind a G and a t, each of another kind
+-- where the wide grammar has a rule that stands aside in the table of both: behind a G, a t and an X, each of other kinds
 unfoldable chosen_at : ℕ → ℕ
-chosen_at kind = cond (nat_eq kind ENCODING) 71 116
+chosen_at kind = cond (nat_eq kind ENCODING) 71 (cond (nat_eq kind TYPE_AFTER_S) 116 88)
 
 unfoldable is_aside : Kind → Production → Bool
 is_aside kind p = is_chain p && same_choice (Some p) (pick (wide_alternatives kind) (chosen_at (number_of_kind kind)))
 
 -- A kind takes what it takes in the wide grammar, perhaps at another byte if that takes none, or the rule that the other grammar has there:
--- behind an S, of an operator within a nested name, of a guard variable, and of a type in std.
+-- behind an S, of an operator within a nested name, of a guard variable, of a type in std, and of an address as an argument.
 unfoldable is_wide_or_narrow : Kind → (byte : ℕ) → (chosen other : Option Production) → Bool
 is_wide_or_narrow kind byte None other = true
 is_wide_or_narrow kind byte (Some p) other = elim (change_of (number_of_kind kind) (number_of p)) [
@@ -41,6 +41,7 @@ is_wide_or_narrow kind byte (Some p) other = elim (change_of (number_of_kind kin
   | within_name ↦ nat_eq (number_of_kind kind) COMPONENT
   | with_g ↦ nat_eq (number_of_kind kind) ENCODING && nat_eq byte 71
   | with_t ↦ nat_eq (number_of_kind kind) TYPE_AFTER_S && nat_eq byte 116
+  | with_x own ↦ nat_eq byte 88 && same_choice (Some own) (pick (wide_alternatives kind) 88)
   | unchanged ↦ same_choice (Some p) other || is_aside kind p
 ]
 
@@ -48,6 +49,11 @@ wide_or_narrow : (kind : Kind) → each_below 256 (λ b. is_wide_or_narrow kind 
 unfolding in_ranges among is_in pick number_of number_of_kind wide_alternatives either_alternatives same_choice each_below is_chain change_of chosen_at is_aside is_wide_or_narrow
 wide_or_narrow Kind.Symbol = refl
 wide_or_narrow _ = refl
+
+-- an address as an argument, and what it is in the wide grammar
+pub data IsAddress : (narrow own : Production) → Type 0 where
+  in_arguments : IsAddress Production.AddressArgument Production.ExpressionArgument
+  in_packs : IsAddress Production.AddressElement Production.ExpressionElement
 
 -- which of these a rule is
 pub data Here (k byte : ℕ) (rule : Rule) : Type 0 where
@@ -57,6 +63,7 @@ pub data Here (k byte : ℕ) (rule : Rule) : Type 0 where
   of_operator : rule ≡ rule_of Production.OperatorName → k ≡ COMPONENT → Here k byte rule
   of_variable : rule ≡ rule_of Production.Guard → k ≡ ENCODING → byte ≡ 71 → Here k byte rule
   in_std_ : rule ≡ rule_of Production.StdType → k ≡ TYPE_AFTER_S → byte ≡ 116 → Here k byte rule
+  of_address : (p own : Production) → IsAddress p own → rule ≡ rule_of p → byte ≡ 88 → wide.rule k 88 ≡ Some (rule_of own) → Here k byte rule
 
 -- the rule that a kind takes at a byte
 pub record Chosen (k byte : ℕ) (rule : Rule) : Type 0 where
@@ -70,24 +77,39 @@ data Changing (kind : ℕ) (p : Production) : Change → Type 0 where
   name_ : p ≡ Production.OperatorName → Changing kind p within_name
   g_ : p ≡ Production.Guard → Changing kind p with_g
   t_ : p ≡ Production.StdType → Changing kind p with_t
+  x_ : (own : Production) → IsAddress p own → Changing kind p (with_x own)
   none_ : Changing kind p unchanged
 
 changing : (kind : ℕ) (p : Production) → Changing kind p (change_of kind (number_of p))
 unfolding change_of
-changing kind p = go (nat_eq (number_of p) (number_of Production.NestAbbreviated)) (nat_eq (number_of p) (number_of Production.OperatorName)) (nat_eq kind COMPONENT)
-    (nat_eq (number_of p) (number_of Production.Guard)) (nat_eq (number_of p) (number_of Production.StdType)) refl refl refl refl
+changing kind p = go (nat_eq (number_of p) (number_of Production.NestAbbreviated)) (nat_eq (number_of p) (number_of Production.OperatorName)) (nat_eq kind COMPONENT) refl refl
   where
-    go : (a b c d e : Bool) → nat_eq (number_of p) (number_of Production.NestAbbreviated) ≡ a → nat_eq (number_of p) (number_of Production.OperatorName) ≡ b
-        → nat_eq (number_of p) (number_of Production.Guard) ≡ d → nat_eq (number_of p) (number_of Production.StdType) ≡ e
-        → Changing kind p (cond a with_rest (cond (b && c) within_name (cond d with_g (cond e with_t unchanged))))
-    go true b c d e one two three four = rest_ (same_production p Production.NestAbbreviated one)
-    go false true true d e one two three four = name_ (same_production p Production.OperatorName two)
-    go false true false true e one two three four = g_ (same_production p Production.Guard three)
-    go false true false false true one two three four = t_ (same_production p Production.StdType four)
-    go false true false false false one two three four = none_
-    go false false c true e one two three four = g_ (same_production p Production.Guard three)
-    go false false c false true one two three four = t_ (same_production p Production.StdType four)
-    go false false c false false one two three four = none_
+    address : (f g : Bool) → nat_eq (number_of p) (number_of Production.AddressArgument) ≡ f → nat_eq (number_of p) (number_of Production.AddressElement) ≡ g
+        → Changing kind p (cond f (with_x Production.ExpressionArgument) (cond g (with_x Production.ExpressionElement) unchanged))
+    address true g one two = x_ Production.ExpressionArgument (subst (λ q. IsAddress q Production.ExpressionArgument) (sym (same_production p Production.AddressArgument one)) in_arguments)
+    address false true one two = x_ Production.ExpressionElement (subst (λ q. IsAddress q Production.ExpressionElement) (sym (same_production p Production.AddressElement two)) in_packs)
+    address false false one two = none_
+
+    others : (d e : Bool) → nat_eq (number_of p) (number_of Production.Guard) ≡ d → nat_eq (number_of p) (number_of Production.StdType) ≡ e
+        → Changing kind p (cond d with_g (cond e with_t (cond (nat_eq (number_of p) (number_of Production.AddressArgument)) (with_x Production.ExpressionArgument)
+          (cond (nat_eq (number_of p) (number_of Production.AddressElement)) (with_x Production.ExpressionElement) unchanged))))
+    others true e three four = g_ (same_production p Production.Guard three)
+    others false true three four = t_ (same_production p Production.StdType four)
+    others false false three four = address (nat_eq (number_of p) (number_of Production.AddressArgument)) (nat_eq (number_of p) (number_of Production.AddressElement)) refl refl
+
+    rest : Changing kind p (cond (nat_eq (number_of p) (number_of Production.Guard)) with_g (cond (nat_eq (number_of p) (number_of Production.StdType)) with_t
+        (cond (nat_eq (number_of p) (number_of Production.AddressArgument)) (with_x Production.ExpressionArgument)
+        (cond (nat_eq (number_of p) (number_of Production.AddressElement)) (with_x Production.ExpressionElement) unchanged))))
+    rest = others (nat_eq (number_of p) (number_of Production.Guard)) (nat_eq (number_of p) (number_of Production.StdType)) refl refl
+
+    go : (a b c : Bool) → nat_eq (number_of p) (number_of Production.NestAbbreviated) ≡ a → nat_eq (number_of p) (number_of Production.OperatorName) ≡ b
+        → Changing kind p (cond a with_rest (cond (b && c) within_name (cond (nat_eq (number_of p) (number_of Production.Guard)) with_g
+          (cond (nat_eq (number_of p) (number_of Production.StdType)) with_t (cond (nat_eq (number_of p) (number_of Production.AddressArgument)) (with_x Production.ExpressionArgument)
+          (cond (nat_eq (number_of p) (number_of Production.AddressElement)) (with_x Production.ExpressionElement) unchanged))))))
+    go true b c one two = rest_ (same_production p Production.NestAbbreviated one)
+    go false true true one two = name_ (same_production p Production.OperatorName two)
+    go false true false one two = rest
+    go false false c one two = rest
 
 which : (k byte : ℕ) (kind : Kind) (p : Production) (rule : Rule) → slice_get kinds k ≡ Some kind → rule ≡ rule_of p
     → is_wide_or_narrow kind byte (Some p) (pick (wide_alternatives kind) byte) ≡ true → Here k byte rule
@@ -104,17 +126,22 @@ which k byte kind p rule at is test = go (change_of (number_of_kind kind) (numbe
     wide_at b h = wide_rule_at k kind b at ∙ ap rule_taken (kept (Some p) (pick (wide_alternatives kind) b) p h refl) ∙ ap Some (sym is)
 
     below_all : (n : ℕ) → chosen_at n < 256
-    below_all n = by (nat_eq n ENCODING)
+    below_all n = by (nat_eq n ENCODING) (nat_eq n TYPE_AFTER_S)
       where
-        by : (b : Bool) → cond b 71 116 < 256
-        by true = lit≤ tt
-        by false = lit≤ tt
+        by : (b c : Bool) → cond b 71 (cond c 116 88) < 256
+        by true c = lit≤ tt
+        by false true = lit≤ tt
+        by false false = lit≤ tt
+
+    address_at : (own : Production) → same_choice (Some own) (pick (wide_alternatives kind) 88) ≡ true → wide.rule k 88 ≡ Some (rule_of own)
+    address_at own h = wide_rule_at k kind 88 at ∙ ap rule_taken (kept (Some own) (pick (wide_alternatives kind) 88) own h refl)
 
     go : (c : Change) → change_of (number_of_kind kind) (number_of p) ≡ c → Changing (number_of_kind kind) p c → elim c [
       | with_rest ↦ nat_eq (number_of_kind kind) NEST_AFTER_S
       | within_name ↦ nat_eq (number_of_kind kind) COMPONENT
       | with_g ↦ nat_eq (number_of_kind kind) ENCODING && nat_eq byte 71
       | with_t ↦ nat_eq (number_of_kind kind) TYPE_AFTER_S && nat_eq byte 116
+      | with_x own ↦ nat_eq byte 88 && same_choice (Some own) (pick (wide_alternatives kind) 88)
       | unchanged ↦ same_choice (Some p) (pick (wide_alternatives kind) byte) || is_aside kind p
     ] ≡ true → Here k byte rule
     go _ e (rest_ one) h = behind_s (is ∙ ap rule_of one) (sym numbered ∙ eqb-true (number_of_kind kind) NEST_AFTER_S h)
@@ -125,6 +152,9 @@ which k byte kind p rule at is test = go (change_of (number_of_kind kind) (numbe
     go _ e (t_ one) h =
         let both = and_parts (nat_eq (number_of_kind kind) TYPE_AFTER_S) (nat_eq byte 116) h in
         in_std_ (is ∙ ap rule_of one) (sym numbered ∙ eqb-true (number_of_kind kind) TYPE_AFTER_S both.0) (eqb-true byte 116 both.1)
+    go _ e (x_ own one) h =
+        let both = and_parts (nat_eq byte 88) (same_choice (Some own) (pick (wide_alternatives kind) 88)) h in
+        of_address p own one is (eqb-true byte 88 both.0) (address_at own both.1)
     go _ e none_ h = elim (or_parts (same_choice (Some p) (pick (wide_alternatives kind) byte)) (is_aside kind p) h) [
       | inl same ↦ as_wide (stays_ e) (wide_at byte same)
       | inr apart ↦ (
@@ -170,6 +200,11 @@ symbols_either (Byte c ∷ xs) known = (known.0, symbols_either xs known.1)
 
 -- ## Its rules are known
 
+address_number : (p own : Production) → IsAddress p own → (rule_of p).number < TOKEN
+unfolding rule_of number_of
+address_number _ _ in_arguments = lit≤ tt
+address_number _ _ in_packs = lit≤ tt
+
 pub either_number : (k b : ℕ) (rule : Rule) → k < either.kinds → b < 256 → either.rule k b ≡ Some rule → rule.number < TOKEN
 unfolding rule_of number_of
 either_number k b rule lt byte found = elim (chosen_rule k b rule lt byte found).here [
@@ -179,6 +214,7 @@ either_number k b rule lt byte found = elim (chosen_rule k b rule lt byte found)
   | of_operator is at ↦ rw is (lit≤ tt)
   | of_variable is at here ↦ rw is (lit≤ tt)
   | in_std_ is at here ↦ rw is (lit≤ tt)
+  | of_address p own one is here at ↦ rw is (address_number p own one)
 ]
 
 narrow_symbols : AreSymbols either (symbols_of (rule_of Production.NestAbbreviated))
@@ -197,6 +233,11 @@ type_symbols : AreSymbols either (symbols_of (rule_of Production.StdType))
 unfolding rule_of parts_of padded number_of_kind either either_sheet kinds
 type_symbols = (lit≤ tt, tt)
 
+address_symbols : (p own : Production) → IsAddress p own → AreSymbols either (symbols_of (rule_of p))
+unfolding rule_of parts_of padded number_of_kind either either_sheet kinds
+address_symbols _ _ in_arguments = (lit≤ tt, (lit≤ tt, (lit≤ tt, (lit≤ tt, tt))))
+address_symbols _ _ in_packs = (lit≤ tt, (lit≤ tt, (lit≤ tt, (lit≤ tt, tt))))
+
 pub either_symbols : (k b : ℕ) (rule : Rule) → k < either.kinds → b < 256 → either.rule k b ≡ Some rule → AreSymbols either (symbols_of rule)
 either_symbols k b rule lt byte found = elim (chosen_rule k b rule lt byte found).here [
   | as_wide stays same ↦ symbols_either (symbols_of rule) (wide_lawful.rule k b rule (wide_kind k lt) byte same).symbols
@@ -205,6 +246,7 @@ either_symbols k b rule lt byte found = elim (chosen_rule k b rule lt byte found
   | of_operator is at ↦ rw is operator_symbols
   | of_variable is at here ↦ rw is variable_symbols
   | in_std_ is at here ↦ rw is type_symbols
+  | of_address p own one is here at ↦ rw is (address_symbols p own one)
 ]
 
 -- ## What comes behind the abbreviation of a nested name
@@ -450,6 +492,57 @@ type_branch taken (grown piece nothing) own trees = rw own (
 type_branch taken nothing own trees = absurd trees
 type_branch taken (grown piece (grown u f)) own trees = absurd trees.1
 
+-- the parts of an address as an argument, with the rest of the list behind it
+pub record AddressParts (n : ℕ) (parts : Forest) : Type 0 where
+  pub address : Tree
+  pub rest : Tree
+  pub are : parts ≡ grown (fixed 97) (grown (fixed 100) (grown address (grown rest nothing)))
+  pub address_is : IsTree wide (OfKind ADDRESS) address
+  pub rest_is : IsTree wide (OfKind n) rest
+
+pub address_parts : (n : ℕ) (parts : Forest) → AreTrees wide (Byte 97 ∷ Byte 100 ∷ OfKind ADDRESS ∷ OfKind n ∷ []) parts → AddressParts n parts
+address_parts n (grown (fixed a) (grown (fixed d) (grown address (grown rest nothing)))) trees = record {
+  address = address;
+  rest = rest;
+  are = rw (sym trees.0, sym trees.1.0) refl;
+  address_is = trees.1.1.0;
+  rest_is = trees.1.1.1.0;
+}
+address_parts n nothing trees = absurd trees
+address_parts n (grown (branch r u f) g) trees = absurd trees.0
+address_parts n (grown empty g) trees = absurd trees.0
+address_parts n (grown (token t) g) trees = absurd trees.0
+address_parts n (grown (fixed a) nothing) trees = absurd trees.1
+address_parts n (grown (fixed a) (grown (branch r u f) g)) trees = absurd trees.1.0
+address_parts n (grown (fixed a) (grown empty g)) trees = absurd trees.1.0
+address_parts n (grown (fixed a) (grown (token t) g)) trees = absurd trees.1.0
+address_parts n (grown (fixed a) (grown (fixed d) nothing)) trees = absurd trees.1.1
+address_parts n (grown (fixed a) (grown (fixed d) (grown address nothing))) trees = absurd trees.1.1.1
+address_parts n (grown (fixed a) (grown (fixed d) (grown address (grown rest (grown u f))))) trees = absurd trees.1.1.1.1
+
+address_tree : (address : Tree) → IsTree wide (OfKind ADDRESS) address
+    → IsTree wide (OfKind EXPRESSION) (branch (rule_of Production.Expression) (88 ∷ []) (grown (branch (rule_of Production.AddressExpression) (97 ∷ []) (grown (fixed 100) (grown address nothing))) nothing))
+unfolding rule_of parts_of padded is_chain number_of number_of_kind kinds wide_choose wide_alternatives pick is_in in_ranges among
+address_tree address is = (
+  takes_at EXPRESSION Kind.Expression Production.Expression (88 ∷ []) 88 refl (lit≤ tt) refl refl,
+  ((takes_at EXPRESSION_REST Kind.ExpressionRest Production.AddressExpression (97 ∷ []) 97 refl (lit≤ tt) refl refl, (refl, (is, tt))), tt),
+)
+
+address_branch : (k : ℕ) (p own : Production) → IsAddress p own → (taken : List ℕ) (parts : Forest) → taken ≡ 88 ∷ [] → wide.rule k 88 ≡ Some (rule_of own)
+    → AreTrees wide (symbols_of (rule_of p)) parts → IsTree wide (OfKind k) (widened_branch k (rule_of p) taken parts)
+unfolding change_of changed address_as_expression rule_of parts_of padded is_chain number_of number_of_kind
+address_branch k _ _ in_arguments taken parts own at trees =
+    let a = address_parts ARGUMENT_LIST parts trees in
+    rw (own, a.are) (record { byte = 88; is_byte = lit≤ tt; found = at; takes = refl }, (address_tree a.address a.address_is, (a.rest_is, tt)))
+address_branch k _ _ in_packs taken parts own at trees =
+    let a = address_parts PACK_LIST parts trees in
+    rw (own, a.are) (record { byte = 88; is_byte = lit≤ tt; found = at; takes = refl }, (address_tree a.address a.address_is, (a.rest_is, tt)))
+
+address_eats : (p own : Production) → IsAddress p own → (rule_of p).eats ≡ true
+unfolding rule_of is_chain
+address_eats _ _ in_arguments = refl
+address_eats _ _ in_packs = refl
+
 branch_tree : (k : ℕ) (rule : Rule) (taken : List ℕ) (parts : Forest) → k < either.kinds → TakesRule either k rule taken → AreTrees wide (symbols_of rule) parts
     → IsTree wide (OfKind k) (widened_branch k rule taken parts)
 unfolding rule_of is_chain
@@ -473,6 +566,8 @@ branch_tree k rule taken parts lt takes trees = elim (chosen_rule k takes.byte r
       (subst (λ r. AreTrees wide (symbols_of r) parts) is trees))
   | in_std_ is at here ↦ rw (is, at) (type_branch taken parts (takes_its rule (rule_of Production.StdType) taken takes.byte true is refl takes.takes ∙ ap (λ b. b ∷ []) here)
       (subst (λ r. AreTrees wide (symbols_of r) parts) is trees))
+  | of_address p own one is here at ↦ rw is (address_branch k p own one taken parts
+      (takes_its rule (rule_of p) taken takes.byte true is (address_eats p own one) takes.takes ∙ ap (λ b. b ∷ []) here) at (subst (λ r. AreTrees wide (symbols_of r) parts) is trees))
 ]
 
 mutual
@@ -539,12 +634,21 @@ unfolding type_without_tags
 spell_type taken (grown piece nothing) = append-nil (taken ++ (spell piece ++ []))
 spell_type taken _ = refl
 
+spell_address : (own : Production) (rule : Rule) (taken : List ℕ) (parts : Forest) → spell (address_as_expression own rule taken parts) ≡ taken ++ spell_all parts
+unfolding address_as_expression
+spell_address own rule taken (grown (fixed a) (grown (fixed d) (grown address (grown rest nothing)))) =
+    ap (λ w. (taken ++ w) ++ (spell rest ++ [])) (append-nil (a ∷ d ∷ (spell address ++ [])))
+    ∙ ap (λ w. (taken ++ (a ∷ d ∷ w)) ++ (spell rest ++ [])) (append-nil (spell address))
+    ∙ append_assoc taken (a ∷ d ∷ spell address) (spell rest ++ [])
+spell_address own rule taken _ = refl
+
 spell_changed : (change : Change) (rule : Rule) (taken : List ℕ) (parts : Forest) → spell (changed change rule taken parts) ≡ taken ++ spell_all parts
 unfolding changed
 spell_changed with_rest rule taken parts = ap (λ w. taken ++ w) (spell_parts parts)
 spell_changed within_name rule taken parts = spell_operator taken parts
 spell_changed with_g rule taken parts = spell_variable taken parts
 spell_changed with_t rule taken parts = spell_type taken parts
+spell_changed (with_x own) rule taken parts = spell_address own rule taken parts
 spell_changed unchanged rule taken parts = refl
 
 mutual
