@@ -11,7 +11,7 @@ use Rattle.sym_link.specs.Reading.{Found, Open, ◌>>=◌}
 use Rattle.sym_link.specs.Unfold.{found, alone, standing, unfold_tree, unfold_forest}
 use Rattle.sym_link.proofs.Steps.{bind_same}
 use Rattle.cpp_grammar.specs.declared.production.Production.{Production}
-use Rattle.cpp_grammar.specs.KindNumbers.{SYMBOL, NEST_REST_ALONE, COMPONENT, OPERATOR}
+use Rattle.cpp_grammar.specs.KindNumbers.{SYMBOL, NEST_REST_ALONE, COMPONENT, OPERATOR, ARGUMENT_LIST, PACK_LIST}
 use Rattle.cpp_grammar.specs.Grammar.{productions, number_of, number_of_kind, parts_of, is_chain}
 use Rattle.cpp_grammar.specs.Table.{rule_of, padded, wide, either}
 use Rattle.cpp_grammar.specs.Term.{instance, operator}
@@ -23,7 +23,7 @@ use Rattle.cpp_grammar.specs.Meaning.{meaning}
 use Rattle.cpp_grammar.specs.Unfolding as unfolding_
 use Rattle.cpp_grammar.specs.Unfolding.{last_token, number_tested, opening, close, production_at, byte_of, cpp, first_around, first_state, first_tree, unfold_cpp}
 use Rattle.cpp_grammar.specs.Widened.{Change, with_rest, within_name, with_g, with_t, with_x, unchanged, rest_or_end, with_rest_or_end, letters_component, operator_component, variable_with_g, type_without_tags, address_as_expression, change_of, changed, widened_branch, widened_as, widened_all, widened}
-use Rattle.cpp_grammar.proofs.Widening.{arguments_rule, next_rule, rest_rule, takes_its, as_wide, aside, behind_s, of_operator, of_variable, in_std_, chosen_rule, with_c, without_c, operator_rule, without_c_letters, same_branch, spell_as, widened_trees, either_symbols, either_start}
+use Rattle.cpp_grammar.proofs.Widening.{arguments_rule, next_rule, rest_rule, takes_its, as_wide, aside, behind_s, of_operator, of_variable, in_std_, of_address, IsAddress, in_arguments, in_packs, address_parts, chosen_rule, with_c, without_c, operator_rule, without_c_letters, same_branch, spell_as, widened_trees, either_symbols, either_start}
 
 -- ## A tree has one value
 
@@ -63,6 +63,12 @@ deep_same : (m : Result Read Refusal) → One m → (a b c d f g : Read → Resu
     → ((((m >>= a) >>= b) >>= c) >>= d) ≡ ((m >>= f) >>= g)
 deep_same _ (refused e) a b c d f g same = refl
 deep_same _ (one v s) a b c d f g same = same v s
+
+deeper_same : (m : Result Read Refusal) → One m → (a b c d e f g h : Read → Result Read Refusal)
+    → ((v : Value) (s : State) → (((((a (found (v ∷ []) s) >>= b) >>= c) >>= d) >>= e) >>= f) ≡ (g (found (v ∷ []) s) >>= h))
+    → ((((((m >>= a) >>= b) >>= c) >>= d) >>= e) >>= f) ≡ ((m >>= g) >>= h)
+deeper_same _ (refused x) a b c d e f g h same = refl
+deeper_same _ (one v s) a b c d e f g h same = same v s
 
 deep_alike : (m : Result Read Refusal) → One m → (a b c d f g h k : Read → Result Read Refusal)
     → ((v : Value) (s : State) → (((a (found (v ∷ []) s) >>= b) >>= c) >>= d) ≡ (((f (found (v ∷ []) s) >>= g) >>= h) >>= k))
@@ -296,6 +302,82 @@ type_same piece around place taken state =
     ≡ ((unfold_tree cpp around (n + length taken) piece state >>= plain) >>= old_end)) (add-zero place)
     (deep_same (unfold_tree cpp around on piece state) (tree_one piece around on state) behind tagged_end onward new_end plain old_end (λ v s. refl))
 
+-- ## An address as an argument
+
+argument_same : (address rest : Tree) (around : Around) (place : ℕ) (taken : List ℕ) (state : State) →
+    unfold_tree cpp around place (address_as_expression Production.ExpressionArgument (rule_of Production.AddressArgument) taken (grown (fixed 97) (grown (fixed 100) (grown address (grown rest nothing))))) state
+    ≡ unfold_tree cpp around place (branch (rule_of Production.AddressArgument) taken (grown (fixed 97) (grown (fixed 100) (grown address (grown rest nothing))))) state
+unfolding address_as_expression cpp opening production_at productions rule_of number_of between close unfolding_.behind meaning part byte_of
+argument_same address rest around place taken state =
+    let inner : Tree = branch (rule_of Production.AddressExpression) (97 ∷ []) (grown (fixed 100) (grown address nothing)) in
+    let expression : Tree = branch (rule_of Production.Expression) taken (grown inner nothing) in
+    let at = place + 0 in
+    let on = at + length taken in
+    let behind_new = at + length (spell expression) in
+    let new = standing (rule_of Production.ExpressionArgument) [] place around state in
+    let whole = standing (rule_of Production.Expression) taken at around state in
+    let lettered = standing (rule_of Production.AddressExpression) (97 ∷ []) on around state in
+    let old = standing (rule_of Production.AddressArgument) taken place around state in
+    let new_end : Read → Result Read Refusal = λ i. close Production.ExpressionArgument (byte_of []) around place state i.value i.state >>= alone in
+    let whole_end : Read → Result Read Refusal = λ i. close Production.Expression (byte_of taken) around at state i.value i.state >>= alone in
+    let inner_end : Read → Result Read Refusal = λ i. close Production.AddressExpression (byte_of (97 ∷ [])) around on state i.value i.state >>= alone in
+    let old_end : Read → Result Read Refusal = λ i. close Production.AddressArgument (byte_of taken) around place state i.value i.state >>= alone in
+    let onward : Read → Result Read Refusal = λ p. unfold_forest cpp new ([] ++ p.value) behind_new (grown rest nothing) p.state in
+    let whole_onward : Read → Result Read Refusal = λ p. unfold_forest cpp whole ([] ++ p.value) (on + length (spell inner)) nothing p.state in
+    let inner_onward : Read → Result Read Refusal = λ p. unfold_forest cpp lettered ((nothing_there ∷ []) ++ p.value) (on + 1 + 1 + length (spell address)) nothing p.state in
+    let plain : ℕ → Read → Result Read Refusal = λ n p. unfold_forest cpp old ((nothing_there ∷ nothing_there ∷ []) ++ p.value) n (grown rest nothing) p.state in
+    let there : behind_new ≡ place + length taken + 1 + 1 + length (spell address) = omega arith in
+    subst (λ n. unfold_tree cpp around place (branch (rule_of Production.ExpressionArgument) [] (grown expression (grown rest nothing))) state
+    ≡ ((unfold_tree cpp around (n + length taken + 1 + 1) address state >>= plain (place + length taken + 1 + 1 + length (spell address))) >>= old_end)) (add-zero place)
+    (deeper_same (unfold_tree cpp around (on + 1 + 1) address state) (tree_one address around (on + 1 + 1) state) inner_onward inner_end whole_onward whole_end onward new_end
+    (plain (place + length taken + 1 + 1 + length (spell address))) old_end
+    (λ v s. subst (λ n. (onward (found (v ∷ []) s) >>= new_end) ≡ (plain n (found (v ∷ []) s) >>= old_end)) there
+    (first_same (unfold_tree cpp around behind_new rest s) (tree_one rest around behind_new s)
+    (λ p. unfold_forest cpp new ((v ∷ []) ++ p.value) (behind_new + length (spell rest)) nothing p.state)
+    (λ p. unfold_forest cpp old ((nothing_there ∷ nothing_there ∷ v ∷ []) ++ p.value) (behind_new + length (spell rest)) nothing p.state)
+    new_end old_end (λ w t. refl))))
+
+element_same : (address rest : Tree) (around : Around) (place : ℕ) (taken : List ℕ) (state : State) →
+    unfold_tree cpp around place (address_as_expression Production.ExpressionElement (rule_of Production.AddressElement) taken (grown (fixed 97) (grown (fixed 100) (grown address (grown rest nothing))))) state
+    ≡ unfold_tree cpp around place (branch (rule_of Production.AddressElement) taken (grown (fixed 97) (grown (fixed 100) (grown address (grown rest nothing))))) state
+unfolding address_as_expression cpp opening production_at productions rule_of number_of between close unfolding_.behind meaning part byte_of
+element_same address rest around place taken state =
+    let inner : Tree = branch (rule_of Production.AddressExpression) (97 ∷ []) (grown (fixed 100) (grown address nothing)) in
+    let expression : Tree = branch (rule_of Production.Expression) taken (grown inner nothing) in
+    let at = place + 0 in
+    let on = at + length taken in
+    let behind_new = at + length (spell expression) in
+    let new = standing (rule_of Production.ExpressionElement) [] place around state in
+    let whole = standing (rule_of Production.Expression) taken at around state in
+    let lettered = standing (rule_of Production.AddressExpression) (97 ∷ []) on around state in
+    let old = standing (rule_of Production.AddressElement) taken place around state in
+    let new_end : Read → Result Read Refusal = λ i. close Production.ExpressionElement (byte_of []) around place state i.value i.state >>= alone in
+    let whole_end : Read → Result Read Refusal = λ i. close Production.Expression (byte_of taken) around at state i.value i.state >>= alone in
+    let inner_end : Read → Result Read Refusal = λ i. close Production.AddressExpression (byte_of (97 ∷ [])) around on state i.value i.state >>= alone in
+    let old_end : Read → Result Read Refusal = λ i. close Production.AddressElement (byte_of taken) around place state i.value i.state >>= alone in
+    let onward : Read → Result Read Refusal = λ p. unfold_forest cpp new ([] ++ p.value) behind_new (grown rest nothing) p.state in
+    let whole_onward : Read → Result Read Refusal = λ p. unfold_forest cpp whole ([] ++ p.value) (on + length (spell inner)) nothing p.state in
+    let inner_onward : Read → Result Read Refusal = λ p. unfold_forest cpp lettered ((nothing_there ∷ []) ++ p.value) (on + 1 + 1 + length (spell address)) nothing p.state in
+    let plain : ℕ → Read → Result Read Refusal = λ n p. unfold_forest cpp old ((nothing_there ∷ nothing_there ∷ []) ++ p.value) n (grown rest nothing) p.state in
+    let there : behind_new ≡ place + length taken + 1 + 1 + length (spell address) = omega arith in
+    subst (λ n. unfold_tree cpp around place (branch (rule_of Production.ExpressionElement) [] (grown expression (grown rest nothing))) state
+    ≡ ((unfold_tree cpp around (n + length taken + 1 + 1) address state >>= plain (place + length taken + 1 + 1 + length (spell address))) >>= old_end)) (add-zero place)
+    (deeper_same (unfold_tree cpp around (on + 1 + 1) address state) (tree_one address around (on + 1 + 1) state) inner_onward inner_end whole_onward whole_end onward new_end
+    (plain (place + length taken + 1 + 1 + length (spell address))) old_end
+    (λ v s. subst (λ n. (onward (found (v ∷ []) s) >>= new_end) ≡ (plain n (found (v ∷ []) s) >>= old_end)) there
+    (first_same (unfold_tree cpp around behind_new rest s) (tree_one rest around behind_new s)
+    (λ p. unfold_forest cpp new ((v ∷ []) ++ p.value) (behind_new + length (spell rest)) nothing p.state)
+    (λ p. unfold_forest cpp old ((nothing_there ∷ nothing_there ∷ v ∷ []) ++ p.value) (behind_new + length (spell rest)) nothing p.state)
+    new_end old_end (λ w t. refl))))
+
+address_branch_same : (k : ℕ) (p own : Production) → IsAddress p own → (taken : List ℕ) (parts : Forest) → AreTrees wide (symbols_of (rule_of p)) parts → (around : Around) (place : ℕ) (state : State) →
+    unfold_tree cpp around place (widened_branch k (rule_of p) taken parts) state ≡ unfold_tree cpp around place (branch (rule_of p) taken parts) state
+unfolding change_of changed rule_of parts_of padded number_of_kind number_of
+address_branch_same k _ _ in_arguments taken parts trees around place state =
+    let a = address_parts ARGUMENT_LIST parts trees in rw a.are (argument_same a.address a.rest around place taken state)
+address_branch_same k _ _ in_packs taken parts trees around place state =
+    let a = address_parts PACK_LIST parts trees in rw a.are (element_same a.address a.rest around place taken state)
+
 variable_branch_same : (k : ℕ) (taken : List ℕ) (parts : Forest) → AreTrees wide (symbols_of (rule_of Production.Guard)) parts → (around : Around) (place : ℕ) (state : State) →
     unfold_tree cpp around place (widened_branch k (rule_of Production.Guard) taken parts) state ≡ unfold_tree cpp around place (branch (rule_of Production.Guard) taken parts) state
 unfolding change_of changed rule_of parts_of padded number_of_kind number_of
@@ -324,6 +406,7 @@ branch_same k rule taken parts lt takes trees around place state = elim (chosen_
   | of_operator is at ↦ rw (is, at, takes_its rule (rule_of Production.OperatorName) taken takes.byte false is refl takes.takes)
       (operator_branch_same parts (subst (λ r. AreTrees wide (symbols_of r) parts) is trees) around place state)
   | of_variable is at here ↦ rw is (variable_branch_same k taken parts (subst (λ r. AreTrees wide (symbols_of r) parts) is trees) around place state)
+  | of_address p own one is here at ↦ rw is (address_branch_same k p own one taken parts (subst (λ r. AreTrees wide (symbols_of r) parts) is trees) around place state)
   | in_std_ is at here ↦ rw is (type_branch_same k taken parts (subst (λ r. AreTrees wide (symbols_of r) parts) is trees) around place state)
 ]
 

@@ -705,13 +705,15 @@ operator_branch taken (grown (branch r first (grown second nothing)) (grown argu
 operator_branch taken parts = some (rule_of Production.OtherOperatorName) taken parts
 
 some_branch : (change : Change) (rule : Rule) (taken : List ℕ) (parts : Forest) → IsSome (changed change rule taken parts)
-unfolding changed variable_with_g type_without_tags
+unfolding changed variable_with_g type_without_tags address_as_expression
 some_branch with_rest rule taken parts = some _ _ _
 some_branch within_name rule taken parts = operator_branch taken parts
 some_branch with_g rule taken (grown (fixed letter) (grown name nothing)) = some _ _ _
 some_branch with_g rule taken parts = some (rule_of Production.Guard) taken parts
 some_branch with_t rule taken (grown piece nothing) = some _ _ _
 some_branch with_t rule taken parts = some (rule_of Production.StdType) taken parts
+some_branch (with_x own) rule taken (grown (fixed a) (grown (fixed d) (grown address (grown rest nothing)))) = some _ _ _
+some_branch (with_x own) rule taken parts = some rule taken parts
 some_branch unchanged rule taken parts = some rule taken parts
 
 wide_branch : (k : ℕ) (rule : Rule) (taken : List ℕ) (parts : Forest) → k < either.kinds → IsTree either (OfKind k) (branch rule taken parts) → IsBranch k rule (taken ++ spell_all parts)
@@ -741,6 +743,7 @@ wide_branch k rule taken parts lt is =
     go within_name e tree spelled = other_than within_name (λ h. cc h) e tree spelled
     go with_g e tree spelled = other_than with_g (λ h. cc h) e tree spelled
     go with_t e tree spelled = other_than with_t (λ h. cc h) e tree spelled
+    go (with_x own) e tree spelled = other_than (with_x own) (λ h. cc h) e tree spelled
 
 -- a rule's tree isn't empty
 pub either_filled : (k : ℕ) (rule : Rule) (taken : List ℕ) (parts : Forest) → k < either.kinds → IsTree either (OfKind k) (branch rule taken parts) → taken ++ spell_all parts ≡ [] → ⊥
@@ -782,6 +785,7 @@ either_first k rule taken parts b w lt is spelled =
         | of_operator is at ↦ inr (ap (λ n. either.rule n 33) at ∙ operator_at ∙ ap Some (sym is))
         | of_variable same at here ↦ inl (taken_at k rule taken (spell_all parts) b w is.0 (ap (λ r. r.eats) same) spelled)
         | in_std_ same at here ↦ inl (taken_at k rule taken (spell_all parts) b w is.0 (ap (λ r. r.eats) same) spelled)
+        | of_address p own one same here at ↦ inl (taken_at k rule taken (spell_all parts) b w is.0 (ap (λ r. r.eats) same ∙ address_eats p own one) spelled)
       ],
     )
 
