@@ -304,6 +304,10 @@ type_same piece around place taken state =
 
 -- ## An address as an argument
 
+spelled_long : (taken address : List ℕ) → length (taken ++ (97 ∷ 100 ∷ ((address ++ []) ++ []))) ≡ length taken + (2 + length address)
+spelled_long [] address = ap (λ w. 2 + length w) (append-nil (address ++ []) ∙ append-nil address)
+spelled_long (b ∷ taken) address = omega (arith, spelled_long taken address)
+
 argument_same : (address rest : Tree) (around : Around) (place : ℕ) (taken : List ℕ) (state : State) →
     unfold_tree cpp around place (address_as_expression Production.ExpressionArgument (rule_of Production.AddressArgument) taken (grown (fixed 97) (grown (fixed 100) (grown address (grown rest nothing))))) state
     ≡ unfold_tree cpp around place (branch (rule_of Production.AddressArgument) taken (grown (fixed 97) (grown (fixed 100) (grown address (grown rest nothing))))) state
@@ -326,7 +330,7 @@ argument_same address rest around place taken state =
     let whole_onward : Read → Result Read Refusal = λ p. unfold_forest cpp whole ([] ++ p.value) (on + length (spell inner)) nothing p.state in
     let inner_onward : Read → Result Read Refusal = λ p. unfold_forest cpp lettered ((nothing_there ∷ []) ++ p.value) (on + 1 + 1 + length (spell address)) nothing p.state in
     let plain : ℕ → Read → Result Read Refusal = λ n p. unfold_forest cpp old ((nothing_there ∷ nothing_there ∷ []) ++ p.value) n (grown rest nothing) p.state in
-    let there : behind_new ≡ place + length taken + 1 + 1 + length (spell address) = omega arith in
+    let there : behind_new ≡ place + length taken + 1 + 1 + length (spell address) = omega (arith, spelled_long taken (spell address)) in
     subst (λ n. unfold_tree cpp around place (branch (rule_of Production.ExpressionArgument) [] (grown expression (grown rest nothing))) state
     ≡ ((unfold_tree cpp around (n + length taken + 1 + 1) address state >>= plain (place + length taken + 1 + 1 + length (spell address))) >>= old_end)) (add-zero place)
     (deeper_same (unfold_tree cpp around (on + 1 + 1) address state) (tree_one address around (on + 1 + 1) state) inner_onward inner_end whole_onward whole_end onward new_end
@@ -359,7 +363,7 @@ element_same address rest around place taken state =
     let whole_onward : Read → Result Read Refusal = λ p. unfold_forest cpp whole ([] ++ p.value) (on + length (spell inner)) nothing p.state in
     let inner_onward : Read → Result Read Refusal = λ p. unfold_forest cpp lettered ((nothing_there ∷ []) ++ p.value) (on + 1 + 1 + length (spell address)) nothing p.state in
     let plain : ℕ → Read → Result Read Refusal = λ n p. unfold_forest cpp old ((nothing_there ∷ nothing_there ∷ []) ++ p.value) n (grown rest nothing) p.state in
-    let there : behind_new ≡ place + length taken + 1 + 1 + length (spell address) = omega arith in
+    let there : behind_new ≡ place + length taken + 1 + 1 + length (spell address) = omega (arith, spelled_long taken (spell address)) in
     subst (λ n. unfold_tree cpp around place (branch (rule_of Production.ExpressionElement) [] (grown expression (grown rest nothing))) state
     ≡ ((unfold_tree cpp around (n + length taken + 1 + 1) address state >>= plain (place + length taken + 1 + 1 + length (spell address))) >>= old_end)) (add-zero place)
     (deeper_same (unfold_tree cpp around (on + 1 + 1) address state) (tree_one address around (on + 1 + 1) state) inner_onward inner_end whole_onward whole_end onward new_end
@@ -406,7 +410,7 @@ branch_same k rule taken parts lt takes trees around place state = elim (chosen_
   | of_operator is at ↦ rw (is, at, takes_its rule (rule_of Production.OperatorName) taken takes.byte false is refl takes.takes)
       (operator_branch_same parts (subst (λ r. AreTrees wide (symbols_of r) parts) is trees) around place state)
   | of_variable is at here ↦ rw is (variable_branch_same k taken parts (subst (λ r. AreTrees wide (symbols_of r) parts) is trees) around place state)
-  | of_address p own one is here at ↦ rw is (address_branch_same k p own one taken parts (subst (λ r. AreTrees wide (symbols_of r) parts) is trees) around place state)
+  | of_address p own its is here at ↦ rw is (address_branch_same k p own its taken parts (subst (λ r. AreTrees wide (symbols_of r) parts) is trees) around place state)
   | in_std_ is at here ↦ rw is (type_branch_same k taken parts (subst (λ r. AreTrees wide (symbols_of r) parts) is trees) around place state)
 ]
 
