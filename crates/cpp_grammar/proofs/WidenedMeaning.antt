@@ -305,7 +305,7 @@ type_same piece around place taken state =
 -- ## An address as an argument
 
 spelled_long : (taken address : List ℕ) → length (taken ++ (97 ∷ 100 ∷ ((address ++ []) ++ []))) ≡ length taken + (2 + length address)
-spelled_long [] address = ap (λ w. 2 + length w) (append-nil (address ++ []) ∙ append-nil address)
+spelled_long [] address = omega (arith, ap length (append-nil (address ++ []) ∙ append-nil address))
 spelled_long (b ∷ taken) address = omega (arith, spelled_long taken address)
 
 argument_same : (address rest : Tree) (around : Around) (place : ℕ) (taken : List ℕ) (state : State) →
