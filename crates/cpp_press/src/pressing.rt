@@ -86,6 +86,7 @@ fn template_standing_of(
 
 /// So many bytes have the spellings of most symbols at most, and so many tasks wait while they are spelled.
 const COMMON_BYTES: usize = 128;
+
 const COMMON_TASKS: usize = 16;
 
 /// The pressed spelling of a C++ symbol, by the numbers of its nodes.

@@ -17,9 +17,9 @@ ghost use Rattle.rust_v0.specs.CodeSemantics as semantics;
 
 use crate::nodes::{BoundLifetimes, RustNodes};
 use crate::part::{NO_SUCH_PARTS, Part, part_of};
-use rust_grammar::production::{Production, numbered};
 use crate::semantics::{Site, crate_root, makes_part, nested, part_by};
 use crate::tokens::{TokenSort, sort_of};
+use rust_grammar::production::{Production, numbered};
 use rust_tree::node::Node;
 use sym_core::{Refusal, Span};
 use sym_link::language::{Frame, Linking};

@@ -21,13 +21,13 @@ ghost use Rattle.rust_tree.specs.Nodes.{trees};
 
 use crate::operands::number;
 use crate::part::{Added, NO_SUCH_PARTS, Part};
-use rust_grammar::production::Production;
 use crate::semantics::{
     Site, array, binding, bool_constant, char_constant, const_pointer, constant_argument,
     crate_root, dyn_type, function, generic, inherent_impl, lifetime_argument, more_bounds,
     more_types, mut_pointer, mutable_reference, nested, shared_reference, signed_constant, slice,
     symbol, trait_definition, trait_impl, tuple, type_argument, unsigned_constant,
 };
+use rust_grammar::production::Production;
 use rust_tree::Nodes;
 use rust_tree::node::{Arguments, Bindings, Bounds, Constant, Node, Ty, Types};
 use std::alloc::Global;

@@ -8,6 +8,7 @@ use std::alloc::Global;
 /// So many entries have room at least where a list first gets memory, and so many bytes where bytes are added together: most
 /// symbols need no more.
 const ENTRIES_AT_ONCE: usize = 16;
+
 const BYTES_AT_ONCE: usize = 128;
 
 /// A list that has at most so many entries at any time.
