@@ -21,6 +21,7 @@ weight (holder name) = 12 + weight name
 weight (tagged of_structor name tag) = 12 + weight name
 weight (of_default digits entity) = 12 + weight entity
 weight (lambda parameters k) = 12 + weight parameters
+weight (generic_lambda parameters number) = 12 + weight parameters
 weight (conversion type) = 12 + weight type
 weight (pointer type) = 12 + weight type
 weight (lvalue type) = 12 + weight type

@@ -42,6 +42,7 @@ IsNeverReferred own (holder name) = IsNeverReferred own name
 IsNeverReferred own (tagged of_structor name tag) = IsNeverReferred own name
 IsNeverReferred own (of_default digits entity) = IsNeverReferred own entity
 IsNeverReferred own (lambda parameters k) = IsNeverReferred own parameters
+IsNeverReferred own (generic_lambda parameters number) = IsNeverReferred own parameters
 IsNeverReferred own (conversion type) = IsNeverReferred own type
 IsNeverReferred own (pointer type) = IsNeverReferred own type
 IsNeverReferred own (lvalue type) = IsNeverReferred own type

@@ -154,7 +154,6 @@ pub record IsOther (n : Node) : Type 0 where
   pub not_memberpointer : (i : ℕ) (j : ℕ) → n ≡ Node.MemberPointer i j → ⊥
   pub not_functiontype : (x : Bool) (y : Bool) (m : Mark) (i : ℕ) (j : ℕ) → n ≡ Node.FunctionType x y m i j → ⊥
   pub not_qualified : (q : Qualifiers) (i : ℕ) → n ≡ Node.Qualified q i → ⊥
-  pub not_genericparameter : (k : ℕ) → n ≡ Node.GenericParameter k → ⊥
   pub not_vector : (d : Span) (i : ℕ) → n ≡ Node.Vector d i → ⊥
   pub not_complex : (i : ℕ) → n ≡ Node.Complex i → ⊥
   pub not_expansion : (i : ℕ) → n ≡ Node.Expansion i → ⊥
@@ -183,7 +182,6 @@ other-node ns (Node.Array d i) other = absurd (other.not_array d i refl)
 other-node ns (Node.MemberPointer i j) other = absurd (other.not_memberpointer i j refl)
 other-node ns (Node.FunctionType x y m i j) other = absurd (other.not_functiontype x y m i j refl)
 other-node ns (Node.Qualified q i) other = absurd (other.not_qualified q i refl)
-other-node ns (Node.GenericParameter k) other = absurd (other.not_genericparameter k refl)
 other-node ns (Node.Vector d i) other = absurd (other.not_vector d i refl)
 other-node ns (Node.Complex i) other = absurd (other.not_complex i refl)
 other-node ns (Node.Expansion i) other = absurd (other.not_expansion i refl)

@@ -102,7 +102,6 @@ fields_of (parameter number) = fields PARAMETER number 0 [] []
 fields_of (builtin (letter ∷ [])) = fields BUILTIN letter 0 [] []
 fields_of (builtin (d ∷ letter ∷ [])) = if d == 68 then fields BUILTIN_WITH_D letter 0 [] [] else no_node (builtin (d ∷ letter ∷ []))
 fields_of (sized_float digits end) = fields SIZED_FLOAT end 0 digits []
-fields_of (generic_parameter number) = fields GENERIC_PARAMETER number 0 [] []
 fields_of (vendor bytes) = fields VENDOR 0 0 bytes []
 fields_of (pointer type) = fields POINTER 0 0 [] (type ∷ [])
 fields_of (lvalue type) = fields LVALUE 0 0 [] (type ∷ [])
@@ -231,7 +230,6 @@ narrow_tree_from given = tree_at given.production (
     ∷ (BUILTIN, builtin (number_in given 0 ∷ []))
     ∷ (BUILTIN_WITH_D, builtin (68 ∷ number_in given 0 ∷ []))
     ∷ (SIZED_FLOAT, sized_float (text_in given 0) (number_in given 0))
-    ∷ (GENERIC_PARAMETER, generic_parameter (number_in given 0))
     ∷ (VENDOR, vendor (text_in given 0))
     ∷ (POINTER, pointer (part_in given 0))
     ∷ (LVALUE, lvalue (part_in given 0))

@@ -113,7 +113,6 @@ tree_of s us ts (Node.Parameter k a) = term.parameter k (tree_at ts a)
 tree_of s us ts (Node.Builtin letter) = term.builtin (letter ∷ [])
 tree_of s us ts (Node.BuiltinWithD letter) = term.builtin (68 ∷ letter ∷ [])
 tree_of s us ts (Node.SizedFloat digits end) = term.sized_float (bytes_at s digits) end
-tree_of s us ts (Node.GenericParameter number) = term.generic_parameter number
 tree_of s us ts (Node.Vendor bytes) = term.vendor (bytes_at s bytes)
 tree_of s us ts (Node.Pointer t) = term.pointer (tree_at ts t)
 tree_of s us ts (Node.Lvalue t) = term.lvalue (tree_at ts t)

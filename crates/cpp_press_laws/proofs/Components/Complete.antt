@@ -52,6 +52,7 @@ inside-shut (holder name) x closed i = prefix-shut name x (Inside name x) closed
 inside-shut (tagged of_structor name tag) x closed i = itself-shut name x (Inside name x) closed (inside-shut name x closed) i
 inside-shut (of_default digits entity) x closed i = inside-shut entity x closed i
 inside-shut (lambda parameters k) x closed i = inside-shut parameters x closed i
+inside-shut (generic_lambda parameters number) x closed i = inside-shut parameters x closed i
 inside-shut (conversion type) x closed i = itself-shut type x (Inside type x) closed (inside-shut type x closed) i
 inside-shut (pointer type) x closed i = itself-shut type x (Inside type x) closed (inside-shut type x closed) i
 inside-shut (lvalue type) x closed i = itself-shut type x (Inside type x) closed (inside-shut type x closed) i

@@ -77,6 +77,7 @@ Inside (holder name) x = PrefixOr name (Inside name x) x
 Inside (tagged of_structor name tag) x = ItselfOr name (Inside name x) x
 Inside (of_default digits entity) x = Inside entity x
 Inside (lambda parameters k) x = Inside parameters x
+Inside (generic_lambda parameters number) x = Inside parameters x
 Inside (conversion type) x = ItselfOr type (Inside type x) x
 Inside (pointer type) x = ItselfOr type (Inside type x) x
 Inside (lvalue type) x = ItselfOr type (Inside type x) x
