@@ -32,8 +32,8 @@ pub enum HowMany {
     Several,
 }
 
-/// An entry in 44 bytes: what no node has at once (the arguments of a name, the name under its tags, the elements of a list, the head of a type) shares
-/// the two words.
+/// An entry in 48 bytes: what no node has at once (the arguments of a name, the name under its tags, the elements of a list, the head
+/// of a type) shares the two words.
 #[derive(Clone, Copy)]
 pub struct Compact {
     pub node: Node,
