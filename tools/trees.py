@@ -278,6 +278,7 @@ def reargued_laws():
     closed = made_again("reargued_closed", ["c"], "absurd (true≢false closed)", never_open)
     yield path, "reargued_closed", carried(cases("reargued_closed", ["c"], ["closed"], closed, "refl"))
     yield path, "open_reargued", carried(fold("open_reargued", ["c"], both_by("(λ x y. x || y)"), "refl", {}, SCOPED))
+    yield path, "free_reargued", carried(fold("free_reargued", ["c"], both_by("both_free"), "refl", {}, SCOPED))
     yield path, "bare_reargued", carried(fold("bare_reargued", ["c"], both_by("(λ x y. x || y)"), "refl", {"expansion": "refl", "parameter": "refl"}, SCOPED))
     def bare(parts): return parts[0] if len(parts) == 1 else applied("bare_first", [f"(bare {p.split()[-1]})" for p in parts] + ["(length_if_pack a)"] + [f"({p})" for p in parts])
     yield path, "pack_reargued", carried(fold("pack_reargued", ["a"], bare, "refl", {"parameter": "refl", "expansion": None}, SCOPED))
@@ -407,7 +408,9 @@ def placed(args, over):
     all_ = bounds(args)
     return [(name, sort, "b" if len(all_) == 1 else f"b.{all_.index((name, sort))}") for name, sort in args if sort in over]
 
-def through(function, text, piece, others, special={}, renamed={}, without=(), one=lambda fact: fact):
+def rewritten_by(facts): return f"rw ({', '.join(facts)}) refl"
+
+def through(function, text, piece, others, special={}, renamed={}, without=(), one=lambda fact: fact, joined=rewritten_by):
     """a fact of a node by those of its parts, with a bound"""
     def right(node, tree, args):
         if node in special: return special[node]
@@ -417,7 +420,7 @@ def through(function, text, piece, others, special={}, renamed={}, without=(), o
         parts = [(piece if s == PIECE else text).format(name, bound) for (name, sort, bound), s in
                  [((name, sort, bound), s) for (name, sort), s in zip(args, shown) if s in SCOPED for n2, s2, bound in placed(args, (TREE, OWN, PIECE)) if n2 == name]]
         if not parts: return None
-        return one(parts[0]) if len(parts) == 1 else f"rw ({', '.join(parts)}) refl"
+        return one(parts[0]) if len(parts) == 1 else joined(parts)
     return node_cases(function, [], ["b"], right, others, renamed)
 
 def node_stays():
@@ -438,6 +441,7 @@ def noted(function, text, piece, joined, others, special={}, without=()):
     return node_cases(function, ["es"], [], right, others, {("Expansion", "pattern"): "t", ("Pack", "elements"): "t"})
 
 def either(parts): return " || ".join(parts)
+def both_free(parts): return parts[0] if len(parts) == 1 else applied("both_free", [f"({p})" for p in parts])
 def lent(parts):
     if len(parts) == 2: return applied("joined", [f"({p})" for p in parts])
     return parts[0] if parts[0].startswith("piece") else f"passed ({parts[0]})"
@@ -562,13 +566,15 @@ def declarations():
     yield "cpp_tree/proofs/Compacting.antt", "IsOther", is_other()
     yield "cpp_tree/proofs/Compacting.antt", "other-node", other_node()
     yield "cpp_tree/proofs/Pushed.antt", "node-stays", node_stays()
-    yield "cpp_tree/specs/Notes.antt", "opens", noted("opens", "open_at es {0}", "piece_opens es {0}", either, "false", {"Parameter": "true", "Again": "open_at es t"})
+    yield "cpp_tree/specs/Notes.antt", "frees", noted("frees", "free_at es {0}", "piece_frees es {0}", both_free, "Free.None", {"Parameter": "Free.One k", "Again": "free_at es t"})
     yield "cpp_tree/specs/Notes.antt", "lends", noted("lends", "lent_at es {0}", "piece_lends es {0}", lent, "by_none false", LENT)
     yield "cpp_tree/proofs/Noting.antt", "node-lends", through("node-lends", "lent-at {0} {1}", "piece-lent {0} {1}", "refl",
         {"Parameter": "refl", "Expansion": "expansion-lent (lent_at y.nodes pattern) (tree_at (trees y) pattern) (lent-at pattern b)", "Pack": "ap of_pack (lent-at elements b)", "Rvalue": "rvalue-lent (lent_at y.nodes t) (tree_at (trees y) t) (lent-at t b)",
          "Qualified": "ap (λ l. of_head l.head l) (lent-at t b)", "Again": again_fact("lent-at", "by_argument_reargued")}, one=lent_fact)
     yield "cpp_tree/specs/Notes.antt", "packing", noted("packing", "packs_at es {0}", "piece_packs es {0}", first_of, "None", {"Parameter": "argument_packs es (shape_at es a)", "Again": "packs_by (lent_at es t).is_bare (argument_packs es (shape_at es a))"}, ["Expansion"])
-    yield "cpp_tree/proofs/Noting.antt", "node-open", through("node-open", "at {0} {1}", "piece-open {0} {1}", "refl", {"Again": again_fact("at", "open_reargued")}, without=["Parameter"])
+    yield "cpp_tree/proofs/Noting.antt", "node-free", through("node-free", "at {0} {1}", "piece-free {0} {1}", "refl", {"Again": again_fact("at", "free_reargued")}, without=["Parameter"],
+        joined=lambda facts: applied("both-are", [f"({fact})" for fact in facts]))
+    yield "cpp_tree/proofs/FreeParameters.antt", "open-free", carried(fold("open-free", [], lambda facts: facts[0] if len(facts) == 1 else applied("either-open", [f"({fact})" for fact in facts]), "refl", {}, SCOPED))
     yield "cpp_tree/proofs/Noting.antt", "node-pack", through("node-pack", "pack-at {0} {1}", "piece-pack {0} {1}", "refl", {"Parameter": "argument-pack a b", "Again": "again-pack t a b.0 b.1"}, without=["Expansion"])
     yield "cpp_grammar/specs/Scope.antt", "is_open", fold("is_open", [], either, "false", {"parameter": "true"}, SCOPED, trees=named(SCOPES, ["parameter"]))
     yield "cpp_grammar/specs/Scope.antt", "free_in", fold("free_in", [], both_free, "none_free", {"parameter": "one_free number"}, SCOPED, trees=named(SCOPES, ["parameter"]))
@@ -585,8 +591,6 @@ def declarations():
     yield "cpp_term/proofs/Notes.antt", "pack_none", fold("pack_none", [], both_by("first_of"), "refl", {"parameter": "refl", **no_expansion}, SCOPED)
     yield "cpp_term/proofs/Notes.antt", "pack_some", fold("pack_some", ["all"], both_by("first_of"), "refl",
         {"parameter": "ap scope_.length_if_pack (element_noted nowhere all k) ∙ length_noted nowhere (element all k)", **no_expansion}, SCOPED)
-
-def both_free(parts): return parts[0] if len(parts) == 1 else applied("both_free", [f"({p})" for p in parts])
 
 def open_erased():
     def joined(parts): return parts[0] if len(parts) == 1 else f"rw ({', '.join(parts)}) refl"

@@ -5,7 +5,9 @@ use Rattle.cpp_tree.specs.declared.node.Node.{Node}
 use Rattle.cpp_tree.specs.declared.node.Head.{Head}
 use Rattle.cpp_tree.specs.declared.node.Placed.{Placed}
 use Rattle.cpp_tree.specs.declared.node.HeadClass.{HeadClass}
+use Rattle.cpp_tree.specs.declared.node.Free.{Free}
 use Rattle.cpp_tree.specs.declared.node.ByArgument.{ByArgument}
+use Rattle.cpp_tree.specs.declared.compact.HowMany.{HowMany}
 use Rattle.cpp_tree.specs.declared.compact.Words.{Words}
 use Rattle.cpp_tree.specs.declared.compact.Compact.{Compact}
 use Rattle.cpp_tree.specs.Notes.{placed_under, if_own, class_by}
@@ -48,13 +50,18 @@ unfoldable pub run_kept : Words → ℕ → ℕ
 run_kept Words.Elements n = n
 run_kept _ n = 0
 
+-- the free parameters: the number is that of one alone
+unfoldable pub free_kept : HowMany → (number : ℕ) → Free
+free_kept HowMany.None k = Free.None
+free_kept HowMany.One k = Free.One k
+free_kept HowMany.Several k = Free.Several
+
 -- an entry, by what is shared in two words
-abbrev pub kept : (n : Node) (packs : Option ℕ) (is_open is_generic is_empty : Bool) (by_argument : ByArgument) (words : Words) (first second : ℕ) → Entry
-kept n packs is_open is_generic is_empty by_argument words first second = record {
+abbrev pub kept : (n : Node) (packs : Option ℕ) (free : Free) (is_empty : Bool) (by_argument : ByArgument) (words : Words) (first second : ℕ) → Entry
+kept n packs free is_empty by_argument words first second = record {
   node = n;
   packs = packs;
-  is_open = is_open;
-  is_generic = is_generic;
+  free = free;
   is_empty = is_empty;
   by_argument = by_argument;
   class = class_kept words first second;
@@ -66,12 +73,11 @@ kept n packs is_open is_generic is_empty by_argument words first second = record
 }
 
 -- the entry of a type with this head
-abbrev pub with_head : (n : Node) (packs : Option ℕ) (is_open is_generic is_empty : Bool) (by_argument : ByArgument) (class : HeadClass) → Entry
-with_head n packs is_open is_generic is_empty by_argument class = record {
+abbrev pub with_head : (n : Node) (packs : Option ℕ) (free : Free) (is_empty : Bool) (by_argument : ByArgument) (class : HeadClass) → Entry
+with_head n packs free is_empty by_argument class = record {
   node = n;
   packs = packs;
-  is_open = is_open;
-  is_generic = is_generic;
+  free = free;
   is_empty = is_empty;
   by_argument = by_argument;
   class = class;
@@ -83,12 +89,11 @@ with_head n packs is_open is_generic is_empty by_argument class = record {
 }
 
 -- the entry of a name that ends in these arguments
-abbrev pub with_arguments : (n : Node) (packs : Option ℕ) (is_open is_generic : Bool) (by_argument : ByArgument) (arguments : Option Placed) (returns : Bool) → Entry
-with_arguments n packs is_open is_generic by_argument arguments returns = record {
+abbrev pub with_arguments : (n : Node) (packs : Option ℕ) (free : Free) (by_argument : ByArgument) (arguments : Option Placed) (returns : Bool) → Entry
+with_arguments n packs free by_argument arguments returns = record {
   node = n;
   packs = packs;
-  is_open = is_open;
-  is_generic = is_generic;
+  free = free;
   is_empty = false;
   by_argument = by_argument;
   class = HeadClass.Known Head.Plain;
@@ -100,12 +105,11 @@ with_arguments n packs is_open is_generic by_argument arguments returns = record
 }
 
 -- the entry of a name with tags, under which this one stands
-abbrev pub with_tags : (n : Node) (packs : Option ℕ) (is_open is_generic : Bool) (by_argument : ByArgument) (untagged : Placed) → Entry
-with_tags n packs is_open is_generic by_argument untagged = record {
+abbrev pub with_tags : (n : Node) (packs : Option ℕ) (free : Free) (by_argument : ByArgument) (untagged : Placed) → Entry
+with_tags n packs free by_argument untagged = record {
   node = n;
   packs = packs;
-  is_open = is_open;
-  is_generic = is_generic;
+  free = free;
   is_empty = false;
   by_argument = by_argument;
   class = HeadClass.Known Head.Plain;
@@ -117,12 +121,11 @@ with_tags n packs is_open is_generic by_argument untagged = record {
 }
 
 -- the entry of a tree that is there again with an argument, where its head is its own, by the words of the tree
-abbrev pub own_entry : (n : Node) (packs : Option ℕ) (is_open is_generic is_empty : Bool) (by_argument : ByArgument) (words : Words) (first second argument : ℕ) → Entry
-own_entry n packs is_open is_generic is_empty by_argument words first second argument = record {
+abbrev pub own_entry : (n : Node) (packs : Option ℕ) (free : Free) (is_empty : Bool) (by_argument : ByArgument) (words : Words) (first second argument : ℕ) → Entry
+own_entry n packs free is_empty by_argument words first second argument = record {
   node = n;
   packs = packs;
-  is_open = is_open;
-  is_generic = is_generic;
+  free = free;
   is_empty = is_empty;
   by_argument = by_argument;
   class = class_kept words first second;
@@ -138,8 +141,7 @@ abbrev pub restated_entry : (n : Node) (packs : Option ℕ) (is_empty : Bool) (o
 restated_entry n packs is_empty own argument given = record {
   node = n;
   packs = packs;
-  is_open = own.is_open;
-  is_generic = own.is_generic;
+  free = own.free;
   is_empty = is_empty;
   by_argument = own.by_argument;
   class = class_by own.by_argument.head own.class given;
@@ -152,4 +154,4 @@ restated_entry n packs is_empty own argument given = record {
 
 -- the entry that is held
 abbrev pub entry_of : Compact → Entry
-entry_of c = kept c.node (packs_kept c.packs) c.is_open c.is_generic c.is_empty c.by_argument c.words c.first c.second
+entry_of c = kept c.node (packs_kept c.packs) (free_kept c.free c.number) c.is_empty c.by_argument c.words c.first c.second

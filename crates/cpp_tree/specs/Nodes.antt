@@ -4,9 +4,10 @@ use Rattle.std.specs.List.{All}
 use Rattle.sym_core.specs.declared.Span.{Span}
 use Rattle.cpp_grammar.specs.Term as values
 use Rattle.cpp_grammar.specs.Items as heads
+use Rattle.cpp_grammar.specs.Scope as scope
 use Rattle.cpp_term.specs.Term as term
 use Rattle.cpp_term.specs.Term.{Term}
-use Rattle.cpp_term.specs.Scope.{pack_length, is_open, is_generic, arguments_of, without_tags, has_return_type, count, element}
+use Rattle.cpp_term.specs.Scope.{pack_length, free_in, arguments_of, without_tags, has_return_type, count, element}
 use Rattle.cpp_term.specs.Items as items
 use Rattle.cpp_term.specs.Reargued as again
 use Rattle.cpp_term.specs.Reargued.{reargued, bare, head_from, is_empty_with}
@@ -21,6 +22,7 @@ use Rattle.cpp_tree.specs.declared.node.Head.{Head}
 use Rattle.cpp_tree.specs.declared.node.Placed.{Placed}
 use Rattle.cpp_tree.specs.declared.node.HeadClass.{HeadClass}
 use Rattle.cpp_tree.specs.declared.node.HeadFrom.{HeadFrom}
+use Rattle.cpp_tree.specs.declared.node.Free.{Free}
 use Rattle.cpp_tree.specs.declared.node.ByArgument.{ByArgument}
 use Rattle.cpp_tree.specs.declared.node.Entry.{Entry}
 
@@ -84,6 +86,7 @@ piece_of s ts (Piece.LiteralOperator bytes) = term.literal_operator (bytes_at s 
 piece_of s ts (Piece.Constructor digit) = term.constructor digit
 piece_of s ts (Piece.Destructor digit) = term.destructor digit
 piece_of s ts (Piece.Lambda parameters number) = term.lambda (tree_at ts parameters) number
+piece_of s ts (Piece.GenericLambda parameters number) = term.generic_lambda (tree_at ts parameters) number
 piece_of s ts (Piece.Unnamed number) = term.unnamed number
 piece_of s ts Piece.StringLiteral = term.string_literal
 piece_of s ts (Piece.Conversion t) = term.conversion (tree_at ts t)
@@ -159,6 +162,7 @@ abbrev pub IsPieceBelow : List ℕ → ℕ → Piece → Type 0
 IsPieceBelow s n (Piece.Source internal bytes) = IsWithin bytes s
 IsPieceBelow s n (Piece.LiteralOperator bytes) = IsWithin bytes s
 IsPieceBelow s n (Piece.Lambda parameters number) = parameters < n
+IsPieceBelow s n (Piece.GenericLambda parameters number) = parameters < n
 IsPieceBelow s n (Piece.Conversion t) = t < n
 IsPieceBelow s n _ = Unit {0}
 
@@ -214,6 +218,16 @@ IsThunkWithin s (Thunk.Adjusting a) = IsAdjustmentWithin s a
 IsThunkWithin s (Thunk.Covariant a b) = IsAdjustmentWithin s a × IsAdjustmentWithin s b
 
 -- ## What is noted of a tree
+
+unfoldable pub free_is : Free → scope.Free
+free_is Free.None = scope.none_free
+free_is (Free.One k) = scope.one_free k
+free_is Free.Several = scope.several_free
+
+-- some are free
+unfoldable pub has_free : scope.Free → Bool
+has_free scope.none_free = false
+has_free _ = true
 
 unfoldable pub head_of : Head → heads.Head
 head_of Head.Plain = heads.plain_head
@@ -278,7 +292,7 @@ is_again _ = false
 
 -- of a tree that is there again no further one is made
 abbrev pub entry_at : List Entry → ℕ → Entry
-entry_at es i = get_or es i (record { node = Node.Absent; packs = None; is_open = false; is_generic = false; is_empty = false; by_argument = by_none false; class = HeadClass.Known Head.Plain; arguments = None; untagged = None; returns = false; count = 0; run = 0 })
+entry_at es i = get_or es i (record { node = Node.Absent; packs = None; free = Free.None; is_empty = false; by_argument = by_none false; class = HeadClass.Known Head.Plain; arguments = None; untagged = None; returns = false; count = 0; run = 0 })
 
 -- a tree that is there again isn't one that is there again itself
 abbrev pub IsFlat : List Entry → Node → Type 0
@@ -291,8 +305,7 @@ pub record IsEntry (y : Table) (ts : List Term) (i : ℕ) (e : Entry) : Type 0 w
   pub built : tree_at ts i ≡ tree_of y.bytes y.thunks ts e.node
   pub below : IsBelow y.bytes (length y.thunks) i e.node
   pub packs : e.packs ≡ pack_length (tree_at ts i)
-  pub free : e.is_open ≡ is_open (tree_at ts i)
-  pub generic : e.is_generic ≡ is_generic (tree_at ts i)
+  pub free : free_is e.free ≡ free_in (tree_at ts i)
   pub empty : e.is_empty ≡ items.is_empty items.closed (tree_at ts i)
   pub by_argument : e.by_argument ≡ by_argument_of (tree_at ts i)
   pub flat : IsFlat y.nodes e.node
@@ -308,12 +321,13 @@ pub record IsEntry (y : Table) (ts : List Term) (i : ℕ) (e : Entry) : Type 0 w
   pub runs : (k n : ℕ) → k < e.run → element (tree_at ts i) (suc k + n) ≡ element (tree_at ts (i - suc k)) n
   pub run_below : e.run ≤ i
 
--- The first three nodes are the absent tree, the empty list, and the pack of no elements.
+-- The first four nodes are the absent tree, the empty list, the pack of no elements, and the builtin type auto.
 pub record IsTable (y : Table) : Type 0 where
-  pub fixed : 2 < length y.nodes
+  pub fixed : 3 < length y.nodes
   pub no_tree : tree_at (trees y) 0 ≡ term.absent
   pub no_list : tree_at (trees y) 1 ≡ term.nil
   pub no_elements : tree_at (trees y) 2 ≡ term.pack term.nil
+  pub auto : tree_at (trees y) 3 ≡ items.auto
   pub adjusting : All (IsThunkWithin y.bytes) y.thunks
   pub many : length (trees y) ≡ length y.nodes
   pub each : (i : ℕ) → i < length y.nodes → IsEntry y (trees y) i (entry_at y.nodes i)
@@ -324,8 +338,7 @@ pub record IsTable (y : Table) : Type 0 where
 pub record IsNoted (y : Table) (e : Entry) : Type 0 where
   pub below : IsBelow y.bytes (length y.thunks) (length y.nodes) e.node
   pub packs : e.packs ≡ pack_length (tree_of y.bytes y.thunks (trees y) e.node)
-  pub free : e.is_open ≡ is_open (tree_of y.bytes y.thunks (trees y) e.node)
-  pub generic : e.is_generic ≡ is_generic (tree_of y.bytes y.thunks (trees y) e.node)
+  pub free : free_is e.free ≡ free_in (tree_of y.bytes y.thunks (trees y) e.node)
   pub empty : e.is_empty ≡ items.is_empty items.closed (tree_of y.bytes y.thunks (trees y) e.node)
   pub by_argument : e.by_argument ≡ by_argument_of (tree_of y.bytes y.thunks (trees y) e.node)
   pub flat : IsFlat y.nodes e.node

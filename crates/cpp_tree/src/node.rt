@@ -2,7 +2,7 @@
 
 ghost use Rattle.std.specs.Prelude.{◌≡◌, ◌≤◌};
 ghost use Rattle.cpp_tree.specs.Fields.{bit, mark_number, qualifiers_number};
-ghost use Rattle.cpp_tree.specs.Nodes.{qualifiers_of, mark_of, is_encoding};
+ghost use Rattle.cpp_tree.specs.Nodes.{qualifiers_of, mark_of, is_encoding, free_is, has_free};
 ghost use Rattle.cpp_tree.specs.Notes.{is_structor_node};
 
 use sym_core::Span;
@@ -87,6 +87,8 @@ pub enum Piece {
     Constructor(u8),
     Destructor(u8),
     Lambda { parameters: u32, number: u64 },
+    /// A lambda whose signature names parameters of its own.
+    GenericLambda { parameters: u32, number: u64 },
     Unnamed(u64),
     StringLiteral,
     Conversion(u32),
@@ -172,8 +174,6 @@ pub enum Node {
         digits: Span,
         end: u8,
     },
-    /// A lambda's own parameter, by its number.
-    GenericParameter(u32),
     Vendor(Span),
     Pointer(u32),
     Lvalue(u32),
@@ -299,6 +299,14 @@ pub enum HeadFrom {
     Collapsed,
 }
 
+/// The parameters that are free in a tree: none, one by its number, in one place or in several, or more than one.
+#[derive(Clone, Copy)]
+pub enum Free {
+    None,
+    One(u32),
+    Several,
+}
+
 /// What depends on the argument of a tree's free parameters, if they get another one.
 #[derive(Clone, Copy)]
 pub struct ByArgument {
@@ -317,10 +325,8 @@ pub struct Entry {
     pub node: Node,
     /// The length of the packs that its parameters name, if they name one.
     pub packs: Option<u32>,
-    /// Whether it has free parameters.
-    pub is_open: bool,
-    /// Whether it has a lambda's own parameter that stands under no lambda of it.
-    pub is_generic: bool,
+    /// Its free parameters.
+    pub free: Free,
     /// Whether it prints nothing.
     pub is_empty: bool,
     pub by_argument: ByArgument,
@@ -335,4 +341,18 @@ pub struct Entry {
     pub count: u32,
     /// How many of the nodes before a cell are the cells behind it, each before the next.
     pub run: u32,
+}
+
+impl Entry {
+    /// Whether parameters are free in its tree.
+    #[inline(always)]
+    #[tactic(auto, unfolding(crate::specs::Nodes::free_is, crate::specs::Nodes::has_free))]
+    pub fn is_open(self) -> bool
+        ensures { result ≡ has_free (free_is self.free) }
+    {
+        match self.free {
+            Free::None => false,
+            _ => true,
+        }
+    }
 }
