@@ -32,7 +32,10 @@ CHANGED = {
                    "(pack_length (reargued (Some (element arguments k)) t)) state >>= λ s. Ok (found (tree (reargued (Some (element arguments k)) t) true) s)"),
                   ("true ↦ Ok (found (tree t true) state)", "true ↦ Ok (found (tree (reargued (Some auto) t) true) state)"),
                   ("A tree that was made elsewhere is the same tree here.", "A tree that was made elsewhere is the same tree here, with the arguments that are meant here.")],
-    "Between": [("-- a parameter is tested, and becomes", "-- the argument that a parameter names\nunfoldable pub argument_at : Around → ℕ → Term\n"
+    "Between": [("-- in the types of", "-- The arguments that a name ends in. No parameter is free in the name of an encoding.\nunfoldable pub closed_arguments : Term → Option Term\n"
+                 "closed_arguments name = elim (is_open name) [ true ↦ None | false ↦ arguments_of name ]\n\n-- in the types of"),
+                ("in_types place name = record { scope = arguments_of name;", "in_types place name = record { scope = closed_arguments name;"),
+                ("-- a parameter is tested, and becomes", "-- the argument that a parameter names\nunfoldable pub argument_at : Around → ℕ → Term\n"
                  "argument_at around k = elim around.scope [ None ↦ absent | Some arguments ↦ element arguments k ]\n\n-- a parameter is tested, and becomes"),
                 ("listed_so_far around (parameter k) vs s", "listed_so_far around (parameter k (argument_at around k)) vs s")],
     "Parts": [(f"{form}_parts {d}context (parameter k) = as_item {form} closed (argument context k) ∷ []",
@@ -44,7 +47,7 @@ CHANGED = {
 }
 # names that the changes bring in
 BROUGHT = {"Rescoping": {"Scope": ["element"], "Items": ["auto"], "Reargued": ["reargued"]},
-           "Between": {"Prelude": ["Some"], "Scope": ["element"], "Term": ["absent"]}}
+           "Between": {"Prelude": ["Option", "Some"], "Scope": ["element", "is_open"], "Term": ["absent"]}}
 MODULES = ("Term", "Scope", "Values", "References", "Between", "Meaning", "Unfolding", "Rescoping", "Parts")
 
 def names_of(block):

@@ -30,7 +30,7 @@ use Rattle.cpp_term.specs.Between as between_
 use Rattle.cpp_term.specs.Meaning as noted_
 use Rattle.cpp_term.specs.Unfolding as unfolded_
 use Rattle.cpp_term.specs.Rescoping as wide_
-use Rattle.cpp_term.specs.Annotated.{Place, nowhere, around_place, place_in, in_own, argument_in, annotate, noted_scope, noted_value, noted_values, noted_prefix, noted_around}
+use Rattle.cpp_term.specs.Annotated.{Place, around_place, place_in, in_own, argument_in, annotate, noted_scope, noted_value, noted_values, noted_prefix, noted_around}
 use Rattle.cpp_term.proofs.Notes.{both, open_noted, closed_noted}
 use Rattle.cpp_term.proofs.MeaningNoted.{structor_noted, part_noted, tree_noted, piece_noted, text_noted, letter_noted, listed_noted, items_noted, applied_noted, text_part_, extended_noted, prefix_tree_noted, Inside, lambda_noted, meaning_noted}
 use Rattle.cpp_term.proofs.StatesNoted.{IsOutside, Settled, own_place, Alike, alike_bind, Same, Moves, moves_none, one_moves, type_moves, unqualified_moves, prefix_moves, Comes, get_noted, substituted_noted, wide_substituted_noted, parameter_noted}

@@ -1,5 +1,5 @@
 -- The parts of a production that stays in its encoding, annotated.
-use Rattle.std.proofs.Common.{◌≡◌, refl, ap, sym, ◌∙◌, subst, ℕ, ◌+◌, ◌<◌, ◌≤◌, List, [], ◌∷◌, ◌++◌, length, Bool, true, false, ◌||◌, ◌&&◌, ◌⊎◌, nat_eq, Option, None, Result, Ok, Err, inl, inr, arith}
+use Rattle.std.proofs.Common.{◌≡◌, refl, ap, sym, ◌∙◌, subst, ℕ, ◌+◌, ◌<◌, ◌≤◌, List, [], ◌∷◌, ◌++◌, length, Bool, true, false, ◌||◌, ◌&&◌, ◌⊎◌, None, Result, Ok, Err, inl, inr, arith}
 use Rattle.std.proofs.lemmas.Bool.{true≢false}
 use Rattle.sym_core.specs.declared.refusal.Refusal.{Refusal}
 use Rattle.sym_shape.specs.declared.rule.Sym.{Sym}
@@ -19,7 +19,6 @@ use Rattle.cpp_grammar.proofs.ClosedParts.{StaysInside}
 use Rattle.cpp_grammar.proofs.Ways.{Way, reading_by}
 use Rattle.cpp_grammar.proofs.ClosedTrees as trees_
 use Rattle.cpp_grammar.proofs.ClosedTrees.{is_encoding, has_encoding, TreeComes, KeepsClosed, tree_good_by, old_fits, grows_fits, one_good, or_true}
-use Rattle.cpp_term.specs.Term as term_
 use Rattle.cpp_term.specs.Values as value_
 use Rattle.cpp_term.specs.Annotated.{Place, nowhere, around_place, place_in, annotate, noted_value, noted_values, noted_around}
 use Rattle.cpp_term.proofs.KindsNoted.{is_special_kind}

@@ -13,7 +13,7 @@ use Rattle.cpp_term.specs.Scope as scope_
 use Rattle.cpp_term.specs.Values as value_
 use Rattle.cpp_term.specs.Between as between_
 use Rattle.cpp_term.specs.Meaning as noted_
-use Rattle.cpp_term.specs.Annotated.{Place, nowhere, around_place, place_of, place_in, in_own, annotate, noted_scope, noted_value, noted_values, noted_prefix, noted_around}
+use Rattle.cpp_term.specs.Annotated.{Place, nowhere, around_place, place_of, place_in, annotate, noted_value, noted_values, noted_prefix, noted_around}
 use Rattle.cpp_term.proofs.Notes.{both, arguments_noted, noted_in, types_place, closed_noted}
 
 pub three : {A B C D : Type 0} (f : A → B → C → D) {a b : A} {c d : B} {x y : C} → a ≡ b → c ≡ d → x ≡ y → f a c x ≡ f b d y

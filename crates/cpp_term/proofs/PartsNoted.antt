@@ -10,7 +10,6 @@ use Rattle.cpp_grammar.specs.Items.{Form, root, full, bare, left, right, low, ba
 use Rattle.cpp_grammar.specs.Parts as leaf_
 use Rattle.cpp_grammar.specs.Parts.{qualifier_text, ref_text, blank_last, encoding_text, is_below}
 use Rattle.cpp_grammar.specs.Texts.{look_up, named_special_texts, literal_endings}
-use Rattle.cpp_term.specs.Term as term_
 use Rattle.cpp_term.specs.Items as item_
 use Rattle.cpp_term.specs.Scope as scope_
 use Rattle.cpp_term.specs.Parts as part_

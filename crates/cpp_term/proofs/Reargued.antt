@@ -1,10 +1,10 @@
 -- What another argument of the free parameters keeps of a tree, and what it changes.
-use Rattle.std.proofs.Common.{◌≡◌, refl, ap, ◌∙◌, sym, ℕ, zero, suc, Bool, true, false, cond, not, ◌||◌, ◌&&◌, Option, Some, None}
+use Rattle.std.proofs.Common.{◌≡◌, refl, ap, ◌∙◌, ℕ, zero, suc, Bool, true, false, cond, not, ◌||◌, ◌&&◌, Option, Some, None}
 use Rattle.std.proofs.lemmas.Bool.{true≢false}
-use Rattle.cpp_grammar.specs.Items.{is_none_of, lref, rref, plain_head, funarr, collapsed}
+use Rattle.cpp_grammar.specs.Items.{is_none_of, lref, collapsed}
 use Rattle.cpp_grammar.specs.Scope.{both_free, first_of}
 use Rattle.cpp_grammar.specs.Term as term_
-use Rattle.cpp_term.specs.Term.{Term, alone, in_std, within, instance, local, holder, tagged, of_default, parameter, constructor, destructor, lambda, generic_lambda, conversion, pointer, lvalue, rvalue, array, member_pointer, function_type, qualified, vector, complex, expansion, integer, pack, nil, list, absent}
+use Rattle.cpp_term.specs.Term.{Term, alone, in_std, within, instance, local, holder, tagged, of_default, parameter, constructor, destructor, lambda, conversion, pointer, lvalue, rvalue, array, member_pointer, function_type, qualified, vector, complex, expansion, integer, pack, list}
 use Rattle.cpp_term.specs.Scope.{count, element, arguments_of, before_arguments, is_structor, without_tags, has_return_type, is_open, free_in, length_if_pack, pack_length}
 use Rattle.cpp_term.specs.Items.{Context, HeadClass, known, of_element, collapsed_of_element, collapsed_class, class_of, packs_of, is_empty}
 use Rattle.cpp_term.specs.Parts.{own_piece}

@@ -1,5 +1,5 @@
 -- Unfolding with arguments is unfolding without, annotated.
-use Rattle.std.proofs.Common.{◌≡◌, refl, ap, sym, ◌∙◌, subst, ℕ, suc, ◌+◌, ◌-◌, ◌<◌, ◌≤◌, ◌^◌, List, [], ◌∷◌, ◌++◌, length, Bool, true, false, not, ◌||◌, nat_eq, nat_lt, Option, None, Result, Ok, Err, inl, inr, arith, lit≤}
+use Rattle.std.proofs.Common.{◌≡◌, refl, ap, sym, ◌∙◌, subst, ℕ, suc, ◌+◌, ◌-◌, ◌<◌, ◌≤◌, ◌^◌, List, [], ◌∷◌, ◌++◌, length, Bool, true, false, not, ◌||◌, nat_lt, Option, None, Result, Ok, Err, inl, inr, arith, lit≤}
 use Rattle.std.proofs.lemmas.Bool.{true≢false, false≢true, cases_Bool}
 use Rattle.sym_core.specs.declared.refusal.Refusal.{Refusal}
 use Rattle.sym_core.specs.declared.refusal.Refusal.TheVariants.{BadValue}
@@ -41,11 +41,12 @@ use Rattle.cpp_term.specs.Between as between_
 use Rattle.cpp_term.specs.Rescoping as wide_
 use Rattle.cpp_term.specs.Unfolding as unfolded_
 use Rattle.cpp_term.specs.Meaning as noted_
-use Rattle.cpp_term.specs.Annotated.{Place, nowhere, around_place, place_of, place_in, annotate, noted_scope, noted_value, noted_values, noted_prefix, noted_around, noted_tree}
+use Rattle.cpp_term.specs.Annotated.{Place, nowhere, around_place, place_in, annotate, noted_scope, noted_value, noted_values, noted_prefix, noted_around, noted_tree}
 use Rattle.cpp_term.proofs.EncodingsClosed.{insides}
-use Rattle.cpp_term.proofs.Notes.{both, closed_noted, scope_noted}
+use Rattle.cpp_term.proofs.Notes.{both, closed_noted, open_noted, scope_noted}
 use Rattle.cpp_term.proofs.MeaningNoted.{Inside, part_noted, tree_noted, items_noted, encoding_noted, qualifiers_noted, ref_noted, three as three_}
 use Rattle.cpp_term.proofs.StatesNoted.{Settled, Alike, alike_bind, Same, Moves, moves_none, moves_then, same_moves, AllNoted, Comes}
+use Rattle.cpp_term.proofs.BetweenNoted.{parts_place}
 use Rattle.cpp_term.proofs.NotedWays.{NotedWay, reading_noted_by, abi_noted, wide_noted, IsNotedBy, abi_is_noted, wide_is_noted}
 use Rattle.cpp_term.proofs.KindsNoted.{is_special_kind}
 use Rattle.cpp_term.proofs.ForestNoted.{is_special, has_special, Many, TreeNoted, AllTreesNoted, noted_open, forest_noted, cancel, value_closed}
@@ -126,6 +127,17 @@ moves_out own around inner at end x later y noted is lt grows m = record {
   each = all_out own around inner at end m.more m.others is lt (subst (λ cs. AllNew own inner end cs) (cancel x.candidates grows.more m.more (sym grows.is ∙ m.is)) grows.each) m.each;
 }
 
+-- nothing is named in the name of an encoding, and in its types its arguments
+name_place : (own : Bool) (at : ℕ) → around_place own (in_name at) ≡ nowhere
+unfolding in_name place_in
+name_place true at = refl
+name_place false at = refl
+
+items_place : (own : Bool) (at : ℕ) (name : Term) → around_place own (in_types at name) ≡ place_in (arguments_of name) false
+unfolding in_types
+items_place true at name = refl
+items_place false at name = refl
+
 -- what the parts of an encoding come to, both ways
 record Inner (own : Bool) (p : Production) (around : Around) (x : State) (y : value_.State) (a : Found (List Value) State) (b : Found (List value_.Value) value_.State) : Type 0 where
   means : (byte : ℕ) → noted_.meaning p byte (noted_around own around) b.value ≡ noted_value (around_place own around) (meaning p byte around a.value)
@@ -149,9 +161,14 @@ encoding_made own around byte v w =
     ap (λ t. value_.tree (noted_.encoding_of (noted_value nowhere v) t) true) (items_noted (place_in (arguments_of (tree_of v)) false) w)
     ∙ ap (λ t. value_.tree t true) (encoding_noted (around_place own around) v (no_items w))
 
-types_noted : (own : Bool) → (at : ℕ) (v : Value) → between_.in_types at (value_.tree_of (noted_value nowhere v)) ≡ noted_around own (in_types at (tree_of v))
+-- no parameter is free in the name of an encoding, so that its arguments are those of the scope
+arguments_noted : (t : Term) → is_open t ≡ false → between_.closed_arguments (annotate nowhere t) ≡ noted_scope (arguments_of t)
+unfolding between_.closed_arguments
+arguments_noted t closed = ap (λ b. elim b [ true ↦ None | false ↦ scope_.arguments_of (annotate nowhere t) ]) (open_noted nowhere t ∙ closed) ∙ scope_noted t
+
+types_noted : (own : Bool) → (at : ℕ) (v : Value) → is_open (tree_of v) ≡ false → between_.in_types at (value_.tree_of (noted_value nowhere v)) ≡ noted_around own (in_types at (tree_of v))
 unfolding between_.in_types in_types noted_around noted_prefix
-types_noted own at v = ap (λ o. between_type at o) (ap scope_.arguments_of (tree_noted nowhere v) ∙ scope_noted (tree_of v))
+types_noted own at v closed = ap (λ o. between_type at o) (ap between_.closed_arguments (tree_noted nowhere v) ∙ arguments_noted (tree_of v) closed)
   where
     between_type : ℕ → Option term_.Term → value_.Around
     between_type at o = record { scope = o; encoding = at; in_lambda = false; in_expansion = false; prefix = value_.outermost }
@@ -186,13 +203,13 @@ types_next rule v vs x is e =
     ap (λ p. between p rule.context rule.place vs x) is ∙ ap (λ ws. between Production.Encoding rule.context rule.place ws x) e
     ∙ sym (ap (λ ws. Ok (record { context = in_types rule.place (tree_of v); values = ws; state = x })) e)
 
-noted_types_next : (own : Bool) → (rule : Open State Around) (v : Value) (vs : List Value) (us : List value_.Value) (y : value_.State) → production_at rule.rule.number ≡ Production.Encoding → vs ≡ v ∷ [] → us ≡ noted_values nowhere vs →
+noted_types_next : (own : Bool) → (rule : Open State Around) (v : Value) (vs : List Value) (us : List value_.Value) (y : value_.State) → is_open (tree_of v) ≡ false → production_at rule.rule.number ≡ Production.Encoding → vs ≡ v ∷ [] → us ≡ noted_values nowhere vs →
     between_.between (production_at rule.rule.number) (noted_around own rule.context) rule.place us y ≡ Ok (record { context = noted_around own (in_types rule.place (tree_of v)); values = us; state = y })
 unfolding between_.between noted_values
-noted_types_next own rule v vs us y is e g =
+noted_types_next own rule v vs us y closed is e g =
     let one : us ≡ noted_value nowhere v ∷ [] = g ∙ ap (noted_values nowhere) e in
     ap (λ p. between_.between p (noted_around own rule.context) rule.place us y) is ∙ ap (λ ws. between_.between Production.Encoding (noted_around own rule.context) rule.place ws y) one
-    ∙ ap (λ c. Ok (record { context = c; values = noted_value nowhere v ∷ []; state = y })) (types_noted own rule.place v)
+    ∙ ap (λ c. Ok (record { context = c; values = noted_value nowhere v ∷ []; state = y })) (types_noted own rule.place v closed)
     ∙ sym (ap (λ ws. Ok (record { context = noted_around own (in_types rule.place (tree_of v)); values = ws; state = y })) one)
 
 other_special_means : (own : Bool) → (around : Around) (byte : ℕ) (vs : List Value) (us : List value_.Value) (ws : List Value) (zs : List value_.Value) (v w : Value) → vs ≡ v ∷ [] → ws ≡ w ∷ [] → is_open (held w) ≡ false →
@@ -201,7 +218,7 @@ other_special_means : (own : Bool) → (around : Around) (byte : ℕ) (vs : List
 unfolding meaning noted_.meaning part value_.part
 other_special_means own around byte vs us ws zs v w e g closed i j =
     ap (noted_.meaning Production.OtherSpecial byte (noted_around own around)) (pair_noted nowhere nowhere vs us ws zs v w e g i j)
-    ∙ value_closed None (around_place own around) w closed
+    ∙ value_closed nowhere (around_place own around) w closed
     ∙ sym (ap (λ xs. noted_value (around_place own around) (meaning Production.OtherSpecial byte around xs)) (both (λ a b. a ++ b) e g))
 
 inner_closes : (p : Production) → opens p ≡ true → (byte : ℕ) (around : Around) (place : ℕ) (began : State) (vs : List Value) (x : State) → close p byte around place began vs x ≡ Ok (found (meaning p byte around vs) x)
@@ -234,7 +251,7 @@ module _ (way : Way) (keeps : KeepsClosed way) (noted_way : NotedWay) (ways : Is
       let whole = Whole rule taken at around state in
       let noted = noted_open way.own whole other in
       let from = at + length taken in
-      let s = around_place way.own around in
+      let s = parts_place way.own (production_at rule.number) around in
       let number : production_at rule.number ≡ p = ap (λ x. production_at x.number) is ∙ at_number p in
       let inside_ : StaysInside (production_at rule.number) = subst (λ q. StaysInside q) (sym number) (stays p plain) in
       let symbols = either_sound.symbols k tree.0.byte rule lt tree.0.is_byte tree.0.found in
@@ -242,7 +259,7 @@ module _ (way : Way) (keeps : KeepsClosed way) (noted_way : NotedWay) (ways : Is
       opened (Many way.own (around_place way.own around) around state other) (production_at rule.number) parts at state other
       (λ begun. unfold_forest (reading_by way) whole [] from parts begun >>= λ inner. way.close (production_at rule.number) (byte_of taken) around at state inner.value inner.state >>= alone)
       (λ begun. unfold_forest (reading_noted_by noted_way) noted [] from parts begun >>= λ inner. noted_way.close (production_at rule.number) (byte_of taken) (noted_around way.own around) at other inner.value inner.state >>= alone)
-      (alike_bind (Many way.own (around_place way.own around) around state other) (Many way.own (around_place way.own around) around state other) (unfold_forest (reading_by way) whole [] from parts state) (unfold_forest (reading_noted_by noted_way) noted [] from parts other)
+      (alike_bind (Many way.own s around state other) (Many way.own (around_place way.own around) around state other) (unfold_forest (reading_by way) whole [] from parts state) (unfold_forest (reading_noted_by noted_way) noted [] from parts other)
       (λ inner. way.close (production_at rule.number) (byte_of taken) around at state inner.value inner.state >>= alone)
       (λ inner. noted_way.close (production_at rule.number) (byte_of taken) (noted_around way.own around) at other inner.value inner.state >>= alone)
       (forest_noted way keeps noted_way ways parts all whole other (symbols_of rule) [] from state other inside_ symbols tree.1 (omega (arith, le)) (λ has. omega (arith, le, takes_byte p rule k taken is tree.0 has)) none settled pre tt
@@ -253,7 +270,7 @@ module _ (way : Way) (keeps : KeepsClosed way) (noted_way : NotedWay) (ways : Is
       (noted_way.close (production_at rule.number) (byte_of taken) (noted_around way.own around) at other b.value b.state) alone alone
       (subst (λ us. Alike (Comes way.own around a.state b.state) (way.close (production_at rule.number) (byte_of taken) around at state a.value a.state)
       (noted_way.close (production_at rule.number) (byte_of taken) (noted_around way.own around) at other us b.state)) (sym many.values)
-      (ways.comes (production_at rule.number) (byte_of taken) around at state other a.value a.state b.state (subst (λ q. Inside q a.value) (sym number) h) (same_moves way.own around state a.state other b.state same many.moves) same.packs))
+      (ways.comes (production_at rule.number) (byte_of taken) around at state other a.value a.state b.state (subst (λ q. Inside q a.value) (sym number) h) settled (same_moves way.own around state a.state other b.state same many.moves) same.packs))
       (λ u v u-is comes. record { values = ap (λ w. w ∷ []) comes.value; moves = moves_then way.own around state a.state u.state other b.state v.state many.moves comes.moves })))
 
   -- the next part of a rule, where it is known what goes into it
@@ -274,10 +291,11 @@ module _ (way : Way) (keeps : KeepsClosed way) (noted_way : NotedWay) (ways : Is
 
   -- one part of an encoding, in which nothing is named
   named_part : (t : Tree) → TreeNoted way noted_way t → (x : Sym) (at from : ℕ) (state : State) (other : value_.State) → IsSymbol either x → IsTree either x t → is_encoding x ≡ false → at ≤ from → AllOld way.own (in_name at) from state.candidates → Same way.own (in_name at) state other →
-      Alike (Many way.own (around_place way.own (in_name at)) (in_name at) state other) (unfold_tree (reading_by way) (in_name at) from t state) (unfold_tree (reading_noted_by noted_way) (between_.in_name at) from t other)
+      Alike (Many way.own nowhere (in_name at) state other) (unfold_tree (reading_by way) (in_name at) from t state) (unfold_tree (reading_noted_by noted_way) (between_.in_name at) from t other)
   unfolding in_name between_.in_name noted_around noted_scope noted_prefix
   named_part t noted x at from state other known is plain le old same =
-      noted x (in_name at) from state other known is le (λ opening. absurd (true≢false (sym opening ∙ plain))) (λ special. (refl, λ o. refl)) (λ l. absurd (false≢true l)) tt old same
+      subst (λ s. Alike (Many way.own s (in_name at) state other) (unfold_tree (reading_by way) (in_name at) from t state) (unfold_tree (reading_noted_by noted_way) (between_.in_name at) from t other)) (name_place way.own at)
+      (noted x (in_name at) from state other known is le (λ opening. absurd (true≢false (sym opening ∙ plain))) (λ special. (refl, λ o. refl)) (λ l. absurd (false≢true l)) tt old same)
 
   special_noted : (f : Forest) → AllTreesNoted way noted_way f → (rule : Open State Around) (first : value_.State) (from : ℕ) (x : State) (y : value_.State) → production_at rule.rule.number ≡ Production.Special → AreTrees either (parts_of Production.Special) f →
       rule.context.encoding < rule.place → rule.place ≤ from → AllOld way.own rule.context rule.place x.candidates → Same way.own rule.context x y →
@@ -288,10 +306,10 @@ module _ (way : Way) (keeps : KeepsClosed way) (noted_way : NotedWay) (ways : Is
   special_noted (grown t nothing) all rule first from x y is trees lt le old same =
       let around = rule.context in
       let at = rule.place in
-      let old0 = old_later way.own (in_name at) at from x.candidates le (trees_.old_inner around at x.candidates lt old) in
+      let old0 = old_later way.own (in_name at) at from x.candidates le (trees_.old_inner way.own around at x.candidates lt old) in
       let same0 : Same way.own (in_name at) x y = record { packs = same.packs; all = all_name way.own around at x.candidates y.candidates lt old same.all } in
       step (Inner way.own Production.Special around x y) rule first [] [] from x y t nothing (nameless_ at [] x) (noted_nameless at [] y) (ap (λ p. way.between p around at [] x) is ∙ keeps.plain.between Production.Special refl around at [] x) (ap (λ p. noted_way.between p (noted_around way.own around) at [] y) is ∙ ways.plain.between Production.Special refl (noted_around way.own around) at [] y)
-      (alike_bind (Many way.own (around_place way.own (in_name at)) (in_name at) x y) (Inner way.own Production.Special around x y) (unfold_tree (reading_by way) (in_name at) from t x) (unfold_tree (reading_noted_by noted_way) (between_.in_name at) from t y)
+      (alike_bind (Many way.own nowhere (in_name at) x y) (Inner way.own Production.Special around x y) (unfold_tree (reading_by way) (in_name at) from t x) (unfold_tree (reading_noted_by noted_way) (between_.in_name at) from t y)
       (λ part. unfold_forest (reading_by way) rule ([] ++ part.value) (from + length (spell t)) nothing part.state) (λ part. unfold_forest (reading_noted_by noted_way) (noted_open way.own rule first) ([] ++ part.value) (from + length (spell t)) nothing part.state)
       (named_part t all.0 (OfKind SPECIAL) at from x y (trees_.known 5 (lit≤ tt)) trees.0 refl le old0 same0)
       (λ a b a-is many.
@@ -319,10 +337,10 @@ module _ (way : Way) (keeps : KeepsClosed way) (noted_way : NotedWay) (ways : Is
       let around = rule.context in
       let at = rule.place in
       let next = from + length (spell t) in
-      let old0 = old_later way.own (in_name at) at from x.candidates le (trees_.old_inner around at x.candidates lt old) in
+      let old0 = old_later way.own (in_name at) at from x.candidates le (trees_.old_inner way.own around at x.candidates lt old) in
       let same0 : Same way.own (in_name at) x y = record { packs = same.packs; all = all_name way.own around at x.candidates y.candidates lt old same.all } in
       step (Inner way.own p around x y) rule first [] [] from x y t (grown u nothing) (nameless_ at [] x) (noted_nameless at [] y) (ap (λ p. way.between p around at [] x) is ∙ goes around at [] x) (ap (λ p. noted_way.between p (noted_around way.own around) at [] y) is ∙ goes_noted (noted_around way.own around) at [] y)
-      (alike_bind (Many way.own (around_place way.own (in_name at)) (in_name at) x y) (Inner way.own p around x y) (unfold_tree (reading_by way) (in_name at) from t x) (unfold_tree (reading_noted_by noted_way) (between_.in_name at) from t y)
+      (alike_bind (Many way.own nowhere (in_name at) x y) (Inner way.own p around x y) (unfold_tree (reading_by way) (in_name at) from t x) (unfold_tree (reading_noted_by noted_way) (between_.in_name at) from t y)
       (λ part. unfold_forest (reading_by way) rule ([] ++ part.value) next (grown u nothing) part.state) (λ part. unfold_forest (reading_noted_by noted_way) (noted_open way.own rule first) ([] ++ part.value) next (grown u nothing) part.state)
       (named_part t all.0 k at from x y known_k trees.0 apart_k le old0 same0)
       (λ a b a-is many.
@@ -332,7 +350,7 @@ module _ (way : Way) (keeps : KeepsClosed way) (noted_way : NotedWay) (ways : Is
       step (Inner way.own p around x y) rule first a.value b.value next a.state b.state u nothing (nameless_ at a.value a.state) (noted_nameless at b.value b.state)
       (ap (λ p. way.between p around at a.value a.state) is ∙ goes around at a.value a.state)
       (ap (λ p. noted_way.between p (noted_around way.own around) at b.value b.state) is ∙ goes_noted (noted_around way.own around) at b.value b.state)
-      (alike_bind (Many way.own (around_place way.own (in_name at)) (in_name at) a.state b.state) (Inner way.own p around x y) (unfold_tree (reading_by way) (in_name at) next u a.state) (unfold_tree (reading_noted_by noted_way) (between_.in_name at) next u b.state)
+      (alike_bind (Many way.own nowhere (in_name at) a.state b.state) (Inner way.own p around x y) (unfold_tree (reading_by way) (in_name at) next u a.state) (unfold_tree (reading_noted_by noted_way) (between_.in_name at) next u b.state)
       (λ part. unfold_forest (reading_by way) rule (a.value ++ part.value) (next + length (spell u)) nothing part.state) (λ part. unfold_forest (reading_noted_by noted_way) (noted_open way.own rule first) (b.value ++ part.value) (next + length (spell u)) nothing part.state)
       (named_part u all.1.0 l at next a.state b.state known_l trees.1.0 apart_l (omega (arith, le)) old1 same1)
       (λ d e d-is more.
@@ -368,10 +386,10 @@ module _ (way : Way) (keeps : KeepsClosed way) (noted_way : NotedWay) (ways : Is
       let around = rule.context in
       let at = rule.place in
       let next = from + length (spell t) in
-      let old0 = old_later way.own (in_name at) at from x.candidates le (trees_.old_inner around at x.candidates lt old) in
+      let old0 = old_later way.own (in_name at) at from x.candidates le (trees_.old_inner way.own around at x.candidates lt old) in
       let same0 : Same way.own (in_name at) x y = record { packs = same.packs; all = all_name way.own around at x.candidates y.candidates lt old same.all } in
       step (Inner way.own Production.Encoding around x y) rule first [] [] from x y t (grown u nothing) (nameless_ at [] x) (noted_nameless at [] y) (ap (λ p. way.between p around at [] x) is ∙ keeps.plain.between Production.Encoding refl around at [] x) (ap (λ p. noted_way.between p (noted_around way.own around) at [] y) is ∙ ways.plain.between Production.Encoding refl (noted_around way.own around) at [] y)
-      (alike_bind (Many way.own (around_place way.own (in_name at)) (in_name at) x y) (Inner way.own Production.Encoding around x y) (unfold_tree (reading_by way) (in_name at) from t x) (unfold_tree (reading_noted_by noted_way) (between_.in_name at) from t y)
+      (alike_bind (Many way.own nowhere (in_name at) x y) (Inner way.own Production.Encoding around x y) (unfold_tree (reading_by way) (in_name at) from t x) (unfold_tree (reading_noted_by noted_way) (between_.in_name at) from t y)
       (λ part. unfold_forest (reading_by way) rule ([] ++ part.value) next (grown u nothing) part.state) (λ part. unfold_forest (reading_noted_by noted_way) (noted_open way.own rule first) ([] ++ part.value) next (grown u nothing) part.state)
       (named_part t all.0 (OfKind COMPLETE_NAME) at from x y (trees_.known 8 (lit≤ tt)) trees.0 refl le old0 same0)
       (λ a b a-is many.
@@ -379,19 +397,19 @@ module _ (way : Way) (keeps : KeepsClosed way) (noted_way : NotedWay) (ways : Is
       let name = tree_of c.value in
       let old1 = old_grows way.own (in_name at) from next x a.state (omega arith) old0 c.grows in
       let same1 = same_moves way.own (in_name at) x a.state y b.state same0 many.moves in
-      let old2 = trees_.old_types at next name a.state.candidates old1 in
+      let old2 = trees_.old_types way.own at next name a.state.candidates old1 in
       let same2 : Same way.own (in_types at name) a.state b.state = record { packs = same1.packs; all = all_types way.own at next name a.state.candidates b.state.candidates old1 same1.all } in
       let n : Next Value State Around = record { context = in_types at name; values = a.value; state = a.state } in
       let m : Next value_.Value value_.State value_.Around = record { context = noted_around way.own (in_types at name); values = b.value; state = b.state } in
       step (Inner way.own Production.Encoding around x y) rule first a.value b.value next a.state b.state u nothing n m
-      (keeps.plain.between (production_at rule.rule.number) (ap differs is) around at a.value a.state ∙ types_next rule c.value a.value a.state is c.is) (ways.plain.between (production_at rule.rule.number) (ap differs is) (noted_around way.own around) at b.value b.state ∙ noted_types_next way.own rule c.value a.value b.value b.state is c.is many.values)
+      (keeps.plain.between (production_at rule.rule.number) (ap differs is) around at a.value a.state ∙ types_next rule c.value a.value a.state is c.is) (ways.plain.between (production_at rule.rule.number) (ap differs is) (noted_around way.own around) at b.value b.state ∙ noted_types_next way.own rule c.value a.value b.value b.state ((good_tree (Bare way.own (in_name at)) c.value c.good).closed (refl, λ o. refl)) is c.is many.values)
       (alike_bind (Many way.own (around_place way.own (in_types at name)) (in_types at name) a.state b.state) (Inner way.own Production.Encoding around x y) (unfold_tree (reading_by way) (in_types at name) next u a.state) (unfold_tree (reading_noted_by noted_way) (noted_around way.own (in_types at name)) next u b.state)
       (λ part. unfold_forest (reading_by way) rule (a.value ++ part.value) (next + length (spell u)) nothing part.state) (λ part. unfold_forest (reading_noted_by noted_way) (noted_open way.own rule first) (b.value ++ part.value) (next + length (spell u)) nothing part.state)
       (all.1.0 (OfKind ITEMS) (in_types at name) next a.state b.state (trees_.known 41 (lit≤ tt)) trees.1.0 (omega (arith, le)) (λ opening. absurd (false≢true opening)) (λ special. absurd (false≢true special)) (λ l. absurd (false≢true l)) tt old2 same2)
       (λ d e d-is more.
       let g = trees_.tree_good_by way keeps u (OfKind ITEMS) (in_types at name) next a.state d (trees_.known 41 (lit≤ tt)) trees.1.0 (omega (arith, le)) (λ opening. absurd (false≢true opening)) tt old2 d-is in
       record {
-        means = λ byte. encoding_means way.own around byte a.value b.value d.value e.value c.value g.value c.is g.is many.values more.values;
+        means = λ byte. encoding_means way.own around byte a.value b.value d.value e.value c.value g.value c.is g.is many.values (more.values ∙ ap (λ s. noted_values s d.value) (items_place way.own at name));
         moves = moves_then way.own around x a.state d.state y b.state e.state (moves_out way.own around (in_name at) at next x a.state y b.state refl lt c.grows many.moves)
             (moves_out way.own around (in_types at name) at (next + length (spell u)) a.state d.state b.state e.state refl lt g.grows more.moves);
       }))))
@@ -472,7 +490,7 @@ result_noted own x y z (Err e) (Ok b) many = absurd many
 
 -- Unfolding with arguments is unfolding without: the same refusal, or the same tree with its arguments.
 pub unfold_noted : (shape : Tree) → IsTree either (OfKind SYMBOL) shape → unfolded_.unfold_cpp shape ≡ noted_tree (unfolding_.unfold_cpp shape)
-unfolding cpp unfolded_.cpp reading_by reading_noted_by abi_way abi_noted unfolded_.unfold_cpp unfolding_.unfold_cpp unfolding_.first_around unfolding_.first_state unfolded_.first_around unfolded_.first_state is_encoding is_special is_special_kind noted_around noted_scope noted_prefix
+unfolding cpp unfolded_.cpp reading_by reading_noted_by abi_way abi_noted unfolded_.unfold_cpp unfolding_.unfold_cpp unfolding_.first_around unfolding_.first_state unfolded_.first_around unfolded_.first_state is_encoding is_special is_special_kind noted_around noted_scope noted_prefix place_in
 unfold_noted shape is =
     result_noted false unfolding_.first_state unfolding_.first_state unfolded_.first_state (unfold_tree cpp unfolding_.first_around 0 shape unfolding_.first_state) (unfold_tree unfolded_.cpp unfolded_.first_around 0 shape unfolded_.first_state)
     (tree_noted_ abi_way abi_keeps abi_noted abi_is_noted shape (OfKind SYMBOL) unfolding_.first_around 0 unfolding_.first_state unfolded_.first_state (trees_.known 0 (lit≤ tt)) is (omega arith) (λ opening. absurd (false≢true opening)) (λ special. absurd (false≢true special)) (λ l. absurd (false≢true l)) tt tt
@@ -480,7 +498,7 @@ unfold_noted shape is =
 
 -- And so it is by the wide grammar.
 pub wide_unfold_noted : (shape : Tree) → IsTree either (OfKind SYMBOL) shape → wide_.unfold_wide shape ≡ noted_tree (unfold_wide shape)
-unfolding cpp_wide wide_.cpp_wide reading_by reading_noted_by wide_way wide_noted wide_.unfold_wide unfold_wide unfolding_.first_around unfolding_.first_state unfolded_.first_around unfolded_.first_state is_encoding is_special is_special_kind noted_around noted_scope noted_prefix
+unfolding cpp_wide wide_.cpp_wide reading_by reading_noted_by wide_way wide_noted wide_.unfold_wide unfold_wide unfolding_.first_around unfolding_.first_state unfolded_.first_around unfolded_.first_state is_encoding is_special is_special_kind noted_around noted_scope noted_prefix place_in
 wide_unfold_noted shape is =
     result_noted true unfolding_.first_state unfolding_.first_state unfolded_.first_state (unfold_tree cpp_wide unfolding_.first_around 0 shape unfolding_.first_state) (unfold_tree wide_.cpp_wide unfolded_.first_around 0 shape unfolded_.first_state)
     (tree_noted_ wide_way wide_keeps wide_noted wide_is_noted shape (OfKind SYMBOL) unfolding_.first_around 0 unfolding_.first_state unfolded_.first_state (trees_.known 0 (lit≤ tt)) is (omega arith) (λ opening. absurd (false≢true opening)) (λ special. absurd (false≢true special)) (λ l. absurd (false≢true l)) tt tt
@@ -509,7 +527,7 @@ pub record ReadWithArguments (shape : Tree) (read : Found (List Value) State) : 
 
 pub read_with_arguments : (shape : Tree) (read : Found (List Value) State) → IsTree either (OfKind SYMBOL) shape
     → unfold_tree cpp unfolding_.first_around 0 shape unfolding_.first_state ≡ Ok read → ReadWithArguments shape read
-unfolding cpp unfolded_.cpp reading_by reading_noted_by abi_way abi_noted unfolding_.first_around unfolding_.first_state unfolded_.first_around unfolded_.first_state is_encoding is_special is_special_kind noted_around noted_scope noted_prefix
+unfolding cpp unfolded_.cpp reading_by reading_noted_by abi_way abi_noted unfolding_.first_around unfolding_.first_state unfolded_.first_around unfolded_.first_state is_encoding is_special is_special_kind noted_around noted_scope noted_prefix place_in
 read_with_arguments shape read is e =
     go (unfold_tree unfolded_.cpp unfolded_.first_around 0 shape unfolded_.first_state) refl
     (subst (λ r. Alike (Many false nowhere unfolding_.first_around unfolding_.first_state unfolded_.first_state) r (unfold_tree unfolded_.cpp unfolded_.first_around 0 shape unfolded_.first_state)) e

@@ -1,5 +1,5 @@
 -- What is printed: a tree in a form and a context, and what must be known of it: heads of types, packs, empty elements.
-use Rattle.std.specs.Prelude.{ℕ, List, [], ◌∷◌, Bool, true, false, ◌&&◌, Option, Some, None}
+use Rattle.std.specs.Prelude.{ℕ, [], ◌∷◌, Bool, true, false, ◌&&◌, Option, Some, None}
 use Rattle.cpp_grammar.specs.Items.{Form, Head, plain_head, funarr, lref, rref, collapsed, is_none_of}
 use Rattle.cpp_term.specs.Term.{Term, parameter, builtin, lvalue, rvalue, array, function_type, qualified, expansion, pack, nil, list}
 use Rattle.cpp_term.specs.Scope.{element, pack_length}
