@@ -442,6 +442,11 @@ def noted(function, text, piece, joined, others, special={}, without=()):
 
 def either(parts): return " || ".join(parts)
 def both_free(parts): return parts[0] if len(parts) == 1 else applied("both_free", [f"({p})" for p in parts])
+def both_are(facts):
+    """what is free in a node of two parts, from the facts of the parts: these stand before them"""
+    noted = [f"({'free_at' if fact.startswith('at ') else 'piece_frees'} y.nodes {fact.split()[1]})" for fact in facts]
+    return applied("both-are", [*noted, *[f"({fact})" for fact in facts]])
+def either_open(facts): return facts[0] if len(facts) == 1 else applied("either-open", [*[f"(free_in {fact.split()[-1]})" for fact in facts], *[f"({fact})" for fact in facts]])
 def lent(parts):
     if len(parts) == 2: return applied("joined", [f"({p})" for p in parts])
     return parts[0] if parts[0].startswith("piece") else f"passed ({parts[0]})"
@@ -573,8 +578,8 @@ def declarations():
          "Qualified": "ap (λ l. of_head l.head l) (lent-at t b)", "Again": again_fact("lent-at", "by_argument_reargued")}, one=lent_fact)
     yield "cpp_tree/specs/Notes.antt", "packing", noted("packing", "packs_at es {0}", "piece_packs es {0}", first_of, "None", {"Parameter": "argument_packs es (shape_at es a)", "Again": "packs_by (lent_at es t).is_bare (argument_packs es (shape_at es a))"}, ["Expansion"])
     yield "cpp_tree/proofs/Noting.antt", "node-free", through("node-free", "at {0} {1}", "piece-free {0} {1}", "refl", {"Again": again_fact("at", "free_reargued")}, without=["Parameter"],
-        joined=lambda facts: applied("both-are", [f"({fact})" for fact in facts]))
-    yield "cpp_tree/proofs/FreeParameters.antt", "open-free", carried(fold("open-free", [], lambda facts: facts[0] if len(facts) == 1 else applied("either-open", [f"({fact})" for fact in facts]), "refl", {}, SCOPED))
+        joined=both_are)
+    yield "cpp_tree/proofs/FreeParameters.antt", "open-free", carried(fold("open-free", [], either_open, "refl", {}, SCOPED))
     yield "cpp_tree/proofs/Noting.antt", "node-pack", through("node-pack", "pack-at {0} {1}", "piece-pack {0} {1}", "refl", {"Parameter": "argument-pack a b", "Again": "again-pack t a b.0 b.1"}, without=["Expansion"])
     yield "cpp_grammar/specs/Scope.antt", "is_open", fold("is_open", [], either, "false", {"parameter": "true"}, SCOPED, trees=named(SCOPES, ["parameter"]))
     yield "cpp_grammar/specs/Scope.antt", "free_in", fold("free_in", [], both_free, "none_free", {"parameter": "one_free number"}, SCOPED, trees=named(SCOPES, ["parameter"]))

@@ -1,7 +1,6 @@
 -- What is held of a node in few bytes.
-use Rattle.std.proofs.Common.{◌≡◌, refl, sym, ap, ◌∙◌, arith, ℕ, zero, suc, ◌+◌, List, [], ◌∷◌, ◌++◌, map, nat_eq, Bool, true, false, ◌||◌, Option, None, Some}
+use Rattle.std.proofs.Common.{◌≡◌, refl, sym, ap, ◌∙◌, arith, ℕ, zero, suc, ◌+◌, List, [], ◌∷◌, ◌++◌, map, Bool, true, false, ◌||◌, Option, None, Some}
 use Rattle.std.proofs.lemmas.List.{map-append}
-use Rattle.std.proofs.lemmas.Bool.{eqb-true, eq-eqb}
 use Rattle.cpp_grammar.specs.Items as heads
 use Rattle.cpp_grammar.specs.Scope.{first_of}
 use Rattle.cpp_tree.specs.declared.node.Piece.{Piece}
@@ -30,19 +29,6 @@ some-packs (suc m) n some = refl
 pub other-packs : (m n : ℕ) → m ≡ 0 → packs_kept n ≡ first_of (packs_kept m) (packs_kept n)
 unfolding packs_kept first_of
 other-packs m n none = rw none refl
-
--- one parameter beside the same one, and beside another
-pub same-beside : (j k : ℕ) → j ≡ k → Free.One j ≡ both_free (Free.One j) (Free.One k)
-unfolding both_free
-same-beside j k same = ap (λ b. elim b [ true ↦ Free.One j | false ↦ Free.Several ]) (sym (eq-eqb j k same))
-
-pub other-beside : (j k : ℕ) → (j ≡ k → ⊥) → Free.Several ≡ both_free (Free.One j) (Free.One k)
-unfolding both_free
-other-beside j k other = go (nat_eq j k) refl
-  where
-    go : (b : Bool) → nat_eq j k ≡ b → Free.Several ≡ elim b [ true ↦ Free.One j | false ↦ Free.Several ]
-    go true same = absurd (other (eqb-true j k same))
-    go false same = refl
 
 pub over-is : (n : Node) (f : ByArgument → ByArgument) (l : ByArgument) (w : Words) (first second : ℕ) (c part : Compact) (e : Entry) → entry_of part ≡ e → l ≡ f part.by_argument
     → entry_of c ≡ kept n (packs_kept part.packs) (free_kept part.free part.number) false l w first second → entry_of c ≡ kept n e.packs e.free false (f e.by_argument) w first second

@@ -1,5 +1,5 @@
 -- What is noted of a node is what its tree has.
-use Rattle.std.proofs.Common.{◌≡◌, refl, sym, ap, ◌∙◌, subst, ℕ, zero, suc, ◌+◌, ◌-◌, ◌<◌, ◌≤◌, arith, List, length, Bool, true, false, not, cond, nat_eq, ◌||◌, ◌&&◌, Option, None, Some}
+use Rattle.std.proofs.Common.{◌≡◌, refl, sym, ap, ◌∙◌, ℕ, zero, suc, ◌+◌, ◌-◌, ◌<◌, ◌≤◌, arith, List, length, Bool, true, false, not, cond, nat_eq, ◌&&◌, Option, None, Some}
 use Rattle.std.proofs.lemmas.Bool.{eqb-true, true≢false}
 use Rattle.cpp_term.specs.Term.{Term}
 use Rattle.cpp_term.specs.Scope.{free_in}
@@ -21,7 +21,7 @@ use Rattle.cpp_tree.specs.declared.node.ByArgument.{ByArgument}
 use Rattle.cpp_term.specs.Reargued as again
 use Rattle.cpp_term.specs.Reargued.{reargued, reargued_if_there, argument_or, bare, head_from, class_from, is_empty_with}
 use Rattle.cpp_term.proofs.Reargued.{reargued_none, reargued_twice, free_reargued, count_reargued, arguments_reargued, untagged_reargued, structor_reargued, returns_reargued, bare_reargued, length_reargued, head_from_reargued, empty_with_reargued, pack_reargued, class_reargued, empty_reargued}
-use Rattle.cpp_tree.specs.Notes.{free_at, both_free, piece_frees, frees, lent_at, passed, joined, piece_lends, collapses_from, of_parameter, of_expansion, of_pack, of_cell, of_head, lends, empty_by, place_of, resolved_at, shape_at, placed_under, if_own, packs_by, empties, itself, ends_in, or_itself, untagging, collapses, pack_class, argument_class, class_by, classes, packs_at, argument_packs, piece_packs, packing, is_structor_piece, is_structor_node, returning, counting, running, noting}
+use Rattle.cpp_tree.specs.Notes.{free_at, both_free, piece_frees, frees, lent_at, passed, joined, piece_lends, collapses_from, of_expansion, of_pack, of_head, lends, empty_by, place_of, resolved_at, shape_at, placed_under, if_own, packs_by, empties, ends_in, or_itself, untagging, collapses, pack_class, argument_class, class_by, classes, packs_at, argument_packs, piece_packs, packing, is_structor_piece, is_structor_node, returning, counting, running, noting}
 
 one-more : (n : ℕ) → 1 + n ≡ suc n
 one-more n = omega arith
@@ -100,8 +100,8 @@ both-is (Free.One j) (Free.One k) = one-is (nat_eq j k)
 both-is (Free.One j) Free.Several = refl
 both-is Free.Several b = refl
 
-both-are : {a b : Free} {f g : scope.Free} → free_is a ≡ f → free_is b ≡ g → free_is (both_free a b) ≡ scope.both_free f g
-both-are {a} {b} e h = both-is a b ∙ both scope.both_free e h
+both-are : (a b : Free) {f g : scope.Free} → free_is a ≡ f → free_is b ≡ g → free_is (both_free a b) ≡ scope.both_free f g
+both-are a b e h = both-is a b ∙ both scope.both_free e h
 
 module _ (y : Table) (table : IsTable y) where
   at : (i : ℕ) → i < length y.nodes → free_is (free_at y.nodes i) ≡ free_in (tree_at (trees y) i)
@@ -118,8 +118,8 @@ module _ (y : Table) (table : IsTable y) where
   unfolding frees tree_of free_in free_is
   node-free (Node.Alone p) b = piece-free p b
   node-free (Node.InStd p) b = piece-free p b
-  node-free (Node.Within prefix p) b = both-are (at prefix b.0) (piece-free p b.1)
-  node-free (Node.Instance template arguments) b = both-are (at template b.0) (at arguments b.1)
+  node-free (Node.Within prefix p) b = both-are (free_at y.nodes prefix) (piece_frees y.nodes p) (at prefix b.0) (piece-free p b.1)
+  node-free (Node.Instance template arguments) b = both-are (free_at y.nodes template) (free_at y.nodes arguments) (at template b.0) (at arguments b.1)
   node-free (Node.Local e entity d) b = at entity b.1
   node-free (Node.Holder name) b = at name b
   node-free (Node.Tagged of_structor name tag) b = at name b.0
@@ -128,15 +128,15 @@ module _ (y : Table) (table : IsTable y) where
   node-free (Node.Lvalue t) b = at t b
   node-free (Node.Rvalue t) b = at t b
   node-free (Node.Array digits t) b = at t b.1
-  node-free (Node.MemberPointer class t) b = both-are (at class b.0) (at t b.1)
-  node-free (Node.FunctionType c n m returned parameters) b = both-are (at returned b.0) (at parameters b.1)
+  node-free (Node.MemberPointer class t) b = both-are (free_at y.nodes class) (free_at y.nodes t) (at class b.0) (at t b.1)
+  node-free (Node.FunctionType c n m returned parameters) b = both-are (free_at y.nodes returned) (free_at y.nodes parameters) (at returned b.0) (at parameters b.1)
   node-free (Node.Qualified q t) b = at t b
   node-free (Node.Vector digits t) b = at t b.1
   node-free (Node.Complex t) b = at t b
   node-free (Node.Expansion pattern) b = at pattern b
   node-free (Node.Integer t n) b = at t b.0
   node-free (Node.Pack elements) b = at elements b
-  node-free (Node.Cell first rest) b = both-are (at first b.0) (at rest b.1)
+  node-free (Node.Cell first rest) b = both-are (free_at y.nodes first) (free_at y.nodes rest) (at first b.0) (at rest b.1)
   node-free (Node.Again t a) b = at t b.0 ∙ sym (free_reargued (Some (tree_at (trees y) a)) (tree_at (trees y) t))
   node-free _ b = refl
 

@@ -20,7 +20,7 @@ use Rattle.cpp_term.specs.Erased.{erase}
 use Rattle.cpp_tree.specs.declared.view.NodeView.{NodeView}
 use Rattle.cpp_tree.specs.Views.{AreBelow}
 use Rattle.cpp_tree.proofs.Noting.{class-later, again-pack, again-empty}
-use Rattle.cpp_tree.specs.Nodes.{Table, tree_at, tree_of, trees, entry_at, IsBelow, IsThereBelow, IsPlacedBelow, IsFlat, tree_if_there, placed_tree, is_again, IsClassBelow, IsArgumentsBelow, head_of, class_is, untagged_is, IsTable}
+use Rattle.cpp_tree.specs.Nodes.{Table, tree_at, tree_of, trees, entry_at, IsBelow, IsThereBelow, IsFlat, tree_if_there, placed_tree, is_again, IsClassBelow, IsArgumentsBelow, head_of, class_is, untagged_is, IsTable}
 
 -- a node's tree is its production over those of its parts, which are earlier
 pub node_is : (y : Table) (i : ℕ) (n : Node) → IsTable y → i < length y.nodes → (entry_at y.nodes i).node ≡ n
