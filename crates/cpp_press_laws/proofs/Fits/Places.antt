@@ -20,7 +20,7 @@ use Rattle.cpp_press_laws.proofs.Fits.Sorts.{Meant, Later}
 pub record Placed (around : Around) (at : ℕ) (state : State) : Type 0 where
   pub lambda : LambdasAreBare around
   pub encoding : around.encoding ≤ at
-  pub old : AllOld around at state.candidates
+  pub old : AllOld false around at state.candidates
 
 -- ## What a production comes to
 

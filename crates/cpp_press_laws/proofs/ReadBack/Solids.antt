@@ -14,11 +14,12 @@ use Rattle.cpp_grammar.specs.Grammar.{in_ranges, among, is_in, pick, number_of_k
 use Rattle.cpp_grammar.specs.Table.{abi, rule_of}
 use Rattle.cpp_grammar.specs.Term.{Term, abbreviation, builtin, vendor, pointer, lvalue, rvalue, array, member_pointer, complex}
 use Rattle.cpp_grammar.specs.Values as value
-use Rattle.cpp_grammar.specs.Values.{Candidate, State, Around, Value, nothing_there, tree, tree_of, text_of, normal, part}
+use Rattle.cpp_grammar.specs.Values.{State, Around, Value, nothing_there, tree, tree_of, text_of, normal, part}
 use Rattle.cpp_grammar.specs.Between.{Going, between}
 use Rattle.cpp_grammar.specs.Meaning.{meaning, listed_value, reference_to}
 use Rattle.cpp_grammar.specs.Unfolding as unfolding_
 use Rattle.cpp_grammar.specs.Unfolding.{opening, close, byte_of}
+use Rattle.cpp_press_laws.specs.Components.{Component}
 use Rattle.cpp_press_laws.specs.Texts.{counted}
 use Rattle.cpp_press_laws.specs.Spellable.{IsSpellableName, AreSpellableDigits}
 use Rattle.cpp_press_laws.specs.Subtrees.{Written, written, ReadsAt, Is}
@@ -28,7 +29,7 @@ use Rattle.cpp_press_laws.proofs.ReadBack.Types.{AreOnly, same-written, one-part
 
 -- ## Letters
 
-pub builtin-solid : (k : ℕ) (around : Around) (allowed : Option ℕ) (byte place : ℕ) (cs : List Candidate)
+pub builtin-solid : (k : ℕ) (around : Around) (allowed : Option ℕ) (byte place : ℕ) (cs : List Component)
     → TakesRule abi k (rule_of Production.Builtin) (byte ∷ [])
     → ReadsAt around allowed (OfKind k) (Is (tree (builtin (byte ∷ [])) true)) place cs (written (byte ∷ []) cs)
 unfolding parts_of opening close unfolding_.behind meaning byte_of
@@ -36,7 +37,7 @@ builtin-solid k around allowed byte place cs takes =
     no-part Production.Builtin k (byte ∷ []) around allowed place (tree (builtin (byte ∷ [])) true) cs takes refl (λ f s. refl) (λ began s. refl)
 
 -- behind a D
-pub builtin-behind-d : (around : Around) (allowed : Option ℕ) (byte place : ℕ) (cs : List Candidate) → byte < 256
+pub builtin-behind-d : (around : Around) (allowed : Option ℕ) (byte place : ℕ) (cs : List Component) → byte < 256
     → choose Kind.AfterD byte ≡ Some Production.BuiltinWithD
     → ReadsAt around allowed (OfKind AFTER_D) (Is (tree (builtin (68 ∷ byte ∷ [])) true)) place cs (written (byte ∷ []) cs)
 unfolding kinds is_chain parts_of opening close unfolding_.behind meaning byte_of
@@ -46,7 +47,7 @@ builtin-behind-d around allowed byte place cs small chosen =
     (λ f s. refl) (λ began s. refl)
 
 -- behind an S
-pub abbreviation-behind-s : (around : Around) (allowed : Option ℕ) (letter place : ℕ) (cs : List Candidate) → letter < 256
+pub abbreviation-behind-s : (around : Around) (allowed : Option ℕ) (letter place : ℕ) (cs : List Component) → letter < 256
     → choose Kind.Abbreviation letter ≡ Some Production.Abbreviation
     → ReadsAt around allowed (OfKind ABBREVIATION) (Is (tree (abbreviation letter) true)) place cs (written (letter ∷ []) cs)
 unfolding kinds is_chain parts_of opening close unfolding_.behind meaning byte_of
@@ -54,7 +55,7 @@ abbreviation-behind-s around allowed letter place cs small chosen =
     no-part Production.Abbreviation ABBREVIATION (letter ∷ []) around allowed place (tree (abbreviation letter) true) cs
     (takes-byte ABBREVIATION Kind.Abbreviation Production.Abbreviation letter refl chosen small refl) refl (λ f s. refl) (λ began s. refl)
 
-pub vendor-solid : (around : Around) (allowed : Option ℕ) (name : List ℕ) (place : ℕ) (cs : List Candidate) → IsSpellableName name
+pub vendor-solid : (around : Around) (allowed : Option ℕ) (name : List ℕ) (place : ℕ) (cs : List Component) → IsSpellableName name
     → ReadsAt around allowed (OfKind SOLID) (Is (tree (vendor name) false)) place cs (written (117 ∷ counted name) cs)
 unfolding choose alternatives pick is_in in_ranges among kinds is_chain parts_of between opening close unfolding_.behind meaning text_of part
 vendor-solid around allowed name place cs good =
@@ -67,7 +68,7 @@ vendor-solid around allowed name place cs good =
 
 -- ## Types of a type
 
-pub pointer-solid : (k : ℕ) (around : Around) (allowed : Option ℕ) (t : Term) (place : ℕ) (cs : List Candidate) (w : Written)
+pub pointer-solid : (k : ℕ) (around : Around) (allowed : Option ℕ) (t : Term) (place : ℕ) (cs : List Component) (w : Written)
     → TakesRule abi k (rule_of Production.Pointer) (80 ∷ [])
     → ReadsAt around allowed (OfKind TYPE) (Is (tree t true)) (place + 1) cs w
     → ReadsAt around allowed (OfKind k) (Is (tree (pointer t) false)) place cs (written (80 ∷ w.bytes) w.components)
@@ -89,7 +90,7 @@ complex-solid around allowed t place cs w one =
 
 -- a production with two parts in the same surroundings
 pub two-parts : (p : Production) (k : ℕ) (taken : List ℕ) (around : Around) (allowed : Option ℕ) (place : ℕ) (x y : Sym) (a b v : Value)
-    (cs : List Candidate) (first second : Written)
+    (cs : List Component) (first second : Written)
     → TakesRule abi k (rule_of p) taken → parts_of p ≡ x ∷ y ∷ []
     → ((s : State) → ◌≡◌ {A = Going} (between p around place [] s) (Ok (record { context = around; values = []; state = s })))
     → ((s : State) → ◌≡◌ {A = Going} (between p around place (a ∷ []) s) (Ok (record { context = around; values = a ∷ []; state = s })))
@@ -111,7 +112,7 @@ two-parts p k taken around allowed place x y a b v cs first second takes parts g
     opens
     (closes-same p (byte_of taken) around allowed place (AreOnly (a ∷ b ∷ [])) second.components v (λ values good began s. rw good (means began s)))
 
-pub member-pointer-solid : (k : ℕ) (around : Around) (allowed : Option ℕ) (class member : Term) (place : ℕ) (cs : List Candidate)
+pub member-pointer-solid : (k : ℕ) (around : Around) (allowed : Option ℕ) (class member : Term) (place : ℕ) (cs : List Component)
     (first second : Written)
     → TakesRule abi k (rule_of Production.MemberPointer) (77 ∷ [])
     → ReadsAt around allowed (OfKind TYPE) (Is (tree class true)) (place + 1) cs first
@@ -127,7 +128,7 @@ member-pointer-solid k around allowed class member place cs first second takes o
 abbrev array_token : List ℕ → Token
 array_token digits = record { before = []; own = digits; behind = 95 ∷ [] }
 
-pub array-solid : (around : Around) (allowed : Option ℕ) (digits : List ℕ) (t : Term) (place : ℕ) (cs : List Candidate) (w : Written)
+pub array-solid : (around : Around) (allowed : Option ℕ) (digits : List ℕ) (t : Term) (place : ℕ) (cs : List Component) (w : Written)
     → AreSpellableDigits Decimal digits
     → ReadsAt around allowed (OfKind TYPE) (Is (tree t true)) (place + 1 + length (digits ++ 95 ∷ [])) cs w
     → ReadsAt around allowed (OfKind SOLID) (Is (tree (array digits t) false)) place cs (written (65 ∷ ((digits ++ 95 ∷ []) ++ w.bytes)) w.components)
@@ -141,7 +142,7 @@ array-solid around allowed digits t place cs w good one =
 
 -- ## References
 
-pub lvalue-reads : (around : Around) (allowed : Option ℕ) (k : ℕ) (t : Term) (place : ℕ) (cs : List Candidate) (w : Written)
+pub lvalue-reads : (around : Around) (allowed : Option ℕ) (k : ℕ) (t : Term) (place : ℕ) (cs : List Component) (w : Written)
     → TakesRule abi k (rule_of Production.ReferenceType) (82 ∷ [])
     → ReadsAt around allowed (OfKind TYPE) (Is (tree t true)) (place + 1) cs w
     → ReadsAt around allowed (OfKind k) (Is (tree (lvalue t) true)) place cs (written (82 ∷ w.bytes) (more around w.components (lvalue t)))
@@ -156,7 +157,7 @@ lvalue-reads around allowed k t place cs w takes one =
     (closes-more Production.ReferenceType 82 around allowed place (AreOnly (tree t true ∷ [])) w.components (tree (lvalue t) true) (lvalue t)
     (λ values good began s. rw good refl))
 
-pub rvalue-reads : (around : Around) (allowed : Option ℕ) (k : ℕ) (t : Term) (place : ℕ) (cs : List Candidate) (w : Written)
+pub rvalue-reads : (around : Around) (allowed : Option ℕ) (k : ℕ) (t : Term) (place : ℕ) (cs : List Component) (w : Written)
     → TakesRule abi k (rule_of Production.ReferenceType) (79 ∷ [])
     → ReadsAt around allowed (OfKind TYPE) (Is (tree t true)) (place + 1) cs w
     → ReadsAt around allowed (OfKind k) (Is (tree (rvalue t) true)) place cs (written (79 ∷ w.bytes) (more around w.components (rvalue t)))
