@@ -1,5 +1,5 @@
 -- What holds of the trees of both grammars holds of those of the grammar.
-use Rattle.std.proofs.Common.{◌≡◌, ℕ, suc, ◌+◌, ◌<◌, ◌≤◌, List, refl, arith, length, true, Ok}
+use Rattle.std.proofs.Common.{◌≡◌, ℕ, suc, ◌+◌, ◌<◌, ◌≤◌, List, refl, arith, length, true, false, Ok}
 use Rattle.sym_shape.specs.Law.{IsSymbol}
 use Rattle.sym_shape.specs.declared.rule.Sym.{Sym}
 use Rattle.sym_shape.specs.declared.rule.Sym.TheVariants.{Kind as OfKind, Name, Number, Byte}

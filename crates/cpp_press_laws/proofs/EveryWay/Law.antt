@@ -9,7 +9,7 @@ use Rattle.cpp_grammar.specs.Term.{Term, symbol, function, object, special, thun
 use Rattle.cpp_grammar.specs.Values as value
 use Rattle.cpp_grammar.specs.Values.{Around, nothing_there, tree, tree_of, text_of}
 use Rattle.cpp_grammar.specs.Unfolding.{first_around, first_state, first_tree, unfold_cpp}
-use Rattle.cpp_press_laws.specs.Components.{Component}
+use Rattle.cpp_press_laws.specs.Components.{Component, components_of}
 use Rattle.cpp_press_laws.specs.Pressing.{ways_of, no_ways, piece_ways, pressed}
 use Rattle.cpp_press_laws.specs.PressLaws.{AreReadAs}
 use Rattle.cpp_press_laws.specs.Subtrees.{Written, written, ReadsAt, Is, HasRoom, IsSmall}
@@ -128,7 +128,7 @@ symbol-fits counts e (d ∷ b ∷ bs) fits room =
 
 -- what is pressed of a symbol that fits is read as the symbol
 pub fitting-symbol : CountsArguments → (t : Term) → SymbolFits t → HasRoom ((ways_of 0 t).as_encoding 0 []) → AreReadAs (pressed t) t
-unfolding ways_of no_ways pressed unfold_cpp first_state first_tree tree_of
+unfolding ways_of no_ways pressed unfold_cpp first_state first_tree tree_of components_of
 fitting-symbol counts (symbol e suffix) fits room =
     let r = symbol-fits counts e suffix fits room first_state refl (inl refl) in
     read-by-one (symbol e suffix) r.shape r.shaped r.spelled
