@@ -17,7 +17,7 @@ use Rattle.cpp_grammar.specs.KindNumbers.{KIND_COUNT}
 use Rattle.cpp_grammar.specs.Grammar.{Alternative, alternatives, choose, number_of_kind, parts_of, is_chain}
 use Rattle.cpp_grammar.specs.Table.{abi}
 use Rattle.cpp_grammar.specs.Term.{Term, Thunk, special, thunk, parameter, literal_operator}
-use Rattle.cpp_grammar.specs.Values.{State, outermost, behind, Around, Value, nothing_there, letter, text, tree, piece, tree_of, piece_of, qualifiers_of, ref_of, letter_of, is_there, text_of, signed_of, adjustment_of}
+use Rattle.cpp_grammar.specs.Values.{State, outermost, behind, Around, Value, nothing_there, letter, text, tree, piece, tree_of, piece_of, qualifiers_of, ref_of, letter_of, text_of, signed_of, adjustment_of}
 use Rattle.cpp_grammar.specs.References.{with_prefix, parameter_named}
 use Rattle.cpp_grammar.specs.Between.{in_name, in_types, in_signature, under_expansion, after, inside, Going, named_so_far, listed_so_far, piece_so_far, tag_so_far, parameter_so_far, index_of, between}
 use Rattle.cpp_grammar.specs.Meaning.{discriminator_of}

@@ -4,7 +4,7 @@ use Rattle.std.proofs.Common.{◌≡◌, ℕ, ◌+◌, ◌⊎◌, inl, inr, leng
 use Rattle.std.specs.Prelude.{◌&&◌, ◌||◌, codes, cond}
 use Rattle.sym_spell.specs.Pressing as spell
 use Rattle.sym_spell.specs.Pressing.{◌and◌}
-use Rattle.cpp_grammar.specs.Term.{RefQualifier, Term, symbol, abbreviation, lambda, builtin, function_type, nil, list}
+use Rattle.cpp_grammar.specs.Term.{RefQualifier, Term, symbol, abbreviation, builtin, function_type, nil, list}
 use Rattle.cpp_grammar.specs.Scope.{is_open}
 use Rattle.cpp_grammar.specs.Values.{Around}
 use Rattle.cpp_grammar.specs.References.{packs_in}
