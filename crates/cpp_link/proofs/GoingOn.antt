@@ -19,7 +19,8 @@ use Rattle.cpp_link.specs.declared.part.Part.{Part}
 use Rattle.cpp_link.specs.declared.part.Step.{Step}
 use Rattle.cpp_link.specs.Making.{state_of}
 use Rattle.cpp_link.specs.Owed.{owes}
-use Rattle.cpp_link.specs.Parts.{trees_in, values_in, around_of}
+use Rattle.cpp_link.specs.Parts.{trees_in, values_in, around_of, IsClosed}
+use Rattle.cpp_link.proofs.Scopes.{between_closed}
 use Rattle.cpp_link.specs.Reads.{goes_on}
 use Rattle.cpp_link.specs.Closes.{closes_of, closes}
 use Rattle.cpp_link.specs.ClosesLaws.{quiet_owed, closes_pushed}
@@ -53,7 +54,12 @@ pub goes_right : (s : List ℕ) (old new : Linked) (frame : Frame Kept) (parts n
 goes_right s old new frame parts new_parts own production step then same numbered step_is takes rule known state is = (
   record { values = values_in s new.nodes (drop frame.base new_parts); context = around_of (trees_in s new.nodes) then; state = state_of s new },
   read_is s old frame (drop frame.base parts) rule known state is ∙ stepped own production same numbered step_is ∙ takes.is,
-  record { there = takes.around; is = refl },
+  record {
+    there = takes.around;
+    is = refl;
+    closed = between_closed (production_at frame.rule) (around_of (trees_in s old.nodes) frame.kept) frame.place (values_in s old.nodes (drop frame.base parts)) (state_of s old) _
+        (stepped own production same numbered step_is ∙ takes.is) (subst (λ around. IsClosed around) (sym is.kept.surrounds.is) is.kept.surrounds.closed);
+  },
   record { table = takes.grows.table; there = takes.candidates; candidates = refl; packs = refl },
   drop frame.base new_parts,
   sym (take-append-drop frame.base new_parts) ∙ ap (λ ps. ps ++ drop frame.base new_parts) takes.lower,
@@ -189,7 +195,7 @@ quiet_right s old frame parts held counted less rule known state is = (
   read_is s old frame (drop frame.base parts) rule known state is
       ∙ quiet_between (production_at frame.rule) (around_of (trees_in s old.nodes) frame.kept) frame.place (values_in s old.nodes (drop frame.base parts)) (state_of s old)
       (omega (arith, values_length s (trees_in s old.nodes) (drop frame.base parts), length-drop frame.base parts, counted, less)),
-  record { there = is.kept.surrounds.there; is = refl },
+  record { there = is.kept.surrounds.there; is = refl; closed = subst (λ around. IsClosed around) (sym is.kept.surrounds.is) is.kept.surrounds.closed },
   record { table = is.holds.table; there = is.holds.there; candidates = refl; packs = refl },
   drop frame.base parts,
   sym (take-append-drop frame.base parts),

@@ -10,17 +10,19 @@ use Rattle.sym_link.specs.Reading.{Open}
 use Rattle.sym_link.specs.Driving.{Fails}
 use Rattle.sym_link.specs.Linking.{Puts}
 use Rattle.sym_link.specs.Threads.{IsAt, Goes, GoesOn, ClosesAll}
+use Rattle.sym_link.specs.Reading.{Found}
 use Rattle.sym_link.specs.Unfold.{found}
 use Rattle.cpp_grammar.specs.declared.production.Production.{Production}
 use Rattle.cpp_grammar.specs.Unfolding.{production_at, byte_of}
-use Rattle.cpp_term.specs.Term.{Term, pointer, lvalue, rvalue, qualified}
 use Rattle.cpp_term.specs.Values as values
 use Rattle.cpp_term.specs.Values.{State, Value, Around, part, text_of}
 use Rattle.sym_core.specs.Value.{counted_value}
 use Rattle.sym_core.specs.declared.NumberKind.TheVariants.{Decimal}
 use Rattle.cpp_term.specs.Between.{Going, parameter_so_far, index_of, between}
 use Rattle.cpp_term.specs.Unfolding.{cpp}
-use Rattle.cpp_term.specs.Rescoping.{generic_so_far, parameter_here, number_of_parameter, number_behind_mark, with_parameter, substituted_wide, between_wide, close_wide, cpp_wide}
+use Rattle.cpp_term.specs.Rescoping.{generic_so_far, parameter_here, substituted_wide, with_own, between_wide, close_wide, cpp_wide}
+use Rattle.cpp_term.proofs.Notes.{both}
+use Rattle.cpp_link.proofs.Scopes.{wide_between_closed}
 use Rattle.cpp_tree.specs.Nodes.{Stored, tree_at, tree_of, IsBelow}
 use Rattle.cpp_tree.specs.declared.node.Node.{Node}
 use Rattle.cpp_tree.specs.declared.node.Thunk.{Thunk}
@@ -28,11 +30,11 @@ use Rattle.cpp_link.specs.declared.linked.Linked.{Linked}
 use Rattle.cpp_link.specs.declared.part.Part.{Part}
 use Rattle.cpp_link.specs.declared.part.Kept.{Kept}
 use Rattle.cpp_link.specs.declared.part.Step.{Step}
-use Rattle.cpp_link.specs.LinkReading.{link_close, linked}
-use Rattle.cpp_link.specs.LinkRescoping.{link_close_wide, linked_wide, is_parameter, is_substitution, names_generic, type_behind_mark, named_by, restated_nodes, substituted_nodes, wide_at_end, wide_view}
+use Rattle.cpp_link.specs.LinkReading.{link_close, link_meaning, linked}
+use Rattle.cpp_link.specs.LinkRescoping.{link_close_wide, linked_wide, is_parameter, is_substitution, is_lambda_production, names_generic, named_by, substituted_nodes, wide_at_end, wide_view}
 use Rattle.cpp_link.specs.Making.{state_of}
 use Rattle.cpp_link.specs.NodeCount.{makes_before, makes_at_end}
-use Rattle.cpp_link.specs.Parts.{trees_in, value_of, values_of, value_in, values_in, is_lambda, around_of, candidates_of, IsThere, AreCandidatesThere}
+use Rattle.cpp_link.specs.Parts.{trees_in, value_of, values_of, value_in, values_in, is_lambda, around_of, candidates_of, IsClosed, IsThere, AreCandidatesThere}
 use Rattle.cpp_link.specs.Reads.{goes_on}
 use Rattle.cpp_link.specs.Staying.{candidates_stay}
 use Rattle.cpp_link.specs.Stepping.{Takes}
@@ -41,34 +43,6 @@ use Rattle.cpp_link.proofs.NodeCount.{before_read, end_read}
 use Rattle.cpp_link.proofs.Places.{values_length}
 use Rattle.cpp_link.proofs.Viewing.{parts_are, parts_all}
 use Rattle.cpp_link.proofs.Within.{at_plain}
-
--- ## Nodes behind marks
-
-pub marked_number : (s : List ℕ) (us : List Thunk) (ts : List Term) (node : Node) (ty : ℕ) → type_behind_mark node ≡ Some ty
-    → number_behind_mark (tree_of s us ts node) ≡ number_of_parameter (tree_at ts ty)
-unfolding type_behind_mark tree_of number_behind_mark
-marked_number s us ts (Node.Pointer t) ty e = let same : t ≡ ty = cc in ap (λ n. number_of_parameter (tree_at ts n)) same
-marked_number s us ts (Node.Lvalue t) ty e = let same : t ≡ ty = cc in ap (λ n. number_of_parameter (tree_at ts n)) same
-marked_number s us ts (Node.Rvalue t) ty e = let same : t ≡ ty = cc in ap (λ n. number_of_parameter (tree_at ts n)) same
-marked_number s us ts (Node.Qualified q t) ty e = let same : t ≡ ty = cc in ap (λ n. number_of_parameter (tree_at ts n)) same
-marked_number s us ts _ ty e = absurd cc
-
-pub unmarked_number : (s : List ℕ) (us : List Thunk) (ts : List Term) (node : Node) → type_behind_mark node ≡ None
-    → number_behind_mark (tree_of s us ts node) ≡ number_of_parameter (tree_of s us ts node)
-unfolding type_behind_mark tree_of number_behind_mark
-unmarked_number s us ts (Node.Pointer t) e = absurd cc
-unmarked_number s us ts (Node.Lvalue t) e = absurd cc
-unmarked_number s us ts (Node.Rvalue t) e = absurd cc
-unmarked_number s us ts (Node.Qualified q t) e = absurd cc
-unmarked_number s us ts _ e = refl
-
-pub marked_below : (s : List ℕ) (held n : ℕ) (node : Node) (ty : ℕ) → type_behind_mark node ≡ Some ty → IsBelow s held n node → ty < n
-unfolding type_behind_mark
-marked_below s held n (Node.Pointer t) ty e below = let same : t ≡ ty = cc in subst (λ k. k < n) same below
-marked_below s held n (Node.Lvalue t) ty e below = let same : t ≡ ty = cc in subst (λ k. k < n) same below
-marked_below s held n (Node.Rvalue t) ty e below = let same : t ≡ ty = cc in subst (λ k. k < n) same below
-marked_below s held n (Node.Qualified q t) ty e below = let same : t ≡ ty = cc in subst (λ k. k < n) same below
-marked_below s held n _ ty e below = absurd cc
 
 -- ## Before a part
 
@@ -131,7 +105,12 @@ pub wide_goes_right : (s : List ℕ) (old new : Linked) (frame : Frame Kept) (pa
 wide_goes_right s old new frame parts new_parts step then step_is takes rule known state is = (
   record { values = values_in s new.nodes (drop frame.base new_parts); context = around_of (trees_in s new.nodes) then; state = state_of s new },
   wide_read_is s old frame (drop frame.base parts) rule known state (at_plain s old frame (drop frame.base parts) rule known state is) ∙ step_is (state_of s old).candidates ∙ takes.is,
-  record { there = takes.around; is = refl },
+  record {
+    there = takes.around;
+    is = refl;
+    closed = wide_between_closed (production_at frame.rule) (around_of (trees_in s old.nodes) frame.kept) frame.place (values_in s old.nodes (drop frame.base parts)) (state_of s old) _
+        (step_is (state_of s old).candidates ∙ takes.is) (subst (λ around. IsClosed around) (sym is.kept.surrounds.is) is.kept.surrounds.closed);
+  },
   record { table = takes.grows.table; there = takes.candidates; candidates = refl; packs = refl },
   drop frame.base new_parts,
   sym (take-append-drop frame.base new_parts) ∙ ap (λ ps. ps ++ drop frame.base new_parts) takes.lower,
@@ -145,18 +124,20 @@ wide_refused_right s old new frame parts new_parts e memory rule known state is 
 
 -- ## Where a rule closes
 
-apart_close : (s : List ℕ) (p : Production) (byte : ℕ) (around : Around) (place : ℕ) (began : State) (vs : List Value) (state : State) → (p ≡ Production.Substitution → ⊥)
+apart_close : (s : List ℕ) (p : Production) (byte : ℕ) (around : Around) (place : ℕ) (began : State) (vs : List Value) (state : State) → (p ≡ Production.Substitution → ⊥) → (p ≡ Production.Lambda → ⊥)
     → link_close_wide s p byte around place began vs state ≡ link_close s p byte around place began vs state
 unfolding link_close_wide
-apart_close s Production.Substitution byte around place began vs state apart = absurd (apart refl)
-apart_close s _ byte around place began vs state apart = refl
+apart_close s Production.Substitution byte around place began vs state apart other = absurd (apart refl)
+apart_close s Production.Lambda byte around place began vs state apart other = absurd (other refl)
+apart_close s _ byte around place began vs state apart other = refl
 
--- a rule that is no substitution closes as in the other reading
+-- a rule that is no substitution and no lambda closes as in the other reading
 pub apart_closes : (s : List ℕ) (old new : Linked) (frame : Frame Kept) (parts new_parts : List Part) (result : Result (Unit {0}) Refusal) → (production_at frame.rule ≡ Production.Substitution → ⊥)
+    → (production_at frame.rule ≡ Production.Lambda → ⊥)
     → ClosesAll (cpp_view s) s old new frame parts new_parts result → ClosesAll (wide_view s) s old new frame parts new_parts result
-apart_closes s old new frame parts new_parts result apart closes rule known state is =
+apart_closes s old new frame parts new_parts result apart other closes rule known state is =
     subst (λ read. Puts (cpp_view s) new (take frame.base parts) new_parts result read)
-    (sym (apart_close s (production_at rule.rule.number) (byte_of rule.taken) rule.context rule.place rule.before known state (λ substitution. apart (ap production_at is.number ∙ substitution))))
+    (sym (apart_close s (production_at rule.rule.number) (byte_of rule.taken) rule.context rule.place rule.before known state (λ substitution. apart (ap production_at is.number ∙ substitution)) (λ lambda. other (ap production_at is.number ∙ lambda))))
     (closes rule known state (at_plain s old frame (drop frame.base parts) rule known state is))
 
 -- what comes of a substitution by the wide reading, in terms of the frame
@@ -206,6 +187,44 @@ wide_closing_refused s old new frame parts new_parts own e same substitution ref
     ∙ ap (λ ps. substituted_wide (around_of (trees_in s old.nodes) frame.kept) (frame.place - 1) (named_by (state_of s old) (values_in s old.nodes ps)) (state_of s old)) (sym same)))
     refused
 
+-- what comes of a lambda by the wide reading, in terms of the frame
+lambda_is : (s : List ℕ) (old : Linked) (frame : Frame Kept) (own : List Part) (rule : Open State Around) (known : List Value) (state : State) → IsAt (wide_view s) s old frame own rule known state
+    → production_at frame.rule ≡ Production.Lambda → (byte : ℕ)
+    → (linked_wide s).close rule known state ≡ Ok (found (with_own (link_meaning s Production.Lambda byte frame.place (around_of (trees_in s old.nodes) frame.kept) (values_in s old.nodes own))) (state_of s old))
+unfolding link_close_wide link_meaning
+lambda_is s old frame own rule known state is lambda byte =
+    ap (λ p. link_close_wide s p (byte_of rule.taken) rule.context rule.place rule.before known state) (ap production_at (sym is.number) ∙ lambda)
+    ∙ same (values_in s old.nodes own) known _ old.packs state (parts_are s old own known is.parts).1 is.holds.candidates is.holds.packs
+  where
+    same : (us vs : List Value) (cs : List values.Candidate) (packs : Option ℕ) (state : State) → us ≡ vs → cs ≡ state.candidates → packs ≡ state.packs
+        → ◌≡◌ {A = Result (Found Value State) Refusal} (Ok (found (with_own (link_meaning s Production.Lambda (byte_of rule.taken) rule.place rule.context vs)) state))
+        (Ok (found (with_own (link_meaning s Production.Lambda byte frame.place (around_of (trees_in s old.nodes) frame.kept) us)) (record { candidates = cs; packs = packs })))
+    same us vs cs packs state known candidates packed = rw (known, candidates, packed) refl
+
+-- a part was put that stands for what a lambda is
+pub lambda_put_right : (s : List ℕ) (old new : Linked) (frame : Frame Kept) (parts new_parts own : List Part) (made : Part) (byte : ℕ) (done : Unit {0}) → own ≡ drop frame.base parts
+    → production_at frame.rule ≡ Production.Lambda
+    → value_in s new.nodes made ≡ with_own (link_meaning s Production.Lambda byte frame.place (around_of (trees_in s old.nodes) frame.kept) (values_in s old.nodes own)) → state_of s old ≡ state_of s new
+    → IsThere s (length new.nodes.nodes) made → IsWhole s new → new_parts ≡ take frame.base parts ++ made ∷ []
+    → ClosesAll (wide_view s) s old new frame parts new_parts (Ok done)
+lambda_put_right s old new frame parts new_parts own made byte done same lambda value state_is there whole items rule known state is = (
+  made,
+  items,
+  (
+    value_in s new.nodes made,
+    state_of s new,
+    lambda_is s old frame (drop frame.base parts) rule known state is lambda byte
+        ∙ ap (λ ps. Ok (found (with_own (link_meaning s Production.Lambda byte frame.place (around_of (trees_in s old.nodes) frame.kept) (values_in s old.nodes ps))) (state_of s old))) (sym same)
+        ∙ both (λ v x. Ok (found v x)) (sym value) state_is,
+    record { there = there; is = refl },
+    record { table = whole.table; there = whole.there; candidates = refl; packs = refl },
+  ),
+)
+
+-- a lambda is refused for want of memory alone
+pub lambda_refused : (s : List ℕ) (old new : Linked) (frame : Frame Kept) (parts new_parts : List Part) (e : Refusal) → e ≡ Memory → ClosesAll (wide_view s) s old new frame parts new_parts (Err e)
+lambda_refused s old new frame parts new_parts e memory rule known state is = subst (λ r. Fails r ((linked_wide s).close rule known state)) (sym memory) tt
+
 -- ## How many nodes are made
 
 pub wide_before_read : (s : List ℕ) (old new : Linked) (frame : Frame Kept) (parts : List Part) (result : Result Kept Refusal) → 4 ≤ length old.nodes.nodes
@@ -252,44 +271,9 @@ substitution_end_read s old new frame parts (Ok done) begun substitution made ru
         → substituted_nodes around (named_by state vs) ≡ substituted_nodes code (named_by (record { candidates = cs; packs = packs }) us)
     same code around us vs cs packs state context known candidates packed = rw (context, known, candidates) refl
 
--- ## A parameter, and the mark before it
+-- ## A tree that is there again
 
-pub marked_nodes : (s : List ℕ) (us : List Thunk) (ts : List Term) (node : Node) (ty : ℕ) → type_behind_mark node ≡ Some ty → restated_nodes (tree_of s us ts node) ≡ 2
-unfolding type_behind_mark tree_of restated_nodes
-marked_nodes s us ts (Node.Pointer t) ty e = refl
-marked_nodes s us ts (Node.Lvalue t) ty e = refl
-marked_nodes s us ts (Node.Rvalue t) ty e = refl
-marked_nodes s us ts (Node.Qualified q t) ty e = refl
-marked_nodes s us ts _ ty e = absurd cc
-
-pub unmarked_nodes : (s : List ℕ) (us : List Thunk) (ts : List Term) (node : Node) → type_behind_mark node ≡ None → restated_nodes (tree_of s us ts node) ≡ 1
-unfolding type_behind_mark tree_of restated_nodes
-unmarked_nodes s us ts (Node.Pointer t) e = absurd cc
-unmarked_nodes s us ts (Node.Lvalue t) e = absurd cc
-unmarked_nodes s us ts (Node.Rvalue t) e = absurd cc
-unmarked_nodes s us ts (Node.Qualified q t) e = absurd cc
-unmarked_nodes s us ts _ e = refl
-
-pub unmarked_with : (s : List ℕ) (us : List Thunk) (ts : List Term) (node : Node) (other : Term) → type_behind_mark node ≡ None → with_parameter (tree_of s us ts node) other ≡ other
-unfolding type_behind_mark tree_of with_parameter
-unmarked_with s us ts (Node.Pointer t) other e = absurd cc
-unmarked_with s us ts (Node.Lvalue t) other e = absurd cc
-unmarked_with s us ts (Node.Rvalue t) other e = absurd cc
-unmarked_with s us ts (Node.Qualified q t) other e = absurd cc
-unmarked_with s us ts _ other e = refl
-
-pub restated_two : (t : Term) → restated_nodes t ≤ 2
-unfolding restated_nodes
-restated_two (pointer t) = omega arith
-restated_two (lvalue t) = omega arith
-restated_two (rvalue t) = omega arith
-restated_two (qualified q t) = omega arith
-restated_two _ = omega arith
-
-pub some_of : (P : ℕ → Type 0) (o : Option ℕ) (x : ℕ) → Some x ≡ o → IfSome o P → P x
-some_of P o x e h = subst (λ p. IfSome p P) (sym e) h
-
--- the state in which a parameter was added
+-- the state in which its node was added
 pub kept_state : (s : List ℕ) (old new : Linked) (packs : Option ℕ) → ((i : ℕ) → i < length old.nodes.nodes → tree_at (trees_in s new.nodes) i ≡ tree_at (trees_in s old.nodes) i)
     → AreCandidatesThere (length old.nodes.nodes) old.candidates.items → new.candidates ≡ old.candidates
     → ◌≡◌ {A = State} (record { candidates = candidates_of (trees_in s old.nodes) old.candidates.items; packs = packs }) (record { candidates = candidates_of (trees_in s new.nodes) new.candidates.items; packs = packs })
@@ -329,6 +313,15 @@ pub substitution_alone : (p : Production) → is_substitution p ≡ true → p �
 unfolding is_substitution
 substitution_alone Production.Substitution is = refl
 substitution_alone _ is = absurd (false≢true is)
+
+pub lambda_alone : (p : Production) → is_lambda_production p ≡ true → p ≡ Production.Lambda
+unfolding is_lambda_production
+lambda_alone Production.Lambda is = refl
+lambda_alone _ is = absurd (false≢true is)
+
+pub no_lambda : (p : Production) → is_lambda_production p ≡ false → p ≡ Production.Lambda → ⊥
+unfolding is_lambda_production
+no_lambda p is lambda = absurd (true≢false (ap is_lambda_production (sym lambda) ∙ is))
 
 pub no_substitution : (p : Production) → is_substitution p ≡ false → p ≡ Production.Substitution → ⊥
 unfolding is_substitution
