@@ -49,6 +49,8 @@ pub struct Compact {
     pub by_argument: ByArgument,
 }
 
+const _: () = prove!(std::mem::size_of::<Compact>() == 48);
+
 /// The length of the packs.
 #[inline(always)]
 #[tactic(auto, unfolding(crate::specs::Compact::packs_kept))]
