@@ -119,7 +119,7 @@ CLOSED_FUNCTION = """
 
 def weight_of_scopes():
     # what a local entity stands in is no part of its weight
-    special = {"function": WEIGHT_OF_FUNCTION, "local": "1 + weight a scope entity", "parameter": "2 + a", "generic_parameter": "2",
+    special = {"function": WEIGHT_OF_FUNCTION, "local": "1 + weight a scope entity", "parameter": "2 + a",
                "expansion": "2 + weight a scope pattern + pack_count scope pattern"}
     return fold("weight", ["a", "scope"], summed("1"), "1", special, closed=["0", "None"])
 
@@ -197,7 +197,7 @@ def inside_shut():
         subtrees, left = arguments(tree, *SUBTREES), f"inside-shut {pattern(tree)} x closed"
         if tree[0] == "symbol": lines.append(f"{left} i = i.0")
         elif tree[0] == "local": lines += [f"{left} (inl s) = s.0", f"{left} (inr i) = inside-shut entity x closed i"]
-        elif not subtrees or any(sort in (OWN, OUTSIDE) for name, sort in subtrees): continue
+        elif not subtrees or any(sort in APART for name, sort in subtrees): continue
         elif len(subtrees) == 1: lines.append(f"{left} i = {right(tree, subtrees[0][0], 'closed', 'i')}")
         else:
             tests = " ".join(f"(is_open {name})" for name, sort in subtrees)
@@ -221,7 +221,7 @@ def inside():
         for name, sort in arguments(tree, *SUBTREES):
             itself = f"ItselfOr {name} (Inside {name} x) x"
             if tree[0] in ("special", "construction"): parts.append(itself)
-            elif sort in (OWN, OUTSIDE): parts.append(f"Shut (Inside {name} x) x")
+            elif sort in APART: parts.append(f"Shut (Inside {name} x) x")
             elif (tree[0], name) in PREFIXES: parts.append(f"PrefixOr {name} (Inside {name} x) x")
             elif tree[0] == "qualified": parts.append(f"UnqualifiedOr {name} (Inside {name} x) x")
             else: parts.append(itself if is_itself(tree, name, sort) else f"Inside {name} x")
@@ -604,7 +604,7 @@ def open_erased():
 
 def weight_of_terms():
     function = "\n    1 + weight name + weight returned + weight parameters"
-    lines = fold("weight", [], summed("1"), "1", {"function": function, "local": "1 + weight entity", "parameter": "2 + weight argument", "generic_parameter": "2", "expansion": "2 + weight pattern + pack_count pattern"})
+    lines = fold("weight", [], summed("1"), "1", {"function": function, "local": "1 + weight entity", "parameter": "2 + weight argument", "expansion": "2 + weight pattern + pack_count pattern"})
     return [l.replace("(parameter k)", "(parameter k argument)") for l in lines]
 
 def rewritten(text, name, lines):
