@@ -362,6 +362,7 @@ fn view_of_own(symbol: &[u8], nodes: &Nodes, node: node::Node) -> NodeView
             mark,
             returned,
             parameters,
+            ..
         } => seen(
             FUNCTION,
             [qualifiers.number() as u64, mark.number() as u64],
