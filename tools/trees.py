@@ -290,8 +290,10 @@ def reargued_laws():
 def camel(name): return "".join(part.capitalize() for part in name.split("_"))
 NAMES = {"list": "Cell", "symbol": "Whole", "clone": "CloneOf"}
 PIECES = "source operator literal_operator constructor destructor lambda generic_lambda unnamed string_literal conversion".split()
+# the argument under which the types of an encoding stand, if they stand under one
+UNDER = "under"
 OTHERS = {
-    "function": [("name", TREE), ("q", QUALIFIERS), ("m", MARK), ("returned", TREE), ("parameters", TREE)],
+    "function": [("name", TREE), ("q", QUALIFIERS), ("m", MARK), ("returned", TREE), ("parameters", TREE), ("under", UNDER)],
     "object": [("name", TREE), ("q", QUALIFIERS), ("m", MARK)],
     "of_name": [("letter", NUMBER), ("name", TREE), ("q", QUALIFIERS), ("m", MARK)],
     "thunk": [("u", THUNK), ("e", TREE)],
@@ -328,6 +330,9 @@ def tree_of():
             THUNK: "thunk_of s (slice_get us {0})", PIECE: "piece_of s ts {0}", NUMBER: None, TRUTH: None}
     def right(node, tree, args):
         if node == "Again": return "reargued (Some (tree_at ts a)) (tree_at ts t)"
+        if node == "Function":
+            under = "(reargued (tree_if_there ts (under_kept under)) (tree_at ts {0}))".format
+            return f"term.function (tree_at ts name) (qualifiers_of q) (mark_of m) {under('returned')} {under('parameters')}"
         if node == "Builtin": return "term.builtin (letter ∷ [])"
         if node == "BuiltinWithD": return "term.builtin (68 ∷ letter ∷ [])"
         def part(name, sort):
@@ -337,7 +342,7 @@ def tree_of():
     return node_cases("tree_of", ["s", "us", "ts"], [], right)
 
 BELOW = {TREE: "{0} < n", OWN: "{0} < n", PIECE: "IsPieceBelow s n {0}", BYTES: "IsWithin {0} s", SIGNED: "IsWithin {0}.digits s",
-         DISCRIMINATOR: "IsSpan s {0}", THUNK: "{0} < held"}
+         DISCRIMINATOR: "IsSpan s {0}", THUNK: "{0} < held", UNDER: "IsThereBelow n (under_kept {0})"}
 def bounds(args): return [(name, sort) for name, sort in args if sort in BELOW]
 
 # views have the pieces of names at the end, and a thunk behind the other special names
@@ -425,7 +430,8 @@ def through(function, text, piece, others, special={}, renamed={}, without=(), o
 
 def node_stays():
     def right(node, tree, args):
-        facts = [("piece-stays {0} {1}" if sort == PIECE else "early {0} {1}").format(name, bound) for name, sort, bound in placed(args, (TREE, OWN, PIECE))]
+        stays = {PIECE: "piece-stays {0} {1}", UNDER: "tree-stays (under_kept {0}) {1}"}
+        facts = [stays.get(sort, "early {0} {1}").format(name, bound) for name, sort, bound in placed(args, (TREE, OWN, PIECE, UNDER))]
         return f"rw ({', '.join(facts)}) refl" if facts else "refl"
     # t is another tree here
     return node_cases("node-stays", [], ["b"], right, None, {(node, name): {"t": "x", "b": "y"}[name] for node, tree, args in nodes() for name, sort in args if name in ("t", "b")})

@@ -228,7 +228,7 @@ unfolding has_return_type reargued_if_there
 returns_reargued c t = go (arguments_of t) (arguments_of (reargued c t)) (arguments_reargued c t)
   where
     go : (o n : Option Term) → n ≡ reargued_if_there c o
-      → ◌≡◌ {A = Bool} (elim n [ None ↦ false | Some arguments ↦ not (is_structor (before_arguments (reargued c t))) ]) (elim o [ None ↦ false | Some arguments ↦ not (is_structor (before_arguments t)) ])
+        → ◌≡◌ {A = Bool} (elim n [ None ↦ false | Some arguments ↦ not (is_structor (before_arguments (reargued c t))) ]) (elim o [ None ↦ false | Some arguments ↦ not (is_structor (before_arguments t)) ])
     go None None same = refl
     go (Some x) (Some y) same = ap not (before_reargued c t)
     go None (Some y) same = absurd (cc same)

@@ -16,7 +16,7 @@ use Rattle.cpp_tree.specs.declared.node.ByArgument.{ByArgument}
 use Rattle.cpp_tree.specs.declared.node.Entry.{Entry}
 use Rattle.cpp_tree.specs.declared.compact.Words.{Words}
 use Rattle.cpp_tree.specs.declared.compact.Compact.{Compact}
-use Rattle.cpp_tree.specs.Nodes.{entry_at, by_none}
+use Rattle.cpp_tree.specs.Nodes.{entry_at, by_none, under_kept}
 use Rattle.cpp_tree.specs.Notes.{lent_at, passed, joined, of_expansion, of_pack, piece_lends, lends, placed_under, if_own, packs_by, empty_by, pack_class, class_by, collapses, both_free, piece_frees, piece_packs, argument_packs, frees, empties, ends_in, untagging, classes, packing, returning, counting, running, noting, bare_entry}
 use Rattle.cpp_tree.specs.Compact.{packs_kept, class_kept, arguments_kept, untagged_kept, returns_kept, count_kept, run_kept, free_kept, kept, with_head, restated_entry, entry_of}
 
@@ -193,7 +193,7 @@ pub pack-packs : (ns : List Entry) (n : Node) (elements count : ℕ) → n ≡ N
 unfolding argument_packs packs_kept
 pack-packs ns n elements count is counted = rw (is, counted, one-more (entry_at ns elements).count) refl
 
-pub pack-head : (n : Node) (c : HeadClass) (under : Option ℕ) (elements second : ℕ) → n ≡ Node.Pack elements → packs_kept second ≡ under → class_kept Words.OfElement elements second ≡ pack_class under n c
+pub pack-head : (n : Node) (c : HeadClass) (under : Option ℕ) (elements second : ℕ) → n ≡ Node.Pack elements → under_kept second ≡ under → class_kept Words.OfElement elements second ≡ pack_class under n c
 unfolding pack_class class_kept
 pack-head n c under elements second is there = rw (is, sym there) refl
 

@@ -238,6 +238,7 @@ module _ (y : Table) (table : IsTable y) where
     where
       none : IsPlain (tree_at (trees y) t) → None ≡ reargued_if_there (Some (tree_at (trees y) a)) (arguments_of (tree_at (trees y) t))
       none plain = ap (reargued_if_there (Some (tree_at (trees y) a))) (sym plain.no_arguments)
+
       which : (h : HeadFrom) → (lent_at y.nodes t).head ≡ h
           → arguments_are (trees y) (if_own h (placed_under a (entry_at y.nodes t).arguments) None) ≡ reargued_if_there (Some (tree_at (trees y) a)) (arguments_of (tree_at (trees y) t))
       which HeadFrom.Own is = arguments-again a (entry_at y.nodes t).arguments ∙ ap (reargued_if_there (Some (tree_at (trees y) a))) (table.each t less).arguments
@@ -296,6 +297,7 @@ module _ (y : Table) (table : IsTable y) where
       own : (o : Option Placed) → untagged_is (trees y) (tree_at (trees y) t) o ≡ without_tags (tree_at (trees y) t) → untagged_is (trees y) (reargued (Some (tree_at (trees y) a)) (tree_at (trees y) t)) (placed_under a o) ≡ reargued (Some (tree_at (trees y) a)) (without_tags (tree_at (trees y) t))
       own None e = ap (reargued (Some (tree_at (trees y) a))) e
       own (Some p) e = sym (reargued_twice (tree_if_there (trees y) p.under) (tree_at (trees y) a) (tree_at (trees y) p.node)) ∙ ap (reargued (Some (tree_at (trees y) a))) e
+
       which : (h : HeadFrom) → (lent_at y.nodes t).head ≡ h → untagged_is (trees y) (reargued (Some (tree_at (trees y) a)) (tree_at (trees y) t)) (if_own h (placed_under a (entry_at y.nodes t).untagged) None) ≡ reargued (Some (tree_at (trees y) a)) (without_tags (tree_at (trees y) t))
       which HeadFrom.Own is = own (entry_at y.nodes t).untagged (table.each t less).untagged
       which HeadFrom.Argument is = ap (reargued (Some (tree_at (trees y) a))) (sym (plain-at t less (λ o. cc (is, o))).no_tags)

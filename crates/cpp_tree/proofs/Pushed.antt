@@ -12,7 +12,7 @@ use Rattle.cpp_tree.specs.declared.node.Head.{Head}
 use Rattle.cpp_tree.specs.declared.node.Free.{Free}
 use Rattle.cpp_tree.specs.declared.node.Entry.{Entry}
 use Rattle.cpp_tree.specs.Notes.{bare_entry}
-use Rattle.cpp_tree.specs.Nodes.{Stored, over, head_of, Table, tree_at, piece_of, tree_of, trees_onto, trees, entry_at, IsPieceBelow, IsBelow, IsThereBelow, IsPlacedBelow, IsClassBelow, tree_if_there, placed_tree, class_is, arguments_are, IsArgumentsBelow, untagged_is, free_is, head_noted, by_argument_of, by_none, is_again, IsFlat, IsEntry, IsTable, IsNoted, with_entry, with_thunk, IsThunkWithin}
+use Rattle.cpp_tree.specs.Nodes.{Stored, over, head_of, Table, tree_at, piece_of, tree_of, trees_onto, trees, entry_at, IsPieceBelow, IsBelow, IsThereBelow, under_kept, IsPlacedBelow, IsClassBelow, tree_if_there, placed_tree, class_is, arguments_are, IsArgumentsBelow, untagged_is, free_is, head_noted, by_argument_of, by_none, is_again, IsFlat, IsEntry, IsTable, IsNoted, with_entry, with_thunk, IsThunkWithin}
 use Rattle.cpp_tree.specs.declared.node.Placed.{Placed}
 use Rattle.cpp_term.specs.Reargued.{bare, head_from, is_empty_with}
 
@@ -43,6 +43,11 @@ module _ (s : List ℕ) (us : List Thunk) (ts : List Term) (t : Term) (i : ℕ) 
   early : (k : ℕ) → k < i → tree_at (ts ++ t ∷ []) k ≡ tree_at ts k
   early k less = get-early ts t absent k (omega (arith, less, most))
 
+  tree-stays : (o : Option ℕ) → IsThereBelow i o → tree_if_there (ts ++ t ∷ []) o ≡ tree_if_there ts o
+  unfolding tree_if_there
+  tree-stays None b = refl
+  tree-stays (Some a) b = rw (early a b) refl
+
   piece-stays : (p : Piece) → IsPieceBelow s i p → piece_of s (ts ++ t ∷ []) p ≡ piece_of s ts p
   unfolding piece_of
   piece-stays (Piece.Lambda parameters number) below = rw (early parameters below) refl
@@ -55,7 +60,7 @@ module _ (s : List ℕ) (us : List Thunk) (ts : List Term) (t : Term) (i : ℕ) 
   unfolding tree_of
   node-stays Node.Absent b = refl
   node-stays Node.Nil b = refl
-  node-stays (Node.Function name q m returned parameters) b = rw (early name b.0, early returned b.1, early parameters b.2) refl
+  node-stays (Node.Function name q m returned parameters under) b = rw (early name b.0, early returned b.1, early parameters b.2, tree-stays (under_kept under) b.3) refl
   node-stays (Node.Object name q m) b = rw (early name b) refl
   node-stays (Node.Special letter x) b = rw (early x b) refl
   node-stays (Node.Thunk u e) b = rw (early e b.1) refl
@@ -95,11 +100,6 @@ module _ (s : List ℕ) (us : List Thunk) (ts : List Term) (t : Term) (i : ℕ) 
   node-stays (Node.Cell first rest) b = rw (early first b.0, early rest b.1) refl
   node-stays (Node.Whole e suffix) b = rw (early e b.0) refl
   node-stays (Node.Again x a) b = rw (early x b.0, early a b.1) refl
-
-  tree-stays : (o : Option ℕ) → IsThereBelow i o → tree_if_there (ts ++ t ∷ []) o ≡ tree_if_there ts o
-  unfolding tree_if_there
-  tree-stays None b = refl
-  tree-stays (Some a) b = rw (early a b) refl
 
   placed-stays : (p : Placed) → IsPlacedBelow i p → placed_tree (ts ++ t ∷ []) p ≡ placed_tree ts p
   unfolding placed_tree

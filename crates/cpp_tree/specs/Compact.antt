@@ -10,6 +10,7 @@ use Rattle.cpp_tree.specs.declared.node.ByArgument.{ByArgument}
 use Rattle.cpp_tree.specs.declared.compact.HowMany.{HowMany}
 use Rattle.cpp_tree.specs.declared.compact.Words.{Words}
 use Rattle.cpp_tree.specs.declared.compact.Compact.{Compact}
+use Rattle.cpp_tree.specs.Nodes.{under_kept}
 use Rattle.cpp_tree.specs.Notes.{placed_under, if_own, class_by}
 
 -- the length of packs, by what is kept: the number behind it, and 0 where there are none
@@ -19,7 +20,7 @@ packs_kept (suc n) = Some n
 
 -- the first word is a node, and the second the argument under which it stands and one more, 0 where there is none
 abbrev pub placed_kept : (first second : ℕ) → Placed
-placed_kept first second = record { node = first; under = packs_kept second }
+placed_kept first second = record { node = first; under = under_kept second }
 
 unfoldable pub class_kept : Words → (first second : ℕ) → HeadClass
 class_kept Words.FunctionOrArray n m = HeadClass.Known Head.FunctionOrArray

@@ -6,7 +6,7 @@ ghost use Rattle.cpp_tree.specs.Compact.{packs_kept, placed_kept, class_kept, ar
 ghost use Rattle.cpp_tree.specs.Nodes.{by_none};
 ghost use Rattle.cpp_tree.specs.Notes.{bare_entry};
 
-use crate::node::{ByArgument, Entry, Free, Head, HeadClass, HeadFrom, Node, Placed};
+use crate::node::{ByArgument, Entry, Free, Head, HeadClass, HeadFrom, Node, Placed, under_of};
 
 /// What two words beside a node tell: of a type a list of elements, of a name its arguments or itself without tags, each with the
 /// argument under which it stands, and of a list its count and its run.
@@ -49,6 +49,8 @@ pub struct Compact {
     pub by_argument: ByArgument,
 }
 
+const _: () = prove!(std::mem::size_of::<Compact>() == 48);
+
 /// The length of the packs.
 #[inline(always)]
 #[tactic(auto, unfolding(crate::specs::Compact::packs_kept))]
@@ -60,13 +62,12 @@ pub(crate) fn packs(kept: u32) -> Option<u32>
 
 /// The tree of the node that the first word is, under the argument that the second says.
 #[inline(always)]
-#[tactic(auto, unfolding(crate::specs::Compact::packs_kept))]
 fn placed(first: u32, second: u32) -> Placed
     ensures { result ≡ placed_kept first second }
 {
     Placed {
         node: first,
-        under: packs(second),
+        under: under_of(second),
     }
 }
 

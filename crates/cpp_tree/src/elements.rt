@@ -47,9 +47,21 @@ impl Nodes {
         'runs: loop {
             let run = self.entry(cell).run;
             if left <= run {
-                return self.first(symbol, Placed { node: cell - left, under });
+                return self.first(
+                    symbol,
+                    Placed {
+                        node: cell - left,
+                        under,
+                    },
+                );
             }
-            let settled = self.settled(symbol, Placed { node: cell - run, under });
+            let settled = self.settled(
+                symbol,
+                Placed {
+                    node: cell - run,
+                    under,
+                },
+            );
             match self.node(symbol, settled.node) {
                 Node::Cell { rest, .. } => {
                     cell = rest;

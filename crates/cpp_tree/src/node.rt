@@ -1,8 +1,8 @@
 // The nodes of a symbol. A node names its parts by their numbers, which are smaller than its own.
 
-ghost use Rattle.std.specs.Prelude.{◌≡◌, ◌≤◌};
+ghost use Rattle.std.specs.Prelude.{◌≡◌, ◌≤◌, ℕ, ◌+◌, ◌<◌, ◌^◌, Some};
 ghost use Rattle.cpp_tree.specs.Fields.{bit, mark_number, qualifiers_number};
-ghost use Rattle.cpp_tree.specs.Nodes.{qualifiers_of, mark_of, is_encoding, free_is, has_free};
+ghost use Rattle.cpp_tree.specs.Nodes.{qualifiers_of, mark_of, is_encoding, free_is, has_free, under_kept};
 ghost use Rattle.cpp_tree.specs.Notes.{is_structor_node};
 
 use sym_core::Span;
@@ -14,6 +14,28 @@ pub fn bit(test: bool) -> u8
     ensures few { result ≤ 1 }
 {
     if test { 1 } else { 0 }
+}
+
+/// The word for an argument under which a tree stands: its node and one more, and 0 where there is none.
+#[inline(always)]
+#[tactic(auto, unfolding(crate::specs::Nodes::under_kept))]
+pub fn under_word(under: Option<u32>) -> u32
+    requires { (a : ℕ) → under ≡ Some a → a + 1 < 2 ^ 32 }
+    ensures { under_kept result ≡ under }
+{
+    match under {
+        None => 0,
+        Some(argument) => argument + 1,
+    }
+}
+
+/// The argument of such a word.
+#[inline(always)]
+#[tactic(auto, unfolding(crate::specs::Nodes::under_kept))]
+pub fn under_of(word: u32) -> Option<u32>
+    ensures { result ≡ under_kept word }
+{
+    if word == 0 { None } else { Some(word - 1) }
 }
 
 /// What is said of a type or a function by const, volatile and restrict.
@@ -107,6 +129,8 @@ pub enum Node {
         mark: Mark,
         returned: u32,
         parameters: u32,
+        /// The argument under which its return type and its parameters stand, as a word (`under_word`).
+        under: u32,
     },
     Object {
         name: u32,

@@ -77,7 +77,8 @@ impl Nodes {
         self.entries.push_reserved(bare(Node::Absent, false));
         self.entries.push_reserved(bare(Node::Nil, true));
         self.entries.push_reserved(bare(Node::Pack(NIL), true));
-        self.entries.push_reserved(bare(Node::BuiltinWithD(b'a'), false));
+        self.entries
+            .push_reserved(bare(Node::BuiltinWithD(b'a'), false));
         Ok(())
     }
 

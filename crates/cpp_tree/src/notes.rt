@@ -14,7 +14,7 @@ ghost use Rattle.cpp_tree.specs.Nodes.{over, entry_at, by_none, IsBelow, IsPiece
 ghost use Rattle.cpp_tree.specs.Notes.{itself, or_itself, lent_at, passed, joined, of_parameter, of_expansion, of_pack, of_cell, of_head, collapses_from, piece_lends, both_free, piece_frees, piece_packs, argument_packs, argument_class, shape_at, packs_by, empty_by, collapses, placed_under, is_structor_node, noting};
 
 use crate::compact::{Compact, HowMany, Words, bare, class, packs};
-use crate::node::{ByArgument, HeadClass, HeadFrom, Node, Piece};
+use crate::node::{ByArgument, HeadClass, HeadFrom, Node, Piece, under_word};
 use crate::nodes::Nodes;
 
 /// What another argument changes of a tree over one: its packs.
@@ -127,7 +127,7 @@ fn of_name(words: Words) -> Words
 
 /// What two words tell of an instance of a template.
 #[inline(always)]
-#[tactic(auto, unfolding(crate::specs::Compact::packs_kept, crate::specs::Compact::class_kept, crate::specs::Compact::arguments_kept, crate::specs::Compact::untagged_kept, crate::specs::Compact::returns_kept, crate::specs::Compact::count_kept, crate::specs::Compact::run_kept))]
+#[tactic(auto, unfolding(crate::specs::Nodes::under_kept, crate::specs::Compact::class_kept, crate::specs::Compact::arguments_kept, crate::specs::Compact::untagged_kept, crate::specs::Compact::returns_kept, crate::specs::Compact::count_kept, crate::specs::Compact::run_kept))]
 fn of_instance(template: Node) -> Words
     ensures { (n : Node) (packs : Option ℕ) (free : Free) (l : ByArgument) (first : ℕ) → kept n packs free false l result first 0 ≡ with_arguments n packs free l (Some (itself first)) (not (is_structor_node template)) }
 {
@@ -147,7 +147,7 @@ struct Pair {
 
 /// The name under the tags of a name, or the name itself.
 #[inline(always)]
-#[tactic(auto, unfolding(crate::specs::Compact::packs_kept, crate::specs::Compact::untagged_kept, crate::specs::Notes::or_itself))]
+#[tactic(auto, unfolding(crate::specs::Nodes::under_kept, crate::specs::Compact::untagged_kept, crate::specs::Notes::or_itself))]
 fn under_tags(held: Compact, name: u32) -> Pair
     ensures { placed_kept result.first result.second ≡ or_itself name (untagged_kept held.words held.first held.second) }
 {
@@ -322,22 +322,9 @@ fn empty_given(none: bool, held: ByArgument) -> bool
     }
 }
 
-/// The second word for what stands under this argument.
-#[inline(always)]
-#[tactic(auto, unfolding(crate::specs::Compact::packs_kept))]
-fn kept_under(under: Option<u32>) -> u32
-    requires { (a : ℕ) → under ≡ Some a → a + 1 < 2 ^ 32 }
-    ensures { packs_kept result ≡ under }
-{
-    match under {
-        None => 0,
-        Some(argument) => argument + 1,
-    }
-}
-
 /// The second word of a tree that is there again with this argument, where its head is its own.
 #[inline(always)]
-#[tactic(auto, unfolding(crate::specs::Compact::packs_kept, crate::specs::Compact::class_kept, crate::specs::Compact::arguments_kept, crate::specs::Compact::untagged_kept, crate::specs::Compact::returns_kept, crate::specs::Compact::count_kept, crate::specs::Compact::run_kept, crate::specs::Notes::placed_under))]
+#[tactic(auto, unfolding(crate::specs::Nodes::under_kept, crate::specs::Compact::class_kept, crate::specs::Compact::arguments_kept, crate::specs::Compact::untagged_kept, crate::specs::Compact::returns_kept, crate::specs::Compact::count_kept, crate::specs::Compact::run_kept, crate::specs::Notes::placed_under))]
 fn second_under(held: Compact, argument: u32) -> u32
     requires { argument + 1 < 2 ^ 32 }
     ensures { (n : Node) (packs : Option ℕ) (free : Free) (is_empty : Bool) (l : ByArgument) → kept n packs free is_empty l held.words held.first result ≡ own_entry n packs free is_empty l held.words held.first held.second argument }
@@ -417,7 +404,7 @@ impl Nodes {
                 packs: self.at(elements).entry().count + 1,
                 words: Words::OfElement,
                 first: elements,
-                second: kept_under(place.under),
+                second: under_word(place.under),
             },
             _ => {
                 let held = self.at(argument);

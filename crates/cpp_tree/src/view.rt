@@ -198,7 +198,13 @@ fn view_of_name(
         },
         Piece::GenericLambda { parameters, number } => match prefix {
             None => one(names.generic_lambda, [number, 0], NO_TEXT, parameters),
-            Some(prefix) => two(names.generic_lambda, [number, 0], NO_TEXT, prefix, parameters),
+            Some(prefix) => two(
+                names.generic_lambda,
+                [number, 0],
+                NO_TEXT,
+                prefix,
+                parameters,
+            ),
         },
         Piece::Conversion(ty) => match prefix {
             None => one(names.conversion, [0; 2], NO_TEXT, ty),
@@ -356,6 +362,7 @@ fn view_of_own(symbol: &[u8], nodes: &Nodes, node: node::Node) -> NodeView
             mark,
             returned,
             parameters,
+            ..
         } => seen(
             FUNCTION,
             [qualifiers.number() as u64, mark.number() as u64],

@@ -1,6 +1,4 @@
-use Rattle.std.proofs.Common.{sym, ◌∙◌, ◌≡◌, Bool, false, ap}
-use Rattle.cpp_term.specs.Scope.{is_open}
-use Rattle.cpp_term.specs.Reargued.{reargued}
+use Rattle.std.proofs.Common.{sym, ◌∙◌}
 use Rattle.cpp_term.proofs.Reargued.{reargued_closed, open_reargued}
 use Rattle.cpp_tree.specs.Nodes.{over, trees, tree_at, tree_if_there, placed_tree}
 use Rattle.cpp_tree.proofs.nodes.Nodes.closed_node.Goals as goal
