@@ -16,6 +16,7 @@ use Rattle.cpp_tree.specs.Nodes.{tree_at, tree_if_there, is_again, IsBelow, IsTh
 use Rattle.cpp_link.specs.declared.signatures.Split.{Split}
 use Rattle.cpp_term.specs.Reargued.{reargued}
 use Rattle.cpp_term.proofs.Notes.{both}
+use Rattle.cpp_term.proofs.Reargued.{reargued_none}
 use Rattle.std.proofs.lemmas.Bool.{true≢false}
 use Rattle.cpp_tree.specs.declared.node.Node.{Node}
 use Rattle.cpp_tree.specs.declared.node.Piece.{Piece}
@@ -129,23 +130,23 @@ pub made_object : (ts : List Term) (v : Value) (items x : Term) (q : Qualifiers)
 unfolding encoding_by
 made_object ts v items x q m tree marks mark enc = rw (tree, marks, mark) (sym enc)
 
-pub made_function : (ts : List Term) (v : Value) (items x z : Term) (q : Qualifiers) (m : RefQualifier) (l : Split) → x ≡ tree_of v → q ≡ qualifiers_of v → m ≡ ref_of v
-    → encoding_of v items ≡ encoding_by ts v (Some l) items → has_return_type (tree_of v) ≡ true → z ≡ parameters (tree_at ts l.rest)
-    → term.function x q m (reargued (tree_if_there ts l.under) (tree_at ts l.first)) (reargued (tree_if_there ts l.under) z) ≡ encoding_of v items
+pub made_function : (ts : List Term) (v : Value) (items x z : Term) (q : Qualifiers) (m : RefQualifier) (l : Split) (word : ℕ) → x ≡ tree_of v → q ≡ qualifiers_of v → m ≡ ref_of v
+    → encoding_of v items ≡ encoding_by ts v (Some l) items → has_return_type (tree_of v) ≡ true → z ≡ parameters (tree_at ts l.rest) → nodes.under_kept word ≡ l.under
+    → term.function x q m (reargued (tree_if_there ts (nodes.under_kept word)) (tree_at ts l.first)) (reargued (tree_if_there ts (nodes.under_kept word)) z) ≡ encoding_of v items
 unfolding encoding_by
-made_function ts v items x z q m l tree marks mark enc returns rest =
-    let name : Term = tree_of v in
-    rw (tree, marks, mark, rest) (sym (enc ∙ ap (λ b. elim b [
+made_function ts v items x z q m l word tree marks mark enc returns rest under =
+    rw (tree, marks, mark, rest, under) (sym (enc ∙ ap (λ b. elim b as (λ _. Term) [
       | true ↦ term.function (tree_of v) (qualifiers_of v) (ref_of v) (reargued (tree_if_there ts l.under) (tree_at ts l.first)) (reargued (tree_if_there ts l.under) (parameters (tree_at ts l.rest)))
       | false ↦ term.function (tree_of v) (qualifiers_of v) (ref_of v) absent (parameters items)
     ]) returns))
 
-pub made_procedure : (ts : List Term) (v : Value) (items x z : Term) (q : Qualifiers) (m : RefQualifier) (l : Split) → x ≡ tree_of v → q ≡ qualifiers_of v → m ≡ ref_of v
-    → encoding_of v items ≡ encoding_by ts v (Some l) items → has_return_type (tree_of v) ≡ false → z ≡ parameters items
-    → term.function x q m absent z ≡ encoding_of v items
-unfolding encoding_by
-made_procedure ts v items x z q m l tree marks mark enc returns rest =
-    rw (tree, marks, mark, rest) (sym (enc ∙ ap (λ b. elim b [
+pub made_procedure : (ts : List Term) (v : Value) (items x z w : Term) (q : Qualifiers) (m : RefQualifier) (l : Split) (word : ℕ) → x ≡ tree_of v → q ≡ qualifiers_of v → m ≡ ref_of v
+    → encoding_of v items ≡ encoding_by ts v (Some l) items → has_return_type (tree_of v) ≡ false → z ≡ parameters items → w ≡ absent → nodes.under_kept word ≡ None
+    → term.function x q m (reargued (tree_if_there ts (nodes.under_kept word)) w) (reargued (tree_if_there ts (nodes.under_kept word)) z) ≡ encoding_of v items
+unfolding encoding_by tree_if_there
+made_procedure ts v items x z w q m l word tree marks mark enc returns rest none under =
+    rw (tree, marks, mark, rest, none, under) (both (λ a b. term.function (tree_of v) (qualifiers_of v) (ref_of v) a b) (reargued_none absent) (reargued_none (parameters items))
+    ∙ sym (enc ∙ ap (λ b. elim b as (λ _. Term) [
       | true ↦ term.function (tree_of v) (qualifiers_of v) (ref_of v) (reargued (tree_if_there ts l.under) (tree_at ts l.first)) (reargued (tree_if_there ts l.under) (parameters (tree_at ts l.rest)))
       | false ↦ term.function (tree_of v) (qualifiers_of v) (ref_of v) absent (parameters items)
     ]) returns))

@@ -1,6 +1,6 @@
 // Encodings and function types: what is read of lists.
 
-ghost use Rattle.std.specs.Prelude.{◌≡◌, ◌<◌, ◌&&◌, length, IfSome, true};
+ghost use Rattle.std.specs.Prelude.{◌≡◌, ◌<◌, ◌^◌, ◌&&◌, length, IfSome, true};
 ghost use Rattle.cpp_term.specs.Values as values;
 ghost use Rattle.cpp_term.specs.Values.{part};
 ghost use Rattle.cpp_term.specs.Between.{no_items};
@@ -13,7 +13,7 @@ ghost use Rattle.cpp_term.specs.Scope.{has_return_type};
 
 use crate::linked::Linked;
 use crate::part::{Meant, Opened, Part};
-use cpp_tree::node::Node;
+use cpp_tree::node::{Node, under_word};
 use cpp_tree::nodes::{ABSENT, NIL};
 
 /// Whether it is void.
@@ -112,6 +112,7 @@ impl Linked {
     #[tactic(auto, unfolding(crate::specs::Parts::meant_value, cpp_tree::specs::Nodes::tree_of, crate::specs::Reads::encoding_by, crate::specs::Making::nodes_of_meant))]
     pub fn encoding(&self, symbol: &[u8], parts: &[Part]) -> Meant
         requires table { IsTable (over symbol.now self.now.nodes) }
+        requires few { length self.now.nodes.nodes < 2 ^ 32 }
         requires there { AreThere symbol.now (length self.now.nodes.nodes) parts.now }
         ensures is { meant_value symbol.now self.now.nodes result ≡ values.tree (encoding_of (part (values_in symbol.now self.now.nodes parts.now) 0) (no_items (part (values_in symbol.now self.now.nodes parts.now) 1))) true }
         ensures there { IsMeantThere symbol.now (length self.now.nodes.thunks) (length self.now.nodes.nodes) result }
@@ -136,7 +137,7 @@ impl Linked {
                 mark,
                 returned: items.first,
                 parameters: self.parameters(symbol, items.rest),
-                under: items.under,
+                under: under_word(items.under),
             };
             return Meant::Made { node, listed: true };
         }
@@ -146,7 +147,7 @@ impl Linked {
             mark,
             returned: ABSENT,
             parameters: self.parameters(symbol, list),
-            under: None,
+            under: under_word(None),
         };
         Meant::Made { node, listed: true }
     }
