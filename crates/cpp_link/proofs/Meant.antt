@@ -1,6 +1,8 @@
 -- What a substitution of a tree whose parameter isn't meant here comes to.
-use Rattle.std.proofs.Common.{◌≡◌, refl, ◌∙◌, sym, ap, ℕ, Bool, true, false, Option, Some, None, Result, Ok, Err}
-use Rattle.std.specs.Prelude.{nat_lt}
+use Rattle.std.proofs.Common.{◌≡◌, refl, ◌∙◌, sym, ap, subst, ℕ, List, Bool, true, false, Option, Some, None, Result, Ok, Err}
+use Rattle.std.specs.Prelude.{nat_lt, IfSome}
+use Rattle.cpp_tree.specs.declared.node.Free.{Free as Noted}
+use Rattle.cpp_tree.specs.Nodes.{tree_at, tree_if_there, free_is}
 use Rattle.sym_core.specs.declared.refusal.Refusal.{Refusal}
 use Rattle.sym_core.specs.declared.refusal.Refusal.TheVariants.{BadReference}
 use Rattle.sym_link.specs.Reading.{Found, ◌>>=◌}
@@ -9,11 +11,26 @@ use Rattle.cpp_grammar.specs.Scope.{Free, none_free, one_free, several_free}
 use Rattle.cpp_term.specs.Items.{auto}
 use Rattle.cpp_term.specs.Reargued.{reargued}
 use Rattle.cpp_term.specs.Term.{Term}
-use Rattle.cpp_term.specs.Scope.{count, element, free_in, pack_length}
+use Rattle.cpp_term.specs.Scope.{count, element, free_in, is_open, pack_length}
 use Rattle.cpp_term.specs.Values.{Around, State, Candidate, Value, tree}
 use Rattle.cpp_term.specs.References.{with_packs, substituted}
 use Rattle.cpp_term.specs.Rescoping.{is_foreign, in_scope, with_free, restated, substituted_wide}
 use Rattle.cpp_link.specs.LinkRescoping.{substituted_nodes}
+
+-- which parameters are free in a node's tree
+pub not_one : (f : Noted) → ((k : ℕ) → f ≡ Noted.One k → ⊥) → (k : ℕ) → free_is f ≡ one_free k → ⊥
+unfolding free_is
+not_one Noted.None other k is = let clash : none_free ≡ one_free k = is in absurd cc
+not_one (Noted.One j) other k is = other j refl
+not_one Noted.Several other k is = let clash : several_free ≡ one_free k = is in absurd cc
+
+pub one_is : {g : Free} (f : Noted) (k : ℕ) → f ≡ Noted.One k → free_is f ≡ g → one_free k ≡ g
+unfolding free_is
+one_is f k is free = sym (ap free_is is) ∙ free
+
+pub scope_closed : (ts : List Term) (o : Option ℕ) (a : ℕ) → o ≡ Some a → IfSome (tree_if_there ts o) (λ x. is_open x ≡ false) → is_open (tree_at ts a) ≡ false
+unfolding tree_if_there
+scope_closed ts o a is closed = subst (λ x. IfSome (tree_if_there ts x) (λ y. is_open y ≡ false)) is closed
 
 abbrev Named : Type 0
 Named = Result (Found Value State) Refusal
@@ -32,10 +49,10 @@ module _ (around : Around) (place : ℕ) (t : Term) (state : State) where
 
   -- where none or several are free
   pub restated_none : around.in_lambda ≡ false → (f : Free) → f ≡ free_in t → ((k : ℕ) → f ≡ one_free k → ⊥) → restated around place t state ≡ Err (BadReference place)
+  unfolding with_free
   restated_none apart f is other = outside apart ∙ ap of_free (sym is) ∙ by f other
     where
       by : (f : Free) → ((k : ℕ) → f ≡ one_free k → ⊥) → of_free f ≡ Err (BadReference place)
-      unfolding with_free
       by none_free other = refl
       by (one_free k) other = absurd (other k refl)
       by several_free other = refl

@@ -100,9 +100,14 @@ encoding_is s us ts (Node.Cell first rest) under name t own is =
     ]) (parameters_again (tree_if_there ts under) (tree_at ts rest)))
 encoding_is s us ts _ under name t own is = rw is refl
 
+pub no_cell : (node : Node) (under : Option ℕ) → ((first rest : ℕ) → node ≡ Node.Cell first rest → ⊥) → None ≡ cell_under node under
+unfolding cell_under
+no_cell (Node.Cell first rest) under other = absurd (other first rest refl)
+no_cell _ under other = refl
+
 pub split_there : (s : List ℕ) (held n : ℕ) (node : Node) (under : Option ℕ) → IsBelow s held n node → IsThereBelow n under → IfSome (cell_under node under) (IsSplitThere n)
 unfolding cell_under
-split_there s held n (Node.Cell first rest) under below there = (below.0, below.1, there)
+split_there s held n (Node.Cell first rest) under below there = (below.0, (below.1, there))
 split_there s held n _ under below there = tt
 
 pub function_is : (s : List ℕ) (us : List Thunk) (ts : List Term) (given : Option Term) (node : Node) → is_again node ≡ false → is_function_type (reargued given (nodes.tree_of s us ts node)) ≡ function_node node

@@ -14,18 +14,20 @@ use Rattle.sym_link.specs.Reading.{Found}
 use Rattle.sym_link.specs.Unfold.{found}
 use Rattle.cpp_grammar.specs.declared.production.Production.{Production}
 use Rattle.cpp_grammar.specs.Unfolding.{production_at, byte_of}
+use Rattle.cpp_term.specs.Term as term
+use Rattle.cpp_term.specs.Term.{Term}
+use Rattle.cpp_term.specs.Scope.{is_open}
 use Rattle.cpp_term.specs.Values as values
 use Rattle.cpp_term.specs.Values.{State, Value, Around, part, text_of}
 use Rattle.sym_core.specs.Value.{counted_value}
 use Rattle.sym_core.specs.declared.NumberKind.TheVariants.{Decimal}
 use Rattle.cpp_term.specs.Between.{Going, parameter_so_far, index_of, between}
-use Rattle.cpp_term.specs.Unfolding.{cpp}
-use Rattle.cpp_term.specs.Rescoping.{generic_so_far, parameter_here, substituted_wide, with_own, between_wide, close_wide, cpp_wide}
+use Rattle.cpp_term.specs.Unfolding.{cpp, behind}
+use Rattle.cpp_term.specs.Rescoping.{generic_so_far, parameter_here, substituted_wide, lambda_with, with_own, between_wide, close_wide, cpp_wide}
 use Rattle.cpp_term.proofs.Notes.{both}
 use Rattle.cpp_link.proofs.Scopes.{wide_between_closed}
-use Rattle.cpp_tree.specs.Nodes.{Stored, tree_at, tree_of, IsBelow}
-use Rattle.cpp_tree.specs.declared.node.Node.{Node}
-use Rattle.cpp_tree.specs.declared.node.Thunk.{Thunk}
+use Rattle.cpp_tree.specs.Nodes.{Stored, tree_at, piece_of}
+use Rattle.cpp_tree.specs.declared.node.Piece.{Piece}
 use Rattle.cpp_link.specs.declared.linked.Linked.{Linked}
 use Rattle.cpp_link.specs.declared.part.Part.{Part}
 use Rattle.cpp_link.specs.declared.part.Kept.{Kept}
@@ -34,7 +36,7 @@ use Rattle.cpp_link.specs.LinkReading.{link_close, link_meaning, linked}
 use Rattle.cpp_link.specs.LinkRescoping.{link_close_wide, linked_wide, is_parameter, is_substitution, is_lambda_production, names_generic, named_by, substituted_nodes, wide_at_end, wide_view}
 use Rattle.cpp_link.specs.Making.{state_of}
 use Rattle.cpp_link.specs.NodeCount.{makes_before, makes_at_end}
-use Rattle.cpp_link.specs.Parts.{trees_in, value_of, values_of, value_in, values_in, is_lambda, around_of, candidates_of, IsClosed, IsThere, AreCandidatesThere}
+use Rattle.cpp_link.specs.Parts.{trees_in, value_of, values_of, value_in, values_in, is_lambda, around_of, candidates_of, packs_of, IsClosed, IsThere, AreCandidatesThere}
 use Rattle.cpp_link.specs.Reads.{goes_on}
 use Rattle.cpp_link.specs.Staying.{candidates_stay}
 use Rattle.cpp_link.specs.Stepping.{Takes}
@@ -202,28 +204,39 @@ lambda_is s old frame own rule known state is lambda byte =
     same us vs cs packs state known candidates packed = rw (known, candidates, packed) refl
 
 -- a part was put that stands for what a lambda is
-pub lambda_put_right : (s : List ℕ) (old new : Linked) (frame : Frame Kept) (parts new_parts own : List Part) (made : Part) (byte : ℕ) (done : Unit {0}) → own ≡ drop frame.base parts
+pub lambda_put_right : (s : List ℕ) (old new : Linked) (frame : Frame Kept) (parts new_parts own : List Part) (made owned : Part) (byte : ℕ) (done : Unit {0}) → own ≡ drop frame.base parts
     → production_at frame.rule ≡ Production.Lambda
-    → value_in s new.nodes made ≡ with_own (link_meaning s Production.Lambda byte frame.place (around_of (trees_in s old.nodes) frame.kept) (values_in s old.nodes own)) → state_of s old ≡ state_of s new
-    → IsThere s (length new.nodes.nodes) made → IsWhole s new → new_parts ≡ take frame.base parts ++ made ∷ []
+    → ((began : State) → began.packs ≡ packs_of frame.kept → link_close s Production.Lambda byte (around_of (trees_in s old.nodes) frame.kept) frame.place began (values_in s old.nodes own) (state_of s old) ≡ Ok (found (value_in s new.nodes made) (state_of s new)))
+    → value_in s new.nodes owned ≡ with_own (value_in s new.nodes made)
+    → IsThere s (length new.nodes.nodes) owned → IsWhole s new → new_parts ≡ take frame.base parts ++ owned ∷ []
     → ClosesAll (wide_view s) s old new frame parts new_parts (Ok done)
-lambda_put_right s old new frame parts new_parts own made byte done same lambda value state_is there whole items rule known state is = (
-  made,
-  items,
-  (
-    value_in s new.nodes made,
-    state_of s new,
-    lambda_is s old frame (drop frame.base parts) rule known state is lambda byte
-        ∙ ap (λ ps. Ok (found (with_own (link_meaning s Production.Lambda byte frame.place (around_of (trees_in s old.nodes) frame.kept) (values_in s old.nodes ps))) (state_of s old))) (sym same)
-        ∙ both (λ v x. Ok (found v x)) (sym value) state_is,
-    record { there = there; is = refl },
-    record { table = whole.table; there = whole.there; candidates = refl; packs = refl },
-  ),
-)
+unfolding link_close behind
+lambda_put_right s old new frame parts new_parts own made owned byte done same lambda closes value there whole items rule known state is =
+    let read = closes rule.before is.kept.packs in
+    let same_found = ok_same _ _ read in (
+      owned,
+      items,
+      (
+        value_in s new.nodes owned,
+        state_of s new,
+        lambda_is s old frame (drop frame.base parts) rule known state is lambda byte
+            ∙ ap (λ ps. Ok (found (with_own (link_meaning s Production.Lambda byte frame.place (around_of (trees_in s old.nodes) frame.kept) (values_in s old.nodes ps))) (state_of s old))) (sym same)
+            ∙ both (λ v x. Ok (found v x)) (ap (λ f. with_own f.value) same_found ∙ sym value) (ap (λ f. f.state) same_found),
+        record { there = there; is = refl },
+        record { table = whole.table; there = whole.there; candidates = refl; packs = refl },
+      ),
+    )
+  where
+    ok_same : (f g : Found Value State) → ◌≡◌ {A = Result (Found Value State) Refusal} (Ok f) (Ok g) → f ≡ g
+    ok_same f g e = cc
 
--- a lambda is refused for want of memory alone
-pub lambda_refused : (s : List ℕ) (old new : Linked) (frame : Frame Kept) (parts new_parts : List Part) (e : Refusal) → e ≡ Memory → ClosesAll (wide_view s) s old new frame parts new_parts (Err e)
-lambda_refused s old new frame parts new_parts e memory rule known state is = subst (λ r. Fails r ((linked_wide s).close rule known state)) (sym memory) tt
+-- a lambda is refused as in the other reading: never but for want of memory
+pub lambda_refused_as : (s : List ℕ) (old new : Linked) (frame : Frame Kept) (parts new_parts own : List Part) (e : Refusal) → own ≡ drop frame.base parts → production_at frame.rule ≡ Production.Lambda
+    → {byte : ℕ} → ((began : State) → Fails e (link_close s Production.Lambda byte (around_of (trees_in s old.nodes) frame.kept) frame.place began (values_in s old.nodes own) (state_of s old)))
+    → ClosesAll (wide_view s) s old new frame parts new_parts (Err e)
+unfolding link_close
+lambda_refused_as s old new frame parts new_parts own Memory same lambda refused rule known state is = tt
+lambda_refused_as s old new frame parts new_parts own e same lambda refused rule known state is = let clash = refused rule.before in absurd cc
 
 -- ## How many nodes are made
 
@@ -326,3 +339,23 @@ no_lambda p is lambda = absurd (true≢false (ap is_lambda_production (sym lambd
 pub no_substitution : (p : Production) → is_substitution p ≡ false → p ≡ Production.Substitution → ⊥
 unfolding is_substitution
 no_substitution p is substitution = absurd (true≢false (ap is_substitution (sym substitution) ∙ is))
+
+-- ## Lambdas
+
+pub own_lambda : (t : Term) (number : ℕ) → is_open t ≡ true → with_own (values.piece (term.lambda t number)) ≡ values.piece (term.generic_lambda t number)
+unfolding with_own lambda_with
+own_lambda t number is = ap (λ b. values.piece (elim b as (λ _. Term) [ true ↦ term.generic_lambda t number | false ↦ term.lambda t number ])) is
+
+pub plain_lambda : (t : Term) (number : ℕ) → is_open t ≡ false → with_own (values.piece (term.lambda t number)) ≡ values.piece (term.lambda t number)
+unfolding with_own lambda_with
+plain_lambda t number is = ap (λ b. values.piece (elim b as (λ _. Term) [ true ↦ term.generic_lambda t number | false ↦ term.lambda t number ])) is
+
+pub no_own : (s : List ℕ) (ts : List Term) (p : Piece) → ((parameters number : ℕ) → p ≡ Piece.Lambda parameters number → ⊥) → with_own (values.piece (piece_of s ts p)) ≡ values.piece (piece_of s ts p)
+unfolding with_own piece_of
+no_own s ts (Piece.Lambda parameters number) other = absurd (other parameters number refl)
+no_own s ts _ other = refl
+
+pub no_piece : (s : List ℕ) (ts : List Term) (part : Part) → ((p : Piece) → part ≡ Part.Piece p → ⊥) → with_own (value_of s ts part) ≡ value_of s ts part
+unfolding with_own value_of
+no_piece s ts (Part.Piece p) other = absurd (other p refl)
+no_piece s ts _ other = refl

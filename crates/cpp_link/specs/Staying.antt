@@ -12,6 +12,7 @@ module _ (s : List ℕ) (old new : Stored) (stays : (i : ℕ) → i < length old
   piece_stays : (p : Piece) → IsPieceBelow s (length old.nodes) p → piece_of s (trees_in s new) p ≡ piece_of s (trees_in s old) p
   unfolding piece_of
   piece_stays (Piece.Lambda parameters number) there = rw (stays parameters there) refl
+  piece_stays (Piece.GenericLambda parameters number) there = rw (stays parameters there) refl
   piece_stays (Piece.Conversion ty) there = rw (stays ty there) refl
   piece_stays _ there = refl
 
@@ -59,6 +60,7 @@ there_more s m n (Part.Piece p) le there = piece p there
     piece (Piece.Source internal bytes) below = below
     piece (Piece.LiteralOperator bytes) below = below
     piece (Piece.Lambda parameters number) below = omega (arith, le, below)
+    piece (Piece.GenericLambda parameters number) below = omega (arith, le, below)
     piece (Piece.Conversion ty) below = omega (arith, le, below)
     piece _ below = tt
 there_more s m n (Part.Named node q ref) le there = omega (arith, le, there)

@@ -1,6 +1,6 @@
 // What references name.
 
-ghost use Rattle.std.specs.Prelude.{◌≡◌, ℕ, ◌<◌, ◌≤◌, ◌^◌, MatchOption, ◌&&◌, ◌||◌, not, nat_eq, List, length, IfSome, IfOk, IfErr, ◌∷◌, []};
+ghost use Rattle.std.specs.Prelude.{◌≡◌, ℕ, ◌<◌, ◌≤◌, ◌^◌, MatchOption, ◌&&◌, ◌||◌, not, nat_eq, false, List, length, IfSome, IfOk, IfErr, ◌∷◌, []};
 ghost use Rattle.cpp_term.specs.Values as values;
 ghost use Rattle.sym_core.specs.Value.{counted_value};
 ghost use Rattle.sym_core.specs.declared.NumberKind.TheVariants as kinds;

@@ -18,7 +18,7 @@ ghost use Rattle.cpp_term.specs.Values as values;
 ghost use Rattle.cpp_term.specs.Reargued.{reargued};
 ghost use Rattle.cpp_term.specs.Rescoping.{generic_so_far, is_foreign, restated, substituted_wide, with_own};
 ghost use Rattle.cpp_term.specs.Scope.{pack_length};
-ghost use Rattle.cpp_tree.specs.Nodes.{over, tree_at, bytes_at, IsWithin, IsTable};
+ghost use Rattle.cpp_tree.specs.Nodes.{over, tree_at, bytes_at, piece_of, IsPieceBelow, IsWithin, IsTable};
 ghost use Rattle.cpp_tree.specs.declared.node.Thunk.{Thunk};
 ghost use Rattle.cpp_link.specs.declared.part.Part.TheVariants as variants;
 ghost use Rattle.cpp_link.specs.Grows.{Grows, HasPlace};
@@ -149,6 +149,7 @@ impl Linked {
         requires table { IsTable (over symbol.now self.now.nodes) }
         requires node { node < length self.now.nodes.nodes }
         requires argument { argument < length self.now.nodes.nodes }
+        requires room { length self.now.nodes.nodes + 1 < 2 ^ 32 }
         ensures { result ≡ pack_length (reargued (Some (tree_at (trees_in symbol.now self.now.nodes) argument)) (tree_at (trees_in symbol.now self.now.nodes) node)) }
     {
         let tree = Placed {
@@ -176,6 +177,7 @@ impl Linked {
         requires kept { IsKeptThere (length self.now.nodes.nodes) kept }
         requires closed { IsClosed (around_of (trees_in symbol.now self.now.nodes) kept) }
         requires below { node < length self.now.nodes.nodes }
+        requires room { length self.now.nodes.nodes + 1 < 2 ^ 32 }
         ensures is { (cs : List values.Candidate) → restated (around_of (trees_in symbol.now self.now.nodes) kept) place (tree_at (trees_in symbol.now self.now.nodes) node) (record { candidates = cs; packs = self.now.packs })
             ≡ argument_read (trees_in symbol.now self.now.nodes) (tree_at (trees_in symbol.now self.now.nodes) node) cs result }
         ensures there { IfOk result (λ r. r.0 < length self.now.nodes.nodes) }
@@ -343,7 +345,26 @@ impl Linked {
     }
 
     /// A lambda in whose signature parameters are free has parameters of its own.
-    #[tactic(auto, unfolding(crate::specs::Parts::value_of, cpp_tree::specs::Nodes::piece_of))]
+    #[tactic(auto, unfolding(cpp_tree::specs::Nodes::piece_of))]
+    fn own_piece(&self, symbol: &[u8], piece: Piece) -> Piece
+        requires table { IsTable (over symbol.now self.now.nodes) }
+        requires there { IsPieceBelow symbol.now (length self.now.nodes.nodes) piece }
+        ensures is { values.piece (piece_of symbol.now (trees_in symbol.now self.now.nodes) result) ≡ with_own (values.piece (piece_of symbol.now (trees_in symbol.now self.now.nodes) piece)) }
+        ensures there { IsPieceBelow symbol.now (length self.now.nodes.nodes) result }
+    {
+        match piece {
+            Piece::Lambda { parameters, number } => {
+                if self.is_open(symbol, parameters) {
+                    return Piece::GenericLambda { parameters, number };
+                }
+                piece
+            }
+            _ => piece,
+        }
+    }
+
+    /// What is closed to, where it may be a lambda with parameters of its own.
+    #[tactic(auto, unfolding(crate::specs::Parts::value_of))]
     fn with_own(&self, symbol: &[u8], part: Part) -> Part
         requires table { IsTable (over symbol.now self.now.nodes) }
         requires there { IsThere symbol.now (length self.now.nodes.nodes) part }
@@ -351,12 +372,7 @@ impl Linked {
         ensures there { IsThere symbol.now (length self.now.nodes.nodes) result }
     {
         match part {
-            Part::Piece(Piece::Lambda { parameters, number }) => {
-                if self.is_open(symbol, parameters) {
-                    return Part::Piece(Piece::GenericLambda { parameters, number });
-                }
-                part
-            }
+            Part::Piece(piece) => Part::Piece(self.own_piece(symbol, piece)),
             _ => part,
         }
     }

@@ -18,7 +18,7 @@ unfolding first_around first_state tree_if_there around_of arguments_in is_lambd
 returns-clause-opens c = root_tallied (cpp_view c.args.symbol.now) cpp_makes c.args.symbol.now c.args._rows.now c.args.self.now c.args.self.now c.args._row (Ok OUTSIDE) refl (λ rule taken parts is holds. (
   record { rule = standing rule taken 0 first_around first_state; values = []; state = first_state },
   ap (λ m. m >>= λ state. Ok (record { rule = standing rule taken 0 first_around first_state; values = []; state = state })) (first_begins (standing rule taken 0 first_around first_state) parts refl),
-  record { surrounds = record { there = (tt, tt); is = refl }; packs = refl },
+  record { surrounds = record { there = (tt, tt); is = refl; closed = tt }; packs = refl },
   holds,
   [],
   refl,

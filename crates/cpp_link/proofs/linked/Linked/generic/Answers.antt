@@ -26,7 +26,7 @@ one p (v ∷ w ∷ vs) is e = absurd (omega (arith, e))
 one _ known is e = absurd (false≢true is)
 
 pub returns-clause-of : goal.returns-clause-of
-returns-clause-of c p is = made p (Node.GenericParameter c.generic_number.result) true true true c.args.self.now.packs is
+returns-clause-of c p is = made p (Node.Parameter c.generic_number.result 3) true true true c.args.self.now.packs is
 
 pub returns-clause-makes : goal.returns-clause-makes
 returns-clause-makes c p known is e = one p known is e

@@ -12,6 +12,7 @@ use Rattle.cpp_term.specs.Between.{after, listed_so_far, parameter_so_far}
 use Rattle.cpp_tree.specs.Nodes.{tree_at, bytes_at, tree_if_there, tree_of}
 use Rattle.cpp_link.specs.Parts.{trees_in, around_of}
 use Rattle.cpp_link.specs.Reads.{packs_read, goes_on, behind_first, named_if, appended_if}
+use Rattle.cpp_link.proofs.Meant.{scope_closed}
 use Rattle.cpp_link.proofs.Candidates.{fails_is, no_scope, past_scope, in_scope}
 use Rattle.cpp_link.proofs.linked.Linked.parameter.Goals as goal
 
@@ -39,11 +40,11 @@ returns-in-Ok-clause-is c v cs =
     let around : Around = around_of ts c.args.kept in
     let found : (c.in-Some-below.number ≡ k) × (c.in-Some-below.number < c.count-count.result) =
     subst (λ o. MatchOption o (c.count-count.result ≤ k) (λ n. (n ≡ k) × (n < c.count-count.result))) c.in-Some-below.is (c.below.ensures k c.value10-counted.ensures) in
-    let argument : tree_at ts c.element-argument.result ≡ element a k = c.element-argument.ensures.tree ∙ ap (λ n. element a n) found.0 in
+    let argument : tree_at ts c.argument-argument.result ≡ element a k = c.argument-argument.ensures.tree ∙ ap (λ n. element a n) found.0 in
     let own : c.length_if_pack-own.result ≡ length_if_pack (element a k) = c.length_if_pack-own.ensures ∙ ap length_if_pack argument in
     let before : State = record { candidates = cs; packs = c.args.self.now.packs } in
     let then : State = record { candidates = cs; packs = c.in-Ok.packs } in
-    let same : parameter k (element a k) ≡ parameter c.in-Some-below.number (tree_at ts c.element-argument.result) = rw (argument, found.0) refl in
+    let same : parameter k (element a k) ≡ parameter c.in-Some-below.number (tree_at ts c.argument-argument.result) = rw (argument, found.0) refl in
     in_scope around c.args.place k [] before a (Ok then) (ap (λ o. tree_if_there ts o) (sym c.in_scope.ensures ∙ c.in-Some.is))
     (lt-ltb k (count a) (omega (arith, found.0, found.1, c.count-count.ensures)))
     (ap (λ o. with_packs c.args.place around.in_expansion o before) (sym own) ∙ c.in-Ok.ensures.is cs)
@@ -58,10 +59,14 @@ returns-in-Err-clause-refused c cs =
     let around : Around = around_of ts c.args.kept in
     let found : (c.in-Some-below.number ≡ k) × (c.in-Some-below.number < c.count-count.result) =
     subst (λ o. MatchOption o (c.count-count.result ≤ k) (λ n. (n ≡ k) × (n < c.count-count.result))) c.in-Some-below.is (c.below.ensures k c.value10-counted.ensures) in
-    let argument : tree_at ts c.element-argument.result ≡ element a k = c.element-argument.ensures.tree ∙ ap (λ n. element a n) found.0 in
+    let argument : tree_at ts c.argument-argument.result ≡ element a k = c.argument-argument.ensures.tree ∙ ap (λ n. element a n) found.0 in
     let own : c.length_if_pack-own.result ≡ length_if_pack (element a k) = c.length_if_pack-own.ensures ∙ ap length_if_pack argument in
     let before : State = record { candidates = cs; packs = c.args.self.now.packs } in
     fails_is c.in-Err.e (parameter_so_far around c.args.place k [] before)
     (in_scope around c.args.place k [] before a (Err c.in-Err.e) (ap (λ o. tree_if_there ts o) (sym c.in_scope.ensures ∙ c.in-Some.is))
     (lt-ltb k (count a) (omega (arith, found.0, found.1, c.count-count.ensures)))
     (ap (λ o. with_packs c.args.place around.in_expansion o before) (sym own) ∙ c.in-Err.ensures.is cs))
+
+pub argument-argument-requires-clause-closed : goal.argument-argument-requires-clause-closed
+unfolding around_of tree_if_there
+argument-argument-requires-clause-closed c = scope_closed (trees_in c.args.symbol.now c.args.self.now.nodes) _ c.in-Some.scope (sym c.in_scope.ensures ∙ c.in-Some.is) c.requires.closed
