@@ -1,5 +1,5 @@
 -- The parts of names.
-use Rattle.std.proofs.Common.{◌≡◌, ◌≢◌, ◌<◌, refl, sym, ◌∙◌, ap, subst, arith, slice_index, length, ℕ, List, [], ◌∷◌, ◌++◌, Bool, true, false, nat_eq, ◌&&◌, ◌||◌, cond, codes, decimal, if◌then◌else◌, Option}
+use Rattle.std.proofs.Common.{zero, suc, ◌≡◌, ◌≢◌, ◌<◌, refl, sym, ◌∙◌, ap, subst, arith, slice_index, length, ℕ, List, [], ◌∷◌, ◌++◌, Bool, true, false, nat_eq, ◌&&◌, ◌||◌, cond, codes, decimal, if◌then◌else◌, Option}
 use Rattle.std.proofs.lemmas.Bool.{eqb-true}
 use Rattle.std.specs.List.{starts_with}
 use Rattle.sym_core.specs.declared.Span.{Span}
@@ -126,11 +126,11 @@ base-other s ts given c prefix _ h1 h2 = refl
 
 -- ## Prefixes
 
-pub prefix-encoding : (s : List ℕ) (us : List Thunk) (ts : List Term) (given : Option Term) (c : items.Context) (n : Node) (flat : is_again n ≡ false) (t : Term) → t ≡ reargued given (tree_of s us ts n) → is_encoding n ≡ true → as_item heads.bare items.closed t ≡ prefix_item c t
+pub prefix-encoding : (s : List ℕ) (us : List Thunk) (ts : List Term) (given : Option Term) (c : items.Context) (n : Node) (flat : is_again n ≡ false) (own t : Term) → own ≡ tree_of s us ts n → t ≡ reargued given (tree_of s us ts n) → is_encoding n ≡ true → as_item heads.bare items.closed own ≡ prefix_item c t
 unfolding tree_of prefix_item is_encoding reargued is_again
-prefix-encoding s us ts given c n flat t is e = subst (λ u. as_item heads.bare items.closed u ≡ prefix_item c u) (sym is) (by n flat e)
+prefix-encoding s us ts given c n flat own t plain is e = ap (λ u. as_item heads.bare items.closed u) plain ∙ by n flat e ∙ ap (λ u. prefix_item c u) (sym is)
   where
-    by : (n : Node) → is_again n ≡ false → is_encoding n ≡ true → as_item heads.bare items.closed (reargued given (tree_of s us ts n)) ≡ prefix_item c (reargued given (tree_of s us ts n))
+    by : (n : Node) → is_again n ≡ false → is_encoding n ≡ true → as_item heads.bare items.closed (tree_of s us ts n) ≡ prefix_item c (reargued given (tree_of s us ts n))
     by (Node.Function a q m b d) flat e = refl
     by (Node.Object a q m) flat e = refl
     by (Node.Special k a) flat e = refl
@@ -187,6 +187,12 @@ entity-other s us ts given n flat t is other = subst (λ u. u ≡ entity_of u) (
     by _ flat other = refl
 
 -- ## The last piece
+
+-- how many entities a name stands under
+unfoldable pub layers : Term → ℕ
+layers (term.local encoding entity discriminator) = suc (layers entity)
+layers (term.of_default digits entity) = suc (layers entity)
+layers _ = zero
 
 pub last-none : (s : List ℕ) (us : List Thunk) (ts : List Term) (given : Option Term) (n : Node) (flat : is_again n ≡ false) (t : Term) → t ≡ reargued given (tree_of s us ts n)
     → ((p : Piece) → n ≡ Node.Alone p → ⊥) → ((p : Piece) → n ≡ Node.InStd p → ⊥) → ((a : ℕ) (p : Piece) → n ≡ Node.Within a p → ⊥) → ((e a : ℕ) (d : Option Span) → n ≡ Node.Local e a d → ⊥) → ((g : Span) (a : ℕ) → n ≡ Node.OfDefault g a → ⊥) → fixed_text LESS ≡ opening_text (last_piece t)
