@@ -80,6 +80,11 @@ unfolding piece_of opening_text
 no-angle s ts (Piece.Operator a b) other = absurd (other a b refl)
 no-angle s ts _ other = refl
 
+pub opening-shown : (given : Option Term) (t : Term) → opening_text t ≡ opening_text (reargued given t)
+unfolding opening_text reargued
+opening-shown given (term.operator a b) = refl
+opening-shown given _ = refl
+
 -- ## Pieces
 
 pub lambda-whole : (c : items.Context) (parameters : Term) (number : ℕ) → text (fixed_text LAMBDA) ∷ (list_part heads.first c parameters ++ (text (fixed_text RIGHT_NUMBER) ∷ text (decimal number) ∷ text (fixed_text BRACE) ∷ [])) ≡ piece_parts c (term.lambda parameters number)

@@ -11,7 +11,7 @@ invariant-entities l = record {
   node : l.place.node < length l.self.table.nodes;
   context : IsThereBelow (length l.self.table.nodes) l.place.ctx.argument;
   own : is_again (entry_at l.self.table.nodes l.place.node).node ≡ false;
-  last : last_piece (tree_shown l.self l.place.ctx l.place.node) ≡ last_piece (tree_shown l.self l.ctx l.template);
+  last : last_piece (tree_shown l.self l.place.ctx l.place.node) ≡ last_piece (tree_shown l.self l.fn.ctx l.template);
 }
 
 abbrev pub decreases-entities : goal.decreases-entities

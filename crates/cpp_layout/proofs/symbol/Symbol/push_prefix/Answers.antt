@@ -20,7 +20,7 @@ returns-in-Holder-clause-shows g c below others shows =
     let said = c.place-place.ensures in
     let stored = c.stored-stored.ensures in
     fills c.args.self.now c.args.ctx.detail _ _ _
-    (told-so c.args.self.now told.detail c.args.ctx.detail _ _ said.detail (c.push_item-in-Holder.ensures.shows _ _ (told-so c.args.self.now c.args.ctx.detail told.detail _ _ (sym said.detail) shows)))
+    (told-so c.args.self.now told.detail c.args.ctx.detail _ _ said.detail (c.push_item.ensures.shows _ _ (told-so c.args.self.now c.args.ctx.detail told.detail _ _ (sym said.detail) shows)))
     (ap (λ x. as_item heads.left x (tree_shown c.args.self.now told c.in-Holder.name) ∷ others) said.index
     ∙ ap (λ i. i ∷ others) (prefix-held c.args.self.now.bytes c.args.self.now.table.thunks (trees (table_of c.args.self.now)) _ (context_of c.args.ctx) c.stored-stored.result stored.own _ _ (sym said.tree ∙ stored.tree) c.in-Holder.is))
 
