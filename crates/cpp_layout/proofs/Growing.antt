@@ -1,5 +1,5 @@
 -- Lists of parts that grow.
-use Rattle.std.proofs.Common.{Bool, true, false, not, if◌then◌else◌, nat_eq, Option, None, ◌≡◌, ℕ, ◌-◌, ◌<◌, ◌≤◌, List, [], ◌∷◌, ◌++◌, length, take, drop, refl, ap, subst, ◌∙◌, arith, append-nil}
+use Rattle.std.proofs.Common.{Bool, true, false, not, if◌then◌else◌, nat_eq, None, ◌≡◌, ℕ, ◌-◌, ◌<◌, ◌≤◌, List, [], ◌∷◌, ◌++◌, length, take, drop, refl, ap, subst, ◌∙◌, arith, append-nil}
 use Rattle.std.proofs.lemmas.Bool.{eq-eqb, ne_eqb}
 use Rattle.std.proofs.lemmas.List.{length-take, length-drop}
 use Rattle.sym_core.specs.declared.Span.{Span}

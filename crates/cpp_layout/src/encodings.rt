@@ -331,7 +331,9 @@ impl Symbol {
                 mark,
                 returned,
                 parameters,
-            } => self.fill_function(parts, name, qualifiers, mark, returned, parameters, ctx.detail),
+            } => self.fill_function(
+                parts, name, qualifiers, mark, returned, parameters, ctx.detail,
+            ),
             Node::Object {
                 name,
                 qualifiers,
@@ -350,18 +352,15 @@ impl Symbol {
                 parent,
                 ..
             } => { self.fill_construction(parts, derived, parent, ctx.detail) }
-            Node::CloneOf { letter, encoding } => self.fill_clone(parts, letter, encoding, ctx.detail),
+            Node::CloneOf { letter, encoding } => self.fill_clone(
+                parts, letter, encoding, ctx.detail,
+            ),
             _ => {}
         }
     }
 
     /// The parts of an encoding without its return type.
-    pub(crate) fn fill_bare_of<S: PartList<Context>>(
-        &self,
-        parts: &mut S,
-        node: u32,
-        ctx: Context,
-    )
+    pub(crate) fn fill_bare_of<S: PartList<Context>>(&self, parts: &mut S, node: u32, ctx: Context)
         requires own { is_again (entry_at self.now.table.nodes node).node ≡ false }
         requires table { IsTable (table_of self.now) }
         requires node { node < length self.now.table.nodes }
@@ -425,7 +424,9 @@ impl Symbol {
         ensures few { S.room parts.old ≤ S.room parts.new + 8 }
     {
         match self.stored(node, ctx) {
-            Node::Whole { encoding, suffix } => self.fill_whole(parts, encoding, suffix, ctx.detail),
+            Node::Whole { encoding, suffix } => self.fill_whole(
+                parts, encoding, suffix, ctx.detail,
+            ),
             _ => {}
         }
     }

@@ -128,7 +128,13 @@ impl Symbol {
         ensures node { result.node < length self.now.table.nodes }
         ensures context { IsThereBelow (length self.now.table.nodes) result.ctx.argument }
     {
-        let placed = self.nodes.settled(&self.bytes, Placed { node, under: ctx.argument });
+        let placed = self.nodes.settled(
+            &self.bytes,
+            Placed {
+                node,
+                under: ctx.argument,
+            },
+        );
         Place {
             node: placed.node,
             ctx: Context {
