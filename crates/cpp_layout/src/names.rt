@@ -11,7 +11,7 @@ ghost use Rattle.cpp_grammar.specs.Parts.{begins_with, source_text};
 ghost use Rattle.cpp_term.specs.Term as term;
 ghost use Rattle.cpp_term.specs.Items as items;
 ghost use Rattle.cpp_term.specs.Parts.{as_item, piece_parts, prefix_item, within_parts, base_within, base_tagged, own_piece, entity_of, opening_text, last_piece, instance_parts};
-ghost use Rattle.cpp_tree.specs.Nodes.{tree_at, trees, piece_of, bytes_at, IsTable, IsWithin, IsPieceBelow, IsThereBelow};
+ghost use Rattle.cpp_tree.specs.Nodes.{piece_of, bytes_at, IsTable, IsWithin, IsPieceBelow, IsThereBelow};
 ghost use Rattle.cpp_layout.specs.Texts.{fixed_text};
 ghost use Rattle.cpp_layout.specs.declared.texts.TheConstants.{BLANK_LESS, COLONS, COUNT, LESS, RIGHT_BRACKET, TAG};
 ghost use Rattle.cpp_layout.specs.Layout.{table_of, context_of, Shows, IsOwn, IsNoSource, tree_shown, piece_shown};
