@@ -244,9 +244,9 @@ LEAVES = """NestWithS NestParameter NestInternal NestLocalType NestSource NestSt
 # ## The trees
 
 # The trees: each constructor with its arguments, a name and what it is. OWN is a tree under a scope of its own, of an encoding or its name;
-# OUTSIDE one that is under none, the encoding around a local entity; INSIDE one under the scope of the encoding's own name; TREE one under the
-# scope of the whole, as is a PIECE of a name. What goes through a tree by its arguments alone is written from here (trees.py).
-OWN, OUTSIDE, INSIDE, TREE, PIECE = "own", "outside", "inside", "tree", "piece"
+# OUTSIDE one that is under none, the encoding around a local entity; INSIDE one under the scope of the encoding's own name; SIGNATURE
+# one whose parameters are a lambda's own; TREE one under the scope of the whole, as is a PIECE of a name. What goes through a tree by its arguments alone is written from here (trees.py).
+OWN, OUTSIDE, INSIDE, SIGNATURE, TREE, PIECE = "own", "outside", "inside", "signature", "tree", "piece"
 BYTES, NUMBER, TRUTH, QUALIFIERS, MARK, SIGNED, THUNK, DISCRIMINATOR = "bytes", "number", "truth", "qualifiers", "mark", "signed", "thunk", "discriminator"
 TREES = [
     ("symbol", ("e", OWN), ("suffix", BYTES)),
@@ -273,12 +273,12 @@ TREES = [
     ("constructor", ("digit", NUMBER)),
     ("destructor", ("digit", NUMBER)),
     ("lambda", ("parameters", TREE), ("number", NUMBER)),
+    ("generic_lambda", ("parameters", SIGNATURE), ("number", NUMBER)),
     ("unnamed", ("number", NUMBER)),
     ("string_literal",),
     ("conversion", ("t", TREE)),
     ("builtin", ("code", BYTES)),
     ("sized_float", ("digits", BYTES), ("end", NUMBER)),
-    ("generic_parameter", ("number", NUMBER)),
     ("vendor", ("bytes", BYTES)),
     ("pointer", ("t", TREE)),
     ("lvalue", ("t", TREE)),

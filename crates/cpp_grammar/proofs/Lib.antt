@@ -18,7 +18,7 @@ pub mod ClosedValues
 pub mod ClosedStates
 pub mod ClosedParts
 pub mod ClosedTrees
-pub mod NoGeneric
+pub mod NoneFree
 pub mod Staying
 pub mod RanksFall
 pub mod FewParts

@@ -93,7 +93,7 @@ adds_right s old new frame parts new_parts own production step then same numbere
           (rw held at (next_owes frame.rule (length own) (length new_parts - frame.base) step (rw (← numbered) of) (ap (λ n. n - frame.base) takes.count ∙ sym held))),
     )
   where
-    sizes : (m n made behind before : ℕ) → 3 ≤ m → n ≤ m + made → made + behind ≤ before → n - 3 + behind ≤ m - 3 + before
+    sizes : (m n made behind before : ℕ) → 4 ≤ m → n ≤ m + made → made + behind ≤ before → n - 4 + behind ≤ m - 4 + before
     sizes m n made behind before begun few owed = omega (arith, begun, few, owed)
 
 -- ## Where nothing is done
@@ -224,7 +224,7 @@ unfolding closes
 steps_few s old new frame parts new_parts then paid least counts =
     sizes (length old.nodes.nodes) (length new.nodes.nodes) (closes_of (production_at frame.rule) (drop frame.base new_parts ++ Part.Nothing ∷ [])) (closes_of (production_at frame.rule) (drop frame.base parts)) paid.begun least counts
   where
-    sizes : (m n behind before : ℕ) → 3 ≤ m → m ≤ n → n + behind ≤ m + before → n - 3 + behind ≤ m - 3 + before
+    sizes : (m n behind before : ℕ) → 4 ≤ m → m ≤ n → n + behind ≤ m + before → n - 4 + behind ≤ m - 4 + before
     sizes m n behind before begun least few = omega (arith, begun, least, few)
 
 -- those of a step that was refused
@@ -233,5 +233,5 @@ pub refused_few : (s : List ℕ) (old new : Linked) (frame : Frame Kept) (parts 
 unfolding closes
 refused_few s old new frame parts paid few = sizes (length old.nodes.nodes) (length new.nodes.nodes) (closes_of (production_at frame.rule) (drop frame.base parts)) paid.begun few
   where
-    sizes : (m n before : ℕ) → 3 ≤ m → n ≤ m + before → n - 3 ≤ m - 3 + before
+    sizes : (m n before : ℕ) → 4 ≤ m → n ≤ m + before → n - 4 ≤ m - 4 + before
     sizes m n before begun few = omega (arith, begun, few)

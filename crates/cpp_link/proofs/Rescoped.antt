@@ -208,10 +208,10 @@ wide_closing_refused s old new frame parts new_parts own e same substitution ref
 
 -- ## How many nodes are made
 
-pub wide_before_read : (s : List ℕ) (old new : Linked) (frame : Frame Kept) (parts : List Part) (result : Result Kept Refusal) → 3 ≤ length old.nodes.nodes
+pub wide_before_read : (s : List ℕ) (old new : Linked) (frame : Frame Kept) (parts : List Part) (result : Result Kept Refusal) → 4 ≤ length old.nodes.nodes
     → OnOk result (length new.nodes.nodes ≡ length old.nodes.nodes + makes_before (production_at frame.rule) (values_in s old.nodes (drop frame.base parts)))
     → (rule : Open State Around) (known : List Value) (state : State) → IsAt (wide_view s) s old frame (drop frame.base parts) rule known state
-    → OnOk result (length new.nodes.nodes - 3 ≡ length old.nodes.nodes - 3 + makes_before (production_at rule.rule.number) known)
+    → OnOk result (length new.nodes.nodes - 4 ≡ length old.nodes.nodes - 4 + makes_before (production_at rule.rule.number) known)
 wide_before_read s old new frame parts result begun made rule known state is =
     before_read s old new frame parts result begun made rule known state (at_plain s old frame (drop frame.base parts) rule known state is)
 
@@ -220,21 +220,21 @@ unfolding wide_at_end
 apart_end Production.Substitution around known state apart = absurd (apart refl)
 apart_end _ around known state apart = refl
 
-pub apart_end_read : (s : List ℕ) (old new : Linked) (frame : Frame Kept) (parts : List Part) (result : Result (Unit {0}) Refusal) → 3 ≤ length old.nodes.nodes
+pub apart_end_read : (s : List ℕ) (old new : Linked) (frame : Frame Kept) (parts : List Part) (result : Result (Unit {0}) Refusal) → 4 ≤ length old.nodes.nodes
     → (production_at frame.rule ≡ Production.Substitution → ⊥)
     → OnOk result (length new.nodes.nodes ≡ length old.nodes.nodes + makes_at_end (production_at frame.rule) (values_in s old.nodes (drop frame.base parts)))
     → (rule : Open State Around) (known : List Value) (state : State) → IsAt (wide_view s) s old frame (drop frame.base parts) rule known state
-    → OnOk result (length new.nodes.nodes - 3 ≡ length old.nodes.nodes - 3 + wide_at_end (production_at rule.rule.number) rule.context known state)
+    → OnOk result (length new.nodes.nodes - 4 ≡ length old.nodes.nodes - 4 + wide_at_end (production_at rule.rule.number) rule.context known state)
 apart_end_read s old new frame parts result begun apart made rule known state is =
-    subst (λ n. OnOk result (length new.nodes.nodes - 3 ≡ length old.nodes.nodes - 3 + n))
+    subst (λ n. OnOk result (length new.nodes.nodes - 4 ≡ length old.nodes.nodes - 4 + n))
     (apart_end (production_at rule.rule.number) rule.context known state (λ substitution. apart (ap production_at is.number ∙ substitution)))
     (end_read s old new frame parts result begun made rule known state (at_plain s old frame (drop frame.base parts) rule known state is))
 
-pub substitution_end_read : (s : List ℕ) (old new : Linked) (frame : Frame Kept) (parts : List Part) (result : Result (Unit {0}) Refusal) → 3 ≤ length old.nodes.nodes
+pub substitution_end_read : (s : List ℕ) (old new : Linked) (frame : Frame Kept) (parts : List Part) (result : Result (Unit {0}) Refusal) → 4 ≤ length old.nodes.nodes
     → production_at frame.rule ≡ Production.Substitution
     → OnOk result (length new.nodes.nodes ≡ length old.nodes.nodes + substituted_nodes (around_of (trees_in s old.nodes) frame.kept) (named_by (state_of s old) (values_in s old.nodes (drop frame.base parts))))
     → (rule : Open State Around) (known : List Value) (state : State) → IsAt (wide_view s) s old frame (drop frame.base parts) rule known state
-    → OnOk result (length new.nodes.nodes - 3 ≡ length old.nodes.nodes - 3 + wide_at_end (production_at rule.rule.number) rule.context known state)
+    → OnOk result (length new.nodes.nodes - 4 ≡ length old.nodes.nodes - 4 + wide_at_end (production_at rule.rule.number) rule.context known state)
 unfolding wide_at_end
 substitution_end_read s old new frame parts (Err e) begun substitution made rule known state is = tt
 substitution_end_read s old new frame parts (Ok done) begun substitution made rule known state is =

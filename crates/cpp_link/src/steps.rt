@@ -11,7 +11,7 @@ ghost use Rattle.cpp_term.specs.Scope.{is_structor};
 ghost use Rattle.cpp_term.specs.Between.{between, no_items, in_signature, under_expansion, after, inside, applied, named_so_far, with_tag};
 ghost use Rattle.cpp_term.specs.References.{with_prefix, with_type};
 ghost use Rattle.cpp_tree.specs.Nodes as nodes;
-ghost use Rattle.cpp_tree.specs.Nodes.{over, tree_at, bytes_at, IsWithin, IsPieceBelow, arguments_are, IsArgumentsBelow, IsBelow, IsTable};
+ghost use Rattle.cpp_tree.specs.Nodes.{over, tree_at, bytes_at, IsWithin, IsPieceBelow, tree_if_there, IsThereBelow, IsBelow, IsTable};
 ghost use Rattle.cpp_link.specs.declared.part.Kept.{Kept};
 ghost use Rattle.cpp_link.specs.declared.part.Part.TheVariants as variants;
 ghost use Rattle.cpp_link.specs.declared.part.Step.{Step};
@@ -33,7 +33,7 @@ use sym_core::{Refusal, Span};
 #[tactic(auto, unfolding(crate::specs::Parts::around_of, crate::specs::Parts::prefix_in, crate::specs::Parts::prefix_of, crate::specs::Reads::with_candidate, cpp_term::specs::References::with_prefix, cpp_term::specs::Values::prefix_tree, cpp_term::specs::Values::prefix_listed))]
 fn prefix_candidate(kept: Kept) -> Option<u32>
     ensures is { (ts : List term.Term) (state : State) → with_prefix (around_of ts kept) state ≡ with_candidate (around_of ts kept) ts result state }
-    ensures there { (n : ℕ) → IsPrefixThere n (name_of kept) → IsArgumentsBelow n result }
+    ensures there { (n : ℕ) → IsPrefixThere n (name_of kept) → IsThereBelow n result }
 {
     match kept.naming {
         Naming::Outermost => None,
@@ -44,11 +44,11 @@ fn prefix_candidate(kept: Kept) -> Option<u32>
 
 impl Linked {
     /// In an encoding that begins at this place, where parameters name these arguments.
-    #[tactic(auto, unfolding(crate::specs::Parts::around_of, crate::specs::Parts::arguments_in, crate::specs::Parts::is_lambda, crate::specs::Parts::prefix_in, crate::specs::Parts::prefix_of, cpp_tree::specs::Nodes::arguments_are))]
+    #[tactic(auto, unfolding(crate::specs::Parts::around_of, crate::specs::Parts::arguments_in, crate::specs::Parts::is_lambda, crate::specs::Parts::prefix_in, crate::specs::Parts::prefix_of, cpp_tree::specs::Nodes::tree_if_there))]
     #[inline(always)]
     fn in_encoding(&self, kept: Kept, place: u32, scope: Option<u32>) -> Kept
-        requires scope { IsArgumentsBelow (length self.now.nodes.nodes) scope }
-        ensures around { (ts : List term.Term) → around_of ts result ≡ record { scope = arguments_are ts scope; encoding = place; in_lambda = false; in_expansion = false; prefix = values.outermost } }
+        requires scope { IsThereBelow (length self.now.nodes.nodes) scope }
+        ensures around { (ts : List term.Term) → around_of ts result ≡ record { scope = tree_if_there ts scope; encoding = place; in_lambda = false; in_expansion = false; prefix = values.outermost } }
         ensures there { IsKeptThere (length self.now.nodes.nodes) result }
     {
         let mut then = kept;
@@ -83,7 +83,7 @@ impl Linked {
     }
 
     /// In the signature of a lambda.
-    #[tactic(auto, unfolding(crate::specs::Parts::around_of, crate::specs::Parts::arguments_in, crate::specs::Parts::is_lambda, crate::specs::Parts::prefix_in, crate::specs::Parts::prefix_of, cpp_tree::specs::Nodes::arguments_are, cpp_term::specs::Between::in_signature))]
+    #[tactic(auto, unfolding(crate::specs::Parts::around_of, crate::specs::Parts::arguments_in, crate::specs::Parts::is_lambda, crate::specs::Parts::prefix_in, crate::specs::Parts::prefix_of, cpp_tree::specs::Nodes::tree_if_there, cpp_term::specs::Between::in_signature))]
     #[inline(always)]
     fn in_signature(&self, kept: Kept) -> Kept
         ensures around { (ts : List term.Term) → around_of ts result ≡ in_signature (around_of ts kept) }
@@ -163,7 +163,7 @@ impl Linked {
     fn prefix_candidate(&self, symbol: &[u8], kept: Kept) -> Option<u32>
         requires kept { IsKeptThere (length self.now.nodes.nodes) kept }
         ensures is { (state : State) → with_prefix (around_of (trees_in symbol.now self.now.nodes) kept) state ≡ with_candidate (around_of (trees_in symbol.now self.now.nodes) kept) (trees_in symbol.now self.now.nodes) result state }
-        ensures there { IsArgumentsBelow (length self.now.nodes.nodes) result }
+        ensures there { IsThereBelow (length self.now.nodes.nodes) result }
     {
         prefix_candidate(kept)
     }
@@ -174,7 +174,7 @@ impl Linked {
         requires table { IsTable (over symbol.now self.now.nodes) }
         requires there { IsThere symbol.now (length self.now.nodes.nodes) part }
         ensures is { (state : State) → with_type (around_of (trees_in symbol.now self.now.nodes) kept) (value_in symbol.now self.now.nodes part) state ≡ with_candidate (around_of (trees_in symbol.now self.now.nodes) kept) (trees_in symbol.now self.now.nodes) result state }
-        ensures there { IsArgumentsBelow (length self.now.nodes.nodes) result }
+        ensures there { IsThereBelow (length self.now.nodes.nodes) result }
     {
         if is_listed(part) {
             return None;
@@ -204,11 +204,11 @@ impl Linked {
         requires name { name < length self.now.nodes.nodes }
         ensures { result ≡ is_structor (tree_at (trees_in symbol.now self.now.nodes) name) }
     {
-        self.nodes.node(symbol, name).is_structor()
+        self.opened(symbol, name).node.is_structor()
     }
 
     /// What is done before the first part.
-    #[tactic(auto, unfolding(cpp_term::specs::Between::between, cpp_term::specs::Between::in_name, cpp_term::specs::Between::in_types, cpp_term::specs::Between::in_signature, cpp_term::specs::Between::under_expansion, cpp_term::specs::Between::after, cpp_term::specs::Between::inside, cpp_term::specs::Between::applied, cpp_term::specs::Between::piece_so_far, cpp_term::specs::Between::named_so_far, cpp_term::specs::Between::listed_so_far, cpp_term::specs::Values::tree_of, crate::specs::Parts::around_of, crate::specs::Parts::prefix_of, cpp_tree::specs::Nodes::arguments_are, cpp_tree::specs::Nodes::tree_of, cpp_tree::specs::Nodes::piece_of, crate::specs::Reads::goes_on, crate::specs::Reads::behind_first, crate::specs::Reads::named_if, crate::specs::Reads::appended_if, crate::specs::Reads::with_candidate, crate::specs::NodeCount::makes_before, crate::specs::Owed::made_before, crate::specs::NodeCount::std_before, crate::specs::NodeCount::one_if_there, crate::specs::NodeCount::pack_before))]
+    #[tactic(auto, unfolding(cpp_term::specs::Between::between, cpp_term::specs::Between::in_name, cpp_term::specs::Between::in_types, cpp_term::specs::Between::in_signature, cpp_term::specs::Between::under_expansion, cpp_term::specs::Between::after, cpp_term::specs::Between::inside, cpp_term::specs::Between::applied, cpp_term::specs::Between::piece_so_far, cpp_term::specs::Between::named_so_far, cpp_term::specs::Between::listed_so_far, cpp_term::specs::Values::tree_of, crate::specs::Parts::around_of, crate::specs::Parts::prefix_of, cpp_tree::specs::Nodes::tree_if_there, cpp_tree::specs::Nodes::tree_of, cpp_tree::specs::Nodes::piece_of, crate::specs::Reads::goes_on, crate::specs::Reads::behind_first, crate::specs::Reads::named_if, crate::specs::Reads::appended_if, crate::specs::Reads::with_candidate, crate::specs::NodeCount::makes_before, crate::specs::Owed::made_before, crate::specs::NodeCount::std_before, crate::specs::NodeCount::one_if_there, crate::specs::NodeCount::pack_before))]
     #[inline(always)]
     fn step_first(&self, symbol: &[u8], production: Production, place: u32, kept: Kept) -> Step
         requires table { IsTable (over symbol.now self.now.nodes) }
@@ -362,7 +362,7 @@ impl Linked {
     }
 
     /// What is done before the second part, of a production that is no parameter and no pack.
-    #[tactic(auto, unfolding(cpp_term::specs::Between::between, cpp_term::specs::Between::in_name, cpp_term::specs::Between::in_types, cpp_term::specs::Between::in_signature, cpp_term::specs::Between::under_expansion, cpp_term::specs::Between::after, cpp_term::specs::Between::inside, cpp_term::specs::Between::applied, cpp_term::specs::Between::piece_so_far, cpp_term::specs::Between::named_so_far, cpp_term::specs::Between::tag_so_far, cpp_term::specs::Between::listed_so_far, cpp_term::specs::Values::tree_of, crate::specs::Parts::around_of, crate::specs::Parts::prefix_of, cpp_tree::specs::Nodes::arguments_are, cpp_tree::specs::Nodes::tree_of, cpp_tree::specs::Nodes::piece_of, crate::specs::Reads::goes_on, crate::specs::Reads::behind_first, crate::specs::Reads::named_if, crate::specs::Reads::appended_if, crate::specs::Reads::with_candidate, crate::specs::Owed::made_before, crate::specs::NodeCount::makes_before, crate::specs::Owed::made_before, crate::specs::NodeCount::std_before, crate::specs::NodeCount::one_if_there, crate::specs::NodeCount::pack_before))]
+    #[tactic(auto, unfolding(cpp_term::specs::Between::between, cpp_term::specs::Between::in_name, cpp_term::specs::Between::in_types, cpp_term::specs::Between::in_signature, cpp_term::specs::Between::under_expansion, cpp_term::specs::Between::after, cpp_term::specs::Between::inside, cpp_term::specs::Between::applied, cpp_term::specs::Between::piece_so_far, cpp_term::specs::Between::named_so_far, cpp_term::specs::Between::tag_so_far, cpp_term::specs::Between::listed_so_far, cpp_term::specs::Values::tree_of, crate::specs::Parts::around_of, crate::specs::Parts::prefix_of, cpp_tree::specs::Nodes::tree_if_there, cpp_tree::specs::Nodes::tree_of, cpp_tree::specs::Nodes::piece_of, crate::specs::Reads::goes_on, crate::specs::Reads::behind_first, crate::specs::Reads::named_if, crate::specs::Reads::appended_if, crate::specs::Reads::with_candidate, crate::specs::Owed::made_before, crate::specs::NodeCount::makes_before, crate::specs::Owed::made_before, crate::specs::NodeCount::std_before, crate::specs::NodeCount::one_if_there, crate::specs::NodeCount::pack_before))]
     #[inline(always)]
     fn step_second(
         &self,
@@ -395,7 +395,7 @@ impl Linked {
             },
             Production::Encoding => {
                 let name = self.node(symbol, first);
-                self.go(self.in_encoding(kept, place, self.arguments(symbol, name)))
+                self.go(self.in_encoding(kept, place, self.closed_arguments(symbol, name)))
             }
             Production::LocalName => self.go(self.behind_name(
                 kept,
@@ -545,7 +545,7 @@ impl Linked {
     }
 
     /// What is done before the third part.
-    #[tactic(auto, unfolding(cpp_term::specs::Between::between, cpp_term::specs::Between::in_name, cpp_term::specs::Between::in_types, cpp_term::specs::Between::in_signature, cpp_term::specs::Between::under_expansion, cpp_term::specs::Between::after, cpp_term::specs::Between::inside, cpp_term::specs::Between::applied, cpp_term::specs::Between::piece_so_far, cpp_term::specs::Between::named_so_far, cpp_term::specs::Between::listed_so_far, cpp_term::specs::Values::tree_of, crate::specs::Parts::around_of, crate::specs::Parts::prefix_of, cpp_tree::specs::Nodes::arguments_are, cpp_tree::specs::Nodes::tree_of, cpp_tree::specs::Nodes::piece_of, crate::specs::Reads::goes_on, crate::specs::Reads::behind_first, crate::specs::Reads::named_if, crate::specs::Reads::appended_if, crate::specs::Reads::with_candidate, crate::specs::Owed::made_before, crate::specs::NodeCount::makes_before, crate::specs::Owed::made_before, crate::specs::NodeCount::std_before, crate::specs::NodeCount::one_if_there, crate::specs::NodeCount::pack_before))]
+    #[tactic(auto, unfolding(cpp_term::specs::Between::between, cpp_term::specs::Between::in_name, cpp_term::specs::Between::in_types, cpp_term::specs::Between::in_signature, cpp_term::specs::Between::under_expansion, cpp_term::specs::Between::after, cpp_term::specs::Between::inside, cpp_term::specs::Between::applied, cpp_term::specs::Between::piece_so_far, cpp_term::specs::Between::named_so_far, cpp_term::specs::Between::listed_so_far, cpp_term::specs::Values::tree_of, crate::specs::Parts::around_of, crate::specs::Parts::prefix_of, cpp_tree::specs::Nodes::tree_if_there, cpp_tree::specs::Nodes::tree_of, cpp_tree::specs::Nodes::piece_of, crate::specs::Reads::goes_on, crate::specs::Reads::behind_first, crate::specs::Reads::named_if, crate::specs::Reads::appended_if, crate::specs::Reads::with_candidate, crate::specs::Owed::made_before, crate::specs::NodeCount::makes_before, crate::specs::Owed::made_before, crate::specs::NodeCount::std_before, crate::specs::NodeCount::one_if_there, crate::specs::NodeCount::pack_before))]
     fn step_third(
         &self,
         symbol: &[u8],
@@ -576,7 +576,7 @@ impl Linked {
             },
             Production::Encoding => {
                 let name = self.node(symbol, first);
-                self.go(self.in_encoding(kept, place, self.arguments(symbol, name)))
+                self.go(self.in_encoding(kept, place, self.closed_arguments(symbol, name)))
             }
             Production::LocalName => self.go(self.behind_name(
                 kept,
@@ -612,7 +612,7 @@ impl Linked {
     }
 
     /// What is done before the fourth part.
-    #[tactic(auto, unfolding(cpp_term::specs::Between::between, cpp_term::specs::Between::in_name, cpp_term::specs::Between::in_types, cpp_term::specs::Between::in_signature, cpp_term::specs::Between::under_expansion, cpp_term::specs::Between::after, cpp_term::specs::Between::inside, cpp_term::specs::Between::applied, cpp_term::specs::Between::piece_so_far, cpp_term::specs::Between::named_so_far, cpp_term::specs::Between::listed_so_far, cpp_term::specs::Values::tree_of, crate::specs::Parts::around_of, crate::specs::Parts::prefix_of, cpp_tree::specs::Nodes::arguments_are, cpp_tree::specs::Nodes::tree_of, cpp_tree::specs::Nodes::piece_of, crate::specs::Reads::goes_on, crate::specs::Reads::behind_first, crate::specs::Reads::named_if, crate::specs::Reads::appended_if, crate::specs::Reads::with_candidate, crate::specs::NodeCount::makes_before, crate::specs::Owed::made_before, crate::specs::NodeCount::std_before, crate::specs::NodeCount::one_if_there, crate::specs::NodeCount::pack_before))]
+    #[tactic(auto, unfolding(cpp_term::specs::Between::between, cpp_term::specs::Between::in_name, cpp_term::specs::Between::in_types, cpp_term::specs::Between::in_signature, cpp_term::specs::Between::under_expansion, cpp_term::specs::Between::after, cpp_term::specs::Between::inside, cpp_term::specs::Between::applied, cpp_term::specs::Between::piece_so_far, cpp_term::specs::Between::named_so_far, cpp_term::specs::Between::listed_so_far, cpp_term::specs::Values::tree_of, crate::specs::Parts::around_of, crate::specs::Parts::prefix_of, cpp_tree::specs::Nodes::tree_if_there, cpp_tree::specs::Nodes::tree_of, cpp_tree::specs::Nodes::piece_of, crate::specs::Reads::goes_on, crate::specs::Reads::behind_first, crate::specs::Reads::named_if, crate::specs::Reads::appended_if, crate::specs::Reads::with_candidate, crate::specs::NodeCount::makes_before, crate::specs::Owed::made_before, crate::specs::NodeCount::std_before, crate::specs::NodeCount::one_if_there, crate::specs::NodeCount::pack_before))]
     fn step_fourth(
         &self,
         symbol: &[u8],
@@ -645,7 +645,7 @@ impl Linked {
             },
             Production::Encoding => {
                 let name = self.node(symbol, first);
-                self.go(self.in_encoding(kept, place, self.arguments(symbol, name)))
+                self.go(self.in_encoding(kept, place, self.closed_arguments(symbol, name)))
             }
             Production::LocalName => self.go(self.behind_name(
                 kept,
@@ -667,7 +667,7 @@ impl Linked {
     }
 
     /// What is done before a later part.
-    #[tactic(auto, unfolding(cpp_term::specs::Between::between, cpp_term::specs::Between::in_name, cpp_term::specs::Between::in_types, cpp_term::specs::Between::in_signature, cpp_term::specs::Between::under_expansion, cpp_term::specs::Between::after, cpp_term::specs::Between::inside, cpp_term::specs::Between::applied, cpp_term::specs::Between::piece_so_far, cpp_term::specs::Between::named_so_far, cpp_term::specs::Between::listed_so_far, cpp_term::specs::Values::tree_of, crate::specs::Parts::around_of, crate::specs::Parts::prefix_of, cpp_tree::specs::Nodes::arguments_are, cpp_tree::specs::Nodes::tree_of, cpp_tree::specs::Nodes::piece_of, crate::specs::Reads::goes_on, crate::specs::Reads::behind_first, crate::specs::Reads::named_if, crate::specs::Reads::appended_if, crate::specs::Reads::with_candidate, crate::specs::NodeCount::makes_before, crate::specs::Owed::made_before, crate::specs::NodeCount::std_before, crate::specs::NodeCount::one_if_there, crate::specs::NodeCount::pack_before))]
+    #[tactic(auto, unfolding(cpp_term::specs::Between::between, cpp_term::specs::Between::in_name, cpp_term::specs::Between::in_types, cpp_term::specs::Between::in_signature, cpp_term::specs::Between::under_expansion, cpp_term::specs::Between::after, cpp_term::specs::Between::inside, cpp_term::specs::Between::applied, cpp_term::specs::Between::piece_so_far, cpp_term::specs::Between::named_so_far, cpp_term::specs::Between::listed_so_far, cpp_term::specs::Values::tree_of, crate::specs::Parts::around_of, crate::specs::Parts::prefix_of, cpp_tree::specs::Nodes::tree_if_there, cpp_tree::specs::Nodes::tree_of, cpp_tree::specs::Nodes::piece_of, crate::specs::Reads::goes_on, crate::specs::Reads::behind_first, crate::specs::Reads::named_if, crate::specs::Reads::appended_if, crate::specs::Reads::with_candidate, crate::specs::NodeCount::makes_before, crate::specs::Owed::made_before, crate::specs::NodeCount::std_before, crate::specs::NodeCount::one_if_there, crate::specs::NodeCount::pack_before))]
     fn step_later(
         &self,
         symbol: &[u8],
@@ -696,7 +696,7 @@ impl Linked {
             },
             Production::Encoding => {
                 let name = self.node(symbol, first);
-                self.go(self.in_encoding(kept, place, self.arguments(symbol, name)))
+                self.go(self.in_encoding(kept, place, self.closed_arguments(symbol, name)))
             }
             Production::LocalName => self.go(self.behind_name(
                 kept,
@@ -729,6 +729,7 @@ impl Linked {
     ) -> Result<Step, Refusal>
         requires table { IsTable (over symbol.now self.now.nodes) }
         requires kept { IsKeptThere (length self.now.nodes.nodes) kept }
+        requires closed { IsClosed (around_of (trees_in symbol.now self.now.nodes) kept) }
         requires first { IsThere symbol.now (length self.now.nodes.nodes) first }
         ensures is { IfOk result (λ step. (cs : List values.Candidate) → between production (around_of (trees_in symbol.now self.now.nodes) kept) place (value_in symbol.now self.now.nodes first ∷ []) (record { candidates = cs; packs = self.now.packs })
             ≡ goes_on symbol.now self.now.nodes kept (value_in symbol.now self.now.nodes first ∷ []) cs self.now.packs step) }
@@ -769,6 +770,7 @@ impl Linked {
     ) -> Result<Step, Refusal>
         requires table { IsTable (over symbol.now self.now.nodes) }
         requires kept { IsKeptThere (length self.now.nodes.nodes) kept }
+        requires closed { IsClosed (around_of (trees_in symbol.now self.now.nodes) kept) }
         requires there { AreThere symbol.now (length self.now.nodes.nodes) parts.now }
         ensures is { IfOk result (λ step. (cs : List values.Candidate) → between production (around_of (trees_in symbol.now self.now.nodes) kept) place (values_in symbol.now self.now.nodes parts.now) (record { candidates = cs; packs = self.now.packs })
             ≡ goes_on symbol.now self.now.nodes kept (values_in symbol.now self.now.nodes parts.now) cs self.now.packs step) }

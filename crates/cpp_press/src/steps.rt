@@ -3,10 +3,9 @@
 
 ghost use Rattle.std.specs.Prelude.{◌≡◌, ℕ, ◌≤◌, ◌<◌, ◌+◌, List, length, OnOk, IfErr};
 ghost use Rattle.sym_core.specs.declared.Refusal.TheVariants.{Memory};
-ghost use Rattle.cpp_grammar.specs.Values.{Candidate};
 ghost use Rattle.cpp_tree.specs.Nodes.{IsTable};
 ghost use Rattle.cpp_layout.specs.Layout.{ReadSymbol, table_of};
-ghost use Rattle.cpp_press_laws.specs.Components.{first_equal};
+ghost use Rattle.cpp_press_laws.specs.Components.{Component, first_equal};
 ghost use Rattle.cpp_press.specs.Weight.{weight};
 ghost use Rattle.cpp_press.specs.Tasks.{◌onto◌, in_way, before, plain_at, node_tree, press_tasks, AreTasks, way_weight, tasks_weight};
 ghost use Rattle.cpp_press.specs.Standings.{compared, standing_of, template_standing_of, needs_N, is_instance, between_arguments_onto, template_onto};
@@ -54,7 +53,7 @@ pub fn step_tree(
     requires table { IsTable (table_of symbol.now) }
     requires node { node < length symbol.now.table.nodes }
     requires tasks { AreTasks symbol.now tasks.old.items }
-    ensures presses { OnOk result ((cs : List Candidate) → standing ≡ standing_of way (plain_at symbol.now node) (first_equal encoding (plain_at symbol.now node) 0 cs)
+    ensures presses { OnOk result ((cs : List Component) → standing ≡ standing_of way (plain_at symbol.now node) (first_equal encoding (plain_at symbol.now node) 0 cs)
         → press_tasks symbol.now tasks.new.items here cs ≡ (in_way encoding way (plain_at symbol.now node) onto press_tasks symbol.now tasks.old.items) here cs) }
     ensures weight { OnOk result (tasks_weight symbol.now tasks.new.items < way_weight way + weight (plain_at symbol.now node) + tasks_weight symbol.now tasks.old.items) }
     ensures tasks { OnOk result (AreTasks symbol.now tasks.new.items) }
@@ -163,7 +162,7 @@ pub fn step_template(
     requires name { name < length symbol.now.table.nodes }
     requires arguments { arguments < length symbol.now.table.nodes }
     requires tasks { AreTasks symbol.now tasks.old.items }
-    ensures presses { OnOk result ((here : ℕ) (cs : List Candidate) → standing ≡ template_standing_of (plain_at symbol.now name) (first_equal encoding (plain_at symbol.now name) 0 cs)
+    ensures presses { OnOk result ((here : ℕ) (cs : List Component) → standing ≡ template_standing_of (plain_at symbol.now name) (first_equal encoding (plain_at symbol.now name) 0 cs)
         → press_tasks symbol.now tasks.new.items here cs ≡ (before encoding in_type (plain_at symbol.now name) (plain_at symbol.now arguments) onto press_tasks symbol.now tasks.old.items) here cs) }
     ensures weight { OnOk result (tasks_weight symbol.now tasks.new.items < 8 + weight (plain_at symbol.now name) + weight (plain_at symbol.now arguments) + tasks_weight symbol.now tasks.old.items) }
     ensures tasks { OnOk result (AreTasks symbol.now tasks.new.items) }

@@ -5,7 +5,7 @@ use Rattle.sym_print.specs.declared.detail.Detail.{Detail}
 use Rattle.sym_print.specs.Details.{has_arguments, has_parameters}
 use Rattle.sym_print.specs.Unfold.{PartOf, text, sub}
 use Rattle.cpp_grammar.specs.Texts.{same_bytes, look_up, builtin_texts, operator_texts, abbreviation_texts, special_texts, named_special_texts, literal_endings}
-use Rattle.cpp_term.specs.Term.{Term, symbol, function, object, special, thunk, of_name, construction, clone, alone, in_std, within, instance, local, holder, tagged, of_default, abbreviation, parameter, source, operator, literal_operator, constructor, destructor, lambda, unnamed, string_literal, conversion, builtin, sized_float, generic_parameter, vendor, pointer, lvalue, rvalue, array, member_pointer, function_type, qualified, vector, complex, expansion, integer, boolean, null_pointer, encoding_literal, address_of, pack, nil, list, absent}
+use Rattle.cpp_term.specs.Term.{Term, symbol, function, object, special, thunk, of_name, construction, clone, alone, in_std, within, instance, local, holder, tagged, of_default, abbreviation, parameter, source, operator, literal_operator, constructor, destructor, lambda, generic_lambda, unnamed, string_literal, conversion, builtin, sized_float, vendor, pointer, lvalue, rvalue, array, member_pointer, function_type, qualified, vector, complex, expansion, integer, boolean, null_pointer, encoding_literal, address_of, pack, nil, list, absent}
 use Rattle.cpp_grammar.specs.Term.{Qualifiers, RefQualifier, Signed}
 use Rattle.cpp_term.specs.Scope.{without_tags}
 use Rattle.cpp_term.specs.Items.{Context, Item, closed, argument, head, packs_of, is_empty}
@@ -34,6 +34,8 @@ piece_parts context (source internal name) = text (source_text name) ∷ []
 piece_parts context (operator a b) = text (codes "operator" ++ look_up (a ∷ b ∷ []) operator_texts) ∷ []
 piece_parts context (literal_operator name) = says "operator\"\" " ∷ text name ∷ []
 piece_parts context (lambda parameters number) =
+    (says "{lambda(" ∷ list_part first context parameters) ++ (says ")#" ∷ text (decimal number) ∷ says "}" ∷ [])
+piece_parts context (generic_lambda parameters number) =
     (says "{lambda(" ∷ list_part first context parameters) ++ (says ")#" ∷ text (decimal number) ∷ says "}" ∷ [])
 piece_parts context (unnamed number) = says "{unnamed type#" ∷ text (decimal number) ∷ says "}" ∷ []
 piece_parts context string_literal = says "string literal" ∷ []
@@ -157,7 +159,6 @@ left_parts d context (abbreviation letter) = text (look_up (letter ∷ []) abbre
 left_parts d context (parameter k a) = as_item left closed (argument context a) ∷ []
 left_parts d context (builtin code) = text (look_up code builtin_texts) ∷ []
 left_parts d context (sized_float digits end) = float_parts digits end
-left_parts d context (generic_parameter number) = text (look_up (codes "Da") builtin_texts) ∷ []
 left_parts d context (vendor name) = text (source_text name) ∷ []
 left_parts d context (pointer t) = marked_parts context t "*"
 left_parts d context (lvalue t) = reference_parts context low t "&"

@@ -1,7 +1,7 @@
 -- A tree whose free parameters carry another argument, and what of it depends on that argument.
-use Rattle.std.specs.Prelude.{ℕ, Bool, true, false, ◌||◌, ◌&&◌, Option, Some, None}
+use Rattle.std.specs.Prelude.{Bool, true, false, ◌||◌, ◌&&◌, Option, Some, None}
 use Rattle.cpp_term.specs.Term.{Term, alone, in_std, within, instance, local, holder, tagged, of_default, parameter, lambda, conversion, pointer, lvalue, rvalue, array, member_pointer, function_type, qualified, vector, complex, expansion, integer, pack, nil, list}
-use Rattle.cpp_term.specs.Items.{HeadClass, class_of, collapsed_class}
+use Rattle.cpp_term.specs.Items.{HeadClass, collapsed_class}
 
 -- the argument that is given, if one is, or else its own
 unfoldable pub argument_or : Option Term → Term → Term

@@ -24,7 +24,7 @@ ghost use Rattle.cpp_term.specs.Answer.{noted_shown, noted_answer};
 ghost use Rattle.cpp_term.specs.Erased.{erase, CarriesArguments};
 ghost use Rattle.cpp_term.specs.Items as items;
 ghost use Rattle.cpp_term.specs.Reargued.{reargued, bare, head_from, class_from, is_empty_with};
-ghost use Rattle.cpp_term.specs.Scope.{is_open, length_if_pack, pack_length};
+ghost use Rattle.cpp_term.specs.Scope.{is_open, free_in, length_if_pack, pack_length};
 ghost use Rattle.cpp_term.specs.ReadAs.{IsReadAs};
 ghost use Rattle.cpp_term.specs.Term.{Term, symbol, parameter};
 ghost use Rattle.cpp_term.specs.Values.{Value, State};
@@ -77,6 +77,7 @@ pub fn arguments_are_replaced()
     ensures twice { (c : Option Term) (a t : Term) → reargued (Some a) (reargued c t) ≡ reargued (Some a) t }
     ensures closed { (c : Option Term) (t : Term) → is_open t ≡ false → reargued c t ≡ t }
     ensures open { (c : Option Term) (t : Term) → is_open (reargued c t) ≡ is_open t }
+    ensures free { (c : Option Term) (t : Term) → free_in (reargued c t) ≡ free_in t }
     ensures erased { (c : Option Term) (t : Term) → erase (reargued c t) ≡ erase t }
     ensures packs { (a t : Term) → pack_length (reargued (Some a) t) ≡ cond (bare t) (length_if_pack a) None }
     ensures head { (a t : Term) → items.class_of (reargued (Some a) t) ≡ class_from (head_from t) (items.class_of t) (items.class_of (parameter 0 a)) }

@@ -11,13 +11,14 @@ use Rattle.cpp_tree.specs.declared.node.Signed.{Signed}
 use Rattle.cpp_tree.specs.declared.node.Node.{Node}
 use Rattle.cpp_tree.specs.declared.node.HeadClass.{HeadClass}
 use Rattle.cpp_tree.specs.declared.node.HeadFrom.{HeadFrom}
+use Rattle.cpp_tree.specs.declared.node.Free.{Free}
 use Rattle.cpp_tree.specs.declared.node.ByArgument.{ByArgument}
 use Rattle.cpp_tree.specs.declared.node.Entry.{Entry}
 use Rattle.cpp_tree.specs.declared.compact.Words.{Words}
 use Rattle.cpp_tree.specs.declared.compact.Compact.{Compact}
-use Rattle.cpp_tree.specs.Nodes.{entry_at, by_none}
-use Rattle.cpp_tree.specs.Notes.{lent_at, passed, joined, of_expansion, of_pack, piece_lends, lends, placed_under, if_own, packs_by, empty_by, pack_class, class_by, collapses, piece_opens, piece_has_generic, piece_packs, argument_packs, opens, has_generic, empties, ends_in, untagging, classes, packing, returning, counting, running, noting, bare_entry}
-use Rattle.cpp_tree.specs.Compact.{packs_kept, class_kept, arguments_kept, untagged_kept, returns_kept, count_kept, run_kept, kept, with_head, restated_entry, entry_of}
+use Rattle.cpp_tree.specs.Nodes.{entry_at, by_none, under_kept}
+use Rattle.cpp_tree.specs.Notes.{lent_at, passed, joined, of_expansion, of_pack, piece_lends, lends, placed_under, if_own, packs_by, empty_by, pack_class, class_by, collapses, both_free, piece_frees, piece_packs, argument_packs, frees, empties, ends_in, untagging, classes, packing, returning, counting, running, noting, bare_entry}
+use Rattle.cpp_tree.specs.Compact.{packs_kept, class_kept, arguments_kept, untagged_kept, returns_kept, count_kept, run_kept, free_kept, kept, with_head, restated_entry, entry_of}
 
 -- a length that is kept, and one that isn't
 pub some-packs : (m n : ℕ) → (m ≡ 0 → ⊥) → packs_kept m ≡ first_of (packs_kept m) (packs_kept n)
@@ -30,58 +31,50 @@ unfolding packs_kept first_of
 other-packs m n none = rw none refl
 
 pub over-is : (n : Node) (f : ByArgument → ByArgument) (l : ByArgument) (w : Words) (first second : ℕ) (c part : Compact) (e : Entry) → entry_of part ≡ e → l ≡ f part.by_argument
-    → entry_of c ≡ kept n (packs_kept part.packs) part.is_open part.is_generic false l w first second → entry_of c ≡ kept n e.packs e.is_open e.is_generic false (f e.by_argument) w first second
+    → entry_of c ≡ kept n (packs_kept part.packs) (free_kept part.free part.number) false l w first second → entry_of c ≡ kept n e.packs e.free false (f e.by_argument) w first second
 over-is n f l w first second c part e at lent made =
-    made ∙ ap (λ x. kept n (packs_kept part.packs) part.is_open part.is_generic false x w first second) lent ∙ ap (λ x. kept n x.packs x.is_open x.is_generic false (f x.by_argument) w first second) at
+    made ∙ ap (λ x. kept n (packs_kept part.packs) (free_kept part.free part.number) false x w first second) lent ∙ ap (λ x. kept n x.packs x.free false (f x.by_argument) w first second) at
 
 pub over-two-is : (n : Node) (empty : Bool) (f : ByArgument → ByArgument → ByArgument) (l : ByArgument) (w : Words) (first second : ℕ) (c one other : Compact) (e g : Entry) → entry_of one ≡ e → entry_of other ≡ g
     → l ≡ f one.by_argument other.by_argument
-    → entry_of c ≡ kept n (first_of (packs_kept one.packs) (packs_kept other.packs)) (one.is_open || other.is_open) (one.is_generic || other.is_generic) empty l w first second
-    → entry_of c ≡ kept n (first_of e.packs g.packs) (e.is_open || g.is_open) (e.is_generic || g.is_generic) empty (f e.by_argument g.by_argument) w first second
+    → entry_of c ≡ kept n (first_of (packs_kept one.packs) (packs_kept other.packs)) (both_free (free_kept one.free one.number) (free_kept other.free other.number)) empty l w first second
+    → entry_of c ≡ kept n (first_of e.packs g.packs) (both_free e.free g.free) empty (f e.by_argument g.by_argument) w first second
 over-two-is n empty f l w first second c one other e g at there lent made =
-    made ∙ ap (λ x. kept n (first_of (packs_kept one.packs) (packs_kept other.packs)) (one.is_open || other.is_open) (one.is_generic || other.is_generic) empty x w first second) lent
-    ∙ ap (λ x. kept n (first_of x.packs (packs_kept other.packs)) (x.is_open || other.is_open) (x.is_generic || other.is_generic) empty (f x.by_argument other.by_argument) w first second) at
-    ∙ ap (λ x. kept n (first_of e.packs x.packs) (e.is_open || x.is_open) (e.is_generic || x.is_generic) empty (f e.by_argument x.by_argument) w first second) there
-
--- with other notes of a lambda's own parameters
-abbrev as_generic : Compact → Bool → Compact
-as_generic c own = record { node = c.node; packs = c.packs; first = c.first; second = c.second; is_open = c.is_open; is_generic = own; is_empty = c.is_empty; words = c.words; by_argument = c.by_argument }
-
-abbrev opened : Entry → (is_generic : Bool) → Entry
-opened e own = record { node = e.node; packs = e.packs; is_open = e.is_open; is_generic = own; is_empty = e.is_empty; by_argument = e.by_argument; class = e.class; arguments = e.arguments; untagged = e.untagged; returns = e.returns; count = e.count; run = e.run }
+    made ∙ ap (λ x. kept n (first_of (packs_kept one.packs) (packs_kept other.packs)) (both_free (free_kept one.free one.number) (free_kept other.free other.number)) empty x w first second) lent
+    ∙ ap (λ x. kept n (first_of x.packs (packs_kept other.packs)) (both_free x.free (free_kept other.free other.number)) empty (f x.by_argument other.by_argument) w first second) at
+    ∙ ap (λ x. kept n (first_of e.packs x.packs) (both_free e.free x.free) empty (f e.by_argument x.by_argument) w first second) there
 
 or-false : (b : Bool) → b ≡ b || false
 or-false true = refl
 or-false false = refl
 
-pub lambda-alone : (ns : List Entry) (n : Node) (piece : Piece) (c : Compact) (p k : ℕ) → piece ≡ Piece.Lambda p k
-    → entry_of c ≡ kept n (entry_at ns p).packs (entry_at ns p).is_open (entry_at ns p).is_generic false (passed (lent_at ns p)) Words.Plain 0 0
-    → entry_of (as_generic c false) ≡ kept n (piece_packs ns piece) (piece_opens ns piece) (piece_has_generic ns piece) false (piece_lends ns piece) Words.Plain 0 0
-unfolding piece_packs piece_opens piece_has_generic piece_lends
-lambda-alone ns n piece c p k is made = rw is (ap (λ x. opened x false) made)
+pub lambda-alone : (ns : List Entry) (n : Node) (piece : Piece) (p k : ℕ) → piece ≡ Piece.Lambda p k
+    → kept n (entry_at ns p).packs (entry_at ns p).free false (passed (lent_at ns p)) Words.Plain 0 0
+    ≡ kept n (piece_packs ns piece) (piece_frees ns piece) false (piece_lends ns piece) Words.Plain 0 0
+unfolding piece_packs piece_frees piece_lends
+lambda-alone ns n piece p k is = rw is refl
 
-pub lambda-within : (ns : List Entry) (n : Node) (e : Entry) (piece : Piece) (c : Compact) (own : Bool) (p k : ℕ) → piece ≡ Piece.Lambda p k → own ≡ e.is_generic
-    → entry_of c ≡ kept n (first_of e.packs (entry_at ns p).packs) (e.is_open || (entry_at ns p).is_open) (e.is_generic || (entry_at ns p).is_generic) false (joined e.by_argument (lent_at ns p)) Words.Plain 0 0
-    → entry_of (as_generic c own) ≡ kept n (first_of e.packs (piece_packs ns piece)) (e.is_open || piece_opens ns piece) (e.is_generic || piece_has_generic ns piece) false (joined e.by_argument (piece_lends ns piece)) Words.Plain 0 0
-unfolding piece_packs piece_opens piece_has_generic piece_lends joined passed
-lambda-within ns n e piece c own p k is before made = rw is (ap (λ x. opened x own) made
-    ∙ ap (λ b. kept n (first_of e.packs (entry_at ns p).packs) (e.is_open || (entry_at ns p).is_open) b false (joined e.by_argument (lent_at ns p)) Words.Plain 0 0) (before ∙ or-false e.is_generic))
+pub lambda-within : (ns : List Entry) (n : Node) (e : Entry) (piece : Piece) (p k : ℕ) → piece ≡ Piece.Lambda p k
+    → kept n (first_of e.packs (entry_at ns p).packs) (both_free e.free (entry_at ns p).free) false (joined e.by_argument (lent_at ns p)) Words.Plain 0 0
+    ≡ kept n (first_of e.packs (piece_packs ns piece)) (both_free e.free (piece_frees ns piece)) false (joined e.by_argument (piece_lends ns piece)) Words.Plain 0 0
+unfolding piece_packs piece_frees piece_lends joined passed
+lambda-within ns n e piece p k is = rw is refl
 
 pub conversion-alone : (ns : List Entry) (n : Node) (piece : Piece) (t : ℕ) → piece ≡ Piece.Conversion t
-    → kept n (entry_at ns t).packs (entry_at ns t).is_open (entry_at ns t).is_generic false (passed (lent_at ns t)) Words.Plain 0 0
-    ≡ kept n (piece_packs ns piece) (piece_opens ns piece) (piece_has_generic ns piece) false (piece_lends ns piece) Words.Plain 0 0
-unfolding piece_packs piece_opens piece_has_generic piece_lends
+    → kept n (entry_at ns t).packs (entry_at ns t).free false (passed (lent_at ns t)) Words.Plain 0 0
+    ≡ kept n (piece_packs ns piece) (piece_frees ns piece) false (piece_lends ns piece) Words.Plain 0 0
+unfolding piece_packs piece_frees piece_lends
 conversion-alone ns n piece t is = rw is refl
 
 pub conversion-within : (ns : List Entry) (n : Node) (e : Entry) (piece : Piece) (t : ℕ) → piece ≡ Piece.Conversion t
-    → kept n (first_of e.packs (entry_at ns t).packs) (e.is_open || (entry_at ns t).is_open) (e.is_generic || (entry_at ns t).is_generic) false (joined e.by_argument (lent_at ns t)) Words.Plain 0 0
-    ≡ kept n (first_of e.packs (piece_packs ns piece)) (e.is_open || piece_opens ns piece) (e.is_generic || piece_has_generic ns piece) false (joined e.by_argument (piece_lends ns piece)) Words.Plain 0 0
-unfolding piece_packs piece_opens piece_has_generic piece_lends joined passed
+    → kept n (first_of e.packs (entry_at ns t).packs) (both_free e.free (entry_at ns t).free) false (joined e.by_argument (lent_at ns t)) Words.Plain 0 0
+    ≡ kept n (first_of e.packs (piece_packs ns piece)) (both_free e.free (piece_frees ns piece)) false (joined e.by_argument (piece_lends ns piece)) Words.Plain 0 0
+unfolding piece_packs piece_frees piece_lends joined passed
 conversion-within ns n e piece t is = rw is refl
 
 pub other-alone : (ns : List Entry) (n : Node) (piece : Piece) → ((p k : ℕ) → piece ≡ Piece.Lambda p k → ⊥) → ((t : ℕ) → piece ≡ Piece.Conversion t → ⊥)
-    → bare_entry n false ≡ kept n (piece_packs ns piece) (piece_opens ns piece) (piece_has_generic ns piece) false (piece_lends ns piece) Words.Plain 0 0
-unfolding piece_packs piece_opens piece_has_generic piece_lends class_kept arguments_kept untagged_kept returns_kept count_kept run_kept
+    → bare_entry n false ≡ kept n (piece_packs ns piece) (piece_frees ns piece) false (piece_lends ns piece) Words.Plain 0 0
+unfolding piece_packs piece_frees piece_lends class_kept arguments_kept untagged_kept returns_kept count_kept run_kept
 other-alone ns n (Piece.Lambda p k) other none = absurd (other p k refl)
 other-alone ns n (Piece.Conversion t) other none = absurd (none t refl)
 other-alone ns n _ other none = refl
@@ -95,31 +88,36 @@ joined-none : (l : ByArgument) → passed l ≡ joined l (by_none false)
 unfolding passed joined
 joined-none l = ap (λ b. record { is_bare = b; head = HeadFrom.Own; empty_with = false; empty_without = false }) (or-false l.is_bare)
 
-within-none : (n : Node) (e : Entry) → kept n e.packs e.is_open e.is_generic false (passed e.by_argument) Words.Plain 0 0
-    ≡ kept n (first_of e.packs None) (e.is_open || false) (e.is_generic || false) false (joined e.by_argument (by_none false)) Words.Plain 0 0
+both-none : (f : Free) → f ≡ both_free f Free.None
+unfolding both_free
+both-none Free.None = refl
+both-none (Free.One k) = refl
+both-none Free.Several = refl
+
+within-none : (n : Node) (e : Entry) → kept n e.packs e.free false (passed e.by_argument) Words.Plain 0 0
+    ≡ kept n (first_of e.packs None) (both_free e.free Free.None) false (joined e.by_argument (by_none false)) Words.Plain 0 0
 within-none n e =
-    ap (λ p. kept n p e.is_open e.is_generic false (passed e.by_argument) Words.Plain 0 0) (first-none e.packs)
-    ∙ ap (λ b. kept n (first_of e.packs None) b e.is_generic false (passed e.by_argument) Words.Plain 0 0) (or-false e.is_open)
-    ∙ ap (λ b. kept n (first_of e.packs None) (e.is_open || false) b false (passed e.by_argument) Words.Plain 0 0) (or-false e.is_generic)
-    ∙ ap (λ l. kept n (first_of e.packs None) (e.is_open || false) (e.is_generic || false) false l Words.Plain 0 0) (joined-none e.by_argument)
+    ap (λ p. kept n p e.free false (passed e.by_argument) Words.Plain 0 0) (first-none e.packs)
+    ∙ ap (λ f. kept n (first_of e.packs None) f false (passed e.by_argument) Words.Plain 0 0) (both-none e.free)
+    ∙ ap (λ l. kept n (first_of e.packs None) (both_free e.free Free.None) false l Words.Plain 0 0) (joined-none e.by_argument)
 
 pub other-within : (ns : List Entry) (n : Node) (e : Entry) (piece : Piece) → ((p k : ℕ) → piece ≡ Piece.Lambda p k → ⊥) → ((t : ℕ) → piece ≡ Piece.Conversion t → ⊥)
-    → kept n e.packs e.is_open e.is_generic false (passed e.by_argument) Words.Plain 0 0
-    ≡ kept n (first_of e.packs (piece_packs ns piece)) (e.is_open || piece_opens ns piece) (e.is_generic || piece_has_generic ns piece) false (joined e.by_argument (piece_lends ns piece)) Words.Plain 0 0
-unfolding piece_packs piece_opens piece_has_generic piece_lends
+    → kept n e.packs e.free false (passed e.by_argument) Words.Plain 0 0
+    ≡ kept n (first_of e.packs (piece_packs ns piece)) (both_free e.free (piece_frees ns piece)) false (joined e.by_argument (piece_lends ns piece)) Words.Plain 0 0
+unfolding piece_packs piece_frees piece_lends
 other-within ns n e (Piece.Lambda p k) other none = absurd (other p k refl)
 other-within ns n e (Piece.Conversion t) other none = absurd (none t refl)
 other-within ns n e _ other none = within-none n e
 
 pub expansion-is : (n : Node) (empty : Bool) (held : Compact) (e : Entry) → entry_of held ≡ e → empty ≡ heads.is_none_of (packs_kept held.packs)
-    → kept n None held.is_open held.is_generic empty (of_expansion held.by_argument) Words.Plain 0 0
-    ≡ kept n None e.is_open e.is_generic (heads.is_none_of e.packs) (of_expansion e.by_argument) Words.Plain 0 0
+    → kept n None (free_kept held.free held.number) empty (of_expansion held.by_argument) Words.Plain 0 0
+    ≡ kept n None e.free (heads.is_none_of e.packs) (of_expansion e.by_argument) Words.Plain 0 0
 expansion-is n empty held e at made =
-    ap (λ b. kept n None held.is_open held.is_generic b (of_expansion held.by_argument) Words.Plain 0 0) made ∙ ap (λ x. kept n None x.is_open x.is_generic (heads.is_none_of x.packs) (of_expansion x.by_argument) Words.Plain 0 0) at
+    ap (λ b. kept n None (free_kept held.free held.number) b (of_expansion held.by_argument) Words.Plain 0 0) made ∙ ap (λ x. kept n None x.free (heads.is_none_of x.packs) (of_expansion x.by_argument) Words.Plain 0 0) at
 
 pub pack-is : (n : Node) (held : Compact) (e : Entry) → entry_of held ≡ e
-    → kept n (packs_kept held.packs) held.is_open held.is_generic held.is_empty (of_pack held.by_argument) Words.Plain 0 0 ≡ kept n e.packs e.is_open e.is_generic e.is_empty (of_pack e.by_argument) Words.Plain 0 0
-pack-is n held e at = ap (λ x. kept n x.packs x.is_open x.is_generic x.is_empty (of_pack x.by_argument) Words.Plain 0 0) at
+    → kept n (packs_kept held.packs) (free_kept held.free held.number) held.is_empty (of_pack held.by_argument) Words.Plain 0 0 ≡ kept n e.packs e.free e.is_empty (of_pack e.by_argument) Words.Plain 0 0
+pack-is n held e at = ap (λ x. kept n x.packs x.free x.is_empty (of_pack x.by_argument) Words.Plain 0 0) at
 
 -- one more is held
 pub held-one-more : (olds news : List Compact) (c : Compact) (ns : List Entry) (e : Entry) → news ≡ olds ++ c ∷ [] → map entry_of olds ≡ ns → entry_of c ≡ e
@@ -129,11 +127,6 @@ held-one-more olds news c ns e is was made =
     ∙ ap (λ es. es ++ entry_of c ∷ []) was ∙ ap (λ x. ns ++ x ∷ []) made
 
 -- ## The nodes of which nothing is noted
-
--- that of a lambda's own parameter
-pub generic-node : (ns : List Entry) (n : Node) (c : Compact) (k : ℕ) → n ≡ Node.GenericParameter k → entry_of c ≡ bare_entry n false → entry_of (as_generic c true) ≡ noting ns n
-unfolding opens has_generic lends empties ends_in untagging classes packing returning counting running
-generic-node ns n c k is made = ap (λ x. opened x true) made ∙ rw is refl
 
 -- Generated by tools/trees.py. The others
 pub record IsOther (n : Node) : Type 0 where
@@ -154,7 +147,6 @@ pub record IsOther (n : Node) : Type 0 where
   pub not_memberpointer : (i : ℕ) (j : ℕ) → n ≡ Node.MemberPointer i j → ⊥
   pub not_functiontype : (x : Bool) (y : Bool) (m : Mark) (i : ℕ) (j : ℕ) → n ≡ Node.FunctionType x y m i j → ⊥
   pub not_qualified : (q : Qualifiers) (i : ℕ) → n ≡ Node.Qualified q i → ⊥
-  pub not_genericparameter : (k : ℕ) → n ≡ Node.GenericParameter k → ⊥
   pub not_vector : (d : Span) (i : ℕ) → n ≡ Node.Vector d i → ⊥
   pub not_complex : (i : ℕ) → n ≡ Node.Complex i → ⊥
   pub not_expansion : (i : ℕ) → n ≡ Node.Expansion i → ⊥
@@ -165,7 +157,7 @@ pub record IsOther (n : Node) : Type 0 where
 
 -- Generated by tools/trees.py.
 pub other-node : (ns : List Entry) (n : Node) → IsOther n → bare_entry n false ≡ noting ns n
-unfolding opens has_generic lends empties ends_in untagging classes packing returning counting running
+unfolding frees lends empties ends_in untagging classes packing returning counting running
 other-node ns Node.Nil other = absurd (other.not_nil refl)
 other-node ns (Node.Alone p) other = absurd (other.not_alone p refl)
 other-node ns (Node.InStd p) other = absurd (other.not_instd p refl)
@@ -183,7 +175,6 @@ other-node ns (Node.Array d i) other = absurd (other.not_array d i refl)
 other-node ns (Node.MemberPointer i j) other = absurd (other.not_memberpointer i j refl)
 other-node ns (Node.FunctionType x y m i j) other = absurd (other.not_functiontype x y m i j refl)
 other-node ns (Node.Qualified q i) other = absurd (other.not_qualified q i refl)
-other-node ns (Node.GenericParameter k) other = absurd (other.not_genericparameter k refl)
 other-node ns (Node.Vector d i) other = absurd (other.not_vector d i refl)
 other-node ns (Node.Complex i) other = absurd (other.not_complex i refl)
 other-node ns (Node.Expansion i) other = absurd (other.not_expansion i refl)
@@ -202,7 +193,7 @@ pub pack-packs : (ns : List Entry) (n : Node) (elements count : ℕ) → n ≡ N
 unfolding argument_packs packs_kept
 pack-packs ns n elements count is counted = rw (is, counted, one-more (entry_at ns elements).count) refl
 
-pub pack-head : (n : Node) (c : HeadClass) (under : Option ℕ) (elements second : ℕ) → n ≡ Node.Pack elements → packs_kept second ≡ under → class_kept Words.OfElement elements second ≡ pack_class under n c
+pub pack-head : (n : Node) (c : HeadClass) (under : Option ℕ) (elements second : ℕ) → n ≡ Node.Pack elements → under_kept second ≡ under → class_kept Words.OfElement elements second ≡ pack_class under n c
 unfolding pack_class class_kept
 pack-head n c under elements second is there = rw (is, sym there) refl
 
@@ -219,18 +210,18 @@ other-head _ under c other = refl
 -- ## Trees that are there again
 
 pub own-restated : (n : Node) (packs : Option ℕ) (empty : Bool) (e : Entry) (argument : ℕ) (given : HeadClass) → e.by_argument.head ≡ HeadFrom.Own
-    → record { node = n; packs = packs; is_open = e.is_open; is_generic = e.is_generic; is_empty = empty; by_argument = e.by_argument; class = e.class; arguments = placed_under argument e.arguments; untagged = placed_under argument e.untagged; returns = e.returns; count = e.count; run = 0 }
+    → record { node = n; packs = packs; free = e.free; is_empty = empty; by_argument = e.by_argument; class = e.class; arguments = placed_under argument e.arguments; untagged = placed_under argument e.untagged; returns = e.returns; count = e.count; run = 0 }
     ≡ restated_entry n packs empty e argument given
 unfolding class_by if_own
 own-restated n packs empty e argument given is = rw is refl
 
 pub given-restated : (n : Node) (packs : Option ℕ) (empty : Bool) (e : Entry) (argument : ℕ) (given : HeadClass) → e.by_argument.head ≡ HeadFrom.Argument
-    → with_head n packs e.is_open e.is_generic empty e.by_argument given ≡ restated_entry n packs empty e argument given
+    → with_head n packs e.free empty e.by_argument given ≡ restated_entry n packs empty e argument given
 unfolding class_by if_own
 given-restated n packs empty e argument given is = rw is refl
 
 pub collapsed-restated : (n : Node) (packs : Option ℕ) (empty : Bool) (e : Entry) (argument : ℕ) (given : HeadClass) → e.by_argument.head ≡ HeadFrom.Collapsed
-    → with_head n packs e.is_open e.is_generic empty e.by_argument (collapses given) ≡ restated_entry n packs empty e argument given
+    → with_head n packs e.free empty e.by_argument (collapses given) ≡ restated_entry n packs empty e argument given
 unfolding class_by if_own
 collapsed-restated n packs empty e argument given is = rw is refl
 

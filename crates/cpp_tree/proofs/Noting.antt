@@ -1,11 +1,13 @@
 -- What is noted of a node is what its tree has.
-use Rattle.std.proofs.Common.{◌≡◌, refl, sym, ap, ◌∙◌, subst, ℕ, zero, suc, ◌+◌, ◌-◌, ◌<◌, ◌≤◌, arith, List, length, Bool, true, false, not, cond, nat_eq, ◌||◌, ◌&&◌, Option, None, Some}
+use Rattle.std.proofs.Common.{◌≡◌, refl, sym, ap, ◌∙◌, ℕ, zero, suc, ◌+◌, ◌-◌, ◌<◌, ◌≤◌, arith, List, length, Bool, true, false, not, cond, nat_eq, ◌&&◌, Option, None, Some}
 use Rattle.std.proofs.lemmas.Bool.{eqb-true, true≢false}
 use Rattle.cpp_term.specs.Term.{Term}
-use Rattle.cpp_term.specs.Scope.{is_open, is_generic}
+use Rattle.cpp_term.specs.Scope.{free_in}
+use Rattle.cpp_grammar.specs.Scope as scope
+use Rattle.cpp_term.proofs.Notes.{both}
 use Rattle.cpp_tree.specs.declared.node.Piece.{Piece}
 use Rattle.cpp_tree.specs.declared.node.Node.{Node}
-use Rattle.cpp_tree.specs.Nodes.{Table, tree_at, piece_of, tree_of, trees, entry_at, IsPieceBelow, IsBelow, IsThereBelow, IsPlacedBelow, IsClassBelow, IsArgumentsBelow, IsTable, tree_if_there, placed_tree, class_is, head_of, arguments_are, untagged_is, head_noted, by_argument_of, is_again, IsFlat, IsNoted}
+use Rattle.cpp_tree.specs.Nodes.{Table, tree_at, piece_of, tree_of, trees, entry_at, IsPieceBelow, IsBelow, IsThereBelow, IsPlacedBelow, IsClassBelow, IsArgumentsBelow, IsTable, tree_if_there, placed_tree, class_is, head_of, arguments_are, untagged_is, head_noted, by_argument_of, free_is, is_again, IsFlat, IsNoted}
 use Rattle.cpp_term.specs.Term as term
 use Rattle.cpp_grammar.specs.Items as heads
 use Rattle.cpp_term.specs.Items as items
@@ -14,11 +16,12 @@ use Rattle.cpp_tree.specs.declared.node.Head.{Head}
 use Rattle.cpp_tree.specs.declared.node.Placed.{Placed}
 use Rattle.cpp_tree.specs.declared.node.HeadClass.{HeadClass}
 use Rattle.cpp_tree.specs.declared.node.HeadFrom.{HeadFrom}
+use Rattle.cpp_tree.specs.declared.node.Free.{Free}
 use Rattle.cpp_tree.specs.declared.node.ByArgument.{ByArgument}
 use Rattle.cpp_term.specs.Reargued as again
 use Rattle.cpp_term.specs.Reargued.{reargued, reargued_if_there, argument_or, bare, head_from, class_from, is_empty_with}
-use Rattle.cpp_term.proofs.Reargued.{reargued_none, reargued_twice, open_reargued, generic_reargued, count_reargued, arguments_reargued, untagged_reargued, structor_reargued, returns_reargued, bare_reargued, length_reargued, head_from_reargued, empty_with_reargued, pack_reargued, class_reargued, empty_reargued}
-use Rattle.cpp_tree.specs.Notes.{open_at, piece_opens, opens, generic_at, piece_has_generic, has_generic, lent_at, passed, joined, piece_lends, collapses_from, of_parameter, of_expansion, of_pack, of_cell, of_head, lends, empty_by, place_of, resolved_at, shape_at, placed_under, if_own, packs_by, empties, itself, ends_in, or_itself, untagging, collapses, pack_class, argument_class, class_by, classes, packs_at, argument_packs, piece_packs, packing, is_structor_piece, is_structor_node, returning, counting, running, noting}
+use Rattle.cpp_term.proofs.Reargued.{reargued_none, reargued_twice, free_reargued, count_reargued, arguments_reargued, untagged_reargued, structor_reargued, returns_reargued, bare_reargued, length_reargued, head_from_reargued, empty_with_reargued, pack_reargued, class_reargued, empty_reargued}
+use Rattle.cpp_tree.specs.Notes.{free_at, both_free, piece_frees, frees, lent_at, passed, joined, piece_lends, collapses_from, of_expansion, of_pack, of_head, lends, empty_by, place_of, resolved_at, shape_at, placed_under, if_own, packs_by, empties, ends_in, or_itself, untagging, collapses, pack_class, argument_class, class_by, classes, packs_at, argument_packs, piece_packs, packing, is_structor_piece, is_structor_node, returning, counting, running, noting}
 
 one-more : (n : ℕ) → 1 + n ≡ suc n
 one-more n = omega arith
@@ -85,77 +88,57 @@ pub again-place : (i t a : ℕ) (n : Node) → n ≡ Node.Again t a → record {
 unfolding place_of
 again-place i t a n is = rw is refl
 
+both-is : (a b : Free) → free_is (both_free a b) ≡ scope.both_free (free_is a) (free_is b)
+unfolding both_free free_is scope.both_free
+both-is Free.None b = refl
+both-is (Free.One j) Free.None = refl
+both-is (Free.One j) (Free.One k) = one-is (nat_eq j k)
+  where
+    one-is : (same : Bool) → free_is (elim same [ true ↦ Free.One j | false ↦ Free.Several ]) ≡ elim same [ true ↦ scope.one_free j | false ↦ scope.several_free ]
+    one-is true = refl
+    one-is false = refl
+both-is (Free.One j) Free.Several = refl
+both-is Free.Several b = refl
+
+both-are : (a b : Free) {f g : scope.Free} → free_is a ≡ f → free_is b ≡ g → free_is (both_free a b) ≡ scope.both_free f g
+both-are a b e h = both-is a b ∙ both scope.both_free e h
+
 module _ (y : Table) (table : IsTable y) where
-  at : (i : ℕ) → i < length y.nodes → open_at y.nodes i ≡ is_open (tree_at (trees y) i)
+  at : (i : ℕ) → i < length y.nodes → free_is (free_at y.nodes i) ≡ free_in (tree_at (trees y) i)
   at i less = (table.each i less).free
 
-  piece-open : (p : Piece) → IsPieceBelow y.bytes (length y.nodes) p → piece_opens y.nodes p ≡ is_open (piece_of y.bytes (trees y) p)
-  unfolding piece_opens piece_of is_open
-  piece-open (Piece.Lambda parameters number) b = at parameters b
-  piece-open (Piece.Conversion t) b = at t b
-  piece-open _ b = refl
+  piece-free : (p : Piece) → IsPieceBelow y.bytes (length y.nodes) p → free_is (piece_frees y.nodes p) ≡ free_in (piece_of y.bytes (trees y) p)
+  unfolding piece_frees piece_of free_in free_is
+  piece-free (Piece.Lambda parameters number) b = at parameters b
+  piece-free (Piece.Conversion t) b = at t b
+  piece-free _ b = refl
 
   -- Generated by tools/trees.py.
-  pub node-open : (n : Node) → IsBelow y.bytes (length y.thunks) (length y.nodes) n → opens y.nodes n ≡ is_open (tree_of y.bytes y.thunks (trees y) n)
-  unfolding opens tree_of is_open
-  node-open (Node.Alone p) b = piece-open p b
-  node-open (Node.InStd p) b = piece-open p b
-  node-open (Node.Within prefix p) b = rw (at prefix b.0, piece-open p b.1) refl
-  node-open (Node.Instance template arguments) b = rw (at template b.0, at arguments b.1) refl
-  node-open (Node.Local e entity d) b = at entity b.1
-  node-open (Node.Holder name) b = at name b
-  node-open (Node.Tagged of_structor name tag) b = at name b.0
-  node-open (Node.OfDefault digits entity) b = at entity b.1
-  node-open (Node.Pointer t) b = at t b
-  node-open (Node.Lvalue t) b = at t b
-  node-open (Node.Rvalue t) b = at t b
-  node-open (Node.Array digits t) b = at t b.1
-  node-open (Node.MemberPointer class t) b = rw (at class b.0, at t b.1) refl
-  node-open (Node.FunctionType c n m returned parameters) b = rw (at returned b.0, at parameters b.1) refl
-  node-open (Node.Qualified q t) b = at t b
-  node-open (Node.Vector digits t) b = at t b.1
-  node-open (Node.Complex t) b = at t b
-  node-open (Node.Expansion pattern) b = at pattern b
-  node-open (Node.Integer t n) b = at t b.0
-  node-open (Node.Pack elements) b = at elements b
-  node-open (Node.Cell first rest) b = rw (at first b.0, at rest b.1) refl
-  node-open (Node.Again t a) b = at t b.0 ∙ sym (open_reargued (Some (tree_at (trees y) a)) (tree_at (trees y) t))
-  node-open _ b = refl
-
-  generic-at : (i : ℕ) → i < length y.nodes → generic_at y.nodes i ≡ is_generic (tree_at (trees y) i)
-  generic-at i less = (table.each i less).generic
-
-  piece-generic : (p : Piece) → IsPieceBelow y.bytes (length y.nodes) p → piece_has_generic y.nodes p ≡ is_generic (piece_of y.bytes (trees y) p)
-  unfolding piece_has_generic piece_of is_generic
-  piece-generic (Piece.Conversion t) b = generic-at t b
-  piece-generic _ b = refl
-
-  -- Generated by tools/trees.py.
-  pub node-generic : (n : Node) → IsBelow y.bytes (length y.thunks) (length y.nodes) n → has_generic y.nodes n ≡ is_generic (tree_of y.bytes y.thunks (trees y) n)
-  unfolding has_generic tree_of is_generic
-  node-generic (Node.Alone p) b = piece-generic p b
-  node-generic (Node.InStd p) b = piece-generic p b
-  node-generic (Node.Within prefix p) b = rw (generic-at prefix b.0, piece-generic p b.1) refl
-  node-generic (Node.Instance template arguments) b = rw (generic-at template b.0, generic-at arguments b.1) refl
-  node-generic (Node.Local e entity d) b = generic-at entity b.1
-  node-generic (Node.Holder name) b = generic-at name b
-  node-generic (Node.Tagged of_structor name tag) b = generic-at name b.0
-  node-generic (Node.OfDefault digits entity) b = generic-at entity b.1
-  node-generic (Node.Pointer t) b = generic-at t b
-  node-generic (Node.Lvalue t) b = generic-at t b
-  node-generic (Node.Rvalue t) b = generic-at t b
-  node-generic (Node.Array digits t) b = generic-at t b.1
-  node-generic (Node.MemberPointer class t) b = rw (generic-at class b.0, generic-at t b.1) refl
-  node-generic (Node.FunctionType c n m returned parameters) b = rw (generic-at returned b.0, generic-at parameters b.1) refl
-  node-generic (Node.Qualified q t) b = generic-at t b
-  node-generic (Node.Vector digits t) b = generic-at t b.1
-  node-generic (Node.Complex t) b = generic-at t b
-  node-generic (Node.Expansion pattern) b = generic-at pattern b
-  node-generic (Node.Integer t n) b = generic-at t b.0
-  node-generic (Node.Pack elements) b = generic-at elements b
-  node-generic (Node.Cell first rest) b = rw (generic-at first b.0, generic-at rest b.1) refl
-  node-generic (Node.Again t a) b = generic-at t b.0 ∙ sym (generic_reargued (Some (tree_at (trees y) a)) (tree_at (trees y) t))
-  node-generic _ b = refl
+  pub node-free : (n : Node) → IsBelow y.bytes (length y.thunks) (length y.nodes) n → free_is (frees y.nodes n) ≡ free_in (tree_of y.bytes y.thunks (trees y) n)
+  unfolding frees tree_of free_in free_is
+  node-free (Node.Alone p) b = piece-free p b
+  node-free (Node.InStd p) b = piece-free p b
+  node-free (Node.Within prefix p) b = both-are (free_at y.nodes prefix) (piece_frees y.nodes p) (at prefix b.0) (piece-free p b.1)
+  node-free (Node.Instance template arguments) b = both-are (free_at y.nodes template) (free_at y.nodes arguments) (at template b.0) (at arguments b.1)
+  node-free (Node.Local e entity d) b = at entity b.1
+  node-free (Node.Holder name) b = at name b
+  node-free (Node.Tagged of_structor name tag) b = at name b.0
+  node-free (Node.OfDefault digits entity) b = at entity b.1
+  node-free (Node.Pointer t) b = at t b
+  node-free (Node.Lvalue t) b = at t b
+  node-free (Node.Rvalue t) b = at t b
+  node-free (Node.Array digits t) b = at t b.1
+  node-free (Node.MemberPointer class t) b = both-are (free_at y.nodes class) (free_at y.nodes t) (at class b.0) (at t b.1)
+  node-free (Node.FunctionType c n m returned parameters) b = both-are (free_at y.nodes returned) (free_at y.nodes parameters) (at returned b.0) (at parameters b.1)
+  node-free (Node.Qualified q t) b = at t b
+  node-free (Node.Vector digits t) b = at t b.1
+  node-free (Node.Complex t) b = at t b
+  node-free (Node.Expansion pattern) b = at pattern b
+  node-free (Node.Integer t n) b = at t b.0
+  node-free (Node.Pack elements) b = at elements b
+  node-free (Node.Cell first rest) b = both-are (free_at y.nodes first) (free_at y.nodes rest) (at first b.0) (at rest b.1)
+  node-free (Node.Again t a) b = at t b.0 ∙ sym (free_reargued (Some (tree_at (trees y) a)) (tree_at (trees y) t))
+  node-free _ b = refl
 
   lent-at : (i : ℕ) → i < length y.nodes → lent_at y.nodes i ≡ by_argument_of (tree_at (trees y) i)
   lent-at i less = (table.each i less).by_argument
@@ -255,6 +238,7 @@ module _ (y : Table) (table : IsTable y) where
     where
       none : IsPlain (tree_at (trees y) t) → None ≡ reargued_if_there (Some (tree_at (trees y) a)) (arguments_of (tree_at (trees y) t))
       none plain = ap (reargued_if_there (Some (tree_at (trees y) a))) (sym plain.no_arguments)
+
       which : (h : HeadFrom) → (lent_at y.nodes t).head ≡ h
           → arguments_are (trees y) (if_own h (placed_under a (entry_at y.nodes t).arguments) None) ≡ reargued_if_there (Some (tree_at (trees y) a)) (arguments_of (tree_at (trees y) t))
       which HeadFrom.Own is = arguments-again a (entry_at y.nodes t).arguments ∙ ap (reargued_if_there (Some (tree_at (trees y) a))) (table.each t less).arguments
@@ -313,6 +297,7 @@ module _ (y : Table) (table : IsTable y) where
       own : (o : Option Placed) → untagged_is (trees y) (tree_at (trees y) t) o ≡ without_tags (tree_at (trees y) t) → untagged_is (trees y) (reargued (Some (tree_at (trees y) a)) (tree_at (trees y) t)) (placed_under a o) ≡ reargued (Some (tree_at (trees y) a)) (without_tags (tree_at (trees y) t))
       own None e = ap (reargued (Some (tree_at (trees y) a))) e
       own (Some p) e = sym (reargued_twice (tree_if_there (trees y) p.under) (tree_at (trees y) a) (tree_at (trees y) p.node)) ∙ ap (reargued (Some (tree_at (trees y) a))) e
+
       which : (h : HeadFrom) → (lent_at y.nodes t).head ≡ h → untagged_is (trees y) (reargued (Some (tree_at (trees y) a)) (tree_at (trees y) t)) (if_own h (placed_under a (entry_at y.nodes t).untagged) None) ≡ reargued (Some (tree_at (trees y) a)) (without_tags (tree_at (trees y) t))
       which HeadFrom.Own is = own (entry_at y.nodes t).untagged (table.each t less).untagged
       which HeadFrom.Argument is = ap (reargued (Some (tree_at (trees y) a))) (sym (plain-at t less (λ o. cc (is, o))).no_tags)
@@ -587,8 +572,7 @@ module _ (y : Table) (table : IsTable y) where
   noted n flat b = record {
     below = b;
     packs = node-pack n b;
-    free = node-open n b;
-    generic = node-generic n b;
+    free = node-free n b;
     empty = node-empty n b;
     by_argument = node-lends n b;
     flat = flat;

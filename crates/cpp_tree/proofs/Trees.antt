@@ -1,7 +1,7 @@
 -- What nodes say of their trees.
 use Rattle.std.proofs.Common.{◌≡◌, refl, sym, ◌∙◌, ap, subst, arith, ℕ, zero, suc, ◌-◌, ◌+◌, ◌<◌, ◌≤◌, List, length, Bool, Option, Some, None}
 use Rattle.cpp_term.specs.Term.{Term, absent, nil, list, pack}
-use Rattle.cpp_term.specs.Scope.{without_tags, element, pack_length}
+use Rattle.cpp_term.specs.Scope.{without_tags, element, length_if_pack, pack_length}
 use Rattle.cpp_grammar.specs.Items as heads
 use Rattle.cpp_term.specs.Items as items
 use Rattle.cpp_term.specs.Items.{indexed, plain_class, element_head, head_of_class}
@@ -14,13 +14,13 @@ use Rattle.cpp_tree.specs.declared.node.Entry.{Entry}
 use Rattle.cpp_term.specs.Reargued.{reargued}
 use Rattle.std.proofs.lemmas.Bool.{true≢false}
 use Rattle.std.specs.Prelude.{false}
-use Rattle.cpp_term.proofs.Reargued.{reargued_none, reargued_twice, element_reargued, untagged_reargued, erase_reargued}
+use Rattle.cpp_term.proofs.Reargued.{length_reargued, reargued_none, reargued_twice, element_reargued, untagged_reargued, erase_reargued}
 use Rattle.cpp_tree.specs.Notes.{class_by, empty_by, packs_by, argument_packs, place_of, resolved_at, shape_at}
 use Rattle.cpp_term.specs.Erased.{erase}
 use Rattle.cpp_tree.specs.declared.view.NodeView.{NodeView}
 use Rattle.cpp_tree.specs.Views.{AreBelow}
 use Rattle.cpp_tree.proofs.Noting.{class-later, again-pack, again-empty}
-use Rattle.cpp_tree.specs.Nodes.{Table, tree_at, tree_of, trees, entry_at, IsBelow, IsThereBelow, IsPlacedBelow, IsFlat, tree_if_there, placed_tree, is_again, IsClassBelow, IsArgumentsBelow, head_of, class_is, untagged_is, IsTable}
+use Rattle.cpp_tree.specs.Nodes.{Table, tree_at, tree_of, trees, entry_at, IsBelow, IsThereBelow, IsFlat, tree_if_there, placed_tree, is_again, IsClassBelow, IsArgumentsBelow, head_of, class_is, untagged_is, IsTable}
 
 -- a node's tree is its production over those of its parts, which are earlier
 pub node_is : (y : Table) (i : ℕ) (n : Node) → IsTable y → i < length y.nodes → (entry_at y.nodes i).node ≡ n
@@ -313,3 +313,27 @@ pub packs_again : (y : Table) (p : Placed) (held : Entry) (a : ℕ) (given resul
 packs_again y p held a given result table less few at under given-is is =
     is ∙ ap (packs_by held.by_argument.is_bare) given-is ∙ ap (λ e. packs_by e.by_argument.is_bare (argument_packs y.nodes (shape_at y.nodes a))) at
     ∙ again-pack y table p.node a less few ∙ ap pack_length (sym (placed-some (trees y) p a under))
+
+-- ## Packs
+
+-- a tree that is a pack has as many elements under an argument
+pub pack_length_is : (y : Table) (p : Placed) (elements many : ℕ) → IsTable y → p.node < length y.nodes → (entry_at y.nodes p.node).node ≡ Node.Pack elements → many ≡ (entry_at y.nodes elements).count
+    → Some many ≡ length_if_pack (placed_tree (trees y) p)
+unfolding placed_tree tree_of length_if_pack
+pack_length_is y p elements many table less is counted =
+    let n = node_is y p.node (Node.Pack elements) table less is in
+    ap Some (counted ∙ (table.each elements (omega (arith, less, n.1))).counted)
+    ∙ sym (length_reargued (tree_if_there (trees y) p.under) (tree_at (trees y) p.node) ∙ ap length_if_pack n.0)
+
+no_length : (s : List ℕ) (us : List Thunk) (ts : List Term) (n : Node) → is_again n ≡ false → ((elements : ℕ) → n ≡ Node.Pack elements → ⊥) → length_if_pack (tree_of s us ts n) ≡ None
+unfolding tree_of length_if_pack is_again
+no_length s us ts (Node.Pack elements) flat other = absurd (other elements refl)
+no_length s us ts (Node.Again t a) flat other = absurd (true≢false flat)
+no_length s us ts _ flat other = refl
+
+pub no_pack_length : (y : Table) (p : Placed) → IsTable y → p.node < length y.nodes → is_again (entry_at y.nodes p.node).node ≡ false → ((elements : ℕ) → (entry_at y.nodes p.node).node ≡ Node.Pack elements → ⊥)
+    → length_if_pack (placed_tree (trees y) p) ≡ None
+unfolding placed_tree
+no_pack_length y p table less flat other =
+    length_reargued (tree_if_there (trees y) p.under) (tree_at (trees y) p.node)
+    ∙ ap length_if_pack (table.each p.node less).built ∙ no_length y.bytes y.thunks (trees y) (entry_at y.nodes p.node).node flat other

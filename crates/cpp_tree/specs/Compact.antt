@@ -5,9 +5,12 @@ use Rattle.cpp_tree.specs.declared.node.Node.{Node}
 use Rattle.cpp_tree.specs.declared.node.Head.{Head}
 use Rattle.cpp_tree.specs.declared.node.Placed.{Placed}
 use Rattle.cpp_tree.specs.declared.node.HeadClass.{HeadClass}
+use Rattle.cpp_tree.specs.declared.node.Free.{Free}
 use Rattle.cpp_tree.specs.declared.node.ByArgument.{ByArgument}
+use Rattle.cpp_tree.specs.declared.compact.HowMany.{HowMany}
 use Rattle.cpp_tree.specs.declared.compact.Words.{Words}
 use Rattle.cpp_tree.specs.declared.compact.Compact.{Compact}
+use Rattle.cpp_tree.specs.Nodes.{under_kept}
 use Rattle.cpp_tree.specs.Notes.{placed_under, if_own, class_by}
 
 -- the length of packs, by what is kept: the number behind it, and 0 where there are none
@@ -17,7 +20,7 @@ packs_kept (suc n) = Some n
 
 -- the first word is a node, and the second the argument under which it stands and one more, 0 where there is none
 abbrev pub placed_kept : (first second : ℕ) → Placed
-placed_kept first second = record { node = first; under = packs_kept second }
+placed_kept first second = record { node = first; under = under_kept second }
 
 unfoldable pub class_kept : Words → (first second : ℕ) → HeadClass
 class_kept Words.FunctionOrArray n m = HeadClass.Known Head.FunctionOrArray
@@ -48,13 +51,18 @@ unfoldable pub run_kept : Words → ℕ → ℕ
 run_kept Words.Elements n = n
 run_kept _ n = 0
 
+-- the free parameters: the number is that of one alone
+unfoldable pub free_kept : HowMany → (number : ℕ) → Free
+free_kept HowMany.None k = Free.None
+free_kept HowMany.One k = Free.One k
+free_kept HowMany.Several k = Free.Several
+
 -- an entry, by what is shared in two words
-abbrev pub kept : (n : Node) (packs : Option ℕ) (is_open is_generic is_empty : Bool) (by_argument : ByArgument) (words : Words) (first second : ℕ) → Entry
-kept n packs is_open is_generic is_empty by_argument words first second = record {
+abbrev pub kept : (n : Node) (packs : Option ℕ) (free : Free) (is_empty : Bool) (by_argument : ByArgument) (words : Words) (first second : ℕ) → Entry
+kept n packs free is_empty by_argument words first second = record {
   node = n;
   packs = packs;
-  is_open = is_open;
-  is_generic = is_generic;
+  free = free;
   is_empty = is_empty;
   by_argument = by_argument;
   class = class_kept words first second;
@@ -66,12 +74,11 @@ kept n packs is_open is_generic is_empty by_argument words first second = record
 }
 
 -- the entry of a type with this head
-abbrev pub with_head : (n : Node) (packs : Option ℕ) (is_open is_generic is_empty : Bool) (by_argument : ByArgument) (class : HeadClass) → Entry
-with_head n packs is_open is_generic is_empty by_argument class = record {
+abbrev pub with_head : (n : Node) (packs : Option ℕ) (free : Free) (is_empty : Bool) (by_argument : ByArgument) (class : HeadClass) → Entry
+with_head n packs free is_empty by_argument class = record {
   node = n;
   packs = packs;
-  is_open = is_open;
-  is_generic = is_generic;
+  free = free;
   is_empty = is_empty;
   by_argument = by_argument;
   class = class;
@@ -83,12 +90,11 @@ with_head n packs is_open is_generic is_empty by_argument class = record {
 }
 
 -- the entry of a name that ends in these arguments
-abbrev pub with_arguments : (n : Node) (packs : Option ℕ) (is_open is_generic : Bool) (by_argument : ByArgument) (arguments : Option Placed) (returns : Bool) → Entry
-with_arguments n packs is_open is_generic by_argument arguments returns = record {
+abbrev pub with_arguments : (n : Node) (packs : Option ℕ) (free : Free) (by_argument : ByArgument) (arguments : Option Placed) (returns : Bool) → Entry
+with_arguments n packs free by_argument arguments returns = record {
   node = n;
   packs = packs;
-  is_open = is_open;
-  is_generic = is_generic;
+  free = free;
   is_empty = false;
   by_argument = by_argument;
   class = HeadClass.Known Head.Plain;
@@ -100,12 +106,11 @@ with_arguments n packs is_open is_generic by_argument arguments returns = record
 }
 
 -- the entry of a name with tags, under which this one stands
-abbrev pub with_tags : (n : Node) (packs : Option ℕ) (is_open is_generic : Bool) (by_argument : ByArgument) (untagged : Placed) → Entry
-with_tags n packs is_open is_generic by_argument untagged = record {
+abbrev pub with_tags : (n : Node) (packs : Option ℕ) (free : Free) (by_argument : ByArgument) (untagged : Placed) → Entry
+with_tags n packs free by_argument untagged = record {
   node = n;
   packs = packs;
-  is_open = is_open;
-  is_generic = is_generic;
+  free = free;
   is_empty = false;
   by_argument = by_argument;
   class = HeadClass.Known Head.Plain;
@@ -117,12 +122,11 @@ with_tags n packs is_open is_generic by_argument untagged = record {
 }
 
 -- the entry of a tree that is there again with an argument, where its head is its own, by the words of the tree
-abbrev pub own_entry : (n : Node) (packs : Option ℕ) (is_open is_generic is_empty : Bool) (by_argument : ByArgument) (words : Words) (first second argument : ℕ) → Entry
-own_entry n packs is_open is_generic is_empty by_argument words first second argument = record {
+abbrev pub own_entry : (n : Node) (packs : Option ℕ) (free : Free) (is_empty : Bool) (by_argument : ByArgument) (words : Words) (first second argument : ℕ) → Entry
+own_entry n packs free is_empty by_argument words first second argument = record {
   node = n;
   packs = packs;
-  is_open = is_open;
-  is_generic = is_generic;
+  free = free;
   is_empty = is_empty;
   by_argument = by_argument;
   class = class_kept words first second;
@@ -138,8 +142,7 @@ abbrev pub restated_entry : (n : Node) (packs : Option ℕ) (is_empty : Bool) (o
 restated_entry n packs is_empty own argument given = record {
   node = n;
   packs = packs;
-  is_open = own.is_open;
-  is_generic = own.is_generic;
+  free = own.free;
   is_empty = is_empty;
   by_argument = own.by_argument;
   class = class_by own.by_argument.head own.class given;
@@ -152,4 +155,4 @@ restated_entry n packs is_empty own argument given = record {
 
 -- the entry that is held
 abbrev pub entry_of : Compact → Entry
-entry_of c = kept c.node (packs_kept c.packs) c.is_open c.is_generic c.is_empty c.by_argument c.words c.first c.second
+entry_of c = kept c.node (packs_kept c.packs) (free_kept c.free c.number) c.is_empty c.by_argument c.words c.first c.second

@@ -2,11 +2,11 @@
 #![tactic(auto)]
 
 ghost use Rattle.std.specs.Prelude.{◌≡◌};
-ghost use Rattle.cpp_tree.specs.Compact.{packs_kept, placed_kept, class_kept, arguments_kept, untagged_kept, returns_kept, count_kept, run_kept, entry_of};
+ghost use Rattle.cpp_tree.specs.Compact.{packs_kept, placed_kept, class_kept, arguments_kept, untagged_kept, returns_kept, count_kept, run_kept, free_kept, entry_of};
 ghost use Rattle.cpp_tree.specs.Nodes.{by_none};
 ghost use Rattle.cpp_tree.specs.Notes.{bare_entry};
 
-use crate::node::{ByArgument, Entry, Head, HeadClass, HeadFrom, Node, Placed};
+use crate::node::{ByArgument, Entry, Free, Head, HeadClass, HeadFrom, Node, Placed, under_of};
 
 /// What two words beside a node tell: of a type a list of elements, of a name its arguments or itself without tags, each with the
 /// argument under which it stands, and of a list its count and its run.
@@ -24,8 +24,16 @@ pub enum Words {
     Elements,
 }
 
-/// An entry in 44 bytes: what no node has at once (the arguments of a name, the name under its tags, the elements of a list, the head of a type) shares
-/// the two words.
+/// How many parameters are free. The number of one alone stands beside.
+#[derive(Clone, Copy)]
+pub enum HowMany {
+    None,
+    One,
+    Several,
+}
+
+/// An entry in 48 bytes: what no node has at once (the arguments of a name, the name under its tags, the elements of a list, the head
+/// of a type) shares the two words.
 #[derive(Clone, Copy)]
 pub struct Compact {
     pub node: Node,
@@ -33,12 +41,15 @@ pub struct Compact {
     pub packs: u32,
     pub first: u32,
     pub second: u32,
-    pub is_open: bool,
-    pub is_generic: bool,
+    /// The number of the free parameter, where one alone is free.
+    pub number: u32,
+    pub free: HowMany,
     pub is_empty: bool,
     pub words: Words,
     pub by_argument: ByArgument,
 }
+
+const _: () = prove!(std::mem::size_of::<Compact>() == 48);
 
 /// The length of the packs.
 #[inline(always)]
@@ -51,13 +62,12 @@ pub(crate) fn packs(kept: u32) -> Option<u32>
 
 /// The tree of the node that the first word is, under the argument that the second says.
 #[inline(always)]
-#[tactic(auto, unfolding(crate::specs::Compact::packs_kept))]
 fn placed(first: u32, second: u32) -> Placed
     ensures { result ≡ placed_kept first second }
 {
     Placed {
         node: first,
-        under: packs(second),
+        under: under_of(second),
     }
 }
 
@@ -138,6 +148,19 @@ fn run(words: Words, second: u32) -> u32
     }
 }
 
+/// The free parameters.
+#[inline(always)]
+#[tactic(auto, unfolding(crate::specs::Compact::free_kept))]
+fn free_parameters(kept: HowMany, number: u32) -> Free
+    ensures { result ≡ free_kept kept number }
+{
+    match kept {
+        HowMany::None => Free::None,
+        HowMany::One => Free::One(number),
+        HowMany::Several => Free::Several,
+    }
+}
+
 impl Compact {
     /// The entry that is held.
     #[inline(always)]
@@ -147,8 +170,7 @@ impl Compact {
         Entry {
             node: self.node,
             packs: packs(self.packs),
-            is_open: self.is_open,
-            is_generic: self.is_generic,
+            free: free_parameters(self.free, self.number),
             is_empty: self.is_empty,
             by_argument: self.by_argument,
             class: class(self.words, self.first, self.second),
@@ -176,7 +198,7 @@ pub(crate) fn by_none(empty: bool) -> ByArgument
 
 /// A node of which nothing is noted.
 #[inline(always)]
-#[tactic(auto, unfolding(crate::specs::Compact::packs_kept, crate::specs::Compact::class_kept, crate::specs::Compact::arguments_kept, crate::specs::Compact::untagged_kept, crate::specs::Compact::returns_kept, crate::specs::Compact::count_kept, crate::specs::Compact::run_kept))]
+#[tactic(auto, unfolding(crate::specs::Compact::packs_kept, crate::specs::Compact::class_kept, crate::specs::Compact::arguments_kept, crate::specs::Compact::untagged_kept, crate::specs::Compact::returns_kept, crate::specs::Compact::count_kept, crate::specs::Compact::run_kept, crate::specs::Compact::free_kept))]
 pub(crate) fn bare(node: Node, is_empty: bool) -> Compact
     ensures { entry_of result ≡ bare_entry node is_empty }
 {
@@ -185,8 +207,8 @@ pub(crate) fn bare(node: Node, is_empty: bool) -> Compact
         packs: 0,
         first: 0,
         second: 0,
-        is_open: false,
-        is_generic: false,
+        number: 0,
+        free: HowMany::None,
         is_empty,
         words: Words::Plain,
         by_argument: by_none(is_empty),

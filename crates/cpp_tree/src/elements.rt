@@ -2,11 +2,11 @@
 #![tactic(auto)]
 
 ghost use Rattle.std.specs.Prelude.{◌≡◌, ◌<◌, length, false};
-ghost use Rattle.cpp_term.specs.Scope.{element};
+ghost use Rattle.cpp_term.specs.Scope.{element, is_open, free_in, length_if_pack};
 ghost use Rattle.cpp_term.specs.Items.{indexed};
-ghost use Rattle.cpp_tree.specs.Nodes.{over, trees, placed_tree, IsPlacedBelow, IsTable};
+ghost use Rattle.cpp_tree.specs.Nodes.{over, trees, tree_at, placed_tree, free_is, IsPlacedBelow, IsTable};
 
-use crate::node::{Node, Placed};
+use crate::node::{Free, Node, Placed};
 use crate::nodes::{ABSENT, Nodes};
 
 /// The absent tree.
@@ -47,9 +47,21 @@ impl Nodes {
         'runs: loop {
             let run = self.entry(cell).run;
             if left <= run {
-                return self.first(symbol, Placed { node: cell - left, under });
+                return self.first(
+                    symbol,
+                    Placed {
+                        node: cell - left,
+                        under,
+                    },
+                );
             }
-            let settled = self.settled(symbol, Placed { node: cell - run, under });
+            let settled = self.settled(
+                symbol,
+                Placed {
+                    node: cell - run,
+                    under,
+                },
+            );
             match self.node(symbol, settled.node) {
                 Node::Cell { rest, .. } => {
                     cell = rest;
@@ -83,5 +95,56 @@ impl Nodes {
             ),
             _ => argument,
         }
+    }
+
+    /// The node of a tree in which no parameter is free: the argument under which it stands changes nothing of it.
+    #[inline(always)]
+    pub fn closed_node(&self, symbol: &[u8], tree: Placed) -> u32
+        requires table { IsTable (over symbol.now self.now) }
+        requires tree { IsPlacedBelow (length self.now.nodes) tree }
+        requires closed { is_open (placed_tree (trees (over symbol.now self.now)) tree) ≡ false }
+        ensures tree { tree_at (trees (over symbol.now self.now)) result ≡ placed_tree (trees (over symbol.now self.now)) tree }
+        ensures below { result < length self.now.nodes }
+    {
+        tree.node
+    }
+
+    /// The length of an argument that is a pack: it has as many elements under another argument.
+    pub fn length_if_pack(&self, symbol: &[u8], argument: u32) -> Option<u32>
+        requires table { IsTable (over symbol.now self.now) }
+        requires below { argument < length self.now.nodes }
+        ensures { result ≡ length_if_pack (tree_at (trees (over symbol.now self.now)) argument) }
+    {
+        let settled = self.settled(
+            symbol,
+            Placed {
+                node: argument,
+                under: None,
+            },
+        );
+        match self.node(symbol, settled.node) {
+            Node::Pack(elements) => Some(self.entry(elements).count),
+            _ => None,
+        }
+    }
+
+    /// Whether parameters are free in a node's tree.
+    #[inline(always)]
+    pub fn is_open(&self, symbol: &[u8], node: u32) -> bool
+        requires table { IsTable (over symbol.now self.now) }
+        requires below { node < length self.now.nodes }
+        ensures { result ≡ is_open (tree_at (trees (over symbol.now self.now)) node) }
+    {
+        self.entry(node).is_open()
+    }
+
+    /// Which parameters are free in a node's tree.
+    #[inline(always)]
+    pub fn free(&self, symbol: &[u8], node: u32) -> Free
+        requires table { IsTable (over symbol.now self.now) }
+        requires below { node < length self.now.nodes }
+        ensures { free_is result ≡ free_in (tree_at (trees (over symbol.now self.now)) node) }
+    {
+        self.entry(node).free
     }
 }

@@ -40,6 +40,9 @@ pub const NIL: u32 = 1;
 /// The pack of no elements. A table begins with it, so that no step of the linker adds more than two nodes.
 pub const NO_ELEMENTS: u32 = 2;
 
+/// The builtin type auto, which is the argument of a lambda's own parameters.
+pub const AUTO: u32 = 3;
+
 impl Nodes {
     /// A table of no nodes.
     pub fn new(alloc: Global) -> Nodes
@@ -52,28 +55,30 @@ impl Nodes {
         }
     }
 
-    /// Takes all nodes away, keeps their memory, and puts the three that each table begins with.
+    /// Takes all nodes away, keeps their memory, and puts the four that each table begins with.
     ///
     /// # Errors
     ///
     /// `Memory` where the list couldn't grow.
     pub fn begin(&mut self) -> Result<(), Refusal>
         ensures table { OnOk result ((s : List ℕ) → IsTable (over s self.new)) }
-        ensures nodes { OnOk result (length self.new.nodes ≡ 3) }
+        ensures nodes { OnOk result (length self.new.nodes ≡ 4) }
         ensures thunks { OnOk result (self.new.thunks ≡ []) }
         ensures memory { IfErr result (λ e. e ≡ Refusal.Memory) }
-        ensures full { OnErr result (self.old.node_room < 3) }
+        ensures full { OnErr result (self.old.node_room < 4) }
         ensures node_room { self.old.node_room ≤ self.new.node_room }
         ensures thunk_room { self.new.thunk_room ≡ self.old.thunk_room }
     {
         self.entries.clear();
         self.thunks.clear();
-        if self.entries.reserve(3).is_err() {
+        if self.entries.reserve(4).is_err() {
             return Err(Refusal::Memory);
         }
         self.entries.push_reserved(bare(Node::Absent, false));
         self.entries.push_reserved(bare(Node::Nil, true));
         self.entries.push_reserved(bare(Node::Pack(NIL), true));
+        self.entries
+            .push_reserved(bare(Node::BuiltinWithD(b'a'), false));
         Ok(())
     }
 

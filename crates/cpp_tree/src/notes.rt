@@ -5,15 +5,16 @@ ghost use Rattle.std.specs.Prelude.{◌≡◌, ℕ, ◌+◌, ◌<◌, ◌^◌, �
 ghost use Rattle.cpp_grammar.specs.Items as heads;
 ghost use Rattle.cpp_grammar.specs.Scope.{first_of};
 ghost use Rattle.cpp_tree.specs.declared.node.Node.{Node};
+ghost use Rattle.cpp_tree.specs.declared.node.Free.{Free};
 ghost use Rattle.cpp_tree.specs.declared.node.HeadFrom.{HeadFrom};
 ghost use Rattle.cpp_tree.specs.declared.node.ByArgument.{ByArgument};
 ghost use Rattle.cpp_tree.specs.declared.compact.Words.{Words};
-ghost use Rattle.cpp_tree.specs.Compact.{packs_kept, class_kept, arguments_kept, untagged_kept, returns_kept, placed_kept, entry_of, kept, with_head, with_arguments, with_tags, own_entry, restated_entry};
+ghost use Rattle.cpp_tree.specs.Compact.{packs_kept, class_kept, arguments_kept, untagged_kept, returns_kept, placed_kept, free_kept, entry_of, kept, with_head, with_arguments, with_tags, own_entry, restated_entry};
 ghost use Rattle.cpp_tree.specs.Nodes.{over, entry_at, by_none, IsBelow, IsPieceBelow, IsTable};
-ghost use Rattle.cpp_tree.specs.Notes.{itself, or_itself, lent_at, passed, joined, of_parameter, of_expansion, of_pack, of_cell, of_head, collapses_from, piece_lends, piece_opens, piece_has_generic, piece_packs, argument_packs, argument_class, shape_at, packs_by, empty_by, collapses, placed_under, is_structor_node, noting};
+ghost use Rattle.cpp_tree.specs.Notes.{itself, or_itself, lent_at, passed, joined, of_parameter, of_expansion, of_pack, of_cell, of_head, collapses_from, piece_lends, both_free, piece_frees, piece_packs, argument_packs, argument_class, shape_at, packs_by, empty_by, collapses, placed_under, is_structor_node, noting};
 
-use crate::compact::{Compact, Words, bare, class, packs};
-use crate::node::{ByArgument, HeadClass, HeadFrom, Node, Piece};
+use crate::compact::{Compact, HowMany, Words, bare, class, packs};
+use crate::node::{ByArgument, HeadClass, HeadFrom, Node, Piece, under_word};
 use crate::nodes::Nodes;
 
 /// What another argument changes of a tree over one: its packs.
@@ -86,7 +87,7 @@ fn collapsed_from(head: HeadFrom) -> HeadFrom
 #[inline(always)]
 #[tactic(auto, unfolding(crate::specs::Compact::class_kept, crate::specs::Compact::arguments_kept, crate::specs::Compact::untagged_kept, crate::specs::Compact::returns_kept, crate::specs::Compact::count_kept, crate::specs::Compact::run_kept, crate::specs::Notes::collapses))]
 fn collapsed(words: Words) -> Words
-    ensures { (n : Node) (packs : Option ℕ) (is_open is_generic is_empty : Bool) (l : ByArgument) (first second : ℕ) → kept n packs is_open is_generic is_empty l result first second ≡ with_head n packs is_open is_generic is_empty l (collapses (class_kept words first second)) }
+    ensures { (n : Node) (packs : Option ℕ) (free : Free) (is_empty : Bool) (l : ByArgument) (first second : ℕ) → kept n packs free is_empty l result first second ≡ with_head n packs free is_empty l (collapses (class_kept words first second)) }
 {
     match words {
         Words::Lvalue => Words::Lvalue,
@@ -100,7 +101,7 @@ fn collapsed(words: Words) -> Words
 #[inline(always)]
 #[tactic(auto, unfolding(crate::specs::Compact::class_kept, crate::specs::Compact::arguments_kept, crate::specs::Compact::untagged_kept, crate::specs::Compact::returns_kept, crate::specs::Compact::count_kept, crate::specs::Compact::run_kept))]
 fn of_type(words: Words) -> Words
-    ensures { (n : Node) (packs : Option ℕ) (is_open is_generic is_empty : Bool) (l : ByArgument) (first second : ℕ) → kept n packs is_open is_generic is_empty l result first second ≡ with_head n packs is_open is_generic is_empty l (class_kept words first second) }
+    ensures { (n : Node) (packs : Option ℕ) (free : Free) (is_empty : Bool) (l : ByArgument) (first second : ℕ) → kept n packs free is_empty l result first second ≡ with_head n packs free is_empty l (class_kept words first second) }
 {
     match words {
         Words::Arguments => Words::Plain,
@@ -115,7 +116,7 @@ fn of_type(words: Words) -> Words
 #[inline(always)]
 #[tactic(auto, unfolding(crate::specs::Compact::class_kept, crate::specs::Compact::arguments_kept, crate::specs::Compact::untagged_kept, crate::specs::Compact::returns_kept, crate::specs::Compact::count_kept, crate::specs::Compact::run_kept))]
 fn of_name(words: Words) -> Words
-    ensures { (n : Node) (packs : Option ℕ) (is_open is_generic : Bool) (l : ByArgument) (first second : ℕ) → kept n packs is_open is_generic false l result first second ≡ with_arguments n packs is_open is_generic l (arguments_kept words first second) (returns_kept words) }
+    ensures { (n : Node) (packs : Option ℕ) (free : Free) (l : ByArgument) (first second : ℕ) → kept n packs free false l result first second ≡ with_arguments n packs free l (arguments_kept words first second) (returns_kept words) }
 {
     match words {
         Words::Arguments => Words::Arguments,
@@ -126,9 +127,9 @@ fn of_name(words: Words) -> Words
 
 /// What two words tell of an instance of a template.
 #[inline(always)]
-#[tactic(auto, unfolding(crate::specs::Compact::packs_kept, crate::specs::Compact::class_kept, crate::specs::Compact::arguments_kept, crate::specs::Compact::untagged_kept, crate::specs::Compact::returns_kept, crate::specs::Compact::count_kept, crate::specs::Compact::run_kept))]
+#[tactic(auto, unfolding(crate::specs::Nodes::under_kept, crate::specs::Compact::class_kept, crate::specs::Compact::arguments_kept, crate::specs::Compact::untagged_kept, crate::specs::Compact::returns_kept, crate::specs::Compact::count_kept, crate::specs::Compact::run_kept))]
 fn of_instance(template: Node) -> Words
-    ensures { (n : Node) (packs : Option ℕ) (is_open is_generic : Bool) (l : ByArgument) (first : ℕ) → kept n packs is_open is_generic false l result first 0 ≡ with_arguments n packs is_open is_generic l (Some (itself first)) (not (is_structor_node template)) }
+    ensures { (n : Node) (packs : Option ℕ) (free : Free) (l : ByArgument) (first : ℕ) → kept n packs free false l result first 0 ≡ with_arguments n packs free l (Some (itself first)) (not (is_structor_node template)) }
 {
     if template.is_structor() {
         Words::Arguments
@@ -146,7 +147,7 @@ struct Pair {
 
 /// The name under the tags of a name, or the name itself.
 #[inline(always)]
-#[tactic(auto, unfolding(crate::specs::Compact::packs_kept, crate::specs::Compact::untagged_kept, crate::specs::Notes::or_itself))]
+#[tactic(auto, unfolding(crate::specs::Nodes::under_kept, crate::specs::Compact::untagged_kept, crate::specs::Notes::or_itself))]
 fn under_tags(held: Compact, name: u32) -> Pair
     ensures { placed_kept result.first result.second ≡ or_itself name (untagged_kept held.words held.first held.second) }
 {
@@ -172,15 +173,15 @@ fn noted_over(
     first: u32,
     second: u32,
 ) -> Compact
-    ensures { entry_of result ≡ kept node (packs_kept part.packs) part.is_open part.is_generic false by_argument words first second }
+    ensures { entry_of result ≡ kept node (packs_kept part.packs) (free_kept part.free part.number) false by_argument words first second }
 {
     Compact {
         node,
         packs: part.packs,
         first,
         second,
-        is_open: part.is_open,
-        is_generic: part.is_generic,
+        number: part.number,
+        free: part.free,
         is_empty: false,
         words,
         by_argument,
@@ -196,6 +197,59 @@ fn packs_of_two(one: Compact, other: Compact) -> u32
         other.packs
     } else {
         one.packs
+    }
+}
+
+/// How many parameters are free, and the number of one alone.
+#[derive(Clone, Copy)]
+struct Freed {
+    free: HowMany,
+    number: u32,
+}
+
+/// Several.
+const SEVERAL: Freed = Freed {
+    free: HowMany::Several,
+    number: 0,
+};
+
+/// The free parameters of this one and of a part.
+#[inline(always)]
+#[tactic(auto, unfolding(crate::specs::Compact::free_kept, crate::specs::Notes::both_free))]
+fn free_beside(number: u32, part: Compact) -> Freed
+    ensures { free_kept result.free result.number ≡ both_free (Free.One number) (free_kept part.free part.number) }
+{
+    match part.free {
+        HowMany::None => Freed {
+            free: HowMany::One,
+            number,
+        },
+        HowMany::One => {
+            if number == part.number {
+                return Freed {
+                    free: HowMany::One,
+                    number,
+                };
+            }
+            SEVERAL
+        }
+        HowMany::Several => SEVERAL,
+    }
+}
+
+/// The free parameters of two parts.
+#[inline(always)]
+#[tactic(auto, unfolding(crate::specs::Compact::free_kept, crate::specs::Notes::both_free))]
+fn free_in_two(one: Compact, other: Compact) -> Freed
+    ensures { free_kept result.free result.number ≡ both_free (free_kept one.free one.number) (free_kept other.free other.number) }
+{
+    match one.free {
+        HowMany::None => Freed {
+            free: other.free,
+            number: other.number,
+        },
+        HowMany::One => free_beside(one.number, other),
+        HowMany::Several => SEVERAL,
     }
 }
 
@@ -220,15 +274,16 @@ fn noted_over_two(
     first: u32,
     second: u32,
 ) -> Compact
-    ensures { entry_of result ≡ kept node (first_of (packs_kept one.packs) (packs_kept other.packs)) (one.is_open || other.is_open) (one.is_generic || other.is_generic) is_empty by_argument words first second }
+    ensures { entry_of result ≡ kept node (first_of (packs_kept one.packs) (packs_kept other.packs)) (both_free (free_kept one.free one.number) (free_kept other.free other.number)) is_empty by_argument words first second }
 {
+    let freed = free_in_two(one, other);
     Compact {
         node,
         packs: packs_of_two(one, other),
         first,
         second,
-        is_open: one.is_open | other.is_open,
-        is_generic: one.is_generic | other.is_generic,
+        number: freed.number,
+        free: freed.free,
         is_empty,
         words,
         by_argument,
@@ -267,25 +322,12 @@ fn empty_given(none: bool, held: ByArgument) -> bool
     }
 }
 
-/// The second word for what stands under this argument.
-#[inline(always)]
-#[tactic(auto, unfolding(crate::specs::Compact::packs_kept))]
-fn kept_under(under: Option<u32>) -> u32
-    requires { (a : ℕ) → under ≡ Some a → a + 1 < 2 ^ 32 }
-    ensures { packs_kept result ≡ under }
-{
-    match under {
-        None => 0,
-        Some(argument) => argument + 1,
-    }
-}
-
 /// The second word of a tree that is there again with this argument, where its head is its own.
 #[inline(always)]
-#[tactic(auto, unfolding(crate::specs::Compact::packs_kept, crate::specs::Compact::class_kept, crate::specs::Compact::arguments_kept, crate::specs::Compact::untagged_kept, crate::specs::Compact::returns_kept, crate::specs::Compact::count_kept, crate::specs::Compact::run_kept, crate::specs::Notes::placed_under))]
+#[tactic(auto, unfolding(crate::specs::Nodes::under_kept, crate::specs::Compact::class_kept, crate::specs::Compact::arguments_kept, crate::specs::Compact::untagged_kept, crate::specs::Compact::returns_kept, crate::specs::Compact::count_kept, crate::specs::Compact::run_kept, crate::specs::Notes::placed_under))]
 fn second_under(held: Compact, argument: u32) -> u32
     requires { argument + 1 < 2 ^ 32 }
-    ensures { (n : Node) (packs : Option ℕ) (is_open is_generic is_empty : Bool) (l : ByArgument) → kept n packs is_open is_generic is_empty l held.words held.first result ≡ own_entry n packs is_open is_generic is_empty l held.words held.first held.second argument }
+    ensures { (n : Node) (packs : Option ℕ) (free : Free) (is_empty : Bool) (l : ByArgument) → kept n packs free is_empty l held.words held.first result ≡ own_entry n packs free is_empty l held.words held.first held.second argument }
 {
     match held.words {
         Words::Arguments => argument + 1,
@@ -315,8 +357,8 @@ fn restated(
             packs,
             first: held.first,
             second: second_under(held, argument),
-            is_open: held.is_open,
-            is_generic: held.is_generic,
+            number: held.number,
+            free: held.free,
             is_empty,
             words: held.words,
             by_argument: held.by_argument,
@@ -326,8 +368,8 @@ fn restated(
             packs,
             first: given.first,
             second: given.second,
-            is_open: held.is_open,
-            is_generic: held.is_generic,
+            number: held.number,
+            free: held.free,
             is_empty,
             words: of_type(given.words),
             by_argument: held.by_argument,
@@ -337,8 +379,8 @@ fn restated(
             packs,
             first: given.first,
             second: given.second,
-            is_open: held.is_open,
-            is_generic: held.is_generic,
+            number: held.number,
+            free: held.free,
             is_empty,
             words: collapsed(given.words),
             by_argument: held.by_argument,
@@ -362,7 +404,7 @@ impl Nodes {
                 packs: self.at(elements).entry().count + 1,
                 words: Words::OfElement,
                 first: elements,
-                second: kept_under(place.under),
+                second: under_word(place.under),
             },
             _ => {
                 let held = self.at(argument);
@@ -403,16 +445,10 @@ impl Nodes {
     #[inline(always)]
     fn noted_piece(&self, symbol: &[u8], node: Node, piece: Piece) -> Compact
         requires below { IsPieceBelow symbol.now (length self.now.nodes) piece }
-        ensures { entry_of result ≡ kept node (piece_packs self.now.nodes piece) (piece_opens self.now.nodes piece) (piece_has_generic self.now.nodes piece) false (piece_lends self.now.nodes piece) Words.Plain 0 0 }
+        ensures { entry_of result ≡ kept node (piece_packs self.now.nodes piece) (piece_frees self.now.nodes piece) false (piece_lends self.now.nodes piece) Words.Plain 0 0 }
     {
         match piece {
-            Piece::Lambda { parameters, .. } => {
-                let held = self.at(parameters);
-                Compact {
-                    is_generic: false,
-                    ..noted_over(node, held, passed(held.by_argument), Words::Plain, 0, 0)
-                }
-            }
+            Piece::Lambda { parameters, .. } => self.noted_type(node, parameters, Words::Plain),
             Piece::Conversion(ty) => self.noted_type(node, ty, Words::Plain),
             _ => bare(node, false),
         }
@@ -423,14 +459,13 @@ impl Nodes {
     fn noted_within(&self, symbol: &[u8], node: Node, prefix: u32, piece: Piece) -> Compact
         requires prefix { prefix < length self.now.nodes }
         requires below { IsPieceBelow symbol.now (length self.now.nodes) piece }
-        ensures { entry_of result ≡ kept node (first_of (entry_at self.now.nodes prefix).packs (piece_packs self.now.nodes piece)) ((entry_at self.now.nodes prefix).is_open || piece_opens self.now.nodes piece) ((entry_at self.now.nodes prefix).is_generic || piece_has_generic self.now.nodes piece) false
+        ensures { entry_of result ≡ kept node (first_of (entry_at self.now.nodes prefix).packs (piece_packs self.now.nodes piece)) (both_free (entry_at self.now.nodes prefix).free (piece_frees self.now.nodes piece)) false
             (joined (lent_at self.now.nodes prefix) (piece_lends self.now.nodes piece)) Words.Plain 0 0 }
     {
         match piece {
-            Piece::Lambda { parameters, .. } => Compact {
-                is_generic: self.at(prefix).is_generic,
-                ..self.noted_types(node, prefix, parameters, Words::Plain)
-            },
+            Piece::Lambda { parameters, .. } => {
+                self.noted_types(node, prefix, parameters, Words::Plain)
+            }
             Piece::Conversion(ty) => self.noted_types(node, prefix, ty, Words::Plain),
             _ => self.noted_type(node, prefix, Words::Plain),
         }
@@ -438,11 +473,11 @@ impl Nodes {
 
     /// A parameter with its argument.
     #[inline(always)]
-    fn noted_parameter(&self, symbol: &[u8], node: Node, argument: u32) -> Compact
+    fn noted_parameter(&self, symbol: &[u8], node: Node, number: u32, argument: u32) -> Compact
         requires table { IsTable (over symbol.now self.now) }
         requires argument { argument < length self.now.nodes }
         requires room { length self.now.nodes + 1 < 2 ^ 32 }
-        ensures { entry_of result ≡ with_head node (argument_packs self.now.nodes (shape_at self.now.nodes argument)) true false false of_parameter (argument_class self.now.nodes argument) }
+        ensures { entry_of result ≡ with_head node (argument_packs self.now.nodes (shape_at self.now.nodes argument)) (Free.One number) false of_parameter (argument_class self.now.nodes argument) }
     {
         let given = self.given(symbol, argument);
         Compact {
@@ -450,8 +485,8 @@ impl Nodes {
             packs: given.packs,
             first: given.first,
             second: given.second,
-            is_open: true,
-            is_generic: false,
+            number,
+            free: HowMany::One,
             is_empty: false,
             words: of_type(given.words),
             by_argument: ByArgument {
@@ -484,7 +519,7 @@ impl Nodes {
     #[inline(always)]
     fn noted_expansion(&self, node: Node, pattern: u32) -> Compact
         requires pattern { pattern < length self.now.nodes }
-        ensures { entry_of result ≡ kept node None (entry_at self.now.nodes pattern).is_open (entry_at self.now.nodes pattern).is_generic (heads.is_none_of (entry_at self.now.nodes pattern).packs) (of_expansion (lent_at self.now.nodes pattern)) Words.Plain 0 0 }
+        ensures { entry_of result ≡ kept node None (entry_at self.now.nodes pattern).free (heads.is_none_of (entry_at self.now.nodes pattern).packs) (of_expansion (lent_at self.now.nodes pattern)) Words.Plain 0 0 }
     {
         let held = self.at(pattern);
         Compact {
@@ -492,8 +527,8 @@ impl Nodes {
             packs: 0,
             first: 0,
             second: 0,
-            is_open: held.is_open,
-            is_generic: held.is_generic,
+            number: held.number,
+            free: held.free,
             is_empty: has_no_elements(held.packs),
             words: Words::Plain,
             by_argument: ByArgument {
@@ -509,7 +544,7 @@ impl Nodes {
     #[inline(always)]
     fn noted_pack(&self, node: Node, elements: u32) -> Compact
         requires elements { elements < length self.now.nodes }
-        ensures { entry_of result ≡ kept node (entry_at self.now.nodes elements).packs (entry_at self.now.nodes elements).is_open (entry_at self.now.nodes elements).is_generic (entry_at self.now.nodes elements).is_empty (of_pack (lent_at self.now.nodes elements)) Words.Plain 0 0 }
+        ensures { entry_of result ≡ kept node (entry_at self.now.nodes elements).packs (entry_at self.now.nodes elements).free (entry_at self.now.nodes elements).is_empty (of_pack (lent_at self.now.nodes elements)) Words.Plain 0 0 }
     {
         let held = self.at(elements);
         Compact {
@@ -517,8 +552,8 @@ impl Nodes {
             packs: held.packs,
             first: 0,
             second: 0,
-            is_open: held.is_open,
-            is_generic: held.is_generic,
+            number: held.number,
+            free: held.free,
             is_empty: held.is_empty,
             words: Words::Plain,
             by_argument: ByArgument {
@@ -552,7 +587,7 @@ impl Nodes {
         requires first { first < length self.now.nodes }
         requires rest { rest < length self.now.nodes }
         requires room { length self.now.nodes + 1 < 2 ^ 32 }
-        ensures { entry_of result ≡ kept node (first_of (entry_at self.now.nodes first).packs (entry_at self.now.nodes rest).packs) ((entry_at self.now.nodes first).is_open || (entry_at self.now.nodes rest).is_open) ((entry_at self.now.nodes first).is_generic || (entry_at self.now.nodes rest).is_generic)
+        ensures { entry_of result ≡ kept node (first_of (entry_at self.now.nodes first).packs (entry_at self.now.nodes rest).packs) (both_free (entry_at self.now.nodes first).free (entry_at self.now.nodes rest).free)
             ((entry_at self.now.nodes first).is_empty && (entry_at self.now.nodes rest).is_empty) (of_cell (lent_at self.now.nodes first) (lent_at self.now.nodes rest)) Words.Elements ((entry_at self.now.nodes rest).count + 1) (cond (nat_eq (rest + 1) (length self.now.nodes)) ((entry_at self.now.nodes rest).run + 1) 0) }
     {
         let one = self.at(first);
@@ -575,7 +610,7 @@ impl Nodes {
     #[inline(always)]
     fn noted_type(&self, node: Node, ty: u32, words: Words) -> Compact
         requires { ty < length self.now.nodes }
-        ensures { entry_of result ≡ kept node (entry_at self.now.nodes ty).packs (entry_at self.now.nodes ty).is_open (entry_at self.now.nodes ty).is_generic false (passed (lent_at self.now.nodes ty)) words 0 0 }
+        ensures { entry_of result ≡ kept node (entry_at self.now.nodes ty).packs (entry_at self.now.nodes ty).free false (passed (lent_at self.now.nodes ty)) words 0 0 }
     {
         let held = self.at(ty);
         noted_over(node, held, passed(held.by_argument), words, 0, 0)
@@ -586,7 +621,7 @@ impl Nodes {
     fn noted_types(&self, node: Node, one: u32, other: u32, words: Words) -> Compact
         requires one { one < length self.now.nodes }
         requires other { other < length self.now.nodes }
-        ensures { entry_of result ≡ kept node (first_of (entry_at self.now.nodes one).packs (entry_at self.now.nodes other).packs) ((entry_at self.now.nodes one).is_open || (entry_at self.now.nodes other).is_open) ((entry_at self.now.nodes one).is_generic || (entry_at self.now.nodes other).is_generic) false (joined (lent_at self.now.nodes one) (lent_at self.now.nodes other)) words 0 0 }
+        ensures { entry_of result ≡ kept node (first_of (entry_at self.now.nodes one).packs (entry_at self.now.nodes other).packs) (both_free (entry_at self.now.nodes one).free (entry_at self.now.nodes other).free) false (joined (lent_at self.now.nodes one) (lent_at self.now.nodes other)) words 0 0 }
     {
         let first = self.at(one);
         let second = self.at(other);
@@ -606,7 +641,7 @@ impl Nodes {
     #[inline(always)]
     fn noted_rvalue(&self, node: Node, ty: u32) -> Compact
         requires { ty < length self.now.nodes }
-        ensures { entry_of result ≡ with_head node (entry_at self.now.nodes ty).packs (entry_at self.now.nodes ty).is_open (entry_at self.now.nodes ty).is_generic false (of_head (collapses_from (lent_at self.now.nodes ty).head) (lent_at self.now.nodes ty)) (collapses (entry_at self.now.nodes ty).class) }
+        ensures { entry_of result ≡ with_head node (entry_at self.now.nodes ty).packs (entry_at self.now.nodes ty).free false (of_head (collapses_from (lent_at self.now.nodes ty).head) (lent_at self.now.nodes ty)) (collapses (entry_at self.now.nodes ty).class) }
     {
         let held = self.at(ty);
         let by_argument = of_head(collapsed_from(held.by_argument.head), held.by_argument);
@@ -624,7 +659,7 @@ impl Nodes {
     #[inline(always)]
     fn noted_qualified(&self, node: Node, ty: u32) -> Compact
         requires { ty < length self.now.nodes }
-        ensures { entry_of result ≡ with_head node (entry_at self.now.nodes ty).packs (entry_at self.now.nodes ty).is_open (entry_at self.now.nodes ty).is_generic false (of_head (lent_at self.now.nodes ty).head (lent_at self.now.nodes ty)) (entry_at self.now.nodes ty).class }
+        ensures { entry_of result ≡ with_head node (entry_at self.now.nodes ty).packs (entry_at self.now.nodes ty).free false (of_head (lent_at self.now.nodes ty).head (lent_at self.now.nodes ty)) (entry_at self.now.nodes ty).class }
     {
         let held = self.at(ty);
         let by_argument = of_head(held.by_argument.head, held.by_argument);
@@ -642,7 +677,7 @@ impl Nodes {
     #[inline(always)]
     fn noted_local(&self, node: Node, entity: u32) -> Compact
         requires { entity < length self.now.nodes }
-        ensures { entry_of result ≡ with_arguments node (entry_at self.now.nodes entity).packs (entry_at self.now.nodes entity).is_open (entry_at self.now.nodes entity).is_generic (passed (lent_at self.now.nodes entity)) (entry_at self.now.nodes entity).arguments (entry_at self.now.nodes entity).returns }
+        ensures { entry_of result ≡ with_arguments node (entry_at self.now.nodes entity).packs (entry_at self.now.nodes entity).free (passed (lent_at self.now.nodes entity)) (entry_at self.now.nodes entity).arguments (entry_at self.now.nodes entity).returns }
     {
         let held = self.at(entity);
         noted_over(
@@ -659,7 +694,7 @@ impl Nodes {
     #[inline(always)]
     fn noted_tagged(&self, node: Node, name: u32) -> Compact
         requires { name < length self.now.nodes }
-        ensures { entry_of result ≡ with_tags node (entry_at self.now.nodes name).packs (entry_at self.now.nodes name).is_open (entry_at self.now.nodes name).is_generic (passed (lent_at self.now.nodes name)) (or_itself name (entry_at self.now.nodes name).untagged) }
+        ensures { entry_of result ≡ with_tags node (entry_at self.now.nodes name).packs (entry_at self.now.nodes name).free (passed (lent_at self.now.nodes name)) (or_itself name (entry_at self.now.nodes name).untagged) }
     {
         let held = self.at(name);
         let under = under_tags(held, name);
@@ -679,7 +714,7 @@ impl Nodes {
         requires table { IsTable (over symbol.now self.now) }
         requires template { template < length self.now.nodes }
         requires arguments { arguments < length self.now.nodes }
-        ensures { entry_of result ≡ with_arguments node (first_of (entry_at self.now.nodes template).packs (entry_at self.now.nodes arguments).packs) ((entry_at self.now.nodes template).is_open || (entry_at self.now.nodes arguments).is_open) ((entry_at self.now.nodes template).is_generic || (entry_at self.now.nodes arguments).is_generic)
+        ensures { entry_of result ≡ with_arguments node (first_of (entry_at self.now.nodes template).packs (entry_at self.now.nodes arguments).packs) (both_free (entry_at self.now.nodes template).free (entry_at self.now.nodes arguments).free)
             (joined (lent_at self.now.nodes template) (lent_at self.now.nodes arguments)) (Some (itself arguments)) (not (is_structor_node (shape_at self.now.nodes template))) }
     {
         let held = self.at(template);
@@ -699,7 +734,7 @@ impl Nodes {
 
     /// A node with what is noted of it.
     #[inline(always)]
-    #[tactic(auto, unfolding(crate::specs::Compact::packs_kept, crate::specs::Compact::class_kept, crate::specs::Compact::arguments_kept, crate::specs::Compact::untagged_kept, crate::specs::Compact::returns_kept, crate::specs::Compact::count_kept, crate::specs::Compact::run_kept, crate::specs::Notes::opens, crate::specs::Notes::lends, crate::specs::Notes::if_own, crate::specs::Notes::class_by, crate::specs::Notes::has_generic, crate::specs::Notes::empties, crate::specs::Notes::ends_in, crate::specs::Notes::untagging, crate::specs::Notes::classes, crate::specs::Notes::packing, crate::specs::Notes::returning, crate::specs::Notes::counting, crate::specs::Notes::running))]
+    #[tactic(auto, unfolding(crate::specs::Compact::packs_kept, crate::specs::Compact::class_kept, crate::specs::Compact::arguments_kept, crate::specs::Compact::untagged_kept, crate::specs::Compact::returns_kept, crate::specs::Compact::count_kept, crate::specs::Compact::run_kept, crate::specs::Notes::frees, crate::specs::Notes::lends, crate::specs::Notes::if_own, crate::specs::Notes::class_by, crate::specs::Notes::empties, crate::specs::Notes::ends_in, crate::specs::Notes::untagging, crate::specs::Notes::classes, crate::specs::Notes::packing, crate::specs::Notes::returning, crate::specs::Notes::counting, crate::specs::Notes::running))]
     pub(crate) fn noted(&self, symbol: &[u8], node: Node) -> Compact
         requires table { IsTable (over symbol.now self.now) }
         requires below { IsBelow symbol.now (length self.now.thunks) (length self.now.nodes) node }
@@ -718,11 +753,9 @@ impl Nodes {
             Node::Holder(name) => self.noted_type(node, name, Words::Plain),
             Node::Tagged { name, .. } => self.noted_tagged(node, name),
             Node::OfDefault { entity, .. } => self.noted_local(node, entity),
-            Node::Parameter { argument, .. } => self.noted_parameter(symbol, node, argument),
-            Node::GenericParameter(_) => Compact {
-                is_generic: true,
-                ..bare(node, false)
-            },
+            Node::Parameter { number, argument } => {
+                self.noted_parameter(symbol, node, number, argument)
+            }
             Node::Pointer(ty) => self.noted_type(node, ty, Words::Plain),
             Node::Lvalue(ty) => self.noted_type(node, ty, Words::Lvalue),
             Node::Rvalue(ty) => self.noted_rvalue(node, ty),

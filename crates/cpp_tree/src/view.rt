@@ -12,15 +12,15 @@ use crate::node::{Adjustment, Mark, Piece, Qualifiers, Signed, Thunk, bit};
 use crate::tree_production::{
     ABBREVIATION, ABSENT, ADDRESS_OF, ARRAY, BOOLEAN, BUILTIN, BUILTIN_WITH_D, CLONE, COMPLEX,
     CONSTRUCTION, CONSTRUCTOR, CONVERSION, COVARIANT_THUNK, DESTRUCTOR, ENCODING_LITERAL,
-    EXPANSION, FUNCTION, FUNCTION_TYPE, GENERIC_PARAMETER, GUARD, HOLDER, INSTANCE, INTEGER,
-    LAMBDA, LIST, LITERAL_OPERATOR, LOCAL, LVALUE, MEMBER_POINTER, NESTED_CONSTRUCTOR,
-    NESTED_CONVERSION, NESTED_DESTRUCTOR, NESTED_LAMBDA, NESTED_LITERAL_OPERATOR, NESTED_NO_PIECE,
-    NESTED_OPERATOR, NESTED_SOURCE, NESTED_STRING_LITERAL, NESTED_UNNAMED, NIL, NO_PIECE,
-    NULL_POINTER, NUMBERED_LOCAL, OBJECT, OF_DEFAULT, OF_NAME, OPERATOR, PACK, PARAMETER, POINTER,
-    QUALIFIED, RVALUE, SIZED_FLOAT, SOURCE, SPECIAL, STD_CONSTRUCTOR, STD_CONVERSION,
-    STD_DESTRUCTOR, STD_LAMBDA, STD_LITERAL_OPERATOR, STD_NO_PIECE, STD_OPERATOR, STD_SOURCE,
-    STD_STRING_LITERAL, STD_UNNAMED, STRING_LITERAL, SYMBOL, TABLE_THUNK, TAGGED, THUNK, UNNAMED,
-    VECTOR, VENDOR, WIDE_THUNK,
+    EXPANSION, FUNCTION, FUNCTION_TYPE, GENERIC_LAMBDA, GUARD, HOLDER, INSTANCE, INTEGER, LAMBDA,
+    LIST, LITERAL_OPERATOR, LOCAL, LVALUE, MEMBER_POINTER, NESTED_CONSTRUCTOR, NESTED_CONVERSION,
+    NESTED_DESTRUCTOR, NESTED_GENERIC_LAMBDA, NESTED_LAMBDA, NESTED_LITERAL_OPERATOR,
+    NESTED_NO_PIECE, NESTED_OPERATOR, NESTED_SOURCE, NESTED_STRING_LITERAL, NESTED_UNNAMED, NIL,
+    NO_PIECE, NULL_POINTER, NUMBERED_LOCAL, OBJECT, OF_DEFAULT, OF_NAME, OPERATOR, PACK, PARAMETER,
+    POINTER, QUALIFIED, RVALUE, SIZED_FLOAT, SOURCE, SPECIAL, STD_CONSTRUCTOR, STD_CONVERSION,
+    STD_DESTRUCTOR, STD_GENERIC_LAMBDA, STD_LAMBDA, STD_LITERAL_OPERATOR, STD_NO_PIECE,
+    STD_OPERATOR, STD_SOURCE, STD_STRING_LITERAL, STD_UNNAMED, STRING_LITERAL, SYMBOL, TABLE_THUNK,
+    TAGGED, THUNK, UNNAMED, VECTOR, VENDOR, WIDE_THUNK,
 };
 use crate::{Nodes, node};
 use sym_core::Span;
@@ -50,6 +50,7 @@ struct Names {
     constructor: u16,
     destructor: u16,
     lambda: u16,
+    generic_lambda: u16,
     conversion: u16,
     unnamed: u16,
     string_literal: u16,
@@ -64,6 +65,7 @@ const ALONE: Names = Names {
     constructor: CONSTRUCTOR,
     destructor: DESTRUCTOR,
     lambda: LAMBDA,
+    generic_lambda: GENERIC_LAMBDA,
     conversion: CONVERSION,
     unnamed: UNNAMED,
     string_literal: STRING_LITERAL,
@@ -78,6 +80,7 @@ const IN_STD: Names = Names {
     constructor: STD_CONSTRUCTOR,
     destructor: STD_DESTRUCTOR,
     lambda: STD_LAMBDA,
+    generic_lambda: STD_GENERIC_LAMBDA,
     conversion: STD_CONVERSION,
     unnamed: STD_UNNAMED,
     string_literal: STD_STRING_LITERAL,
@@ -92,6 +95,7 @@ const NESTED: Names = Names {
     constructor: NESTED_CONSTRUCTOR,
     destructor: NESTED_DESTRUCTOR,
     lambda: NESTED_LAMBDA,
+    generic_lambda: NESTED_GENERIC_LAMBDA,
     conversion: NESTED_CONVERSION,
     unnamed: NESTED_UNNAMED,
     string_literal: NESTED_STRING_LITERAL,
@@ -191,6 +195,16 @@ fn view_of_name(
         Piece::Lambda { parameters, number } => match prefix {
             None => one(names.lambda, [number, 0], NO_TEXT, parameters),
             Some(prefix) => two(names.lambda, [number, 0], NO_TEXT, prefix, parameters),
+        },
+        Piece::GenericLambda { parameters, number } => match prefix {
+            None => one(names.generic_lambda, [number, 0], NO_TEXT, parameters),
+            Some(prefix) => two(
+                names.generic_lambda,
+                [number, 0],
+                NO_TEXT,
+                prefix,
+                parameters,
+            ),
         },
         Piece::Conversion(ty) => match prefix {
             None => one(names.conversion, [0; 2], NO_TEXT, ty),
@@ -348,6 +362,7 @@ fn view_of_own(symbol: &[u8], nodes: &Nodes, node: node::Node) -> NodeView
             mark,
             returned,
             parameters,
+            ..
         } => seen(
             FUNCTION,
             [qualifiers.number() as u64, mark.number() as u64],
@@ -409,7 +424,6 @@ fn view_of_own(symbol: &[u8], nodes: &Nodes, node: node::Node) -> NodeView
         node::Node::SizedFloat { digits, end } => {
             seen(SIZED_FLOAT, [end as u64, 0], [digits, NO_TEXT], 0, [0; 3])
         }
-        node::Node::GenericParameter(number) => leaf(GENERIC_PARAMETER, number as u64),
         node::Node::Vendor(name) => seen(VENDOR, none, [name, NO_TEXT], 0, [0; 3]),
         node::Node::Pointer(ty) => one(POINTER, none, NO_TEXT, ty),
         node::Node::Lvalue(ty) => one(LVALUE, none, NO_TEXT, ty),

@@ -1,4 +1,4 @@
-use Rattle.cpp_term.proofs.Reargued.{reargued_none, reargued_twice, reargued_closed, open_reargued, erase_reargued, pack_reargued, class_reargued, empty_reargued}
+use Rattle.cpp_term.proofs.Reargued.{reargued_none, reargued_twice, reargued_closed, open_reargued, free_reargued, erase_reargued, pack_reargued, class_reargued, empty_reargued}
 use Rattle.cpp_term.proofs.arguments_are_replaced.Goals as goal
 
 pub returns-clause-none : goal.returns-clause-none
@@ -12,6 +12,9 @@ returns-clause-closed c = reargued_closed
 
 pub returns-clause-open : goal.returns-clause-open
 returns-clause-open c = open_reargued
+
+pub returns-clause-free : goal.returns-clause-free
+returns-clause-free c = free_reargued
 
 pub returns-clause-erased : goal.returns-clause-erased
 returns-clause-erased c = erase_reargued

@@ -1,7 +1,7 @@
 use Rattle.std.proofs.Common.{sym, ap, ◌∙◌, length}
 use Rattle.cpp_term.specs.Items as items
 use Rattle.cpp_tree.specs.Nodes.{over, trees, class_is, entry_at}
-use Rattle.cpp_tree.specs.Notes.{class_by, argument_class}
+use Rattle.cpp_tree.specs.Notes.{argument_class}
 use Rattle.cpp_tree.proofs.Noting.{class-again, class-later, argument-below, chosen-below}
 use Rattle.cpp_tree.proofs.Trees.{class_at, placed-none, placed-some, there-below, same-class, same-below}
 use Rattle.cpp_tree.proofs.nodes.Nodes.class.Goals as goal

@@ -1,7 +1,6 @@
 use Rattle.std.proofs.Common.{ap, sym, ◌∙◌}
 use Rattle.cpp_tree.specs.Nodes.{entry_at}
-use Rattle.cpp_tree.specs.Notes.{resolved_at, shape_at, argument_packs, pack_class}
-use Rattle.cpp_tree.specs.declared.node.Node.{Node}
+use Rattle.cpp_tree.specs.Notes.{resolved_at, shape_at}
 use Rattle.cpp_tree.proofs.Compacting.{pack-packs, pack-head, other-packs-none, other-head}
 use Rattle.cpp_tree.proofs.nodes.Nodes.given.Goals as goal
 
@@ -11,8 +10,8 @@ returns-in-Pack c =
     let is = sym shape ∙ c.in-Pack.is in
     record {
       packs = pack-packs c.args.self.now.nodes (shape_at c.args.self.now.nodes c.args.argument) c.in-Pack.elements c.entry.result.count is (ap (λ x. x.count) (c.entry.ensures ∙ c.at.ensures));
-      class = pack-head (shape_at c.args.self.now.nodes c.args.argument) (entry_at c.args.self.now.nodes c.args.argument).class (resolved_at c.args.self.now.nodes c.args.argument).under c.in-Pack.elements c.kept_under.result is
-          (c.kept_under.ensures ∙ ap (λ p. p.under) c.resolved-place.ensures.is);
+      class = pack-head (shape_at c.args.self.now.nodes c.args.argument) (entry_at c.args.self.now.nodes c.args.argument).class (resolved_at c.args.self.now.nodes c.args.argument).under c.in-Pack.elements c.under_word.result is
+          (c.under_word.ensures ∙ ap (λ p. p.under) c.resolved-place.ensures.is);
     }
 
 pub returns-in_default : goal.returns-in_default

@@ -24,7 +24,6 @@ returns-in_default c =
       not_memberpointer = c.in_default.not-MemberPointer;
       not_functiontype = c.in_default.not-FunctionType;
       not_qualified = c.in_default.not-Qualified;
-      not_genericparameter = c.in_default.not-GenericParameter;
       not_vector = c.in_default.not-Vector;
       not_complex = c.in_default.not-Complex;
       not_expansion = c.in_default.not-Expansion;

@@ -1,4 +1,3 @@
-use Rattle.std.proofs.Common.{refl}
 use Rattle.cpp_tree.specs.Nodes.{entry_at}
 use Rattle.cpp_tree.specs.Compact.{packs_kept, class_kept, entry_of}
 use Rattle.cpp_tree.specs.Notes.{argument_packs, argument_class, shape_at}

@@ -1,10 +1,12 @@
-use Rattle.std.proofs.Common.{ap, ◌∙◌, true, false}
-use Rattle.cpp_tree.specs.Compact.{with_head, packs_kept, class_kept}
+use Rattle.std.proofs.Common.{ap, ◌∙◌, false}
+use Rattle.cpp_tree.specs.declared.node.Free.{Free}
+use Rattle.cpp_tree.specs.Compact.{free_kept, with_head, packs_kept, class_kept}
 use Rattle.cpp_tree.specs.Notes.{of_parameter, argument_packs, shape_at}
 use Rattle.cpp_tree.proofs.nodes.Nodes.noted_parameter.Goals as goal
 
 pub returns : goal.returns
+unfolding free_kept
 returns c =
-    c.of_type.ensures c.args.node (packs_kept c.given-given.result.packs) true false false of_parameter c.given-given.result.first c.given-given.result.second
-    ∙ ap (λ p. with_head c.args.node p true false false of_parameter (class_kept c.given-given.result.words c.given-given.result.first c.given-given.result.second)) c.given-given.ensures.packs
-    ∙ ap (λ h. with_head c.args.node (argument_packs c.args.self.now.nodes (shape_at c.args.self.now.nodes c.args.argument)) true false false of_parameter h) c.given-given.ensures.class
+    c.of_type.ensures c.args.node (packs_kept c.given-given.result.packs) (Free.One c.args.number) false of_parameter c.given-given.result.first c.given-given.result.second
+    ∙ ap (λ p. with_head c.args.node p (Free.One c.args.number) false of_parameter (class_kept c.given-given.result.words c.given-given.result.first c.given-given.result.second)) c.given-given.ensures.packs
+    ∙ ap (λ h. with_head c.args.node (argument_packs c.args.self.now.nodes (shape_at c.args.self.now.nodes c.args.argument)) (Free.One c.args.number) false of_parameter h) c.given-given.ensures.class

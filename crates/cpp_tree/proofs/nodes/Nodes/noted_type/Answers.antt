@@ -1,4 +1,3 @@
-use Rattle.std.proofs.Common.{refl}
 use Rattle.cpp_tree.specs.Nodes.{entry_at}
 use Rattle.cpp_tree.specs.Notes.{passed}
 use Rattle.cpp_tree.proofs.Compacting.{over-is}

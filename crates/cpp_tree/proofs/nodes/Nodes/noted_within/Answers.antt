@@ -1,12 +1,11 @@
-use Rattle.std.proofs.Common.{ap, ◌∙◌}
+use Rattle.std.proofs.Common.{◌∙◌}
 use Rattle.cpp_tree.specs.Nodes.{entry_at}
 use Rattle.cpp_tree.proofs.Compacting.{lambda-within, conversion-within, other-within}
 use Rattle.cpp_tree.proofs.nodes.Nodes.noted_within.Goals as goal
 
 pub returns-in-Lambda : goal.returns-in-Lambda
 returns-in-Lambda c =
-    lambda-within c.args.self.now.nodes c.args.node (entry_at c.args.self.now.nodes c.args.prefix) c.args.piece c.noted_types.result c.at.result.is_generic c.in-Lambda.parameters c.in-Lambda.number c.in-Lambda.is
-    (ap (λ x. x.is_generic) c.at.ensures) c.noted_types.ensures
+    c.noted_types.ensures ∙ lambda-within c.args.self.now.nodes c.args.node (entry_at c.args.self.now.nodes c.args.prefix) c.args.piece c.in-Lambda.parameters c.in-Lambda.number c.in-Lambda.is
 
 pub returns-in-Conversion : goal.returns-in-Conversion
 returns-in-Conversion c =

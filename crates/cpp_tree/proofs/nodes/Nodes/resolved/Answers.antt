@@ -1,4 +1,4 @@
-use Rattle.std.proofs.Common.{ap, sym, ◌∙◌}
+use Rattle.std.proofs.Common.{sym, ◌∙◌}
 use Rattle.cpp_tree.specs.Nodes.{over, entry_at}
 use Rattle.cpp_tree.proofs.Noting.{other-place, again-place, resolved-is}
 use Rattle.cpp_tree.proofs.nodes.Nodes.resolved.Goals as goal
