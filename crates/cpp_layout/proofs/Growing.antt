@@ -185,46 +185,29 @@ parameter-same ts form node inner t less e closed =
 pub told-so : {below : Held Context} (y : ReadSymbol) (d e : Detail) (held : Held Context) (others : Others) → d ≡ e → Shows y d below held others → Shows y e below held others
 told-so {below} y d e held others is shows = subst (λ x. Shows y x below held others) is shows
 
--- the same of what is pushed onto any list
-pub pushed-so : (y : ReadSymbol) (d e : Detail) (old new : Held Context) (more : Others → Others) → d ≡ e
-    → ((below : Held Context) (others : Others) → Shows y d below old others → Shows y d below new (more others))
-    → (below : Held Context) (others : Others) → Shows y e below old others → Shows y e below new (more others)
-pushed-so y d e old new more is pushed =
-    subst (λ x. (below : Held Context) (others : Others) → Shows y x below old others → Shows y x below new (more others)) is pushed
+-- ## Contexts that are the same
 
--- ## Told nothing
+module _ (y : ReadSymbol) (c told : Context) (is : c ≡ told) (old new : Held Context) (form node : ℕ) where
+  pub told-item : ((below : Held Context) (others : Others) → Shows y c.detail below old others → Shows y c.detail below new (sub (item_in (trees (table_of y)) node form 0 c) ∷ others))
+      → (below : Held Context) (others : Others) → Shows y told.detail below old others → Shows y told.detail below new (sub (item_in (trees (table_of y)) node form 0 told) ∷ others)
+  told-item pushed =
+      subst (λ (x : Context). (below : Held Context) (others : Others) → Shows y x.detail below old others → Shows y x.detail below new (sub (item_in (trees (table_of y)) node form 0 x) ∷ others)) is pushed
 
-module _ (y : ReadSymbol) (d : Detail) (c : Context) (is : c ≡ record { index = None; detail = d; argument = None }) where
-  pub closed-tree : (node : ℕ) → tree_shown y c node ≡ tree_at (trees (table_of y)) node
+  pub told-list : ((below : Held Context) (others : Others) → Shows y c.detail below old others → Shows y c.detail below new (list_part (form_of form 0) (context_of c) (tree_shown y c node) ++ others))
+      → (below : Held Context) (others : Others) → Shows y told.detail below old others → Shows y told.detail below new (list_part (form_of form 0) (context_of told) (tree_shown y told node) ++ others)
+  told-list pushed =
+      subst (λ (x : Context). (below : Held Context) (others : Others) → Shows y x.detail below old others → Shows y x.detail below new (list_part (form_of form 0) (context_of x) (tree_shown y x node) ++ others)) is pushed
+
+pub told-parts : {below held : Held Context} (y : ReadSymbol) (c told : Context) (parts_of : Context → Others) → c ≡ told → Shows y c.detail below held (parts_of c) → Shows y told.detail below held (parts_of told)
+told-parts {below} {held} y c told parts_of is shows = subst (λ (x : Context). Shows y x.detail below held (parts_of x)) is shows
+
+-- told nothing, an item is that of the tree
+module _ (y : ReadSymbol) (d : Detail) (form node : ℕ) where
+  pub closed-item : item_in (trees (table_of y)) node form 0 (record { index = None; detail = d; argument = None }) ≡ record { tree = tree_in form (tree_at (trees (table_of y)) node); form = form_of form 0; context = items.closed }
   unfolding tree_if_there
-  closed-tree node = ap (λ x. tree_shown y x node) is ∙ reargued_none (tree_at (trees (table_of y)) node)
-
-  closed-index : context_of c ≡ items.closed
-  closed-index = ap (λ (x : Context). context_of x) is
-
-  pub closed-detail : c.detail ≡ d
-  closed-detail = ap (λ (x : Context). x.detail) is
-
-  pub closed-item : (form node : ℕ) → item_in (trees (table_of y)) node form 0 c ≡ record { tree = tree_in form (tree_at (trees (table_of y)) node); form = form_of form 0; context = items.closed }
-  closed-item form node =
-      let item : Term → items.Context → items.Item = λ t x. record { tree = tree_in form t; form = form_of form 0; context = x } in
-      ap (λ t. item t (context_of c)) (closed-tree node) ∙ ap (λ x. item (tree_at (trees (table_of y)) node) x) closed-index
-
-  pub closed-pushed : (old new : Held Context) (form node : ℕ)
-      → ((below : Held Context) (others : Others) → Shows y c.detail below old others → Shows y c.detail below new (sub (item_in (trees (table_of y)) node form 0 c) ∷ others))
-      → (below : Held Context) (others : Others) → Shows y d below old others
-      → Shows y d below new (sub (record { tree = tree_in form (tree_at (trees (table_of y)) node); form = form_of form 0; context = items.closed }) ∷ others)
-  closed-pushed old new form node pushed below others shows =
-      fills y d new _ _ (pushed-so y c.detail d old new (λ l. sub (item_in (trees (table_of y)) node form 0 c) ∷ l) closed-detail pushed below others shows)
-      (ap (λ i. sub i ∷ others) (closed-item form node))
-
-  pub closed-listed : (old new : Held Context) (form node : ℕ)
-      → ((below : Held Context) (others : Others) → Shows y c.detail below old others → Shows y c.detail below new (list_part (form_of form 0) (context_of c) (tree_shown y c node) ++ others))
-      → (below : Held Context) (others : Others) → Shows y d below old others
-      → Shows y d below new (list_part (form_of form 0) items.closed (tree_at (trees (table_of y)) node) ++ others)
-  closed-listed old new form node pushed below others shows =
-      fills y d new _ _ (pushed-so y c.detail d old new (λ l. list_part (form_of form 0) (context_of c) (tree_shown y c node) ++ l) closed-detail pushed below others shows)
-      (ap (λ t. list_part (form_of form 0) (context_of c) t ++ others) (closed-tree node) ∙ ap (λ x. list_part (form_of form 0) x (tree_at (trees (table_of y)) node) ++ others) closed-index)
+  closed-item =
+      let item : Term → items.Item = λ t. record { tree = tree_in form t; form = form_of form 0; context = items.closed } in
+      ap item (reargued_none (tree_at (trees (table_of y)) node))
 
 -- ## Cells
 

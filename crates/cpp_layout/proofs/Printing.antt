@@ -16,7 +16,7 @@ use Rattle.cpp_term.specs.Parts.{parts, parts_in}
 use Rattle.cpp_term.specs.Ranks.{rank}
 use Rattle.cpp_term.proofs.RanksNoted.{ranks_fall}
 use Rattle.cpp_tree.specs.Nodes.{tree_at, trees, IsTable}
-use Rattle.cpp_layout.proofs.Growing.{closed-detail, closed-item}
+use Rattle.cpp_layout.proofs.Growing.{closed-item}
 use Rattle.cpp_layout.specs.declared.context.Context.{Context}
 use Rattle.cpp_layout.specs.Layout.{ReadSymbol, table_of, item_of, bytes_of_part, unshared_of, MayCome, MayBeAsked, Shows}
 
@@ -45,4 +45,4 @@ filled y below held new s stacked empty r =
 pub closed-root : (y : ReadSymbol) (d : Detail) (c : Context) (node : ℕ) → c ≡ record { index = None; detail = d; argument = None }
     → unshared_of y (record { node = node; form = 9; at = 0; ctx = c }) ≡ noted_shown d (tree_at (trees (table_of y)) node)
 closed-root y d c node is =
-    ap (λ e. printed (parts e) rank (item_of (table_of y) (record { node = node; form = 9; at = 0; ctx = c }))) (closed-detail y d c is) ∙ ap (printed (parts d) rank) (closed-item y d c is 9 node)
+    ap (λ (x : Context). printed (parts x.detail) rank (item_of (table_of y) (record { node = node; form = 9; at = 0; ctx = x }))) is ∙ ap (printed (parts d) rank) (closed-item y d 9 node)
