@@ -1,5 +1,5 @@
 -- What nodes say of their trees.
-use Rattle.std.proofs.Common.{◌≡◌, refl, sym, ◌∙◌, ap, subst, arith, ℕ, zero, suc, ◌-◌, ◌+◌, ◌<◌, ◌≤◌, List, length, Bool, Option, Some, None}
+use Rattle.std.proofs.Common.{◌≡◌, refl, sym, ◌∙◌, ap, subst, arith, ℕ, zero, suc, ◌-◌, ◌+◌, ◌<◌, ◌≤◌, List, [], ◌∷◌, length, Bool, Option, Some, None}
 use Rattle.cpp_term.specs.Term.{Term, absent, nil, list, pack}
 use Rattle.cpp_term.specs.Scope.{without_tags, element, length_if_pack, pack_length}
 use Rattle.cpp_grammar.specs.Items as heads
@@ -18,9 +18,14 @@ use Rattle.cpp_term.proofs.Reargued.{length_reargued, reargued_none, reargued_tw
 use Rattle.cpp_tree.specs.Notes.{class_by, empty_by, packs_by, argument_packs, place_of, resolved_at, shape_at}
 use Rattle.cpp_term.specs.Erased.{erase}
 use Rattle.cpp_tree.specs.declared.view.NodeView.{NodeView}
-use Rattle.cpp_tree.specs.Views.{AreBelow}
+use Rattle.cpp_tree.specs.declared.node.Qualifiers.{Qualifiers}
+use Rattle.cpp_tree.specs.declared.node.Mark.{Mark}
+use Rattle.cpp_tree.specs.declared.tree_production.TheConstants.{FUNCTION}
+use Rattle.cpp_tree.specs.Fields.{fields, fields_of, qualifiers_number, mark_number}
+use Rattle.cpp_tree.specs.Views.{AreBelow, plain_tree, seen_of, seen_fields, no_text}
+use Rattle.cpp_term.proofs.Notes.{both}
 use Rattle.cpp_tree.proofs.Noting.{class-later, again-pack, again-empty}
-use Rattle.cpp_tree.specs.Nodes.{Table, tree_at, tree_of, trees, entry_at, IsBelow, IsThereBelow, IsFlat, tree_if_there, placed_tree, is_again, IsClassBelow, IsArgumentsBelow, head_of, class_is, untagged_is, IsTable}
+use Rattle.cpp_tree.specs.Nodes.{Table, tree_at, tree_of, trees, entry_at, IsBelow, IsThereBelow, IsFlat, tree_if_there, under_kept, qualifiers_of, mark_of, placed_tree, is_again, IsClassBelow, IsArgumentsBelow, head_of, class_is, untagged_is, IsTable}
 
 -- a node's tree is its production over those of its parts, which are earlier
 pub node_is : (y : Table) (i : ℕ) (n : Node) → IsTable y → i < length y.nodes → (entry_at y.nodes i).node ≡ n
@@ -164,6 +169,17 @@ erased_place y p t is = sym (erase_reargued (tree_if_there (trees y) p.under) (t
 pub erased_again : (y : Table) (t a : ℕ) (n : Node) → n ≡ Node.Again t a → erase (tree_of y.bytes y.thunks (trees y) n) ≡ erase (tree_at (trees y) t)
 unfolding tree_of
 erased_again y t a n is = ap (λ x. erase (tree_of y.bytes y.thunks (trees y) x)) is ∙ erase_reargued (Some (tree_at (trees y) a)) (tree_at (trees y) t)
+
+-- the fields of a function: under what its types stand isn't seen
+pub function_seen : (y : Table) (n : Node) (seen : NodeView) (name returned parameters under first second : ℕ) (q : Qualifiers) (m : Mark) → n ≡ Node.Function name q m returned parameters under
+    → seen ≡ seen_of FUNCTION (first ∷ second ∷ []) (no_text ∷ no_text ∷ []) 3 (name ∷ returned ∷ parameters ∷ []) → first ≡ qualifiers_number (qualifiers_of q) → second ≡ mark_number (mark_of m)
+    → seen_fields y seen ≡ fields_of (erase (tree_of y.bytes y.thunks (trees y) n))
+unfolding fields_of erase tree_of
+function_seen y n seen name returned parameters under first second q m is seen-is first-is second-is =
+    let u = tree_if_there (trees y) (under_kept under) in
+    rw (seen-is, first-is, second-is, is)
+    (both (λ r p. fields FUNCTION (qualifiers_number (qualifiers_of q)) (mark_number (mark_of m)) [] (plain_tree y name ∷ r ∷ p ∷ []))
+    (sym (erase_reargued u (tree_at (trees y) returned))) (sym (erase_reargued u (tree_at (trees y) parameters))))
 
 pub not_again : (n : Node) → ((t a : ℕ) → n ≡ Node.Again t a → ⊥) → is_again n ≡ false
 unfolding is_again
