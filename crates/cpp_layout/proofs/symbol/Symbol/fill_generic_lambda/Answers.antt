@@ -13,5 +13,5 @@ unfolding tree_if_there
 returns-clause-shows g c =
     fills c.args.self.now c.args.ctx.detail _ _ _
     (told-parts c.args.self.now c.of_its_own.result (record { index = c.args.ctx.index; detail = c.args.ctx.detail; argument = None })
-        (λ (x : Context). piece_parts (context_of x) (term.lambda (tree_shown c.args.self.now x c.args.parameters) c.args.number)) c.of_its_own.ensures c.fill_lambda.ensures.shows)
+    (λ (x : Context). piece_parts (context_of x) (term.lambda (tree_shown c.args.self.now x c.args.parameters) c.args.number)) c.of_its_own.ensures c.fill_lambda.ensures.shows)
     (generic_lambda-whole (context_of c.args.ctx) (tree_at (trees (table_of c.args.self.now)) c.args.parameters) c.args.number)
