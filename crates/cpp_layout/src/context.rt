@@ -46,7 +46,7 @@ impl Context {
         }
     }
 
-    /// The same, but that each parameter has its own argument.
+    /// The same as this one, but that each parameter has its own argument.
     pub fn of_its_own(self) -> Context
         ensures { result ≡ record { index = self.index; detail = self.detail; argument = None } }
     {
