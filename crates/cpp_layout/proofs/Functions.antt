@@ -155,14 +155,14 @@ clone-whole letter i = by (nat_eq letter 116)
     by true = refl
     by false = refl
 
-pub full-none : (d : Detail) (s : List ℕ) (us : List Thunk) (ts : List Term) (given : Option Term) (n : Node) (flat : is_again n ≡ false) (t : Term) → t ≡ reargued given (tree_of s us ts n) → ((a : ℕ) (q : Qualifiers) (m : Mark) (r p : ℕ) → n ≡ Node.Function a q m r p → ⊥) → ((a : ℕ) (q : Qualifiers) (m : Mark) → n ≡ Node.Object a q m → ⊥) → ((k a : ℕ) → n ≡ Node.Special k a → ⊥)
+pub full-none : (d : Detail) (s : List ℕ) (us : List Thunk) (ts : List Term) (given : Option Term) (n : Node) (flat : is_again n ≡ false) (t : Term) → t ≡ reargued given (tree_of s us ts n) → ((a : ℕ) (q : Qualifiers) (m : Mark) (r p u : ℕ) → n ≡ Node.Function a q m r p u → ⊥) → ((a : ℕ) (q : Qualifiers) (m : Mark) → n ≡ Node.Object a q m → ⊥) → ((k a : ℕ) → n ≡ Node.Special k a → ⊥)
     → ((k a : ℕ) → n ≡ Node.Thunk k a → ⊥) → ((k a : ℕ) (q : Qualifiers) (m : Mark) → n ≡ Node.OfName k a q m → ⊥) → ((a : ℕ) (g : Span) (b : ℕ) → n ≡ Node.Construction a g b → ⊥) → ((k a : ℕ) → n ≡ Node.CloneOf k a → ⊥) → [] ≡ full_parts d t
 unfolding tree_of full_parts reargued is_again
 full-none d s us ts given n flat t is h1 h2 h3 h4 h5 h6 h7 = by n flat h1 h2 h3 h4 h5 h6 h7 ∙ ap (full_parts d) (sym is)
   where
-    by : (n : Node) → is_again n ≡ false → ((a : ℕ) (q : Qualifiers) (m : Mark) (r p : ℕ) → n ≡ Node.Function a q m r p → ⊥) → ((a : ℕ) (q : Qualifiers) (m : Mark) → n ≡ Node.Object a q m → ⊥) → ((k a : ℕ) → n ≡ Node.Special k a → ⊥)
+    by : (n : Node) → is_again n ≡ false → ((a : ℕ) (q : Qualifiers) (m : Mark) (r p u : ℕ) → n ≡ Node.Function a q m r p u → ⊥) → ((a : ℕ) (q : Qualifiers) (m : Mark) → n ≡ Node.Object a q m → ⊥) → ((k a : ℕ) → n ≡ Node.Special k a → ⊥)
         → ((k a : ℕ) → n ≡ Node.Thunk k a → ⊥) → ((k a : ℕ) (q : Qualifiers) (m : Mark) → n ≡ Node.OfName k a q m → ⊥) → ((a : ℕ) (g : Span) (b : ℕ) → n ≡ Node.Construction a g b → ⊥) → ((k a : ℕ) → n ≡ Node.CloneOf k a → ⊥) → [] ≡ full_parts d (reargued given (tree_of s us ts n))
-    by (Node.Function a q m r p) flat h1 h2 h3 h4 h5 h6 h7 = absurd (h1 a q m r p refl)
+    by (Node.Function a q m r p u) flat h1 h2 h3 h4 h5 h6 h7 = absurd (h1 a q m r p u refl)
     by (Node.Object a q m) flat h1 h2 h3 h4 h5 h6 h7 = absurd (h2 a q m refl)
     by (Node.Special k a) flat h1 h2 h3 h4 h5 h6 h7 = absurd (h3 k a refl)
     by (Node.Thunk k a) flat h1 h2 h3 h4 h5 h6 h7 = absurd (h4 k a refl)
@@ -172,12 +172,12 @@ full-none d s us ts given n flat t is h1 h2 h3 h4 h5 h6 h7 = by n flat h1 h2 h3 
     by (Node.Again x z) flat h1 h2 h3 h4 h5 h6 h7 = absurd (true≢false flat)
     by _ flat h1 h2 h3 h4 h5 h6 h7 = refl
 
-pub bare-other : (d : Detail) (s : List ℕ) (us : List Thunk) (ts : List Term) (given : Option Term) (n : Node) (flat : is_again n ≡ false) (t : Term) → t ≡ reargued given (tree_of s us ts n) → ((a : ℕ) (q : Qualifiers) (m : Mark) (r p : ℕ) → n ≡ Node.Function a q m r p → ⊥) → full_parts d t ≡ bare_parts d t
+pub bare-other : (d : Detail) (s : List ℕ) (us : List Thunk) (ts : List Term) (given : Option Term) (n : Node) (flat : is_again n ≡ false) (t : Term) → t ≡ reargued given (tree_of s us ts n) → ((a : ℕ) (q : Qualifiers) (m : Mark) (r p u : ℕ) → n ≡ Node.Function a q m r p u → ⊥) → full_parts d t ≡ bare_parts d t
 unfolding tree_of bare_parts reargued is_again
 bare-other d s us ts given n flat t is other = ap (full_parts d) is ∙ by n flat other ∙ ap (bare_parts d) (sym is)
   where
-    by : (n : Node) → is_again n ≡ false → ((a : ℕ) (q : Qualifiers) (m : Mark) (r p : ℕ) → n ≡ Node.Function a q m r p → ⊥) → full_parts d (reargued given (tree_of s us ts n)) ≡ bare_parts d (reargued given (tree_of s us ts n))
-    by (Node.Function a q m r p) flat h = absurd (h a q m r p refl)
+    by : (n : Node) → is_again n ≡ false → ((a : ℕ) (q : Qualifiers) (m : Mark) (r p u : ℕ) → n ≡ Node.Function a q m r p u → ⊥) → full_parts d (reargued given (tree_of s us ts n)) ≡ bare_parts d (reargued given (tree_of s us ts n))
+    by (Node.Function a q m r p u) flat h = absurd (h a q m r p u refl)
     by (Node.Again x z) flat h = absurd (true≢false flat)
     by _ flat h = refl
 

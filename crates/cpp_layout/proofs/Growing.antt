@@ -1,5 +1,5 @@
 -- Lists of parts that grow.
-use Rattle.std.proofs.Common.{Bool, true, false, not, if◌then◌else◌, nat_eq, Option, None, ◌≡◌, ℕ, ◌-◌, ◌<◌, ◌≤◌, List, [], ◌∷◌, ◌++◌, length, take, drop, refl, ap, subst, ◌∙◌, arith, append-nil}
+use Rattle.std.proofs.Common.{Bool, true, false, not, if◌then◌else◌, nat_eq, None, ◌≡◌, ℕ, ◌-◌, ◌<◌, ◌≤◌, List, [], ◌∷◌, ◌++◌, length, take, drop, refl, ap, subst, ◌∙◌, arith, append-nil}
 use Rattle.std.proofs.lemmas.Bool.{eq-eqb, ne_eqb}
 use Rattle.std.proofs.lemmas.List.{length-take, length-drop}
 use Rattle.sym_core.specs.declared.Span.{Span}
@@ -19,10 +19,11 @@ use Rattle.cpp_term.specs.Parts.{not_empty, list_part, text_part, as_item, membe
 use Rattle.cpp_term.specs.Term as term
 use Rattle.cpp_term.specs.Term.{Term}
 use Rattle.cpp_layout.specs.declared.context.Context.{Context}
-use Rattle.cpp_tree.specs.Nodes.{trees, tree_at, bytes_at, IsWithin, IsThereBelow}
+use Rattle.cpp_term.proofs.Reargued.{reargued_none}
+use Rattle.cpp_tree.specs.Nodes.{trees, tree_at, tree_if_there, bytes_at, IsWithin, IsThereBelow}
 use Rattle.cpp_layout.specs.Texts.{fixed_text}
 use Rattle.cpp_layout.specs.declared.texts.TheConstants.{BLANK, BRAIN_FLOAT, COLONS_STAR, COMMA, FLOAT, LEFT, LEFT_BRACKET, RIGHT, RIGHT_BRACKET, VECTOR, WIDER, TAG}
-use Rattle.cpp_layout.specs.Layout.{ReadSymbol, table_of, tree_in, form_of, context_of, text_if, marked, referred, shown_in, item_in, MayCome, IsOwn, unshared_of, bytes_of_part, shown, Shows}
+use Rattle.cpp_layout.specs.Layout.{ReadSymbol, table_of, tree_in, form_of, context_of, text_if, marked, referred, shown_in, tree_shown, item_in, MayCome, IsOwn, unshared_of, bytes_of_part, shown, Shows}
 
 abbrev Others : Type 0
 Others = List (PartOf items.Item)
@@ -183,6 +184,30 @@ parameter-same ts form node inner t less e closed =
 -- what is told of an item may be told by another context that says the same
 pub told-so : {below : Held Context} (y : ReadSymbol) (d e : Detail) (held : Held Context) (others : Others) → d ≡ e → Shows y d below held others → Shows y e below held others
 told-so {below} y d e held others is shows = subst (λ x. Shows y x below held others) is shows
+
+-- ## Contexts that are the same
+
+module _ (y : ReadSymbol) (c told : Context) (is : c ≡ told) (old new : Held Context) (form node : ℕ) where
+  pub told-item : ((below : Held Context) (others : Others) → Shows y c.detail below old others → Shows y c.detail below new (sub (item_in (trees (table_of y)) node form 0 c) ∷ others))
+      → (below : Held Context) (others : Others) → Shows y told.detail below old others → Shows y told.detail below new (sub (item_in (trees (table_of y)) node form 0 told) ∷ others)
+  told-item pushed =
+      subst (λ (x : Context). (below : Held Context) (others : Others) → Shows y x.detail below old others → Shows y x.detail below new (sub (item_in (trees (table_of y)) node form 0 x) ∷ others)) is pushed
+
+  pub told-list : ((below : Held Context) (others : Others) → Shows y c.detail below old others → Shows y c.detail below new (list_part (form_of form 0) (context_of c) (tree_shown y c node) ++ others))
+      → (below : Held Context) (others : Others) → Shows y told.detail below old others → Shows y told.detail below new (list_part (form_of form 0) (context_of told) (tree_shown y told node) ++ others)
+  told-list pushed =
+      subst (λ (x : Context). (below : Held Context) (others : Others) → Shows y x.detail below old others → Shows y x.detail below new (list_part (form_of form 0) (context_of x) (tree_shown y x node) ++ others)) is pushed
+
+pub told-parts : {below held : Held Context} (y : ReadSymbol) (c told : Context) (parts_of : Context → Others) → c ≡ told → Shows y c.detail below held (parts_of c) → Shows y told.detail below held (parts_of told)
+told-parts {below} {held} y c told parts_of is shows = subst (λ (x : Context). Shows y x.detail below held (parts_of x)) is shows
+
+-- told nothing, an item is that of the tree
+module _ (y : ReadSymbol) (d : Detail) (form node : ℕ) where
+  pub closed-item : item_in (trees (table_of y)) node form 0 (record { index = None; detail = d; argument = None }) ≡ record { tree = tree_in form (tree_at (trees (table_of y)) node); form = form_of form 0; context = items.closed }
+  unfolding tree_if_there
+  closed-item =
+      let item : Term → items.Item = λ t. record { tree = tree_in form t; form = form_of form 0; context = items.closed } in
+      ap item (reargued_none (tree_at (trees (table_of y)) node))
 
 -- ## Cells
 

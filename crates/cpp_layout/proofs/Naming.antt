@@ -1,5 +1,5 @@
 -- The parts of names.
-use Rattle.std.proofs.Common.{◌≡◌, ◌≢◌, ◌<◌, refl, sym, ◌∙◌, ap, subst, arith, slice_index, length, ℕ, List, [], ◌∷◌, ◌++◌, Bool, true, false, nat_eq, ◌&&◌, ◌||◌, cond, codes, decimal, if◌then◌else◌, Option}
+use Rattle.std.proofs.Common.{zero, suc, ◌≡◌, ◌≢◌, ◌<◌, refl, sym, ◌∙◌, ap, subst, arith, slice_index, length, ℕ, List, [], ◌∷◌, ◌++◌, Bool, true, false, nat_eq, ◌&&◌, ◌||◌, cond, codes, decimal, if◌then◌else◌, Option, None}
 use Rattle.std.proofs.lemmas.Bool.{eqb-true}
 use Rattle.std.specs.List.{starts_with}
 use Rattle.sym_core.specs.declared.Span.{Span}
@@ -15,6 +15,7 @@ use Rattle.cpp_tree.specs.declared.node.Piece.{Piece}
 use Rattle.cpp_tree.specs.declared.node.Node.{Node}
 use Rattle.cpp_tree.specs.declared.node.Thunk.{Thunk}
 use Rattle.cpp_term.specs.Reargued.{reargued}
+use Rattle.cpp_term.proofs.Reargued.{reargued_none}
 use Rattle.std.proofs.lemmas.Bool.{true≢false}
 use Rattle.cpp_tree.specs.Nodes.{tree_at, tree_of, piece_of, is_again}
 use Rattle.cpp_layout.specs.Texts.{fixed_text}
@@ -80,11 +81,21 @@ unfolding piece_of opening_text
 no-angle s ts (Piece.Operator a b) other = absurd (other a b refl)
 no-angle s ts _ other = refl
 
+pub opening-shown : (given : Option Term) (t : Term) → opening_text t ≡ opening_text (reargued given t)
+unfolding opening_text reargued
+opening-shown given (term.operator a b) = refl
+opening-shown given _ = refl
+
 -- ## Pieces
 
 pub lambda-whole : (c : items.Context) (parameters : Term) (number : ℕ) → text (fixed_text LAMBDA) ∷ (list_part heads.first c parameters ++ (text (fixed_text RIGHT_NUMBER) ∷ text (decimal number) ∷ text (fixed_text BRACE) ∷ [])) ≡ piece_parts c (term.lambda parameters number)
 unfolding piece_parts
 lambda-whole c parameters number = refl
+
+-- parameters of its own have their own arguments
+pub generic_lambda-whole : (c : items.Context) (parameters : Term) (number : ℕ) → piece_parts c (term.lambda (reargued None parameters) number) ≡ piece_parts c (term.generic_lambda parameters number)
+unfolding piece_parts
+generic_lambda-whole c parameters number = ap (λ t. piece_parts c (term.lambda t number)) (reargued_none parameters)
 
 pub unnamed-whole : (c : items.Context) (number : ℕ) → text (fixed_text UNNAMED) ∷ text (decimal number) ∷ text (fixed_text BRACE) ∷ [] ≡ piece_parts c (term.unnamed number)
 unfolding piece_parts
@@ -107,16 +118,17 @@ other-source (Piece.Source i b) other = other i b refl
 other-source _ other = tt
 
 pub piece-none : (s : List ℕ) (ts : List Term) (given : Option Term) (c : items.Context) (p : Piece) → ((i : Bool) (b : Span) → p ≡ Piece.Source i b → ⊥) → ((a b : ℕ) → p ≡ Piece.Operator a b → ⊥) → ((b : Span) → p ≡ Piece.LiteralOperator b → ⊥)
-    → ((a n : ℕ) → p ≡ Piece.Lambda a n → ⊥) → ((n : ℕ) → p ≡ Piece.Unnamed n → ⊥) → (p ≡ Piece.StringLiteral → ⊥) → ((t : ℕ) → p ≡ Piece.Conversion t → ⊥) → [] ≡ piece_parts c (reargued given (piece_of s ts p))
+    → ((a n : ℕ) → p ≡ Piece.Lambda a n → ⊥) → ((a n : ℕ) → p ≡ Piece.GenericLambda a n → ⊥) → ((n : ℕ) → p ≡ Piece.Unnamed n → ⊥) → (p ≡ Piece.StringLiteral → ⊥) → ((t : ℕ) → p ≡ Piece.Conversion t → ⊥) → [] ≡ piece_parts c (reargued given (piece_of s ts p))
 unfolding piece_of piece_parts reargued
-piece-none s ts given c (Piece.Source i b) h1 h2 h3 h4 h5 h6 h7 = absurd (h1 i b refl)
-piece-none s ts given c (Piece.Operator a b) h1 h2 h3 h4 h5 h6 h7 = absurd (h2 a b refl)
-piece-none s ts given c (Piece.LiteralOperator b) h1 h2 h3 h4 h5 h6 h7 = absurd (h3 b refl)
-piece-none s ts given c (Piece.Lambda a n) h1 h2 h3 h4 h5 h6 h7 = absurd (h4 a n refl)
-piece-none s ts given c (Piece.Unnamed n) h1 h2 h3 h4 h5 h6 h7 = absurd (h5 n refl)
-piece-none s ts given c Piece.StringLiteral h1 h2 h3 h4 h5 h6 h7 = absurd (h6 refl)
-piece-none s ts given c (Piece.Conversion t) h1 h2 h3 h4 h5 h6 h7 = absurd (h7 t refl)
-piece-none s ts given c _ h1 h2 h3 h4 h5 h6 h7 = refl
+piece-none s ts given c (Piece.Source i b) h1 h2 h3 h4 h8 h5 h6 h7 = absurd (h1 i b refl)
+piece-none s ts given c (Piece.Operator a b) h1 h2 h3 h4 h8 h5 h6 h7 = absurd (h2 a b refl)
+piece-none s ts given c (Piece.LiteralOperator b) h1 h2 h3 h4 h8 h5 h6 h7 = absurd (h3 b refl)
+piece-none s ts given c (Piece.Lambda a n) h1 h2 h3 h4 h8 h5 h6 h7 = absurd (h4 a n refl)
+piece-none s ts given c (Piece.GenericLambda a n) h1 h2 h3 h4 h8 h5 h6 h7 = absurd (h8 a n refl)
+piece-none s ts given c (Piece.Unnamed n) h1 h2 h3 h4 h8 h5 h6 h7 = absurd (h5 n refl)
+piece-none s ts given c Piece.StringLiteral h1 h2 h3 h4 h8 h5 h6 h7 = absurd (h6 refl)
+piece-none s ts given c (Piece.Conversion t) h1 h2 h3 h4 h8 h5 h6 h7 = absurd (h7 t refl)
+piece-none s ts given c _ h1 h2 h3 h4 h8 h5 h6 h7 = refl
 
 pub base-other : (s : List ℕ) (ts : List Term) (given : Option Term) (c : items.Context) (prefix : Term) (p : Piece) → ((d : ℕ) → p ≡ Piece.Constructor d → ⊥) → ((d : ℕ) → p ≡ Piece.Destructor d → ⊥) → piece_parts c (reargued given (piece_of s ts p)) ≡ base_within c prefix (reargued given (piece_of s ts p))
 unfolding piece_of base_within reargued
@@ -126,12 +138,12 @@ base-other s ts given c prefix _ h1 h2 = refl
 
 -- ## Prefixes
 
-pub prefix-encoding : (s : List ℕ) (us : List Thunk) (ts : List Term) (given : Option Term) (c : items.Context) (n : Node) (flat : is_again n ≡ false) (t : Term) → t ≡ reargued given (tree_of s us ts n) → is_encoding n ≡ true → as_item heads.bare items.closed t ≡ prefix_item c t
+pub prefix-encoding : (s : List ℕ) (us : List Thunk) (ts : List Term) (given : Option Term) (c : items.Context) (n : Node) (flat : is_again n ≡ false) (own t : Term) → own ≡ tree_of s us ts n → t ≡ reargued given (tree_of s us ts n) → is_encoding n ≡ true → as_item heads.bare items.closed own ≡ prefix_item c t
 unfolding tree_of prefix_item is_encoding reargued is_again
-prefix-encoding s us ts given c n flat t is e = subst (λ u. as_item heads.bare items.closed u ≡ prefix_item c u) (sym is) (by n flat e)
+prefix-encoding s us ts given c n flat own t plain is e = ap (λ u. as_item heads.bare items.closed u) plain ∙ by n flat e ∙ ap (λ u. prefix_item c u) (sym is)
   where
-    by : (n : Node) → is_again n ≡ false → is_encoding n ≡ true → as_item heads.bare items.closed (reargued given (tree_of s us ts n)) ≡ prefix_item c (reargued given (tree_of s us ts n))
-    by (Node.Function a q m b d) flat e = refl
+    by : (n : Node) → is_again n ≡ false → is_encoding n ≡ true → as_item heads.bare items.closed (tree_of s us ts n) ≡ prefix_item c (reargued given (tree_of s us ts n))
+    by (Node.Function a q m b d u) flat e = refl
     by (Node.Object a q m) flat e = refl
     by (Node.Special k a) flat e = refl
     by (Node.Thunk k a) flat e = refl
@@ -146,7 +158,7 @@ unfolding tree_of prefix_item is_encoding reargued is_again
 prefix-other s us ts given c n flat t is e other = subst (λ u. as_item heads.left c u ≡ prefix_item c u) (sym is) (by n flat e other)
   where
     by : (n : Node) → is_again n ≡ false → is_encoding n ≡ false → ((a : ℕ) → n ≡ Node.Holder a → ⊥) → as_item heads.left c (reargued given (tree_of s us ts n)) ≡ prefix_item c (reargued given (tree_of s us ts n))
-    by (Node.Function a q m b d) flat e other = cc e
+    by (Node.Function a q m b d u) flat e other = cc e
     by (Node.Object a q m) flat e other = cc e
     by (Node.Special k a) flat e other = cc e
     by (Node.Thunk k a) flat e other = cc e
@@ -170,6 +182,7 @@ within-other s ts given c prefix t (Piece.Source i b) is h1 h2 = rw is refl
 within-other s ts given c prefix t (Piece.Operator a b) is h1 h2 = rw is refl
 within-other s ts given c prefix t (Piece.LiteralOperator b) is h1 h2 = rw is refl
 within-other s ts given c prefix t (Piece.Lambda a n) is h1 h2 = rw is refl
+within-other s ts given c prefix t (Piece.GenericLambda a n) is h1 h2 = rw is refl
 within-other s ts given c prefix t (Piece.Unnamed n) is h1 h2 = rw is refl
 within-other s ts given c prefix t (Piece.Conversion a) is h1 h2 = rw is refl
 within-other s ts given c prefix t Piece.StringLiteral is h1 h2 = rw is refl
@@ -187,6 +200,12 @@ entity-other s us ts given n flat t is other = subst (λ u. u ≡ entity_of u) (
     by _ flat other = refl
 
 -- ## The last piece
+
+-- how many entities a name stands under
+unfoldable pub layers : Term → ℕ
+layers (term.local encoding entity discriminator) = suc (layers entity)
+layers (term.of_default digits entity) = suc (layers entity)
+layers _ = zero
 
 pub last-none : (s : List ℕ) (us : List Thunk) (ts : List Term) (given : Option Term) (n : Node) (flat : is_again n ≡ false) (t : Term) → t ≡ reargued given (tree_of s us ts n)
     → ((p : Piece) → n ≡ Node.Alone p → ⊥) → ((p : Piece) → n ≡ Node.InStd p → ⊥) → ((a : ℕ) (p : Piece) → n ≡ Node.Within a p → ⊥) → ((e a : ℕ) (d : Option Span) → n ≡ Node.Local e a d → ⊥) → ((g : Span) (a : ℕ) → n ≡ Node.OfDefault g a → ⊥) → fixed_text LESS ≡ opening_text (last_piece t)

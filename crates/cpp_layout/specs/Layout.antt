@@ -23,7 +23,7 @@ use Rattle.cpp_term.specs.Erased.{erase, CarriesArguments}
 use Rattle.cpp_tree.specs.declared.node.Node.{Node}
 use Rattle.cpp_tree.specs.declared.node.Piece.{Piece}
 use Rattle.cpp_layout.specs.declared.context.Context.{Context}
-use Rattle.cpp_tree.specs.Nodes.{Stored, Table, over, trees, tree_at, tree_of, piece_of, tree_if_there, bytes_at, IsWithin, IsThereBelow, IsTable}
+use Rattle.cpp_tree.specs.Nodes.{Stored, Table, over, trees, tree_at, tree_of, piece_of, tree_if_there, under_kept, bytes_at, IsWithin, IsThereBelow, IsTable}
 use Rattle.cpp_term.specs.Reargued.{reargued}
 use Rattle.cpp_layout.specs.Texts.{fixed_text}
 
@@ -72,6 +72,10 @@ shown_in ts c t = reargued (tree_if_there ts c.argument) t
 
 abbrev pub tree_shown : ReadSymbol → Context → (node : ℕ) → Term
 tree_shown y c node = shown_in (trees (table_of y)) c (tree_at (trees (table_of y)) node)
+
+-- a type of an encoding, which stands under an argument, if the word says one
+abbrev pub type_shown : ReadSymbol → (under node : ℕ) → Term
+type_shown y under node = reargued (tree_if_there (trees (table_of y)) (under_kept under)) (tree_at (trees (table_of y)) node)
 
 abbrev pub node_shown : ReadSymbol → Context → Node → Term
 node_shown y c n = shown_in (trees (table_of y)) c (tree_of y.bytes y.table.thunks (trees (table_of y)) n)
@@ -176,7 +180,6 @@ IsNoType (Node.Qualified q t) = ⊥
 IsNoType (Node.Vector digits t) = ⊥
 IsNoType (Node.Complex t) = ⊥
 IsNoType (Node.SizedFloat digits end) = ⊥
-IsNoType (Node.GenericParameter number) = ⊥
 IsNoType (Node.Again t a) = ⊥
 IsNoType _ = Unit {0}
 

@@ -3,7 +3,9 @@
 #![tactic(auto)]
 
 ghost use Rattle.std.specs.Prelude.{◌≡◌, None};
+ghost use Rattle.cpp_tree.specs.Nodes.{under_kept};
 
+use cpp_tree::node::under_of;
 use sym_print::Detail;
 
 /// An index into packs, how much is shown, and the argument that each free parameter has here in place of its own, if there is one.
@@ -30,6 +32,27 @@ impl Context {
             index: None,
             detail,
             argument: None,
+        }
+    }
+
+    /// What the types of an encoding are told: they have no index, and stand under this argument, if it says one.
+    pub fn of_types(detail: Detail, under: u32) -> Context
+        ensures { result ≡ record { index = None; detail = detail; argument = under_kept under } }
+    {
+        Context {
+            index: None,
+            detail,
+            argument: under_of(under),
+        }
+    }
+
+    /// The same as this one, but that each parameter has its own argument.
+    pub fn of_its_own(self) -> Context
+        ensures { result ≡ record { index = self.index; detail = self.detail; argument = None } }
+    {
+        Context {
+            argument: None,
+            ..self
         }
     }
 }

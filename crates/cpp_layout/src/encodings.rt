@@ -12,10 +12,10 @@ ghost use Rattle.cpp_grammar.specs.Items as heads;
 ghost use Rattle.cpp_grammar.specs.Parts.{encoding_text, thunk_text, clone_text};
 ghost use Rattle.cpp_grammar.specs.Texts.{look_up, special_texts, named_special_texts};
 ghost use Rattle.cpp_term.specs.Parts.{as_item, construction_parts, function_bare, function_full, full_parts, bare_parts, root_parts, text_part};
-ghost use Rattle.cpp_tree.specs.Nodes.{is_again, entry_at, tree_at, trees, IsTable, IsWithin, bytes_at, thunk_of, qualifiers_of, mark_of};
+ghost use Rattle.cpp_tree.specs.Nodes.{is_again, entry_at, tree_at, trees, under_kept, IsTable, IsThereBelow, IsWithin, bytes_at, thunk_of, qualifiers_of, mark_of};
 ghost use Rattle.cpp_layout.specs.Texts.{fixed_text, suffix_of};
 ghost use Rattle.cpp_layout.specs.declared.texts.TheConstants.{SUFFIX};
-ghost use Rattle.cpp_layout.specs.Layout.{table_of, tree_shown, clone_suffix, Shows};
+ghost use Rattle.cpp_layout.specs.Layout.{table_of, tree_shown, type_shown, clone_suffix, Shows};
 
 use crate::context::Context;
 use crate::numbered::{named_special, special};
@@ -81,19 +81,21 @@ impl Symbol {
         qualifiers: Qualifiers,
         mark: Mark,
         parameters: u32,
+        under: u32,
         detail: Detail,
     )
         requires table { IsTable (table_of self.now) }
         requires name { name < length self.now.table.nodes }
         requires parameters { parameters < length self.now.table.nodes }
+        requires under { IsThereBelow (length self.now.table.nodes) (under_kept under) }
         requires room { 5 ≤ S.room parts.old }
         ensures shows { (below : Held Context) (others : List (PartOf items.Item)) → Shows self.now detail below (S.held parts.old) others
-            → Shows self.now detail below (S.held parts.new) (function_bare true (tree_at (trees (table_of self.now)) name) (qualifiers_of qualifiers) (mark_of mark) (tree_at (trees (table_of self.now)) parameters) ++ others) }
+            → Shows self.now detail below (S.held parts.new) (function_bare true (tree_at (trees (table_of self.now)) name) (qualifiers_of qualifiers) (mark_of mark) (type_shown self.now under parameters) ++ others) }
         ensures room { S.room parts.old ≤ S.room parts.new + 5 }
     {
         self.push_suffix(parts, qualifiers, mark, false);
         self.push_text(parts, texts::RIGHT);
-        self.push_closed_list(parts, parameters, form::FIRST, detail);
+        self.push_typed_list(parts, parameters, form::FIRST, under, detail);
         self.push_text(parts, texts::LEFT);
         self.push_closed(parts, name, form::LEFT, detail);
     }
@@ -107,21 +109,23 @@ impl Symbol {
         mark: Mark,
         returned: u32,
         parameters: u32,
+        under: u32,
         detail: Detail,
     )
         requires table { IsTable (table_of self.now) }
         requires name { name < length self.now.table.nodes }
         requires returned { returned < length self.now.table.nodes }
         requires parameters { parameters < length self.now.table.nodes }
-        requires there { tree_at (trees (table_of self.now)) returned ≡ term.absent → ⊥ }
+        requires under { IsThereBelow (length self.now.table.nodes) (under_kept under) }
+        requires there { type_shown self.now under returned ≡ term.absent → ⊥ }
         requires room { 8 ≤ S.room parts.old }
-        ensures shows { Shows self.now detail (S.held parts.old) (S.held parts.new) (function_full true (tree_at (trees (table_of self.now)) name) (qualifiers_of qualifiers) (mark_of mark) (tree_at (trees (table_of self.now)) returned) (tree_at (trees (table_of self.now)) parameters)) }
+        ensures shows { Shows self.now detail (S.held parts.old) (S.held parts.new) (function_full true (tree_at (trees (table_of self.now)) name) (qualifiers_of qualifiers) (mark_of mark) (type_shown self.now under returned) (type_shown self.now under parameters)) }
         ensures few { S.room parts.old ≤ S.room parts.new + 8 }
     {
-        self.push_closed(parts, returned, form::RIGHT, detail);
-        self.push_bare(parts, name, qualifiers, mark, parameters, detail);
+        self.push_typed(parts, returned, form::RIGHT, under, detail);
+        self.push_bare(parts, name, qualifiers, mark, parameters, under, detail);
         self.push_text(parts, texts::BLANK);
-        self.push_closed(parts, returned, form::LEFT, detail);
+        self.push_typed(parts, returned, form::LEFT, under, detail);
     }
 
     /// The parts of an object's name.
@@ -247,20 +251,26 @@ impl Symbol {
         mark: Mark,
         returned: u32,
         parameters: u32,
+        under: u32,
         detail: Detail,
     )
         requires table { IsTable (table_of self.now) }
         requires name { name < length self.now.table.nodes }
         requires returned { returned < length self.now.table.nodes }
         requires parameters { parameters < length self.now.table.nodes }
+        requires under { IsThereBelow (length self.now.table.nodes) (under_kept under) }
         requires room { 8 ≤ S.room parts.old }
-        ensures shows { Shows self.now detail (S.held parts.old) (S.held parts.new) (function_full true (tree_at (trees (table_of self.now)) name) (qualifiers_of qualifiers) (mark_of mark) (tree_at (trees (table_of self.now)) returned) (tree_at (trees (table_of self.now)) parameters)) }
+        ensures shows { Shows self.now detail (S.held parts.old) (S.held parts.new) (function_full true (tree_at (trees (table_of self.now)) name) (qualifiers_of qualifiers) (mark_of mark) (type_shown self.now under returned) (type_shown self.now under parameters)) }
         ensures few { S.room parts.old ≤ S.room parts.new + 8 }
     {
-        let place = self.place(returned, Context::closed(detail));
+        let place = self.place(returned, Context::of_types(detail, under));
         match self.stored(place.node, place.ctx) {
-            Node::Absent => self.push_bare(parts, name, qualifiers, mark, parameters, detail),
-            _ => self.fill_returning(parts, name, qualifiers, mark, returned, parameters, detail),
+            Node::Absent => {
+                self.push_bare(parts, name, qualifiers, mark, parameters, under, detail);
+            }
+            _ => self.fill_returning(
+                parts, name, qualifiers, mark, returned, parameters, under, detail,
+            ),
         }
     }
 
@@ -274,18 +284,22 @@ impl Symbol {
         mark: Mark,
         returned: u32,
         parameters: u32,
+        under: u32,
         detail: Detail,
     )
         requires table { IsTable (table_of self.now) }
         requires name { name < length self.now.table.nodes }
         requires returned { returned < length self.now.table.nodes }
         requires parameters { parameters < length self.now.table.nodes }
+        requires under { IsThereBelow (length self.now.table.nodes) (under_kept under) }
         requires room { 8 ≤ S.room parts.old }
-        ensures shows { Shows self.now detail (S.held parts.old) (S.held parts.new) (function_full (has_parameters detail) (tree_at (trees (table_of self.now)) name) (qualifiers_of qualifiers) (mark_of mark) (tree_at (trees (table_of self.now)) returned) (tree_at (trees (table_of self.now)) parameters)) }
+        ensures shows { Shows self.now detail (S.held parts.old) (S.held parts.new) (function_full (has_parameters detail) (tree_at (trees (table_of self.now)) name) (qualifiers_of qualifiers) (mark_of mark) (type_shown self.now under returned) (type_shown self.now under parameters)) }
         ensures few { S.room parts.old ≤ S.room parts.new + 8 }
     {
         if detail.has_parameters() {
-            self.fill_signature(parts, name, qualifiers, mark, returned, parameters, detail);
+            self.fill_signature(
+                parts, name, qualifiers, mark, returned, parameters, under, detail,
+            );
         } else {
             self.push_closed(parts, name, form::LEFT, detail);
         }
@@ -299,17 +313,19 @@ impl Symbol {
         qualifiers: Qualifiers,
         mark: Mark,
         parameters: u32,
+        under: u32,
         detail: Detail,
     )
         requires table { IsTable (table_of self.now) }
         requires name { name < length self.now.table.nodes }
         requires parameters { parameters < length self.now.table.nodes }
+        requires under { IsThereBelow (length self.now.table.nodes) (under_kept under) }
         requires room { 8 ≤ S.room parts.old }
-        ensures shows { Shows self.now detail (S.held parts.old) (S.held parts.new) (function_bare (has_parameters detail) (tree_at (trees (table_of self.now)) name) (qualifiers_of qualifiers) (mark_of mark) (tree_at (trees (table_of self.now)) parameters)) }
+        ensures shows { Shows self.now detail (S.held parts.old) (S.held parts.new) (function_bare (has_parameters detail) (tree_at (trees (table_of self.now)) name) (qualifiers_of qualifiers) (mark_of mark) (type_shown self.now under parameters)) }
         ensures few { S.room parts.old ≤ S.room parts.new + 8 }
     {
         if detail.has_parameters() {
-            self.push_bare(parts, name, qualifiers, mark, parameters, detail);
+            self.push_bare(parts, name, qualifiers, mark, parameters, under, detail);
         } else {
             self.push_closed(parts, name, form::LEFT, detail);
         }
@@ -331,7 +347,10 @@ impl Symbol {
                 mark,
                 returned,
                 parameters,
-            } => self.fill_function(parts, name, qualifiers, mark, returned, parameters, ctx.detail),
+                under,
+            } => self.fill_function(
+                parts, name, qualifiers, mark, returned, parameters, under, ctx.detail,
+            ),
             Node::Object {
                 name,
                 qualifiers,
@@ -350,18 +369,15 @@ impl Symbol {
                 parent,
                 ..
             } => { self.fill_construction(parts, derived, parent, ctx.detail) }
-            Node::CloneOf { letter, encoding } => self.fill_clone(parts, letter, encoding, ctx.detail),
+            Node::CloneOf { letter, encoding } => self.fill_clone(
+                parts, letter, encoding, ctx.detail,
+            ),
             _ => {}
         }
     }
 
     /// The parts of an encoding without its return type.
-    pub(crate) fn fill_bare_of<S: PartList<Context>>(
-        &self,
-        parts: &mut S,
-        node: u32,
-        ctx: Context,
-    )
+    pub(crate) fn fill_bare_of<S: PartList<Context>>(&self, parts: &mut S, node: u32, ctx: Context)
         requires own { is_again (entry_at self.now.table.nodes node).node ≡ false }
         requires table { IsTable (table_of self.now) }
         requires node { node < length self.now.table.nodes }
@@ -375,8 +391,9 @@ impl Symbol {
                 qualifiers,
                 mark,
                 parameters,
+                under,
                 ..
-            } => self.fill_bare(parts, name, qualifiers, mark, parameters, ctx.detail),
+            } => self.fill_bare(parts, name, qualifiers, mark, parameters, under, ctx.detail),
             _ => self.fill_full(parts, node, ctx),
         }
     }
@@ -425,7 +442,9 @@ impl Symbol {
         ensures few { S.room parts.old ≤ S.room parts.new + 8 }
     {
         match self.stored(node, ctx) {
-            Node::Whole { encoding, suffix } => self.fill_whole(parts, encoding, suffix, ctx.detail),
+            Node::Whole { encoding, suffix } => self.fill_whole(
+                parts, encoding, suffix, ctx.detail,
+            ),
             _ => {}
         }
     }

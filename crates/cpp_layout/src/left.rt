@@ -5,7 +5,7 @@ ghost use Rattle.std.specs.Prelude.{◌≡◌, ◌+◌, ◌<◌, ◌≤◌, ◌�
 ghost use Rattle.sym_print.specs.Unfold.{text};
 ghost use Rattle.cpp_grammar.specs.Items as heads;
 ghost use Rattle.cpp_term.specs.Parts.{as_item, own_piece, piece_parts, left_parts, low_parts, base_parts};
-ghost use Rattle.cpp_tree.specs.Nodes.{tree_at, trees, tree_of, IsTable, IsBelow, IsThereBelow, is_again, entry_at};
+ghost use Rattle.cpp_tree.specs.Nodes.{IsTable, IsBelow, IsThereBelow, is_again, entry_at};
 ghost use Rattle.cpp_layout.specs.Texts.{fixed_text};
 ghost use Rattle.cpp_layout.specs.declared.texts.TheConstants.{STD};
 ghost use Rattle.cpp_layout.specs.Layout.{table_of, context_of, Shows, IsNoName, IsNoType, tree_shown, node_shown};
@@ -123,7 +123,6 @@ impl Symbol {
             Node::Vector { digits, element } => self.fill_vector(parts, digits, element, ctx),
             Node::Complex(ty) => self.fill_left_text(parts, ty, texts::COMPLEX, ctx),
             Node::SizedFloat { digits, end } => self.fill_float(parts, digits, end, ctx),
-            Node::GenericParameter(_) => self.push_some(parts, builtin_with_d(b'a')),
             _ => self.fill_left_argument(parts, number, node, ctx),
         }
     }

@@ -5,7 +5,7 @@ ghost use Rattle.std.specs.Prelude.{◌≡◌, ◌+◌, ◌<◌, ◌≤◌, leng
 ghost use Rattle.cpp_term.specs.Items as items;
 ghost use Rattle.cpp_term.specs.Term as term;
 ghost use Rattle.cpp_term.specs.Parts.{first_parts, more_parts, expansion_parts};
-ghost use Rattle.cpp_tree.specs.Nodes.{tree_at, trees, IsTable, IsThereBelow, is_again, entry_at};
+ghost use Rattle.cpp_tree.specs.Nodes.{IsTable, IsThereBelow, is_again, entry_at};
 ghost use Rattle.cpp_layout.specs.Layout.{table_of, context_of, Shows, tree_shown};
 
 use crate::context::Context;

@@ -11,7 +11,7 @@ ghost use Rattle.cpp_grammar.specs.Parts.{begins_with, source_text};
 ghost use Rattle.cpp_term.specs.Term as term;
 ghost use Rattle.cpp_term.specs.Items as items;
 ghost use Rattle.cpp_term.specs.Parts.{as_item, piece_parts, prefix_item, within_parts, base_within, base_tagged, own_piece, entity_of, opening_text, last_piece, instance_parts};
-ghost use Rattle.cpp_tree.specs.Nodes.{tree_at, trees, piece_of, bytes_at, IsTable, IsWithin, IsPieceBelow, IsThereBelow};
+ghost use Rattle.cpp_tree.specs.Nodes.{piece_of, tree_at, trees, bytes_at, IsTable, IsWithin, IsPieceBelow, IsThereBelow};
 ghost use Rattle.cpp_layout.specs.Texts.{fixed_text};
 ghost use Rattle.cpp_layout.specs.declared.texts.TheConstants.{BLANK_LESS, COLONS, COUNT, LESS, RIGHT_BRACKET, TAG};
 ghost use Rattle.cpp_layout.specs.Layout.{table_of, context_of, Shows, IsOwn, IsNoSource, tree_shown, piece_shown};
@@ -135,6 +135,23 @@ impl Symbol {
         self.push_text(parts, texts::LAMBDA);
     }
 
+    /// The parts of the name of a lambda whose signature names parameters of its own.
+    fn fill_generic_lambda<S: PartList<Context>>(
+        &self,
+        parts: &mut S,
+        parameters: u32,
+        number: u64,
+        ctx: Context,
+    )
+        requires table { IsTable (table_of self.now) }
+        requires parameters { parameters < length self.now.table.nodes }
+        requires room { 8 ≤ S.room parts.old }
+        ensures shows { Shows self.now ctx.detail (S.held parts.old) (S.held parts.new) (piece_parts (context_of ctx) (term.generic_lambda (tree_at (trees (table_of self.now)) parameters) number)) }
+        ensures few { S.room parts.old ≤ S.room parts.new + 8 }
+    {
+        self.fill_lambda(parts, parameters, number, ctx.of_its_own());
+    }
+
     /// The parts of an unnamed type's name.
     // <unnamed-type-name> ::= Ut [ <nonnegative number> ] _
     fn fill_unnamed<S: PartList<Context>>(&self, parts: &mut S, number: u64, ctx: Context)
@@ -190,6 +207,9 @@ impl Symbol {
             Piece::LiteralOperator(name) => self.fill_literal_operator(parts, name, ctx),
             Piece::Lambda { parameters, number } => {
                 self.fill_lambda(parts, parameters, number, ctx);
+            }
+            Piece::GenericLambda { parameters, number } => {
+                self.fill_generic_lambda(parts, parameters, number, ctx);
             }
             Piece::Unnamed(number) => self.fill_unnamed(parts, number, ctx),
             Piece::StringLiteral => self.push_text(parts, texts::STRING),

@@ -9,7 +9,7 @@ ghost use Rattle.cpp_grammar.specs.Items as heads;
 ghost use Rattle.cpp_grammar.specs.Parts.{blank_last, qualifier_text};
 ghost use Rattle.cpp_term.specs.Items as items;
 ghost use Rattle.cpp_term.specs.Parts.{text_part, qualified_left};
-ghost use Rattle.cpp_tree.specs.Nodes.{tree_at, trees, IsTable, qualifiers_of, IsThereBelow};
+ghost use Rattle.cpp_tree.specs.Nodes.{IsTable, qualifiers_of, IsThereBelow};
 ghost use Rattle.cpp_layout.specs.Texts.{fixed_text};
 ghost use Rattle.cpp_layout.specs.declared.texts.TheConstants.{BLANKED};
 ghost use Rattle.cpp_layout.specs.Layout.{table_of, context_of, Shows, qualifiers_behind, tree_shown};

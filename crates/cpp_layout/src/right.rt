@@ -4,7 +4,7 @@
 ghost use Rattle.std.specs.Prelude.{◌≡◌, ◌+◌, ◌<◌, ◌≤◌, length, false};
 ghost use Rattle.cpp_grammar.specs.Parts.{qualifier_text};
 ghost use Rattle.cpp_term.specs.Parts.{right_parts, function_right, qualified_right};
-ghost use Rattle.cpp_tree.specs.Nodes.{tree_at, trees, IsTable, qualifiers_of, mark_of, IsThereBelow, is_again, entry_at};
+ghost use Rattle.cpp_tree.specs.Nodes.{IsTable, qualifiers_of, mark_of, IsThereBelow, is_again, entry_at};
 ghost use Rattle.cpp_layout.specs.Layout.{table_of, context_of, Shows, tree_shown};
 
 use crate::context::Context;

@@ -1,12 +1,13 @@
 // A symbol that was read.
 #![tactic(auto)]
 
-ghost use Rattle.std.specs.Prelude.{◌≡◌, ◌+◌, ◌<◌, ◌≤◌, ◌*◌, length, slice_get, Some, false};
+ghost use Rattle.std.specs.Prelude.{◌≡◌, ℕ, ◌+◌, ◌<◌, ◌≤◌, ◌*◌, List, length, slice_get, Some, false};
 ghost use Rattle.std.specs.List.{All};
 ghost use Rattle.cpp_grammar.specs.Items as heads;
 ghost use Rattle.cpp_term.specs.Items as items;
 ghost use Rattle.cpp_term.specs.Reargued.{argument_or};
 ghost use Rattle.cpp_term.specs.Scope.{without_tags};
+ghost use Rattle.cpp_term.specs.Term.{Term};
 ghost use Rattle.cpp_tree.specs.Nodes.{tree_at, trees, tree_of, tree_if_there, is_again, bytes_at, IsBelow, IsThereBelow, IsTable, IsWithin, entry_at};
 ghost use Rattle.cpp_layout.specs.Layout.{table_of, context_of, tree_shown, node_shown, IsRead};
 ghost use Rattle.cpp_tree.specs.Fields.{offsets_of, tree_from};
@@ -38,6 +39,18 @@ impl Model for Symbol {
     ghost view = { λ s. record { bytes = s.bytes.items; table = s.nodes; root = s.root; rows = s.rows; steps = s.steps } };
 
     ghost invariant = { λ s. IsRead (record { bytes = s.bytes.items; table = s.nodes; root = s.root; rows = s.rows; steps = s.steps }) };
+}
+
+/// The argument that is given, if one is, or else its own.
+#[tactic(auto, unfolding(cpp_term::specs::Reargued::argument_or, cpp_tree::specs::Nodes::tree_if_there))]
+fn given_or(given: Option<u32>, own: u32) -> u32
+    ensures tree { (ts : List Term) → tree_at ts result ≡ argument_or (tree_if_there ts given) (tree_at ts own) }
+    ensures below { (n : ℕ) → own < n → IsThereBelow n given → result < n }
+{
+    match given {
+        None => own,
+        Some(argument) => argument,
+    }
 }
 
 impl Symbol {
@@ -115,7 +128,13 @@ impl Symbol {
         ensures node { result.node < length self.now.table.nodes }
         ensures context { IsThereBelow (length self.now.table.nodes) result.ctx.argument }
     {
-        let placed = self.nodes.settled(&self.bytes, Placed { node, under: ctx.argument });
+        let placed = self.nodes.settled(
+            &self.bytes,
+            Placed {
+                node,
+                under: ctx.argument,
+            },
+        );
         Place {
             node: placed.node,
             ctx: Context {
@@ -314,18 +333,12 @@ impl Symbol {
         ensures node { result.node < length self.now.table.nodes }
         ensures context { IsThereBelow (length self.now.table.nodes) result.ctx.argument }
     {
-        let argument = match ctx.argument {
-            None => own,
-            Some(given) => given,
+        let argument = given_or(ctx.argument, own);
+        let alone = Placed {
+            node: argument,
+            under: None,
         };
-        let placed = self.nodes.indexed(
-            &self.bytes,
-            ctx.index,
-            Placed {
-                node: argument,
-                under: None,
-            },
-        );
+        let placed = self.nodes.indexed(&self.bytes, ctx.index, alone);
         Place {
             node: placed.node,
             ctx: Context {

@@ -1,6 +1,6 @@
 use Rattle.cpp_layout.proofs.Growing.{array-right, fills, part-text, starts}
-use Rattle.cpp_layout.specs.Layout.{context_of, table_of, tree_shown}
-use Rattle.cpp_tree.specs.Nodes.{bytes_at, tree_at, trees}
+use Rattle.cpp_layout.specs.Layout.{context_of, tree_shown}
+use Rattle.cpp_tree.specs.Nodes.{bytes_at}
 use Rattle.cpp_layout.proofs.symbol.Symbol.fill_array_right.Goals as goal
 
 pub returns-clause-shows : goal.returns-clause-shows

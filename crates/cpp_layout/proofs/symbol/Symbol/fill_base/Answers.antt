@@ -1,7 +1,7 @@
 use Rattle.std.proofs.Common.{[], ap, sym, ◌∙◌, ◌∷◌}
-use Rattle.cpp_layout.proofs.Growing.{fills, starts}
+use Rattle.cpp_layout.proofs.Growing.{fills, starts, told-so}
 use Rattle.cpp_layout.proofs.Typing.{base-other-node}
-use Rattle.cpp_layout.specs.Layout.{context_of}
+use Rattle.cpp_layout.specs.Layout.{context_of, tree_shown}
 use Rattle.cpp_term.specs.Parts.{as_item, base_parts}
 use Rattle.cpp_tree.specs.Nodes.{tree_of}
 use Rattle.sym_print.specs.Unfold.{text}
@@ -27,7 +27,12 @@ returns-in-Instance-clause-shows g c = fills c.args.self.now c.args.ctx.detail _
 
 pub returns-in-Local-clause-shows : goal.returns-in-Local-clause-shows
 unfolding tree_of base_parts reargued
-returns-in-Local-clause-shows g c = fills c.args.self.now c.args.ctx.detail _ _ _ (c.push_item-in-Local.ensures.shows _ _ (starts c.args.self.now c.args.ctx.detail _)) (ap (λ t. as_item heads.base (context_of c.args.ctx) t ∷ []) c.own_entity.ensures.tree ∙ ap (λ t. base_parts c.args.ctx.detail (context_of c.args.ctx) t) (sym c.in-Local.ensures.tree))
+returns-in-Local-clause-shows g c =
+    let own = c.own_entity-own.result in
+    let said = c.own_entity-own.ensures in
+    fills c.args.self.now c.args.ctx.detail _ _ _ (told-so c.args.self.now own.ctx.detail c.args.ctx.detail _ _ said.detail (c.push_item-in-Local.ensures.shows _ _ (starts c.args.self.now own.ctx.detail _)))
+    (ap (λ x. as_item heads.base x (tree_shown c.args.self.now own.ctx own.node) ∷ []) said.index ∙ ap (λ t. as_item heads.base (context_of c.args.ctx) t ∷ []) said.tree
+    ∙ ap (λ t. base_parts c.args.ctx.detail (context_of c.args.ctx) t) (sym c.in-Local.ensures.tree))
 
 pub returns-in-Holder-clause-shows : goal.returns-in-Holder-clause-shows
 unfolding tree_of base_parts reargued

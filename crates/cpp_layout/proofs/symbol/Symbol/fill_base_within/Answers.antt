@@ -1,9 +1,9 @@
 use Rattle.std.proofs.Common.{ap, sym}
 use Rattle.cpp_layout.proofs.Growing.{fills, starts}
 use Rattle.cpp_layout.proofs.Naming.{base-other}
-use Rattle.cpp_layout.specs.Layout.{context_of, table_of, tree_shown, piece_shown}
+use Rattle.cpp_layout.specs.Layout.{context_of, tree_shown, piece_shown}
 use Rattle.cpp_term.specs.Parts.{base_within}
-use Rattle.cpp_tree.specs.Nodes.{piece_of, tree_at, trees}
+use Rattle.cpp_tree.specs.Nodes.{piece_of}
 use Rattle.cpp_term.specs.Reargued.{reargued}
 use Rattle.cpp_layout.proofs.symbol.Symbol.fill_base_within.Goals as goal
 

@@ -1,7 +1,6 @@
 use Rattle.std.proofs.Common.{sym}
 use Rattle.cpp_layout.proofs.Growing.{closing-whole, fills, starts}
-use Rattle.cpp_layout.specs.Layout.{context_of, table_of, tree_shown}
-use Rattle.cpp_tree.specs.Nodes.{tree_at, trees}
+use Rattle.cpp_layout.specs.Layout.{context_of, tree_shown}
 use Rattle.cpp_layout.proofs.symbol.Symbol.fill_closing.Goals as goal
 
 pub returns-clause-shows : goal.returns-clause-shows

@@ -1,8 +1,7 @@
 use Rattle.std.proofs.lemmas.Bool.{le-ltb, lt-ltb}
 use Rattle.cpp_layout.proofs.Functions.{expand-whole}
 use Rattle.cpp_layout.proofs.Growing.{fills, starts}
-use Rattle.cpp_layout.specs.Layout.{context_of, table_of, tree_shown}
-use Rattle.cpp_tree.specs.Nodes.{tree_at, trees}
+use Rattle.cpp_layout.specs.Layout.{context_of, tree_shown}
 use Rattle.cpp_layout.proofs.symbol.Symbol.fill_expand.Goals as goal
 
 pub returns-clause-shows : goal.returns-clause-shows

@@ -1,8 +1,7 @@
 use Rattle.std.proofs.Common.{arith, sym, ◌∙◌}
 use Rattle.cpp_layout.proofs.Functions.{expansion-more, expansion-none, expansion-zero}
 use Rattle.cpp_layout.proofs.Growing.{fills, starts}
-use Rattle.cpp_layout.specs.Layout.{context_of, table_of, tree_shown}
-use Rattle.cpp_tree.specs.Nodes.{tree_at, trees}
+use Rattle.cpp_layout.specs.Layout.{context_of, tree_shown}
 use Rattle.cpp_term.specs.Items as items
 use Rattle.cpp_layout.proofs.symbol.Symbol.fill_expansion.Goals as goal
 

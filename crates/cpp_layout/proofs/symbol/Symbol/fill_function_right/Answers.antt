@@ -1,7 +1,7 @@
 use Rattle.cpp_layout.proofs.Functions.{right-whole}
 use Rattle.cpp_layout.proofs.Growing.{fills, starts}
-use Rattle.cpp_layout.specs.Layout.{context_of, table_of, tree_shown}
-use Rattle.cpp_tree.specs.Nodes.{mark_of, qualifiers_of, tree_at, trees}
+use Rattle.cpp_layout.specs.Layout.{context_of, tree_shown}
+use Rattle.cpp_tree.specs.Nodes.{mark_of, qualifiers_of}
 use Rattle.cpp_layout.proofs.symbol.Symbol.fill_function_right.Goals as goal
 
 pub returns-clause-shows : goal.returns-clause-shows

@@ -1,9 +1,8 @@
 use Rattle.std.proofs.Common.{ap, if◌then◌else◌, sym, ◌∙◌}
 use Rattle.cpp_layout.proofs.Growing.{fills, starts}
 use Rattle.cpp_layout.proofs.Naming.{brief-whole, instance-whole}
-use Rattle.cpp_layout.specs.Layout.{context_of, table_of, tree_shown}
+use Rattle.cpp_layout.specs.Layout.{context_of, tree_shown}
 use Rattle.cpp_term.specs.Parts.{instance_parts}
-use Rattle.cpp_tree.specs.Nodes.{tree_at, trees}
 use Rattle.cpp_layout.specs.declared.texts.TheConstants.{BLANK_LESS, LESS}
 use Rattle.cpp_layout.proofs.symbol.Symbol.fill_instance.Goals as goal
 

@@ -1,11 +1,11 @@
 use Rattle.std.proofs.Common.{[], ap, sym, ◌∙◌, ◌∷◌}
-use Rattle.cpp_layout.proofs.Growing.{fills, starts, tagged-whole}
+use Rattle.cpp_layout.proofs.Growing.{fills, starts, tagged-whole, told-so}
 use Rattle.cpp_layout.proofs.Typing.{no-name}
-use Rattle.cpp_layout.specs.Layout.{context_of, table_of, node_shown}
+use Rattle.cpp_layout.specs.Layout.{context_of, node_shown, tree_shown}
 use Rattle.cpp_layout.specs.Texts.{fixed_text}
 use Rattle.cpp_layout.specs.declared.texts.TheConstants.{STD}
 use Rattle.cpp_term.specs.Parts.{own_piece, as_item, left_parts}
-use Rattle.cpp_tree.specs.Nodes.{tree_of, trees}
+use Rattle.cpp_tree.specs.Nodes.{tree_of}
 use Rattle.sym_print.specs.Unfold.{text}
 use Rattle.cpp_grammar.specs.Items as heads
 use Rattle.cpp_term.specs.Reargued.{reargued}
@@ -33,7 +33,12 @@ returns-in-Instance-clause-shows g c = fills c.args.self.now c.args.ctx.detail _
 
 pub returns-in-Local-clause-shows : goal.returns-in-Local-clause-shows
 unfolding tree_of left_parts reargued
-returns-in-Local-clause-shows g c = fills c.args.self.now c.args.ctx.detail _ _ _ (c.push_item.ensures.shows _ _ (starts c.args.self.now c.args.ctx.detail _)) (ap (λ t. as_item heads.left (context_of c.args.ctx) t ∷ []) c.own_entity.ensures.tree ∙ ap (λ n. left_parts c.args.ctx.detail (context_of c.args.ctx) (node_shown c.args.self.now c.args.ctx n)) (sym c.in-Local.is) ∙ ap (λ t. left_parts c.args.ctx.detail (context_of c.args.ctx) t) (sym c.stored-stored.ensures.tree))
+returns-in-Local-clause-shows g c =
+    let own = c.own_entity-own.result in
+    let said = c.own_entity-own.ensures in
+    fills c.args.self.now c.args.ctx.detail _ _ _ (told-so c.args.self.now own.ctx.detail c.args.ctx.detail _ _ said.detail (c.push_item.ensures.shows _ _ (starts c.args.self.now own.ctx.detail _)))
+    (ap (λ x. as_item heads.left x (tree_shown c.args.self.now own.ctx own.node) ∷ []) said.index ∙ ap (λ t. as_item heads.left (context_of c.args.ctx) t ∷ []) said.tree
+    ∙ ap (λ n. left_parts c.args.ctx.detail (context_of c.args.ctx) (node_shown c.args.self.now c.args.ctx n)) (sym c.in-Local.is) ∙ ap (λ t. left_parts c.args.ctx.detail (context_of c.args.ctx) t) (sym c.stored-stored.ensures.tree))
 
 pub returns-in-Holder-clause-shows : goal.returns-in-Holder-clause-shows
 unfolding tree_of left_parts reargued

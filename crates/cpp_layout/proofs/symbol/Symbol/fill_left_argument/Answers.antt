@@ -1,9 +1,9 @@
 use Rattle.std.proofs.Common.{ap, append-nil, sym, ◌∙◌}
 use Rattle.cpp_layout.proofs.Growing.{fills, starts}
 use Rattle.cpp_layout.proofs.Typing.{no-type-flat, boolean-whole, left-none}
-use Rattle.cpp_layout.specs.Layout.{context_of, table_of, node_shown}
+use Rattle.cpp_layout.specs.Layout.{context_of, node_shown}
 use Rattle.cpp_term.specs.Parts.{left_parts}
-use Rattle.cpp_tree.specs.Nodes.{tree_of, trees}
+use Rattle.cpp_tree.specs.Nodes.{tree_of}
 use Rattle.cpp_term.specs.Reargued.{reargued}
 use Rattle.cpp_layout.proofs.symbol.Symbol.fill_left_argument.Goals as goal
 

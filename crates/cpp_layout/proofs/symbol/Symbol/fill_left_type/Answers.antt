@@ -1,9 +1,9 @@
 use Rattle.std.proofs.Common.{[], ap, refl, sym, ◌∙◌, ◌∷◌}
 use Rattle.cpp_layout.proofs.Growing.{fills, starts}
 use Rattle.cpp_layout.proofs.Typing.{marked-whole, no-type}
-use Rattle.cpp_layout.specs.Layout.{context_of, table_of, node_shown}
+use Rattle.cpp_layout.specs.Layout.{context_of, node_shown}
 use Rattle.cpp_term.specs.Parts.{left_parts}
-use Rattle.cpp_tree.specs.Nodes.{tree_of, trees}
+use Rattle.cpp_tree.specs.Nodes.{tree_of}
 use Rattle.sym_print.specs.Unfold.{text}
 use Rattle.cpp_term.specs.Reargued.{reargued}
 use Rattle.cpp_layout.proofs.symbol.Symbol.fill_left_type.Goals as goal
@@ -60,9 +60,5 @@ pub returns-in-SizedFloat-clause-shows : goal.returns-in-SizedFloat-clause-shows
 unfolding tree_of left_parts reargued
 returns-in-SizedFloat-clause-shows g c = fills c.args.self.now c.args.ctx.detail _ _ _ c.fill_float.ensures.shows (ap (λ n. left_parts c.args.ctx.detail (context_of c.args.ctx) (node_shown c.args.self.now c.args.ctx n)) (sym c.in-SizedFloat.is))
 
-pub returns-in-GenericParameter-clause-shows : goal.returns-in-GenericParameter-clause-shows
-unfolding tree_of left_parts reargued
-returns-in-GenericParameter-clause-shows g c = fills c.args.self.now c.args.ctx.detail _ _ _ (c.push_some-in-GenericParameter.ensures.shows _ _ _ (starts c.args.self.now c.args.ctx.detail _)) (ap (λ t. text t ∷ []) c.builtin_with_d-in-GenericParameter.ensures.text ∙ ap (λ n. left_parts c.args.ctx.detail (context_of c.args.ctx) (node_shown c.args.self.now c.args.ctx n)) (sym c.in-GenericParameter.is))
-
 pub fill_left_argument-requires-clause-kind : goal.fill_left_argument-requires-clause-kind
-fill_left_argument-requires-clause-kind g c = no-type c.args.node c.requires.kind c.in_default.not-Builtin c.in_default.not-BuiltinWithD c.in_default.not-Vendor c.in_default.not-Pointer c.in_default.not-Lvalue c.in_default.not-Rvalue c.in_default.not-Array c.in_default.not-FunctionType c.in_default.not-MemberPointer c.in_default.not-Qualified c.in_default.not-Vector c.in_default.not-Complex c.in_default.not-SizedFloat c.in_default.not-GenericParameter
+fill_left_argument-requires-clause-kind g c = no-type c.args.node c.requires.kind c.in_default.not-Builtin c.in_default.not-BuiltinWithD c.in_default.not-Vendor c.in_default.not-Pointer c.in_default.not-Lvalue c.in_default.not-Rvalue c.in_default.not-Array c.in_default.not-FunctionType c.in_default.not-MemberPointer c.in_default.not-Qualified c.in_default.not-Vector c.in_default.not-Complex c.in_default.not-SizedFloat

@@ -1,9 +1,8 @@
 use Rattle.std.proofs.Common.{ap, ◌∙◌}
 use Rattle.cpp_layout.proofs.Growing.{fills, marked-by, starts}
-use Rattle.cpp_layout.specs.Layout.{context_of, marked, table_of, tree_shown}
+use Rattle.cpp_layout.specs.Layout.{context_of, marked, tree_shown}
 use Rattle.cpp_layout.specs.Texts.{fixed_text}
 use Rattle.cpp_term.specs.Parts.{as_item}
-use Rattle.cpp_tree.specs.Nodes.{tree_at, trees}
 use Rattle.cpp_grammar.specs.Items as heads
 use Rattle.cpp_layout.proofs.symbol.Symbol.fill_marked.Goals as goal
 

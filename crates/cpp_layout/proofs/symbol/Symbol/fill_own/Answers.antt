@@ -1,8 +1,7 @@
 use Rattle.std.proofs.Common.{ap, arith, sym}
 use Rattle.cpp_layout.proofs.Growing.{fills, form-expand}
-use Rattle.cpp_layout.specs.Layout.{context_of, form_of, table_of, tree_in, tree_shown}
+use Rattle.cpp_layout.specs.Layout.{context_of, form_of, tree_in, tree_shown}
 use Rattle.cpp_term.specs.Parts.{parts_in}
-use Rattle.cpp_tree.specs.Nodes.{tree_at, trees}
 use Rattle.cpp_layout.proofs.symbol.Symbol.fill_own.Goals as goal
 
 pub returns-in-0-clause-shows : goal.returns-in-0-clause-shows

@@ -1,6 +1,6 @@
 use Rattle.cpp_layout.proofs.Growing.{fills, parameter-same, starts, told-so}
-use Rattle.cpp_layout.specs.Layout.{table_of, tree_shown}
-use Rattle.cpp_tree.specs.Nodes.{tree_at, trees}
+use Rattle.cpp_layout.specs.Layout.{table_of}
+use Rattle.cpp_tree.specs.Nodes.{trees}
 use Rattle.cpp_layout.proofs.symbol.Symbol.fill_parameter.Goals as goal
 
 pub returns-clause-shows : goal.returns-clause-shows

@@ -1,9 +1,9 @@
 use Rattle.std.proofs.Common.{ap, sym}
 use Rattle.cpp_layout.proofs.Growing.{fills, starts}
 use Rattle.cpp_layout.proofs.Naming.{other-source}
-use Rattle.cpp_layout.specs.Layout.{context_of, table_of, piece_shown}
+use Rattle.cpp_layout.specs.Layout.{context_of, piece_shown}
 use Rattle.cpp_term.specs.Parts.{piece_parts}
-use Rattle.cpp_tree.specs.Nodes.{piece_of, trees}
+use Rattle.cpp_tree.specs.Nodes.{piece_of}
 use Rattle.cpp_term.specs.Reargued.{reargued}
 use Rattle.cpp_layout.proofs.symbol.Symbol.fill_piece.Goals as goal
 

@@ -1,8 +1,7 @@
 use Rattle.std.proofs.Common.{refl}
 use Rattle.cpp_layout.proofs.Growing.{fills}
 use Rattle.cpp_layout.proofs.Typing.{reference-whole}
-use Rattle.cpp_layout.specs.Layout.{context_of, table_of, tree_shown}
-use Rattle.cpp_tree.specs.Nodes.{tree_at, trees}
+use Rattle.cpp_layout.specs.Layout.{context_of, tree_shown}
 use Rattle.cpp_grammar.specs.Items as heads
 use Rattle.cpp_layout.proofs.symbol.Symbol.fill_rvalue.Goals as goal
 

@@ -1,6 +1,7 @@
 use Rattle.std.proofs.Common.{ap, subst, ◌≡◌, ◌∙◌}
 use Rattle.cpp_tree.specs.Nodes.{over, placed_tree, trees}
-use Rattle.cpp_term.specs.Items.{pack_length, packs_of}
+use Rattle.cpp_term.specs.Items.{packs_of}
+use Rattle.cpp_term.specs.Scope.{pack_length}
 use Rattle.cpp_layout.specs.Layout.{table_of}
 use Rattle.cpp_layout.proofs.symbol.Symbol.packs.Goals as goal
 

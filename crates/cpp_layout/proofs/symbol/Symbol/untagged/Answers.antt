@@ -7,5 +7,7 @@ use Rattle.cpp_layout.proofs.symbol.Symbol.untagged.Goals as goal
 pub returns-clause-tree : goal.returns-clause-tree
 unfolding placed_tree
 returns-clause-tree c =
-    subst (λ ts. placed_tree ts c.settled-placed.result ≡ without_tags (placed_tree ts (record { node = c.args.name; under = c.args.ctx.argument })))
-    (ap (λ b. trees (over b c.self.inside.nodes)) c.deref.ensures.value ∙ ap (λ y. trees (table_of y)) c.self.view_is) (c.settled-placed.ensures.tree ∙ c.untagged-inner.ensures.tree)
+    let seen = ap (λ y. trees (table_of y)) c.self.view_is in
+    subst (λ ts. placed_tree ts c.settled-placed.result ≡ placed_tree ts c.untagged-inner.result) (ap (λ b. trees (over b c.self.inside.nodes)) c.deref-2.ensures.value ∙ seen) c.settled-placed.ensures.tree
+    ∙ subst (λ ts. placed_tree ts c.untagged-inner.result ≡ without_tags (placed_tree ts (record { node = c.args.name; under = c.args.ctx.argument })))
+    (ap (λ b. trees (over b c.self.inside.nodes)) c.deref.ensures.value ∙ seen) c.untagged-inner.ensures.tree
