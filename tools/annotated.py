@@ -28,6 +28,7 @@ CHANGED = {
                    ("appended around (parameter k)", "appended around (parameter k (element arguments k))")],
     "Rescoping": [("listed_so_far around (parameter (generic_number k)) vs (appended around (parameter (generic_number k)) state)",
                    "listed_so_far around (parameter (generic_number k) auto) vs (appended around (parameter (generic_number k) auto) state)"),
+                  ("next (tree (parameter (generic_number k)) true ∷ [])", "next (tree (parameter (generic_number k) auto) true ∷ [])"),
                   ("(pack_length arguments t) state >>= λ s. Ok (found (tree t true) s)",
                    "(pack_length (reargued (Some (element arguments k)) t)) state >>= λ s. Ok (found (tree (reargued (Some (element arguments k)) t) true) s)"),
                   ("true ↦ Ok (found (tree t true) state)", "true ↦ Ok (found (tree (reargued (Some auto) t) true) state)"),
@@ -37,7 +38,8 @@ CHANGED = {
                 ("in_types place name = record { scope = arguments_of name;", "in_types place name = record { scope = closed_arguments name;"),
                 ("-- a parameter is tested, and becomes", "-- the argument that a parameter names\nunfoldable pub argument_at : Around → ℕ → Term\n"
                  "argument_at around k = elim around.scope [ None ↦ absent | Some arguments ↦ element arguments k ]\n\n-- a parameter is tested, and becomes"),
-                ("listed_so_far around (parameter k) vs s", "listed_so_far around (parameter k (argument_at around k)) vs s")],
+                ("listed_so_far around (parameter k) vs s", "listed_so_far around (parameter k (argument_at around k)) vs s"),
+                ("next (tree (parameter k) true ∷ [])", "next (tree (parameter k (argument_at around k)) true ∷ [])")],
     "Parts": [(f"{form}_parts {d}context (parameter k) = as_item {form} closed (argument context k) ∷ []",
                f"{form}_parts {d}context (parameter k a) = as_item {form} closed (argument context a) ∷ []")
               for form, d in (("left", "d "), ("low", "d "), ("right", ""), ("base", "d "))]

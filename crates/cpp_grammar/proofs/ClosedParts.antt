@@ -1,15 +1,15 @@
 -- What is done between the parts of a production keeps to what is closed.
-use Rattle.std.proofs.Common.{◌≡◌, refl, sym, ◌∙◌, subst, ℕ, List, [], ◌∷◌, Bool, true, false, None, Ok}
+use Rattle.std.proofs.Common.{◌≡◌, refl, sym, ◌∙◌, subst, ℕ, ◌-◌, List, [], ◌∷◌, Bool, true, false, None, Ok}
 use Rattle.std.proofs.lemmas.Bool.{true≢false}
 use Rattle.sym_link.specs.Reading.{Next}
 use Rattle.cpp_grammar.specs.declared.production.Production.{Production}
-use Rattle.cpp_grammar.specs.Rescoping.{generic_number, generic_so_far, parameter_here, between_wide}
+use Rattle.cpp_grammar.specs.Rescoping.{generic_number, generic_so_far, parameter_here, argument_here, between_wide}
 use Rattle.cpp_grammar.specs.Term.{Term, in_std, instance, holder, parameter, lvalue, rvalue, pack, source, operator, constructor, destructor}
 use Rattle.cpp_grammar.specs.Scope.{is_open}
 use Rattle.cpp_grammar.specs.Values.{State, Around, prefix_tree, Value, tree, tree_of, piece_of, is_listed, letter_of, text_of}
 use Rattle.cpp_grammar.specs.References.{appended, with_type, with_prefix, parameter_named}
-use Rattle.cpp_grammar.specs.Between.{in_signature, under_expansion, after, inside, extended, applied, no_items, Going, named_so_far, listed_so_far, piece_so_far, with_tag, tag_so_far, parameter_so_far, index_of, between}
-use Rattle.cpp_grammar.proofs.Ways.{is_lambda}
+use Rattle.cpp_grammar.specs.Between.{in_signature, under_expansion, after, inside, extended, applied, no_items, Going, named_so_far, listed_so_far, piece_so_far, with_tag, tag_so_far, parameter_so_far, argument_so_far, index_of, next, between}
+use Rattle.cpp_grammar.proofs.Ways.{has_signature}
 use Rattle.cpp_grammar.proofs.ClosedValues.{all_where, Good, AllGood, GoodPrefix, held, good_tree, good_piece, good_no_items, good_applied, good_instance, good_extended, good_prefix}
 use Rattle.cpp_grammar.proofs.ClosedStates.{Bare, Within, Grows, grows_same, grows_one, with_prefix_grows, with_type_grows, parameter_good, parameter_grows, ok_same, behind_bind}
 
@@ -100,13 +100,23 @@ same_goes : (own : Bool) (around : Around) (at : ℕ) (state : State) (vs : List
     ◌≡◌ {A = Going} (Ok (record { context = around; values = vs; state = state })) (Ok n) → GoesOn own around at state n
 same_goes own around at state vs n pre all e = goes own around at state vs around state n all (grows_same own around at state state refl) (fits_same own around pre) e
 
+-- a parameter that is an argument itself leaves the candidates
+argument_goes : (own : Bool) (around : Around) (place at : ℕ) (state : State) (k : ℕ) (n : Next Value State Around) → GoodPrefix (Bare own around) around.prefix → argument_so_far around place k state ≡ Ok n →
+    GoesOn own around at state n
+unfolding argument_so_far held
+argument_goes own around place at state k n pre e =
+    let b = behind_bind (parameter_named around place k state) (λ s. next (tree (parameter k) true ∷ []) around (record s { candidates = state.candidates })) n e in
+    let named = parameter_grows own around place k at state b.value b.is in
+    let new : State = record b.value { candidates = state.candidates } in
+    goes own around at state (tree (parameter k) true ∷ []) around new n (parameter_good own around k named.scoped, tt) (grows_same own around at state new refl) (fits_same own around pre) b.next
+
 good_leaf : (s : Type 0) (internal : Bool) (bytes : List ℕ) → Good s (source internal bytes)
 unfolding is_open
 good_leaf s internal bytes = record { closed = λ h. refl; scopes = tt }
 
-between_goes : (own : Bool) (production : Production) (around : Around) (place : ℕ) (vs : List Value) (state : State) (n : Next Value State Around) (at : ℕ) → StaysInside production → is_lambda production ≡ false →
+between_goes : (own : Bool) (production : Production) (around : Around) (place : ℕ) (vs : List Value) (state : State) (n : Next Value State Around) (at : ℕ) → StaysInside production → has_signature production ≡ false →
     GoodPrefix (Bare own around) around.prefix → AllGood (Bare own around) vs → between production around place vs state ≡ Ok n → GoesOn own around at state n
-unfolding is_lambda between held is_open named_so_far listed_so_far
+unfolding has_signature between held is_open named_so_far listed_so_far
 between_goes own Production.LocalName around place [] state n at stays apart pre all e = same_goes own around at state [] n pre all e
 between_goes own Production.LocalName around place (v ∷ vs) state n at stays apart pre all e =
     goes own around at state (v ∷ vs) (after (tree_of v) true around) state n all (grows_same own around at state state refl) (fits_after own around (tree_of v) true (good_tree _ v all.0)) e
@@ -171,6 +181,11 @@ between_goes own Production.Lambda around place vs state n at stays apart pre al
 between_goes own Production.Expansion around place vs state n at stays apart pre all e =
     goes own around at state vs (under_expansion around) (record state { packs = None }) n all (grows_same own around at state (record state { packs = None }) refl) (fits_expansion own around pre) e
 between_goes own Production.Parameter around place (v ∷ []) state n at stays apart pre all e = parameter_goes own around place at state (index_of v) n e
+between_goes own Production.ValueOf around place vs state n at stays apart pre all e = absurd (true≢false apart)
+between_goes own Production.OfConcept around place vs state n at stays apart pre all e = absurd (true≢false apart)
+between_goes own Production.ParameterArgument around place (v ∷ []) state n at stays apart pre all e = parameter_goes own around (place - 1) at state (index_of v) n e
+between_goes own Production.ParameterExpression around place (v ∷ []) state n at stays apart pre all e = argument_goes own around place at state (index_of v) n pre e
+between_goes own Production.BoundedArray around place (v ∷ []) state n at stays apart pre all e = argument_goes own around place at state (index_of v) n pre e
 between_goes own Production.TypeWithS around place (v ∷ []) state n at stays apart pre all e =
     goes own around at state (v ∷ []) (after (tree_of v) (is_listed v) around) state n all (grows_same own around at state state refl) (fits_after own around (tree_of v) (is_listed v) (good_tree _ v all.0)) e
 between_goes own Production.LvalueItem around place (v ∷ []) state n at stays apart pre all e =
@@ -189,9 +204,15 @@ within own p around at state n g = record { values = all_where (Bare own around)
 -- with the values of any production
 pub goes_within : (own : Bool) (production : Production) (around : Around) (place : ℕ) (vs : List Value) (state : State) (n : Next Value State Around) (at : ℕ) → StaysInside production →
     GoodPrefix (Bare own around) around.prefix → AllGood (Within own production around) vs → between production around place vs state ≡ Ok n → Goes own (Within own production around) around at state n
-unfolding between is_lambda in_signature
+unfolding between has_signature in_signature
 goes_within own Production.Lambda around place vs state n at stays pre all e =
     goes_by own (Within own Production.Lambda around) around at state vs (in_signature around) state n all (grows_same own around at state state refl) (fits_signature own around)
+    (λ within. (refl, λ o. absurd (true≢false (within.1 o)))) e
+goes_within own Production.ValueOf around place vs state n at stays pre all e =
+    goes_by own (Within own Production.ValueOf around) around at state vs (in_signature around) state n all (grows_same own around at state state refl) (fits_signature own around)
+    (λ within. (refl, λ o. absurd (true≢false (within.1 o)))) e
+goes_within own Production.OfConcept around place vs state n at stays pre all e =
+    goes_by own (Within own Production.OfConcept around) around at state vs (in_signature around) state n all (grows_same own around at state state refl) (fits_signature own around)
     (λ within. (refl, λ o. absurd (true≢false (within.1 o)))) e
 goes_within own p around place vs state n at stays pre all e =
     within own p around at state n (between_goes own p around place vs state n at stays refl pre (all_where (Within own p around) (Bare own around) vs (λ bare. (bare, λ o. refl)) all) e)
@@ -216,9 +237,29 @@ here_goes around place at state k n e = go around.in_lambda refl e
 here_within : (p : Production) (around : Around) (place at : ℕ) (state : State) (k : ℕ) (n : Next Value State Around) → parameter_here around place k [] state ≡ Ok n → Goes true (Within true p around) around at state n
 here_within p around place at state k n e = within true p around at state n (here_goes around place at state k n e)
 
+argument_here_goes : (around : Around) (place at : ℕ) (state : State) (k : ℕ) (n : Next Value State Around) → GoodPrefix (Bare true around) around.prefix → argument_here around place k state ≡ Ok n →
+    GoesOn true around at state n
+unfolding argument_here held
+argument_here_goes around place at state k n pre e = go around.in_lambda refl e
+  where
+    named : Term
+    named = parameter (generic_number k)
+
+    go : (b : Bool) → around.in_lambda ≡ b → ◌≡◌ {A = Going} (elim b [ true ↦ next (tree (parameter (generic_number k)) true ∷ []) around state | false ↦ argument_so_far around place k state ]) (Ok n) →
+        GoesOn true around at state n
+    go true is h =
+        let good : Good (Bare true around) named = record { closed = λ bare. absurd (true≢false (sym is ∙ bare.1 refl)); scopes = tt } in
+        goes true around at state (tree named true ∷ []) around state n (good, tt) (grows_same true around at state state refl) (fits_same true around pre) h
+    go false is h = argument_goes true around place at state k n pre h
+
 pub wide_goes : (production : Production) (around : Around) (place : ℕ) (vs : List Value) (state : State) (n : Next Value State Around) (at : ℕ) → StaysInside production →
     GoodPrefix (Bare true around) around.prefix → AllGood (Within true production around) vs → between_wide production around place vs state ≡ Ok n → Goes true (Within true production around) around at state n
 unfolding between_wide
 wide_goes Production.Parameter around place (v ∷ []) state n at stays pre all e = here_within Production.Parameter around place at state (index_of v) n e
+wide_goes Production.ParameterArgument around place (v ∷ []) state n at stays pre all e = here_within Production.ParameterArgument around (place - 1) at state (index_of v) n e
+wide_goes Production.ParameterExpression around place (v ∷ []) state n at stays pre all e =
+    within true Production.ParameterExpression around at state n (argument_here_goes around place at state (index_of v) n pre e)
+wide_goes Production.BoundedArray around place (v ∷ []) state n at stays pre all e =
+    within true Production.BoundedArray around at state n (argument_here_goes around place at state (index_of v) n pre e)
 wide_goes Production.NestParameter around place (v ∷ []) state n at stays pre all e = here_within Production.NestParameter around place at state (index_of v) n e
 wide_goes p around place vs state n at stays pre all e = goes_within true p around place vs state n at stays pre all e

@@ -12,14 +12,14 @@ use Rattle.cpp_grammar.specs.Scope.{count, element, length_if_pack, is_open, pac
 use Rattle.cpp_grammar.specs.Closed.{ScopesAreClosed}
 use Rattle.sym_core.specs.declared.NumberKind.TheVariants.{Seq36}
 use Rattle.sym_core.specs.Value.{counted_value}
-use Rattle.cpp_grammar.specs.Values.{Candidate, State, Around, prefix_tree, prefix_listed, Value, tree, piece, is_listed, text_of, local_number, part, tree_of}
+use Rattle.cpp_grammar.specs.Values.{Candidate, State, Around, prefix_tree, prefix_listed, Value, letter, tree, piece, is_listed, text_of, local_number, part, tree_of}
 use Rattle.cpp_grammar.specs.References.{appended, is_function_type, with_type, with_unqualified, with_prefix, with_packs, packs_in, substituted, parameter_named}
 use Rattle.cpp_grammar.specs.Rescoping.{lambda_with, with_own, is_foreign, in_scope, with_free, restated, substituted_wide, close_wide}
 use Rattle.cpp_grammar.specs.Meaning.{parameters, meaning}
 use Rattle.cpp_grammar.specs.Unfolding as unfolding_
 use Rattle.cpp_grammar.specs.Unfolding.{close}
 use Rattle.cpp_grammar.specs.Between.{no_items}
-use Rattle.cpp_grammar.proofs.Ways.{is_lambda}
+use Rattle.cpp_grammar.proofs.Ways.{has_signature}
 use Rattle.cpp_grammar.proofs.ClosedValues.{all_where, prefix_where, Good, AllGood, GoodPrefix, HasClosedName, held, good_tree, good_part, good_prefix, meaning_good}
 
 -- No parameters are named here. Where those in a lambda's signature are its own, they are named in none.
@@ -28,7 +28,7 @@ Bare own around = (around.scope ≡ None) × (own ≡ true → around.in_lambda 
 
 -- no parameters stand in the parts of this production: in those of a lambda its own may
 abbrev pub Within : (own : Bool) → Production → Around → Type 0
-Within own p around = Bare own around × (own ≡ true → is_lambda p ≡ false)
+Within own p around = Bare own around × (own ≡ true → has_signature p ≡ false)
 
 -- a candidate in which no parameters of a lambda stand
 abbrev pub IsOutside : (own : Bool) → Candidate → Type 0
@@ -269,6 +269,8 @@ behind_grows own Production.VolatileType byte around began vs state end pre all 
 behind_grows own Production.ConstType byte around began vs state end pre all = grows_one own around end _ state (good_tree (Bare own around) (meaning Production.ConstType byte around vs) (meaning_good (Bare own around) Production.ConstType byte around vs pre all tt))
 behind_grows own Production.ReferenceType byte around began vs state end pre all = grows_one own around end _ state (good_tree (Bare own around) (meaning Production.ReferenceType byte around vs) (meaning_good (Bare own around) Production.ReferenceType byte around vs pre all tt))
 behind_grows own Production.PlainType byte around began vs state end pre all = with_type_grows own around end (part vs 0) state (good_part (Bare own around) vs 0 all)
+behind_grows own Production.PlainArgument byte around began vs state end pre all = with_type_grows own around end (part vs 0) state (good_part (Bare own around) vs 0 all)
+behind_grows own Production.ArgumentWithT byte around began vs state end pre all = with_type_grows own around end (part vs 0) state (good_part (Bare own around) vs 0 all)
 behind_grows own Production.TypeWithD byte around began vs state end pre all = with_type_grows own around end (part vs 0) state (good_part (Bare own around) vs 0 all)
 behind_grows own Production.ItemWithD byte around began vs state end pre all = with_type_grows own around end (part vs 0) state (good_part (Bare own around) vs 0 all)
 behind_grows own Production.QualifiedPlain byte around began vs state end pre all = with_unqualified_grows own around end (part vs 0) state (good_part (Bare own around) vs 0 all)
@@ -397,13 +399,21 @@ lambda_comes byte around vs state r end pre all e =
     subst (λ x. Comes true around end state x) (ok_same (found (piece (lambda_with t number)) state) r e)
     (record { good = lambda_good (Bare true around) t number good.scopes; grows = grows_same true around end state state refl })
 
+-- what is declared of an argument is no tree
+letter_comes : (byte : ℕ) (around : Around) (state : State) (r : Found Value State) (end : ℕ) → ◌≡◌ {A = Result (Found Value State) Refusal} (Ok (found (letter byte) state)) (Ok r) → Comes true around end state r
+unfolding held is_open
+letter_comes byte around state r end e =
+    subst (λ x. Comes true around end state x) (ok_same (found (letter byte) state) r e) (record { good = record { closed = λ h. refl; scopes = tt }; grows = grows_same true around end state state refl })
+
 pub wide_close_good : (production : Production) (byte : ℕ) (around : Around) (place : ℕ) (began : State) (vs : List Value) (state : State) (r : Found Value State) (end : ℕ) →
     AllOld true around end state.candidates → GoodPrefix (Bare true around) around.prefix → AllGood (Within true production around) vs → HasClosedName production vs →
     close_wide production byte around place began vs state ≡ Ok r → Comes true around end state r
-unfolding close close_wide is_lambda
+unfolding close close_wide unfolding_.behind meaning has_signature
 wide_close_good Production.Substitution byte around place began vs state r end old pre all name e =
     let both = wide_substituted_good around (place - 1) end (counted_value Seq36 (text_of (part vs 0))) state r old e in
     record { good = both.0; grows = grows_same true around end state r.state both.1 }
 wide_close_good Production.Lambda byte around place began vs state r end old pre all name e = lambda_comes byte around vs state r end pre all e
+wide_close_good Production.ValueOf byte around place began vs state r end old pre all name e = letter_comes byte around state r end e
+wide_close_good Production.OfConcept byte around place began vs state r end old pre all name e = letter_comes byte around state r end e
 wide_close_good production byte around place began vs state r end old pre all name e =
     made_good true production byte around began vs state r end pre (all_where (Within true production around) (Bare true around) vs (λ bare. (bare, λ own. refl)) all) name e

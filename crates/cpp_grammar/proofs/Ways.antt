@@ -37,12 +37,17 @@ differs Production.Lambda = true
 differs Production.Parameter = true
 differs Production.NestParameter = true
 differs Production.Substitution = true
+differs Production.ParameterArgument = true
+differs Production.ParameterExpression = true
+differs Production.BoundedArray = true
 differs _ = false
 
--- the production whose parts stand in a signature
-unfoldable pub is_lambda : Production → Bool
-is_lambda Production.Lambda = true
-is_lambda _ = false
+-- the productions whose parts stand in a signature: lambdas, and what is declared of an argument
+unfoldable pub has_signature : Production → Bool
+has_signature Production.Lambda = true
+has_signature Production.ValueOf = true
+has_signature Production.OfConcept = true
+has_signature _ = false
 
 -- all others go as in the reading of the ABI's grammar
 pub record IsPlain (w : Way) : Type 0 where
@@ -58,6 +63,9 @@ plain_between : (p : Production) → differs p ≡ false → (around : Around) (
 unfolding differs between_wide
 plain_between Production.Parameter apart around place vs state = absurd (true≢false apart)
 plain_between Production.NestParameter apart around place vs state = absurd (true≢false apart)
+plain_between Production.ParameterArgument apart around place vs state = absurd (true≢false apart)
+plain_between Production.ParameterExpression apart around place vs state = absurd (true≢false apart)
+plain_between Production.BoundedArray apart around place vs state = absurd (true≢false apart)
 plain_between _ apart around place vs state = refl
 
 plain_close : (p : Production) → differs p ≡ false → (byte : ℕ) (around : Around) (place : ℕ) (began : State) (vs : List Value) (state : State) →

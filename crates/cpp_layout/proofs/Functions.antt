@@ -60,23 +60,24 @@ other-node s us ts given c q _ flat other = refl
 pub qualified-other : (s : List ℕ) (us : List Thunk) (ts : List Term) (given : Option Term) (c : items.Context) (q : values.Qualifiers) (k : Node) (flat : is_again k ≡ false) (t : Term) → t ≡ reargued given (tree_of s us ts k) → ((l n : Bool) (m : Mark) (r p : ℕ) → k ≡ Node.FunctionType l n m r p → ⊥) → as_item heads.right c t ∷ [] ≡ qualified_right c q t
 qualified-other s us ts given c q k flat t e other = subst (λ u. as_item heads.right c u ∷ [] ≡ qualified_right c q u) (sym e) (other-node s us ts given c q k flat other)
 
-right-none-of : (s : List ℕ) (us : List Thunk) (ts : List Term) (given : Option Term) (c : items.Context) (n : Node) (flat : is_again n ≡ false) → ((t : ℕ) → n ≡ Node.Pointer t → ⊥) → ((t : ℕ) → n ≡ Node.Lvalue t → ⊥) → ((t : ℕ) → n ≡ Node.Rvalue t → ⊥) → ((k : ℕ) (t : ℕ) → n ≡ Node.MemberPointer k t → ⊥) → ((g : Span) (t : ℕ) → n ≡ Node.Array g t → ⊥) → ((q : Qualifiers) (t : ℕ) → n ≡ Node.Qualified q t → ⊥) → ((g : Span) (t : ℕ) → n ≡ Node.Vector g t → ⊥) → ((t : ℕ) → n ≡ Node.Complex t → ⊥) → ((k : ℕ) (a : ℕ) → n ≡ Node.Parameter k a → ⊥) → ((l : Bool) (e : Bool) (m : Mark) (r : ℕ) (p : ℕ) → n ≡ Node.FunctionType l e m r p → ⊥) → [] ≡ right_parts c (reargued given (tree_of s us ts n))
+right-none-of : (s : List ℕ) (us : List Thunk) (ts : List Term) (given : Option Term) (c : items.Context) (n : Node) (flat : is_again n ≡ false) → ((t : ℕ) → n ≡ Node.Pointer t → ⊥) → ((t : ℕ) → n ≡ Node.Lvalue t → ⊥) → ((t : ℕ) → n ≡ Node.Rvalue t → ⊥) → ((k : ℕ) (t : ℕ) → n ≡ Node.MemberPointer k t → ⊥) → ((g : Span) (t : ℕ) → n ≡ Node.Array g t → ⊥) → ((q : Qualifiers) (t : ℕ) → n ≡ Node.Qualified q t → ⊥) → ((g : Span) (t : ℕ) → n ≡ Node.Vector g t → ⊥) → ((t : ℕ) → n ≡ Node.Complex t → ⊥) → ((k : ℕ) (a : ℕ) → n ≡ Node.Parameter k a → ⊥) → ((l : Bool) (e : Bool) (m : Mark) (r : ℕ) (p : ℕ) → n ≡ Node.FunctionType l e m r p → ⊥) → ((b : ℕ) (t : ℕ) → n ≡ Node.Bounded b t → ⊥) → [] ≡ right_parts c (reargued given (tree_of s us ts n))
 unfolding tree_of right_parts reargued is_again
-right-none-of s us ts given c (Node.Pointer t) flat h0 h1 h2 h3 h4 h5 h6 h7 h8 h9 = absurd (h0 t refl)
-right-none-of s us ts given c (Node.Lvalue t) flat h0 h1 h2 h3 h4 h5 h6 h7 h8 h9 = absurd (h1 t refl)
-right-none-of s us ts given c (Node.Rvalue t) flat h0 h1 h2 h3 h4 h5 h6 h7 h8 h9 = absurd (h2 t refl)
-right-none-of s us ts given c (Node.MemberPointer k t) flat h0 h1 h2 h3 h4 h5 h6 h7 h8 h9 = absurd (h3 k t refl)
-right-none-of s us ts given c (Node.Array g t) flat h0 h1 h2 h3 h4 h5 h6 h7 h8 h9 = absurd (h4 g t refl)
-right-none-of s us ts given c (Node.Qualified q t) flat h0 h1 h2 h3 h4 h5 h6 h7 h8 h9 = absurd (h5 q t refl)
-right-none-of s us ts given c (Node.Vector g t) flat h0 h1 h2 h3 h4 h5 h6 h7 h8 h9 = absurd (h6 g t refl)
-right-none-of s us ts given c (Node.Complex t) flat h0 h1 h2 h3 h4 h5 h6 h7 h8 h9 = absurd (h7 t refl)
-right-none-of s us ts given c (Node.Parameter k a) flat h0 h1 h2 h3 h4 h5 h6 h7 h8 h9 = absurd (h8 k a refl)
-right-none-of s us ts given c (Node.FunctionType l e m r p) flat h0 h1 h2 h3 h4 h5 h6 h7 h8 h9 = absurd (h9 l e m r p refl)
-right-none-of s us ts given c (Node.Again x z) flat h0 h1 h2 h3 h4 h5 h6 h7 h8 h9 = absurd (true≢false flat)
-right-none-of s us ts given c _ flat h0 h1 h2 h3 h4 h5 h6 h7 h8 h9 = refl
+right-none-of s us ts given c (Node.Pointer t) flat h0 h1 h2 h3 h4 h5 h6 h7 h8 h9 h10 = absurd (h0 t refl)
+right-none-of s us ts given c (Node.Lvalue t) flat h0 h1 h2 h3 h4 h5 h6 h7 h8 h9 h10 = absurd (h1 t refl)
+right-none-of s us ts given c (Node.Rvalue t) flat h0 h1 h2 h3 h4 h5 h6 h7 h8 h9 h10 = absurd (h2 t refl)
+right-none-of s us ts given c (Node.MemberPointer k t) flat h0 h1 h2 h3 h4 h5 h6 h7 h8 h9 h10 = absurd (h3 k t refl)
+right-none-of s us ts given c (Node.Array g t) flat h0 h1 h2 h3 h4 h5 h6 h7 h8 h9 h10 = absurd (h4 g t refl)
+right-none-of s us ts given c (Node.Qualified q t) flat h0 h1 h2 h3 h4 h5 h6 h7 h8 h9 h10 = absurd (h5 q t refl)
+right-none-of s us ts given c (Node.Vector g t) flat h0 h1 h2 h3 h4 h5 h6 h7 h8 h9 h10 = absurd (h6 g t refl)
+right-none-of s us ts given c (Node.Complex t) flat h0 h1 h2 h3 h4 h5 h6 h7 h8 h9 h10 = absurd (h7 t refl)
+right-none-of s us ts given c (Node.Parameter k a) flat h0 h1 h2 h3 h4 h5 h6 h7 h8 h9 h10 = absurd (h8 k a refl)
+right-none-of s us ts given c (Node.FunctionType l e m r p) flat h0 h1 h2 h3 h4 h5 h6 h7 h8 h9 h10 = absurd (h9 l e m r p refl)
+right-none-of s us ts given c (Node.Again x z) flat h0 h1 h2 h3 h4 h5 h6 h7 h8 h9 h10 = absurd (true≢false flat)
+right-none-of s us ts given c (Node.Bounded b t) flat h0 h1 h2 h3 h4 h5 h6 h7 h8 h9 h10 = absurd (h10 b t refl)
+right-none-of s us ts given c _ flat h0 h1 h2 h3 h4 h5 h6 h7 h8 h9 h10 = refl
 
-pub right-none : (s : List ℕ) (us : List Thunk) (ts : List Term) (given : Option Term) (c : items.Context) (n : Node) (flat : is_again n ≡ false) (t : Term) → t ≡ reargued given (tree_of s us ts n) → ((t : ℕ) → n ≡ Node.Pointer t → ⊥) → ((t : ℕ) → n ≡ Node.Lvalue t → ⊥) → ((t : ℕ) → n ≡ Node.Rvalue t → ⊥) → ((k : ℕ) (t : ℕ) → n ≡ Node.MemberPointer k t → ⊥) → ((g : Span) (t : ℕ) → n ≡ Node.Array g t → ⊥) → ((q : Qualifiers) (t : ℕ) → n ≡ Node.Qualified q t → ⊥) → ((g : Span) (t : ℕ) → n ≡ Node.Vector g t → ⊥) → ((t : ℕ) → n ≡ Node.Complex t → ⊥) → ((k : ℕ) (a : ℕ) → n ≡ Node.Parameter k a → ⊥) → ((l : Bool) (e : Bool) (m : Mark) (r : ℕ) (p : ℕ) → n ≡ Node.FunctionType l e m r p → ⊥) → [] ≡ right_parts c t
-right-none s us ts given c n flat t is h0 h1 h2 h3 h4 h5 h6 h7 h8 h9 = right-none-of s us ts given c n flat h0 h1 h2 h3 h4 h5 h6 h7 h8 h9 ∙ ap (λ u. right_parts c u) (sym is)
+pub right-none : (s : List ℕ) (us : List Thunk) (ts : List Term) (given : Option Term) (c : items.Context) (n : Node) (flat : is_again n ≡ false) (t : Term) → t ≡ reargued given (tree_of s us ts n) → ((t : ℕ) → n ≡ Node.Pointer t → ⊥) → ((t : ℕ) → n ≡ Node.Lvalue t → ⊥) → ((t : ℕ) → n ≡ Node.Rvalue t → ⊥) → ((k : ℕ) (t : ℕ) → n ≡ Node.MemberPointer k t → ⊥) → ((g : Span) (t : ℕ) → n ≡ Node.Array g t → ⊥) → ((q : Qualifiers) (t : ℕ) → n ≡ Node.Qualified q t → ⊥) → ((g : Span) (t : ℕ) → n ≡ Node.Vector g t → ⊥) → ((t : ℕ) → n ≡ Node.Complex t → ⊥) → ((k : ℕ) (a : ℕ) → n ≡ Node.Parameter k a → ⊥) → ((l : Bool) (e : Bool) (m : Mark) (r : ℕ) (p : ℕ) → n ≡ Node.FunctionType l e m r p → ⊥) → ((b : ℕ) (t : ℕ) → n ≡ Node.Bounded b t → ⊥) → [] ≡ right_parts c t
+right-none s us ts given c n flat t is h0 h1 h2 h3 h4 h5 h6 h7 h8 h9 h10 = right-none-of s us ts given c n flat h0 h1 h2 h3 h4 h5 h6 h7 h8 h9 h10 ∙ ap (λ u. right_parts c u) (sym is)
 
 -- ## Expansions
 

@@ -1,5 +1,5 @@
 -- The arguments that are named are those of a name in which no parameter is free: none is free in them, nor in one of them.
-use Rattle.std.proofs.Common.{◌≡◌, refl, sym, ◌∙◌, ap, subst, ℕ, zero, suc, List, [], ◌∷◌, Bool, true, false, ◌||◌, Option, Some, None, Result, Ok, Err}
+use Rattle.std.proofs.Common.{◌≡◌, refl, sym, ◌∙◌, ap, subst, ℕ, ◌-◌, zero, suc, List, [], ◌∷◌, Bool, true, false, ◌||◌, Option, Some, None, Result, Ok, Err}
 use Rattle.std.specs.Prelude.{IfSome, IfOk}
 use Rattle.std.proofs.lemmas.Bool.{true≢false}
 use Rattle.sym_core.specs.declared.refusal.Refusal.{Refusal}
@@ -7,10 +7,12 @@ use Rattle.sym_link.specs.Reading.{Next, ◌>>=◌}
 use Rattle.cpp_grammar.specs.declared.production.Production.{Production}
 use Rattle.cpp_term.specs.Term.{Term, instance, local, of_default, list, parameter}
 use Rattle.cpp_term.specs.Scope.{is_open, arguments_of, element}
-use Rattle.cpp_term.specs.Values.{State, Around, Value, tree_of}
+use Rattle.cpp_term.specs.Items.{auto}
+use Rattle.cpp_grammar.specs.Rescoping.{generic_number}
+use Rattle.cpp_term.specs.Values.{State, Around, Value, tree, tree_of}
 use Rattle.cpp_term.specs.References.{parameter_named}
-use Rattle.cpp_term.specs.Between.{Going, closed_arguments, in_name, in_types, in_signature, under_expansion, after, inside, named_so_far, listed_so_far, piece_so_far, tag_so_far, parameter_so_far, argument_at, index_of, between}
-use Rattle.cpp_term.specs.Rescoping.{parameter_here, generic_so_far, between_wide}
+use Rattle.cpp_term.specs.Between.{Going, closed_arguments, in_name, in_types, in_signature, under_expansion, after, inside, named_so_far, listed_so_far, piece_so_far, tag_so_far, parameter_so_far, argument_so_far, argument_at, index_of, next, between}
+use Rattle.cpp_term.specs.Rescoping.{parameter_here, argument_here, generic_so_far, between_wide}
 use Rattle.cpp_link.specs.Parts.{IsClosed}
 
 or_first : (a b : Bool) → a || b ≡ false → a ≡ false
@@ -66,6 +68,14 @@ unfolding parameter_so_far listed_so_far after
 parameter_closed around place k vs state closed = by (parameter_named around place k state)
   where
     by : (r : Result State Refusal) → GoesClosed (r >>= λ s. listed_so_far around (parameter k (argument_at around k)) vs s)
+    by (Ok s) = closed
+    by (Err e) = tt
+
+lone_closed : (around : Around) (place k : ℕ) (state : State) → IsClosed around → GoesClosed (argument_so_far around place k state)
+unfolding argument_so_far
+lone_closed around place k state closed = by (parameter_named around place k state)
+  where
+    by : (r : Result State Refusal) → GoesClosed (r >>= λ s. next (tree (parameter k (argument_at around k)) true ∷ []) around (record s { candidates = state.candidates }))
     by (Ok s) = closed
     by (Err e) = tt
 
@@ -182,6 +192,17 @@ goes_closed Production.RvalueItem around place (v ∷ w ∷ vs) state closed = c
 goes_closed Production.IntegerLiteral around place [] state closed = closed
 goes_closed Production.IntegerLiteral around place (v ∷ []) state closed = closed
 goes_closed Production.IntegerLiteral around place (v ∷ w ∷ vs) state closed = closed
+goes_closed Production.ValueOf around place vs state closed = tt
+goes_closed Production.OfConcept around place vs state closed = tt
+goes_closed Production.ParameterArgument around place [] state closed = closed
+goes_closed Production.ParameterArgument around place (v ∷ []) state closed = parameter_closed around (place - 1) (index_of v) [] state closed
+goes_closed Production.ParameterArgument around place (v ∷ w ∷ vs) state closed = closed
+goes_closed Production.ParameterExpression around place [] state closed = closed
+goes_closed Production.ParameterExpression around place (v ∷ []) state closed = lone_closed around place (index_of v) state closed
+goes_closed Production.ParameterExpression around place (v ∷ w ∷ vs) state closed = closed
+goes_closed Production.BoundedArray around place [] state closed = closed
+goes_closed Production.BoundedArray around place (v ∷ []) state closed = lone_closed around place (index_of v) state closed
+goes_closed Production.BoundedArray around place (v ∷ w ∷ vs) state closed = closed
 goes_closed _ around place vs state closed = closed
 
 -- what surrounds the next part is closed too
@@ -196,6 +217,14 @@ here_closed around place k state closed = by around.in_lambda
     by true = closed
     by false = parameter_closed around place k [] state closed
 
+argument_here_closed : (around : Around) (place k : ℕ) (state : State) → IsClosed around → GoesClosed (argument_here around place k state)
+unfolding argument_here
+argument_here_closed around place k state closed = by around.in_lambda
+  where
+    by : (b : Bool) → GoesClosed (elim b as (λ _. Going) [ true ↦ next (tree (parameter (generic_number k) auto) true ∷ []) around state | false ↦ argument_so_far around place k state ])
+    by true = closed
+    by false = lone_closed around place k state closed
+
 wide_goes_closed : (p : Production) (around : Around) (place : ℕ) (vs : List Value) (state : State) → IsClosed around → GoesClosed (between_wide p around place vs state)
 unfolding between_wide
 wide_goes_closed Production.Parameter around place (v ∷ []) state closed = here_closed around place (index_of v) state closed
@@ -204,6 +233,15 @@ wide_goes_closed Production.Parameter around place [] state closed = goes_closed
 wide_goes_closed Production.Parameter around place (v ∷ w ∷ vs) state closed = goes_closed Production.Parameter around place (v ∷ w ∷ vs) state closed
 wide_goes_closed Production.NestParameter around place [] state closed = goes_closed Production.NestParameter around place [] state closed
 wide_goes_closed Production.NestParameter around place (v ∷ w ∷ vs) state closed = goes_closed Production.NestParameter around place (v ∷ w ∷ vs) state closed
+wide_goes_closed Production.ParameterArgument around place [] state closed = goes_closed Production.ParameterArgument around place [] state closed
+wide_goes_closed Production.ParameterArgument around place (v ∷ []) state closed = here_closed around (place - 1) (index_of v) state closed
+wide_goes_closed Production.ParameterArgument around place (v ∷ w ∷ vs) state closed = goes_closed Production.ParameterArgument around place (v ∷ w ∷ vs) state closed
+wide_goes_closed Production.ParameterExpression around place [] state closed = goes_closed Production.ParameterExpression around place [] state closed
+wide_goes_closed Production.ParameterExpression around place (v ∷ []) state closed = argument_here_closed around place (index_of v) state closed
+wide_goes_closed Production.ParameterExpression around place (v ∷ w ∷ vs) state closed = goes_closed Production.ParameterExpression around place (v ∷ w ∷ vs) state closed
+wide_goes_closed Production.BoundedArray around place [] state closed = goes_closed Production.BoundedArray around place [] state closed
+wide_goes_closed Production.BoundedArray around place (v ∷ []) state closed = argument_here_closed around place (index_of v) state closed
+wide_goes_closed Production.BoundedArray around place (v ∷ w ∷ vs) state closed = goes_closed Production.BoundedArray around place (v ∷ w ∷ vs) state closed
 wide_goes_closed p around place vs state closed = goes_closed p around place vs state closed
 
 pub wide_between_closed : (p : Production) (around : Around) (place : ℕ) (vs : List Value) (state : State) (n : Next Value State Around) → between_wide p around place vs state ≡ Ok n → IsClosed around → IsClosed n.context

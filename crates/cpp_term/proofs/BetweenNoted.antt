@@ -9,18 +9,18 @@ use Rattle.sym_core.specs.declared.NumberKind.TheVariants.{Decimal, Seq36}
 use Rattle.sym_core.specs.Value.{counted_value}
 use Rattle.sym_link.specs.Reading.{Next}
 use Rattle.cpp_grammar.specs.declared.production.Production.{Production}
-use Rattle.cpp_grammar.specs.Rescoping.{generic_number, generic_so_far, parameter_here, lambda_with, with_own, substituted_wide, between_wide, close_wide}
+use Rattle.cpp_grammar.specs.Rescoping.{generic_number, generic_so_far, parameter_here, argument_here, lambda_with, with_own, substituted_wide, between_wide, close_wide}
 use Rattle.cpp_grammar.specs.Scope.{count, element, is_open, length_if_pack}
 use Rattle.cpp_grammar.specs.Term.{Term, lambda, generic_lambda, list, in_std, instance, holder, parameter, lvalue, rvalue, source, operator, constructor, destructor}
 use Rattle.cpp_grammar.specs.Values as leaf_
 use Rattle.cpp_grammar.specs.Values.{Around, Prefix, prefix_tree, Value, State, Candidate, local_number, tree_of, piece_of, is_listed, text_of, letter_of, part}
 use Rattle.cpp_grammar.specs.References.{appended, with_type, with_unqualified, with_prefix, with_packs, substituted, parameter_named}
-use Rattle.cpp_grammar.specs.Between.{in_signature, under_expansion, after, inside, extended, applied, no_items, named_so_far, listed_so_far, piece_so_far, with_tag, tag_so_far, parameter_so_far, index_of, between}
+use Rattle.cpp_grammar.specs.Between.{in_signature, under_expansion, after, inside, extended, applied, no_items, named_so_far, listed_so_far, piece_so_far, with_tag, tag_so_far, next, parameter_so_far, argument_so_far, index_of, between}
 use Rattle.cpp_grammar.specs.Meaning.{parameters, meaning}
 use Rattle.cpp_grammar.specs.Unfolding as unfolding_
 use Rattle.cpp_grammar.specs.Unfolding.{close}
 use Rattle.cpp_grammar.proofs.ClosedParts.{StaysInside}
-use Rattle.cpp_grammar.proofs.Ways.{is_lambda}
+use Rattle.cpp_grammar.proofs.Ways.{has_signature}
 use Rattle.cpp_term.specs.Items as item_
 use Rattle.cpp_term.specs.Scope as scope_
 use Rattle.cpp_term.specs.Term as term_
@@ -41,7 +41,7 @@ InScope around inner = ((inner.scope ≡ around.scope) × (inner.in_lambda ≡ a
 
 -- what the parameters of a production's parts name: in a lambda's signature they may be its own
 unfoldable pub parts_place : (own : Bool) → Production → Around → Place
-parts_place own p around = elim (is_lambda p && own) [ true ↦ in_own | false ↦ around_place own around ]
+parts_place own p around = elim (has_signature p && own) [ true ↦ in_own | false ↦ around_place own around ]
 
 -- what goes into the next part, both ways
 pub record Goes (own : Bool) (s : Place) (around : Around) (x : State) (y : value_.State) (n : Next Value State Around) (m : Next value_.Value value_.State value_.Around) : Type 0 where
@@ -111,6 +111,29 @@ named_parameter own around x y place v packs =
     subst (λ k. Alike (Goes own (around_place own around) around x y) (parameter_so_far around place (index_of v) [] x) (between_.parameter_so_far (noted_around own around) place k [] y)) (sym (index_noted (around_place own around) v))
     (parameter_goes own around x y place (index_of v) packs)
 
+-- a parameter that is an argument itself leaves the candidates
+argument_goes : (own : Bool) (around : Around) (x : State) (y : value_.State) (place k : ℕ) → y.packs ≡ x.packs →
+    Alike (Goes own (around_place own around) around x y) (argument_so_far around place k x) (between_.argument_so_far (noted_around own around) place k y)
+unfolding argument_so_far between_.argument_so_far noted_values noted_value
+argument_goes own around x y place k packs =
+    alike_bind (Moves own around x y) (Goes own (around_place own around) around x y) (parameter_named around place k x) (reference_.parameter_named (noted_around own around) place k y)
+    (λ s. next (leaf_.tree (parameter k) true ∷ []) around (record s { candidates = x.candidates }))
+    (λ s. between_.next (value_.tree (term_.parameter k (between_.argument_at (noted_around own around) k)) true ∷ []) (noted_around own around) (record s { candidates = y.candidates }))
+    (parameter_noted own around place k x y packs)
+    (λ a b h m. record {
+      values = ap (λ u. value_.tree u true ∷ []) (named_argument own around place k x a h);
+      context = refl;
+      moves = moves_none own around x (record a { candidates = x.candidates }) y (record b { candidates = y.candidates }) refl refl m.packs;
+      scope = inl (refl, refl);
+      place = inl refl;
+    })
+
+lone_parameter : (own : Bool) (around : Around) (x : State) (y : value_.State) (place : ℕ) (v : Value) → y.packs ≡ x.packs →
+    Alike (Goes own (around_place own around) around x y) (argument_so_far around place (index_of v) x) (between_.argument_so_far (noted_around own around) place (between_.index_of (noted_value (around_place own around) v)) y)
+lone_parameter own around x y place v packs =
+    subst (λ k. Alike (Goes own (around_place own around) around x y) (argument_so_far around place (index_of v) x) (between_.argument_so_far (noted_around own around) place k y)) (sym (index_noted (around_place own around) v))
+    (argument_goes own around x y place (index_of v) packs)
+
 inside_goes : (own : Bool) (around : Around) (x : State) (y : value_.State) → y.packs ≡ x.packs →
     Goes own (around_place own around) around x y (record { context = inside around; values = []; state = with_prefix around x }) (record { context = between_.inside (noted_around own around); values = []; state = reference_.with_prefix (noted_around own around) y })
 unfolding noted_values inside between_.inside noted_around noted_prefix
@@ -128,7 +151,7 @@ unfolding in_signature between_.in_signature noted_around noted_prefix noted_sco
 signature_goes own s around x y vs there packs = record { values = refl; context = refl; moves = moves_none own around x x y y refl refl packs; scope = inr (refl, refl); place = there }
 
 signature_place : (own : Bool) (around : Around) → (around_place own (in_signature around) ≡ parts_place own Production.Lambda around) ⊎ (((in_signature around).scope ≡ None) × (own ≡ false))
-unfolding in_signature parts_place is_lambda place_in
+unfolding in_signature parts_place has_signature place_in
 signature_place true around = inl refl
 signature_place false around = inr (refl, refl)
 
@@ -164,7 +187,7 @@ tag_goes own around x y v packs =
 
 pub between_noted : (own : Bool) (production : Production) (around : Around) (place : ℕ) (vs : List Value) (x : State) (y : value_.State) → StaysInside production → y.packs ≡ x.packs →
     Alike (Goes own (parts_place own production around) around x y) (between production around place vs x) (between_.between production (noted_around own around) place (noted_values (parts_place own production around) vs) y)
-unfolding parts_place is_lambda after inside under_expansion between between_.between noted_values noted_value named_so_far between_.named_so_far listed_so_far between_.listed_so_far annotate noted_around noted_prefix
+unfolding parts_place has_signature after inside under_expansion between between_.between noted_values noted_value named_so_far between_.named_so_far listed_so_far between_.listed_so_far annotate noted_around noted_prefix
 between_noted own Production.LocalName around place [] x y stays packs = same_goes own around x y [] packs
 between_noted own Production.LocalName around place (v ∷ vs) x y stays packs = after_goes own around x x y y v (tree_of v) _ true (v ∷ vs) (tree_noted (around_place own around) v) (moves_none own around x x y y refl refl packs)
 between_noted own Production.LocalType around place [] x y stays packs = same_goes own around x y [] packs
@@ -220,6 +243,11 @@ between_noted own Production.PackArgument around place (v ∷ []) x y stays pack
 between_noted own Production.Lambda around place vs x y stays packs = signature_goes own (parts_place own Production.Lambda around) around x y vs (signature_place own around) packs
 between_noted own Production.Expansion around place vs x y stays packs = expansion_goes own around x y vs
 between_noted own Production.Parameter around place (v ∷ []) x y stays packs = named_parameter own around x y place v packs
+between_noted own Production.ValueOf around place vs x y stays packs = signature_goes own (parts_place own Production.ValueOf around) around x y vs (signature_place own around) packs
+between_noted own Production.OfConcept around place vs x y stays packs = signature_goes own (parts_place own Production.OfConcept around) around x y vs (signature_place own around) packs
+between_noted own Production.ParameterArgument around place (v ∷ []) x y stays packs = named_parameter own around x y (place - 1) v packs
+between_noted own Production.ParameterExpression around place (v ∷ []) x y stays packs = lone_parameter own around x y place v packs
+between_noted own Production.BoundedArray around place (v ∷ []) x y stays packs = lone_parameter own around x y place v packs
 between_noted own Production.TypeWithS around place (v ∷ []) x y stays packs = listed_goes own around x y v packs
 between_noted own Production.LvalueItem around place (v ∷ []) x y stays packs = record {
   values = ap (λ t. value_.tree (term_.lvalue t) true ∷ []) (tree_noted (around_place own around) v);
@@ -266,6 +294,8 @@ behind_noted own Production.VolatileType byte around began first vs x y packs e 
 behind_noted own Production.ConstType byte around began first vs x y packs e = made_moves own Production.ConstType byte around vs x y tt packs
 behind_noted own Production.ReferenceType byte around began first vs x y packs e = made_moves own Production.ReferenceType byte around vs x y tt packs
 behind_noted own Production.PlainType byte around began first vs x y packs e = part_moves own around vs x y packs
+behind_noted own Production.PlainArgument byte around began first vs x y packs e = part_moves own around vs x y packs
+behind_noted own Production.ArgumentWithT byte around began first vs x y packs e = part_moves own around vs x y packs
 behind_noted own Production.TypeWithD byte around began first vs x y packs e = part_moves own around vs x y packs
 behind_noted own Production.ItemWithD byte around began first vs x y packs e = part_moves own around vs x y packs
 behind_noted own Production.QualifiedPlain byte around began first vs x y packs e = plain_moves own around vs x y packs
@@ -283,7 +313,7 @@ made_close own production byte around began first vs x y h same e =
 pub close_noted : (production : Production) (byte : ℕ) (around : Around) (place : ℕ) (began : State) (first : value_.State) (vs : List Value) (x : State) (y : value_.State) → Inside production vs →
     Settled around → Same false around x y → first.packs ≡ began.packs →
     Alike (Comes false around x y) (close production byte around place began vs x) (unfolded_.close production byte (noted_around false around) place first (noted_values (parts_place false production around) vs) y)
-unfolding close unfolded_.close parts_place is_lambda
+unfolding close unfolded_.close parts_place has_signature
 close_noted Production.Substitution byte around place began first vs x y h settled same e =
     subst (λ bytes. Alike (Comes false around x y) (substituted around (place - 1) (slice_get x.candidates (counted_value Seq36 (text_of (part vs 0)))) x)
     (reference_.substituted (noted_around false around) (place - 1) (slice_get y.candidates (counted_value Seq36 bytes)) y)) (sym (text_part_ (around_place false around) vs 0))
@@ -320,16 +350,52 @@ here_goes around x y place v settled packs = go around.in_lambda refl
     go true is = subst (λ k. Alike (Goes true s around x y) (generic_so_far around (index_of v) [] x) (wide_.generic_so_far (noted_around true around) k [] y)) (sym (index_noted s v)) (generic_goes around x y (index_of v) is settled packs)
     go false is = named_parameter true around x y place v packs
 
+own_argument_goes : (around : Around) (x : State) (y : value_.State) (k : ℕ) → around.in_lambda ≡ true → Settled around → y.packs ≡ x.packs →
+    Alike (Goes true (around_place true around) around x y) (next (leaf_.tree (parameter (generic_number k)) true ∷ []) around x)
+    (between_.next (value_.tree (term_.parameter (generic_number k) item_.auto) true ∷ []) (noted_around true around) y)
+unfolding annotate argument_in noted_values noted_value
+own_argument_goes around x y k is settled packs =
+    let t = parameter (generic_number k) in
+    let u = term_.parameter (generic_number k) item_.auto in
+    let same : u ≡ annotate (around_place true around) t = ap (λ s. annotate s t) (sym (own_place around (settled is) is)) in
+    record { values = ap (λ w. value_.tree w true ∷ []) same; context = refl; moves = moves_none true around x x y y refl refl packs; scope = inl (refl, refl); place = inl refl }
+
+argument_here_goes : (around : Around) (x : State) (y : value_.State) (place : ℕ) (v : Value) → Settled around → y.packs ≡ x.packs →
+    Alike (Goes true (around_place true around) around x y) (argument_here around place (index_of v) x) (wide_.argument_here (noted_around true around) place (between_.index_of (noted_value (around_place true around) v)) y)
+unfolding argument_here wide_.argument_here noted_around
+argument_here_goes around x y place v settled packs = go around.in_lambda refl
+  where
+    s : Place
+    s = around_place true around
+
+    named : ℕ → between_.Going
+    named k = between_.next (value_.tree (term_.parameter (generic_number k) item_.auto) true ∷ []) (noted_around true around) y
+
+    go : (b : Bool) → around.in_lambda ≡ b → Alike (Goes true s around x y)
+        (elim b [ true ↦ next (leaf_.tree (parameter (generic_number (index_of v))) true ∷ []) around x | false ↦ argument_so_far around place (index_of v) x ])
+        (elim b [ true ↦ named (between_.index_of (noted_value s v)) | false ↦ between_.argument_so_far (noted_around true around) place (between_.index_of (noted_value s v)) y ])
+    go true is = subst (λ k. Alike (Goes true s around x y) (next (leaf_.tree (parameter (generic_number (index_of v))) true ∷ []) around x) (named k)) (sym (index_noted s v)) (own_argument_goes around x y (index_of v) is settled packs)
+    go false is = lone_parameter true around x y place v packs
+
 pub wide_between_noted : (production : Production) (around : Around) (place : ℕ) (vs : List Value) (x : State) (y : value_.State) → StaysInside production → Settled around → y.packs ≡ x.packs →
     Alike (Goes true (parts_place true production around) around x y) (between_wide production around place vs x)
     (wide_.between_wide production (noted_around true around) place (noted_values (parts_place true production around) vs) y)
-unfolding between_wide wide_.between_wide noted_values parts_place is_lambda
+unfolding between_wide wide_.between_wide noted_values parts_place has_signature
 wide_between_noted Production.Parameter around place [] x y stays settled packs = between_noted true Production.Parameter around place [] x y stays packs
 wide_between_noted Production.Parameter around place (v ∷ []) x y stays settled packs = here_goes around x y place v settled packs
 wide_between_noted Production.Parameter around place (v ∷ w ∷ vs) x y stays settled packs = between_noted true Production.Parameter around place (v ∷ w ∷ vs) x y stays packs
 wide_between_noted Production.NestParameter around place [] x y stays settled packs = between_noted true Production.NestParameter around place [] x y stays packs
 wide_between_noted Production.NestParameter around place (v ∷ []) x y stays settled packs = here_goes around x y place v settled packs
 wide_between_noted Production.NestParameter around place (v ∷ w ∷ vs) x y stays settled packs = between_noted true Production.NestParameter around place (v ∷ w ∷ vs) x y stays packs
+wide_between_noted Production.ParameterArgument around place [] x y stays settled packs = between_noted true Production.ParameterArgument around place [] x y stays packs
+wide_between_noted Production.ParameterArgument around place (v ∷ []) x y stays settled packs = here_goes around x y (place - 1) v settled packs
+wide_between_noted Production.ParameterArgument around place (v ∷ w ∷ vs) x y stays settled packs = between_noted true Production.ParameterArgument around place (v ∷ w ∷ vs) x y stays packs
+wide_between_noted Production.ParameterExpression around place [] x y stays settled packs = between_noted true Production.ParameterExpression around place [] x y stays packs
+wide_between_noted Production.ParameterExpression around place (v ∷ []) x y stays settled packs = argument_here_goes around x y place v settled packs
+wide_between_noted Production.ParameterExpression around place (v ∷ w ∷ vs) x y stays settled packs = between_noted true Production.ParameterExpression around place (v ∷ w ∷ vs) x y stays packs
+wide_between_noted Production.BoundedArray around place [] x y stays settled packs = between_noted true Production.BoundedArray around place [] x y stays packs
+wide_between_noted Production.BoundedArray around place (v ∷ []) x y stays settled packs = argument_here_goes around x y place v settled packs
+wide_between_noted Production.BoundedArray around place (v ∷ w ∷ vs) x y stays settled packs = between_noted true Production.BoundedArray around place (v ∷ w ∷ vs) x y stays packs
 wide_between_noted p around place vs x y stays settled packs = between_noted true p around place vs x y stays packs
 
 -- a lambda is told apart alike, and what stands in its signature is under its own parameters
@@ -355,7 +421,7 @@ own_lambda s byte around other vs =
 pub wide_close_noted : (production : Production) (byte : ℕ) (around : Around) (place : ℕ) (began : State) (first : value_.State) (vs : List Value) (x : State) (y : value_.State) → Inside production vs →
     Settled around → Same true around x y → first.packs ≡ began.packs →
     Alike (Comes true around x y) (close_wide production byte around place began vs x) (wide_.close_wide production byte (noted_around true around) place first (noted_values (parts_place true production around) vs) y)
-unfolding close unfolded_.close close_wide wide_.close_wide parts_place is_lambda
+unfolding close unfolded_.close close_wide wide_.close_wide parts_place has_signature meaning noted_.meaning unfolding_.behind unfolded_.behind noted_value
 wide_close_noted Production.Substitution byte around place began first vs x y h settled same e =
     subst (λ bytes. Alike (Comes true around x y) (substituted_wide around (place - 1) (slice_get x.candidates (counted_value Seq36 (text_of (part vs 0)))) x)
     (wide_.substituted_wide (noted_around true around) (place - 1) (slice_get y.candidates (counted_value Seq36 bytes)) y)) (sym (text_part_ (around_place true around) vs 0))
@@ -363,4 +429,6 @@ wide_close_noted Production.Substitution byte around place began first vs x y h 
     (get_noted true around x.candidates y.candidates (counted_value Seq36 (text_of (part vs 0))) same.all))
 wide_close_noted Production.Lambda byte around place began first vs x y h settled same e =
     record { value = own_lambda (around_place true around) byte around (noted_around true around) vs; moves = moves_none true around x x y y refl refl same.packs }
+wide_close_noted Production.ValueOf byte around place began first vs x y h settled same e = record { value = refl; moves = moves_none true around x x y y refl refl same.packs }
+wide_close_noted Production.OfConcept byte around place began first vs x y h settled same e = record { value = refl; moves = moves_none true around x x y y refl refl same.packs }
 wide_close_noted production byte around place began first vs x y h settled same e = made_close true production byte around began first vs x y h same e

@@ -28,7 +28,7 @@ use Rattle.cpp_grammar.proofs.Choosing.{kinds_numbered, number_at, either_rule_a
 use Rattle.cpp_grammar.proofs.ClosedValues.{good_where, AllGood, GoodPrefix, held, good_tree, good_part}
 use Rattle.cpp_grammar.proofs.ClosedStates.{Bare, Within, AllOld, old_later, old_grows, ok_same, behind_bind}
 use Rattle.cpp_grammar.proofs.ClosedParts.{StaysInside}
-use Rattle.cpp_grammar.proofs.Ways.{is_lambda, Way, reading_by, abi_way, differs}
+use Rattle.cpp_grammar.proofs.Ways.{has_signature, Way, reading_by, abi_way, differs}
 use Rattle.cpp_grammar.proofs.ClosedTrees.{is_encoding, has_encoding, opens, or_true, at_number, its_symbols, stays, takes_byte, Whole, same_rule, opening_keeps, all_append, old_fits, grows_fits, old_inner, one_good, known, name_comes, same_found, stepped, inner_closes, KeepsClosed, opens_apart, forest_good, tree_good_by, trees_good_by}
 use Rattle.cpp_term.proofs.KindsNoted.{all_open, is_special_kind, in_special, may_be_special, encodings_open, special_types}
 use Rattle.cpp_term.proofs.MeaningNoted.{Inside}
@@ -149,11 +149,16 @@ encodings_apart Production.Parameter h = absurd (false≢true h)
 encodings_apart Production.NestParameter h = absurd (false≢true h)
 encodings_apart Production.Lambda h = absurd (false≢true h)
 encodings_apart Production.Substitution h = absurd (false≢true h)
+encodings_apart Production.ParameterArgument h = absurd (false≢true h)
+encodings_apart Production.ParameterExpression h = absurd (false≢true h)
+encodings_apart Production.BoundedArray h = absurd (false≢true h)
 encodings_apart _ h = refl
 
-special_apart : (p : Production) → in_special p ≡ true → is_lambda p ≡ false
-unfolding in_special is_lambda
+special_apart : (p : Production) → in_special p ≡ true → has_signature p ≡ false
+unfolding in_special has_signature
 special_apart Production.Lambda h = absurd (false≢true h)
+special_apart Production.ValueOf h = absurd (false≢true h)
+special_apart Production.OfConcept h = absurd (false≢true h)
 special_apart _ h = refl
 
 abbrev Encodings : List Sym → List Value → Type 0
@@ -350,4 +355,4 @@ module _ (way : Way) (keeps : KeepsClosed way) where
       let all = forest_good way keeps parts (trees_good_by way keeps parts) whole (symbols_of rule) [] from state inner inside_ symbols tree.1 (omega (arith, le))
       (λ any. omega (arith, le, takes_byte p rule k taken is tree.0 any)) pre tt old0 e in
       (good_part (Within way.own (production_at rule.number) around) inner.value part_number all.good).closed
-      (special (special_kind p k rule taken is lt tree.0 is_special), λ own. ap is_lambda number ∙ special_apart p is_special))
+      (special (special_kind p k rule taken is lt tree.0 is_special), λ own. ap has_signature number ∙ special_apart p is_special))

@@ -64,6 +64,9 @@ plain_between : (p : Production) → differs p ≡ false → (around : Around) (
 unfolding differs between_wide
 plain_between Production.Parameter apart around place vs state = absurd (true≢false apart)
 plain_between Production.NestParameter apart around place vs state = absurd (true≢false apart)
+plain_between Production.ParameterArgument apart around place vs state = absurd (true≢false apart)
+plain_between Production.ParameterExpression apart around place vs state = absurd (true≢false apart)
+plain_between Production.BoundedArray apart around place vs state = absurd (true≢false apart)
 plain_between _ apart around place vs state = refl
 
 plain_close : (p : Production) → differs p ≡ false → (byte : ℕ) (around : Around) (place : ℕ) (began : State) (vs : List Value) (state : State) →

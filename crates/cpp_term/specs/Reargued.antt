@@ -1,6 +1,6 @@
 -- A tree whose free parameters carry another argument, and what of it depends on that argument.
 use Rattle.std.specs.Prelude.{Bool, true, false, ◌||◌, ◌&&◌, Option, Some, None}
-use Rattle.cpp_term.specs.Term.{Term, alone, in_std, within, instance, local, holder, tagged, of_default, parameter, lambda, conversion, pointer, lvalue, rvalue, array, member_pointer, function_type, qualified, vector, complex, expansion, integer, pack, nil, list}
+use Rattle.cpp_term.specs.Term.{Term, alone, in_std, within, instance, local, holder, tagged, of_default, parameter, lambda, conversion, pointer, lvalue, rvalue, array, bounded, member_pointer, function_type, qualified, vector, complex, expansion, integer, pack, nil, list}
 use Rattle.cpp_term.specs.Items.{HeadClass, collapsed_class}
 
 -- the argument that is given, if one is, or else its own
@@ -25,6 +25,7 @@ reargued c (pointer t) = pointer (reargued c t)
 reargued c (lvalue t) = lvalue (reargued c t)
 reargued c (rvalue t) = rvalue (reargued c t)
 reargued c (array digits t) = array digits (reargued c t)
+reargued c (bounded bound t) = bounded (reargued c bound) (reargued c t)
 reargued c (member_pointer class t) = member_pointer (reargued c class) (reargued c t)
 reargued c (function_type c_linkage noexcept ref returned parameters) = function_type c_linkage noexcept ref (reargued c returned) (reargued c parameters)
 reargued c (qualified q t) = qualified q (reargued c t)
@@ -57,6 +58,7 @@ bare (pointer t) = bare t
 bare (lvalue t) = bare t
 bare (rvalue t) = bare t
 bare (array digits t) = bare t
+bare (bounded bound t) = bare bound || bare t
 bare (member_pointer class t) = bare class || bare t
 bare (function_type c_linkage noexcept ref returned parameters) = bare returned || bare parameters
 bare (qualified q t) = bare t

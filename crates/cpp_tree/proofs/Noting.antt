@@ -128,6 +128,7 @@ module _ (y : Table) (table : IsTable y) where
   node-free (Node.Lvalue t) b = at t b
   node-free (Node.Rvalue t) b = at t b
   node-free (Node.Array digits t) b = at t b.1
+  node-free (Node.Bounded bound t) b = both-are (free_at y.nodes bound) (free_at y.nodes t) (at bound b.0) (at t b.1)
   node-free (Node.MemberPointer class t) b = both-are (free_at y.nodes class) (free_at y.nodes t) (at class b.0) (at t b.1)
   node-free (Node.FunctionType c n m returned parameters) b = both-are (free_at y.nodes returned) (free_at y.nodes parameters) (at returned b.0) (at parameters b.1)
   node-free (Node.Qualified q t) b = at t b
@@ -165,6 +166,7 @@ module _ (y : Table) (table : IsTable y) where
   node-lends (Node.Lvalue t) b = ap passed (lent-at t b)
   node-lends (Node.Rvalue t) b = rvalue-lent (lent_at y.nodes t) (tree_at (trees y) t) (lent-at t b)
   node-lends (Node.Array digits t) b = ap passed (lent-at t b.1)
+  node-lends (Node.Bounded bound t) b = rw (lent-at bound b.0, lent-at t b.1) refl
   node-lends (Node.MemberPointer class t) b = rw (lent-at class b.0, lent-at t b.1) refl
   node-lends (Node.FunctionType c n m returned parameters) b = rw (lent-at returned b.0, lent-at parameters b.1) refl
   node-lends (Node.Qualified q t) b = ap (λ l. of_head l.head l) (lent-at t b)
@@ -458,6 +460,7 @@ module _ (y : Table) (table : IsTable y) where
   node-pack (Node.Lvalue t) b = pack-at t b
   node-pack (Node.Rvalue t) b = pack-at t b
   node-pack (Node.Array digits t) b = pack-at t b.1
+  node-pack (Node.Bounded bound t) b = rw (pack-at bound b.0, pack-at t b.1) refl
   node-pack (Node.MemberPointer class t) b = rw (pack-at class b.0, pack-at t b.1) refl
   node-pack (Node.FunctionType c n m returned parameters) b = rw (pack-at returned b.0, pack-at parameters b.1) refl
   node-pack (Node.Qualified q t) b = pack-at t b

@@ -247,3 +247,6 @@ pub const STD_GENERIC_LAMBDA: u16 = 75;
 
 /// As `GENERIC_LAMBDA`, in a prefix: its parameters are the second part.
 pub const NESTED_GENERIC_LAMBDA: u16 = 76;
+
+/// An array whose length is a parameter. Parts: the parameter and the type of its elements.
+pub const BOUNDED: u16 = 77;

@@ -28,6 +28,10 @@ pub returns-in-Array-clause-shows : goal.returns-in-Array-clause-shows
 unfolding right_parts tree_of reargued
 returns-in-Array-clause-shows g c = fills c.args.self.now c.args.ctx.detail _ _ _ c.fill_array_right.ensures.shows (ap (λ t. right_parts (context_of c.args.ctx) t) (sym c.in-Array.ensures.tree))
 
+pub returns-in-Bounded-clause-shows : goal.returns-in-Bounded-clause-shows
+unfolding right_parts tree_of reargued
+returns-in-Bounded-clause-shows g c = fills c.args.self.now c.args.ctx.detail _ _ _ c.fill_bounded_right.ensures.shows (ap (λ t. right_parts (context_of c.args.ctx) t) (sym c.in-Bounded.ensures.tree))
+
 pub returns-in-Qualified-clause-shows : goal.returns-in-Qualified-clause-shows
 unfolding right_parts tree_of reargued
 returns-in-Qualified-clause-shows g c = fills c.args.self.now c.args.ctx.detail _ _ _ c.fill_qualified_right.ensures.shows (ap (λ t. right_parts (context_of c.args.ctx) t) (sym c.in-Qualified.ensures.tree))
@@ -49,4 +53,4 @@ unfolding right_parts tree_of qualifier_text reargued
 returns-in-FunctionType-clause-shows g c = fills c.args.self.now c.args.ctx.detail _ _ _ c.fill_function_right.ensures.shows (ap (λ t. right_parts (context_of c.args.ctx) t) (sym c.in-FunctionType.ensures.tree))
 
 pub returns-in_default-clause-shows : goal.returns-in_default-clause-shows
-returns-in_default-clause-shows g c = fills c.args.self.now c.args.ctx.detail _ _ _ (starts c.args.self.now c.args.ctx.detail _) (right-none _ _ _ _ _ c.stored.result c.stored.ensures.own _ c.stored.ensures.tree c.in_default.not-Pointer c.in_default.not-Lvalue c.in_default.not-Rvalue c.in_default.not-MemberPointer c.in_default.not-Array c.in_default.not-Qualified c.in_default.not-Vector c.in_default.not-Complex c.in_default.not-Parameter c.in_default.not-FunctionType)
+returns-in_default-clause-shows g c = fills c.args.self.now c.args.ctx.detail _ _ _ (starts c.args.self.now c.args.ctx.detail _) (right-none _ _ _ _ _ c.stored.result c.stored.ensures.own _ c.stored.ensures.tree c.in_default.not-Pointer c.in_default.not-Lvalue c.in_default.not-Rvalue c.in_default.not-MemberPointer c.in_default.not-Array c.in_default.not-Qualified c.in_default.not-Vector c.in_default.not-Complex c.in_default.not-Parameter c.in_default.not-FunctionType c.in_default.not-Bounded)
