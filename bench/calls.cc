@@ -8,6 +8,7 @@
 #include <ctime>
 #include <fstream>
 #include <functional>
+#include <memory>
 #include <string>
 #include <string_view>
 #include <vector>
@@ -32,8 +33,13 @@ static char *llvm_demangled(const char *symbol)
 #endif
 
 static std::vector<std::string> symbols;
-static std::string all; /* a line each */
+static std::string all;          /* a line each */
+static std::string joined;       /* without the ends of the lines */
+static std::vector<size_t> ends; /* where each ends there */
 static unsigned char room[1 << 20];
+/* room for what one call answers for all of them, which isn't filled */
+static std::unique_ptr<unsigned char[]> large;
+static size_t large_size;
 
 static double now()
 {
@@ -60,15 +66,9 @@ static size_t text_by_text()
 
 static size_t many_texts()
 {
-    static std::vector<unsigned char> large(all.size() * 8 + 1);
     static std::vector<symdemangle_told> answers(symbols.size());
-    static std::vector<size_t> ends;
-    static std::string text;
-    if (ends.empty())
-        for (const std::string &s : symbols)
-            ends.push_back((text += s).size());
     size_t bytes = 0;
-    if (symdemangle_texts((const uint8_t *)text.data(), text.size(), ends.data(), ends.size(), 1000000, 0, large.data(), large.size(),
+    if (symdemangle_texts((const uint8_t *)joined.data(), joined.size(), ends.data(), ends.size(), 1000000, 0, large.get(), large_size,
                           answers.data(), answers.size()) == SYMDEMANGLE_OK)
         for (const symdemangle_told &told : answers)
             bytes += told.status == SYMDEMANGLE_OK ? told.length : 0;
@@ -87,9 +87,8 @@ static size_t pressed()
 
 static size_t filtered()
 {
-    static std::vector<unsigned char> large(all.size() * 8 + 1);
     symdemangle_answer answer;
-    uint32_t status = symdemangle_filter((const uint8_t *)all.data(), all.size(), 1000000, 0, large.data(), large.size(), &answer);
+    uint32_t status = symdemangle_filter((const uint8_t *)all.data(), all.size(), 1000000, 0, large.get(), large_size, &answer);
     return status == SYMDEMANGLE_OK ? answer.length - symbols.size() : 0;
 }
 
@@ -138,8 +137,12 @@ int main(int count, char **arguments)
         return 2;
     }
     std::ifstream file(arguments[1]);
-    for (std::string line; std::getline(file, line); all += line + '\n')
+    for (std::string line; std::getline(file, line); all += line + '\n') {
         symbols.push_back(line);
+        ends.push_back((joined += line).size());
+    }
+    large_size = all.size() * 8 + 1;
+    large.reset(new unsigned char[large_size]);
     if (count == 2)
         for (const Call &call : calls)
             time_of(call);

@@ -1,5 +1,5 @@
 #!/usr/bin/env python3
-"""Writes what repeats Rust's basic types and its rules from vocabulary.py and the table below: the code of rust_v0's table, the texts and
+"""Writes what repeats Rust's basic types and its rules from vocabulary.py and the table below: the code of rust_grammar's table, the texts and
 the letters of basic types, code and definitions. `rust_grammar.py write CRATES` writes them (CRATES is the folder of the crates)."""
 import os, sys
 sys.path.insert(0, os.path.dirname(os.path.abspath(__file__)))
@@ -107,10 +107,10 @@ TABLE_HEAD = r'''// @WRITTEN@ The rule that a kind takes at a byte.
 ghost use Rattle.std.specs.Prelude.{◌≡◌, ◌<◌, [], IfSome, MatchOption};
 ghost use Rattle.sym_shape.specs.Listing.{listed_in, StandsAt};
 ghost use Rattle.sym_shape.specs.Table.{symbols_of};
-ghost use Rattle.rust_v0.specs.declared.table.TheConstants.{SYMBOLS};
-ghost use Rattle.rust_v0.specs.Listed.{listed_rule};
-ghost use Rattle.rust_v0.specs.Rules.{v0_table};
-ghost use Rattle.rust_v0.specs.declared.table.Head.{Head};
+ghost use Rattle.rust_grammar.specs.declared.table.TheConstants.{SYMBOLS};
+ghost use Rattle.rust_grammar.specs.Listed.{listed_rule};
+ghost use Rattle.rust_grammar.specs.Rules.{v0_table};
+ghost use Rattle.rust_grammar.specs.declared.table.Head.{Head};
 
 use crate::kind::{
     self, ABI, ABI_NAME, ARGUMENTS, BINDER, BINDINGS, BOUNDS, CONSTANT, DISAMBIGUATOR, IDENTIFIER,
@@ -279,8 +279,8 @@ def below_letters():
         "use Rattle.rust_tree.specs.Shown.{basic_text}", "", "pub below-basic : (n : ℕ) → n < 97 → basic_text n ≡ []", "unfolding basic_text", f"below-basic n h = rw ({facts}) refl"]) + "\n"
 
 def files():
-    yield "rust_v0/src/table.rt", table()
-    yield "rust_v0/specs/BasicLetters.antt", letters_of_types()
+    yield "rust_grammar/src/table.rt", table()
+    yield "rust_grammar/specs/BasicLetters.antt", letters_of_types()
     yield "rust_tree/src/basic_types.rt", basic_code()
     yield "rust_tree/specs/BasicTypes.antt", basic_texts()
     yield "rust_tree/proofs/BasicTypes.antt", below_letters()

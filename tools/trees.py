@@ -117,7 +117,7 @@ CLOSED_FUNCTION = """
 
 def weight_of_scopes():
     # what a local entity stands in is no part of its weight
-    special = {"function": WEIGHT_OF_FUNCTION, "local": "1 + weight a scope entity", "parameter": "2 + a",
+    special = {"function": WEIGHT_OF_FUNCTION, "local": "1 + weight a scope entity", "parameter": "2 + a", "generic_parameter": "2",
                "expansion": "2 + weight a scope pattern + pack_count scope pattern"}
     return fold("weight", ["a", "scope"], summed("1"), "1", special, closed=["0", "None"])
 
@@ -515,7 +515,7 @@ def open_erased():
 
 def weight_of_terms():
     function = "\n    1 + weight name + weight returned + weight parameters"
-    lines = fold("weight", [], summed("1"), "1", {"function": function, "local": "1 + weight entity", "parameter": "2 + weight argument", "expansion": "2 + weight pattern + pack_count pattern"})
+    lines = fold("weight", [], summed("1"), "1", {"function": function, "local": "1 + weight entity", "parameter": "2 + weight argument", "generic_parameter": "2", "expansion": "2 + weight pattern + pack_count pattern"})
     return [l.replace("(parameter k)", "(parameter k argument)") for l in lines]
 
 def rewritten(text, name, lines):

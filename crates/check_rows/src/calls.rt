@@ -198,7 +198,7 @@ fn read_and_printed_in_full<M: Calls>(
     requires { FitsSymbol s.now }
 {
     let symbol = M::read(alloc, s)?;
-    M::text(&symbol, limit)
+    <M as Calls>::text(&symbol, limit)
 }
 
 /// A symbol that is linked at once.

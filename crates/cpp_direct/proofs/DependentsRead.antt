@@ -8,10 +8,11 @@ use Rattle.cpp_direct.proofs.Moves.{stands-join, stands-split, expects-number, e
 use Rattle.cpp_direct.proofs.MovesOfTypes.{open-substitution-opens, solid-opens}
 use Rattle.cpp_direct.proofs.PrintedTypes.{parameter-prints, type-element-in}
 use Rattle.cpp_direct.specs.declared.open.Mark.{Mark}
-use Rattle.cpp_direct.specs.Holes.{Opened, StandsAt, IsSeqAt, Comes, with_candidate, opened, Expects, IsTyped}
+use Rattle.cpp_direct.specs.Holes.{Opened, StandsAt, Comes, with_candidate, opened, Expects, IsTyped}
 use Rattle.cpp_direct.specs.Prints.{NamesArgument, Prints, PrintsIn, PrintsBehind}
-use Rattle.cpp_direct.specs.Stands.{AreCandidates, HasArguments, IsArgument, IsCandidate, IsKnown, PrintsOrNames, IsPlaced, IsPlain, IsWriting, Marks, Stands, argument_of, IsScope, place_of}
-use Rattle.cpp_direct.specs.Ways.{AwaitsType, AwaitsNamedType, AwaitsDependentMark, IsEnclosingParameterRead, IsFrontRead, IsNamedAgain, IsParameterEnded, parameter_digits}
+use Rattle.cpp_direct.specs.Stands.{AreCandidates, HasArguments, IsArgument, IsKnown, PrintsOrNames, IsPlaced, IsPlain, IsWriting, Marks, Stands, argument_of, IsScope, place_of}
+use Rattle.cpp_direct.specs.Ways.{AwaitsType, AwaitsNamedType, AwaitsDependentMark, IsFrontRead, IsNamedAgain, IsParameterEnded, parameter_digits}
+use Rattle.cpp_direct.specs.WaysOfLocals.{IsEnclosingParameterRead}
 use Rattle.cpp_direct.specs.Written.{Writes, with_dependent}
 use Rattle.cpp_direct.specs.declared.direct.Direct.{Direct}
 use Rattle.cpp_direct.specs.declared.open.Open.TheVariants as opens

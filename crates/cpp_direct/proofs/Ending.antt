@@ -25,7 +25,7 @@ use Rattle.cpp_direct.specs.Holes.{StandsAt, ListGoesOn}
 use Rattle.cpp_direct.specs.HolesOfLists.{IsSuffix}
 use Rattle.cpp_direct.specs.Marks.{has_const, called_on, mark_text}
 use Rattle.cpp_direct.specs.Prints.{PrintsName, Shows, Encloses, list_of}
-use Rattle.cpp_direct.specs.Stands.{AreCandidates, AwaitsItems, Encoded, EndsBehind, EncodedBehind, IsWhole, IsWriting, HasScope, IsFunction, IsScoped, ItemsGoOn, ParametersGoOn, Stands, nowhere, qualifiers, list_with, in_front_of_next, encoding_place, named_in}
+use Rattle.cpp_direct.specs.Stands.{AreCandidates, AwaitsItems, Encoded, EndsBehind, EncodedBehind, IsWhole, IsWriting, HasScope, IsFunction, IsScoped, ItemsGoOn, ParametersGoOn, Stands, qualifiers, list_with, in_front_of_next, encoding_place, named_in}
 use Rattle.cpp_direct.specs.Ways.{AwaitsNextParameter, IsNameEnded, AwaitsParameters, IsParameterEnded, IsEncodingEnded, IsSymbolEnded}
 use Rattle.cpp_direct.specs.Written.{Writes, Cuts}
 use Rattle.cpp_direct.proofs.Kept.{candidates-written, reverse-last}
@@ -34,7 +34,7 @@ use Rattle.cpp_direct.proofs.MovesOfLists.{element-awaits}
 use Rattle.cpp_direct.proofs.MovesOfTypes.{builtin-comes}
 use Rattle.cpp_direct.proofs.PrintedLists.{none-print-in}
 use Rattle.cpp_direct.proofs.PrintedLocals.{object-enclosing, function-encloses}
-use Rattle.cpp_direct.proofs.Scopes.{function-stays, none-known, parameters-scoped, arguments-named}
+use Rattle.cpp_direct.proofs.Scopes.{function-stays, parameters-scoped, arguments-named}
 use Rattle.cpp_direct.proofs.PrintedSymbols.{function-shows, void-shows, object-encoded, encoding-plain, made-with, made-void, symbol-text, symbol-cost, suffix-text, suffix-cost, parameters-kept}
 
 -- ## The end

@@ -1,7 +1,7 @@
 -- A reference to each type of a pack is a function's last parameter.
 use Rattle.cpp_direct.specs.declared.open.Argument.{Argument}
 use Rattle.std.proofs.lemmas.List.{length-append}
-use Rattle.std.proofs.Common.{◌≡◌, ℕ, ◌+◌, ◌-◌, ◌≤◌, length, List, [], ◌∷◌, ◌++◌, take, drop, true, Option, None, Some, reverse, codes, ap, sym, ◌∙◌, subst, arith, append_assoc, ◌≢◌, zero, suc, ◌<◌, ◌⊎◌, inl, inr, slice_get, refl, append-nil}
+use Rattle.std.proofs.Common.{◌≡◌, ℕ, ◌+◌, ◌-◌, ◌≤◌, length, List, [], ◌∷◌, ◌++◌, take, drop, true, Option, None, Some, reverse, codes, ap, sym, ◌∙◌, subst, arith, append_assoc, ◌≢◌, zero, suc, ◌<◌, inl, inr, slice_get, refl, append-nil}
 use Rattle.std.specs.Option.{IfSome}
 use Rattle.cpp_grammar.specs.declared.kind.Kind.{Kind}
 use Rattle.cpp_grammar.specs.Parts.{types_of}

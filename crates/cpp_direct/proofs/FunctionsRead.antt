@@ -1,12 +1,9 @@
 -- A writer reads the first bytes of a function type.
-use Rattle.std.proofs.Common.{◌≡◌, ◌⊎◌, inl, inr, ℕ, ◌+◌, ◌-◌, List, [], ◌∷◌, ◌++◌, length, reverse, slice_get, Bool, true, false, Some, refl, ap, sym, subst, ◌∙◌, if◌then◌else◌}
+use Rattle.std.proofs.Common.{◌≡◌, ◌⊎◌, inl, inr, ℕ, ◌+◌, List, [], ◌∷◌, ◌++◌, reverse, Bool, true, false, refl, ap, sym, subst, ◌∙◌, if◌then◌else◌}
 use Rattle.cpp_grammar.specs.declared.kind.Kind.{Kind}
 use Rattle.cpp_grammar.specs.Values.{State, Around, outermost}
 use Rattle.cpp_direct.specs.Symbol.{Symbol}
-use Rattle.cpp_direct.specs.declared.open.Mark.{Mark}
-use Rattle.cpp_direct.specs.declared.open.Open.{Open}
 use Rattle.cpp_direct.specs.declared.open.Open.TheVariants as opens
-use Rattle.cpp_direct.specs.declared.open.Arguments.{Arguments}
 use Rattle.cpp_direct.specs.declared.open.Step.TheVariants as steps
 use Rattle.cpp_direct.specs.declared.direct.Direct.{Direct}
 use Rattle.cpp_direct.specs.Holes.{Opened, StandsAt, Expects}
@@ -14,7 +11,6 @@ use Rattle.cpp_direct.specs.HolesOfFunctions.{FunctionOpened}
 use Rattle.cpp_direct.specs.HolesOfTypes.{NoReference, IsQualifiable}
 use Rattle.cpp_direct.specs.Stands.{IsScoped, AreCandidates, TakesFunction, Stands, IsWriting}
 use Rattle.cpp_direct.proofs.Kept.{reverse-last}
-use Rattle.cpp_direct.proofs.Listed.{last-found}
 use Rattle.cpp_direct.proofs.Scopes.{none-scoped}
 use Rattle.cpp_direct.proofs.MovesOfFunctions.{function-opens, pointed-function-opens}
 

@@ -1,5 +1,5 @@
 -- The moves within arrays.
-use Rattle.std.proofs.Common.{◌≡◌, ℕ, ◌+◌, ◌<◌, List, [], ◌∷◌, length, true, false, refl, sym, subst, arith}
+use Rattle.std.proofs.Common.{◌≡◌, ℕ, ◌+◌, List, [], ◌∷◌, length, true, false, refl, sym, subst, arith}
 use Rattle.sym_core.specs.Token.{bytes_of}
 use Rattle.sym_core.specs.declared.NumberKind.TheVariants.{Decimal}
 use Rattle.sym_shape.specs.declared.rule.Sym.TheVariants.{Kind as OfKind, Number}
@@ -21,7 +21,7 @@ use Rattle.cpp_direct.specs.declared.open.Access.{Access}
 use Rattle.cpp_direct.specs.declared.open.Access.TheVariants as accesses
 use Rattle.cpp_direct.specs.Holes.{Opened, opened, StandsAt, Comes, Expects, ExpectsSym, IsReferable, IsTyped, with_candidate}
 use Rattle.cpp_direct.specs.HolesOfArrays.{IsSizeAt, ArrayOpened, access_letters}
-use Rattle.cpp_direct.specs.HolesOfTypes.{IsQualifiable, NoReference}
+use Rattle.cpp_direct.specs.HolesOfTypes.{IsQualifiable}
 use Rattle.cpp_direct.proofs.Moves.{stands-split, comes-moved, expects-number, first-of, next-of, last-of}
 use Rattle.cpp_direct.proofs.MovesOfTypes.{whole-opens, pointer-opens, lvalue-opens}
 

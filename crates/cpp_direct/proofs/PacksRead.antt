@@ -1,12 +1,12 @@
 -- The elements of a pack that is the first argument of a name: it may be the only one.
 use Rattle.cpp_direct.proofs.Ending.{next-written}
 use Rattle.cpp_direct.specs.Written.{Writes}
-use Rattle.std.proofs.Common.{◌≡◌, ◌≢◌, ℕ, ◌+◌, ◌-◌, length, List, [], ◌∷◌, ◌++◌, reverse, slice_get, inr, inl, Bool, true, false, Some, refl, ap, sym, ◌∙◌, subst, codes, append-nil, arith, append_assoc}
+use Rattle.std.proofs.Common.{◌≡◌, ℕ, ◌+◌, ◌-◌, length, List, [], ◌∷◌, ◌++◌, reverse, slice_get, inr, inl, Bool, true, false, Some, refl, ap, sym, ◌∙◌, subst, codes, append-nil, arith, append_assoc}
 use Rattle.std.proofs.lemmas.Bool.{false≢true}
 use Rattle.std.proofs.lemmas.List.{length-append}
 use Rattle.cpp_grammar.specs.declared.kind.Kind.{Kind}
 use Rattle.cpp_grammar.specs.Grammar.{may_be_empty}
-use Rattle.cpp_grammar.specs.Term.{Term, nil, list, instance, pack}
+use Rattle.cpp_grammar.specs.Term.{nil, list, instance, pack}
 use Rattle.cpp_grammar.specs.Values.{nothing_there, tree_of}
 use Rattle.cpp_grammar.specs.Between.{no_items}
 use Rattle.cpp_direct.specs.Symbol.{Symbol}
@@ -17,9 +17,9 @@ use Rattle.cpp_direct.specs.declared.open.Open.TheVariants as opens
 use Rattle.cpp_direct.specs.declared.open.Step.TheVariants as steps
 use Rattle.cpp_direct.specs.declared.direct.Direct.{Direct}
 use Rattle.cpp_direct.specs.Holes.{Expects, StandsAt}
-use Rattle.cpp_direct.specs.Prints.{IsElement, Prints, PrintAllBy, list_of}
-use Rattle.cpp_direct.specs.Stands.{AreCandidates, ArgumentsGoOn, Belongs, EndsNamed, Closes, GoesOn, IsAmong, IsKnown, IsScoped, IsTemplate, IsWriting, Listing, of_template, of_pack, Owns, Stands, extra_of, led_by, list_with, nowhere, place_of, AreAmong, in_front_of_next}
-use Rattle.cpp_direct.specs.Ways.{AreKnown, IsPackElementRead, IsListEnded, KnowsMore, AwaitsPackElement}
+use Rattle.cpp_direct.specs.Prints.{IsElement, PrintAllBy, list_of}
+use Rattle.cpp_direct.specs.Stands.{AreCandidates, ArgumentsGoOn, Belongs, EndsNamed, Closes, GoesOn, IsAmong, IsKnown, IsScoped, IsTemplate, IsWriting, Listing, of_template, of_pack, Owns, Stands, extra_of, led_by, nowhere, place_of, AreAmong, in_front_of_next}
+use Rattle.cpp_direct.specs.Ways.{IsPackElementRead, IsListEnded, KnowsMore, AwaitsPackElement}
 use Rattle.cpp_direct.proofs.Arguments.{none-text, known-more}
 use Rattle.cpp_direct.proofs.Kept.{reverse-last, template-stays, candidates-written}
 use Rattle.cpp_direct.proofs.Listed.{last-found, element-goes-on, some-elements}

@@ -1,9 +1,9 @@
 -- Arrays, and what points or refers to them, as elements of lists.
-use Rattle.std.proofs.Common.{◌≡◌, refl, ap, sym, ◌∙◌, ℕ, ◌+◌, ◌*◌, ◌≤◌, List, [], ◌∷◌, ◌++◌, length, Bool, true, false, None, arith, codes, length-append, append-nil, append_assoc}
+use Rattle.std.proofs.Common.{◌≡◌, refl, ap, sym, ◌∙◌, ℕ, ◌+◌, List, [], ◌∷◌, ◌++◌, length, Bool, false, arith, codes, length-append, append-nil, append_assoc}
 use Rattle.sym_print.specs.Unshared.{text_of, cost_of}
 use Rattle.cpp_grammar.specs.Term.{Term, array, pointer, lvalue}
 use Rattle.cpp_grammar.specs.Scope.{is_open, pack_length}
-use Rattle.cpp_grammar.specs.Items.{left, right, low, Context, head, head_with, is_reference, is_funarr, is_empty}
+use Rattle.cpp_grammar.specs.Items.{left, right, Context, head, head_with, is_reference, is_funarr, is_empty}
 use Rattle.cpp_grammar.specs.Meaning.{is_void}
 use Rattle.cpp_grammar.specs.Parts.{as_item, says, text_part, left_parts, right_parts, array_left, marked_parts, reference_parts, closing_right, parts_in, not_empty}
 use Rattle.cpp_direct.specs.declared.open.Access.{Access}

@@ -14,4 +14,5 @@ pub mod Prints
 pub mod Stands
 pub mod Symbol
 pub mod Ways
+pub mod WaysOfLocals
 pub mod Written

@@ -70,8 +70,8 @@ impl Direct {
         self.at = place.end;
         self.waiting.push(Open::Array {
             access,
-            from: place.from,
-            to: place.to,
+            from: place.from as u32,
+            to: place.to as u32,
         })?;
         Some(Step::Type)
     }
@@ -82,8 +82,8 @@ impl Direct {
         &mut self,
         s: &[u8],
         access: Access,
-        from: usize,
-        to: usize,
+        from: u32,
+        to: u32,
     ) -> Option<Step>
         requires fits { IsReadable s.now }
         requires read { IsArrayRead (symbol_by G.IS_WIDE s.now) self.old access from to }
@@ -91,7 +91,7 @@ impl Direct {
     {
         let _open = self.waiting.pop();
         self.push(array_opening(access))?;
-        self.push(normal(&s[from..to]))?;
+        self.push(normal(&s[from as usize..to as usize]))?;
         self.push_byte(b']')?;
         self.add_hidden(is_marked(access))?;
         self.pass_element::<G>(s)

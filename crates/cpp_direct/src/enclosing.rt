@@ -9,7 +9,8 @@ ghost use Rattle.cpp_direct.specs.Holes.{StandsAt};
 ghost use Rattle.cpp_direct.specs.HolesOfLocals.{IsLambdaDigit, IsPieceAt, lambda_digits, lambda_number};
 ghost use Rattle.cpp_direct.specs.Prints.{PrintsPiece};
 ghost use Rattle.cpp_direct.specs.Stands.{IsWriting};
-ghost use Rattle.cpp_direct.specs.Ways.{AwaitsEnclosingParameters, AwaitsNamedType, AwaitsTypeName, IsEnclosingInstance, IsEnclosingNamed, IsEnclosingParameterRead, IsEnclosingRead, IsLambdaParameterRead};
+ghost use Rattle.cpp_direct.specs.Ways.{AwaitsNamedType};
+ghost use Rattle.cpp_direct.specs.WaysOfLocals.{AwaitsEnclosingParameters, AwaitsTypeName, IsEnclosingInstance, IsEnclosingNamed, IsEnclosingParameterRead, IsEnclosingRead, IsLambdaParameterRead};
 ghost use Rattle.cpp_direct.specs.Written.{Reads};
 ghost use Rattle.cpp_direct.specs.Symbol.{symbol_by};
 
@@ -35,7 +36,7 @@ impl Direct {
     {
         self.at = self.at.checked_add(1)?;
         if byte_at(s, self.at) != b'N' {
-            let from = self.text.len();
+            let from = self.text.end();
             self.name(s)?;
             return self.enclosing_named::<G>(s, Mark::Plain, from);
         }
@@ -51,7 +52,7 @@ impl Direct {
         &mut self,
         s: &[u8],
         mark: Mark,
-        from: usize,
+        from: u32,
     ) -> Option<Step>
         requires fits { IsReadable s.now }
         requires named { IsEnclosingNamed (symbol_by G.IS_WIDE s.now) self.old mark from }
@@ -70,7 +71,7 @@ impl Direct {
         &mut self,
         s: &[u8],
         mark: Mark,
-        from: usize,
+        from: u32,
     ) -> Option<Step>
         requires fits { IsReadable s.now }
         requires named { IsEnclosingInstance (symbol_by G.IS_WIDE s.now) self.old mark from }
@@ -93,7 +94,7 @@ impl Direct {
         &mut self,
         s: &[u8],
         mark: Mark,
-        from: usize,
+        from: u32,
         argument: Arguments,
     ) -> Option<Step>
         requires fits { IsReadable s.now }
@@ -121,7 +122,7 @@ impl Direct {
         &mut self,
         s: &[u8],
         mark: Mark,
-        from: usize,
+        from: u32,
         _argument: Arguments,
     ) -> Option<Step>
         requires fits { IsReadable s.now }
@@ -142,7 +143,7 @@ impl Direct {
     }
 
     /// Writes the qualifiers of a function in which a type stands.
-    fn enclosing_ended<G: Grammar>(&mut self, s: &[u8], mark: Mark, from: usize) -> Option<Step>
+    fn enclosing_ended<G: Grammar>(&mut self, s: &[u8], mark: Mark, from: u32) -> Option<Step>
         requires fits { IsReadable s.now }
         requires read { IsEnclosingRead (symbol_by G.IS_WIDE s.now) self.old mark from }
         ensures { IfSome result (IsWriting (symbol_by G.IS_WIDE s.now) self.new) }
@@ -153,7 +154,7 @@ impl Direct {
 
     /// Reads the E behind the function that a type stands in.
     // <local-name> ::= Z <function encoding> E <entity name> [<discriminator>]
-    fn enclosed<G: Grammar>(&mut self, s: &[u8], from: usize) -> Option<Step>
+    fn enclosed<G: Grammar>(&mut self, s: &[u8], from: u32) -> Option<Step>
         requires fits { IsReadable s.now }
         requires read { IsEnclosingRead (symbol_by G.IS_WIDE s.now) self.old marks.Plain from }
         ensures { IfSome result (IsWriting (symbol_by G.IS_WIDE s.now) self.new) }
@@ -174,7 +175,7 @@ impl Direct {
 
     /// Reads the name of a type that stands in a function.
     // <local-name> ::= Z <function encoding> E <entity name> [<discriminator>]
-    fn enclosed_named<G: Grammar>(&mut self, s: &[u8], from: usize) -> Option<Step>
+    fn enclosed_named<G: Grammar>(&mut self, s: &[u8], from: u32) -> Option<Step>
         requires fits { IsReadable s.now }
         requires awaits { AwaitsTypeName (symbol_by G.IS_WIDE s.now) self.old from }
         ensures { IfSome result (IsWriting (symbol_by G.IS_WIDE s.now) self.new) }
@@ -241,7 +242,7 @@ impl Direct {
 
     /// Begins a lambda that has parameters, in a symbol that isn't a long one: each lambda goes over it once more.
     // <closure-type-name> ::= Ul <lambda-sig> E [<nonnegative number>] _
-    fn begin_lambda<G: Grammar>(&mut self, s: &[u8], from: usize) -> Option<Step>
+    fn begin_lambda<G: Grammar>(&mut self, s: &[u8], from: u32) -> Option<Step>
         requires awaits { AwaitsTypeName (symbol_by G.IS_WIDE s.now) self.old from }
         requires letter { StandsAt s.now self.old.at (85 ∷ []) }
         ensures { IfSome result (IsWriting (symbol_by G.IS_WIDE s.now) self.new) }
@@ -262,7 +263,7 @@ impl Direct {
 
     /// A parameter of a lambda is read: another one follows, or the lambda's end.
     // <lambda-sig> ::= <parameter type>+
-    pub(crate) fn lambda_parameter<G: Grammar>(&mut self, s: &[u8], from: usize) -> Option<Step>
+    pub(crate) fn lambda_parameter<G: Grammar>(&mut self, s: &[u8], from: u32) -> Option<Step>
         requires fits { IsReadable s.now }
         requires read { IsLambdaParameterRead (symbol_by G.IS_WIDE s.now) self.old from }
         ensures { IfSome result (IsWriting (symbol_by G.IS_WIDE s.now) self.new) }

@@ -110,7 +110,7 @@ impl Direct {
         requires { AwaitsParameter (symbol_by G.IS_WIDE s.now) self.old _is_pointer }
         ensures { IfSome result (IsWriting (symbol_by G.IS_WIDE s.now) self.new) }
     {
-        let from = self.text.len();
+        let from = self.text.end();
         let byte = byte_at(s, self.at);
         if byte == b'R' {
             return self.open_type(Open::Lvalue { from }, Step::Type);

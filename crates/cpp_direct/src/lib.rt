@@ -8,7 +8,7 @@
 //! template, or its first four arguments, by themselves or behind pointers, references and const, or expand a pack of
 //! at most four types; and by the wide grammar the constructors and destructors, the types `N S .. I .. E` and the ABI
 //! tags of that. A symbol with anything else in it is given up, and is to be read by its grammar: no answer depends on
-//! this crate, which one call in `sym_filter` (`languages`) makes and may leave out.
+//! this crate, which one call in `itanium` (`mangling`, `wide`) makes and may leave out.
 #![tactic(auto)]
 
 mod arrays;

@@ -17,7 +17,7 @@ use crate::tokens::byte_at;
 
 /// A first piece that is a candidate already, and names no class.
 #[inline(always)]
-fn listed_nest(from: usize, purpose: Purpose) -> Nest
+fn listed_nest(from: u32, purpose: Purpose) -> Nest
     ensures { result ≡ record { from = from; class_from = from; class_to = from; purpose = purpose; is_listed = true; has_class = false; is_instance = false } }
 {
     Nest {
@@ -72,12 +72,12 @@ impl Direct {
         if byte_at(s, self.at) == b'S' {
             return self.nest_with_s::<G>(s, purpose);
         }
-        let from = self.text.len();
+        let from = self.text.end();
         self.name(s)?;
         self.nest = Nest {
             from,
             class_from: from,
-            class_to: self.text.len(),
+            class_to: self.text.end(),
             purpose,
             is_listed: false,
             has_class: true,
@@ -93,7 +93,7 @@ impl Direct {
         requires awaits { AwaitsNest (symbol_by G.IS_WIDE s.now) self.old purpose }
         ensures { IfSome result (IsWriting (symbol_by G.IS_WIDE s.now) self.new) }
     {
-        let from = self.text.len();
+        let from = self.text.end();
         self.at = self.at.checked_add(1)?;
         let letter = byte_at(s, self.at);
         if letter == b't' {
@@ -139,15 +139,15 @@ impl Direct {
             × AwaitsNest (symbol_by G.IS_WIDE s.now) (record self.old { at = before }) purpose }
         ensures { IfSome result (IsWriting (symbol_by G.IS_WIDE s.now) self.new) }
     {
-        let from = self.text.len();
+        let from = self.text.end();
         self.at = self.at.checked_add(1)?;
         self.push(b"std::")?;
-        let class_from = self.text.len();
+        let class_from = self.text.end();
         self.name(s)?;
         self.nest = Nest {
             from,
             class_from,
-            class_to: self.text.len(),
+            class_to: self.text.end(),
             purpose,
             is_listed: false,
             has_class: true,
@@ -286,11 +286,11 @@ impl Direct {
             self.at = self.at.checked_add(1)?;
         }
         self.push_pair(b':', b':')?;
-        let class_from = self.text.len();
+        let class_from = self.text.end();
         self.name(s)?;
         self.nest = Nest {
             class_from,
-            class_to: self.text.len(),
+            class_to: self.text.end(),
             is_listed: false,
             has_class: true,
             is_instance: false,
@@ -307,13 +307,13 @@ impl Direct {
         ensures { IfSome result (IsWriting (symbol_by G.IS_WIDE s.now) self.new) }
     {
         self.push_pair(b':', b':')?;
-        let class_from = self.text.len();
+        let class_from = self.text.end();
         if !self.operator_name(s)? {
             return self.operator_ended::<G>(s);
         }
         self.nest = Nest {
             class_from,
-            class_to: self.text.len(),
+            class_to: self.text.end(),
             is_listed: false,
             has_class: true,
             is_instance: false,

@@ -3,8 +3,8 @@
 /// What a substitution may name: its text, by its place in the text so far. One that ends before it begins has none.
 #[derive(Clone, Copy)]
 pub struct Candidate {
-    pub from: usize,
-    pub to: usize,
+    pub from: u32,
+    pub to: u32,
     pub is_reference: bool,
     /// It names an argument of the function's template, and its text is only what stands behind the argument's.
     pub is_dependent: bool,
@@ -62,9 +62,9 @@ pub enum Purpose {
 /// A nested name so far: where its text begins, and where that of the class is that a constructor would be named after.
 #[derive(Clone, Copy)]
 pub struct Nest {
-    pub from: usize,
-    pub class_from: usize,
-    pub class_to: usize,
+    pub from: u32,
+    pub class_from: u32,
+    pub class_to: u32,
     pub purpose: Purpose,
     /// It is a candidate already.
     pub is_listed: bool,
@@ -86,20 +86,20 @@ pub enum Access {
 #[derive(Clone, Copy)]
 pub enum Open {
     Pointer {
-        from: usize,
+        from: u32,
     },
     Lvalue {
-        from: usize,
+        from: u32,
     },
     Rvalue {
-        from: usize,
+        from: u32,
     },
     Const {
-        from: usize,
+        from: u32,
     },
     /// the arguments of a type
     TypeArguments {
-        from: usize,
+        from: u32,
     },
     /// the arguments of a component, or of a name in std, in a nested name
     NestArguments {
@@ -111,29 +111,29 @@ pub enum Open {
     },
     /// the arguments of a name of an encoding
     NameArguments {
-        from: usize,
+        from: u32,
     },
     /// the return type of a function, which is written behind its name; what was written up to this place is no part of the text
     Front {
         mark: Mark,
-        start: usize,
+        start: u32,
         argument: Arguments,
     },
     /// the parameters of a function, whose text begins at this place
     Parameters {
         mark: Mark,
-        start: usize,
+        start: u32,
         argument: Arguments,
     },
     /// the parameters of a function in which a type stands; the type's text begins at this place, with the function's
     Enclosing {
         mark: Mark,
-        from: usize,
+        from: u32,
         argument: Arguments,
     },
     /// the parameters of a lambda that stands in a function, whose text begins at this place
     Lambda {
-        from: usize,
+        from: u32,
     },
     /// the name of a special symbol
     Special,
@@ -149,12 +149,12 @@ pub enum Open {
     /// places of the symbol
     Array {
         access: Access,
-        from: usize,
-        to: usize,
+        from: u32,
+        to: u32,
     },
     /// an argument of a name, so many behind the first one, whose text begins at this place: an element of what was opened before
     Argument {
-        from: usize,
+        from: u32,
         number: u16,
         known: Arguments,
     },
@@ -162,7 +162,7 @@ pub enum Open {
     Pack,
     /// an element of a pack that is the first argument of a name, so many behind the first one, whose text begins at this place
     Element {
-        from: usize,
+        from: u32,
         number: u16,
         known: Arguments,
     },
@@ -185,7 +185,7 @@ pub enum Step {
     /// text begins at this place, and the encoding at that one, if it is known
     Dependent {
         is_reference: bool,
-        begins: usize,
+        begins: u32,
         number: u16,
         encoding: u16,
     },

@@ -30,7 +30,7 @@ fn known(place: Argument) -> Option<Argument>
 }
 
 /// An argument with a text that stands from one place to another one.
-fn placed(from: usize, to: usize, is_pack: bool, is_reference: bool) -> Argument
+fn placed(from: u32, to: u32, is_pack: bool, is_reference: bool) -> Argument
     ensures { result.from ≤ result.to
         → result ≡ record { from = from; to = to; is_pack = is_pack; is_reference = is_reference } }
 {
@@ -179,7 +179,7 @@ impl Direct {
         if is_element_at(s, self.at) {
             return Some(Step::Type);
         }
-        let from = self.text.len();
+        let from = self.text.end();
         self.waiting.push(Open::Argument {
             from,
             number: 0,
@@ -205,7 +205,7 @@ impl Direct {
             return self.begin_pack::<G>(s);
         }
         self.at = behind;
-        let from = self.text.len();
+        let from = self.text.end();
         self.waiting.push(Open::Pack)?;
         self.waiting.push(Open::Element {
             from,
@@ -221,7 +221,7 @@ impl Direct {
     pub(crate) fn element_ended<G: Grammar>(
         &mut self,
         s: &[u8],
-        from: usize,
+        from: u32,
         number: u16,
         known: Arguments,
         is_reference: bool,
@@ -236,7 +236,7 @@ impl Direct {
         if byte == b'L' || is_element_at(s, self.at) {
             return Some(Step::List { is_first: false });
         }
-        let to = self.text.len();
+        let to = self.text.end();
         let more = known.with(number, placed(from, to, true, is_reference));
         if byte != b'E' {
             return self.next_element::<G>(s, number, more);
@@ -259,7 +259,7 @@ impl Direct {
         ensures { IfSome result (IsWriting (symbol_by G.IS_WIDE s.now) self.new) }
     {
         self.push_pair(b',', b' ')?;
-        let from = self.text.len();
+        let from = self.text.end();
         let number = before.checked_add(1)?;
         self.waiting.push(Open::Element {
             from,
@@ -275,7 +275,7 @@ impl Direct {
         &mut self,
         s: &[u8],
         mark: Mark,
-        start: usize,
+        start: u32,
         argument: Arguments,
     ) -> Option<Step>
         requires fits { IsReadable s.now }
@@ -295,7 +295,7 @@ impl Direct {
         &mut self,
         s: &[u8],
         mark: Mark,
-        start: usize,
+        start: u32,
         argument: Arguments,
     ) -> Option<Step>
         requires fits { IsReadable s.now }
@@ -348,7 +348,7 @@ impl Direct {
             return None;
         }
         self.comma(number)?;
-        self.repeat(place.from as usize, place.to as usize)?;
+        self.repeat(place.from as u32, place.to as u32)?;
         self.push(if place.is_reference { b"" } else { b"&&" })
     }
 
@@ -357,7 +357,7 @@ impl Direct {
     pub(crate) fn argument_ended<G: Grammar>(
         &mut self,
         s: &[u8],
-        from: usize,
+        from: u32,
         number: u16,
         known: Arguments,
         is_reference: bool,
@@ -372,7 +372,7 @@ impl Direct {
         if byte == b'L' || byte == b'J' || is_element_at(s, self.at) {
             return Some(Step::List { is_first: false });
         }
-        let to = self.text.len();
+        let to = self.text.end();
         let more = known.with(number, placed(from, to, false, is_reference));
         if byte != b'E' {
             return self.next_argument::<G>(s, number, more);
@@ -389,7 +389,7 @@ impl Direct {
         ensures { IfSome result (IsWriting (symbol_by G.IS_WIDE s.now) self.new) }
     {
         self.push_pair(b',', b' ')?;
-        let from = self.text.len();
+        let from = self.text.end();
         let number = before.checked_add(1)?;
         self.waiting.push(Open::Argument {
             from,
@@ -435,8 +435,8 @@ impl Direct {
             return None;
         }
         self.at = read.end;
-        self.repeat(argument.from as usize, argument.to as usize)?;
-        let begins = self.text.len();
+        self.repeat(argument.from as u32, argument.to as u32)?;
+        let begins = self.text.end();
         self.add_dependent(begins, false, read.number, named.encoding)?;
         Some(Step::Dependent {
             is_reference: false,
@@ -467,8 +467,8 @@ impl Direct {
         if argument.is_pack || argument.is_reference {
             return None;
         }
-        self.repeat(argument.from as usize, argument.to as usize)?;
-        let begins = self.text.len();
+        self.repeat(argument.from as u32, argument.to as u32)?;
+        let begins = self.text.end();
         self.repeat(candidate.from, candidate.to)?;
         Some(Step::Dependent {
             is_reference: candidate.is_reference,
@@ -485,7 +485,7 @@ impl Direct {
         &mut self,
         s: &[u8],
         is_reference: bool,
-        begins: usize,
+        begins: u32,
         number: u16,
         encoding: u16,
     ) -> Option<Step>
@@ -527,7 +527,7 @@ impl Direct {
     fn mark_plain<G: Grammar>(
         &mut self,
         s: &[u8],
-        begins: usize,
+        begins: u32,
         number: u16,
         encoding: u16,
     ) -> Option<Step>
@@ -554,7 +554,7 @@ impl Direct {
         _s: &[u8],
         mark: &[u8],
         is_reference: bool,
-        begins: usize,
+        begins: u32,
         number: u16,
         encoding: u16,
     ) -> Option<Step>

@@ -63,7 +63,7 @@ pub const NOWHERE: Arguments = Arguments {
 };
 
 /// Whether a function whose name is written from a place on may have a return type. Behind a thunk's text it would have to be moved.
-fn has_front(s: &[u8], from: usize) -> bool
+fn has_front(s: &[u8], from: u32) -> bool
     ensures { result ≡ true → is_local s.now ≡ false → from ≡ 0 }
 {
     if is_local(s) {
@@ -73,7 +73,7 @@ fn has_front(s: &[u8], from: usize) -> bool
 }
 
 /// The place where the encoding begins whose name is written from a place on, 0 if a text stands in front of it.
-fn encoding_place(s: &[u8], from: usize) -> u16
+fn encoding_place(s: &[u8], from: u32) -> u16
     ensures first { result ≢ 0 → from ≡ 0 }
     ensures is { result ≢ 0 → result ≡ encoding_place s.now }
 {
@@ -125,7 +125,8 @@ impl Direct {
     {
         let size = s.len();
         let bytes = BYTES_A_BYTE * size + BYTES_ANYWAY;
-        self.begin_lists(bytes.min(limit as usize / 4), size);
+        let shown = bytes.min(limit as usize / 4);
+        self.begin_lists(shown as u32, size as u32);
         let mut rounds = 0;
         let is_written = self.run_by(s, limit, is_wide, &mut rounds);
         self.rounds = rounds;
@@ -153,7 +154,7 @@ impl Direct {
     }
 
     /// Empties the lists, and gives them room for so many bytes and entries.
-    fn begin_lists(&mut self, bytes: usize, entries: usize)
+    fn begin_lists(&mut self, bytes: u32, entries: u32)
         ensures text { self.new.text.list.items ≡ [] }
         ensures candidates { self.new.candidates.list.items ≡ [] }
         ensures open { self.new.waiting.list.items ≡ [] }
@@ -198,7 +199,7 @@ impl Direct {
         'steps: while *rounds < most {
             *rounds += 1;
             if let Step::Ended = step {
-                return self.text.len() <= limit as usize / 4;
+                return self.text.end() <= limit / 4;
             }
             match self.take::<G>(s, step) {
                 Some(next) => step = next,
@@ -316,7 +317,7 @@ impl Direct {
         mark: Mark,
         is_instance: bool,
         argument: Arguments,
-        from: usize,
+        from: u32,
     ) -> Option<Step>
         requires fits { IsReadable s.now }
         requires ended { IsNameEnded (symbol_by G.IS_WIDE s.now) self.old mark is_instance argument from }
@@ -343,7 +344,7 @@ impl Direct {
         s: &[u8],
         mark: Mark,
         argument: Arguments,
-        from: usize,
+        from: u32,
     ) -> Option<Step>
         requires fits { IsReadable s.now }
         requires ended { IsNameEnded (symbol_by G.IS_WIDE s.now) self.old mark true argument from }
@@ -352,7 +353,7 @@ impl Direct {
         if !has_front(s, from) {
             return None;
         }
-        let start = self.text.len();
+        let start = self.text.end();
         let argument = Arguments {
             encoding: encoding_place(s, from),
             ..argument
@@ -372,7 +373,7 @@ impl Direct {
         &mut self,
         s: &[u8],
         mark: Mark,
-        start: usize,
+        start: u32,
         argument: Arguments,
     ) -> Option<Step>
         requires fits { IsReadable s.now }
@@ -397,7 +398,7 @@ impl Direct {
         &mut self,
         s: &[u8],
         mark: Mark,
-        start: usize,
+        start: u32,
         argument: Arguments,
     ) -> Option<Step>
         requires fits { IsReadable s.now }
@@ -405,7 +406,7 @@ impl Direct {
         requires ended { IsFrontRead (symbol_by G.IS_WIDE s.now) self.old mark start argument }
         ensures { IfSome result (IsWriting (symbol_by G.IS_WIDE s.now) self.new) }
     {
-        let begins = self.text.len();
+        let begins = self.text.end();
         self.repeat(0, start)?;
         self.begin_parameters::<G>(s, mark, begins, argument)
     }
@@ -417,7 +418,7 @@ impl Direct {
         &mut self,
         s: &[u8],
         mark: Mark,
-        start: usize,
+        start: u32,
         argument: Arguments,
     ) -> Option<Step>
         requires fits { IsReadable s.now }
@@ -446,7 +447,7 @@ impl Direct {
         &mut self,
         s: &[u8],
         mark: Mark,
-        start: usize,
+        start: u32,
         argument: Arguments,
     ) -> Option<Step>
         requires fits { IsReadable s.now }
@@ -468,7 +469,7 @@ impl Direct {
         &mut self,
         s: &[u8],
         mark: Mark,
-        start: usize,
+        start: u32,
         _argument: Arguments,
     ) -> Option<Step>
         requires fits { IsReadable s.now }

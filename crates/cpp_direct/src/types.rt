@@ -1,6 +1,6 @@
 // Types.
 
-ghost use Rattle.std.specs.Prelude.{◌≡◌, ◌≢◌, ◌+◌, ◌∷◌, [], true, if◌then◌else◌};
+ghost use Rattle.std.specs.Prelude.{◌≡◌, ◌≢◌, ◌+◌, ◌-◌, ◌∷◌, [], length, slice_get, Some, true, if◌then◌else◌};
 ghost use Rattle.std.specs.Option.{IfSome};
 ghost use Rattle.cpp_direct.specs.Names.{IsReadable};
 ghost use Rattle.cpp_direct.specs.declared.open.Step.TheVariants as steps;
@@ -34,17 +34,9 @@ impl Direct {
         requires writing { IsWriting (symbol_by G.IS_WIDE s.now) self.old (if is_plain then steps.Plain else steps.Type) }
         ensures { IfSome result (IsWriting (symbol_by G.IS_WIDE s.now) self.new) }
     {
-        let from = self.text.len();
+        let from = self.text.end();
         match byte_at(s, self.at) {
-            b'P' => {
-                if !is_plain && byte_at(s, self.at.checked_add(1)?) == b'F' {
-                    return self.begin_function::<G>(s, true);
-                }
-                if !is_plain && is_array_behind(s, self.at) {
-                    return self.begin_array::<G>(s, Access::Pointer);
-                }
-                self.open_type(Open::Pointer { from }, Step::Type)
-            }
+            b'P' => self.pointer_at::<G>(s, is_plain),
             b'F' => {
                 if is_plain {
                     return None;
@@ -77,6 +69,26 @@ impl Direct {
         }
     }
 
+    /// Reads a pointer, up to the first type that stands in it.
+    // <type> ::= P <type>
+    #[inline(always)]
+    fn pointer_at<G: Grammar>(&mut self, s: &[u8], is_plain: bool) -> Option<Step>
+        requires fits { IsReadable s.now }
+        requires letter { StandsAt s.now self.old.at (80 ∷ []) }
+        requires awaits { AwaitsType (symbol_by G.IS_WIDE s.now) self.old }
+        requires writing { IsWriting (symbol_by G.IS_WIDE s.now) self.old (if is_plain then steps.Plain else steps.Type) }
+        ensures { IfSome result (IsWriting (symbol_by G.IS_WIDE s.now) self.new) }
+    {
+        if !is_plain && byte_at(s, self.at.checked_add(1)?) == b'F' {
+            return self.begin_function::<G>(s, true);
+        }
+        if !is_plain && is_array_behind(s, self.at) {
+            return self.begin_array::<G>(s, Access::Pointer);
+        }
+        let from = self.text.end();
+        self.open_type(Open::Pointer { from }, Step::Type)
+    }
+
     /// Reads a type that is a name, up to the first type that stands in it.
     // <class-enum-type> ::= <name>
     pub(crate) fn named_type<G: Grammar>(&mut self, s: &[u8]) -> Option<Step>
@@ -84,7 +96,7 @@ impl Direct {
         requires awaits { AwaitsNamedType (symbol_by G.IS_WIDE s.now) self.old }
         ensures { IfSome result (IsWriting (symbol_by G.IS_WIDE s.now) self.new) }
     {
-        let from = self.text.len();
+        let from = self.text.end();
         match byte_at(s, self.at) {
             b'N' => {
                 self.at = self.at.checked_add(1)?;
@@ -143,7 +155,7 @@ impl Direct {
         requires awaits { AwaitsNamedType (symbol_by G.IS_WIDE s.now) self.old }
         ensures { IfSome result (IsWriting (symbol_by G.IS_WIDE s.now) self.new) }
     {
-        let from = self.text.len();
+        let from = self.text.end();
         self.at = self.at.checked_add(1)?;
         let letter = byte_at(s, self.at);
         if letter == b't' {
@@ -172,7 +184,7 @@ impl Direct {
     fn type_named<G: Grammar>(
         &mut self,
         s: &[u8],
-        from: usize,
+        from: u32,
         is_listed: bool,
         is_reference: bool,
     ) -> Option<Step>
@@ -195,26 +207,10 @@ impl Direct {
         requires writing { IsWriting (symbol_by G.IS_WIDE s.now) self.old (steps.Value is_reference) }
         ensures { IfSome result (IsWriting (symbol_by G.IS_WIDE s.now) self.new) }
     {
-        match *self.waiting.as_slice().last()? {
-            Open::Pointer { from } => self.mark::<G>(s, b"*", from, false),
-            Open::Lvalue { from } => {
-                if is_reference {
-                    return None;
-                }
-                self.mark::<G>(s, b"&", from, true)
-            }
-            Open::Rvalue { from } => {
-                if is_reference {
-                    return None;
-                }
-                self.mark::<G>(s, b"&&", from, true)
-            }
-            Open::Const { from } => {
-                if is_reference {
-                    return None;
-                }
-                self.mark::<G>(s, b" const", from, false)
-            }
+        let entry = *self.waiting.as_slice().last()?;
+        match entry {
+            Open::Pointer { .. } | Open::Lvalue { .. } | Open::Rvalue { .. } | Open::Const { .. } =>
+                self.pass_to_mark::<G>(s, entry, is_reference),
             Open::Parameters {
                 mark,
                 start,
@@ -250,13 +246,50 @@ impl Direct {
         }
     }
 
+    /// Hands a type on to the mark that waits for it.
+    #[inline(always)]
+    fn pass_to_mark<G: Grammar>(
+        &mut self,
+        s: &[u8],
+        entry: Open,
+        is_reference: bool,
+    ) -> Option<Step>
+        requires fits { IsReadable s.now }
+        requires writing { IsWriting (symbol_by G.IS_WIDE s.now) self.old (steps.Value is_reference) }
+        requires waits { slice_get self.old.waiting.list.items (length self.old.waiting.list.items - 1) ≡ Some entry }
+        ensures { IfSome result (IsWriting (symbol_by G.IS_WIDE s.now) self.new) }
+    {
+        match entry {
+            Open::Pointer { from } => self.mark::<G>(s, b"*", from, false),
+            Open::Lvalue { from } => {
+                if is_reference {
+                    return None;
+                }
+                self.mark::<G>(s, b"&", from, true)
+            }
+            Open::Rvalue { from } => {
+                if is_reference {
+                    return None;
+                }
+                self.mark::<G>(s, b"&&", from, true)
+            }
+            Open::Const { from } => {
+                if is_reference {
+                    return None;
+                }
+                self.mark::<G>(s, b" const", from, false)
+            }
+            _ => None,
+        }
+    }
+
     /// Ends a type with a mark.
     #[inline(always)]
     fn mark<G: Grammar>(
         &mut self,
         _s: &[u8],
         mark: &[u8],
-        from: usize,
+        from: u32,
         is_reference: bool,
     ) -> Option<Step>
         requires { AwaitsMark (symbol_by G.IS_WIDE _s.now) self.old mark.now from is_reference }

@@ -23,7 +23,7 @@ impl Direct {
         requires awaits { AwaitsSource (symbol_by G.IS_WIDE s.now) self.old is_internal }
         ensures { IfSome result (IsWriting (symbol_by G.IS_WIDE s.now) self.new) }
     {
-        let from = self.text.len();
+        let from = self.text.end();
         self.name(s)?;
         self.unscoped_named::<G>(s, from, true)
     }
@@ -36,7 +36,7 @@ impl Direct {
         requires awaits { AwaitsEncoding (symbol_by G.IS_WIDE s.now) self.old }
         ensures { IfSome result (IsWriting (symbol_by G.IS_WIDE s.now) self.new) }
     {
-        let from = self.text.len();
+        let from = self.text.end();
         let takes = self.operator_name(s)?;
         self.unscoped_named::<G>(s, from, takes)
     }
@@ -50,7 +50,7 @@ impl Direct {
         requires letter { StandsAt s.now self.old.at (83 ∷ []) }
         ensures { IfSome result (IsWriting (symbol_by G.IS_WIDE s.now) self.new) }
     {
-        let from = self.text.len();
+        let from = self.text.end();
         self.at = self.at.checked_add(1)?;
         if byte_at(s, self.at) != b't' {
             return None;
@@ -68,7 +68,7 @@ impl Direct {
     /// The name of an encoding is read, which was written from a place on. Arguments may stand behind it, if it is one that takes them,
     /// and by the wide grammar a tag before them.
     // <unqualified-name> ::= <unqualified-name> <abi-tags>
-    fn unscoped_named<G: Grammar>(&mut self, s: &[u8], from: usize, takes: bool) -> Option<Step>
+    fn unscoped_named<G: Grammar>(&mut self, s: &[u8], from: u32, takes: bool) -> Option<Step>
         requires fits { IsReadable s.now }
         requires named { IsUnscoped (symbol_by G.IS_WIDE s.now) self.old from takes }
         ensures { IfSome result (IsWriting (symbol_by G.IS_WIDE s.now) self.new) }
@@ -83,7 +83,7 @@ impl Direct {
     /// The name of an encoding is read, with its tag.
     // <encoding> ::= <unscoped-template-name> <template-args> <bare-function-type>
     #[inline(always)]
-    fn unscoped_tagged<G: Grammar>(&mut self, s: &[u8], from: usize, takes: bool) -> Option<Step>
+    fn unscoped_tagged<G: Grammar>(&mut self, s: &[u8], from: u32, takes: bool) -> Option<Step>
         requires fits { IsReadable s.now }
         requires named { IsUnscoped (symbol_by G.IS_WIDE s.now) self.old from takes }
         ensures { IfSome result (IsWriting (symbol_by G.IS_WIDE s.now) self.new) }

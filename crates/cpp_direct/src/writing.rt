@@ -45,7 +45,7 @@ impl Direct {
 
     /// What is written from a place on becomes a candidate.
     #[inline(always)]
-    pub(crate) fn add_candidate(&mut self, from: usize, is_reference: bool) -> Option<()>
+    pub(crate) fn add_candidate(&mut self, from: u32, is_reference: bool) -> Option<()>
         ensures candidates { OnSome result (self.new.candidates.list.items ≡ added self.old from is_reference) }
         ensures text { self.new.text ≡ self.old.text }
         ensures open { self.new.waiting ≡ self.old.waiting }
@@ -53,7 +53,7 @@ impl Direct {
         ensures at { self.new.at ≡ self.old.at }
         ensures rounds { self.new.rounds ≡ self.old.rounds }
     {
-        let to = self.text.len();
+        let to = self.text.end();
         self.candidates.push(Candidate {
             from,
             to,
@@ -67,7 +67,7 @@ impl Direct {
     /// A type that names an argument becomes a candidate: what is written from a place on stands behind the argument's text.
     pub(crate) fn add_dependent(
         &mut self,
-        from: usize,
+        from: u32,
         is_reference: bool,
         number: u16,
         encoding: u16,
@@ -79,7 +79,7 @@ impl Direct {
         ensures at { self.new.at ≡ self.old.at }
         ensures rounds { self.new.rounds ≡ self.old.rounds }
     {
-        let to = self.text.len();
+        let to = self.text.end();
         self.candidates.push(Candidate {
             from,
             to,
@@ -107,7 +107,7 @@ impl Direct {
 
     /// The same unless it is one already.
     #[inline(always)]
-    pub(crate) fn add_unless(&mut self, is_listed: bool, from: usize) -> Option<()>
+    pub(crate) fn add_unless(&mut self, is_listed: bool, from: u32) -> Option<()>
         ensures candidates { OnSome result (self.new.candidates.list.items ≡ added_unless self.old is_listed from) }
         ensures text { self.new.text ≡ self.old.text }
         ensures open { self.new.waiting ≡ self.old.waiting }
@@ -122,26 +122,26 @@ impl Direct {
     }
 
     /// Writes what stands in the text once more.
-    pub(crate) fn repeat(&mut self, from: usize, to: usize) -> Option<()>
+    pub(crate) fn repeat(&mut self, from: u32, to: u32) -> Option<()>
         requires from { from ≤ to }
         requires to { to ≤ length self.old.text.list.items }
         ensures { OnSome result (Writes self.old self.new (take (to - from) (drop from self.old.text.list.items))) }
     {
-        self.text.repeat(from, to)
+        self.text.repeat(from as usize, to as usize)
     }
 
     /// Takes away what was written up to a place, and if there was any of it all candidates.
     #[inline(always)]
-    pub(crate) fn cut(&mut self, start: usize) -> Option<()>
+    pub(crate) fn cut(&mut self, start: u32) -> Option<()>
         ensures { OnSome result (Cuts self.old self.new start) }
     {
         if start == 0 {
             return Some(());
         }
-        if start > self.text.len() {
+        if start > self.text.end() {
             return None;
         }
-        self.text.drop_first(start);
+        self.text.drop_first(start as usize);
         self.candidates.begin(0);
         Some(())
     }

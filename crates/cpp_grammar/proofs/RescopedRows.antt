@@ -29,21 +29,21 @@ are_right_wide (row ∷ rows) = same_seen (see_wide row.detail row.symbol) row.w
 
 abbrev rows_0 : List Row
 rows_0 =
-    prints "_ZNUlT_E_clIiEEDaS_" "auto {lambda(auto)#1}::operator()<int>(int)" 62 ∷
-    prints "_ZZ1fvENKUlT_E_clIiEEDaS_" "auto f()::{lambda(auto)#1}::operator()<int>(int) const" 77 ∷
-    prints "_Z1gIZ1fvEUlT_E_EvS0_" "void g<f()::{lambda(auto)#1}>(f()::{lambda(auto)#1})" 80 ∷
+    prints "_ZNUlT_E_clIiEEDaS_" "auto {lambda(auto)#1}::operator()<int>(int)" 64 ∷
+    prints "_ZZ1fvENKUlT_E_clIiEEDaS_" "auto f()::{lambda(auto)#1}::operator()<int>(int) const" 79 ∷
+    prints "_Z1gIZ1fvEUlT_E_EvS0_" "void g<f()::{lambda(auto)#1}>(f()::{lambda(auto)#1})" 84 ∷
     prints "_Z1gIZ1fIcEvPT_EUliE_EvOS2_" "void g<f<char>(char*)::{lambda(int)#1}>(f<char>(char*)::{lambda(int)#1}*&&)" 129 ∷
     prints "_Z1gIZ1fIJicEEvDpT_EUlvE_EvDpS1_" "void g<f<int, char>(int, char)::{lambda()#1}>(f<int, char>(int, char)::{lambda()#1}...)" 157 ∷
     prints "_Z1gIJZ1fIJicEEvDpT_EUlvE_EEvDpS1_" "void g<f<int, char>(int, char)::{lambda()#1}>(f<int, char>(int, char)::{lambda()#1})" 158 ∷
     prints "_Z1gIZ1fIJicEEvDpT_EUlvE_EvS1_" "void g<f<int, char>(int, char)::{lambda()#1}>(f<int, char>(int, char)::{lambda()#1})" 152 ∷
     prints "_Z1gIZ1fIicEv1AIT_T0_EEUliE_cEvS3_" "void g<f<int, char>(A<int, char>)::{lambda(int)#1}, char>(char)" 108 ∷
     prints "_Z1fIiEvT_Z1gIcEvS0_E1x" "void f<int>(int, g<char>(char)::x)" 64 ∷
-    prints "_Z1fIJicEEvDpT_Z1gI1AEvT_EUlDpT_E_" "void f<int, char>(int, char, g<A>(A)::{lambda(auto...)#1})" 107 ∷
-    prints "_Z1fIiEvUlT4294967294_T4294967295_T99999999999999999999_E_" "void f<int>({lambda(auto, auto, auto)#1})" 62 ∷
-    prints "_Z1fIiEvUlOT_RKS_E_" "void f<int>({lambda(auto&&, f const&)#1})" 65 ∷
-    prints "_Z1fIiEvZ1gIcEvPT_EUlS1_E_S1_" "void f<int>(g<char>(char*)::{lambda(auto)#1}, int)" 85 ∷
+    prints "_Z1fIJicEEvDpT_Z1gI1AEvT_EUlDpT_E_" "void f<int, char>(int, char, g<A>(A)::{lambda(auto...)#1})" 109 ∷
+    prints "_Z1fIiEvUlT4294967294_T4294967295_T99999999999999999999_E_" "void f<int>({lambda(auto, auto, auto)#1})" 68 ∷
+    prints "_Z1fIiEvUlOT_RKS_E_" "void f<int>({lambda(auto&&, f const&)#1})" 67 ∷
+    prints "_Z1fIiEvZ1gIcEvPT_EUlS1_E_S1_" "void f<int>(g<char>(char*)::{lambda(auto)#1}, int)" 87 ∷
     prints "_Z1aIiEvZ1bIcEvZ1cIdEvPT_EUlvE_S2_EUlvE_S2_" "void a<int>(b<char>(c<double>(double*)::{lambda()#1}, char)::{lambda()#1}, int)" 127 ∷
-    prints "_Z1aIiEvUlPT_E_UlPS0_E_S_PS1_" "void a<int>({lambda(auto*)#1}, {lambda(auto*)#1}, a, int**)" 96 ∷
+    prints "_Z1aIiEvUlPT_E_UlPS0_E_S_PS1_" "void a<int>({lambda(auto*)#1}, {lambda(auto*)#1}, a, int**)" 100 ∷
     refers_badly "_Z1gIZ1fIicEvPT_PT0_EUliE_EvS4_" 28 ∷
     refers_badly "_Z1gZ1fIcEvPT_EUliE_S1_" 20 ∷
     prints "_Z1fIiEvT_" "void f<int>(int)" 30 ∷

@@ -101,7 +101,7 @@ list-some form c _ rest other = refl
 
 -- a form below 6 is of the tree itself
 tree-in : (form : ℕ) (t : Term) → form < 6 → tree_in form t ≡ t
-tree-in form t less = rw (ne_eqb form 6 (omega (arith, less))) refl
+tree-in form t less = rw (ne_eqb form 6 (omega (arith, less)), ne_eqb form 10 (omega (arith, less)), ne_eqb form 11 (omega (arith, less))) refl
 
 pub list-here : (ts : List Term) (node form : ℕ) (c : Context) (rest : Others) → form < 6 → (tree_at ts node ≡ term.nil → ⊥)
     → sub (item_in ts node form 0 c) ∷ rest ≡ list_part (form_of form 0) (context_of c) (tree_at ts node) ++ rest
@@ -228,7 +228,7 @@ own-pushed y d old new p b others e is some few shows =
 
 -- ## Forms
 
-pub form-expand : (form at : ℕ) (t : Term) (d : Detail) (c : items.Context) → 10 ≤ form → expand_parts c t at ≡ parts_in d c (form_of form at) (tree_in form t)
+pub form-expand : (form at : ℕ) (t : Term) (d : Detail) (c : items.Context) → 12 ≤ form → expand_parts c t at ≡ parts_in d c (form_of form at) (tree_in form t)
 unfolding parts_in
 form-expand form at t d c more = rw (
   ne_eqb form 0 (omega (arith, more)),
@@ -241,4 +241,6 @@ form-expand form at t d c more = rw (
   ne_eqb form 7 (omega (arith, more)),
   ne_eqb form 8 (omega (arith, more)),
   ne_eqb form 9 (omega (arith, more)),
+  ne_eqb form 10 (omega (arith, more)),
+  ne_eqb form 11 (omega (arith, more)),
 ) refl

@@ -17,7 +17,7 @@ use Rattle.cpp_term.specs.Items as items
 use Rattle.cpp_grammar.specs.Term as plain
 use Rattle.cpp_grammar.specs.Term.{Qualifiers}
 use Rattle.cpp_grammar.specs.Parts.{blank_last, qualifier_text}
-use Rattle.cpp_term.specs.Parts.{not_empty, own_piece, text_part, says, parts}
+use Rattle.cpp_term.specs.Parts.{not_empty, own_piece, placeholder, text_part, says, parts}
 use Rattle.cpp_term.specs.Ranks.{rank}
 use Rattle.cpp_term.specs.Erased.{erase, CarriesArguments}
 use Rattle.cpp_tree.specs.declared.node.Node.{Node}
@@ -57,10 +57,11 @@ abbrev pub form_of : (form at : ℕ) → heads.Form
 form_of form at =
     cond (nat_eq form 0) heads.left (cond (nat_eq form 1) heads.right (cond (nat_eq form 2) heads.first (cond (nat_eq form 3) heads.more
     (cond (nat_eq form 4) heads.low (cond (nat_eq form 5) heads.base (cond (nat_eq form 6) heads.piece (cond (nat_eq form 7) heads.full
-    (cond (nat_eq form 8) heads.bare (cond (nat_eq form 9) heads.root (heads.expand at))))))))))
+    (cond (nat_eq form 8) heads.bare (cond (nat_eq form 9) heads.root (cond (nat_eq form 10) heads.left (cond (nat_eq form 11) heads.right (heads.expand at))))))))))))
 
+-- the tree that a node is in a form: the type auto has no node, and is shown in forms of its own
 abbrev pub tree_in : (form : ℕ) → Term → Term
-tree_in form t = cond (nat_eq form 6) (own_piece t) t
+tree_in form t = cond (nat_eq form 6) (own_piece t) (cond (nat_eq form 10) placeholder (cond (nat_eq form 11) placeholder t))
 
 abbrev pub context_of : Context → items.Context
 context_of c = record { index = c.index }

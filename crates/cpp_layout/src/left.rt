@@ -117,7 +117,7 @@ impl Symbol {
             Node::Vector { digits, element } => self.fill_vector(parts, digits, element, ctx),
             Node::Complex(ty) => self.fill_left_text(parts, ty, texts::COMPLEX, ctx),
             Node::SizedFloat { digits, end } => self.fill_float(parts, digits, end, ctx),
-            Node::GenericParameter(_) => self.push_some(parts, builtin_with_d(b'a')),
+            Node::GenericParameter(_) => self.push_item(parts, number, form::AUTO, 0, ctx),
             _ => self.fill_left_argument(parts, number, node, ctx),
         }
     }

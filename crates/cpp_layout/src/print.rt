@@ -18,6 +18,7 @@ ghost use Rattle.cpp_tree.specs.Nodes.{tree_at, trees, IsTable};
 ghost use Rattle.cpp_layout.specs.Layout.{table_of, context_of, form_of, tree_in, Shows, unshared_of, bytes_of_part, MayBeAsked, shown_symbol};
 
 use crate::context::Context;
+use crate::numbered::builtin_with_d;
 use crate::symbol::Symbol;
 use crate::{form, texts};
 use arrayvec::ArrayVec;
@@ -97,6 +98,8 @@ impl Symbol {
             form::FULL => self.fill_full(parts, node, ctx.detail),
             form::BARE => self.fill_bare_of(parts, node, ctx.detail),
             form::ROOT => self.fill_root(parts, node, ctx.detail),
+            form::AUTO => self.push_some(parts, builtin_with_d(b'a')),
+            form::AUTO_RIGHT => {}
             _ => self.fill_expand(parts, node, at, ctx),
         }
     }

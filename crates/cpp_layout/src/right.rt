@@ -105,6 +105,7 @@ impl Symbol {
                 };
                 self.fill_function_right(parts, none, mark, noexcept, returned, parameters, ctx);
             }
+            Node::GenericParameter(_) => self.push_item(parts, node, form::AUTO_RIGHT, 0, ctx),
             _ => {}
         }
     }

@@ -84,6 +84,11 @@ fn template_standing_of(
     }
 }
 
+/// So many bytes have the spellings of most symbols at most, and so many tasks wait while they are spelled.
+const COMMON_BYTES: usize = 128;
+
+const COMMON_TASKS: usize = 16;
+
 /// The pressed spelling of a C++ symbol, by the numbers of its nodes.
 fn press_tasks(alloc: Global, symbol: &Symbol, numbering: &Numbers) -> Result<Vec<u8>, Refusal>
     requires numbers { AreNumbers symbol.now numbering.now }
@@ -92,8 +97,8 @@ fn press_tasks(alloc: Global, symbol: &Symbol, numbering: &Numbers) -> Result<Ve
     ensures memory { IfErr result (λ e. e ≡ Memory) }
 {
     let mut components = Components::new(alloc);
-    let mut tasks = Vec::new(alloc);
-    let mut out = Vec::new(alloc);
+    let mut tasks = Vec::with_capacity(alloc, COMMON_TASKS)?;
+    let mut out = Vec::with_capacity(alloc, COMMON_BYTES)?;
     then_tree(symbol, symbol.root_node(), Way::Encoding, 0, &mut tasks)?;
     'tasks: while let Some(task) = tasks.pop() {
         match task {

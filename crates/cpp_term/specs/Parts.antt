@@ -145,6 +145,10 @@ unfoldable pub entity_of : Term → Term
 entity_of (of_default digits entity) = entity
 entity_of entity = entity
 
+-- what a lambda's own parameter is shown as: the builtin type auto
+abbrev pub placeholder : Term
+placeholder = builtin (codes "Da")
+
 unfoldable pub left_parts : Detail → Context → Term → List (PartOf Item)
 left_parts d context (alone p) = piece_parts context p
 left_parts d context (in_std p) = says "std::" ∷ as_item piece context p ∷ []
@@ -157,7 +161,7 @@ left_parts d context (abbreviation letter) = text (look_up (letter ∷ []) abbre
 left_parts d context (parameter k a) = as_item left closed (argument context a) ∷ []
 left_parts d context (builtin code) = text (look_up code builtin_texts) ∷ []
 left_parts d context (sized_float digits end) = float_parts digits end
-left_parts d context (generic_parameter number) = text (look_up (codes "Da") builtin_texts) ∷ []
+left_parts d context (generic_parameter number) = as_item left context placeholder ∷ []
 left_parts d context (vendor name) = text (source_text name) ∷ []
 left_parts d context (pointer t) = marked_parts context t "*"
 left_parts d context (lvalue t) = reference_parts context low t "&"
@@ -211,6 +215,7 @@ right_parts context (function_type c_linkage noexcept ref returned parameters) =
 right_parts context (qualified q t) = qualified_right context q t
 right_parts context (vector digits t) = as_item right context t ∷ []
 right_parts context (complex t) = as_item right context t ∷ []
+right_parts context (generic_parameter number) = as_item right context placeholder ∷ []
 right_parts context (parameter k a) = as_item right closed (argument context a) ∷ []
 right_parts context _ = []
 

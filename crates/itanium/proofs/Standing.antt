@@ -2,9 +2,8 @@
 use Rattle.std.proofs.Common.{◌≡◌, refl, sym, ◌∙◌, ap, subst, arith, ℕ, ◌*◌, ◌+◌, ◌<◌, ◌≤◌, List, [], ◌∷◌, length, Bool, true, Result, Ok}
 use Rattle.sym_core.specs.Number.{FitsSymbol}
 use Rattle.sym_shape.specs.declared.rule.Row.{Row}
-use Rattle.sym_shape.specs.declared.rule.Sym.TheVariants.{Kind}
 use Rattle.sym_shape.specs.Table.{Table}
-use Rattle.sym_shape.specs.Tree.{Tree, IsTree, spell}
+use Rattle.sym_shape.specs.Tree.{Tree}
 use Rattle.sym_demangle.specs.Standing.{IsLinked}
 use Rattle.sym_core.specs.declared.refusal.Refusal.{Refusal}
 use Rattle.sym_link.proofs.Tally.{done_nodes, done_untallied}
@@ -12,7 +11,6 @@ use Rattle.sym_link.specs.Reading.{Found}
 use Rattle.sym_link.specs.Tally.{tallied_view}
 use Rattle.sym_link.specs.Unfold.{found}
 use Rattle.sym_link.specs.Following.{IsDone, meaning_of}
-use Rattle.cpp_grammar.specs.Table.{either}
 use Rattle.cpp_grammar.specs.Term as plain_
 use Rattle.cpp_grammar.specs.Unfolding.{unfold_cpp}
 use Rattle.cpp_grammar.specs.Rescoping.{unfold_wide}
@@ -20,7 +18,7 @@ use Rattle.cpp_term.specs.Term.{Term, symbol}
 use Rattle.cpp_term.specs.Values.{Value, State, tree, tree_of}
 use Rattle.cpp_term.specs.Erased.{erase, CarriesArguments}
 use Rattle.cpp_term.specs.ReadAs.{IsReadAs}
-use Rattle.cpp_tree.specs.Nodes.{tree_at, over, IsTable}
+use Rattle.cpp_tree.specs.Nodes.{tree_at}
 use Rattle.cpp_link.specs.declared.part.Part.{Part}
 use Rattle.cpp_link.specs.declared.linked.Linked.{Linked}
 use Rattle.cpp_link.specs.Parts.{trees_in, value_of, IsThere}

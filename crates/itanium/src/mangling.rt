@@ -1,12 +1,14 @@
 // C++'s mangling, as the demangler takes it.
 
-ghost use Rattle.std.specs.Prelude.{◌≡◌, ℕ, ◌*◌, ◌+◌, ◌≤◌, ◌∷◌, [], length, Bool, OnOk, IfErr, Result, Ok};
+ghost use Rattle.std.specs.Prelude.{◌≡◌, ℕ, ◌*◌, ◌+◌, ◌≤◌, ◌∷◌, [], length, Bool, OnOk, IfErr, Result, Ok, true};
 ghost use Rattle.sym_core.specs.Number.{FitsSymbol};
 ghost use Rattle.sym_core.specs.declared.refusal.Refusal.{Refusal};
 ghost use Rattle.sym_core.specs.declared.refusal.Refusal.TheVariants as refusals;
+ghost use Rattle.sym_print.specs.declared.detail.Detail.TheVariants as details;
 ghost use Rattle.sym_print.specs.declared.layout.Part.TheVariants as parts;
 ghost use Rattle.sym_shape.specs.Tree.{Tree};
 ghost use Rattle.sym_demangle.specs.Standing.{Begins, IsLinked};
+ghost use Rattle.cpp_grammar.specs.Mangled.{IsAnswer};
 ghost use Rattle.cpp_grammar.specs.Table.{abi};
 ghost use Rattle.cpp_grammar.specs.Term.{Term};
 ghost use Rattle.cpp_grammar.specs.Answer.{shown, root_item};
@@ -17,6 +19,7 @@ ghost use Rattle.cpp_link.specs.NodeCount.{cpp_counted, nodes_of_shape};
 ghost use Rattle.itanium.specs.Whole.{HasWhole};
 
 use crate::grammar::Abi;
+use cpp_direct::Direct;
 use cpp_layout::{Context, Detail, Symbol};
 use cpp_link::linked::Linked;
 use cpp_link::part::Part;
@@ -78,6 +81,8 @@ impl Mangling for Abi {
 
     type Symbol = Symbol;
 
+    type Direct = Direct;
+
     ghost Whole = { Term };
 
     ghost mangled = { cpp_mangled };
@@ -93,6 +98,8 @@ impl Mangling for Abi {
     ghost nodes_of = { λ y. length y.table.nodes };
 
     ghost are_nodes = { are_nodes };
+
+    ghost written = { λ direct. direct.text.list.items };
 
     ghost count_of = { node_count };
 
@@ -137,6 +144,25 @@ impl Mangling for Abi {
         let (bytes, nodes) = symbol.into_lists();
         linked.nodes = nodes;
         bytes
+    }
+
+    fn direct(alloc: Global) -> Direct {
+        Direct::new(alloc)
+    }
+
+    #[inline(always)]
+    fn write(direct: &mut Direct, symbol: &[u8], limit: u32) -> bool
+        requires { FitsSymbol symbol.now }
+        ensures { result ≡ true → IsAnswer details.Full symbol.now limit (Ok direct.new.text.list.items) }
+    {
+        direct.write(symbol, limit, false)
+    }
+
+    #[inline(always)]
+    fn text(direct: &Direct) -> &[u8]
+        ensures { result.now ≡ direct.now.text.list.items }
+    {
+        direct.text()
     }
 
     fn refuses_bad_tokens() {

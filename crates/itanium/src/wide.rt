@@ -1,11 +1,14 @@
 // C++'s mangling over the wide grammar, as the demangler takes it.
 
-ghost use Rattle.std.specs.Prelude.{◌≡◌, length, OnOk, IfErr, Ok};
+ghost use Rattle.std.specs.Prelude.{◌≡◌, length, OnOk, IfErr, Ok, true};
 ghost use Rattle.sym_core.specs.Number.{FitsSymbol};
 ghost use Rattle.sym_core.specs.declared.refusal.Refusal.TheVariants as refusals;
+ghost use Rattle.sym_print.specs.declared.detail.Detail.TheVariants as details;
 ghost use Rattle.sym_print.specs.declared.layout.Part.TheVariants as parts;
 ghost use Rattle.sym_shape.specs.Tree.{Tree};
+ghost use Rattle.sym_demangle.specs.Mangled.{IsAnswer};
 ghost use Rattle.sym_demangle.specs.Standing.{Begins, IsLinked};
+ghost use Rattle.cpp_grammar.specs.Mangled.{wide_mangled};
 ghost use Rattle.cpp_grammar.specs.Table.{wide};
 ghost use Rattle.cpp_grammar.specs.Answer.{shown, root_item};
 ghost use Rattle.cpp_grammar.specs.Rescoping.{unfold_wide};
@@ -14,6 +17,7 @@ ghost use Rattle.cpp_link.specs.LinkRescoping.{wide_counted, wide_nodes_of_shape
 
 use crate::grammar::Wide;
 use crate::mangling::finished;
+use cpp_direct::Direct;
 use cpp_layout::{Context, Detail, Symbol};
 use cpp_link::part::Part;
 use cpp_link::rescoping::Rescoping;
@@ -36,6 +40,8 @@ impl Mangling for Wide {
 
     type Symbol = Symbol;
 
+    type Direct = Direct;
+
     ghost Whole = { Term };
 
     ghost mangled = { wide_mangled };
@@ -51,6 +57,8 @@ impl Mangling for Wide {
     ghost nodes_of = { λ y. length y.table.nodes };
 
     ghost are_nodes = { are_wide_nodes };
+
+    ghost written = { λ direct. direct.text.list.items };
 
     ghost count_of = { wide_node_count };
 
@@ -101,6 +109,25 @@ impl Mangling for Wide {
         let (bytes, nodes) = symbol.into_lists();
         linked.linked.nodes = nodes;
         bytes
+    }
+
+    fn direct(alloc: Global) -> Direct {
+        Direct::new(alloc)
+    }
+
+    #[inline(always)]
+    fn write(direct: &mut Direct, symbol: &[u8], limit: u32) -> bool
+        requires { FitsSymbol symbol.now }
+        ensures { result ≡ true → IsAnswer wide_mangled details.Full symbol.now limit (Ok direct.new.text.list.items) }
+    {
+        direct.write(symbol, limit, true)
+    }
+
+    #[inline(always)]
+    fn text(direct: &Direct) -> &[u8]
+        ensures { result.now ≡ direct.now.text.list.items }
+    {
+        direct.text()
     }
 
     fn refuses_bad_tokens() {

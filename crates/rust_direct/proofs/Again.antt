@@ -4,8 +4,8 @@ use Rattle.std.proofs.lemmas.Bool.{false≢true}
 use Rattle.sym_direct.specs.Holes.{StandsAt}
 use Rattle.rust_tree.specs.Symbol as tree
 use Rattle.rust_tree.specs.Need.{need}
-use Rattle.rust_v0.specs.Value.{Value, State, a_path}
-use Rattle.rust_v0.specs.Unfold.{ended_at, as_path}
+use Rattle.rust_grammar.specs.Value.{Value, State, a_path}
+use Rattle.rust_grammar.specs.Unfold.{ended_at, as_path}
 use Rattle.rust_direct.specs.declared.open.Forms.{Forms}
 use Rattle.rust_direct.specs.declared.open.Forms.TheVariants as forms
 use Rattle.rust_direct.specs.declared.open.Note.{Note}

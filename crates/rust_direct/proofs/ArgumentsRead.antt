@@ -6,10 +6,10 @@ use Rattle.sym_direct.specs.Holes.{StandsAt}
 use Rattle.sym_direct.proofs.Moves.{stands-join}
 use Rattle.rust_tree.specs.Symbol as tree
 use Rattle.rust_tree.specs.Shown.{basic_text}
-use Rattle.rust_v0.specs.declared.kind.TheConstants.{PATH}
-use Rattle.rust_v0.specs.declared.production.Production.{Production}
-use Rattle.rust_v0.specs.Value.{Value, State, a_path, a_type}
-use Rattle.rust_v0.specs.Unfold.{as_type}
+use Rattle.rust_grammar.specs.declared.kind.TheConstants.{PATH}
+use Rattle.rust_grammar.specs.declared.production.Production.{Production}
+use Rattle.rust_grammar.specs.Value.{Value, State, a_path, a_type}
+use Rattle.rust_grammar.specs.Unfold.{as_type}
 use Rattle.rust_direct.specs.declared.open.Forms.{Forms}
 use Rattle.rust_direct.specs.declared.open.Forms.TheVariants as forms
 use Rattle.rust_direct.specs.declared.open.Open.{Open}

@@ -3,8 +3,8 @@ use Rattle.std.proofs.Common.{◌≡◌, ℕ, ◌+◌, List, [], ◌∷◌, ◌+
 use Rattle.std.specs.Prelude.{◌&&◌, decimal, nat_lt}
 use Rattle.sym_direct.specs.Holes.{StandsAt}
 use Rattle.rust_tree.specs.Symbol as tree
-use Rattle.rust_v0.specs.declared.kind.TheConstants.{TYPE}
-use Rattle.rust_v0.specs.Value.{a_type, a_constant}
+use Rattle.rust_grammar.specs.declared.kind.TheConstants.{TYPE}
+use Rattle.rust_grammar.specs.Value.{a_type, a_constant}
 use Rattle.rust_direct.specs.declared.open.Forms.{Forms}
 use Rattle.rust_direct.specs.declared.open.Forms.TheVariants as forms
 use Rattle.rust_direct.specs.declared.open.Open.TheVariants as opens

@@ -6,7 +6,7 @@ use Rattle.std.proofs.Math.Nat.{pow-zero, pow-suc, mul_assoc, mul_comm, mul-le-m
 use Rattle.sym_core.specs.declared.NumberKind.TheVariants.{Base62}
 use Rattle.sym_core.specs.Number.{is_digit_of, AreDigits}
 use Rattle.sym_core.specs.Value.{digit_value, value_onto, counted_value}
-use Rattle.rust_v0.specs.Unfold.{greatest_u64}
+use Rattle.rust_grammar.specs.Unfold.{greatest_u64}
 use Rattle.sym_direct.specs.Holes.{StandsAt}
 use Rattle.sym_direct.proofs.Moves.{stands-join}
 use Rattle.rust_direct.specs.Holes.{IsNumberAt, IsSmallNumberAt, HasDisambiguator}

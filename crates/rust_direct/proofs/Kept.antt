@@ -4,8 +4,8 @@ use Rattle.std.specs.Prelude.{slice_set, replicate, if◌then◌else◌}
 use Rattle.std.proofs.lemmas.Bool.{eq-eqb, ne_eqb, cases_eq}
 use Rattle.std.proofs.lemmas.List.{length-append, reverse-append}
 use Rattle.std.proofs.Math.Seq.{drop-append_seam, take-append_seam}
-use Rattle.rust_v0.specs.Value.{Value, Ended, State}
-use Rattle.rust_v0.specs.Unfold.{ended_at}
+use Rattle.rust_grammar.specs.Value.{Value, Ended, State}
+use Rattle.rust_grammar.specs.Unfold.{ended_at}
 use Rattle.rust_direct.specs.declared.open.Note.{Note}
 use Rattle.rust_direct.specs.declared.open.Forms.{Forms}
 use Rattle.rust_direct.specs.declared.direct.Direct.{Direct}

@@ -13,11 +13,11 @@ use Rattle.sym_direct.specs.Holes as direct
 use Rattle.sym_direct.specs.Holes.{opened, StandsAt}
 use Rattle.sym_direct.proofs.Moves as moves
 use Rattle.rust_tree.specs.Symbol as tree
-use Rattle.rust_v0.specs.declared.production.Production.{Production}
-use Rattle.rust_v0.specs.declared.kind.TheConstants.{PATH, NAMESPACE, IDENTIFIER, NAME}
-use Rattle.rust_v0.specs.Rules.{v0_table, taking, chaining}
-use Rattle.rust_v0.specs.Value.{Value, State, number, letter, a_name, an_identifier, a_path}
-use Rattle.rust_v0.specs.Unfold.{token_of, value62, identifier_part, greatest_u64}
+use Rattle.rust_grammar.specs.declared.production.Production.{Production}
+use Rattle.rust_grammar.specs.declared.kind.TheConstants.{PATH, NAMESPACE, IDENTIFIER, NAME}
+use Rattle.rust_grammar.specs.Rules.{v0_table, taking, chaining}
+use Rattle.rust_grammar.specs.Value.{Value, State, number, letter, a_name, an_identifier, a_path}
+use Rattle.rust_grammar.specs.Unfold.{token_of, value62, identifier_part, greatest_u64}
 use Rattle.rust_direct.specs.Holes.{rust_language, Opened, Comes, ComesAll, Expects, within, behind, with_ended, Wanted, path, other_path, type, kind_of, IsNumberAt, IsNameAt, IsDisambiguatorAt, identifier, is_namespace, NameGoesOn}
 
 pub comes-moved : (s : List ℕ) (os : List Opened) (vs : List Value) (at to : ℕ) (st : State) → at ≡ to → ComesAll s os vs at st → ComesAll s os vs to st

@@ -8,11 +8,11 @@ use Rattle.sym_link.specs.Unfold.{standing}
 use Rattle.sym_direct.specs.Holes.{opened, StandsAt}
 use Rattle.sym_direct.proofs.Moves as moves
 use Rattle.rust_tree.specs.Symbol as tree
-use Rattle.rust_v0.specs.declared.production.Production.{Production}
-use Rattle.rust_v0.specs.declared.kind.TheConstants.{PATH, TYPE, TYPES, ARGUMENTS, LIFETIME}
-use Rattle.rust_v0.specs.Rules.{v0_table, taking, chaining}
-use Rattle.rust_v0.specs.Value.{Value, State, number, a_path, a_type, a_lifetime, some_arguments, some_types}
-use Rattle.rust_v0.specs.Unfold.{type_part, is_minus}
+use Rattle.rust_grammar.specs.declared.production.Production.{Production}
+use Rattle.rust_grammar.specs.declared.kind.TheConstants.{PATH, TYPE, TYPES, ARGUMENTS, LIFETIME}
+use Rattle.rust_grammar.specs.Rules.{v0_table, taking, chaining}
+use Rattle.rust_grammar.specs.Value.{Value, State, number, a_path, a_type, a_lifetime, some_arguments, some_types}
+use Rattle.rust_grammar.specs.Unfold.{type_part, is_minus}
 use Rattle.rust_direct.specs.Holes.{rust_language, Opened, Comes, Expects, within, behind, with_ended, Wanted, path, other_path, type, kind_of, IsNumberAt, IsType, Ends, ArgumentsGoOn, TypesGoOn}
 use Rattle.rust_direct.proofs.Moves.{TakesAll, expects-moved, number-comes}
 

@@ -8,10 +8,10 @@ use Rattle.sym_link.specs.Unfold.{standing}
 use Rattle.sym_direct.specs.Holes.{opened, StandsAt}
 use Rattle.sym_direct.proofs.Moves as moves
 use Rattle.rust_tree.specs.Symbol as tree
-use Rattle.rust_v0.specs.declared.production.Production.{Production}
-use Rattle.rust_v0.specs.declared.kind.TheConstants.{PATH, TYPE, BINDER, BOUNDS, BINDINGS, LIFETIME}
-use Rattle.rust_v0.specs.Rules.{v0_table, taking, chaining}
-use Rattle.rust_v0.specs.Value.{State, number, a_path, a_type, a_lifetime, some_bounds}
+use Rattle.rust_grammar.specs.declared.production.Production.{Production}
+use Rattle.rust_grammar.specs.declared.kind.TheConstants.{PATH, TYPE, BINDER, BOUNDS, BINDINGS, LIFETIME}
+use Rattle.rust_grammar.specs.Rules.{v0_table, taking, chaining}
+use Rattle.rust_grammar.specs.Value.{State, number, a_path, a_type, a_lifetime, some_bounds}
 use Rattle.rust_direct.specs.Holes.{rust_language, Opened, Comes, Expects, within, behind, with_ended, Ends}
 use Rattle.rust_direct.specs.Bounds.{BoundsGoOn}
 use Rattle.rust_direct.proofs.Moves.{expects-moved, number-comes}

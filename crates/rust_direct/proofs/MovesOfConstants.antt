@@ -11,12 +11,12 @@ use Rattle.sym_direct.specs.Holes as direct
 use Rattle.sym_direct.specs.Holes.{opened, StandsAt}
 use Rattle.sym_direct.proofs.Moves as moves
 use Rattle.rust_tree.specs.Symbol as tree
-use Rattle.rust_v0.specs.declared.production.Production.{Production}
-use Rattle.rust_v0.specs.declared.kind.TheConstants.{TYPE, ARGUMENTS, CONSTANT, MINUS, TRUTH}
-use Rattle.rust_v0.specs.BasicLetters.{signed_letters, unsigned_letters}
-use Rattle.rust_v0.specs.Rules.{v0_table, taking}
-use Rattle.rust_v0.specs.Value.{Value, State, a_truth, minus_mark, a_type, a_constant, some_arguments}
-use Rattle.rust_v0.specs.Unfold.{token_of, value16, an_integer_of, greatest_u64, greatest_u128}
+use Rattle.rust_grammar.specs.declared.production.Production.{Production}
+use Rattle.rust_grammar.specs.declared.kind.TheConstants.{TYPE, ARGUMENTS, CONSTANT, MINUS, TRUTH}
+use Rattle.rust_grammar.specs.BasicLetters.{signed_letters, unsigned_letters}
+use Rattle.rust_grammar.specs.Rules.{v0_table, taking}
+use Rattle.rust_grammar.specs.Value.{Value, State, a_truth, minus_mark, a_type, a_constant, some_arguments}
+use Rattle.rust_grammar.specs.Unfold.{token_of, value16, an_integer_of, greatest_u64, greatest_u128}
 use Rattle.rust_direct.specs.Holes.{rust_language, Opened, Comes, Expects, within, behind, with_ended, ArgumentsGoOn}
 use Rattle.rust_direct.specs.Constants.{one_of, is_signed, is_unsigned, IsHexAt, IsConstantAt, BeginsInteger, ArrayGoesOn}
 use Rattle.rust_direct.proofs.Moves.{byte-there}

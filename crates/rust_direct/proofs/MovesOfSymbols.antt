@@ -15,12 +15,12 @@ use Rattle.sym_direct.specs.Holes as direct
 use Rattle.sym_direct.specs.Holes.{opened, StandsAt}
 use Rattle.sym_direct.proofs.Moves as moves
 use Rattle.rust_tree.specs.Symbol as tree
-use Rattle.rust_v0.specs.declared.production.Production.{Production}
-use Rattle.rust_v0.specs.declared.kind.TheConstants.{SYMBOL, PATH, OTHER_PATH, SUFFIX, SUFFIX_BYTE, SUFFIX_REST}
-use Rattle.rust_v0.specs.Rules.{v0_table, taking}
-use Rattle.rust_v0.specs.Mangled.{v0_mangled}
-use Rattle.rust_v0.specs.Value.{Value, State, a_path, a_suffix, suffix_rest, a_symbol}
-use Rattle.rust_v0.specs.Unfold.{at_first}
+use Rattle.rust_grammar.specs.declared.production.Production.{Production}
+use Rattle.rust_grammar.specs.declared.kind.TheConstants.{SYMBOL, PATH, OTHER_PATH, SUFFIX, SUFFIX_BYTE, SUFFIX_REST}
+use Rattle.rust_grammar.specs.Rules.{v0_table, taking}
+use Rattle.rust_grammar.specs.Mangled.{v0_mangled}
+use Rattle.rust_grammar.specs.Value.{Value, State, a_path, a_suffix, suffix_rest, a_symbol}
+use Rattle.rust_grammar.specs.Unfold.{at_first}
 use Rattle.rust_direct.specs.Holes.{rust_language, Opened, Comes, ComesAll, Expects, within, behind, is_suffix_byte, IsSuffix, EndsSymbol, OtherGoesOn}
 use Rattle.rust_direct.proofs.Moves.{comes-moved}
 

@@ -15,11 +15,11 @@ use Rattle.rust_tree.specs.Symbol as tree
 use Rattle.rust_tree.specs.BasicTypes.{basic_texts}
 use Rattle.rust_tree.specs.Need.{need, need_of_type}
 use Rattle.rust_tree.specs.Shown.{basic_text, text_at}
-use Rattle.rust_v0.specs.declared.production.Production.{Production}
-use Rattle.rust_v0.specs.declared.kind.TheConstants.{PATH, TYPE, DISAMBIGUATOR, SOME_LIFETIME}
-use Rattle.rust_v0.specs.Rules.{v0_table, taking}
-use Rattle.rust_v0.specs.Value.{Value, State, number, a_path, a_type, a_lifetime, a_disambiguator}
-use Rattle.rust_v0.specs.Unfold.{as_path, as_type, ended_at, greatest_u64}
+use Rattle.rust_grammar.specs.declared.production.Production.{Production}
+use Rattle.rust_grammar.specs.declared.kind.TheConstants.{PATH, TYPE, DISAMBIGUATOR, SOME_LIFETIME}
+use Rattle.rust_grammar.specs.Rules.{v0_table, taking}
+use Rattle.rust_grammar.specs.Value.{Value, State, number, a_path, a_type, a_lifetime, a_disambiguator}
+use Rattle.rust_grammar.specs.Unfold.{as_path, as_type, ended_at, greatest_u64}
 use Rattle.rust_direct.specs.Holes.{rust_language, Opened, Comes, ComesAll, Expects, within, behind, with_ended, Wanted, path, other_path, type, kind_of, is_for_type, IsNumberAt, IsDisambiguatorAt, IsType, Ends, TypeGoesOn, ImplementingGoesOn, ImplGoesOn, TraitGoesOn, Erased, unwritten, written, erased_bytes}
 use Rattle.rust_direct.proofs.Moves.{TakesAll, comes-moved, number-comes, byte-there}
 use Rattle.rust_direct.proofs.MovesOfArguments.{type-part, no-minus, number_rule, no-digits}

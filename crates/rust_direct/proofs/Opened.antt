@@ -1,6 +1,6 @@
 -- A text is written, and something waits for what comes behind it.
 use Rattle.std.proofs.Common.{◌≡◌, ℕ, List, ◌∷◌, ◌++◌, reverse, ap, ◌∙◌, append_assoc}
-use Rattle.rust_v0.specs.Value.{State}
+use Rattle.rust_grammar.specs.Value.{State}
 use Rattle.rust_direct.specs.declared.open.Open.{Open}
 use Rattle.rust_direct.specs.declared.direct.Direct.{Direct}
 use Rattle.rust_direct.specs.Holes.{Opened}

@@ -4,15 +4,15 @@ use Rattle.std.specs.Option.{option_to_list}
 use Rattle.std.proofs.lemmas.Bool.{le-leb, false≢true}
 use Rattle.sym_direct.specs.Holes.{StandsAt}
 use Rattle.rust_tree.specs.Symbol as tree
-use Rattle.rust_v0.specs.declared.production.Production.{Production}
-use Rattle.rust_v0.specs.Value.{Value, a_path}
+use Rattle.rust_grammar.specs.declared.production.Production.{Production}
+use Rattle.rust_grammar.specs.Value.{Value, a_path}
 use Rattle.rust_direct.specs.declared.open.Forms.{Forms}
 use Rattle.rust_direct.specs.declared.open.Forms.TheVariants as forms
 use Rattle.rust_direct.specs.declared.open.Open.{Open}
 use Rattle.rust_direct.specs.declared.open.Open.TheVariants as opens
 use Rattle.rust_direct.specs.declared.open.Step.TheVariants as steps
 use Rattle.rust_direct.specs.declared.direct.Direct.{Direct}
-use Rattle.rust_v0.specs.declared.kind.TheConstants.{PATH}
+use Rattle.rust_grammar.specs.declared.kind.TheConstants.{PATH}
 use Rattle.rust_direct.specs.Holes.{Opened, Comes, within, behind, with_ended, path, IsNameAt, IsDisambiguatorAt, identifier, is_namespace}
 use Rattle.rust_direct.specs.Prints.{PathPrints}
 use Rattle.rust_direct.specs.Says.{PathHas, HaveRoom, Says, Holds, has_form, is_path}

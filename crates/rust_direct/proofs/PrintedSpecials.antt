@@ -9,7 +9,7 @@ use Rattle.sym_print.specs.Building.{◌then◌, ◌also◌}
 use Rattle.rust_tree.specs.Symbol.{Identifier, Path, nested, integer, boolean, placeholder, constant_argument, Arguments, Constant}
 use Rattle.rust_tree.specs.Need.{need}
 use Rattle.rust_tree.specs.Shown.{path_parts, constant_parts, arguments_from, namespace_text, name_behind, nested_name}
-use Rattle.rust_v0.specs.Unfold.{greatest_u64}
+use Rattle.rust_grammar.specs.Unfold.{greatest_u64}
 use Rattle.rust_direct.specs.Prints.{Shows, PathPrints, ArgumentsBegin}
 use Rattle.rust_direct.specs.Specials.{behind_colon, special_text}
 use Rattle.rust_direct.specs.Constants.{sign_text}

@@ -10,9 +10,9 @@ use Rattle.sym_demangle.specs.Mangled.{shaped, answer_of_symbol}
 use Rattle.sym_direct.specs.Holes.{StandsAt}
 use Rattle.rust_tree.specs.Symbol as tree
 use Rattle.rust_tree.specs.Shown.{symbol_parts, path_parts}
-use Rattle.rust_v0.specs.declared.production.Production.{Production}
-use Rattle.rust_v0.specs.Mangled.{v0_mangled, IsAnswer}
-use Rattle.rust_v0.specs.Unfold.{at_first}
+use Rattle.rust_grammar.specs.declared.production.Production.{Production}
+use Rattle.rust_grammar.specs.Mangled.{v0_mangled, IsAnswer}
+use Rattle.rust_grammar.specs.Unfold.{at_first}
 use Rattle.rust_direct.specs.declared.open.Forms.{Forms}
 use Rattle.rust_direct.specs.declared.open.Open.TheVariants as opens
 use Rattle.rust_direct.specs.declared.open.Step.TheVariants as steps

@@ -3,9 +3,9 @@ use Rattle.std.proofs.Common.{◌≡◌, ℕ, suc, ◌+◌, List, [], ◌∷◌,
 use Rattle.std.proofs.lemmas.Bool.{false≢true}
 use Rattle.sym_direct.specs.Holes.{StandsAt}
 use Rattle.rust_tree.specs.Symbol as tree
-use Rattle.rust_v0.specs.declared.kind.TheConstants.{TYPE}
-use Rattle.rust_v0.specs.Value.{Value, a_path, a_type}
-use Rattle.rust_v0.specs.Unfold.{as_path, as_type}
+use Rattle.rust_grammar.specs.declared.kind.TheConstants.{TYPE}
+use Rattle.rust_grammar.specs.Value.{Value, a_path, a_type}
+use Rattle.rust_grammar.specs.Unfold.{as_path, as_type}
 use Rattle.rust_direct.specs.declared.open.Forms.{Forms}
 use Rattle.rust_direct.specs.declared.open.Forms.TheVariants as forms
 use Rattle.rust_direct.specs.declared.open.Note.{Note}

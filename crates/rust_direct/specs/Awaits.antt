@@ -1,6 +1,6 @@
 -- What each step of a writer begins with.
 use Rattle.std.specs.Prelude.{◌≡◌, ℕ, List, [], ◌∷◌, ◌++◌, length, reverse, Bool, true, false, codes}
-use Rattle.rust_v0.specs.Value.{Value, State, a_path}
+use Rattle.rust_grammar.specs.Value.{Value, State, a_path}
 use Rattle.rust_tree.specs.Symbol as tree
 use Rattle.rust_direct.specs.declared.open.Forms.{Forms}
 use Rattle.rust_direct.specs.declared.open.Open.{Open}

@@ -5,9 +5,9 @@ use Rattle.sym_direct.specs.Holes.{StandsAt}
 use Rattle.rust_tree.specs.Symbol as tree
 use Rattle.rust_tree.specs.Need.{need_of_bounds}
 use Rattle.rust_tree.specs.Shown.{bounds_from}
-use Rattle.rust_v0.specs.declared.production.Production.{Production}
-use Rattle.rust_v0.specs.declared.kind.TheConstants.{BOUNDS}
-use Rattle.rust_v0.specs.Value.{State, a_type, some_bounds}
+use Rattle.rust_grammar.specs.declared.production.Production.{Production}
+use Rattle.rust_grammar.specs.declared.kind.TheConstants.{BOUNDS}
+use Rattle.rust_grammar.specs.Value.{State, a_type, some_bounds}
 use Rattle.rust_direct.specs.Holes.{Opened, Comes, Expects, Ends, within}
 use Rattle.rust_direct.specs.Prints.{text_of_some, cost_of_some}
 

@@ -6,11 +6,11 @@ use Rattle.sym_core.specs.Value.{value_of}
 use Rattle.sym_direct.specs.Holes.{StandsAt}
 use Rattle.rust_tree.specs.Symbol as tree
 use Rattle.rust_tree.specs.Shown.{constant_parts}
-use Rattle.rust_v0.specs.declared.production.Production.{Production}
-use Rattle.rust_v0.specs.declared.kind.TheConstants.{TYPE, CONSTANT}
-use Rattle.rust_v0.specs.BasicLetters.{signed_letters, unsigned_letters}
-use Rattle.rust_v0.specs.Value.{Value, State, a_type, a_constant}
-use Rattle.rust_v0.specs.Unfold.{greatest_u64}
+use Rattle.rust_grammar.specs.declared.production.Production.{Production}
+use Rattle.rust_grammar.specs.declared.kind.TheConstants.{TYPE, CONSTANT}
+use Rattle.rust_grammar.specs.BasicLetters.{signed_letters, unsigned_letters}
+use Rattle.rust_grammar.specs.Value.{Value, State, a_type, a_constant}
+use Rattle.rust_grammar.specs.Unfold.{greatest_u64}
 use Rattle.rust_direct.specs.declared.direct.Direct.{Direct}
 use Rattle.rust_direct.specs.Holes.{Opened, Comes, Expects, Ends, IsType, within, with_ended}
 use Rattle.rust_direct.specs.Prints.{Shows}

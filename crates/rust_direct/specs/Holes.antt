@@ -11,12 +11,12 @@ use Rattle.sym_demangle.specs.Mangled.{StandsFor}
 use Rattle.sym_direct.specs.Holes as direct
 use Rattle.sym_direct.specs.Holes.{Language, StandsAt}
 use Rattle.rust_tree.specs.Symbol as tree
-use Rattle.rust_v0.specs.declared.production.Production.{Production}
-use Rattle.rust_v0.specs.declared.kind.TheConstants.{PATH, OTHER_PATH, TYPE, TYPES, IDENTIFIER, ARGUMENTS}
-use Rattle.rust_v0.specs.Rules.{v0_table, letters, suffix_bytes}
-use Rattle.rust_v0.specs.Mangled.{v0_mangled}
-use Rattle.rust_v0.specs.Value.{Value, State, a_path, a_type, some_types}
-use Rattle.rust_v0.specs.Unfold.{v0, at_first, as_type, arguments_part, identifier_part, greatest_u64}
+use Rattle.rust_grammar.specs.declared.production.Production.{Production}
+use Rattle.rust_grammar.specs.declared.kind.TheConstants.{PATH, OTHER_PATH, TYPE, TYPES, IDENTIFIER, ARGUMENTS}
+use Rattle.rust_grammar.specs.Rules.{v0_table, letters, suffix_bytes}
+use Rattle.rust_grammar.specs.Mangled.{v0_mangled}
+use Rattle.rust_grammar.specs.Value.{Value, State, a_path, a_type, some_types}
+use Rattle.rust_grammar.specs.Unfold.{v0, at_first, as_type, arguments_part, identifier_part, greatest_u64}
 
 -- Rust as a language to be read so. What it says of a rule depends on the symbol: a suffix is what is left of it.
 abbrev pub rust_language : Language Value State ℕ

@@ -1,7 +1,7 @@
 -- Notes: what was written for each path and type that has ended, in the text or aside.
 use Rattle.std.specs.Prelude.{◌≡◌, ℕ, zero, suc, ◌+◌, List, ◌++◌, length, slice_get, Bool, true, false, Option, Some, None}
-use Rattle.rust_v0.specs.Value.{Value, Ended}
-use Rattle.rust_v0.specs.Unfold.{ended_at}
+use Rattle.rust_grammar.specs.Value.{Value, Ended}
+use Rattle.rust_grammar.specs.Unfold.{ended_at}
 use Rattle.rust_direct.specs.declared.open.Note.{Note}
 use Rattle.rust_direct.specs.Says.{Says}
 

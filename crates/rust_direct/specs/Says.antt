@@ -1,8 +1,8 @@
 -- What is known of what was read, by the forms in which its text is right.
 use Rattle.std.specs.Prelude.{◌≡◌, ℕ, List, Bool, true, false, cond, Some}
 use Rattle.rust_tree.specs.Symbol.{Path, Ty}
-use Rattle.rust_v0.specs.Value.{Value, a_path}
-use Rattle.rust_v0.specs.Unfold.{as_path, as_type}
+use Rattle.rust_grammar.specs.Value.{Value, a_path}
+use Rattle.rust_grammar.specs.Unfold.{as_path, as_type}
 use Rattle.rust_direct.specs.declared.open.Forms.{Forms}
 use Rattle.rust_direct.specs.declared.open.Forms.TheVariants as forms
 use Rattle.rust_direct.specs.Prints.{PathPrints, TypePrints, HasRoom}

@@ -6,8 +6,8 @@ use Rattle.sym_demangle.specs.Mangled.{StandsFor}
 use Rattle.rust_tree.specs.Symbol as tree
 use Rattle.rust_tree.specs.Need.{need}
 use Rattle.rust_tree.specs.Shown.{symbol_parts, closing_tuple}
-use Rattle.rust_v0.specs.Mangled.{v0_mangled}
-use Rattle.rust_v0.specs.Value.{Value, State, a_path}
+use Rattle.rust_grammar.specs.Mangled.{v0_mangled}
+use Rattle.rust_grammar.specs.Value.{Value, State, a_path}
 use Rattle.rust_direct.specs.declared.open.Forms.{Forms}
 use Rattle.rust_direct.specs.declared.open.Forms.TheVariants as forms
 use Rattle.rust_direct.specs.declared.open.Closing.{Closing}

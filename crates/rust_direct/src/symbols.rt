@@ -4,7 +4,7 @@ ghost use Rattle.std.specs.Prelude.{◌≡◌, ◌≤◌, ◌+◌, ◌*◌, [], 
 ghost use Rattle.std.specs.Option.{IfSome, OnSome};
 ghost use Rattle.sym_core.specs.Number.{FitsSymbol};
 ghost use Rattle.sym_print.specs.declared.detail.Detail.TheVariants as details;
-ghost use Rattle.rust_v0.specs.Mangled.{IsAnswer};
+ghost use Rattle.rust_grammar.specs.Mangled.{IsAnswer};
 ghost use Rattle.rust_direct.specs.declared.open.Open.TheVariants as opens;
 ghost use Rattle.rust_direct.specs.Stands.{IsWriting};
 ghost use Rattle.rust_direct.specs.Awaits.{IsFresh, Arrives, IsSymbolEnded};
@@ -68,7 +68,8 @@ impl Direct {
     {
         let size = s.len();
         let bytes = BYTES_A_BYTE * size + BYTES_ANYWAY;
-        self.begin_lists(bytes.min(limit as usize / 4), bytes, size);
+        let shown = bytes.min(limit as usize / 4);
+        self.begin_lists(shown as u32, bytes as u32, size as u32);
         let (is_written, rounds) = self.run(s, limit);
         self.rounds = rounds;
         // always: no step gives a list other room than it began with, which no clause of theirs says
@@ -103,7 +104,7 @@ impl Direct {
     }
 
     /// Empties the lists, and gives them room for so many bytes and entries.
-    fn begin_lists(&mut self, shown: usize, bytes: usize, entries: usize)
+    fn begin_lists(&mut self, shown: u32, bytes: u32, entries: u32)
         ensures text { self.new.text.list.items ≡ [] }
         ensures aside { self.new.aside.list.items ≡ [] }
         ensures shown { self.new.is_aside ≡ false }

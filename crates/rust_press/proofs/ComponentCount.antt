@@ -5,7 +5,7 @@ use Rattle.rust_tree.specs.Symbol as tree
 use Rattle.rust_tree.specs.Layout.{ReadSymbol, trees_of}
 use Rattle.rust_tree.specs.Nodes.{symbol_in}
 use Rattle.rust_tree.proofs.Trees.{length-trees}
-use Rattle.rust_v0.specs.Mangled.{whole_of}
+use Rattle.rust_v0.specs.Whole.{whole_of}
 use Rattle.rust_press.specs.Same.{same_tree}
 use Rattle.rust_press.specs.Pressing.{Component}
 use Rattle.rust_press.specs.Apart.{IsNew, AreApart, spelled_components}

@@ -5,13 +5,13 @@ use Rattle.sym_shape.specs.declared.rule.Sym.TheVariants.{Kind, Byte}
 use Rattle.rust_tree.specs.Symbol as tree
 use Rattle.rust_tree.specs.Tree.{of_path, of_type}
 use Rattle.rust_tree.specs.Need.{need, need_of_type, need_of_arguments, need_of_types, need_of_bounds, need_of_bindings}
-use Rattle.rust_v0.specs.declared.production.Production.{Production}
-use Rattle.rust_v0.specs.declared.production.Production.TheVariants as rules
-use Rattle.rust_v0.specs.Productions.{production_of}
-use Rattle.rust_v0.specs.Rules.{taking, chaining}
-use Rattle.rust_v0.specs.Value as value
-use Rattle.rust_v0.specs.Value.{Value, State, Ended}
-use Rattle.rust_v0.specs.Unfold.{At, bound_behind, meaning, meaning_of, plain, ends, greatest_u64}
+use Rattle.rust_grammar.specs.declared.production.Production.{Production}
+use Rattle.rust_grammar.specs.declared.production.Production.TheVariants as rules
+use Rattle.rust_grammar.specs.Productions.{production_of}
+use Rattle.rust_grammar.specs.Rules.{taking, chaining}
+use Rattle.rust_grammar.specs.Value as value
+use Rattle.rust_grammar.specs.Value.{Value, State, Ended}
+use Rattle.rust_grammar.specs.Unfold.{At, bound_behind, meaning, meaning_of, plain, ends, greatest_u64}
 use Rattle.rust_press.specs.PressLaws.{Presses}
 use Rattle.sym_spell.specs.Pressing.{◌and◌, letter}
 use Rattle.rust_press.specs.Pressing.{mark_if, press_name, press_disambiguator, press_binder, press_identifier, press_lifetime, some_lifetime, press_abi, spelled_out, press_constant, path_or_reference, type_or_reference, spell_path, spell_type, press_arguments, press_types, press_bounds, press_bindings}

@@ -5,8 +5,8 @@ use Rattle.sym_core.specs.declared.NameClass.TheVariants.{Rust}
 use Rattle.sym_shape.specs.SheetLaws.{lawful_sheet}
 use Rattle.sym_shape.proofs.Uniqueness.{one_tree}
 use Rattle.rust_tree.specs.Symbol as tree
-use Rattle.rust_v0.specs.Rules.{v0_table, kinds, no_kind}
-use Rattle.rust_v0.specs.Unfold.{unfolded}
+use Rattle.rust_grammar.specs.Rules.{v0_table, kinds, no_kind}
+use Rattle.rust_grammar.specs.Unfold.{unfolded}
 use Rattle.rust_press.specs.Pressing.{pressed}
 use Rattle.rust_press.specs.PressLaws.{IsSpellableSymbol, PressedIsRead, PressedOnce}
 use Rattle.rust_press.proofs.PressSymbol.{symbol-kept}

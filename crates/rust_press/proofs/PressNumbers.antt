@@ -11,7 +11,7 @@ use Rattle.sym_core.specs.Value.{digit_value, value_of}
 use Rattle.sym_core.specs.Token.{IsName, IsSeparator, AreNameBytes}
 use Rattle.rust_tree.specs.Hexadecimal.{hexadecimal, hexadecimal_before}
 use Rattle.rust_tree.proofs.Numerals.{value-hexadecimal}
-use Rattle.rust_v0.specs.Unfold.{value62, value16}
+use Rattle.rust_grammar.specs.Unfold.{value62, value16}
 use Rattle.rust_press.specs.Spellable.{most62}
 use Rattle.sym_spell.specs.Digits.{digits_in, decimal_digit, digit62}
 use Rattle.sym_spell.proofs.DigitValues.{Divides, digits-value, digits-all, digits-count, digits-some, length-form, length-digits, length-value}

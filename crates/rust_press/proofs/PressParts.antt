@@ -13,11 +13,11 @@ use Rattle.sym_shape.specs.Table.{symbols_of}
 use Rattle.sym_shape.specs.Tree.{Tree as Shape, Forest, branch, empty, token, fixed, grown, spell, spell_all, AreTrees}
 use Rattle.sym_shape.specs.Tree as shape
 use Rattle.rust_tree.specs.Tree.{Tree}
-use Rattle.rust_v0.specs.declared.production.Production.{Production}
-use Rattle.rust_v0.specs.Productions.{production_of}
-use Rattle.rust_v0.specs.Rules.{v0_table}
-use Rattle.rust_v0.specs.Value.{Value, Ended}
-use Rattle.rust_v0.specs.Unfold.{ended_at, At, byte_at, bound_behind, is_minus, meaning_of, plain, ends, token_of}
+use Rattle.rust_grammar.specs.declared.production.Production.{Production}
+use Rattle.rust_grammar.specs.Productions.{production_of}
+use Rattle.rust_grammar.specs.Rules.{v0_table}
+use Rattle.rust_grammar.specs.Value.{Value, Ended}
+use Rattle.rust_grammar.specs.Unfold.{ended_at, At, byte_at, bound_behind, is_minus, meaning_of, plain, ends, token_of}
 use Rattle.sym_spell.specs.Pressing.{◌and◌, text, letter, nothing}
 use Rattle.rust_press.specs.Pressing.{Component, Pressed, Pressing, spelled_out}
 use Rattle.rust_press.specs.PressLaws.{as_value, AreListed, Agrees, state_of, Reads, Presses, ReadsRow, PressesRow}

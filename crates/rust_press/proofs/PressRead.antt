@@ -4,21 +4,21 @@ use Rattle.std.specs.Prelude.{◌==◌, if◌then◌else◌, nat_le, Result, Err
 use Rattle.std.proofs.lemmas.Bool.{leb-true}
 use Rattle.rust_tree.specs.Symbol as tree
 use Rattle.rust_tree.specs.Need.{need, need_of_type, need_of_arguments, need_of_types, need_of_bounds, need_of_bindings}
-use Rattle.rust_v0.specs.declared.production.Production.{Production}
-use Rattle.rust_v0.specs.declared.production.Production.TheVariants as rules
-use Rattle.rust_v0.specs.Value as value
-use Rattle.rust_v0.specs.Value.{Value, State, Ended}
-use Rattle.rust_v0.specs.Unfold.{ended_at, At, byte_at, meaning, plain, as_path, as_type, as_constant, greatest_u64, greatest_u128, is_scalar}
+use Rattle.rust_grammar.specs.declared.production.Production.{Production}
+use Rattle.rust_grammar.specs.declared.production.Production.TheVariants as rules
+use Rattle.rust_grammar.specs.Value as value
+use Rattle.rust_grammar.specs.Value.{Value, State, Ended}
+use Rattle.rust_grammar.specs.Unfold.{ended_at, At, byte_at, meaning, plain, as_path, as_type, as_constant, greatest_u64, greatest_u128, is_scalar}
 use Rattle.sym_core.specs.declared.refusal.Refusal.{Refusal}
 use Rattle.sym_core.specs.declared.refusal.Refusal.TheVariants.{BadValue, BadReference}
 use Rattle.std.proofs.lemmas.Bool.Decides.{nat_tests}
 use Rattle.sym_shape.specs.declared.sheet.ByteRange.{ByteRange}
 use Rattle.sym_shape.specs.Sheet.{in_ranges}
 use Rattle.sym_link.specs.Reading.{Found, ◌>>=◌}
-use Rattle.rust_v0.specs.BasicLetters.{basic_letters, signed_letters, unsigned_letters}
-use Rattle.rust_v0.specs.Rules.{letters, each}
-use Rattle.rust_v0.specs.Value.{Integer}
-use Rattle.rust_v0.specs.Unfold.{Meaning, number_part, integer_part, letter_part, name_part, identifier_part, path_part, type_part, constant_part, lifetime_part, truth_part, abi_value_part, types_part, disambiguator_part, binder_part, some_lifetime_part, unsafe_part, minus_part, abi_part, arguments_part, bounds_part, bindings_part, refers_to_path, refers_to_type, refers_to_constant, bounded, referred, ends_path, ends_type, ends_constant}
+use Rattle.rust_grammar.specs.BasicLetters.{basic_letters, signed_letters, unsigned_letters}
+use Rattle.rust_grammar.specs.Rules.{letters, each}
+use Rattle.rust_grammar.specs.Value.{Integer}
+use Rattle.rust_grammar.specs.Unfold.{Meaning, number_part, integer_part, letter_part, name_part, identifier_part, path_part, type_part, constant_part, lifetime_part, truth_part, abi_value_part, types_part, disambiguator_part, binder_part, some_lifetime_part, unsafe_part, minus_part, abi_part, arguments_part, bounds_part, bindings_part, refers_to_path, refers_to_type, refers_to_constant, bounded, referred, ends_path, ends_type, ends_constant}
 use Rattle.rust_press.specs.Spellable.{most62, is_signed, is_unsigned, IsSpellableName, IsSpellableIdentifier, IsSpellableAbi, IsSpellableInteger, IsSpellableConstant, IsSpellable, AreSpellableArguments, IsSpellableType, AreSpellableTypes, AreSpellableBounds, AreSpellableBindings}
 
 -- what is found has the fact, whatever is refused

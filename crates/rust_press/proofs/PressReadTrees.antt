@@ -8,13 +8,13 @@ use Rattle.sym_shape.specs.declared.rule.Sym.{Sym}
 use Rattle.sym_shape.specs.declared.rule.Sym.TheVariants.{Kind, Name, Number, Byte}
 use Rattle.rust_tree.specs.Symbol as tree
 use Rattle.rust_tree.specs.Need.{need}
-use Rattle.rust_v0.specs.declared.production.Production.{Production}
-use Rattle.rust_v0.specs.declared.production.Production.TheVariants as rules
-use Rattle.rust_v0.specs.Productions.{production_of}
-use Rattle.rust_v0.specs.Rules.{v0_table, taking}
-use Rattle.rust_v0.specs.Value as value
-use Rattle.rust_v0.specs.Value.{Value, State, Ended}
-use Rattle.rust_v0.specs.Unfold.{v0, At, bound_behind, is_minus, meaning, meaning_of, token_of, value62, value16}
+use Rattle.rust_grammar.specs.declared.production.Production.{Production}
+use Rattle.rust_grammar.specs.declared.production.Production.TheVariants as rules
+use Rattle.rust_grammar.specs.Productions.{production_of}
+use Rattle.rust_grammar.specs.Rules.{v0_table, taking}
+use Rattle.rust_grammar.specs.Value as value
+use Rattle.rust_grammar.specs.Value.{Value, State, Ended}
+use Rattle.rust_grammar.specs.Unfold.{v0, At, bound_behind, is_minus, meaning, meaning_of, token_of, value62, value16}
 use Rattle.std.specs.Prelude.{slice_index, drop}
 use Rattle.std.specs.List.{list_all, AllByRecursion}
 use Rattle.std.proofs.lemmas.Bool.Decides.{nat_tests}
@@ -33,9 +33,9 @@ use Rattle.sym_shape.specs.Tree.{Tree as Shape, Forest, branch, empty, token, fi
 use Rattle.sym_shape.specs.Tree as shape
 use Rattle.sym_link.specs.Reading.{Found, Open, ◌>>=◌}
 use Rattle.sym_link.specs.Unfold.{unfold_tree, unfold_forest, standing, alone}
-use Rattle.rust_v0.specs.Rules.{kinds, no_kind, suffix_bytes, each}
-use Rattle.rust_v0.specs.Value.{Integer}
-use Rattle.rust_v0.specs.Unfold.{Meaning, path_part, other_path_part, suffix_part, at_rule, at_first, symbol_of, unfolded}
+use Rattle.rust_grammar.specs.Rules.{kinds, no_kind, suffix_bytes, each}
+use Rattle.rust_grammar.specs.Value.{Integer}
+use Rattle.rust_grammar.specs.Unfold.{Meaning, path_part, other_path_part, suffix_part, at_rule, at_first, symbol_of, unfolded}
 use Rattle.rust_press.specs.Spellable.{most62, IsSpellable, IsSpellableName, IsSpellableSuffix}
 use Rattle.rust_press.specs.PressLaws.{IsSpellableSymbol, IsClosedOther}
 use Rattle.rust_press.proofs.PressParts.{byte-in}

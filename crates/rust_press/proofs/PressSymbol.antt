@@ -3,12 +3,12 @@ use Rattle.std.proofs.Common.{◌≡◌, ℕ, ◌+◌, ◌<◌, ◌≤◌, lengt
 use Rattle.sym_shape.specs.declared.rule.Sym.TheVariants.{Kind, Byte}
 use Rattle.rust_tree.specs.Symbol as tree
 use Rattle.rust_tree.specs.Need.{need}
-use Rattle.rust_v0.specs.declared.production.Production.{Production}
-use Rattle.rust_v0.specs.declared.production.Production.TheVariants as rules
-use Rattle.rust_v0.specs.Rules.{v0_table, taking}
-use Rattle.rust_v0.specs.Value as value
-use Rattle.rust_v0.specs.Value.{Value, State, Ended}
-use Rattle.rust_v0.specs.Unfold.{v0, ended_at, At, meaning, plain, greatest_u64}
+use Rattle.rust_grammar.specs.declared.production.Production.{Production}
+use Rattle.rust_grammar.specs.declared.production.Production.TheVariants as rules
+use Rattle.rust_grammar.specs.Rules.{v0_table, taking}
+use Rattle.rust_grammar.specs.Value as value
+use Rattle.rust_grammar.specs.Value.{Value, State, Ended}
+use Rattle.rust_grammar.specs.Unfold.{v0, ended_at, At, meaning, plain, greatest_u64}
 use Rattle.rust_press.specs.PressLaws.{Agrees, state_of, Reads, Presses}
 use Rattle.std.specs.Prelude.{drop}
 use Rattle.std.specs.List.{AllByRecursion}
@@ -16,7 +16,7 @@ use Rattle.sym_shape.specs.Sheet.{in_ranges}
 use Rattle.sym_shape.specs.Tree.{Tree as Shape, Forest, branch, empty, fixed, grown, spell, IsTree}
 use Rattle.sym_shape.specs.Tree as shape
 use Rattle.sym_link.specs.Unfold.{unfold_tree, found}
-use Rattle.rust_v0.specs.Rules.{suffix_bytes}
+use Rattle.rust_grammar.specs.Rules.{suffix_bytes}
 use Rattle.sym_spell.specs.Pressing.{text}
 use Rattle.rust_press.specs.Pressing.{Component, Pressed, press_path, press_other, pressed, spell_path}
 use Rattle.rust_press.specs.Spellable.{IsSpellable, IsSpellableSuffix}

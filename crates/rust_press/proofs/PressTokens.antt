@@ -7,17 +7,17 @@ use Rattle.sym_shape.specs.declared.rule.Rule.{Rule}
 use Rattle.sym_shape.specs.declared.rule.Sym.TheVariants.{Kind, Name, Number, Byte}
 use Rattle.rust_tree.specs.Symbol as tree
 use Rattle.rust_tree.specs.Tree.{of_constant}
-use Rattle.rust_v0.specs.declared.production.Production.{Production}
-use Rattle.rust_v0.specs.declared.production.Production.TheVariants as rules
-use Rattle.rust_v0.specs.Productions.{production_of}
-use Rattle.rust_v0.specs.Rules.{v0_table, taking, chaining}
-use Rattle.rust_v0.specs.Value as value
-use Rattle.rust_v0.specs.Value.{Value, State, Ended}
-use Rattle.rust_v0.specs.Unfold.{At, byte_at, is_minus, meaning, meaning_of, plain, ends, token_of, value62, value16, greatest_u64, greatest_u128}
+use Rattle.rust_grammar.specs.declared.production.Production.{Production}
+use Rattle.rust_grammar.specs.declared.production.Production.TheVariants as rules
+use Rattle.rust_grammar.specs.Productions.{production_of}
+use Rattle.rust_grammar.specs.Rules.{v0_table, taking, chaining}
+use Rattle.rust_grammar.specs.Value as value
+use Rattle.rust_grammar.specs.Value.{Value, State, Ended}
+use Rattle.rust_grammar.specs.Unfold.{At, byte_at, is_minus, meaning, meaning_of, plain, ends, token_of, value62, value16, greatest_u64, greatest_u128}
 use Rattle.rust_press.specs.PressLaws.{Presses}
 use Rattle.sym_shape.specs.Sheet.{in_ranges}
-use Rattle.rust_v0.specs.BasicLetters.{basic_letters}
-use Rattle.rust_v0.specs.Rules.{letters}
+use Rattle.rust_grammar.specs.BasicLetters.{basic_letters}
+use Rattle.rust_grammar.specs.Rules.{letters}
 use Rattle.sym_spell.specs.Pressing.{◌and◌, letter, nothing}
 use Rattle.sym_spell.specs.Digits.{digits_in, decimal_digit}
 use Rattle.rust_press.specs.Pressing.{number62, digits62, number16, digits16, counted, separator, mark_if, press_name, press_disambiguator, press_binder, identifier_of, press_lifetime, some_lifetime, press_abi, spelled_out, spell_constant, press_constant}

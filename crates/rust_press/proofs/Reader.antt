@@ -8,8 +8,8 @@ use Rattle.sym_shape.specs.declared.rule.Sym.{Sym}
 use Rattle.sym_shape.specs.declared.rule.Sym.TheVariants.{Kind, Name, Number, Byte}
 use Rattle.sym_shape.specs.Table.{symbols_of}
 use Rattle.sym_shape.specs.Tree.{Tree, Forest, branch, empty, token, fixed, nothing, grown}
-use Rattle.rust_v0.specs.Rules.{v0_table}
-use Rattle.rust_v0.specs.Unfold.{unfolded}
+use Rattle.rust_grammar.specs.Rules.{v0_table}
+use Rattle.rust_grammar.specs.Unfold.{unfolded}
 use Rattle.rust_press.specs.Pressing.{pressed}
 
 infixl 10 ◌and_then◌

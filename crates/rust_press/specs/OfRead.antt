@@ -1,7 +1,7 @@
 -- What is pressed of a symbol that was read.
 use Rattle.std.specs.Prelude.{ℕ, ◌≤◌, List, length}
 use Rattle.rust_tree.specs.Layout.{ReadSymbol}
-use Rattle.rust_v0.specs.Mangled.{whole_of}
+use Rattle.rust_v0.specs.Whole.{whole_of}
 use Rattle.rust_press.specs.Pressing.{pressed}
 use Rattle.rust_press.specs.Apart.{spelled_components}
 

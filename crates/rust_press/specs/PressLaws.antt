@@ -5,11 +5,11 @@ use Rattle.sym_shape.specs.declared.rule.Rule.{Rule}
 use Rattle.sym_shape.specs.declared.rule.Sym.{Sym}
 use Rattle.sym_shape.specs.Tree.{Tree as Shape, Forest, spell, spell_all, IsTree, AreTrees}
 use Rattle.sym_link.specs.Unfold.{unfold_tree, unfold_forest, found, standing}
-use Rattle.rust_v0.specs.declared.production.Production.{Production}
-use Rattle.rust_v0.specs.Rules.{v0_table}
-use Rattle.rust_v0.specs.Value as value
-use Rattle.rust_v0.specs.Value.{Value, State, Ended}
-use Rattle.rust_v0.specs.Unfold.{v0, ended_at, unfolded, greatest_u64}
+use Rattle.rust_grammar.specs.declared.production.Production.{Production}
+use Rattle.rust_grammar.specs.Rules.{v0_table}
+use Rattle.rust_grammar.specs.Value as value
+use Rattle.rust_grammar.specs.Value.{Value, State, Ended}
+use Rattle.rust_grammar.specs.Unfold.{v0, ended_at, unfolded, greatest_u64}
 use Rattle.rust_tree.specs.Tree.{Tree, of_path, of_type, of_constant}
 use Rattle.rust_tree.specs.Symbol as tree
 use Rattle.rust_tree.specs.Need.{need}

@@ -1,10 +1,10 @@
 -- What is pressed of a part of a symbol is read as that part, behind whatever was spelled before it.
 use Rattle.std.specs.Prelude.{◌≡◌, ℕ, ◌≤◌, ◌⊎◌, List, [], ◌∷◌, length, Bool, Option}
 use Rattle.sym_shape.specs.declared.rule.Sym.TheVariants.{Kind}
-use Rattle.rust_v0.specs.declared.production.Production.{Production}
-use Rattle.rust_v0.specs.Value as value
-use Rattle.rust_v0.specs.Value.{Value}
-use Rattle.rust_v0.specs.Unfold.{greatest_u64}
+use Rattle.rust_grammar.specs.declared.production.Production.{Production}
+use Rattle.rust_grammar.specs.Value as value
+use Rattle.rust_grammar.specs.Value.{Value}
+use Rattle.rust_grammar.specs.Unfold.{greatest_u64}
 use Rattle.rust_tree.specs.Symbol as tree
 use Rattle.rust_tree.specs.Need.{need, need_of_type}
 use Rattle.rust_press.specs.Spellable.{IsSpellable, IsSpellableType, IsSpellableConstant}

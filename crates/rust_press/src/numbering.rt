@@ -73,7 +73,7 @@ pub fn numbers(alloc: Global, symbol: &Symbol) -> Result<Numbers, Refusal>
 {
     let count = symbol.counts().nodes;
     let mut keys = BTreeMap::new(alloc);
-    let mut firsts = Vec::new(alloc);
+    let mut firsts = Vec::with_capacity(alloc, count as usize)?;
     for node in 0..count {
         let first = first_with(&mut keys, key_of(symbol, &firsts, node), node)?;
         firsts.push(first)?;

@@ -8,9 +8,9 @@ use Rattle.rust_tree.specs.declared.node.Node.{Node}
 use Rattle.rust_tree.specs.declared.node.Ty.{Ty}
 use Rattle.rust_v0.specs.declared.nodes.Target.{Target}
 use Rattle.rust_v0.specs.declared.nodes.RustNodes.{RustNodes}
-use Rattle.rust_v0.specs.Value as value
-use Rattle.rust_v0.specs.Value.{Value}
-use Rattle.rust_v0.specs.Unfold.{At, Meaning, as_path}
+use Rattle.rust_grammar.specs.Value as value
+use Rattle.rust_grammar.specs.Value.{Value}
+use Rattle.rust_grammar.specs.Unfold.{At, Meaning, as_path}
 use Rattle.rust_v0.specs.Made.{ends_tree}
 use Rattle.rust_v0.specs.CodeSemantics as semantics
 use Rattle.rust_v0.specs.RustNodes.{IsNoted, AreNoted, Keeps, v0_view}

@@ -7,7 +7,7 @@ use Rattle.sym_link.specs.Linking.{Adds, Gives, Puts}
 use Rattle.rust_v0.specs.declared.nodes.RustNodes.{RustNodes}
 use Rattle.rust_v0.specs.declared.part.Part.{Part}
 use Rattle.rust_v0.specs.RustNodes.{v0_view}
-use Rattle.rust_v0.specs.Unfold.{Meaning}
+use Rattle.rust_grammar.specs.Unfold.{Meaning}
 use Rattle.rust_v0.proofs.Meanings.{goes_on_same}
 use Rattle.rust_v0.proofs.Taking.{fails_memory}
 

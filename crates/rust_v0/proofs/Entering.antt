@@ -9,14 +9,14 @@ use Rattle.sym_shape.specs.declared.rule.Rule.{Rule}
 use Rattle.sym_shape.specs.declared.sheet.Choice.{Choice}
 use Rattle.sym_shape.specs.Sheet.{KindSheet, choice_at, classes_of, in_ranges}
 use Rattle.sym_shape.specs.Tree.{Forest, nothing, grown, empty, fixed, token, branch}
-use Rattle.rust_v0.specs.declared.production.Production.{Production}
-use Rattle.rust_v0.specs.declared.production.Production.TheVariants as rules
+use Rattle.rust_grammar.specs.declared.production.Production.{Production}
+use Rattle.rust_grammar.specs.declared.production.Production.TheVariants as rules
 use Rattle.rust_v0.specs.declared.part.Part.{Part}
-use Rattle.rust_v0.specs.Productions.{production_of}
-use Rattle.rust_v0.specs.Rules.{v0_table, kinds, no_kind}
-use Rattle.rust_v0.specs.Value as value
-use Rattle.rust_v0.specs.Value.{Value, State}
-use Rattle.rust_v0.specs.Unfold.{bound_behind, binder_part, Part as Next}
+use Rattle.rust_grammar.specs.Productions.{production_of}
+use Rattle.rust_grammar.specs.Rules.{v0_table, kinds, no_kind}
+use Rattle.rust_grammar.specs.Value as value
+use Rattle.rust_grammar.specs.Value.{Value, State}
+use Rattle.rust_grammar.specs.Unfold.{bound_behind, binder_part, Part as Next}
 use Rattle.rust_v0.specs.PartValues.{Ground, IsPart, Agree}
 use Rattle.rust_v0.specs.CodeOperands as operands
 use Rattle.rust_v0.proofs.OperandLemmas.{binder_agrees}

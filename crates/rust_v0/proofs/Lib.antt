@@ -6,7 +6,6 @@ pub mod Entering
 pub mod OperandLemmas
 pub mod Integers
 pub mod SemanticsLemmas
-pub mod Letters
 pub mod Meanings
 pub mod NodeCount
 pub mod Noted

@@ -21,17 +21,17 @@ use Rattle.rust_tree.specs.declared.node.Node.{Node}
 use Rattle.rust_tree.specs.declared.node.Ty.{Ty}
 use Rattle.rust_tree.specs.declared.node.Types.{Types}
 use Rattle.rust_tree.specs.declared.node.Constant.{Constant}
-use Rattle.rust_v0.specs.declared.production.Production.{Production}
-use Rattle.rust_v0.specs.declared.production.Production.TheVariants as rules
+use Rattle.rust_grammar.specs.declared.production.Production.{Production}
+use Rattle.rust_grammar.specs.declared.production.Production.TheVariants as rules
 use Rattle.rust_v0.specs.declared.part.Part.{Part}
-use Rattle.rust_v0.specs.Value.{Value, a_suffix, some_bounds, suffix_rest, letter, unsafe_mark, an_abi, minus_mark, a_truth}
-use Rattle.rust_v0.specs.Unfold.{At, Meaning, meaning, byte_at, number_part, referred}
+use Rattle.rust_grammar.specs.Value.{Value, a_suffix, some_bounds, suffix_rest, letter, unsafe_mark, an_abi, minus_mark, a_truth}
+use Rattle.rust_grammar.specs.Unfold.{At, Meaning, meaning, byte_at, number_part, referred}
 use Rattle.rust_v0.specs.declared.nodes.Target.{Target}
 use Rattle.rust_v0.specs.CodeOperands as operands
 use Rattle.rust_v0.specs.PartValues.{IsPart, IsNumber, Agree}
 use Rattle.rust_v0.proofs.OperandLemmas.{number_agrees}
 use Rattle.rust_v0.specs.Made.{ground, HasLists, MadeGives}
-use Rattle.rust_v0.specs.Productions.{is_reference, makes_part}
+use Rattle.rust_grammar.specs.Productions.{is_reference, makes_part}
 use Rattle.rust_v0.specs.CodeSemantics as semantics
 use Rattle.rust_v0.proofs.SemanticsLemmas.{abi_gives, array_gives, binder_gives, binding_gives, bool_constant_gives, char_constant_gives, const_pointer_gives, constant_argument_gives, crate_root_gives, disambiguated_gives, disambiguator_gives, dyn_type_gives, function_gives, generic_gives, inherent_impl_gives, lifetime_argument_gives, lifetime_gives, more_bounds_gives, more_types_gives, mut_pointer_gives, mutable_reference_gives, nested_gives, plain_name_gives, punycode_name_gives, shared_reference_gives, signed_constant_gives, slice_gives, symbol_gives, trait_definition_gives, trait_impl_gives, tuple_gives, type_argument_gives, unsigned_constant_gives}
 

@@ -3,8 +3,8 @@ use Rattle.std.proofs.Common.{◌≡◌, refl, ap, arith, true, false, ℕ, ◌+
 use Rattle.std.specs.Prelude.{Result, OnOk}
 use Rattle.sym_core.specs.declared.refusal.Refusal.{Refusal}
 use Rattle.rust_v0.specs.declared.nodes.RustNodes.{RustNodes}
-use Rattle.rust_v0.specs.declared.production.Production.{Production}
-use Rattle.rust_v0.specs.Productions.{production_of, is_reference, makes_part}
+use Rattle.rust_grammar.specs.declared.production.Production.{Production}
+use Rattle.rust_grammar.specs.Productions.{production_of, is_reference, makes_part}
 use Rattle.rust_v0.specs.NodeCount.{nodes_of_production, made_by}
 use Rattle.rust_v0.proofs.Meanings.{makes_no_reference}
 

@@ -6,10 +6,10 @@ use Rattle.rust_tree.specs.Symbol as tree
 use Rattle.rust_tree.specs.Nodes.{IsAbi, IsPath, IsType, IsConstant, IsArguments, IsTypes, IsBounds, IsBindings}
 use Rattle.rust_tree.specs.declared.node.Name.{Name}
 use Rattle.rust_tree.specs.declared.node.Abi.{Abi}
-use Rattle.rust_v0.specs.Value as value
-use Rattle.rust_v0.specs.Value.{Value}
+use Rattle.rust_grammar.specs.Value as value
+use Rattle.rust_grammar.specs.Value.{Value}
 use Rattle.rust_v0.specs.PartValues.{Ground, IsPart, IsNumber, IsSomeInteger, IsNameOf, IsIdentifier, IsSuffix, IsOther, Agree}
-use Rattle.rust_v0.specs.Unfold as of_values
+use Rattle.rust_grammar.specs.Unfold as of_values
 use Rattle.rust_v0.specs.CodeOperands as operands
 use Rattle.rust_v0.specs.declared.part.Part.{Part}
 use Rattle.rust_v0.specs.declared.part.Integer.{Integer}

@@ -4,9 +4,9 @@ use Rattle.sym_shape.specs.Tree.{Forest, branch, empty, token, fixed, nothing, g
 use Rattle.sym_link.specs.Reading.{Open}
 use Rattle.sym_link.specs.Machine.{ended}
 use Rattle.sym_link.specs.Linking.{next_of}
-use Rattle.rust_v0.specs.Value.{Value, State}
-use Rattle.rust_v0.specs.Productions.{production_of}
-use Rattle.rust_v0.specs.Unfold.{v0, meaning_of, at_rule, bound_behind, is_minus}
+use Rattle.rust_grammar.specs.Value.{Value, State}
+use Rattle.rust_grammar.specs.Productions.{production_of}
+use Rattle.rust_grammar.specs.Unfold.{v0, meaning_of, at_rule, bound_behind, is_minus}
 
 pub v0_ended : (s : List ℕ) (rule : Open State ℕ) (known : List Value) (from : ℕ) (left : Forest) (state : State) → row_count_all left ≡ 0
     → ended (v0 s) rule known from left state ≡ meaning_of (production_of rule.rule.number) (at_rule s rule state) known

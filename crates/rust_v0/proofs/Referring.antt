@@ -9,9 +9,9 @@ use Rattle.rust_tree.specs.Tree.{need_of_tree, of_path, of_type, of_constant}
 use Rattle.rust_tree.specs.Nodes.{trees}
 use Rattle.rust_v0.specs.declared.nodes.Target.{Target}
 use Rattle.rust_v0.specs.declared.nodes.RustNodes.{RustNodes}
-use Rattle.rust_v0.specs.Value as value
-use Rattle.rust_v0.specs.Value.{Value, Ended}
-use Rattle.rust_v0.specs.Unfold.{At, as_path, as_type, refers_to_path, refers_to_type, refers_to_constant}
+use Rattle.rust_grammar.specs.Value as value
+use Rattle.rust_grammar.specs.Value.{Value, Ended}
+use Rattle.rust_grammar.specs.Unfold.{At, as_path, as_type, refers_to_path, refers_to_type, refers_to_constant}
 use Rattle.rust_v0.specs.RustNodes.{IsNoted, Keeps, refers_to}
 use Rattle.rust_v0.proofs.Noted.{noted_added}
 

@@ -15,8 +15,8 @@ use Rattle.ucd_table.specs.Rows.{in_ranges}
 use Rattle.ucd_derived.specs.XidContinueRanges.{xid_continue_ranges}
 use lib.Utf8.{encode}
 use Rattle.rust_tree.specs.Need.{need}
-use Rattle.rust_v0.specs.Unfold.{no_such_parts}
-use Rattle.rust_v0.specs.Mangled.{answer_of_shape}
+use Rattle.rust_grammar.specs.Unfold.{no_such_parts}
+use Rattle.rust_grammar.specs.Mangled.{answer_of_shape}
 use Rattle.rust_v0.proofs.Shapes.{shape_of}
 
 -- what the shape that was read is answered with; a symbol that isn't well shaped counts as a no_such_parts one

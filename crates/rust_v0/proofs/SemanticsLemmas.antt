@@ -11,15 +11,15 @@ use Rattle.sym_link.specs.Driving.{AreAll}
 use Rattle.rust_tree.specs.Symbol as tree
 use Rattle.rust_tree.specs.Tree.{Tree, of_path, of_arguments, of_type, of_types, of_bounds, of_bindings, of_constant, of_symbol}
 use Rattle.rust_tree.specs.Nodes.{Table, IsType, type_in, tree_of, path_of, arguments_of, type_of, types_of, bounds_of, bindings_of, constant_of, symbol_of, IsWithin, bytes_at, HasOther, other_of}
-use Rattle.rust_v0.specs.declared.production.Production.TheVariants as rules
+use Rattle.rust_grammar.specs.declared.production.Production.TheVariants as rules
 use Rattle.rust_v0.specs.declared.part.Part.{Part}
 use Rattle.rust_v0.specs.Made.{Made}
 use Rattle.rust_tree.specs.declared.node.Node.{Node}
 use Rattle.rust_tree.specs.declared.node.Constant.{Constant}
 use Rattle.rust_v0.specs.declared.part.Integer.{Integer}
-use Rattle.rust_v0.specs.Value as value
-use Rattle.rust_v0.specs.Value.{Value, a_disambiguator, an_identifier, a_name, an_abi, a_binder, a_lifetime}
-use Rattle.rust_v0.specs.Unfold.{At, Meaning, meaning, Part as Next, greatest_u64, greatest_u128, disambiguator_of, bounded, plain, lifetime_of, integer_of, byte_at, is_scalar, character_of, ends_constant}
+use Rattle.rust_grammar.specs.Value as value
+use Rattle.rust_grammar.specs.Value.{Value, a_disambiguator, an_identifier, a_name, an_abi, a_binder, a_lifetime}
+use Rattle.rust_grammar.specs.Unfold.{At, Meaning, meaning, Part as Next, greatest_u64, greatest_u128, disambiguator_of, bounded, plain, lifetime_of, integer_of, byte_at, is_scalar, character_of, ends_constant}
 use Rattle.rust_v0.specs.PartValues.{Ground, IsPart, Agree, IsNumber, IsSomeInteger, IsSuffix, IsOther}
 use Rattle.rust_v0.specs.Made.{ground, HasLists, MadeGives}
 use Rattle.rust_v0.specs.CodeSemantics as semantics

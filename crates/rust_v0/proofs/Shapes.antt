@@ -9,7 +9,7 @@ use Rattle.sym_shape.specs.declared.rule.Sym.TheVariants.{Kind, Name, Number, By
 use Rattle.sym_shape.specs.Table.{symbols_of}
 use Rattle.sym_shape.specs.Tree.{Tree, Forest}
 use Rattle.sym_shape.specs.Tree as shape
-use Rattle.rust_v0.specs.Rules.{v0_table}
+use Rattle.rust_grammar.specs.Rules.{v0_table}
 
 abbrev pub Read : Type 0 → Type 0
 Read A = Option (A × List ℕ)

@@ -8,10 +8,10 @@ use Rattle.sym_link.specs.Reading.{◌>>=◌}
 use Rattle.sym_demangle.specs.Mangled.{IsBadToken}
 use Rattle.rust_tree.specs.Symbol as tree
 use Rattle.rust_tree.specs.Need.{need, need_of_type}
-use Rattle.rust_v0.specs.declared.production.Production.{Production}
-use Rattle.rust_v0.specs.declared.production.Production.TheVariants as rules
-use Rattle.rust_v0.specs.Value.{Value, Integer, number, an_integer, letter, a_name, an_identifier, a_disambiguator, a_binder, a_lifetime, unsafe_mark, an_abi, a_truth, minus_mark, a_path, a_type, a_constant, some_arguments, some_types, some_bounds, some_bindings, a_suffix}
-use Rattle.rust_v0.specs.Unfold.{At, Meaning, meaning, number_part, integer_part, letter_part, name_part, identifier_part, path_part, type_part, constant_part, lifetime_part, truth_part, abi_value_part, types_part, disambiguator_part, binder_part, some_lifetime_part, unsafe_part, minus_part, abi_part, arguments_part, bounds_part, bindings_part, suffix_part, other_path_part, refers_to_path, refers_to_type, refers_to_constant, lifetime_of, bounded, greatest_u64, greatest_u128, integer_of, character_of, is_scalar, plain, ends_path, ends_type, ends_constant, as_path, as_type, as_constant, referred}
+use Rattle.rust_grammar.specs.declared.production.Production.{Production}
+use Rattle.rust_grammar.specs.declared.production.Production.TheVariants as rules
+use Rattle.rust_grammar.specs.Value.{Value, Integer, number, an_integer, letter, a_name, an_identifier, a_disambiguator, a_binder, a_lifetime, unsafe_mark, an_abi, a_truth, minus_mark, a_path, a_type, a_constant, some_arguments, some_types, some_bounds, some_bindings, a_suffix}
+use Rattle.rust_grammar.specs.Unfold.{At, Meaning, meaning, number_part, integer_part, letter_part, name_part, identifier_part, path_part, type_part, constant_part, lifetime_part, truth_part, abi_value_part, types_part, disambiguator_part, binder_part, some_lifetime_part, unsafe_part, minus_part, abi_part, arguments_part, bounds_part, bindings_part, suffix_part, other_path_part, refers_to_path, refers_to_type, refers_to_constant, lifetime_of, bounded, greatest_u64, greatest_u128, integer_of, character_of, is_scalar, plain, ends_path, ends_type, ends_constant, as_path, as_type, as_constant, referred}
 use Rattle.rust_v0.proofs.Sorts as sorts
 use Rattle.rust_v0.proofs.Sorts.{Sort, Slot, sort_of, sorts_of, fills, slots_of, made_by}
 

@@ -12,12 +12,12 @@ use Rattle.sym_shape.specs.Table.{symbols_of}
 use Rattle.sym_shape.specs.Tree.{Tree, Forest, branch, empty, token, fixed, nothing, grown, spell, TakesRule, IsTree, AreTrees}
 use Rattle.sym_link.specs.Reading.{Found, Open, ◌>>=◌}
 use Rattle.sym_link.specs.Unfold.{alone, standing, unfold_tree, unfold_forest}
-use Rattle.rust_v0.specs.declared.production.Production.{Production}
-use Rattle.rust_v0.specs.declared.production.Production.TheVariants as rules
-use Rattle.rust_v0.specs.Productions.{production_of}
-use Rattle.rust_v0.specs.Rules.{v0_table}
-use Rattle.rust_v0.specs.Value.{Value, State, a_symbol}
-use Rattle.rust_v0.specs.Unfold.{meaning_of, token_of, at_rule, at_first, v0, symbol_of, unfolded, is_minus, bound_behind}
+use Rattle.rust_grammar.specs.declared.production.Production.{Production}
+use Rattle.rust_grammar.specs.declared.production.Production.TheVariants as rules
+use Rattle.rust_grammar.specs.Productions.{production_of}
+use Rattle.rust_grammar.specs.Rules.{v0_table}
+use Rattle.rust_grammar.specs.Value.{Value, State, a_symbol}
+use Rattle.rust_grammar.specs.Unfold.{meaning_of, token_of, at_rule, at_first, v0, symbol_of, unfolded, is_minus, bound_behind}
 use Rattle.rust_v0.proofs.Sorts as sorts
 use Rattle.rust_v0.proofs.Sorts.{Sort, is_same, sort_of, sorts_of, slots_of, made_by, token_sort, always_fills, IsSorted, is_sorted, IsOption, lone_option, empty_option, full_option}
 use Rattle.sym_demangle.specs.Mangled.{IsBadToken}

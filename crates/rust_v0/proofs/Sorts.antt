@@ -8,12 +8,12 @@ use Rattle.sym_shape.specs.declared.rule.Sym.{Sym}
 use Rattle.sym_shape.specs.declared.rule.Sym.TheVariants.{Kind, Name, Number, Byte}
 use Rattle.sym_shape.specs.Sheet.{KindSheet, choice_at}
 use Rattle.sym_shape.specs.Table.{symbols_of}
-use Rattle.rust_v0.specs.declared.production.Production.{Production}
-use Rattle.rust_v0.specs.declared.production.Production.TheVariants as rules
-use Rattle.rust_v0.specs.Productions.{production_of}
-use Rattle.rust_v0.specs.Rules.{v0_table, kinds, no_kind}
-use Rattle.rust_v0.specs.Value as value
-use Rattle.rust_v0.specs.Value.{Value}
+use Rattle.rust_grammar.specs.declared.production.Production.{Production}
+use Rattle.rust_grammar.specs.declared.production.Production.TheVariants as rules
+use Rattle.rust_grammar.specs.Productions.{production_of}
+use Rattle.rust_grammar.specs.Rules.{v0_table, kinds, no_kind}
+use Rattle.rust_grammar.specs.Value as value
+use Rattle.rust_grammar.specs.Value.{Value}
 use Rattle.rust_v0.proofs.Entering.{all_pass, chosen_passes}
 
 -- ## Sorts

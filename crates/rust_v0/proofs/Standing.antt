@@ -23,17 +23,17 @@ use Rattle.rust_tree.specs.Layout.{ReadSymbol}
 use Rattle.rust_tree.specs.Nodes.{IsSymbol, IsTable, trees, symbol_in}
 use Rattle.rust_v0.specs.declared.nodes.RustNodes.{RustNodes}
 use Rattle.rust_v0.specs.declared.part.Part.{Part}
-use Rattle.rust_v0.specs.declared.production.Production.{Production}
-use Rattle.rust_v0.specs.declared.production.Production.TheVariants as rules
-use Rattle.rust_v0.specs.declared.kind.TheConstants.{PATH, OTHER_PATH, SUFFIX}
-use Rattle.rust_v0.specs.Productions.{production_of}
-use Rattle.rust_v0.specs.Rules.{v0_table, takes, each}
-use Rattle.rust_v0.specs.Value as value
-use Rattle.rust_v0.specs.Value.{Value, State}
-use Rattle.rust_v0.specs.Unfold as defined
-use Rattle.rust_v0.specs.Unfold.{At, Meaning, v0, at_first, at_rule, meaning, symbol_of, unfolded, path_part, other_path_part, suffix_part}
+use Rattle.rust_grammar.specs.declared.production.Production.{Production}
+use Rattle.rust_grammar.specs.declared.production.Production.TheVariants as rules
+use Rattle.rust_grammar.specs.declared.kind.TheConstants.{PATH, OTHER_PATH, SUFFIX}
+use Rattle.rust_grammar.specs.Productions.{production_of}
+use Rattle.rust_grammar.specs.Rules.{v0_table, takes, each}
+use Rattle.rust_grammar.specs.Value as value
+use Rattle.rust_grammar.specs.Value.{Value, State}
+use Rattle.rust_grammar.specs.Unfold as defined
+use Rattle.rust_grammar.specs.Unfold.{At, Meaning, v0, at_first, at_rule, meaning, symbol_of, unfolded, path_part, other_path_part, suffix_part}
 use Rattle.rust_v0.specs.PartValues.{Ground, IsPart}
-use Rattle.rust_v0.specs.Mangled.{whole_of}
+use Rattle.rust_v0.specs.Whole.{whole_of}
 use Rattle.rust_v0.specs.RustNodes.{v0_view}
 use Rattle.rust_v0.specs.NodeCount.{made_by, nodes_of_shape, v0_counted}
 

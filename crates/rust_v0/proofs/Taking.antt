@@ -18,15 +18,15 @@ use Rattle.sym_shape.specs.declared.rule.Sym.{Sym}
 use Rattle.sym_shape.specs.Table.{Token, symbols_of}
 use Rattle.sym_shape.specs.Tree.{Forest, nothing, grown, empty, fixed, token, branch, spell_all, AreTrees, IsTree}
 use Rattle.rust_v0.specs.declared.part.Part.{Part}
-use Rattle.rust_v0.specs.declared.production.Production.{Production}
-use Rattle.rust_v0.specs.declared.production.Production.TheVariants as rules
+use Rattle.rust_grammar.specs.declared.production.Production.{Production}
+use Rattle.rust_grammar.specs.declared.production.Production.TheVariants as rules
 use Rattle.rust_v0.specs.declared.tokens.TokenSort.{TokenSort}
-use Rattle.rust_v0.specs.Productions.{production_of}
-use Rattle.rust_v0.specs.Rules.{v0_table, kinds}
+use Rattle.rust_grammar.specs.Productions.{production_of}
+use Rattle.rust_grammar.specs.Rules.{v0_table, kinds}
 use Rattle.rust_v0.specs.Tokens.{sort_of, value_as, IsOwn, HasZero, minus_before}
-use Rattle.rust_v0.specs.Unfold.{token_of, is_minus}
-use Rattle.rust_v0.specs.Value as value
-use Rattle.rust_v0.specs.Value.{Value, State}
+use Rattle.rust_grammar.specs.Unfold.{token_of, is_minus}
+use Rattle.rust_grammar.specs.Value as value
+use Rattle.rust_grammar.specs.Value.{Value, State}
 use Rattle.rust_v0.specs.PartValues.{Ground, IsPart}
 use Rattle.rust_v0.proofs.Entering.{rule_passes, all_pass, all_kinds_pass}
 

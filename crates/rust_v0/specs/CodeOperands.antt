@@ -6,9 +6,9 @@ use Rattle.sym_core.specs.declared.refusal.Refusal.{Refusal}
 use Rattle.sym_core.specs.declared.Span.{Span}
 use Rattle.rust_tree.specs.declared.node.Name.{Name}
 use Rattle.rust_tree.specs.declared.node.Abi.{Abi}
-use Rattle.rust_v0.specs.declared.production.Production.{Production}
-use Rattle.rust_v0.specs.declared.production.Production.TheVariants as rules
-use Rattle.rust_v0.specs.Unfold.{greatest_u64, no_such_parts}
+use Rattle.rust_grammar.specs.declared.production.Production.{Production}
+use Rattle.rust_grammar.specs.declared.production.Production.TheVariants as rules
+use Rattle.rust_grammar.specs.Unfold.{greatest_u64, no_such_parts}
 use Rattle.rust_v0.specs.declared.operands.TheConstants.{EMPTY_ARGUMENTS, EMPTY_BINDINGS}
 use Rattle.rust_v0.specs.declared.part.Part.{Part}
 use Rattle.rust_v0.specs.declared.part.Integer.{Integer}

@@ -15,11 +15,11 @@ use Rattle.rust_tree.specs.declared.node.Types.{Types}
 use Rattle.rust_tree.specs.declared.node.Bounds.{Bounds}
 use Rattle.rust_tree.specs.declared.node.Bindings.{Bindings}
 use Rattle.rust_tree.specs.declared.node.Constant.{Constant}
-use Rattle.rust_v0.specs.declared.production.Production.{Production}
-use Rattle.rust_v0.specs.declared.production.Production.TheVariants as rules
+use Rattle.rust_grammar.specs.declared.production.Production.{Production}
+use Rattle.rust_grammar.specs.declared.production.Production.TheVariants as rules
 use Rattle.rust_v0.specs.CodeOperands as operands
-use Rattle.rust_v0.specs.Productions.{production_of, is_reference, makes_part}
-use Rattle.rust_v0.specs.Unfold.{greatest_u64, is_scalar, no_such_parts}
+use Rattle.rust_grammar.specs.Productions.{production_of, is_reference, makes_part}
+use Rattle.rust_grammar.specs.Unfold.{greatest_u64, is_scalar, no_such_parts}
 use Rattle.rust_v0.specs.declared.nodes.Target.{Target}
 use Rattle.rust_v0.specs.declared.operands.TheConstants.{EMPTY_BOUNDS}
 use Rattle.rust_v0.specs.declared.part.Part.{Part}

@@ -12,10 +12,10 @@ use Rattle.rust_tree.specs.declared.node.Abi.{Abi}
 use Rattle.rust_v0.specs.declared.part.Part.{Part}
 use Rattle.rust_v0.specs.declared.part.Integer.{Integer}
 use Rattle.rust_v0.specs.declared.nodes.RustNodes.{RustNodes}
-use Rattle.rust_v0.specs.Value as value
-use Rattle.rust_v0.specs.Value.{Value}
-use Rattle.rust_v0.specs.TableLaws as laws
-use Rattle.rust_v0.specs.Rules.{v0_table}
+use Rattle.rust_grammar.specs.Value as value
+use Rattle.rust_grammar.specs.Value.{Value}
+use Rattle.rust_grammar.specs.TableLaws as laws
+use Rattle.rust_grammar.specs.Rules.{v0_table}
 use Rattle.rust_v0.specs.PartValues.{IsPart, IsSomeInteger}
 use Rattle.rust_v0.specs.Made.{ground}
 use Rattle.rust_v0.specs.RustNodes.{v0_view, GoesOn}

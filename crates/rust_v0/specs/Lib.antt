@@ -1,11 +1,4 @@
-pub mod Productions
-pub mod BasicLetters
-pub mod Rules
-pub mod Listed
-pub mod TableLaws
-pub mod Value
 pub mod Tokens
-pub mod Unfold
 pub mod PartValues
 pub mod CodeOperands
 pub mod Made
@@ -13,4 +6,4 @@ pub mod CodeSemantics
 pub mod RustNodes
 pub mod NodeCount
 pub mod LanguageLaws
-pub mod Mangled
+pub mod Whole

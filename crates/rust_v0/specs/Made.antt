@@ -4,9 +4,9 @@ use Rattle.sym_core.specs.declared.refusal.Refusal.{Refusal}
 use Rattle.rust_tree.specs.Symbol as tree
 use Rattle.rust_tree.specs.Tree.{Tree, of_path, of_arguments, of_type, of_types, of_bounds, of_bindings, of_constant, of_symbol}
 use Rattle.rust_tree.specs.Nodes.{Table, Makes, trees, IsArguments, IsBounds, IsBindings}
-use Rattle.rust_v0.specs.Value as value
-use Rattle.rust_v0.specs.Value.{Value}
-use Rattle.rust_v0.specs.Unfold.{At, Meaning, plain, ends_path, ends_type, ends_constant}
+use Rattle.rust_grammar.specs.Value as value
+use Rattle.rust_grammar.specs.Value.{Value}
+use Rattle.rust_grammar.specs.Unfold.{At, Meaning, plain, ends_path, ends_type, ends_constant}
 use Rattle.rust_v0.specs.PartValues.{Ground, IsPart}
 use Rattle.rust_v0.specs.declared.operands.TheConstants.{EMPTY_ARGUMENTS, EMPTY_BOUNDS, EMPTY_BINDINGS}
 use Rattle.rust_v0.specs.declared.part.Part as part

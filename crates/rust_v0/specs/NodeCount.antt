@@ -3,12 +3,12 @@ use Rattle.std.specs.Prelude.{◌≡◌, ℕ, ◌+◌, ◌||◌, if◌then◌els
 use Rattle.sym_shape.specs.Tree.{Tree}
 use Rattle.sym_link.specs.Linking.{View}
 use Rattle.sym_link.specs.Tally.{Tally, closing_makes, tallied_view, nodes_in}
-use Rattle.rust_v0.specs.declared.production.Production.{Production}
+use Rattle.rust_grammar.specs.declared.production.Production.{Production}
 use Rattle.rust_v0.specs.declared.nodes.BoundLifetimes.{BoundLifetimes}
 use Rattle.rust_v0.specs.declared.nodes.RustNodes.{RustNodes}
 use Rattle.rust_v0.specs.declared.part.Part.{Part}
-use Rattle.rust_v0.specs.Productions.{production_of, is_reference, makes_part}
-use Rattle.rust_v0.specs.Value.{Value, State}
+use Rattle.rust_grammar.specs.Productions.{production_of, is_reference, makes_part}
+use Rattle.rust_grammar.specs.Value.{Value, State}
 use Rattle.rust_v0.specs.RustNodes.{v0_view, first_nodes}
 
 -- A production makes one node where it closes, but for a reference, which names a node that is there, and for what is a part of

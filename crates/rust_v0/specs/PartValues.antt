@@ -10,9 +10,9 @@ use Rattle.rust_tree.specs.Symbol as tree
 use Rattle.rust_tree.specs.Tree.{Tree}
 use Rattle.rust_tree.specs.Nodes.{most_bound, IsName, IsAbi, IsPath, IsType, IsConstant, IsArguments, IsTypes, IsBounds, IsBindings, IsSymbol, IsWithin, bytes_at, HasNoZero}
 use Rattle.rust_tree.specs.declared.node.Name.{Name}
-use Rattle.rust_v0.specs.Value as value
-use Rattle.rust_v0.specs.Value.{Value}
-use Rattle.rust_v0.specs.Unfold.{value16, Part as Next}
+use Rattle.rust_grammar.specs.Value as value
+use Rattle.rust_grammar.specs.Value.{Value}
+use Rattle.rust_grammar.specs.Unfold.{value16, Part as Next}
 use Rattle.rust_v0.specs.declared.part.Part.{Part}
 use Rattle.rust_v0.specs.declared.part.Integer.{Integer}
 

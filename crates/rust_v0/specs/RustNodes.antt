@@ -6,17 +6,17 @@ use Rattle.rust_tree.specs.Symbol as tree
 use Rattle.rust_tree.specs.Tree.{Tree, of_type}
 use Rattle.rust_tree.specs.Nodes.{most_bound, IsTable, Grows, IsPath, IsConstant}
 use Rattle.sym_core.specs.declared.refusal.Refusal.TheVariants.{BadReference}
-use Rattle.rust_v0.specs.declared.production.Production.{Production}
-use Rattle.rust_v0.specs.declared.production.Production.TheVariants as rules
+use Rattle.rust_grammar.specs.declared.production.Production.{Production}
+use Rattle.rust_grammar.specs.declared.production.Production.TheVariants as rules
 use Rattle.rust_v0.specs.declared.nodes.Target.{Target}
 use Rattle.rust_v0.specs.declared.nodes.BoundLifetimes.{BoundLifetimes}
 use Rattle.rust_v0.specs.declared.nodes.RustNodes.{RustNodes}
 use Rattle.rust_v0.specs.declared.part.Part.{Part}
-use Rattle.rust_v0.specs.Productions.{production_of}
-use Rattle.rust_v0.specs.Rules.{v0_table}
-use Rattle.rust_v0.specs.Value as value
-use Rattle.rust_v0.specs.Value.{Value, State, Ended}
-use Rattle.rust_v0.specs.Unfold.{v0, at_first, ended_at, as_path, as_type, as_constant, At, Meaning, ends, no_such_parts, refers_to_path, refers_to_type, refers_to_constant}
+use Rattle.rust_grammar.specs.Productions.{production_of}
+use Rattle.rust_grammar.specs.Rules.{v0_table}
+use Rattle.rust_grammar.specs.Value as value
+use Rattle.rust_grammar.specs.Value.{Value, State, Ended}
+use Rattle.rust_grammar.specs.Unfold.{v0, at_first, ended_at, as_path, as_type, as_constant, At, Meaning, ends, no_such_parts, refers_to_path, refers_to_type, refers_to_constant}
 use Rattle.rust_v0.specs.PartValues.{IsPart}
 use Rattle.rust_v0.specs.Made.{ground, HasLists}
 use Rattle.rust_v0.specs.Tokens.{HasZero}

@@ -7,11 +7,11 @@ use Rattle.sym_core.specs.declared.NameClass.TheVariants.{Rust}
 use Rattle.sym_core.specs.declared.NumberKind.TheVariants.{Base62, Hex}
 use Rattle.rust_tree.specs.Nodes.{IsWithin, bytes_at}
 use Rattle.rust_v0.specs.declared.part.Part.{Part}
-use Rattle.rust_v0.specs.declared.production.Production.{Production}
-use Rattle.rust_v0.specs.declared.production.Production.TheVariants as rules
+use Rattle.rust_grammar.specs.declared.production.Production.{Production}
+use Rattle.rust_grammar.specs.declared.production.Production.TheVariants as rules
 use Rattle.rust_v0.specs.declared.tokens.TokenSort.{TokenSort}
-use Rattle.rust_v0.specs.Unfold.{value16, value62, an_integer_of}
-use Rattle.rust_v0.specs.Value.{Value, number, a_name}
+use Rattle.rust_grammar.specs.Unfold.{value16, value62, an_integer_of}
+use Rattle.rust_grammar.specs.Value.{Value, number, a_name}
 
 -- the sort of a token by the production that it is a part of
 abbrev pub sort_of : Option Production → TokenSort

@@ -7,9 +7,10 @@ ghost use Rattle.sym_print.specs.declared.detail.Detail.{Detail};
 ghost use Rattle.sym_shape.specs.Tree.{AreRowsOf};
 ghost use Rattle.sym_shape.specs.declared.rule.Row.{Row};
 ghost use Rattle.sym_demangle.specs.Standing.{AreStepsInAll, AreNodesOf};
-ghost use Rattle.rust_v0.specs.Mangled.{IsReading, IsAnswer, whole_of};
+ghost use Rattle.rust_grammar.specs.Mangled.{IsReading, IsAnswer};
+ghost use Rattle.rust_v0.specs.Whole.{whole_of};
 ghost use Rattle.rust_v0.specs.NodeCount.{are_nodes};
-ghost use Rattle.rust_v0.specs.Rules.{v0_table};
+ghost use Rattle.rust_grammar.specs.Rules.{v0_table};
 
 use crate::grammar::V0;
 use rust_tree::{Detail, Symbol};

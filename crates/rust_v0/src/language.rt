@@ -10,16 +10,16 @@ ghost use Rattle.rust_tree.specs.declared.node.Name.{Name};
 ghost use Rattle.rust_v0.specs.declared.part.Part.{Part};
 ghost use Rattle.rust_v0.specs.RustNodes.{v0_view};
 ghost use Rattle.rust_v0.specs.NodeCount.{made_by};
-ghost use Rattle.rust_v0.specs.Productions.{production_of, is_reference, makes_part};
+ghost use Rattle.rust_grammar.specs.Productions.{production_of, is_reference, makes_part};
 ghost use Rattle.rust_v0.specs.CodeOperands as operands;
 ghost use Rattle.rust_v0.specs.Tokens as tokens;
 ghost use Rattle.rust_v0.specs.CodeSemantics as semantics;
 
 use crate::nodes::{BoundLifetimes, RustNodes};
 use crate::part::{NO_SUCH_PARTS, Part, part_of};
-use crate::production::{Production, numbered};
 use crate::semantics::{Site, crate_root, makes_part, nested, part_by};
 use crate::tokens::{TokenSort, sort_of};
+use rust_grammar::production::{Production, numbered};
 use rust_tree::node::Node;
 use sym_core::{Refusal, Span};
 use sym_link::language::{Frame, Linking};
@@ -385,7 +385,7 @@ impl Linking for RustNodes {
     ghost use Rattle.sym_link.specs.Linking.{HasRoom, IsOpen, OpensRoot, Opens, TakesToken, ClosesRule, Adds, AddsFew, Pays, KeepsRoom, NeedsRoom, TokenNeedsRoom, owed_behind, owed_next};
     ghost use Rattle.sym_link.specs.Room.{KeepRoom, OnlyForRoom};
     ghost use Rattle.sym_link.specs.Tally.{Tally};
-    ghost use Rattle.rust_v0.specs.Value.{Value, State};
+    ghost use Rattle.rust_grammar.specs.Value.{Value, State};
     ghost use Rattle.rust_v0.specs.NodeCount.{v0_counted};
     ghost use Rattle.rust_v0.specs.LanguageLaws.{v0_counted_laws};
 

@@ -3,15 +3,12 @@
 
 mod demangling;
 mod grammar;
-pub mod kind;
 mod language;
 mod mangling;
 mod nodes;
 mod operands;
 pub mod part;
-pub mod production;
 mod semantics;
-mod table;
 pub mod tokens;
 
 pub use demangling::{demangle, demangle_as, read, read_fed};

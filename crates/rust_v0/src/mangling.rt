@@ -1,22 +1,25 @@
 // Rust's mangling, as the demangler takes it.
 
-ghost use Rattle.std.specs.Prelude.{◌≡◌, ℕ, ◌∷◌, [], length, OnOk, IfErr, Ok};
+ghost use Rattle.std.specs.Prelude.{◌≡◌, ℕ, ◌∷◌, [], length, OnOk, IfErr, Ok, true};
 ghost use Rattle.sym_core.specs.Number.{FitsSymbol};
 ghost use Rattle.sym_core.specs.declared.refusal.Refusal.TheVariants as refusals;
+ghost use Rattle.sym_print.specs.declared.detail.Detail.TheVariants as details;
 ghost use Rattle.sym_print.specs.declared.layout.Part.TheVariants as parts;
 ghost use Rattle.sym_shape.specs.Tree.{Tree};
 ghost use Rattle.sym_demangle.specs.Standing.{Begins, IsLinked};
 ghost use Rattle.rust_tree.specs.Layout.{MayCome, unshared_of};
 ghost use Rattle.rust_tree.specs.Shown.{symbol_parts};
-ghost use Rattle.rust_v0.specs.Rules.{v0_table};
+ghost use Rattle.rust_grammar.specs.Rules.{v0_table};
 ghost use Rattle.rust_v0.specs.declared.part.Part.TheVariants as part;
+ghost use Rattle.rust_grammar.specs.Mangled.{IsAnswer};
 ghost use Rattle.rust_v0.specs.NodeCount.{v0_counted, nodes_of_shape};
-ghost use Rattle.rust_v0.specs.Mangled.{whole_of};
-ghost use Rattle.rust_v0.specs.Unfold.{unfolded};
+ghost use Rattle.rust_v0.specs.Whole.{whole_of};
+ghost use Rattle.rust_grammar.specs.Unfold.{unfolded};
 
 use crate::grammar::V0;
 use crate::nodes::RustNodes;
 use crate::part::Part;
+use rust_direct::Direct;
 use rust_tree::{Context, Detail, Nodes, Symbol};
 use std::alloc::Global;
 use std::mem;
@@ -38,13 +41,16 @@ fn whole_node(parts: &[Part]) -> u32
 impl Mangling for V0 {
     ghost use Rattle.std.specs.Prelude.{length, refl};
     ghost use Rattle.rust_tree.specs.Symbol as tree;
-    ghost use Rattle.rust_v0.specs.Mangled.{v0_mangled, v0_fails, v0_counts, node_count, whole_of};
+    ghost use Rattle.rust_grammar.specs.Mangled.{v0_mangled};
+    ghost use Rattle.rust_v0.specs.Whole.{v0_fails, v0_counts, node_count, whole_of};
     ghost use Rattle.rust_v0.specs.RustNodes as nodes;
     ghost use Rattle.rust_v0.specs.NodeCount as count;
 
     type Linked = RustNodes;
 
     type Symbol = Symbol;
+
+    type Direct = Direct;
 
     ghost Whole = { tree.Symbol };
 
@@ -61,6 +67,8 @@ impl Mangling for V0 {
     ghost nodes_of = { λ y. length y.table.nodes };
 
     ghost are_nodes = { count.are_nodes };
+
+    ghost written = { λ direct. direct.text.list.items };
 
     ghost count_of = { node_count };
 
@@ -112,6 +120,25 @@ impl Mangling for V0 {
         let (bytes, nodes) = symbol.into_lists();
         linked.nodes = nodes;
         bytes
+    }
+
+    fn direct(alloc: Global) -> Direct {
+        Direct::new(alloc)
+    }
+
+    #[inline(always)]
+    fn write(direct: &mut Direct, symbol: &[u8], limit: u32) -> bool
+        requires { FitsSymbol symbol.now }
+        ensures { result ≡ true → IsAnswer details.Full symbol.now limit (Ok direct.new.text.list.items) }
+    {
+        direct.write(symbol, limit)
+    }
+
+    #[inline(always)]
+    fn text(direct: &Direct) -> &[u8]
+        ensures { result.now ≡ direct.now.text.list.items }
+    {
+        direct.text()
     }
 
     fn refuses_bad_tokens() {}

@@ -6,10 +6,10 @@ ghost use Rattle.sym_core.specs.declared.refusal.Refusal.TheVariants as refusals
 ghost use Rattle.rust_v0.specs.declared.nodes.Target.TheVariants as target;
 ghost use Rattle.rust_v0.specs.Made.{Made};
 ghost use Rattle.rust_v0.specs.PartValues.{IsNumber, IsPart};
-ghost use Rattle.rust_v0.specs.Unfold.{At, Meaning, meaning, refers_to_path, refers_to_type, refers_to_constant, as_path, as_type, as_constant};
-ghost use Rattle.rust_v0.specs.Value.{Value};
+ghost use Rattle.rust_grammar.specs.Unfold.{At, Meaning, meaning, refers_to_path, refers_to_type, refers_to_constant, as_path, as_type, as_constant};
+ghost use Rattle.rust_grammar.specs.Value.{Value};
 ghost use Rattle.rust_tree.specs.Tree.{Tree, need_of_tree};
-ghost use Rattle.rust_v0.specs.Productions.{is_reference, makes_part};
+ghost use Rattle.rust_grammar.specs.Productions.{is_reference, makes_part};
 ghost use Rattle.rust_v0.specs.CodeSemantics as semantics;
 ghost use Rattle.rust_v0.specs.CodeSemantics.{Outcome, of_node};
 ghost use Rattle.rust_v0.specs.Made.{MadeGives, ground};
@@ -21,13 +21,13 @@ ghost use Rattle.rust_tree.specs.Nodes.{trees};
 
 use crate::operands::number;
 use crate::part::{Added, NO_SUCH_PARTS, Part};
-use crate::production::Production;
 use crate::semantics::{
     Site, array, binding, bool_constant, char_constant, const_pointer, constant_argument,
     crate_root, dyn_type, function, generic, inherent_impl, lifetime_argument, more_bounds,
     more_types, mut_pointer, mutable_reference, nested, shared_reference, signed_constant, slice,
     symbol, trait_definition, trait_impl, tuple, type_argument, unsigned_constant,
 };
+use rust_grammar::production::Production;
 use rust_tree::Nodes;
 use rust_tree::node::{Arguments, Bindings, Bounds, Constant, Node, Ty, Types};
 use std::alloc::Global;

@@ -3,14 +3,14 @@
 
 ghost use Rattle.std.specs.Prelude.{◌≡◌, ◌≢◌, ℕ, List, length, slice_index, true, IfErr};
 ghost use Rattle.sym_core.specs.declared.refusal.Refusal.TheVariants as refusals;
-ghost use Rattle.rust_v0.specs.Productions.{makes_part};
+ghost use Rattle.rust_grammar.specs.Productions.{makes_part};
 ghost use Rattle.rust_v0.specs.CodeSemantics as semantics;
 ghost use Rattle.rust_v0.specs.CodeSemantics.{of_part, of_node};
-ghost use Rattle.rust_v0.specs.Unfold.{is_scalar as scalar};
+ghost use Rattle.rust_grammar.specs.Unfold.{is_scalar as scalar};
 
 use crate::operands::{self, EMPTY_BOUNDS};
 use crate::part::{Integer, NO_SUCH_PARTS, Part};
-use crate::production::Production;
+use rust_grammar::production::Production;
 use rust_tree::node::{
     Abi, Arguments, Bindings, Bounds, Constant, MOST_BOUND, Node, Path, Ty, Types, Whole,
 };

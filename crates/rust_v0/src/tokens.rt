@@ -8,11 +8,11 @@ ghost use Rattle.sym_core.specs.declared.NameClass.TheVariants.{Rust};
 ghost use Rattle.sym_core.specs.declared.NumberKind.TheVariants.{Base62, Hex};
 ghost use Rattle.sym_core.specs.declared.refusal.Refusal.TheVariants as refusals;
 ghost use Rattle.rust_tree.specs.Nodes.{HasNoZero, IsTable, Grows, IsWithin, bytes_at};
-ghost use Rattle.rust_v0.specs.Productions.{production_of};
+ghost use Rattle.rust_grammar.specs.Productions.{production_of};
 ghost use Rattle.rust_v0.specs.Tokens as tokens;
 ghost use Rattle.rust_v0.specs.Tokens.{IsOwn, HasZero, value_as, minus_before};
-ghost use Rattle.rust_v0.specs.Unfold.{value16 as value_of_hex, value62 as value_of_base62, an_integer_of};
-ghost use Rattle.rust_v0.specs.Value.{a_name};
+ghost use Rattle.rust_grammar.specs.Unfold.{value16 as value_of_hex, value62 as value_of_base62, an_integer_of};
+ghost use Rattle.rust_grammar.specs.Value.{a_name};
 ghost use Rattle.rust_v0.specs.PartValues.{IsNumber, IsPart};
 ghost use Rattle.rust_v0.specs.Made.{ground};
 ghost use Rattle.rust_v0.specs.RustNodes.{most_text};
@@ -20,7 +20,7 @@ ghost use Rattle.rust_v0.specs.declared.tokens.TokenSort.TheVariants as sorts;
 
 use crate::nodes::RustNodes;
 use crate::part::{Integer, NO_SUCH_PARTS, Part};
-use crate::production::{Production, numbered};
+use rust_grammar::production::{Production, numbered};
 use rust_tree::node::Name;
 use sym_core::{
     NameClass, NumberKind, Refusal, Span, are_digits, are_name_bytes, value16, value62,

@@ -1,16 +1,17 @@
 // What a mangling tells the linker, and what it makes of a linked symbol.
 
-ghost use Rattle.std.specs.Prelude.{◌≡◌, ℕ, List, OnOk, IfErr, Ok};
+ghost use Rattle.std.specs.Prelude.{◌≡◌, ℕ, List, OnOk, IfErr, Ok, true};
 ghost use Rattle.sym_core.specs.Number.{FitsSymbol};
 ghost use Rattle.sym_core.specs.declared.refusal.Refusal.{Refusal};
 ghost use Rattle.sym_core.specs.declared.refusal.Refusal.TheVariants as refusals;
+ghost use Rattle.sym_print.specs.declared.detail.Detail.TheVariants as details;
 ghost use Rattle.sym_print.specs.declared.layout.Part.TheVariants as part;
 ghost use Rattle.sym_shape.specs.Grown.{GrowsInto};
 ghost use Rattle.sym_shape.specs.Tree.{Tree, IsTree, spell};
 ghost use Rattle.sym_shape.specs.declared.rule.Sym.TheVariants.{Kind};
 ghost use Rattle.sym_link.specs.Driving.{Fails};
 ghost use Rattle.sym_link.specs.Following.{meaning_of};
-ghost use Rattle.sym_demangle.specs.Mangled.{Mangled, RefusesBadTokens};
+ghost use Rattle.sym_demangle.specs.Mangled.{Mangled, IsAnswer, RefusesBadTokens};
 ghost use Rattle.sym_demangle.specs.Standing.{Begins, CountsNodes, IsLinked};
 
 use std::alloc::Global;
@@ -26,6 +27,9 @@ pub trait Mangling: Grammar + Copy {
 
     /// A symbol that was read.
     type Symbol: Layout + Drop;
+
+    /// The lists of the short way, by which the text of a symbol of common parts is written while it is read.
+    type Direct: Drop;
 
     // what a symbol stands for
     ghost Whole: { Type 0 };
@@ -45,6 +49,9 @@ pub trait Mangling: Grammar + Copy {
 
     // whether a symbol of a shape has so many nodes
     ghost are_nodes: { Tree → ℕ → Type 0 };
+
+    // the text that was written last
+    ghost written: { Self.Direct → List ℕ };
 
     // how many nodes a table has, and how many of them it has before the first step
     ghost count_of: { Self.Linked → ℕ };
@@ -85,6 +92,19 @@ pub trait Mangling: Grammar + Copy {
 
     /// Takes back the lists of a symbol: its nodes, and its bytes, which are answered. It takes no memory.
     fn recycle(linked: &mut Self::Linked, symbol: Self::Symbol) -> Vec<u8>;
+
+    /// The lists of the short way. They take no memory.
+    fn direct(alloc: Global) -> Self::Direct;
+
+    /// Writes the text of a symbol in full, if the symbol is one that goes the short way and its text costs at most the limit, and
+    /// answers whether it did. Where it didn't, nothing is known of the symbol.
+    fn write(direct: &mut Self::Direct, symbol: &[u8], limit: u32) -> bool
+        requires { FitsSymbol symbol.now }
+        ensures { result ≡ true → IsAnswer mangled details.Full symbol.now limit (Ok (written direct.new)) };
+
+    /// The text that was written last.
+    fn text(direct: &Self::Direct) -> &[u8]
+        ensures { result.now ≡ written direct.now };
 
     /// What is well shaped is refused for a bad token alone.
     fn refuses_bad_tokens()

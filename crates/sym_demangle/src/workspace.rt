@@ -34,6 +34,7 @@ pub struct Workspace<M: Mangling> {
     linked: M::Linked,
     driver: Driver<M::Linked>,
     printer: Printer<<M::Symbol as Layout>::Ctx>,
+    direct: M::Direct,
     // what was read ahead of a symbol, whose end isn't told
     ahead: Reader<M>,
     ghost ahead_is_open: { ahead.ended ≡ false },
@@ -113,6 +114,7 @@ impl<M: Mangling> Workspace<M> {
             linked: M::idle(alloc),
             driver: Driver::new(alloc),
             printer: Printer::idle(alloc),
+            direct: M::direct(alloc),
             ahead: Reader::with_lists(&M::grammar(), Vec::new(alloc), Shape::new(alloc)),
         }
     }
@@ -244,12 +246,39 @@ impl<M: Mangling> Workspace<M> {
         self.bytes = M::recycle(&mut self.linked, symbol);
     }
 
-    /// Appends the text of a symbol in a detail, if it costs at most the limit.
+    /// Appends the text of a symbol in a detail, if it costs at most the limit. In full one of common parts is written while it is
+    /// read, and its rows and nodes are never made.
     ///
     /// # Errors
     ///
     /// Those of `read`, and `TooLong` exactly where the text costs more. The list is then as it was.
     pub fn demangle_into(
+        &mut self,
+        s: &[u8],
+        limit: u32,
+        detail: Detail,
+        out: &mut Vec<u8>,
+    ) -> Result<(), Refusal>
+        requires { FitsSymbol s.now }
+        ensures text { OnOk result ((text : List ℕ) × (out.new.items ≡ out.old.items ++ text) × IsAnswer M.mangled detail s.now limit (Ok text)) }
+        ensures refused { IfErr result (λ e. (e ≡ refusals.Memory) ⊎ IsAnswer M.mangled detail s.now limit (Err e)) }
+        ensures same { OnErr result (out.new.items ≡ out.old.items) }
+    {
+        if let Detail::Full = detail
+            && M::write(&mut self.direct, s, limit)
+        {
+            out.extend_from_slice(M::text(&self.direct))?;
+            return Ok(());
+        }
+        self.demangle_by_rows(s, limit, detail, out)
+    }
+
+    /// Appends the text of a symbol, which is read into rows and nodes first.
+    ///
+    /// # Errors
+    ///
+    /// Those of `demangle_into`.
+    fn demangle_by_rows(
         &mut self,
         s: &[u8],
         limit: u32,

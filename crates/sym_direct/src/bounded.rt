@@ -1,9 +1,15 @@
 // Lists that grow up to a bound.
 
-ghost use Rattle.std.specs.Prelude.{◌≡◌, ◌+◌, ◌-◌, ◌≤◌, ◌∷◌, ◌++◌, [], length, take, drop, vec_capacity};
+ghost use Rattle.std.specs.Prelude.{◌≡◌, ◌+◌, ◌-◌, ◌≤◌, ◌∷◌, ◌++◌, ◌<◌, ◌^◌, [], length, take, drop, vec_capacity};
 ghost use Rattle.std.specs.Option.{OnSome, option_to_list};
 
 use std::alloc::Global;
+
+/// So many entries have room at least where a list first gets memory, and so many bytes where bytes are added together: most
+/// symbols need no more.
+const ENTRIES_AT_ONCE: usize = 16;
+
+const BYTES_AT_ONCE: usize = 128;
 
 /// A list that has at most so many entries at any time.
 #[derive(Drop)]
@@ -13,6 +19,7 @@ pub struct Bounded<T> {
     // So many entries need no more memory.
     ready: usize,
     pub ghost fits: { length list.items ≤ room },
+    pub ghost is_small: { room < 2 ^ 32 },
     ghost has_memory: { (length list.items ≤ ready) × (ready ≤ room) × (ready ≤ vec_capacity list) },
 }
 
@@ -27,26 +34,27 @@ impl<T: Copy> Bounded<T> {
     }
 
     /// Empties the list, and gives it room for so many entries.
-    pub fn begin(&mut self, room: usize)
+    pub fn begin(&mut self, room: u32)
         ensures items { self.new.list.items ≡ [] }
         ensures room { self.new.room ≡ room }
     {
         self.list.clear();
-        self.room = room;
-        self.ready = room.min(self.list.capacity());
+        self.room = room as usize;
+        self.ready = self.room.min(self.list.capacity());
     }
 
-    /// Sees to memory for more entries, if there is room for them.
+    /// Sees to memory for more entries, if there is room for them, and for some at once, as far as there is.
     #[inline(never)]
-    fn make_ready(&mut self, more: usize) -> Option<()>
+    fn make_ready(&mut self, more: usize, at_once: usize) -> Option<()>
         ensures ready { OnSome result (length self.new.list.items + more ≤ self.new.ready) }
         ensures items { self.new.list.items ≡ self.old.list.items }
         ensures room { self.new.room ≡ self.old.room }
     {
-        if more > self.room - self.list.len() {
+        let left = self.room - self.list.len();
+        if more > left {
             return None;
         }
-        self.list.reserve(more).ok()?;
+        self.list.reserve(more.max(at_once.min(left))).ok()?;
         self.ready = self.room.min(self.list.capacity());
         Some(())
     }
@@ -57,6 +65,14 @@ impl<T: Copy> Bounded<T> {
         ensures { result ≡ length self.now.list.items }
     {
         self.list.len()
+    }
+
+    /// The place behind its entries.
+    #[inline(always)]
+    pub fn end(&self) -> u32
+        ensures { result ≡ length self.now.list.items }
+    {
+        self.list.len() as u32
     }
 
     /// The entries.
@@ -74,7 +90,7 @@ impl<T: Copy> Bounded<T> {
         ensures room { self.new.room ≡ self.old.room }
     {
         if self.list.len() >= self.ready {
-            self.make_ready(1)?;
+            self.make_ready(1, ENTRIES_AT_ONCE)?;
         }
         self.list.push_reserved(entry);
         Some(())
@@ -99,7 +115,7 @@ impl Bounded<u8> {
         ensures room { self.new.room ≡ self.old.room }
     {
         if bytes.len() > self.ready - self.list.len() {
-            self.make_ready(bytes.len())?;
+            self.make_ready(bytes.len(), BYTES_AT_ONCE)?;
         }
         self.list.extend_from_slice(bytes).ok()
     }
@@ -111,7 +127,7 @@ impl Bounded<u8> {
         ensures room { self.new.room ≡ self.old.room }
     {
         if self.ready - self.list.len() < 2 {
-            self.make_ready(2)?;
+            self.make_ready(2, BYTES_AT_ONCE)?;
         }
         self.list.push_reserved(first);
         self.list.push_reserved(second);
@@ -126,7 +142,7 @@ impl Bounded<u8> {
         ensures room { self.new.room ≡ self.old.room }
     {
         if to - from > self.ready - self.list.len() {
-            self.make_ready(to - from)?;
+            self.make_ready(to - from, BYTES_AT_ONCE)?;
         }
         copy_to_end(&mut self.list, from, to)
     }
@@ -138,7 +154,7 @@ impl Bounded<u8> {
         ensures room { self.new.room ≡ self.old.room }
     {
         let left = self.list.len() - count;
-        self.list.rotate_left(count);
+        self.list.copy_within(count.., 0);
         self.list.truncate(left);
     }
 }

@@ -5,6 +5,8 @@ use Rattle.std.proofs.lemmas.Bool.{and_parts, and_from, and_left, cond-false, ne
 use Rattle.std.proofs.lemmas.List.{take_more, take-append-drop}
 use Rattle.sym_filter.specs.declared.kinds.Letters.{Letters}
 use Rattle.sym_filter.specs.Runs.{is_byte_of, word_of}
+use Rattle.std.proofs.Math.Seq.{take-add}
+use Rattle.sym_filter.specs.Lanes.{is_no_mark}
 use Rattle.sym_filter.specs.Plain.{is_plain, is_in_run}
 use Rattle.sym_filter.proofs.RunLemmas.{is_dot, word_of-part, word_of-append_dots}
 
@@ -36,6 +38,22 @@ or_true false = refl
 
 pub is_other : (in_run : Bool) (byte : ℕ) → (byte ≡ 95 → ⊥) → (in_run || not (eqb byte 95)) ≡ true
 is_other in_run byte h = ap (λ (b : Bool). in_run || not b) (ne_eqb byte 95 h) ∙ or_true in_run
+
+-- bytes that are no '_' more
+is_plain-others : (letters : Letters) (in_run : Bool) (others : List ℕ) → list_all is_no_mark others ≡ true → is_plain letters in_run others ≡ true
+is_plain-others letters in_run [] h = refl
+is_plain-others letters in_run (byte ∷ others) h =
+    let parts = and_parts (is_no_mark byte) (list_all is_no_mark others) h in
+    and_from _ _ (ap (λ b. in_run || b) parts.0 ∙ or_true in_run) (is_plain-others letters (is_byte_of letters byte) others parts.1)
+
+is_plain-append : (letters : Letters) (in_run : Bool) (front others : List ℕ) → is_plain letters in_run front ≡ true → list_all is_no_mark others ≡ true → is_plain letters in_run (front ++ others) ≡ true
+is_plain-append letters in_run [] others plain h = is_plain-others letters in_run others h
+is_plain-append letters in_run (first ∷ front) others plain h =
+    let parts = and_parts (in_run || not (eqb first 95)) (is_plain letters (is_byte_of letters first) front) plain in
+    and_from _ _ parts.0 (is_plain-append letters (is_byte_of letters first) front others parts.1 h)
+
+pub is_plain-longer : (letters : Letters) (in_run : Bool) (text : List ℕ) (i r : ℕ) → is_plain letters in_run (take i text) ≡ true → list_all is_no_mark (take r (drop i text)) ≡ true → is_plain letters in_run (take (i + r) text) ≡ true
+is_plain-longer letters in_run text i r plain others = ap (is_plain letters in_run) (take-add i r text) ∙ is_plain-append letters in_run (take i text) (take r (drop i text)) plain others
 
 -- the word of a part ends behind its last byte that is no dot
 word_of-front : (part : List ℕ) (end : ℕ) → list_all is_dot (drop end part) ≡ true → word_of part ≡ word_of (take end part)

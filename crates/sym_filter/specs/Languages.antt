@@ -14,7 +14,8 @@ use Rattle.cpp_link.specs.NodeCount as cpp_count
 use Rattle.rust_tree.specs.Counts.{IsRead}
 use Rattle.rust_tree.specs.Layout.{ReadSymbol}
 use Rattle.rust_tree.specs.Symbol.{Symbol}
-use Rattle.rust_v0.specs.Mangled.{v0_mangled, whole_of}
+use Rattle.rust_grammar.specs.Mangled.{v0_mangled}
+use Rattle.rust_v0.specs.Whole.{whole_of}
 use Rattle.rust_v0.specs.NodeCount as rust_count
 use Rattle.sym_core.specs.declared.counts.Counts.{Counts}
 use Rattle.cpp_press_laws.specs.Pressing as cpp_spelling

@@ -1,6 +1,7 @@
 pub mod Demangled
 pub mod Held
 pub mod Kinds
+pub mod Lanes
 pub mod Languages
 pub mod Plain
 pub mod Pressed

@@ -181,6 +181,7 @@ fn end_text<W: Sink, D: Demangler>(
 }
 
 /// Puts what follows on taken bytes behind the bytes that wait to be written: dots, and the bytes where they stay.
+#[inline(always)]
 fn put_behind<W: Sink>(
     writer: &mut W,
     out: &mut Vec<u8>,

@@ -1,10 +1,6 @@
 // The demangler over both manglings.
-ghost use Rattle.std.specs.Prelude.{ℕ, List, Bool, Ok, true, false};
 ghost use Rattle.sym_core.specs.Number.{FitsSymbol};
-ghost use Rattle.sym_print.specs.declared.detail.Detail.{Detail as Detail-type};
-ghost use Rattle.sym_demangle.specs.Mangled.{IsAnswer, answer};
-ghost use Rattle.cpp_direct.specs.Symbol.{mangled_by};
-ghost use Rattle.rust_v0.specs.Mangled.{v0_mangled};
+ghost use Rattle.sym_demangle.specs.Mangled.{answer};
 ghost use Rattle.sym_filter.specs.Demangled.{IsAppended, IsDemangled};
 ghost use Rattle.sym_filter.specs.Languages.{AreCounts, AreCountsBy, language_answer_by};
 
@@ -18,33 +14,12 @@ use sym_core::Refusal;
 use sym_demangle::{Mangling, Workspace};
 use sym_print::Detail;
 
-/// A grammar of C++ symbols, by which texts are written in the short way, too.
-pub trait Cpp: Counted {
-    /// Whether it is the wide one.
-    const IS_WIDE: bool;
+/// A grammar of C++ symbols.
+pub trait Cpp: Counted {}
 
-    ghost IS_WIDE: { Bool };
+impl Cpp for Abi {}
 
-    /// What the short way answers is the answer.
-    fn answers_so()
-        ensures { (detail : Detail-type) (s text : List ℕ) (limit : ℕ) → IsAnswer (mangled_by IS_WIDE) detail s limit (Ok text) → IsAnswer Self.mangled detail s limit (Ok text) };
-}
-
-impl Cpp for Abi {
-    const IS_WIDE: bool = false;
-
-    ghost IS_WIDE = { false };
-
-    fn answers_so() {}
-}
-
-impl Cpp for Wide {
-    const IS_WIDE: bool = true;
-
-    ghost IS_WIDE = { true };
-
-    fn answers_so() {}
-}
+impl Cpp for Wide {}
 
 /// Both manglings, at a limit on the cost of a text and a detail, with the grammar by which C++ symbols are read: `Abi` or `Wide`.
 #[derive(Clone, Copy, Drop)]
@@ -59,8 +34,6 @@ pub struct Languages<C: Cpp> {
 pub struct Lists<C: Cpp> {
     pub cpp: Workspace<C>,
     pub rust: Workspace<V0>,
-    pub cpp_direct: cpp_direct::Direct,
-    pub rust_direct: rust_direct::Direct,
 }
 
 impl<C: Cpp> Lists<C> {
@@ -68,8 +41,6 @@ impl<C: Cpp> Lists<C> {
         Lists {
             cpp: Workspace::new(alloc),
             rust: Workspace::new(alloc),
-            cpp_direct: cpp_direct::Direct::new(alloc),
-            rust_direct: rust_direct::Direct::new(alloc),
         }
     }
 
@@ -120,51 +91,10 @@ impl<C: Cpp> Demangler for Languages<C> {
         out: &mut Vec<u8>,
     ) -> Result<(), Refusal> {
         match kind.lang {
-            Lang::Cpp => append_cpp(lists, symbol, self.limit, self.detail, out),
-            Lang::Rust => append_rust(lists, symbol, self.limit, self.detail, out),
+            Lang::Cpp => append_in(&mut lists.cpp, symbol, self.limit, self.detail, out),
+            Lang::Rust => append_in(&mut lists.rust, symbol, self.limit, self.detail, out),
         }
     }
-}
-
-/// Appends the text of a C++ symbol, where it has one. In full one of common parts is written while it is read.
-fn append_cpp<C: Cpp>(
-    lists: &mut Lists<C>,
-    symbol: &[u8],
-    limit: u32,
-    detail: Detail,
-    out: &mut Vec<u8>,
-) -> Result<(), Refusal>
-    requires { FitsSymbol symbol.now }
-    ensures { IsAppended (answer C.mangled detail symbol.now limit) out.old.items out.new.items result }
-{
-    if let Detail::Full = detail
-        && lists.cpp_direct.write(symbol, limit, C::IS_WIDE)
-    {
-        C::answers_so();
-        out.extend_from_slice(lists.cpp_direct.text())?;
-        return Ok(());
-    }
-    append_in(&mut lists.cpp, symbol, limit, detail, out)
-}
-
-/// Appends the text of a Rust symbol, where it has one. In full one of common parts is written while it is read.
-fn append_rust<C: Cpp>(
-    lists: &mut Lists<C>,
-    symbol: &[u8],
-    limit: u32,
-    detail: Detail,
-    out: &mut Vec<u8>,
-) -> Result<(), Refusal>
-    requires { FitsSymbol symbol.now }
-    ensures { IsAppended (answer v0_mangled detail symbol.now limit) out.old.items out.new.items result }
-{
-    if let Detail::Full = detail
-        && lists.rust_direct.write(symbol, limit)
-    {
-        out.extend_from_slice(lists.rust_direct.text())?;
-        return Ok(());
-    }
-    append_in(&mut lists.rust, symbol, limit, detail, out)
 }
 
 /// Appends the text of a symbol of a mangling, where it has one.

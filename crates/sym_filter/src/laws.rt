@@ -1,7 +1,7 @@
 // What the filtered text is, in the words of runs, and what is answered where symbols are pressed.
 ghost use Rattle.cpp_grammar.specs.Mangled.{cpp_mangled};
 ghost use Rattle.cpp_press_laws.specs.Pressing as cpp_spelling;
-ghost use Rattle.rust_v0.specs.Mangled.{v0_mangled};
+ghost use Rattle.rust_grammar.specs.Mangled.{v0_mangled};
 ghost use Rattle.rust_press.specs.Pressing as rust_spelling;
 ghost use Rattle.sym_filter.specs.Pressed.{ReadingIsPressed};
 ghost use Rattle.sym_filter.specs.Splits.{FilteredByJoins, FilteredByJoinsAt, FilteredBySplits, FilteredBySplitsAt};

@@ -5,6 +5,7 @@ mod counted;
 pub mod demangler;
 mod filtering;
 pub mod kinds;
+mod lanes;
 pub mod languages;
 mod laws;
 pub mod pressing;

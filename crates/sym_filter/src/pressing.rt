@@ -62,7 +62,8 @@ impl Pressable for Abi {
 }
 
 impl Pressable for V0 {
-    ghost use Rattle.rust_v0.specs.Mangled.{v0_mangled, whole_of};
+    ghost use Rattle.rust_grammar.specs.Mangled.{v0_mangled};
+    ghost use Rattle.rust_v0.specs.Whole.{whole_of};
     ghost use Rattle.rust_press.specs.Pressing as rust;
     ghost use Rattle.sym_filter.specs.Pressed.{pressed_answer, reading_pressed};
 

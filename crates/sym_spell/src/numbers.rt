@@ -44,7 +44,7 @@ impl Numbers {
     {
         let count = firsts.len();
         let mut entries = IndexSet::with_capacity(alloc, count)?;
-        let mut numbers = Vec::new(alloc);
+        let mut numbers = Vec::with_capacity(alloc, count)?;
         let mut looks = 0;
         for node in 0..count {
             let (number, _) = entries.insert_full(firsts[node])?;

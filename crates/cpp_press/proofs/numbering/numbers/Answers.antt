@@ -11,9 +11,9 @@ use Rattle.cpp_press.proofs.numbering.numbers.Goals as goal
 pub loop-node-init : goal.loop-node-init
 loop-node-init c =
     let y = c.args.symbol.now in (
-      none-first (plain_at y) (IsKey y) c.new-firsts.result.items (get key_cmp c.new-keys.result) c.new-firsts.ensures.items
+      none-first (plain_at y) (IsKey y) c.in_ok-firsts.firsts.items (get key_cmp c.new-keys.result) c.in_ok-firsts.ensures.items
           (λ q. ap (lookup (is_at (key_cmp q))) c.new-keys.ensures.empty),
-      ap length c.new-firsts.ensures.items,
+      ap length c.in_ok-firsts.ensures.items,
     )
 
 pub key_of-requires-clause-before : goal.key_of-requires-clause-before

@@ -12,9 +12,9 @@ use Rattle.rust_press.proofs.numbering.numbers.Goals as goal
 pub loop-node-init : goal.loop-node-init
 loop-node-init c =
     let y = c.args.symbol.now in (
-      none-first (slice_get (trees_of y)) (IsKey y) c.new-firsts.result.items (get key_cmp c.new-keys.result) c.new-firsts.ensures.items
+      none-first (slice_get (trees_of y)) (IsKey y) c.in_ok-firsts.firsts.items (get key_cmp c.new-keys.result) c.in_ok-firsts.ensures.items
           (λ q. ap (lookup (is_at (key_cmp q))) c.new-keys.ensures.empty),
-      ap length c.new-firsts.ensures.items,
+      ap length c.in_ok-firsts.ensures.items,
     )
 
 pub loop-node-preserved : goal.loop-node-preserved

@@ -1,6 +1,6 @@
 use Rattle.cpp_grammar.specs.Mangled.{cpp_mangled}
 use Rattle.cpp_press_laws.specs.Pressing as cpp_spelling
-use Rattle.rust_v0.specs.Mangled.{v0_mangled}
+use Rattle.rust_grammar.specs.Mangled.{v0_mangled}
 use Rattle.rust_press.specs.Pressing as rust_spelling
 use Rattle.sym_filter.specs.Pressed.{reading_pressed}
 use Rattle.sym_filter.proofs.laws.reading_is_pressed.Goals as goal

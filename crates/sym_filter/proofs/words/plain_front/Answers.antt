@@ -1,20 +1,20 @@
-use Rattle.std.proofs.Common.{◌≡◌, ◌+◌, ◌||◌, ap, ◌∙◌, sym, true, not, eqb, take, get_or}
+use Rattle.std.proofs.Common.{◌≡◌, ◌+◌, ◌||◌, ◌∙◌, sym, true, not, eqb, take, get_or}
 use Rattle.sym_filter.specs.Plain.{is_in_run}
-use Rattle.sym_filter.proofs.PlainLemmas.{is_plain-take, goes_on, is_other}
+use Rattle.sym_filter.proofs.PlainLemmas.{is_plain-longer, is_plain-take, goes_on, is_other}
 use Rattle.sym_filter.proofs.words.plain_front.Goals as goal
-use Rattle.sym_filter.proofs.words.plain_front.Goals.{else-byte-eq95-via-then-byte-eq95+else-not-is_in_run, else-byte-eq95-via-else-byte-eq95}
+use Rattle.sym_filter.proofs.words.plain_front.Goals.{else-text-length-eq95-via-then-text-length-eq95+else-not-is_in_run, else-text-length-eq95-via-else-text-length-eq95}
 
-pub loop-byte-preserved : goal.loop-byte-preserved
-loop-byte-preserved c =
-    let so_far = c.loop-byte.invariant in
-    let i = c.loop-byte.byte-index in
+pub bytes-preserved : goal.bytes-preserved
+bytes-preserved c =
+    let i = c.bytes.length in
     let text = c.args.text.now in
     let letters = c.args.letters in
     let before = is_in_run letters c.args.in_run (take i text) in
-    let next : (before || not (eqb (get_or text i 0) 95)) ≡ true = elim c.else-byte-eq95.branch [
-      | else-byte-eq95-via-then-byte-eq95+else-not-is_in_run w ↦ goes_on before (get_or text i 0) (ap (λ n. is_in_run letters c.args.in_run (take n text)) (sym so_far.length) ∙ sym w.is_in_run.ensures ∙ w.if-not-is_in_run.false)
-      | else-byte-eq95-via-else-byte-eq95 w ↦ is_other before (get_or text i 0) w.if-byte-eq95.false
+    let next : (before || not (eqb (get_or text i 0) 95)) ≡ true = elim c.else-text-length-eq95.branch [
+      | else-text-length-eq95-via-then-text-length-eq95+else-not-is_in_run w ↦ goes_on before (get_or text i 0) (sym w.is_in_run.ensures ∙ w.if-not-is_in_run.false)
+      | else-text-length-eq95-via-else-text-length-eq95 w ↦ is_other before (get_or text i 0) w.if-text-length-eq95.false
     ] in record {
-      length = ap (λ n. n + 1) so_far.length;
-      plain = is_plain-take letters c.args.in_run text i 0 c.loop-byte-test.true so_far.plain next;
+      within = c.before_mark-length.ensures.within;
+      plain = is_plain-longer letters c.args.in_run text (i + 1) c.before_mark-length.result
+          (is_plain-take letters c.args.in_run text i 0 c.bytes-test.true c.bytes.invariant.plain next) c.before_mark-length.ensures.no_mark;
     }

@@ -1,10 +1,10 @@
-use Rattle.std.proofs.Common.{refl, sym, ◌∙◌, arith}
+use Rattle.std.proofs.Common.{refl}
 use Rattle.cpp_direct.specs.Symbol.{symbol_by}
 use Rattle.cpp_direct.proofs.FrontsRead.{front-begins}
 use Rattle.cpp_direct.proofs.direct.Direct.begin_front.Goals as goal
 
 pub returns : goal.returns
 returns g c =
-    front-begins (symbol_by g.G.Grammar.IS_WIDE c.args.s.now) c.args.self.now _ c.args.mark c.args.argument c.args.from c.len-start.result c.encoding_place.result c.requires.ended
+    front-begins (symbol_by g.G.Grammar.IS_WIDE c.args.s.now) c.args.self.now _ c.args.mark c.args.argument c.args.from c.end-start.result c.encoding_place.result c.requires.ended
     (c.has_front.ensures c.if-not-has_front.false) c.encoding_place.ensures.first c.encoding_place.ensures.is
-    c.len-start.ensures refl refl refl c.in_ok-push.ensures.items
+    c.end-start.ensures refl refl refl c.in_ok-push.ensures.items

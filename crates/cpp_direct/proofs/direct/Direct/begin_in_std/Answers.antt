@@ -11,7 +11,7 @@ unscoped_named-requires-clause-named g c =
     std-operator-unscoped s c.args.self.now c.push.new.self c.operator_name.new.self c.in_ok-self.field-0 c.in_ok-self-2.field-0 read.0 read.1
     c.in_ok-takes.takes c.requires.awaits c.requires.letter c.in_ok-self.ensures.1
     (there s.bytes c.in_ok-self.field-0 c.byte_at.result 116 c.if-byte_at-ne116.false (omega arith) c.byte_at.ensures) c.in_ok-self-2.ensures.1
-    c.in_ok-push.ensures read.2 read.3 read.4 c.len-from.result c.len-from.ensures
+    c.in_ok-push.ensures read.2 read.3 read.4 c.end-from.result c.end-from.ensures
 
 pub unscoped_named-requires-2-clause-named : goal.unscoped_named-requires-2-clause-named
 unscoped_named-requires-2-clause-named g c =
@@ -20,4 +20,4 @@ unscoped_named-requires-2-clause-named g c =
     std-source-unscoped s c.args.self.now c.push.new.self c.name.new.self c.in_ok-self.field-0 c.in_ok-self-2.field-0 read.0
     c.requires.awaits c.requires.letter c.in_ok-self.ensures.1
     (there s.bytes c.in_ok-self.field-0 c.byte_at.result 116 c.if-byte_at-ne116.false (omega arith) c.byte_at.ensures) c.in_ok-self-2.ensures.1
-    c.in_ok-push.ensures read.1 read.2 read.3 c.len-from.result c.len-from.ensures
+    c.in_ok-push.ensures read.1 read.2 read.3 c.end-from.result c.end-from.ensures

@@ -6,4 +6,4 @@ pub unscoped_named-requires-clause-named : goal.unscoped_named-requires-clause-n
 unscoped_named-requires-clause-named g c =
     let read = c.in_ok-name.ensures in
     source-unscoped (symbol_by g.G.Grammar.IS_WIDE c.args.s.now) c.args.is_internal c.args.self.now c.name.new.self read.0 c.requires.awaits read.1 read.2 read.3
-    c.len-from.result c.len-from.ensures
+    c.end-from.result c.end-from.ensures

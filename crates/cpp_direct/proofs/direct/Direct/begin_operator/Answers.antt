@@ -6,4 +6,4 @@ pub unscoped_named-requires-clause-named : goal.unscoped_named-requires-clause-n
 unscoped_named-requires-clause-named g c =
     let read = c.in_ok-takes.ensures in
     operator-unscoped (symbol_by g.G.Grammar.IS_WIDE c.args.s.now) c.args.self.now c.operator_name.new.self read.0 read.1 _ c.requires.awaits read.2 read.3 read.4
-    c.len-from.result c.len-from.ensures
+    c.end-from.result c.end-from.ensures

@@ -1,4 +1,4 @@
-use Rattle.std.proofs.Common.{◌∙◌, subst, take, drop, ◌-◌}
+use Rattle.std.proofs.Common.{◌∙◌, subst}
 use Rattle.cpp_direct.specs.Symbol.{symbol_by}
 use Rattle.cpp_direct.specs.Stands.{IsKnown}
 use Rattle.cpp_direct.proofs.DependentsRead.{again-inside, argument-within, dependent-again}
@@ -24,5 +24,5 @@ returns g c =
     let is = c.in_ok-argument.ensures.is in
     let known = c.in_ok-argument.ensures.ordered in
     dependent-again (symbol_by g.G.Grammar.IS_WIDE c.args.s.now) c.args.self.now c.repeat.new.self c.repeat-2.new.self c.args.candidate c.in_ok-named.named c.in_ok-argument.argument
-    c.len-begins.result c.requires.again c.in_ok-named.ensures c.if-candidate-eq0.false c.if-candidate-named.false (is ∙ c.at.ensures (subst IsKnown is known))
-    (known, c.if-argument.false, c.if-argument-2.false) c.in_ok-repeat.ensures c.len-begins.ensures c.in_ok-repeat-2.ensures
+    c.end-begins.result c.requires.again c.in_ok-named.ensures c.if-candidate-eq0.false c.if-candidate-named.false (is ∙ c.at.ensures (subst IsKnown is known))
+    (known, c.if-argument.false, c.if-argument-2.false) c.in_ok-repeat.ensures c.end-begins.ensures c.in_ok-repeat-2.ensures

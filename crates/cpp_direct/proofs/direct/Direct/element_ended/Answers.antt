@@ -16,10 +16,10 @@ returns-then-byte-eq76 g c =
 pub next_element-requires-clause-awaits : goal.next_element-requires-clause-awaits
 next_element-requires-clause-awaits g c =
     let p = c.requires.read in
-    pack-element-awaits (symbol_by g.G.Grammar.IS_WIDE c.args.s.now) c.args.self.now _ c.args.from c.len-to.result c.args.number c.placed.result c.args.known c.with-more.result
+    pack-element-awaits (symbol_by g.G.Grammar.IS_WIDE c.args.s.now) c.args.self.now _ c.args.from c.end-to.result c.args.number c.placed.result c.args.known c.with-more.result
     c.args.is_reference p
     (popped c.args.self.now.waiting.list.items c.pop-element.new.self.list.items (opens.Pack ∷ p.owner ∷ p.rest)
-    (opens.Element c.args.from c.args.number c.args.known) _ refl p.open_is c.pop-element.ensures.rest) refl refl refl c.len-to.ensures c.placed.ensures
+    (opens.Element c.args.from c.args.number c.args.known) _ refl p.open_is c.pop-element.ensures.rest) refl refl refl c.end-to.ensures c.placed.ensures
     c.with-more.ensures
 
 pub returns-then-byte_at-ne69 : goal.returns-then-byte_at-ne69
@@ -35,7 +35,7 @@ close_list-requires-clause-ended g c =
     let s = symbol_by g.G.Grammar.IS_WIDE c.args.s.now in
     let w = c.args.self.now in
     let left = c.pop-element.new.self.list.items in
-    pack-closes s w _ c.args.from c.len-to.result c.args.number c.in_ok-elements.elements c.placed.result c.args.known c.with-more.result c.args.is_reference p
+    pack-closes s w _ c.args.from c.end-to.result c.args.number c.in_ok-elements.elements c.placed.result c.args.known c.with-more.result c.args.is_reference p
     (subst (λ b. StandsAt s.bytes w.at (b ∷ [])) c.if-byte-ne69.false (c.byte_at-byte.ensures (λ e. omega (arith, e, c.if-byte-ne69.false))))
     (subst (λ n. StandsAt s.bytes n (69 ∷ [])) c.in_ok-behind.ensures.1
     (there s.bytes c.in_ok-behind.behind c.byte_at.result 69 c.if-byte_at-ne69.false (omega arith) c.byte_at.ensures))
@@ -43,5 +43,5 @@ close_list-requires-clause-ended g c =
     (popped w.waiting.list.items left (opens.Pack ∷ p.owner ∷ p.rest) (opens.Element c.args.from c.args.number c.args.known) _ refl p.open_is
     c.pop-element.ensures.rest)
     c.pop-pack.ensures.rest)
-    refl refl (c.in_ok-self.ensures.1 ∙ ap (λ n. n + 1) c.in_ok-behind.ensures.1) c.len-to.ensures c.placed.ensures c.with-more.ensures
+    refl refl (c.in_ok-self.ensures.1 ∙ ap (λ n. n + 1) c.in_ok-behind.ensures.1) c.end-to.ensures c.placed.ensures c.with-more.ensures
     c.in_ok-elements.ensures.1

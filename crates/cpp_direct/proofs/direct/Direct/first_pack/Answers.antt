@@ -14,6 +14,6 @@ begin_pack-requires-then-byte_at-eq76-clause-awaits g c = first-expected (symbol
 
 pub returns : goal.returns
 returns g c =
-    element-begins (symbol_by g.G.Grammar.IS_WIDE c.args.s.now) c.args.self.now _ c.len-from.result c.requires.writing (c.is_named.ensures c.if-not-is_named.false) c.requires.letter
-    c.len-from.ensures (c.in_ok-push-2.ensures.items ∙ ap (λ l. l ++ opens.Element c.len-from.result 0 nowhere ∷ []) c.in_ok-push.ensures.items) refl refl
+    element-begins (symbol_by g.G.Grammar.IS_WIDE c.args.s.now) c.args.self.now _ c.end-from.result c.requires.writing (c.is_named.ensures c.if-not-is_named.false) c.requires.letter
+    c.end-from.ensures (c.in_ok-push-2.ensures.items ∙ ap (λ l. l ++ opens.Element c.end-from.result 0 nowhere ∷ []) c.in_ok-push.ensures.items) refl refl
     c.in_ok-behind.ensures.1

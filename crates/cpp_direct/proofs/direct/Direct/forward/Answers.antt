@@ -1,7 +1,7 @@
 use Rattle.std.proofs.Common.{◌≡◌, ◌∙◌, ap, sym, subst, arith}
 use Rattle.cpp_direct.specs.Prints.{forwarded}
 use Rattle.cpp_direct.specs.Stands.{IsKnown}
-use Rattle.cpp_direct.proofs.ExpansionsRead.{forwarded-inside, forwarded-more, forwarded-none}
+use Rattle.cpp_direct.proofs.ExpansionsRead.{forwarded-inside, forwarded-more}
 use Rattle.cpp_direct.proofs.FoundTokens.{some-by}
 use Rattle.cpp_direct.proofs.direct.Direct.forward.Goals as goal
 use Rattle.cpp_direct.proofs.direct.Direct.forward.Goals.{then-place, else-place}

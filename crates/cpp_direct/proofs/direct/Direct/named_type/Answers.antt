@@ -11,8 +11,8 @@ nest_at-requires-clause-awaits g c =
 pub type_named-requires : goal.type_named-requires
 type_named-requires g c =
     let got = c.in_ok-name-in_default.ensures in
-    source-named (symbol_by g.G.Grammar.IS_WIDE c.args.s.now) c.args.self.now c.name.new.self c.len-from.result got.0
-    c.requires.awaits got.1 got.2 got.3 c.len-from.ensures
+    source-named (symbol_by g.G.Grammar.IS_WIDE c.args.s.now) c.args.self.now c.name.new.self c.end-from.result got.0
+    c.requires.awaits got.1 got.2 got.3 c.end-from.ensures
 
 pub begin_enclosing-requires-clause-letter : goal.begin_enclosing-requires-clause-letter
 begin_enclosing-requires-clause-letter g c =

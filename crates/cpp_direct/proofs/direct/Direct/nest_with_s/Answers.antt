@@ -48,7 +48,7 @@ nest_known-requires g c =
     (reference-begins s old c.repeat.new.self c.args.purpose is.0 k c.requires.awaits c.requires.letter
     (subst (λ n. IsSeqAt s.bytes (old.at + 1) is.0 n) (sym wrote.at) (subst (λ n. IsSeqAt s.bytes n is.0 c.substitution.new.self.at) c.in_ok-self.ensures.1 is.1))
     c.in_ok-candidate.ensures.ordered is.2 c.if-candidate.false c.if-candidate-2.false (wrote.text ∙ ap (λ l. l ++ take (k.to - k.from) (drop k.from l)) plain)
-    (wrote.candidates ∙ same.candidates) (wrote.waiting ∙ same.waiting) c.len-from.result c.len-from.ensures)
+    (wrote.candidates ∙ same.candidates) (wrote.waiting ∙ same.waiting) c.end-from.result c.end-from.ensures)
 
 pub nest_known-requires-2 : goal.nest_known-requires-2
 nest_known-requires-2 g c =
@@ -61,4 +61,4 @@ nest_known-requires-2 g c =
     (λ some. subst (λ n. StandsAt c.args.s.now n (letter ∷ [])) c.in_ok-self.ensures.1 (c.byte_at-letter.ensures some))
     (λ e. absurd (false≢true (c.if-is_empty.ensures ∙ ap (λ l. length l == 0) (text_is ∙ e))))
     (wrote.text ∙ ap (λ l. old.text.list.items ++ l) text_is) wrote.candidates wrote.waiting
-    (wrote.at ∙ c.in_ok-self-2.ensures.1 ∙ ap (λ n. n + 1) c.in_ok-self.ensures.1) c.len-from.result c.len-from.ensures)
+    (wrote.at ∙ c.in_ok-self-2.ensures.1 ∙ ap (λ n. n + 1) c.in_ok-self.ensures.1) c.end-from.result c.end-from.ensures)

@@ -14,4 +14,4 @@ nest_named-requires-clause-named g c =
     let read = c.in_ok-operator_name.ensures in
     operator-follows (symbol_by g.G.Grammar.IS_WIDE c.args.s.now) c.args.self.now c.push_pair.new.self c.operator_name.new.self _ read.0 read.1 c.requires.writing
     c.in_ok-push_pair.ensures read.2 (read.3 c.if-not-branch.false) read.4 refl refl refl refl refl refl
-    c.len-class_from.ensures c.len.ensures refl refl refl
+    c.end-class_from.ensures c.end.ensures refl refl refl

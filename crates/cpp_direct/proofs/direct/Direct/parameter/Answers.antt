@@ -7,16 +7,16 @@ use Rattle.cpp_direct.proofs.direct.Direct.parameter.Goals as goal
 pub returns-then-byte-eq82 : goal.returns-then-byte-eq82
 returns-then-byte-eq82 g c =
     let called = c.open_type.ensures in
-    reference-comes (symbol_by g.G.Grammar.IS_WIDE c.args.s.now) c.args.self.now c.open_type.new.self c.open_type.result c.args._is_pointer true c.len-from.result c.requires
-    c.len-from.ensures
+    reference-comes (symbol_by g.G.Grammar.IS_WIDE c.args.s.now) c.args.self.now c.open_type.new.self c.open_type.result c.args._is_pointer true c.end-from.result c.requires
+    c.end-from.ensures
     (there c.args.s.now c.args.self.now.at c.byte_at-byte.result 82 c.if-byte-eq82.true (omega arith) c.byte_at-byte.ensures)
     called.step called.open called.at called.text called.candidates
 
 pub returns-then-byte-eq79 : goal.returns-then-byte-eq79
 returns-then-byte-eq79 g c =
     let called = c.open_type-then-byte-eq79.ensures in
-    reference-comes (symbol_by g.G.Grammar.IS_WIDE c.args.s.now) c.args.self.now c.open_type-then-byte-eq79.new.self c.open_type-then-byte-eq79.result c.args._is_pointer false c.len-from.result c.requires
-    c.len-from.ensures
+    reference-comes (symbol_by g.G.Grammar.IS_WIDE c.args.s.now) c.args.self.now c.open_type-then-byte-eq79.new.self c.open_type-then-byte-eq79.result c.args._is_pointer false c.end-from.result c.requires
+    c.end-from.ensures
     (there c.args.s.now c.args.self.now.at c.byte_at-byte.result 79 c.if-byte-eq79.true (omega arith) c.byte_at-byte.ensures)
     called.step called.open called.at called.text called.candidates
 

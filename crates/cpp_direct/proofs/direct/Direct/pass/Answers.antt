@@ -1,98 +1,69 @@
-use Rattle.std.proofs.Common.{refl, codes, true, false, subst}
-use Rattle.cpp_grammar.specs.Term.{pointer, lvalue, rvalue, qualified}
+use Rattle.std.proofs.Common.{refl}
 use Rattle.cpp_direct.specs.Symbol.{symbol_by}
 use Rattle.cpp_direct.specs.declared.open.Open.TheVariants as opens
-use Rattle.cpp_direct.specs.Prints.{Prints}
-use Rattle.cpp_direct.specs.Stands.{qualifiers}
-use Rattle.cpp_direct.proofs.PrintedTypes.{pointer-prints, lvalue-prints, rvalue-prints, const-prints}
 use Rattle.cpp_direct.proofs.Listed.{waits-last}
-use Rattle.cpp_direct.proofs.Handed.{value-element, value-marked, value-front, value-returned, value-signature, value-enumerator, argument-read, parameter-read, special-read, takes-elements}
+use Rattle.cpp_direct.proofs.Handed.{value-element, value-front, value-returned, value-signature, value-enumerator, argument-read, parameter-read, special-read, takes-elements}
 use Rattle.cpp_direct.proofs.EnclosingFunctions.{lambda-parameter-read, parameter-read-within}
 use Rattle.cpp_direct.proofs.Arguments.{value-argument}
 use Rattle.cpp_direct.proofs.ArraysRead.{value-array}
 use Rattle.cpp_direct.proofs.PacksRead.{value-in-pack}
 use Rattle.cpp_direct.proofs.direct.Direct.pass.Goals as goal
 
-pub mark-requires : goal.mark-requires
-mark-requires g c =
-    value-marked (symbol_by g.G.Grammar.IS_WIDE c.args.s.now) c.args.self.now c.args.is_reference false (opens.Pointer c.in-Pointer.from) c.in-Pointer.from pointer (codes "*")
-    c.requires.writing (waits-last _ _ _ _ c.as_slice.ensures c.in_ok-from.ensures.value c.in-Pointer.is) (λ rest os text h. h)
-    (λ t b h. pointer-prints t b c.args.is_reference h)
-
-pub mark-requires-in-Lvalue : goal.mark-requires-in-Lvalue
-mark-requires-in-Lvalue g c =
-    value-marked (symbol_by g.G.Grammar.IS_WIDE c.args.s.now) c.args.self.now c.args.is_reference true (opens.Lvalue c.in-Lvalue.from) c.in-Lvalue.from lvalue (codes "&")
-    c.requires.writing (waits-last _ _ _ _ c.as_slice.ensures c.in_ok-from.ensures.value c.in-Lvalue.is) (λ rest os text h. h)
-    (λ t b h. lvalue-prints t b (subst (λ r. Prints t b r) c.if-is_reference.false h))
-
-pub mark-requires-in-Rvalue : goal.mark-requires-in-Rvalue
-mark-requires-in-Rvalue g c =
-    value-marked (symbol_by g.G.Grammar.IS_WIDE c.args.s.now) c.args.self.now c.args.is_reference true (opens.Rvalue c.in-Rvalue.from) c.in-Rvalue.from rvalue (codes "&&")
-    c.requires.writing (waits-last _ _ _ _ c.as_slice.ensures c.in_ok-from.ensures.value c.in-Rvalue.is) (λ rest os text h. h)
-    (λ t b h. rvalue-prints t b (subst (λ r. Prints t b r) c.if-is_reference-2.false h))
-
-pub mark-requires-in-Const : goal.mark-requires-in-Const
-mark-requires-in-Const g c =
-    value-marked (symbol_by g.G.Grammar.IS_WIDE c.args.s.now) c.args.self.now c.args.is_reference false (opens.Const c.in-Const.from) c.in-Const.from
-    (qualified (qualifiers true)) (codes " const")
-    c.requires.writing (waits-last _ _ _ _ c.as_slice.ensures c.in_ok-from.ensures.value c.in-Const.is) (λ rest os text h. h)
-    (λ t b h. const-prints t b (subst (λ r. Prints t b r) c.if-is_reference-3.false h))
-
 pub parameter_ended-requires-clause-ended : goal.parameter_ended-requires-clause-ended
 parameter_ended-requires-clause-ended g c =
     parameter-read (symbol_by g.G.Grammar.IS_WIDE c.args.s.now) c.args.self.now c.in-Parameters.mark c.in-Parameters.start c.in-Parameters.argument
     (value-element (symbol_by g.G.Grammar.IS_WIDE c.args.s.now) c.args.self.now c.args.is_reference (opens.Parameters c.in-Parameters.mark c.in-Parameters.start c.in-Parameters.argument) c.requires.writing
-    (waits-last _ _ _ _ c.as_slice.ensures c.in_ok-from.ensures.value c.in-Parameters.is))
+    (waits-last _ _ _ _ c.as_slice.ensures c.in_ok-entry.ensures.value c.in-Parameters.is))
 
 pub front_ended-requires-clause-ended : goal.front_ended-requires-clause-ended
 front_ended-requires-clause-ended g c =
     value-front (symbol_by g.G.Grammar.IS_WIDE c.args.s.now) c.args.self.now c.args.is_reference c.in-Front.mark c.in-Front.start c.in-Front.argument
-    c.requires.writing (waits-last _ _ _ _ c.as_slice.ensures c.in_ok-from.ensures.value c.in-Front.is)
+    c.requires.writing (waits-last _ _ _ _ c.as_slice.ensures c.in_ok-entry.ensures.value c.in-Front.is)
 
 pub returned-requires-clause-returned : goal.returned-requires-clause-returned
 returned-requires-clause-returned g c =
     value-returned (symbol_by g.G.Grammar.IS_WIDE c.args.s.now) c.args.self.now c.args.is_reference c.in-Returned.is_pointer
-    c.requires.writing (waits-last _ _ _ _ c.as_slice.ensures c.in_ok-from.ensures.value c.in-Returned.is)
+    c.requires.writing (waits-last _ _ _ _ c.as_slice.ensures c.in_ok-entry.ensures.value c.in-Returned.is)
 
 pub parameter_at-requires-clause-awaits : goal.parameter_at-requires-clause-awaits
 parameter_at-requires-clause-awaits g c =
     value-signature (symbol_by g.G.Grammar.IS_WIDE c.args.s.now) c.args.self.now c.args.is_reference c.in-Signature.is_pointer
-    c.requires.writing (waits-last _ _ _ _ c.as_slice.ensures c.in_ok-from.ensures.value c.in-Signature.is)
+    c.requires.writing (waits-last _ _ _ _ c.as_slice.ensures c.in_ok-entry.ensures.value c.in-Signature.is)
 
 pub enclosing_parameter-requires-clause-read : goal.enclosing_parameter-requires-clause-read
 enclosing_parameter-requires-clause-read g c =
     parameter-read-within (symbol_by g.G.Grammar.IS_WIDE c.args.s.now) c.args.self.now c.in-Enclosing.mark c.in-Enclosing.from c.in-Enclosing.argument
     (value-element (symbol_by g.G.Grammar.IS_WIDE c.args.s.now) c.args.self.now c.args.is_reference (opens.Enclosing c.in-Enclosing.mark c.in-Enclosing.from c.in-Enclosing.argument) c.requires.writing
-    (waits-last _ _ _ _ c.as_slice.ensures c.in_ok-from.ensures.value c.in-Enclosing.is))
+    (waits-last _ _ _ _ c.as_slice.ensures c.in_ok-entry.ensures.value c.in-Enclosing.is))
 
 pub lambda_parameter-requires-clause-read : goal.lambda_parameter-requires-clause-read
 lambda_parameter-requires-clause-read g c =
     lambda-parameter-read (symbol_by g.G.Grammar.IS_WIDE c.args.s.now) c.args.self.now c.in-Lambda.from
     (value-element (symbol_by g.G.Grammar.IS_WIDE c.args.s.now) c.args.self.now c.args.is_reference (opens.Lambda c.in-Lambda.from) c.requires.writing
-    (waits-last _ _ _ _ c.as_slice.ensures c.in_ok-from.ensures.value c.in-Lambda.is))
+    (waits-last _ _ _ _ c.as_slice.ensures c.in_ok-entry.ensures.value c.in-Lambda.is))
 
 pub finish-requires : goal.finish-requires
 finish-requires g c =
     special-read (symbol_by g.G.Grammar.IS_WIDE c.args.s.now) c.args.self.now
     (value-element (symbol_by g.G.Grammar.IS_WIDE c.args.s.now) c.args.self.now c.args.is_reference opens.Special c.requires.writing
-    (waits-last _ _ _ _ c.as_slice.ensures c.in_ok-from.ensures.value c.in-Special.is))
+    (waits-last _ _ _ _ c.as_slice.ensures c.in_ok-entry.ensures.value c.in-Special.is))
 
 pub array_ended-requires-clause-read : goal.array_ended-requires-clause-read
 array_ended-requires-clause-read g c =
     value-array (symbol_by g.G.Grammar.IS_WIDE c.args.s.now) c.args.self.now c.args.is_reference c.in-Array.access c.in-Array.from c.in-Array.to
-    c.requires.writing (waits-last _ _ _ _ c.as_slice.ensures c.in_ok-from.ensures.value c.in-Array.is)
+    c.requires.writing (waits-last _ _ _ _ c.as_slice.ensures c.in_ok-entry.ensures.value c.in-Array.is)
 
 pub enumerator-requires-clause-awaits : goal.enumerator-requires-clause-awaits
 enumerator-requires-clause-awaits g c =
     value-enumerator (symbol_by g.G.Grammar.IS_WIDE c.args.s.now) c.args.self.now c.args.is_reference
-    c.requires.writing (waits-last _ _ _ _ c.as_slice.ensures c.in_ok-from.ensures.value c.in-Enumerator.is)
+    c.requires.writing (waits-last _ _ _ _ c.as_slice.ensures c.in_ok-entry.ensures.value c.in-Enumerator.is)
 
 pub returns-in_default : goal.returns-in_default
 returns-in_default g c =
-    let o = c.in_ok-from.field-0.now in
+    let o = c.in_ok-entry.field-0.now in
     argument-read (symbol_by g.G.Grammar.IS_WIDE c.args.s.now) c.args.self.now o
     (value-element (symbol_by g.G.Grammar.IS_WIDE c.args.s.now) c.args.self.now c.args.is_reference o c.requires.writing
-    (waits-last _ _ _ _ c.as_slice.ensures c.in_ok-from.ensures.value refl))
+    (waits-last _ _ _ _ c.as_slice.ensures c.in_ok-entry.ensures.value refl))
     (takes-elements o c.in_default.not-Pointer c.in_default.not-Lvalue c.in_default.not-Rvalue c.in_default.not-Const
     c.in_default.not-Parameters c.in_default.not-Front c.in_default.not-Returned c.in_default.not-Signature c.in_default.not-Special c.in_default.not-Enumerator
     c.in_default.not-Enclosing c.in_default.not-Argument c.in_default.not-Lambda c.in_default.not-Element c.in_default.not-Array)
@@ -100,9 +71,9 @@ returns-in_default g c =
 pub argument_ended-requires-clause-read : goal.argument_ended-requires-clause-read
 argument_ended-requires-clause-read g c =
     value-argument (symbol_by g.G.Grammar.IS_WIDE c.args.s.now) c.args.self.now c.args.is_reference c.in-Argument.from c.in-Argument.number c.in-Argument.known
-    c.requires.writing (waits-last _ _ _ _ c.as_slice.ensures c.in_ok-from.ensures.value c.in-Argument.is)
+    c.requires.writing (waits-last _ _ _ _ c.as_slice.ensures c.in_ok-entry.ensures.value c.in-Argument.is)
 
 pub element_ended-requires-clause-read : goal.element_ended-requires-clause-read
 element_ended-requires-clause-read g c =
     value-in-pack (symbol_by g.G.Grammar.IS_WIDE c.args.s.now) c.args.self.now c.args.is_reference c.in-Element.from c.in-Element.number c.in-Element.known
-    c.requires.writing (waits-last _ _ _ _ c.as_slice.ensures c.in_ok-from.ensures.value c.in-Element.is)
+    c.requires.writing (waits-last _ _ _ _ c.as_slice.ensures c.in_ok-entry.ensures.value c.in-Element.is)

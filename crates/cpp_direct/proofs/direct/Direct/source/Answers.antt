@@ -15,4 +15,4 @@ nest_named-requires-clause-named g c =
     ] in
     source-follows (symbol_by g.G.Grammar.IS_WIDE c.args.s.now) c.args.self.now c.if-is_internal.self c.push_pair.new.self c.name.new.self _ c.args.is_internal c.requires.writing
     c.requires.letter moved c.in_ok-push_pair.ensures n.0 n.1 n.2 n.3 refl refl refl refl refl refl
-    c.len-class_from.ensures c.len.ensures refl refl refl
+    c.end-class_from.ensures c.end.ensures refl refl refl

@@ -25,4 +25,4 @@ returns g c =
     c.in_ok-named.ensures (is ∙ c.at.ensures (subst IsKnown is known)) (known, c.if-argument.false, c.if-argument-2.false)
     wrote.text wrote.candidates wrote.waiting
     (wrote.at ∙ c.in_ok-read.ensures.end ∙ ap (λ n. n + length (parameter_digits k ++ 95 ∷ [])) c.in_ok-checked_add.ensures.1)
-    c.len-begins.result c.len-begins.ensures c.in_ok-add_dependent.ensures.candidates c.add_dependent.ensures.text c.add_dependent.ensures.open c.add_dependent.ensures.at
+    c.end-begins.result c.end-begins.ensures c.in_ok-add_dependent.ensures.candidates c.add_dependent.ensures.text c.add_dependent.ensures.open c.add_dependent.ensures.at

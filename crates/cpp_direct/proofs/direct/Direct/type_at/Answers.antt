@@ -1,8 +1,7 @@
-use Rattle.std.proofs.Common.{◌≢◌, ◌+◌, ◌∷◌, [], subst, arith}
+use Rattle.std.proofs.Common.{◌∷◌, [], arith}
 use Rattle.cpp_direct.specs.Symbol.{symbol_by}
-use Rattle.cpp_direct.specs.Holes.{StandsAt}
 use Rattle.cpp_direct.proofs.Moves.{stands-join}
-use Rattle.cpp_direct.proofs.TypesRead.{awaits-type, names-awaited, there, pointer-opened, lvalue-opened, rvalue-opened, const-opened}
+use Rattle.cpp_direct.proofs.TypesRead.{awaits-type, names-awaited, there, lvalue-opened, rvalue-opened, const-opened}
 use Rattle.cpp_direct.proofs.direct.Direct.type_at.Goals as goal
 
 pub named_type-requires-clause-awaits : goal.named_type-requires-clause-awaits
@@ -15,27 +14,11 @@ builtin_with_d-requires-clause-awaits g c = awaits-type (symbol_by g.G.Grammar.I
 pub builtin-requires-clause-awaits : goal.builtin-requires-clause-awaits
 builtin-requires-clause-awaits g c = awaits-type (symbol_by g.G.Grammar.IS_WIDE c.args.s.now) c.args.self.now c.args.is_plain c.requires.writing
 
-pub begin_function-requires-clause-letters : goal.begin_function-requires-clause-letters
-begin_function-requires-clause-letters g c =
-    let s = c.args.s.now in
-    let at = c.args.self.now.at in
-    let behind = c.byte_at-then-not-is_plain in
-    stands-join s at (80 ∷ []) (70 ∷ []) (there s at c.byte_at.result 80 c.in-80.is (omega arith) c.byte_at.ensures)
-    (there s (at + 1) behind.result 70 c.if-byte_at-eq70.true (omega arith)
-    (subst (λ n. behind.result ≢ 0 → StandsAt s n (behind.result ∷ [])) c.in_ok-checked_add-in-80.ensures.1 behind.ensures))
-
-pub returns-else-not-is_plain-2 : goal.returns-else-not-is_plain-2
-returns-else-not-is_plain-2 g c =
-    pointer-opened (symbol_by g.G.Grammar.IS_WIDE c.args.s.now) c.args.self.now c.open_type.new.self c.open_type.result c.len-from.result
-    (awaits-type (symbol_by g.G.Grammar.IS_WIDE c.args.s.now) c.args.self.now c.args.is_plain c.requires.writing) c.len-from.ensures
-    (there c.args.s.now c.args.self.now.at c.byte_at.result 80 c.in-80.is (omega arith) c.byte_at.ensures)
-    c.open_type.ensures.step c.open_type.ensures.open c.open_type.ensures.at c.open_type.ensures.text c.open_type.ensures.candidates
-
-pub returns-else-not-is_plain-3 : goal.returns-else-not-is_plain-3
-returns-else-not-is_plain-3 g c =
-    let called = c.open_type-in-82.ensures in
-    lvalue-opened (symbol_by g.G.Grammar.IS_WIDE c.args.s.now) c.args.self.now c.open_type-in-82.new.self c.open_type-in-82.result c.len-from.result
-    (awaits-type (symbol_by g.G.Grammar.IS_WIDE c.args.s.now) c.args.self.now c.args.is_plain c.requires.writing) c.len-from.ensures
+pub returns-else-not-is_plain : goal.returns-else-not-is_plain
+returns-else-not-is_plain g c =
+    let called = c.open_type.ensures in
+    lvalue-opened (symbol_by g.G.Grammar.IS_WIDE c.args.s.now) c.args.self.now c.open_type.new.self c.open_type.result c.end-from.result
+    (awaits-type (symbol_by g.G.Grammar.IS_WIDE c.args.s.now) c.args.self.now c.args.is_plain c.requires.writing) c.end-from.ensures
     (there c.args.s.now c.args.self.now.at c.byte_at.result 82 c.in-82.is (omega arith) c.byte_at.ensures)
     called.step called.open called.at called.text called.candidates
 
@@ -43,31 +26,27 @@ pub begin_array-requires-clause-letters : goal.begin_array-requires-clause-lette
 begin_array-requires-clause-letters g c =
     let s = c.args.s.now in
     let at = c.args.self.now.at in
-    stands-join s at (80 ∷ []) (65 ∷ []) (there s at c.byte_at.result 80 c.in-80.is (omega arith) c.byte_at.ensures)
-    (c.is_array_behind.ensures c.if-is_array_behind.true)
-
-pub begin_array-requires-then-is_array_behind-2-clause-letters : goal.begin_array-requires-then-is_array_behind-2-clause-letters
-begin_array-requires-then-is_array_behind-2-clause-letters g c =
-    let s = c.args.s.now in
-    let at = c.args.self.now.at in
     stands-join s at (82 ∷ []) (65 ∷ []) (there s at c.byte_at.result 82 c.in-82.is (omega arith) c.byte_at.ensures)
-    (c.is_array_behind-then-not-is_plain-3.ensures c.if-is_array_behind-2.true)
+    (c.is_array_behind.ensures c.if-is_array_behind.true)
 
 pub returns-in-79 : goal.returns-in-79
 returns-in-79 g c =
     let called = c.open_type-in-79.ensures in
-    rvalue-opened (symbol_by g.G.Grammar.IS_WIDE c.args.s.now) c.args.self.now c.open_type-in-79.new.self c.open_type-in-79.result c.len-from.result
-    (awaits-type (symbol_by g.G.Grammar.IS_WIDE c.args.s.now) c.args.self.now c.args.is_plain c.requires.writing) c.len-from.ensures
+    rvalue-opened (symbol_by g.G.Grammar.IS_WIDE c.args.s.now) c.args.self.now c.open_type-in-79.new.self c.open_type-in-79.result c.end-from.result
+    (awaits-type (symbol_by g.G.Grammar.IS_WIDE c.args.s.now) c.args.self.now c.args.is_plain c.requires.writing) c.end-from.ensures
     (there c.args.s.now c.args.self.now.at c.byte_at.result 79 c.in-79.is (omega arith) c.byte_at.ensures)
     called.step called.open called.at called.text called.candidates
 
 pub returns-else-is_plain-3 : goal.returns-else-is_plain-3
 returns-else-is_plain-3 g c =
     let called = c.open_type-in-75.ensures in
-    const-opened (symbol_by g.G.Grammar.IS_WIDE c.args.s.now) c.args.self.now c.open_type-in-75.new.self c.open_type-in-75.result c.len-from.result c.args.is_plain
-    c.requires.writing c.if-is_plain-3.false c.len-from.ensures
+    const-opened (symbol_by g.G.Grammar.IS_WIDE c.args.s.now) c.args.self.now c.open_type-in-75.new.self c.open_type-in-75.result c.end-from.result c.args.is_plain
+    c.requires.writing c.if-is_plain-3.false c.end-from.ensures
     (there c.args.s.now c.args.self.now.at c.byte_at.result 75 c.in-75.is (omega arith) c.byte_at.ensures)
     called.step called.open called.at called.text called.candidates
 
 pub template_parameter-requires-clause-awaits : goal.template_parameter-requires-clause-awaits
 template_parameter-requires-clause-awaits g c = awaits-type (symbol_by g.G.Grammar.IS_WIDE c.args.s.now) c.args.self.now c.args.is_plain c.requires.writing
+
+pub pointer_at-requires-clause-awaits : goal.pointer_at-requires-clause-awaits
+pointer_at-requires-clause-awaits g c = awaits-type (symbol_by g.G.Grammar.IS_WIDE c.args.s.now) c.args.self.now c.args.is_plain c.requires.writing

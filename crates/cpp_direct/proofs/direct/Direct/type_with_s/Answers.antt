@@ -7,17 +7,17 @@ use Rattle.cpp_direct.proofs.direct.Direct.type_with_s.Goals as goal
 pub type_named-requires : goal.type_named-requires
 type_named-requires g c =
     let got = c.in_ok-name.ensures in
-    std-named (symbol_by g.G.Grammar.IS_WIDE c.args.s.now) c.args.self.now c.push.new.self c.name.new.self c.len-from.result got.0 c.requires.awaits c.requires.letter
+    std-named (symbol_by g.G.Grammar.IS_WIDE c.args.s.now) c.args.self.now c.push.new.self c.name.new.self c.end-from.result got.0 c.requires.awaits c.requires.letter
     (there c.args.s.now (c.args.self.now.at + 1) c.byte_at-letter.result 116 c.if-letter-eq116.true (omega arith)
     (subst (λ k. c.byte_at-letter.result ≢ 0 → StandsAt c.args.s.now k (c.byte_at-letter.result ∷ [])) c.in_ok-self.ensures.1
     c.byte_at-letter.ensures))
     c.in_ok-push.ensures.text c.in_ok-push.ensures.candidates c.in_ok-push.ensures.waiting
     (c.in_ok-push.ensures.at ∙ c.in_ok-self-2.ensures.1 ∙ ap (λ k. k + 1) c.in_ok-self.ensures.1)
-    got.1 got.2 got.3 c.len-from.ensures
+    got.1 got.2 got.3 c.end-from.ensures
 
 pub type_named-requires-then-not-is_empty : goal.type_named-requires-then-not-is_empty
 type_named-requires-then-not-is_empty g c =
-    abbreviation-named (symbol_by g.G.Grammar.IS_WIDE c.args.s.now) c.args.self.now c.push-then-not-is_empty.new.self c.len-from.result c.byte_at-letter.result c.requires.awaits
+    abbreviation-named (symbol_by g.G.Grammar.IS_WIDE c.args.s.now) c.args.self.now c.push-then-not-is_empty.new.self c.end-from.result c.byte_at-letter.result c.requires.awaits
     c.requires.letter
     (subst (λ k. c.byte_at-letter.result ≢ 0 → StandsAt c.args.s.now k (c.byte_at-letter.result ∷ [])) c.in_ok-self.ensures.1
     c.byte_at-letter.ensures)
@@ -25,7 +25,7 @@ type_named-requires-then-not-is_empty g c =
     (c.in_ok-push-2.ensures.text ∙ ap (λ l. c.args.self.now.text.list.items ++ l) c.abbreviation_text-text.ensures)
     c.in_ok-push-2.ensures.candidates c.in_ok-push-2.ensures.waiting
     (c.in_ok-push-2.ensures.at ∙ c.in_ok-self-3.ensures.1 ∙ ap (λ k. k + 1) c.in_ok-self.ensures.1)
-    c.len-from.ensures
+    c.end-from.ensures
 
 pub dependent_again-requires-clause-again : goal.dependent_again-requires-clause-again
 dependent_again-requires-clause-again g c =
@@ -58,10 +58,10 @@ type_named-requires-2 g c =
     let same = c.in_ok-candidate.ensures.same in
     let wrote = c.in_ok-repeat.ensures in
     let k = c.in_ok-candidate.candidate in
-    substitution-named (symbol_by g.G.Grammar.IS_WIDE c.args.s.now) c.args.self.now c.repeat.new.self c.len-from.result got.0 c.in_ok-candidate.candidate c.requires.awaits
+    substitution-named (symbol_by g.G.Grammar.IS_WIDE c.args.s.now) c.args.self.now c.repeat.new.self c.end-from.result got.0 c.in_ok-candidate.candidate c.requires.awaits
     c.requires.letter
     (subst (λ n. IsSeqAt c.args.s.now n got.0 c.repeat.new.self.at) c.in_ok-self.ensures.1
     (subst (λ n. IsSeqAt c.args.s.now c.in_ok-self.field-0 got.0 n) (sym wrote.at) got.1))
     c.in_ok-candidate.ensures.ordered got.2
     (wrote.text ∙ ap (λ l. l ++ take (k.to - k.from) (drop k.from l)) (same.text ∙ append-nil c.args.self.now.text.list.items))
-    (wrote.candidates ∙ same.candidates) (wrote.waiting ∙ same.waiting) c.len-from.ensures c.if-candidate.false
+    (wrote.candidates ∙ same.candidates) (wrote.waiting ∙ same.waiting) c.end-from.ensures c.if-candidate.false

@@ -1,8 +1,9 @@
-use Rattle.std.proofs.Common.{ap, arith, sym}
-use Rattle.cpp_layout.proofs.Growing.{fills, form-expand}
+use Rattle.std.proofs.Common.{[], ap, arith, sym, ◌∙◌, ◌∷◌}
+use Rattle.cpp_layout.proofs.Growing.{fills, form-expand, starts}
 use Rattle.cpp_layout.specs.Layout.{context_of, form_of, table_of, tree_in}
-use Rattle.cpp_term.specs.Parts.{parts_in}
+use Rattle.cpp_term.specs.Parts.{left_parts, parts_in, right_parts}
 use Rattle.cpp_tree.specs.Nodes.{tree_at, trees}
+use Rattle.sym_print.specs.Unfold.{text}
 use Rattle.cpp_layout.proofs.symbol.Symbol.fill_form.Goals as goal
 
 pub returns-in-0-clause-shows : goal.returns-in-0-clause-shows
@@ -44,6 +45,14 @@ returns-in-8-clause-shows g c = fills c.args.self.now c.args.ctx.detail _ _ _ c.
 pub returns-in-9-clause-shows : goal.returns-in-9-clause-shows
 unfolding parts_in
 returns-in-9-clause-shows g c = fills c.args.self.now c.args.ctx.detail _ _ _ c.fill_root.ensures.shows (ap (λ f. parts_in c.args.ctx.detail (context_of c.args.ctx) (form_of f c.args.at) (tree_in f (tree_at (trees (table_of c.args.self.now)) c.args.node))) (sym c.in-9.is))
+
+pub returns-in-10-clause-shows : goal.returns-in-10-clause-shows
+unfolding parts_in left_parts
+returns-in-10-clause-shows g c = fills c.args.self.now c.args.ctx.detail _ _ _ (c.push_some.ensures.shows _ _ _ (starts c.args.self.now c.args.ctx.detail _)) (ap (λ t. text t ∷ []) c.builtin_with_d.ensures.text ∙ ap (λ f. parts_in c.args.ctx.detail (context_of c.args.ctx) (form_of f c.args.at) (tree_in f (tree_at (trees (table_of c.args.self.now)) c.args.node))) (sym c.in-10.is))
+
+pub returns-in-11-clause-shows : goal.returns-in-11-clause-shows
+unfolding parts_in right_parts
+returns-in-11-clause-shows g c = fills c.args.self.now c.args.ctx.detail _ _ _ (starts c.args.self.now c.args.ctx.detail _) (ap (λ f. parts_in c.args.ctx.detail (context_of c.args.ctx) (form_of f c.args.at) (tree_in f (tree_at (trees (table_of c.args.self.now)) c.args.node))) (sym c.in-11.is))
 
 pub returns-in_default-clause-shows : goal.returns-in_default-clause-shows
 returns-in_default-clause-shows g c = fills c.args.self.now c.args.ctx.detail _ _ _ c.fill_expand.ensures.shows (form-expand c.args.form c.args.at (tree_at (trees (table_of c.args.self.now)) c.args.node) c.args.ctx.detail (context_of c.args.ctx) (omega (arith, c.in_default)))

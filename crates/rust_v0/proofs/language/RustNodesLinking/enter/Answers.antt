@@ -3,8 +3,8 @@ use Rattle.sym_link.specs.Parts.{skipped_from}
 use Rattle.sym_link.proofs.Tally.{opens_tallied}
 use Rattle.rust_v0.specs.RustNodes.{v0_view}
 use Rattle.rust_v0.specs.NodeCount.{made_by}
-use Rattle.rust_v0.specs.Productions.{production_of}
-use Rattle.rust_v0.specs.Unfold.{bound_behind}
+use Rattle.rust_grammar.specs.Productions.{production_of}
+use Rattle.rust_grammar.specs.Unfold.{bound_behind}
 use Rattle.rust_v0.specs.Made.{ground}
 use Rattle.std.specs.Prelude.{◌^◌}
 use Rattle.sym_link.proofs.Lists.{taken_dropped}

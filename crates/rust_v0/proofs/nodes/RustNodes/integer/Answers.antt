@@ -7,7 +7,7 @@ use Rattle.sym_core.specs.Printed.{signed_text}
 use Rattle.sym_link.proofs.Lists.{span_length}
 use Rattle.rust_tree.specs.Nodes.{HasNoZero}
 use Rattle.rust_tree.proofs.Trees.{grows-same}
-use Rattle.rust_v0.specs.Unfold.{value16}
+use Rattle.rust_grammar.specs.Unfold.{value16}
 use Rattle.rust_v0.proofs.Integers.{digits_behind, digits_left, digits_pay, text_few}
 use Rattle.rust_v0.proofs.nodes.RustNodes.integer.Goals as goal
 

@@ -1,7 +1,7 @@
 use Rattle.std.proofs.Common.{refl, ap}
 use Rattle.rust_tree.specs.Tree.{of_constant}
-use Rattle.rust_v0.specs.Value as value
-use Rattle.rust_v0.specs.Unfold.{as_constant}
+use Rattle.rust_grammar.specs.Value as value
+use Rattle.rust_grammar.specs.Unfold.{as_constant}
 use Rattle.rust_v0.proofs.Referring.{constant_refers}
 use Rattle.rust_v0.proofs.nodes.RustNodes.refer_to_constant.Goals as goal
 

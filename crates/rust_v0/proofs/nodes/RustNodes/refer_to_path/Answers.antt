@@ -1,6 +1,6 @@
 use Rattle.std.proofs.Common.{refl, inl}
 use Rattle.rust_tree.specs.Tree.{of_path}
-use Rattle.rust_v0.specs.Value as value
+use Rattle.rust_grammar.specs.Value as value
 use Rattle.rust_v0.proofs.Referring.{path_is, path_refers}
 use Rattle.rust_v0.proofs.nodes.RustNodes.refer_to_path.Goals as goal
 

@@ -1,8 +1,8 @@
 use Rattle.std.proofs.Common.{refl, inl, inr, ap}
 use Rattle.rust_tree.specs.Symbol as tree
 use Rattle.rust_tree.specs.Tree.{of_path, of_type}
-use Rattle.rust_v0.specs.Value as value
-use Rattle.rust_v0.specs.Unfold.{as_type}
+use Rattle.rust_grammar.specs.Value as value
+use Rattle.rust_grammar.specs.Unfold.{as_type}
 use Rattle.rust_v0.proofs.Referring.{type_is, path_type_refers, type_refers}
 use Rattle.rust_v0.proofs.nodes.RustNodes.refer_to_type.Goals as goal
 

@@ -4,7 +4,7 @@ use Rattle.sym_link.proofs.Lists.{all_push, all_stay, pushed_behind, rest_all}
 use Rattle.rust_v0.specs.LanguageLaws.{v0_laws}
 use Rattle.rust_v0.specs.RustNodes.{GoesOn}
 use Rattle.rust_v0.specs.Made.{ground}
-use Rattle.rust_v0.specs.Productions.{production_of}
+use Rattle.rust_grammar.specs.Productions.{production_of}
 use Rattle.rust_v0.specs.Tokens.{sort_of}
 use Rattle.rust_v0.specs.PartValues.{IsPart}
 use Rattle.rust_v0.proofs.Noted.{lists_stay}

@@ -6,8 +6,8 @@ use Rattle.sym_spell.proofs.numbers.Numbers.of_firsts.Goals as goal
 
 pub loop-node-init : goal.loop-node-init
 loop-node-init c = (
-  none-counted c.args.firsts.now c.new-numbers.result.items c.in_ok-entries.entries.keys c.new-numbers.ensures.items c.in_ok-entries.ensures.empty,
-  ap length c.new-numbers.ensures.items,
+  none-counted c.args.firsts.now c.in_ok-numbers.numbers.items c.in_ok-entries.entries.keys c.in_ok-numbers.ensures.items c.in_ok-entries.ensures.empty,
+  ap length c.in_ok-numbers.ensures.items,
   refl,
 )
 

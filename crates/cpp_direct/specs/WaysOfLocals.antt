@@ -1,0 +1,134 @@
+-- Where a writer is between two of its functions within a step: local entities, and types in functions.
+use Rattle.std.specs.Prelude.{◌≡◌, ◌≢◌, ℕ, ◌+◌, List, [], ◌∷◌, ◌++◌, length, reverse, Bool, true, false, cond, codes}
+use Rattle.cpp_grammar.specs.Term.{Term}
+use Rattle.cpp_grammar.specs.Scope.{has_return_type}
+use Rattle.cpp_grammar.specs.Meaning.{encoding_of}
+use Rattle.cpp_grammar.specs.Values.{State, Value, tree_of, qualifiers_of, ref_of}
+use Rattle.cpp_direct.specs.Symbol.{Symbol}
+use Rattle.cpp_direct.specs.declared.open.Mark.{Mark}
+use Rattle.cpp_direct.specs.declared.open.Mark.TheVariants as marks
+use Rattle.cpp_direct.specs.declared.open.Open.{Open}
+use Rattle.cpp_direct.specs.declared.open.Arguments.{Arguments}
+use Rattle.cpp_direct.specs.declared.open.Open.TheVariants as opens
+use Rattle.cpp_direct.specs.declared.direct.Direct.{Direct}
+use Rattle.cpp_direct.specs.Bytes.{is_local}
+use Rattle.cpp_direct.specs.Holes.{StandsAt}
+use Rattle.cpp_direct.specs.Marks.{has_const, called_on, mark_text}
+use Rattle.cpp_direct.specs.Prints.{PrintsName, PrintAll, Encloses}
+use Rattle.cpp_direct.specs.Stands.{AreCandidates, IsEnclosing, ItemsGoOn, LambdaWithin, Stands, TypeWithin, qualifiers, HasArguments, nowhere, named_in}
+use Rattle.cpp_direct.specs.Ways.{IsEncodingEnded}
+
+-- ## Local entities
+
+-- The name of a local entity is expected behind the E of the encoding before it, and behind the L of internal linkage or without.
+pub record AwaitsEntity (s : Symbol) (w : Direct) (is_internal : Bool) : Type 0 where
+  pub before : ℕ
+  pub ended : IsEncodingEnded s (record w { at = before }) marks.Plain
+  pub is_entity : is_local s.bytes ≡ true
+  pub first : StandsAt s.bytes before (69 ∷ [])
+  pub letter : is_internal ≡ true → StandsAt s.bytes (before + 1) (76 ∷ [])
+  pub at_is : w.at ≡ before + 1 + cond is_internal 1 0
+
+-- ## Types in functions
+
+-- The name of a function in which a type stands was read and written from a place on, but for its qualifier.
+pub record IsEnclosingNamed (s : Symbol) (w : Direct) (mark : Mark) (from : ℕ) : Type 0 where
+  pub state : State
+  pub candidates : AreCandidates w.text.list.items w.candidates.list.items state.candidates
+  pub own : Term
+  pub v : Value
+  pub tree_is : tree_of v ≡ own
+  pub qualifiers_are : qualifiers_of v ≡ qualifiers (has_const mark)
+  pub mark_is : ref_of v ≡ called_on mark
+  pub front : List ℕ
+  pub name : List ℕ
+  pub written : w.text.list.items ≡ front ++ name
+  pub from_is : from ≡ length front
+  pub prints : PrintsName own name
+  pub no_return : has_return_type own ≡ false
+  pub goes : ItemsGoOn s nowhere (TypeWithin s (Stands s (reverse w.waiting.list.items)) front) (λ l. encoding_of v l) [] w.at state
+
+-- The same of an instance of a function template. Its return type is expected, and the argument of the template stands where it was
+-- noted last, or it isn't known.
+pub record IsEnclosingInstance (s : Symbol) (w : Direct) (mark : Mark) (from : ℕ) : Type 0 where
+  pub state : State
+  pub candidates : AreCandidates w.text.list.items w.candidates.list.items state.candidates
+  pub own : Term
+  pub v : Value
+  pub tree_is : tree_of v ≡ own
+  pub qualifiers_are : qualifiers_of v ≡ qualifiers (has_const mark)
+  pub mark_is : ref_of v ≡ called_on mark
+  pub front : List ℕ
+  pub name : List ℕ
+  pub written : w.text.list.items ≡ front ++ name
+  pub from_is : from ≡ length front
+  pub prints : PrintsName own name
+  pub returns : has_return_type own ≡ true
+  pub names : HasArguments w.text.list.items w.argument own
+  pub goes : ItemsGoOn s (named_in 0 w.argument) (TypeWithin s (Stands s (reverse w.waiting.list.items)) front) (λ l. encoding_of v l) [] w.at state
+
+-- The name of a function in which a type stands was read, and its return type if it has one. Its parameters are expected.
+pub record AwaitsEnclosingParameters (s : Symbol) (w : Direct) (mark : Mark) (from : ℕ) (argument : Arguments) : Type 0 where
+  pub state : State
+  pub candidates : AreCandidates w.text.list.items w.candidates.list.items state.candidates
+  pub make : Term → Term
+  pub front : List ℕ
+  pub name : List ℕ
+  pub is_enclosing : IsEnclosing w.text.list.items argument mark make [] name []
+  pub written : w.text.list.items ≡ front ++ name
+  pub from_is : from ≡ length front
+  pub goes : ItemsGoOn s argument (TypeWithin s (Stands s (reverse w.waiting.list.items)) front) make [] w.at state
+
+-- A parameter of such a function was read.
+pub record IsEnclosingParameterRead (s : Symbol) (w : Direct) (mark : Mark) (from : ℕ) (argument : Arguments) : Type 0 where
+  pub state : State
+  pub candidates : AreCandidates w.text.list.items w.candidates.list.items state.candidates
+  pub rest : List Open
+  pub open_is : reverse w.waiting.list.items ≡ opens.Enclosing mark from argument ∷ rest
+  pub make : Term → Term
+  pub ts : List Term
+  pub some : ts ≢ []
+  pub front : List ℕ
+  pub name : List ℕ
+  pub texts : List ℕ
+  pub is_enclosing : IsEnclosing w.text.list.items argument mark make ts name texts
+  pub from_is : from ≡ length front
+  pub written : w.text.list.items ≡ front ++ name ++ codes "(" ++ texts
+  pub goes : ItemsGoOn s argument (TypeWithin s (Stands s rest) front) make ts w.at state
+
+-- Such a function was read and written from a place on, but for its qualifier.
+pub record IsEnclosingRead (s : Symbol) (w : Direct) (mark : Mark) (from : ℕ) : Type 0 where
+  pub state : State
+  pub candidates : AreCandidates w.text.list.items w.candidates.list.items state.candidates
+  pub e : Term
+  pub front : List ℕ
+  pub bytes : List ℕ
+  pub written : w.text.list.items ++ mark_text mark ≡ front ++ bytes
+  pub from_is : from ≡ length front
+  pub encloses : Encloses e bytes
+  pub within : TypeWithin s (Stands s (reverse w.waiting.list.items)) front e w.at state
+
+-- The name of a type is expected behind the E of the function that it stands in, which was written from a place on.
+pub record AwaitsTypeName (s : Symbol) (w : Direct) (from : ℕ) : Type 0 where
+  pub before : ℕ
+  pub read : IsEnclosingRead s (record w { at = before }) marks.Plain from
+  pub letter : StandsAt s.bytes before (69 ∷ [])
+  pub at_is : w.at ≡ before + 1
+
+-- A parameter of a lambda was read, which is a type that stands in a function.
+pub record IsLambdaParameterRead (s : Symbol) (w : Direct) (from : ℕ) : Type 0 where
+  pub state : State
+  pub candidates : AreCandidates w.text.list.items w.candidates.list.items state.candidates
+  pub rest : List Open
+  pub open_is : reverse w.waiting.list.items ≡ opens.Lambda from ∷ rest
+  pub front : List ℕ
+  pub e : Term
+  pub bytes : List ℕ
+  pub encloses : Encloses e bytes
+  pub ts : List Term
+  pub some : ts ≢ []
+  pub texts : List ℕ
+  pub elements : PrintAll 0 ts texts
+  pub from_is : from ≡ length front
+  pub written : w.text.list.items ≡ front ++ (bytes ++ codes "::{lambda(") ++ texts
+  pub goes : ItemsGoOn s nowhere (LambdaWithin s (Stands s rest) front e) (λ l. l) ts w.at state

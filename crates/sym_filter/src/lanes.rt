@@ -1,0 +1,51 @@
+// How far bytes that are looked at together are of one class.
+
+ghost use Rattle.std.specs.Prelude.{◌≡◌, ◌+◌, ◌≤◌, length, drop, take, true};
+ghost use Rattle.std.specs.List.{list_all};
+ghost use Rattle.sym_filter.specs.Lanes.{first_set, is_no_mark};
+ghost use Rattle.sym_filter.specs.Runs.{is_byte_of};
+ghost use Rattle.sym_filter.specs.declared.kinds.Letters.TheVariants.{Ascii};
+
+use std::simd::prelude::*;
+
+/// So many bytes are looked at together.
+pub(crate) const LANES: usize = 16;
+
+/// The place of the lowest bit that is set, or the number of lanes where none is.
+#[inline(always)]
+fn first_set(mask: u64) -> usize
+    ensures { result ≡ first_set mask }
+{
+    if mask == 0 {
+        LANES
+    } else {
+        mask.trailing_zeros() as usize
+    }
+}
+
+/// How many of the bytes from a place on, as far as they are looked at together, are no `_`.
+#[inline(always)]
+pub(crate) fn lanes_before_mark(text: &[u8], at: usize) -> usize
+    requires { at + 16 ≤ length text.now }
+    ensures { (result ≤ 16) × (list_all is_no_mark (take result (drop at text.now)) ≡ true) }
+{
+    let bytes = u8x16::from_slice(&text[at..]);
+    first_set(bytes.simd_eq(u8x16::splat(b'_')).to_bitmask())
+}
+
+/// How many of the bytes from a place on, as far as they are looked at together, belong to runs of ASCII letters.
+#[inline(always)]
+pub(crate) fn lanes_front(text: &[u8], at: usize) -> usize
+    requires { at + 16 ≤ length text.now }
+    ensures { (result ≤ 16) × (list_all (is_byte_of Ascii) (take result (drop at text.now)) ≡ true) }
+{
+    let bytes = u8x16::from_slice(&text[at..]);
+    let letter = (bytes | u8x16::splat(0x20)) - u8x16::splat(b'a');
+    let digit = bytes - u8x16::splat(b'0');
+    let stops = letter.simd_ge(u8x16::splat(26))
+        & digit.simd_ge(u8x16::splat(10))
+        & bytes.simd_ne(u8x16::splat(b'_'))
+        & bytes.simd_ne(u8x16::splat(b'.'))
+        & bytes.simd_ne(u8x16::splat(b'$'));
+    first_set(stops.to_bitmask())
+}
