@@ -182,12 +182,12 @@ meaning Production.ExpressionArgument byte around vs = tree (list (tree_of (part
 meaning Production.LiteralElement byte around vs = tree (list (tree_of (part vs 0)) (no_items (part vs 2))) true
 meaning Production.AddressElement byte around vs = tree (list (tree_of (part vs 2)) (no_items (part vs 3))) true
 meaning Production.TypeElement byte around vs = tree (list (tree_of (part vs 0)) (no_items (part vs 1))) true
--- literals
 meaning Production.ExpressionElement byte around vs = tree (list (tree_of (part vs 0)) (no_items (part vs 1))) true
 -- an argument that is an expression
 meaning Production.Expression byte around vs = part vs 0
 meaning Production.AddressExpression byte around vs = part vs 1
 meaning Production.ParameterExpression byte around vs = part vs 0
+-- literals
 meaning Production.Address byte around vs = tree (address_of (tree_of (part vs 2))) true
 meaning Production.EncodingLiteral byte around vs = tree (encoding_literal (tree_of (part vs 1))) true
 meaning Production.BoolLiteral byte around vs = tree (boolean (nat_eq (letter_of (part vs 0)) 49)) true

@@ -86,7 +86,7 @@ parameter_so_far around place k vs state = parameter_named around place k state 
 
 -- a parameter that is an argument itself is tested in the same way, and no candidate
 unfoldable pub argument_so_far : Around → (place : ℕ) → ℕ → State → Going
-argument_so_far around place k state = parameter_named around place k state >>= λ s. next (tree (parameter k) true ∷ []) around (record s { candidates = state.candidates })
+argument_so_far around place k state = parameter_named around place k state >>= λ s. next (tree (parameter k (argument_at around k)) true ∷ []) around (record s { candidates = state.candidates })
 
 unfoldable pub index_of : Value → ℕ
 index_of v = counted_value Decimal (text_of v)

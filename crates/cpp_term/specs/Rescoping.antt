@@ -32,6 +32,7 @@ parameter_here around place k vs state = elim around.in_lambda [
   | false ↦ parameter_so_far around place k vs state
 ]
 
+-- so is a parameter that is an argument itself, which is no candidate
 unfoldable pub argument_here : Around → (place : ℕ) → ℕ → State → Going
 argument_here around place k state = elim around.in_lambda [
   | true ↦ next (tree (generic_parameter (generic_number k)) true ∷ []) around state
