@@ -20,7 +20,7 @@ use Rattle.cpp_term.specs.Meaning.{meaning, function_of}
 use Rattle.cpp_term.specs.Unfolding.{behind, close}
 use Rattle.cpp_link.specs.Owed.{made_before, made_at_end}
 use Rattle.cpp_link.specs.NodeCount.{makes_before, makes_at_end, one_if_there, one_if_arguments, std_before, name_at_end}
-use Rattle.cpp_link.proofs.CandidatesFew.{unlisted, unlisted_around, is_component, becomes_candidate, goes_on, is_arguments, in_place, behind_name, pending, pending_around, makes_name, may_leave, takes_name, begins_arguments, leaves, starts_with, Onward, Flow, going, appended-one, typed-one, unqualified-one, prefix-one, substituted-none, parameter-one, came, ended, quiet, takes_pending, take_nothing, plain-flow, kept, still, there-or-not, spent-or-not, made-flow, name-flow, value-flow, same-closes, rest-step, nest-flow}
+use Rattle.cpp_link.proofs.CandidatesFew.{unlisted, unlisted_around, is_component, becomes_candidate, goes_on, is_arguments, in_place, behind_name, pending, pending_around, makes_name, may_leave, takes_name, begins_arguments, leaves, starts_with, Onward, Flow, going, appended-one, typed-one, unqualified-one, prefix-one, substituted-none, parameter-one, argument-none, came, ended, quiet, takes_pending, take_nothing, plain-flow, kept, still, there-or-not, spent-or-not, made-flow, name-flow, value-flow, same-closes, rest-step, nest-flow}
 
 -- ## Names
 
@@ -474,6 +474,13 @@ pack-keeps around place (v ∷ []) state next e = kept (tree (pack (no_items v))
 pack-keeps around place (v ∷ w ∷ vs) state next e = kept (v ∷ w ∷ vs) around state next
     (makes_before Production.PackArgument (v ∷ w ∷ vs)) e
 
+parameter-keeps : (around : Around) (place : ℕ) → Keeps Production.ParameterExpression around place
+unfolding between makes_before made_before
+parameter-keeps around place [] state next e = kept [] around state next 0 e
+parameter-keeps around place (v ∷ []) state next e = omega (arith, argument-none around place (index_of v) state next e)
+parameter-keeps around place (v ∷ w ∷ vs) state next e = kept (v ∷ w ∷ vs) around state next
+    (makes_before Production.ParameterExpression (v ∷ w ∷ vs)) e
+
 lvalue-keeps : (around : Around) (place : ℕ) → Keeps Production.LvalueItem around place
 unfolding between makes_before made_before
 lvalue-keeps around place [] state next e = kept [] around state next 0 e
@@ -608,6 +615,9 @@ flows Production.LocalType around place = plain-flow Production.LocalType around
 flows Production.PackArgument around place = plain-flow Production.PackArgument around place (pack-keeps around place)
     (plain-closes Production.PackArgument around place (λ byte began vs state. refl) (λ byte began vs state. refl)
     (λ byte vs. omega arith)) (parts_of Production.PackArgument) refl []
+flows Production.ParameterExpression around place = plain-flow Production.ParameterExpression around place (parameter-keeps around place)
+    (plain-closes Production.ParameterExpression around place (λ byte began vs state. refl) (λ byte began vs state. refl)
+    (λ byte vs. omega arith)) (parts_of Production.ParameterExpression) refl []
 flows Production.Expansion around place =
     plain-flow Production.Expansion around place
     (λ vs state next e. same-kept (going vs (under_expansion around) (record state { packs = None })) next state 0 e (omega arith))

@@ -309,6 +309,14 @@ impl Linked {
                 },
                 true,
             ),
+            // <template-arg> ::= X <expression> E, with an <expression> that is read by itself
+            Production::ExpressionArgument => made(
+                Node::Cell {
+                    first: self.tree(symbol, parts, 0),
+                    rest: self.list(symbol, parts, 1),
+                },
+                true,
+            ),
             // <template-arg> ::= <expr-primary>, in a pack
             Production::LiteralElement => made(
                 Node::Cell {
@@ -333,6 +341,20 @@ impl Linked {
                 },
                 true,
             ),
+            // <template-arg> ::= X <expression> E, with an <expression> that is read by itself, in a pack
+            Production::ExpressionElement => made(
+                Node::Cell {
+                    first: self.tree(symbol, parts, 0),
+                    rest: self.list(symbol, parts, 1),
+                },
+                true,
+            ),
+            // X <expression> E
+            Production::Expression => Meant::Given(self.given(symbol, parts, 0)),
+            // <expression> ::= ad <expression>, behind the a
+            Production::AddressExpression => Meant::Given(self.given(symbol, parts, 1)),
+            // <expression> ::= <template-param>
+            Production::ParameterExpression => Meant::Given(self.given(symbol, parts, 0)),
             // <type> ::= R <type>, a parameter, and those behind it
             Production::LvalueItem => items(
                 self.tree(symbol, parts, 0),

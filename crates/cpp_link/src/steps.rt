@@ -377,6 +377,7 @@ impl Linked {
         requires first { IsThere symbol.now (length self.now.nodes.nodes) first }
         requires parameter { production ≡ productions.Parameter → ⊥ }
         requires nest { production ≡ productions.NestParameter → ⊥ }
+        requires expression { production ≡ productions.ParameterExpression → ⊥ }
         requires pack { production ≡ productions.PackArgument → ⊥ }
         ensures is { (cs : List values.Candidate) → between production (around_of (trees_in symbol.now self.now.nodes) kept) place (value_in symbol.now self.now.nodes first ∷ []) (record { candidates = cs; packs = self.now.packs }) ≡ goes_on symbol.now self.now.nodes kept (value_in symbol.now self.now.nodes first ∷ []) cs self.now.packs result }
         ensures there { IsStepThere symbol.now (length self.now.nodes.thunks) (length self.now.nodes.nodes) result }
@@ -747,6 +748,10 @@ impl Linked {
             Production::NestParameter => {
                 let digits = self.text_in(symbol, first);
                 self.parameter(symbol, kept, place, digits)
+            }
+            Production::ParameterExpression => {
+                let digits = self.text_in(symbol, first);
+                self.parameter_argument(symbol, kept, place, digits)
             }
             Production::PackArgument => Ok(self.pack(symbol, first)),
             _ => Ok(self.step_second(symbol, production, place, kept, first)),
