@@ -116,6 +116,10 @@ may_leave Production.AbbreviatedType = true
 may_leave Production.SizedFloat = true
 may_leave Production.TaggedStdType = true
 may_leave Production.TypeInStd = true
+may_leave Production.ArrayType = true
+may_leave Production.AnyArray = true
+may_leave Production.LengthArray = true
+may_leave Production.BoundedArray = true
 may_leave _ = false
 
 -- what goes on with the name so far

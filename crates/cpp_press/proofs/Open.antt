@@ -23,6 +23,7 @@ open-erased (pointer t) = open-erased t
 open-erased (lvalue t) = open-erased t
 open-erased (rvalue t) = open-erased t
 open-erased (array digits t) = open-erased t
+open-erased (bounded bound t) = rw (open-erased bound, open-erased t) refl
 open-erased (member_pointer class t) = rw (open-erased class, open-erased t) refl
 open-erased (function_type c_linkage noexcept ref returned parameters) = rw (open-erased returned, open-erased parameters) refl
 open-erased (qualified q t) = open-erased t

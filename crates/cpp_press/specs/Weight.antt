@@ -26,6 +26,7 @@ weight (pointer type) = 12 + weight type
 weight (lvalue type) = 12 + weight type
 weight (rvalue type) = 12 + weight type
 weight (array digits type) = 12 + weight type
+weight (bounded bound type) = 12 + weight bound + weight type
 weight (member_pointer class member) = 12 + weight class + weight member
 weight (function_type c_linkage noexcept ref returned parameters) = 12 + weight returned + weight parameters
 weight (qualified q type) = 12 + weight type

@@ -47,6 +47,7 @@ IsNeverReferred own (pointer type) = IsNeverReferred own type
 IsNeverReferred own (lvalue type) = IsNeverReferred own type
 IsNeverReferred own (rvalue type) = IsNeverReferred own type
 IsNeverReferred own (array digits type) = IsNeverReferred own type
+IsNeverReferred own (bounded bound type) = IsNeverReferred own bound ⊎ IsNeverReferred own type
 IsNeverReferred own (member_pointer class member) = IsNeverReferred own class ⊎ IsNeverReferred own member
 IsNeverReferred own (function_type c_linkage noexcept ref returned parameters) = IsNeverReferred own returned ⊎ IsNeverReferred own parameters
 IsNeverReferred own (qualified q type) = IsNeverReferred own type

@@ -72,6 +72,7 @@ same_tree (pointer a0) (pointer b0) = same_tree a0 b0
 same_tree (lvalue a0) (lvalue b0) = same_tree a0 b0
 same_tree (rvalue a0) (rvalue b0) = same_tree a0 b0
 same_tree (array a0 a1) (array b0 b1) = same_bytes a0 b0 && same_tree a1 b1
+same_tree (bounded a0 a1) (bounded b0 b1) = same_tree a0 b0 && same_tree a1 b1
 same_tree (member_pointer a0 a1) (member_pointer b0 b1) = same_tree a0 b0 && same_tree a1 b1
 same_tree (function_type a0 a1 a2 a3 a4) (function_type b0 b1 b2 b3 b4) = same_truth a0 b0 && same_truth a1 b1 && same_mark a2 b2 && same_tree a3 b3 && same_tree a4 b4
 same_tree (qualified a0 a1) (qualified b0 b1) = same_qualifiers a0 b0 && same_tree a1 b1

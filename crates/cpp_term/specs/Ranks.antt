@@ -37,6 +37,7 @@ weight (pointer t) = 1 + weight t
 weight (lvalue t) = 1 + weight t
 weight (rvalue t) = 1 + weight t
 weight (array digits t) = 1 + weight t
+weight (bounded bound t) = 1 + weight bound + weight t
 weight (member_pointer class t) = 1 + weight class + weight t
 weight (function_type c_linkage noexcept ref returned parameters) = 1 + weight returned + weight parameters
 weight (qualified q t) = 1 + weight t

@@ -57,6 +57,10 @@ inside-shut (pointer type) x closed i = itself-shut type x (Inside type x) close
 inside-shut (lvalue type) x closed i = itself-shut type x (Inside type x) closed (inside-shut type x closed) i
 inside-shut (rvalue type) x closed i = itself-shut type x (Inside type x) closed (inside-shut type x closed) i
 inside-shut (array digits type) x closed i = itself-shut type x (Inside type x) closed (inside-shut type x closed) i
+inside-shut (bounded bound type) x closed (inl i) =
+    itself-shut bound x (Inside bound x) (left-shut (is_open bound) (is_open type) closed) (inside-shut bound x (left-shut (is_open bound) (is_open type) closed)) i
+inside-shut (bounded bound type) x closed (inr i) =
+    itself-shut type x (Inside type x) (right-shut (is_open bound) (is_open type) closed) (inside-shut type x (right-shut (is_open bound) (is_open type) closed)) i
 inside-shut (member_pointer class member) x closed (inl i) =
     itself-shut class x (Inside class x) (left-shut (is_open class) (is_open member) closed) (inside-shut class x (left-shut (is_open class) (is_open member) closed)) i
 inside-shut (member_pointer class member) x closed (inr i) =

@@ -48,6 +48,9 @@ closed-packs scope (pointer type) closed = closed-packs scope type closed
 closed-packs scope (lvalue type) closed = closed-packs scope type closed
 closed-packs scope (rvalue type) closed = closed-packs scope type closed
 closed-packs scope (array digits type) closed = closed-packs scope type closed
+closed-packs scope (bounded bound type) closed =
+    first-none (pack_length scope bound) (pack_length scope type) (closed-packs scope bound (left-shut (is_open bound) (is_open type) closed))
+    (closed-packs scope type (right-shut (is_open bound) (is_open type) closed))
 closed-packs scope (member_pointer class member) closed =
     first-none (pack_length scope class) (pack_length scope member) (closed-packs scope class (left-shut (is_open class) (is_open member) closed))
     (closed-packs scope member (right-shut (is_open class) (is_open member) closed))
