@@ -1,7 +1,7 @@
 -- What annotating keeps.
 use Rattle.std.proofs.Common.{◌≡◌, refl, ap, ◌∙◌, ℕ, zero, suc, Bool, true, false, ◌||◌, ◌&&◌, Option, Some, None}
 use Rattle.std.proofs.lemmas.Bool.{true≢false}
-use Rattle.cpp_grammar.specs.Term.{Term, alone, in_std, within, instance, local, holder, tagged, of_default, parameter, lambda, conversion, pointer, lvalue, rvalue, array, member_pointer, function_type, qualified, vector, complex, expansion, integer, pack, list, absent}
+use Rattle.cpp_grammar.specs.Term.{Term, alone, in_std, within, instance, local, holder, tagged, of_default, parameter, lambda, conversion, pointer, lvalue, rvalue, array, bounded, member_pointer, function_type, qualified, vector, complex, expansion, integer, pack, list, absent}
 use Rattle.cpp_grammar.specs.Scope.{count, element, arguments_of, is_open, is_generic, first_of, length_if_pack, pack_length}
 use Rattle.cpp_grammar.specs.Items.{Context, indexed, argument, Head, lref, collapsed, head_with, head_closed, head, packs_of, is_none_of, is_empty}
 use Rattle.cpp_grammar.specs.References.{packs_in}
