@@ -127,6 +127,7 @@ classes es (Node.Qualified q t) = (entry_at es t).class
 classes es (Node.Parameter k a) = argument_class (entry_at es a).node (entry_at es a).class
 classes es (Node.FunctionType c n m returned parameters) = HeadClass.Known Head.FunctionOrArray
 classes es (Node.Array digits t) = HeadClass.Known Head.FunctionOrArray
+classes es (Node.Bounded bound t) = HeadClass.Known Head.FunctionOrArray
 classes es _ = HeadClass.Known Head.Plain
 
 -- ## The length of its packs
