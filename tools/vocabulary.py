@@ -308,7 +308,7 @@ WRAPPERS = [
     ("complex", "Complex", "C"),
 ]
 # those that are components, and may be referred to as types and prefixes: all types but builtin ones and abbreviations, and names
-COMPONENTS = """alone in_std within instance local tagged parameter vendor pointer lvalue rvalue array bounded member_pointer function_type qualified vector
+COMPONENTS = """alone in_std within instance local tagged parameter vendor pointer lvalue rvalue array member_pointer function_type qualified vector
     complex expansion""".split()
 
 # ## Rust v0 (RFC 2603)
