@@ -121,6 +121,8 @@ may_leave Production.ArrayType = true
 may_leave Production.AnyArray = true
 may_leave Production.LengthArray = true
 may_leave Production.BoundedArray = true
+may_leave Production.ParameterArgument = true
+may_leave Production.DeclaredArgument = true
 may_leave _ = false
 
 -- what goes on with the name so far
