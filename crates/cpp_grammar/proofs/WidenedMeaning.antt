@@ -344,7 +344,7 @@ spelled_long [] address = omega (arith, ap length (append-nil (address ++ []) �
 spelled_long (b ∷ taken) address = omega (arith, spelled_long taken address)
 
 argument_same : (address rest : Tree) (around : Around) (place : ℕ) (taken : List ℕ) (state : State) →
-    unfold_tree cpp around place (address_as_expression Production.ExpressionArgument (rule_of Production.AddressArgument) taken (grown (fixed 97) (grown (fixed 100) (grown address (grown rest nothing))))) state
+    unfold_tree cpp around place (address_as_expression Production.AnyArgument (rule_of Production.AddressArgument) taken (grown (fixed 97) (grown (fixed 100) (grown address (grown rest nothing))))) state
     ≡ unfold_tree cpp around place (branch (rule_of Production.AddressArgument) taken (grown (fixed 97) (grown (fixed 100) (grown address (grown rest nothing))))) state
 unfolding address_as_expression cpp opening production_at productions rule_of number_of between close unfolding_.behind meaning part byte_of
 argument_same address rest around place taken state =
@@ -353,11 +353,11 @@ argument_same address rest around place taken state =
     let at = place + 0 in
     let on = at + length taken in
     let behind_new = at + length (spell expression) in
-    let new = standing (rule_of Production.ExpressionArgument) [] place around state in
+    let new = standing (rule_of Production.AnyArgument) [] place around state in
     let whole = standing (rule_of Production.Expression) taken at around state in
     let lettered = standing (rule_of Production.AddressExpression) (97 ∷ []) on around state in
     let old = standing (rule_of Production.AddressArgument) taken place around state in
-    let new_end : Read → Result Read Refusal = λ i. close Production.ExpressionArgument (byte_of []) around place state i.value i.state >>= alone in
+    let new_end : Read → Result Read Refusal = λ i. close Production.AnyArgument (byte_of []) around place state i.value i.state >>= alone in
     let whole_end : Read → Result Read Refusal = λ i. close Production.Expression (byte_of taken) around at state i.value i.state >>= alone in
     let inner_end : Read → Result Read Refusal = λ i. close Production.AddressExpression (byte_of (97 ∷ [])) around on state i.value i.state >>= alone in
     let old_end : Read → Result Read Refusal = λ i. close Production.AddressArgument (byte_of taken) around place state i.value i.state >>= alone in
@@ -366,7 +366,7 @@ argument_same address rest around place taken state =
     let inner_onward : Read → Result Read Refusal = λ p. unfold_forest cpp lettered ((nothing_there ∷ []) ++ p.value) (on + 1 + 1 + length (spell address)) nothing p.state in
     let plain : ℕ → Read → Result Read Refusal = λ n p. unfold_forest cpp old ((nothing_there ∷ nothing_there ∷ []) ++ p.value) n (grown rest nothing) p.state in
     let there : behind_new ≡ place + length taken + 1 + 1 + length (spell address) = omega (arith, spelled_long taken (spell address)) in
-    subst (λ n. unfold_tree cpp around place (branch (rule_of Production.ExpressionArgument) [] (grown expression (grown rest nothing))) state
+    subst (λ n. unfold_tree cpp around place (branch (rule_of Production.AnyArgument) [] (grown expression (grown rest nothing))) state
     ≡ ((unfold_tree cpp around (n + length taken + 1 + 1) address state >>= plain (place + length taken + 1 + 1 + length (spell address))) >>= old_end)) (add-zero place)
     (deeper_same (unfold_tree cpp around (on + 1 + 1) address state) (tree_one address around (on + 1 + 1) state) inner_onward inner_end whole_onward whole_end onward new_end
     (plain (place + length taken + 1 + 1 + length (spell address))) old_end
@@ -377,7 +377,7 @@ argument_same address rest around place taken state =
     new_end old_end (λ w t. refl))))
 
 element_same : (address rest : Tree) (around : Around) (place : ℕ) (taken : List ℕ) (state : State) →
-    unfold_tree cpp around place (address_as_expression Production.ExpressionElement (rule_of Production.AddressElement) taken (grown (fixed 97) (grown (fixed 100) (grown address (grown rest nothing))))) state
+    unfold_tree cpp around place (address_as_expression Production.AnyElement (rule_of Production.AddressElement) taken (grown (fixed 97) (grown (fixed 100) (grown address (grown rest nothing))))) state
     ≡ unfold_tree cpp around place (branch (rule_of Production.AddressElement) taken (grown (fixed 97) (grown (fixed 100) (grown address (grown rest nothing))))) state
 unfolding address_as_expression cpp opening production_at productions rule_of number_of between close unfolding_.behind meaning part byte_of
 element_same address rest around place taken state =
@@ -386,11 +386,11 @@ element_same address rest around place taken state =
     let at = place + 0 in
     let on = at + length taken in
     let behind_new = at + length (spell expression) in
-    let new = standing (rule_of Production.ExpressionElement) [] place around state in
+    let new = standing (rule_of Production.AnyElement) [] place around state in
     let whole = standing (rule_of Production.Expression) taken at around state in
     let lettered = standing (rule_of Production.AddressExpression) (97 ∷ []) on around state in
     let old = standing (rule_of Production.AddressElement) taken place around state in
-    let new_end : Read → Result Read Refusal = λ i. close Production.ExpressionElement (byte_of []) around place state i.value i.state >>= alone in
+    let new_end : Read → Result Read Refusal = λ i. close Production.AnyElement (byte_of []) around place state i.value i.state >>= alone in
     let whole_end : Read → Result Read Refusal = λ i. close Production.Expression (byte_of taken) around at state i.value i.state >>= alone in
     let inner_end : Read → Result Read Refusal = λ i. close Production.AddressExpression (byte_of (97 ∷ [])) around on state i.value i.state >>= alone in
     let old_end : Read → Result Read Refusal = λ i. close Production.AddressElement (byte_of taken) around place state i.value i.state >>= alone in
@@ -399,7 +399,7 @@ element_same address rest around place taken state =
     let inner_onward : Read → Result Read Refusal = λ p. unfold_forest cpp lettered ((nothing_there ∷ []) ++ p.value) (on + 1 + 1 + length (spell address)) nothing p.state in
     let plain : ℕ → Read → Result Read Refusal = λ n p. unfold_forest cpp old ((nothing_there ∷ nothing_there ∷ []) ++ p.value) n (grown rest nothing) p.state in
     let there : behind_new ≡ place + length taken + 1 + 1 + length (spell address) = omega (arith, spelled_long taken (spell address)) in
-    subst (λ n. unfold_tree cpp around place (branch (rule_of Production.ExpressionElement) [] (grown expression (grown rest nothing))) state
+    subst (λ n. unfold_tree cpp around place (branch (rule_of Production.AnyElement) [] (grown expression (grown rest nothing))) state
     ≡ ((unfold_tree cpp around (n + length taken + 1 + 1) address state >>= plain (place + length taken + 1 + 1 + length (spell address))) >>= old_end)) (add-zero place)
     (deeper_same (unfold_tree cpp around (on + 1 + 1) address state) (tree_one address around (on + 1 + 1) state) inner_onward inner_end whole_onward whole_end onward new_end
     (plain (place + length taken + 1 + 1 + length (spell address))) old_end

@@ -71,23 +71,23 @@ array_behind_letter taken parts =
     (grown (branch (rule_of Production.AnyArray) taken (grown (branch (rule_of Production.LengthArray) [] parts) nothing)) nothing)
 
 -- what is a type of its own, as an argument: behind a T it is a parameter
-unfoldable pub plain_argument : Tree → Tree
-plain_argument (branch rule taken parts) = elim (nat_eq rule.number (number_of Production.Parameter)) [
-  | true ↦ branch (rule_of Production.ArgumentWithT) taken (grown (branch (rule_of Production.ParameterArgument) [] parts) nothing)
-  | false ↦ branch (rule_of Production.PlainArgument) [] (grown (branch rule taken parts) nothing)
+unfoldable pub plain_argument : (before : List ℕ) → Tree → Tree
+plain_argument before (branch rule taken parts) = elim (nat_eq rule.number (number_of Production.Parameter)) [
+  | true ↦ branch (rule_of Production.ArgumentWithT) (before ++ taken) (grown (branch (rule_of Production.ParameterArgument) [] parts) nothing)
+  | false ↦ branch (rule_of Production.PlainArgument) before (grown (branch rule taken parts) nothing)
 ]
-plain_argument tree = tree
+plain_argument before tree = branch (rule_of Production.PlainArgument) before (grown tree nothing)
 
 -- a type, or an expansion, as an argument
 unfoldable pub as_argument : Tree → Tree
 as_argument (branch rule taken (grown first nothing)) = elim (nat_eq rule.number (number_of Production.PlainType)) [
-  | true ↦ plain_argument first
+  | true ↦ plain_argument taken first
   | false ↦ branch rule taken (grown first nothing)
 ]
 as_argument tree = tree
 
 unfoldable pub argument_behind : (own : Production) → (rule : Rule) → (taken : List ℕ) → Forest → Tree
-argument_behind own rule taken (grown item (grown rest nothing)) = branch (rule_of own) [] (grown (as_argument item) (grown rest nothing))
+argument_behind own rule taken (grown item (grown rest nothing)) = branch (rule_of own) taken (grown (as_argument item) (grown rest nothing))
 argument_behind own rule taken parts = branch rule taken parts
 
 -- what becomes of a tree of a kind

@@ -330,7 +330,7 @@ impl Linked {
                 true,
             ),
             // <template-arg> ::= X <expression> E, with an <expression> that is read by itself
-            Production::ExpressionArgument => made(
+            Production::AnyArgument => made(
                 Node::Cell {
                     first: self.tree(symbol, parts, 0),
                     rest: self.list(symbol, parts, 1),
@@ -362,7 +362,7 @@ impl Linked {
                 true,
             ),
             // <template-arg> ::= X <expression> E, with an <expression> that is read by itself, in a pack
-            Production::ExpressionElement => made(
+            Production::AnyElement => made(
                 Node::Cell {
                     first: self.tree(symbol, parts, 0),
                     rest: self.list(symbol, parts, 1),
