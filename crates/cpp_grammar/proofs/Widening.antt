@@ -2,6 +2,7 @@
 use Rattle.std.proofs.Common.{◌≡◌, ℕ, ◌<◌, List, [], ◌∷◌, ◌++◌, slice_get, Bool, true, false, not, cond, ◌||◌, ◌&&◌, nat_eq, Option, Some, None, inl, inr, refl, ap, sym, ◌∙◌, subst, lit≤, arith, append-nil, append_assoc}
 use Rattle.std.specs.Prelude.{◌⊎◌}
 use Rattle.std.proofs.lemmas.Bool.{eqb-true, eq-eqb, and_parts, true≢false, false≢true}
+use Rattle.sym_core.specs.Token.{Token}
 use Rattle.sym_shape.specs.declared.rule.Rule.{Rule}
 use Rattle.sym_shape.specs.declared.rule.Sym.{Sym}
 use Rattle.sym_shape.specs.declared.rule.Sym.TheVariants.{Kind as OfKind, Name, Number, Byte}
@@ -664,7 +665,7 @@ plain_argument_tree (branch rule taken parts) tree =
     let byte = tree.0.byte in
     let p = picked_at SOLID Kind.Solid byte rule refl tree.0.found in
     let test = subst (λ o. solid_stays o (pick (wide_alternatives Kind.SolidButT) byte) (pick (wide_alternatives Kind.Argument) byte) ≡ true) p.picked
-    (below (λ b. solid_stays (pick (wide_alternatives Kind.Solid) b) (pick (wide_alternatives Kind.SolidButT) b) (pick (wide_alternatives Kind.Argument) b)) 256 byte solids_stay tree.0.is_byte) in
+    (below 256 (λ b. solid_stays (pick (wide_alternatives Kind.Solid) b) (pick (wide_alternatives Kind.SolidButT) b) (pick (wide_alternatives Kind.Argument) b)) byte solids_stay tree.0.is_byte) in
     let numbered : rule.number ≡ number_of p.production = ap (λ r. r.number) p.is in
     subst (λ n. IsTree wide (OfKind ARGUMENT) (elim (nat_eq n (number_of Production.Parameter)) as (λ _. Tree) [
       | true ↦ branch (rule_of Production.ArgumentWithT) ([] ++ taken) (grown (branch (rule_of Production.ParameterArgument) [] parts) nothing)
@@ -699,18 +700,70 @@ plain_argument_tree empty tree = absurd (true≢false (sym tree ∙ wide_empty_a
 plain_argument_tree (token t) tree = absurd tree
 plain_argument_tree (fixed b) tree = absurd tree
 
+-- a type of its own: a parameter, or another
+pub data Solid (rule : Rule) (taken : List ℕ) (parts : Forest) : Type 0 where
+  of_parameter : rule ≡ rule_of Production.Parameter → taken ≡ 84 ∷ [] → (digits : Token) (arguments : Tree) → parts ≡ grown (token digits) (grown arguments nothing) → Solid rule taken parts
+  of_other : nat_eq rule.number (number_of Production.Parameter) ≡ false → Solid rule taken parts
+
+unfoldable parameter_test : (byte : ℕ) → (chosen : Option Production) → Bool
+parameter_test byte None = true
+parameter_test byte (Some p) = not (nat_eq (number_of p) (number_of Production.Parameter)) || nat_eq byte 84
+
+parameters_at : each_below 256 (λ b. parameter_test b (pick (wide_alternatives Kind.Solid) b)) ≡ true
+unfolding in_ranges among is_in pick number_of wide_alternatives each_below parameter_test
+parameters_at = refl
+
+parameter_at : (byte : ℕ) → byte < 256 → pick (wide_alternatives Kind.Solid) byte ≡ Some Production.Parameter → byte ≡ 84
+parameter_at byte lt is =
+    let test = subst (λ o. parameter_test byte o ≡ true) is (below 256 (λ b. parameter_test b (pick (wide_alternatives Kind.Solid) b)) byte parameters_at lt) in
+    parameter_byte byte test
+  where
+    parameter_byte : (byte : ℕ) → parameter_test byte (Some Production.Parameter) ≡ true → byte ≡ 84
+    unfolding parameter_test number_of
+    parameter_byte byte h = eqb-true byte 84 h
+
+pub no_empty_solid : wide.may_be_empty SOLID ≡ false
+unfolding kinds may_be_empty
+no_empty_solid = wide_empty_at SOLID Kind.Solid refl
+
+parameter_parts : (rule : Rule) (taken : List ℕ) (parts : Forest) → rule ≡ rule_of Production.Parameter → taken ≡ 84 ∷ [] → AreTrees wide (symbols_of (rule_of Production.Parameter)) parts → Solid rule taken parts
+unfolding rule_of parts_of padded number_of_kind
+parameter_parts rule taken (grown (token digits) (grown arguments nothing)) is own trees = of_parameter is own digits arguments refl
+parameter_parts rule taken nothing is own trees = absurd trees
+parameter_parts rule taken (grown (branch r t f) g) is own trees = absurd trees.0
+parameter_parts rule taken (grown empty g) is own trees = absurd trees.0
+parameter_parts rule taken (grown (fixed b) g) is own trees = absurd trees.0
+parameter_parts rule taken (grown (token digits) nothing) is own trees = absurd trees.1
+parameter_parts rule taken (grown (token digits) (grown arguments (grown u f))) is own trees = absurd trees.1.1
+
+pub solid : (rule : Rule) (taken : List ℕ) (parts : Forest) → IsTree wide (OfKind SOLID) (branch rule taken parts) → Solid rule taken parts
+unfolding kinds
+solid rule taken parts tree =
+    let p = picked_at SOLID Kind.Solid tree.0.byte rule refl tree.0.found in
+    go p.production p.picked p.is (nat_eq (number_of p.production) (number_of Production.Parameter)) refl
+  where
+    go : (p : Production) → pick (wide_alternatives Kind.Solid) tree.0.byte ≡ Some p → rule ≡ rule_of p → (b : Bool) → nat_eq (number_of p) (number_of Production.Parameter) ≡ b → Solid rule taken parts
+    unfolding rule_of
+    go p picked is false e = of_other (ap (λ r. nat_eq r.number (number_of Production.Parameter)) is ∙ e)
+    go p picked is true e =
+        let same = same_production p Production.Parameter e in
+        let own : rule ≡ rule_of Production.Parameter = is ∙ ap rule_of same in
+        let at = parameter_at tree.0.byte tree.0.is_byte (picked ∙ ap Some same) in
+        parameter_parts rule taken parts own (takes_its rule (rule_of Production.Parameter) taken tree.0.byte true own parameter_eats tree.0.takes ∙ ap (λ b. b ∷ []) at)
+        (subst (λ r. AreTrees wide (symbols_of r) parts) own tree.1)
+
 -- a tree of a type: that of a type of its own, or one that begins an argument, too
-data Typed (rule : Rule) (taken : List ℕ) (parts : Forest) : Type 0 where
+pub data Typed (rule : Rule) (taken : List ℕ) (parts : Forest) : Type 0 where
   plain : rule ≡ rule_of Production.PlainType → taken ≡ [] → AreTrees wide (OfKind SOLID ∷ []) parts → Typed rule taken parts
   other : nat_eq rule.number (number_of Production.PlainType) ≡ false → IsTree wide (OfKind ARGUMENT) (branch rule taken parts) → Typed rule taken parts
 
-typed : (rule : Rule) (taken : List ℕ) (parts : Forest) → IsTree wide (OfKind ITEM) (branch rule taken parts) → Typed rule taken parts
+pub typed : (rule : Rule) (taken : List ℕ) (parts : Forest) → IsTree wide (OfKind ITEM) (branch rule taken parts) → Typed rule taken parts
 unfolding item_stays rule_of parts_of padded is_chain number_of_kind kinds
 typed rule taken parts tree =
     let byte = tree.0.byte in
     let p = picked_at ITEM Kind.Item byte rule refl tree.0.found in
     let test = subst (λ o. item_stays o (pick (wide_alternatives Kind.Argument) byte) ≡ true) p.picked
-    (below (λ b. item_stays (pick (wide_alternatives Kind.Item) b) (pick (wide_alternatives Kind.Argument) b)) 256 byte items_stay tree.0.is_byte) in
+    (below 256 (λ b. item_stays (pick (wide_alternatives Kind.Item) b) (pick (wide_alternatives Kind.Argument) b)) byte items_stay tree.0.is_byte) in
     go p.production p.is (nat_eq (number_of p.production) (number_of Production.PlainType)) refl test
   where
     go : (p : Production) → rule ≡ rule_of p → (b : Bool) → nat_eq (number_of p) (number_of Production.PlainType) ≡ b
