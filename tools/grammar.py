@@ -636,12 +636,14 @@ def antt_before():
 def files():
     """what is written: each file's path in the folder of the crates, and its text"""
     yield "cpp_grammar/specs/Before.antt", antt_before()
-    # what may come after each kind, and how many chains begin it, is said once, of the wide grammar, within which the other is; how low
-    # its lowest tree is, of the other, whose trees the wide grammar has
-    build(True); bad, _, _, height = laws()
+    # what may come after each kind is said once, of both grammars; how many chains begin it, of the wide one; how low its lowest tree
+    # is, of the other, whose trees the wide grammar has
+    build(True); bad, after_narrow, _, height = laws()
     assert not bad, bad
-    build(True, widened=True); bad, after, depth, _ = laws()
+    build(True, widened=True); bad, after_wide, depth, _ = laws()
     assert not bad, bad
+    after = {k: after_narrow[k] | after_wide[k] for k in K}
+    for k in K: assert not K[k][0] or not begins(k) & after[k], k
     yield "cpp_grammar/src/wide_table.rt", rust_wide_table()
     yield "cpp_grammar/specs/Wide.antt", antt_wide()
     yield "cpp_grammar/specs/Either.antt", antt_either()

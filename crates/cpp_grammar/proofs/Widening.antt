@@ -737,13 +737,12 @@ parameter_parts rule taken (grown (token digits) nothing) is own trees = absurd 
 parameter_parts rule taken (grown (token digits) (grown arguments (grown u f))) is own trees = absurd trees.1.1
 
 pub solid : (rule : Rule) (taken : List ℕ) (parts : Forest) → IsTree wide (OfKind SOLID) (branch rule taken parts) → Solid rule taken parts
-unfolding kinds
+unfolding kinds rule_of
 solid rule taken parts tree =
     let p = picked_at SOLID Kind.Solid tree.0.byte rule refl tree.0.found in
     go p.production p.picked p.is (nat_eq (number_of p.production) (number_of Production.Parameter)) refl
   where
     go : (p : Production) → pick (wide_alternatives Kind.Solid) tree.0.byte ≡ Some p → rule ≡ rule_of p → (b : Bool) → nat_eq (number_of p) (number_of Production.Parameter) ≡ b → Solid rule taken parts
-    unfolding rule_of
     go p picked is false e = of_other (ap (λ r. nat_eq r.number (number_of Production.Parameter)) is ∙ e)
     go p picked is true e =
         let same = same_production p Production.Parameter e in
