@@ -25,7 +25,7 @@ use Rattle.cpp_grammar.specs.Meaning.{meaning}
 use Rattle.cpp_grammar.specs.Unfolding as unfolding_
 use Rattle.cpp_grammar.specs.Unfolding.{last_token, number_tested, opening, close, production_at, byte_of, cpp, first_around, first_state, first_tree, unfold_cpp}
 use Rattle.cpp_grammar.specs.Widened.{Change, with_rest, within_name, with_g, with_t, with_x, with_a, with_item, unchanged, rest_or_end, with_rest_or_end, letters_component, operator_component, variable_with_g, type_without_tags, address_as_expression, array_behind_letter, plain_argument, as_argument, argument_behind, change_of, changed, widened_branch, widened_as, widened_all, widened}
-use Rattle.cpp_grammar.proofs.Widening.{arguments_rule, next_rule, rest_rule, takes_its, as_wide, aside, behind_s, of_operator, of_variable, in_std_, of_array, of_item, IsItem, item_argument, item_element, item_parts, Typed, plain, other, typed, spell_argument, Solid, of_parameter, of_other, solid, no_empty_solid, of_address, IsAddress, in_arguments, in_packs, address_parts, chosen_rule, with_c, without_c, operator_rule, without_c_letters, same_branch, spell_as, widened_trees, either_symbols, either_start}
+use Rattle.cpp_grammar.proofs.Widening.{arguments_rule, next_rule, rest_rule, takes_its, as_wide, aside, behind_s, of_operator, of_variable, in_std_, of_array, of_item, IsItem, item_argument, item_element, item_parts, Typed, plain_item, other_item, typed, spell_argument, Solid, of_parameter, of_other, solid, no_empty_solid, of_address, IsAddress, in_arguments, in_packs, address_parts, chosen_rule, with_c, without_c, operator_rule, without_c_letters, same_branch, spell_as, widened_trees, either_symbols, either_start}
 
 -- ## A tree has one value
 
@@ -350,7 +350,7 @@ named_same digits arguments around place state =
 plain_same : (t : Tree) → IsTree wide (OfKind SOLID) t → (around : Around) (place : ℕ) (state : State) →
     unfold_tree cpp around place (plain_argument [] t) state ≡ unfold_tree cpp around place (branch (rule_of Production.PlainType) [] (grown t nothing)) state
 unfolding plain_argument cpp opening production_at productions rule_of number_of between close unfolding_.behind meaning part byte_of parts_of padded number_of_kind is_chain
-plain_same (branch rule taken parts) tree around place state = elim (solid rule taken parts tree) [
+plain_same (branch rule taken parts) is_tree around place state = elim (solid rule taken parts is_tree) [
   | of_parameter is own digits arguments are ↦ rw (is, own, are) (named_same digits arguments around place state)
   | of_other apart ↦ subst (λ b. unfold_tree cpp around place (elim b as (λ _. Tree) [
       | true ↦ branch (rule_of Production.ArgumentWithT) ([] ++ taken) (grown (branch (rule_of Production.ParameterArgument) [] parts) nothing)
@@ -368,18 +368,18 @@ plain_same (branch rule taken parts) tree around place state = elim (solid rule 
         (λ p. unfold_forest cpp (standing (rule_of Production.PlainType) [] place around state) ([] ++ p.value) (at + length (spell (branch rule taken parts))) nothing p.state)
         (λ i. close Production.PlainArgument (byte_of []) around place state i.value i.state >>= alone)
         (λ i. close Production.PlainType (byte_of []) around place state i.value i.state >>= alone) (λ v s. refl)
-plain_same empty tree around place state = absurd (true≢false (sym tree ∙ no_empty_solid))
-plain_same (token t) tree around place state = absurd tree
-plain_same (fixed b) tree around place state = absurd tree
+plain_same empty is_tree around place state = absurd (true≢false (sym is_tree ∙ no_empty_solid))
+plain_same (token t) is_tree around place state = absurd is_tree
+plain_same (fixed b) is_tree around place state = absurd is_tree
 
 argument_same_as : (t : Tree) → IsTree wide (OfKind ITEM) t → (around : Around) (place : ℕ) (state : State) → unfold_tree cpp around place (as_argument t) state ≡ unfold_tree cpp around place t state
 unfolding as_argument rule_of number_of
-argument_same_as (branch rule taken (grown first nothing)) tree around place state = elim (typed rule taken (grown first nothing) tree) [
-  | plain own none trees ↦ rw (own, none) (plain_same first trees.0 around place state)
-  | other apart same ↦ subst (λ b. unfold_tree cpp around place (elim b as (λ _. Tree) [ true ↦ plain_argument taken first | false ↦ branch rule taken (grown first nothing) ]) state
+argument_same_as (branch rule taken (grown first nothing)) is_tree around place state = elim (typed rule taken (grown first nothing) is_tree) [
+  | plain_item own none trees ↦ rw (own, none) (plain_same first trees.0 around place state)
+  | other_item apart same ↦ subst (λ b. unfold_tree cpp around place (elim b as (λ _. Tree) [ true ↦ plain_argument taken first | false ↦ branch rule taken (grown first nothing) ]) state
       ≡ unfold_tree cpp around place (branch rule taken (grown first nothing)) state) (sym apart) refl
 ]
-argument_same_as _ tree around place state = refl
+argument_same_as _ is_tree around place state = refl
 
 -- and the rest of the list behind it
 list_same : (p own : Production) → IsItem p own → (item rest : Tree) → IsTree wide (OfKind ITEM) item → (around : Around) (place : ℕ) (taken : List ℕ) (state : State) →

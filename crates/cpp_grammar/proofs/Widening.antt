@@ -639,7 +639,7 @@ record Picked (kind : Kind) (byte : ℕ) (rule : Rule) : Type 0 where
   is : rule ≡ rule_of production
 
 picked_at : (k : ℕ) (kind : Kind) (byte : ℕ) (rule : Rule) → slice_get kinds k ≡ Some kind → wide.rule k byte ≡ Some rule → Picked kind byte rule
-unfolding rule_taken
+unfolding rule_taken wide_choose
 picked_at k kind byte rule at found = go (pick (wide_alternatives kind) byte) refl (sym (wide_rule_at k kind byte at) ∙ found)
   where
     go : (o : Option Production) → pick (wide_alternatives kind) byte ≡ o → rule_taken o ≡ Some rule → Picked kind byte rule
@@ -647,7 +647,7 @@ picked_at k kind byte rule at found = go (pick (wide_alternatives kind) byte) re
     go (Some p) is taken = let same : rule_of p ≡ rule = cc in record { production = p; picked = is; is = sym same }
 
 same_at : (k : ℕ) (kind : Kind) (byte : ℕ) (p : Production) → slice_get kinds k ≡ Some kind → same_choice (Some p) (pick (wide_alternatives kind) byte) ≡ true → wide.rule k byte ≡ Some (rule_of p)
-unfolding rule_taken
+unfolding rule_taken wide_choose
 same_at k kind byte p at h = wide_rule_at k kind byte at ∙ ap rule_taken (kept (Some p) (pick (wide_alternatives kind) byte) p h refl)
 
 -- the rule of a parameter takes a byte, and that of no other type begins one
@@ -714,12 +714,12 @@ unfolding in_ranges among is_in pick number_of wide_alternatives each_below para
 parameters_at = refl
 
 parameter_at : (byte : ℕ) → byte < 256 → pick (wide_alternatives Kind.Solid) byte ≡ Some Production.Parameter → byte ≡ 84
+unfolding parameter_test number_of
 parameter_at byte lt is =
     let test = subst (λ o. parameter_test byte o ≡ true) is (below 256 (λ b. parameter_test b (pick (wide_alternatives Kind.Solid) b)) byte parameters_at lt) in
     parameter_byte byte test
   where
     parameter_byte : (byte : ℕ) → parameter_test byte (Some Production.Parameter) ≡ true → byte ≡ 84
-    unfolding parameter_test number_of
     parameter_byte byte h = eqb-true byte 84 h
 
 pub no_empty_solid : wide.may_be_empty SOLID ≡ false
@@ -753,8 +753,8 @@ solid rule taken parts tree =
 
 -- a tree of a type: that of a type of its own, or one that begins an argument, too
 pub data Typed (rule : Rule) (taken : List ℕ) (parts : Forest) : Type 0 where
-  plain : rule ≡ rule_of Production.PlainType → taken ≡ [] → AreTrees wide (OfKind SOLID ∷ []) parts → Typed rule taken parts
-  other : nat_eq rule.number (number_of Production.PlainType) ≡ false → IsTree wide (OfKind ARGUMENT) (branch rule taken parts) → Typed rule taken parts
+  plain_item : rule ≡ rule_of Production.PlainType → taken ≡ [] → AreTrees wide (OfKind SOLID ∷ []) parts → Typed rule taken parts
+  other_item : nat_eq rule.number (number_of Production.PlainType) ≡ false → IsTree wide (OfKind ARGUMENT) (branch rule taken parts) → Typed rule taken parts
 
 pub typed : (rule : Rule) (taken : List ℕ) (parts : Forest) → IsTree wide (OfKind ITEM) (branch rule taken parts) → Typed rule taken parts
 unfolding item_stays rule_of parts_of padded is_chain number_of_kind kinds
@@ -769,18 +769,18 @@ typed rule taken parts tree =
         → b || same_choice (Some p) (pick (wide_alternatives Kind.Argument) tree.0.byte) ≡ true → Typed rule taken parts
     go p is true e h =
         let own : rule ≡ rule_of Production.PlainType = is ∙ ap rule_of (same_production p Production.PlainType e) in
-        plain own (takes_its rule (rule_of Production.PlainType) taken tree.0.byte false own refl tree.0.takes) (subst (λ r. AreTrees wide (symbols_of r) parts) own tree.1)
-    go p is false e h = other (ap (λ r. nat_eq r.number (number_of Production.PlainType)) is ∙ e)
+        plain_item own (takes_its rule (rule_of Production.PlainType) taken tree.0.byte false own refl tree.0.takes) (subst (λ r. AreTrees wide (symbols_of r) parts) own tree.1)
+    go p is false e h = other_item (ap (λ r. nat_eq r.number (number_of Production.PlainType)) is ∙ e)
         (record { byte = tree.0.byte; is_byte = tree.0.is_byte; found = same_at ARGUMENT Kind.Argument tree.0.byte p refl h ∙ ap Some (sym is); takes = tree.0.takes }, tree.1)
 
 as_argument_tree : (t : Tree) → IsTree wide (OfKind ITEM) t → IsTree wide (OfKind ARGUMENT) (as_argument t)
 unfolding as_argument rule_of number_of kinds may_be_empty
 as_argument_tree (branch rule taken (grown first nothing)) tree = elim (typed rule taken (grown first nothing) tree) [
-  | plain own none trees ↦ rw (own, none) (plain_argument_tree first trees.0)
-  | other apart same ↦ subst (λ b. IsTree wide (OfKind ARGUMENT) (elim b as (λ _. Tree) [ true ↦ plain_argument taken first | false ↦ branch rule taken (grown first nothing) ])) (sym apart) same
+  | plain_item own none trees ↦ rw (own, none) (plain_argument_tree first trees.0)
+  | other_item apart same ↦ subst (λ b. IsTree wide (OfKind ARGUMENT) (elim b as (λ _. Tree) [ true ↦ plain_argument taken first | false ↦ branch rule taken (grown first nothing) ])) (sym apart) same
 ]
-as_argument_tree (branch rule taken nothing) tree = elim (typed rule taken nothing tree) [ plain own none trees ↦ absurd trees | other apart same ↦ same ]
-as_argument_tree (branch rule taken (grown first (grown second f))) tree = elim (typed rule taken (grown first (grown second f)) tree) [ plain own none trees ↦ absurd trees.1 | other apart same ↦ same ]
+as_argument_tree (branch rule taken nothing) tree = elim (typed rule taken nothing tree) [ plain_item own none trees ↦ absurd trees | other_item apart same ↦ same ]
+as_argument_tree (branch rule taken (grown first (grown second f))) tree = elim (typed rule taken (grown first (grown second f)) tree) [ plain_item own none trees ↦ absurd trees.1 | other_item apart same ↦ same ]
 as_argument_tree empty tree = absurd (true≢false (sym tree ∙ wide_empty_at ITEM Kind.Item refl))
 as_argument_tree (token t) tree = absurd tree
 as_argument_tree (fixed b) tree = absurd tree
@@ -1140,6 +1140,7 @@ unfolding wide_choose wide_alternatives kinds pick is_in in_ranges among rule_ta
 no_x_item rule found = let none : wide.rule ITEM 88 ≡ None = wide_rule_at ITEM Kind.Item 88 refl in cc
 
 item_begins : (t : Tree) → IsTree either (OfKind ITEM) t → (b : ℕ) (w : List ℕ) → spell t ≡ b ∷ w → b ≡ 88 → ⊥
+unfolding either either_sheet kinds wide wide_sheet
 item_begins (branch rule taken parts) is b w spelled x =
     let wide_ = wide_branch ITEM rule taken parts (lit≤ tt) is in
     let first = branch_first wide wide_lawful ITEM wide_.other wide_.own wide_.parts b w (lit≤ tt) wide_.is (wide_.spells ∙ spelled) in
@@ -1154,7 +1155,7 @@ first_of_two [] ys b w e some = absurd (some refl)
 first_of_two (x ∷ xs) ys b w e some = let same : x ≡ b = cc in (xs, ap (λ n. n ∷ xs) same)
 
 item_filled : (t : Tree) → IsTree either (OfKind ITEM) t → spell t ≡ [] → ⊥
-unfolding kinds may_be_empty
+unfolding kinds may_be_empty either either_sheet
 item_filled (branch rule taken parts) is none = either_filled ITEM rule taken parts (lit≤ tt) is none
 item_filled empty is none = absurd (true≢false (sym is ∙ either_empty_at ITEM Kind.Item refl))
 item_filled (token t) is none = absurd is
