@@ -1,7 +1,7 @@
 -- The trees of both grammars, widened, are those of the wide one, and spell what they spelled.
 use Rattle.std.proofs.Common.{◌≡◌, ℕ, ◌<◌, List, [], ◌∷◌, ◌++◌, slice_get, Bool, true, false, not, cond, ◌||◌, ◌&&◌, nat_eq, Option, Some, None, inl, inr, refl, ap, sym, ◌∙◌, subst, lit≤, arith, append-nil, append_assoc}
 use Rattle.std.specs.Prelude.{◌⊎◌}
-use Rattle.std.proofs.lemmas.Bool.{eqb-true, eq-eqb, and_parts, true≢false, false≢true}
+use Rattle.std.proofs.lemmas.Bool.{eqb-true, eq-eqb, and_parts, true≢false}
 use Rattle.sym_core.specs.Token.{Token}
 use Rattle.sym_shape.specs.declared.rule.Rule.{Rule}
 use Rattle.sym_shape.specs.declared.rule.Sym.{Sym}
