@@ -16,7 +16,7 @@ use Rattle.cpp_term.specs.Term.{Term, source, operator, constructor, destructor,
 use Rattle.cpp_term.specs.Values.{State, Around, prefix_tree, prefix_listed, Value, nothing_there, tree, named, tree_of, piece_of, letter_of, text_of, is_listed, is_there, part}
 use Rattle.cpp_term.specs.References.{appended, with_type, with_unqualified, with_prefix}
 use Rattle.cpp_term.specs.Between.{Going, in_name, in_types, in_signature, under_expansion, after, inside, extended, applied, no_items, named_so_far, listed_so_far, piece_so_far, with_tag, tag_so_far, index_of, between}
-use Rattle.cpp_term.specs.Meaning.{meaning, function_of}
+use Rattle.cpp_term.specs.Meaning.{meaning, listed_value, function_of}
 use Rattle.cpp_term.specs.Unfolding.{behind, close}
 use Rattle.cpp_link.specs.Owed.{made_before, made_at_end}
 use Rattle.cpp_link.specs.NodeCount.{makes_before, makes_at_end, one_if_there, one_if_arguments, std_before, name_at_end}
@@ -562,7 +562,7 @@ plain-closes p around place means same few vs = λ byte began state one e. (
     (omega (arith, ap length (same byte began vs state), few byte vs)))
 
 pub flows : (p : Production) (around : Around) (place : ℕ) → Flow p around place (parts_of p) [] (starts_with p around)
-unfolding parts_of number_of_kind starts_with takes_name begins_arguments take_nothing takes_pending pending pending_around goes_on is_arguments is_component becomes_candidate between makes_before made_before makes_at_end made_at_end close behind leaves makes_name may_leave unlisted is_listed meaning function_of part
+unfolding parts_of number_of_kind starts_with takes_name begins_arguments take_nothing takes_pending pending pending_around goes_on is_arguments is_component becomes_candidate between makes_before made_before makes_at_end made_at_end close behind leaves makes_name may_leave unlisted is_listed listed_value meaning function_of part
 flows Production.InternalName around place = internal-name around place
 flows Production.LocalTypeName around place = local-type-name around place
 flows Production.SourceName around place = source-name around place
