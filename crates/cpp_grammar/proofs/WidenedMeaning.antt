@@ -353,9 +353,9 @@ unfolding plain_argument cpp opening production_at productions rule_of number_of
 plain_same (branch rule taken parts) is_tree around place state = elim (solid rule taken parts is_tree) [
   | of_parameter is own digits arguments are ↦ rw (is, own, are) (named_same digits arguments around place state)
   | of_other apart ↦ subst (λ b. unfold_tree cpp around place (elim b as (λ _. Tree) [
-      | true ↦ branch (rule_of Production.ArgumentWithT) ([] ++ taken) (grown (branch (rule_of Production.ParameterArgument) [] parts) nothing)
-      | false ↦ branch (rule_of Production.PlainArgument) [] (grown (branch rule taken parts) nothing)
-    ]) state ≡ unfold_tree cpp around place (branch (rule_of Production.PlainType) [] (grown (branch rule taken parts) nothing)) state) (sym apart) other
+    | true ↦ branch (rule_of Production.ArgumentWithT) ([] ++ taken) (grown (branch (rule_of Production.ParameterArgument) [] parts) nothing)
+    | false ↦ branch (rule_of Production.PlainArgument) [] (grown (branch rule taken parts) nothing)
+  ]) state ≡ unfold_tree cpp around place (branch (rule_of Production.PlainType) [] (grown (branch rule taken parts) nothing)) state) (sym apart) other
 ]
   where
     at : ℕ

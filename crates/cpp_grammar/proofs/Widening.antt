@@ -108,16 +108,16 @@ changing kind p = go (nat_eq (number_of p) (number_of Production.NestAbbreviated
 
     address : (f g : Bool) → nat_eq (number_of p) (number_of Production.AddressArgument) ≡ f → nat_eq (number_of p) (number_of Production.AddressElement) ≡ g
         → Changing kind p (cond f (with_x Production.AnyArgument) (cond g (with_x Production.AnyElement) (cond (nat_eq (number_of p) (number_of Production.Array)) with_a
-          (cond (nat_eq (number_of p) (number_of Production.TypeArgument)) (with_item Production.AnyArgument) (cond (nat_eq (number_of p) (number_of Production.TypeElement)) (with_item Production.AnyElement) unchanged)))))
+        (cond (nat_eq (number_of p) (number_of Production.TypeArgument)) (with_item Production.AnyArgument) (cond (nat_eq (number_of p) (number_of Production.TypeElement)) (with_item Production.AnyElement) unchanged)))))
     address true g one two = x_ Production.AnyArgument (subst (λ q. IsAddress q Production.AnyArgument) (sym (same_production p Production.AddressArgument one)) in_arguments)
     address false true one two = x_ Production.AnyElement (subst (λ q. IsAddress q Production.AnyElement) (sym (same_production p Production.AddressElement two)) in_packs)
     address false false one two = array_ (nat_eq (number_of p) (number_of Production.Array)) refl
 
     others : (d e : Bool) → nat_eq (number_of p) (number_of Production.Guard) ≡ d → nat_eq (number_of p) (number_of Production.StdType) ≡ e
         → Changing kind p (cond d with_g (cond e with_t (cond (nat_eq (number_of p) (number_of Production.AddressArgument)) (with_x Production.AnyArgument)
-          (cond (nat_eq (number_of p) (number_of Production.AddressElement)) (with_x Production.AnyElement)
-          (cond (nat_eq (number_of p) (number_of Production.Array)) with_a
-          (cond (nat_eq (number_of p) (number_of Production.TypeArgument)) (with_item Production.AnyArgument) (cond (nat_eq (number_of p) (number_of Production.TypeElement)) (with_item Production.AnyElement) unchanged)))))))
+        (cond (nat_eq (number_of p) (number_of Production.AddressElement)) (with_x Production.AnyElement)
+        (cond (nat_eq (number_of p) (number_of Production.Array)) with_a
+        (cond (nat_eq (number_of p) (number_of Production.TypeArgument)) (with_item Production.AnyArgument) (cond (nat_eq (number_of p) (number_of Production.TypeElement)) (with_item Production.AnyElement) unchanged)))))))
     others true e three four = g_ (same_production p Production.Guard three)
     others false true three four = t_ (same_production p Production.StdType four)
     others false false three four = address (nat_eq (number_of p) (number_of Production.AddressArgument)) (nat_eq (number_of p) (number_of Production.AddressElement)) refl refl
@@ -126,15 +126,15 @@ changing kind p = go (nat_eq (number_of p) (number_of Production.NestAbbreviated
         (cond (nat_eq (number_of p) (number_of Production.AddressArgument)) (with_x Production.AnyArgument)
         (cond (nat_eq (number_of p) (number_of Production.AddressElement)) (with_x Production.AnyElement)
         (cond (nat_eq (number_of p) (number_of Production.Array)) with_a
-          (cond (nat_eq (number_of p) (number_of Production.TypeArgument)) (with_item Production.AnyArgument) (cond (nat_eq (number_of p) (number_of Production.TypeElement)) (with_item Production.AnyElement) unchanged)))))))
+        (cond (nat_eq (number_of p) (number_of Production.TypeArgument)) (with_item Production.AnyArgument) (cond (nat_eq (number_of p) (number_of Production.TypeElement)) (with_item Production.AnyElement) unchanged)))))))
     rest = others (nat_eq (number_of p) (number_of Production.Guard)) (nat_eq (number_of p) (number_of Production.StdType)) refl refl
 
     go : (a b c : Bool) → nat_eq (number_of p) (number_of Production.NestAbbreviated) ≡ a → nat_eq (number_of p) (number_of Production.OperatorName) ≡ b
         → Changing kind p (cond a with_rest (cond (b && c) within_name (cond (nat_eq (number_of p) (number_of Production.Guard)) with_g
-          (cond (nat_eq (number_of p) (number_of Production.StdType)) with_t (cond (nat_eq (number_of p) (number_of Production.AddressArgument)) (with_x Production.AnyArgument)
-          (cond (nat_eq (number_of p) (number_of Production.AddressElement)) (with_x Production.AnyElement)
-          (cond (nat_eq (number_of p) (number_of Production.Array)) with_a
-          (cond (nat_eq (number_of p) (number_of Production.TypeArgument)) (with_item Production.AnyArgument) (cond (nat_eq (number_of p) (number_of Production.TypeElement)) (with_item Production.AnyElement) unchanged)))))))))
+        (cond (nat_eq (number_of p) (number_of Production.StdType)) with_t (cond (nat_eq (number_of p) (number_of Production.AddressArgument)) (with_x Production.AnyArgument)
+        (cond (nat_eq (number_of p) (number_of Production.AddressElement)) (with_x Production.AnyElement)
+        (cond (nat_eq (number_of p) (number_of Production.Array)) with_a
+        (cond (nat_eq (number_of p) (number_of Production.TypeArgument)) (with_item Production.AnyArgument) (cond (nat_eq (number_of p) (number_of Production.TypeElement)) (with_item Production.AnyElement) unchanged)))))))))
     go true b c one two = rest_ (same_production p Production.NestAbbreviated one)
     go false true true one two = name_ (same_production p Production.OperatorName two)
     go false true false one two = rest
@@ -688,8 +688,13 @@ plain_argument_tree (branch rule taken parts) tree =
         found = same_at ARGUMENT Kind.Argument tree.0.byte Production.ArgumentWithT refl h;
         takes = takes_its rule (rule_of Production.Parameter) taken tree.0.byte true (is ∙ ap rule_of (same_production p Production.Parameter e)) parameter_eats tree.0.takes;
       },
-      ((parameter_behind_t,
-      subst (λ r. AreTrees wide (symbols_of r) parts) (is ∙ ap rule_of (same_production p Production.Parameter e)) tree.1), tt),
+      (
+        (
+          parameter_behind_t,
+          subst (λ r. AreTrees wide (symbols_of r) parts) (is ∙ ap rule_of (same_production p Production.Parameter e)) tree.1,
+        ),
+        tt,
+      ),
     )
     go p is false e h =
         let both = and_parts (same_choice (Some p) (pick (wide_alternatives Kind.SolidButT) tree.0.byte)) (same_choice (Some Production.PlainArgument) (pick (wide_alternatives Kind.Argument) tree.0.byte)) h in (

@@ -60,7 +60,7 @@ unfoldable pub address_as_expression : (own : Production) → (rule : Rule) → 
 address_as_expression own rule taken (grown (fixed a) (grown (fixed d) (grown address (grown rest nothing)))) =
     branch (rule_of own) []
     (grown (branch (rule_of Production.Expression) taken
-      (grown (branch (rule_of Production.AddressExpression) (a ∷ []) (grown (fixed d) (grown address nothing))) nothing))
+    (grown (branch (rule_of Production.AddressExpression) (a ∷ []) (grown (fixed d) (grown address nothing))) nothing))
     (grown rest nothing))
 address_as_expression own rule taken parts = branch rule taken parts
 
