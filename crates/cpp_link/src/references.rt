@@ -14,7 +14,7 @@ ghost use Rattle.cpp_term.specs.Scope.{is_open, pack_length, count, element, len
 ghost use Rattle.cpp_tree.specs.Nodes.{over, tree_at, bytes_at, is_again, IsBelow, IsWithin, tree_if_there, IsThereBelow, IsTable};
 ghost use Rattle.cpp_link.specs.Parts.{trees_in, tree_of_node, is_lambda, around_of, IsClosed, IsKeptThere, IsStepThere};
 ghost use Rattle.cpp_link.specs.Stepping.{nodes_of_step};
-ghost use Rattle.cpp_link.specs.Reads.{packs_read, maybe_candidate, node_read, parameter_read, goes_on}
+ghost use Rattle.cpp_link.specs.Reads.{packs_read, maybe_candidate, node_read, parameter_read, goes_on};
 
 use crate::linked::Linked;
 use crate::part::{Candidate, Kept, Opened, Step};

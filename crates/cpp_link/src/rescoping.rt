@@ -15,14 +15,14 @@ ghost use Rattle.cpp_grammar.specs.Rescoping.{generic_number};
 ghost use Rattle.cpp_grammar.specs.Unfolding.{production_at};
 ghost use Rattle.cpp_term.specs.Term.{Term};
 ghost use Rattle.cpp_term.specs.Values as values;
-ghost use Rattle.cpp_term.specs.Reargued.{reargued}
-ghost use Rattle.cpp_term.specs.Rescoping.{is_foreign, restated, substituted_wide, with_own}
-ghost use Rattle.cpp_term.specs.Scope.{pack_length}
-ghost use Rattle.cpp_tree.specs.Nodes.{over, tree_at, bytes_at, piece_of, IsPieceBelow, IsWithin, IsTable}
+ghost use Rattle.cpp_term.specs.Reargued.{reargued};
+ghost use Rattle.cpp_term.specs.Rescoping.{is_foreign, restated, substituted_wide, with_own};
+ghost use Rattle.cpp_term.specs.Scope.{pack_length};
+ghost use Rattle.cpp_tree.specs.Nodes.{over, tree_at, bytes_at, piece_of, IsPieceBelow, IsWithin, IsTable};
 ghost use Rattle.cpp_tree.specs.declared.node.Thunk.{Thunk};
 ghost use Rattle.cpp_link.specs.declared.part.Part.TheVariants as variants;
 ghost use Rattle.cpp_link.specs.Grows.{Grows, HasPlace};
-ghost use Rattle.cpp_link.specs.LinkRescoping.{is_parameter, is_parameter_argument, generic_read, is_substitution, is_lambda_production, argument_read, named_by, substituted_nodes, wide_view}
+ghost use Rattle.cpp_link.specs.LinkRescoping.{is_parameter, is_parameter_argument, generic_read, is_substitution, is_lambda_production, argument_read, named_by, substituted_nodes, wide_view};
 ghost use Rattle.cpp_link.specs.Making.{state_of};
 ghost use Rattle.cpp_link.specs.NodeCount.{makes_before, makes_at_end};
 ghost use Rattle.cpp_link.specs.Parts.{trees_in, value_in, values_in, is_lambda, around_of, candidate_of, IsClosed, IsThere, AreThere, IsKeptThere, IsStepThere};
