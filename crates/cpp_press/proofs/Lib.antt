@@ -1,5 +1,6 @@
 mod Digits
 mod Pushed
+mod Stored
 mod Entities
 mod Ways
 mod Open
