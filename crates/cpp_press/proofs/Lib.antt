@@ -1,6 +1,6 @@
 mod Digits
 mod Pushed
-mod Stored
+mod Made
 mod Entities
 mod Ways
 mod Open
