@@ -1,13 +1,21 @@
 -- What the trees of nodes are made of, where parameters are their numbers alone.
-use Rattle.std.proofs.Common.{◌≡◌, ◌∙◌, ap, sym, subst, arith, ℕ, ◌<◌, ◌≤◌, List, length, Option, Some, None}
+use Rattle.std.proofs.Common.{◌≡◌, ◌∙◌, ap, sym, subst, arith, ℕ, ◌+◌, ◌<◌, ◌≤◌, List, length, Option, Some, None}
 use Rattle.std.specs.Prelude.{false}
 use Rattle.cpp_term.specs.Erased.{erase}
-use Rattle.cpp_term.specs.Reargued.{reargued}
+use Rattle.cpp_term.proofs.Notes.{both}
 use Rattle.cpp_term.proofs.Reargued.{erase_reargued}
-use Rattle.cpp_tree.specs.Nodes.{Table, trees, tree_at, tree_of, tree_if_there, under_kept, is_again, entry_at, IsBelow, IsPieceBelow, IsThereBelow, IsFlat, IsTable}
+use Rattle.cpp_tree.specs.Nodes.{Table, trees, tree_at, tree_of, tree_if_there, under_kept, is_again, entry_at, qualifiers_of, mark_of, IsBelow, IsPieceBelow, IsThereBelow, IsFlat, IsTable}
 use Rattle.cpp_tree.specs.declared.node.Node.{Node}
 use Rattle.cpp_tree.specs.declared.node.Piece.{Piece}
+use Rattle.cpp_tree.specs.declared.node.Qualifiers.{Qualifiers}
+use Rattle.cpp_tree.specs.declared.node.Mark.{Mark}
 use Rattle.cpp_tree.proofs.Trees.{erased_again}
+use Rattle.cpp_layout.specs.Layout.{ReadSymbol, table_of}
+use Rattle.cpp_press_laws.specs.Components.{Spelling}
+use Rattle.cpp_press.specs.declared.task.Way.{Way}
+use Rattle.cpp_press.specs.Tasks.{◌onto◌, in_way, in_name, plain_at, node_tree}
+use Rattle.cpp_press.specs.Spelled.{encoding_onto}
+use Rattle.cpp_press.specs.Weight.{weight}
 
 there-later : (m n : ℕ) (o : Option ℕ) → IsThereBelow m o → m ≤ n → IsThereBelow n o
 there-later m n None b most = tt
@@ -78,10 +86,22 @@ pub again-tree : (y : Table) (i t a : ℕ) → IsTable y → i < length y.nodes 
 again-tree y i t a table less is =
     ap erase (table.each i less).built ∙ erased_again y t a (entry_at y.nodes i).node is ∙ ap erase (table.each t (again-before y i t a table less is).0).built
 
--- a function's types are the same under each argument
-pub function-types : (y : Table) (under returned parameters : ℕ)
-    → (erase (tree_at (trees y) returned) ≡ erase (reargued (tree_if_there (trees y) (under_kept under)) (tree_at (trees y) returned)))
-    × (erase (tree_at (trees y) parameters) ≡ erase (reargued (tree_if_there (trees y) (under_kept under)) (tree_at (trees y) parameters)))
-function-types y under returned parameters =
-    let u = tree_if_there (trees y) (under_kept under) in
-    (sym (erase_reargued u (tree_at (trees y) returned)), sym (erase_reargued u (tree_at (trees y) parameters)))
+-- ## Functions
+
+-- under what the types of a function stand isn't seen
+pub function-spelled : (y : ReadSymbol) (here : ℕ) (node : Node) (name returned parameters under : ℕ) (q : Qualifiers) (m : Mark) (rest : Spelling) → node ≡ Node.Function name q m returned parameters under
+    → ◌≡◌ {A = Spelling} (in_way here (Way.Name q m) (plain_at y name) onto in_way here Way.Type (plain_at y returned) onto in_way here Way.Parameters (plain_at y parameters) onto rest) (encoding_onto here (node_tree y node) rest)
+unfolding encoding_onto erase tree_of in_way
+function-spelled y here node name returned parameters under q m rest is =
+    let ts = trees (table_of y) in
+    let u = tree_if_there ts (under_kept under) in
+    rw is (both {C = Spelling} (λ r p. in_name here (qualifiers_of q) (mark_of m) (plain_at y name) onto in_way here Way.Type r onto in_way here Way.Parameters p onto rest)
+    (sym (erase_reargued u (tree_at ts returned))) (sym (erase_reargued u (tree_at ts parameters))))
+
+pub function-weighs : (y : ReadSymbol) (node : Node) (name returned parameters under : ℕ) (q : Qualifiers) (m : Mark) → node ≡ Node.Function name q m returned parameters under
+    → 12 + weight (plain_at y name) + weight (plain_at y returned) + weight (plain_at y parameters) ≡ weight (node_tree y node)
+unfolding weight erase tree_of
+function-weighs y node name returned parameters under q m is =
+    let ts = trees (table_of y) in
+    let u = tree_if_there ts (under_kept under) in
+    rw is (both (λ r p. 12 + weight (plain_at y name) + weight r + weight p) (sym (erase_reargued u (tree_at ts returned))) (sym (erase_reargued u (tree_at ts parameters))))
