@@ -171,7 +171,7 @@ pub named-opens : (s : Symbol) (old mid new : Direct) → IsNestNamed s old → 
     → Keeps old mid (added old old.nest.from false) → OpensArguments mid new (opens.NestArguments mid.nest) → IsWriting s new (steps.List true)
 unfolding inside
 named-opens s old mid new n here keeps opening_ =
-    let e = n.around.encoding in
+    let e = n.around in
     let begun = arguments-open s n.named.inner n.around n.own false old.at n.state
     (alone-arguments s (after n.own false n.around) n.named.inner old.at n.state n.named.awaits) here in
     list-begins s old mid new (added old old.nest.from false) (with_candidate e n.own n.state) (opens.NestArguments old.nest) n.front n.bytes n.own
@@ -257,7 +257,7 @@ pub component-next : (s : Symbol) (kind : Kind) (old new : Direct) (st : State) 
     → AreCandidates old.text.list.items old.candidates.list.items st.candidates → IsNesting s kind old t st
     → Keeps old new (added_unless old old.nest.is_listed old.nest.from) → IsWriting s new steps.Component
 component-next s kind old new st t rest candidates n keeps =
-    let e = n.around.encoding in
+    let e = n.around in
     let listed = old.nest.is_listed in
     let text_is : new.text.list.items ≡ old.text.list.items = cc (keeps.text) in
     let waiting_is : new.waiting.list.items ≡ old.waiting.list.items = cc (keeps.waiting) in
@@ -291,7 +291,7 @@ pub first-opens : (s : Symbol) (old mid new : Direct) (st : State) (t : Term)
     → IsWriting s new (steps.List true)
 unfolding inside
 first-opens s old mid new st t candidates n here keeps opening_ =
-    let e = n.around.encoding in
+    let e = n.around in
     let listed = old.nest.is_listed in
     let begun = first-arguments s n.goes.inner n.around t listed old.at st n.goes.awaits here in
     list-begins s old mid new (added_unless old listed old.nest.from) (unless_listed listed e t st) (opens.FirstArguments old.nest) n.front n.bytes t
