@@ -212,7 +212,7 @@ pub lambda_put_right : (s : List ℕ) (old new : Linked) (frame : Frame Kept) (p
     → ClosesAll (wide_view s) s old new frame parts new_parts (Ok done)
 unfolding link_close behind
 lambda_put_right s old new frame parts new_parts own made owned byte done same lambda closes value there whole items rule known state is =
-    let read = closes rule.before is.kept.packs in
+    let read = closes rule.before (sym is.kept.packs) in
     let same_found = ok_same _ _ read in (
       owned,
       items,
@@ -231,12 +231,12 @@ lambda_put_right s old new frame parts new_parts own made owned byte done same l
     ok_same f g e = cc
 
 -- a lambda is refused as in the other reading: never but for want of memory
-pub lambda_refused_as : (s : List ℕ) (old new : Linked) (frame : Frame Kept) (parts new_parts own : List Part) (e : Refusal) → own ≡ drop frame.base parts → production_at frame.rule ≡ Production.Lambda
-    → {byte : ℕ} → ((began : State) → Fails e (link_close s Production.Lambda byte (around_of (trees_in s old.nodes) frame.kept) frame.place began (values_in s old.nodes own) (state_of s old)))
+pub lambda_refused_as : (s : List ℕ) (old new : Linked) (frame : Frame Kept) (parts new_parts own : List Part) (e : Refusal) (byte : ℕ) → own ≡ drop frame.base parts → production_at frame.rule ≡ Production.Lambda
+    → ((began : State) → Fails e (link_close s Production.Lambda byte (around_of (trees_in s old.nodes) frame.kept) frame.place began (values_in s old.nodes own) (state_of s old)))
     → ClosesAll (wide_view s) s old new frame parts new_parts (Err e)
 unfolding link_close
-lambda_refused_as s old new frame parts new_parts own Memory same lambda refused rule known state is = tt
-lambda_refused_as s old new frame parts new_parts own e same lambda refused rule known state is = let clash = refused rule.before in absurd cc
+lambda_refused_as s old new frame parts new_parts own Memory byte same lambda refused rule known state is = tt
+lambda_refused_as s old new frame parts new_parts own e byte same lambda refused rule known state is = let clash = refused rule.before in absurd cc
 
 -- ## How many nodes are made
 

@@ -22,7 +22,7 @@ close_rare-requires-clause-kept c = c.requires.open.at.kept.surrounds.there
 pub returns-in_err-made-clause-closes : goal.returns-in_err-made-clause-closes
 returns-in_err-made-clause-closes c =
     let p = err_from_is_err_and c.from_residual.result c.from_residual.ensures.1 in
-    rw (p.1, p.2) (lambda_refused_as c.args.symbol.now c.args.self.now c.args.self.now c.args.frame.now c.args.parts.now.items c.args.parts.now.items _ c.in_err-made.field-0.0
+    rw (p.1, p.2) (lambda_refused_as c.args.symbol.now c.args.self.now c.args.self.now c.args.frame.now c.args.parts.now.items c.args.parts.now.items _ c.in_err-made.field-0.0 _
     (rw c.deref.ensures.value (rest_all c.args.parts.now.items c.args.frame.now.base)) c.requires.lambda c.in_err-made.ensures.refused)
 
 pub returns-clause-closes : goal.returns-clause-closes
