@@ -83,7 +83,6 @@ expansion-comes s around os at st scope expects stands =
     let p = Production.ItemWithD in
     let q = Production.Expansion in
     let each = rvalue (parameter 0) in
-    let e = around in
     let here = under_expansion around in
     let first = stands-split s.bytes at (68 ∷ []) (112 ∷ 79 ∷ 84 ∷ 95 ∷ []) stands in
     let second = stands-split s.bytes (at + 1) (112 ∷ []) (79 ∷ 84 ∷ 95 ∷ []) first.1 in
@@ -95,12 +94,12 @@ expansion-comes s around os at st scope expects stands =
     item second.0 in
     let reference = rvalue-opens s Kind.Type here inner (at + 1 + 1) (begun st) tt pattern third.0 in
     let named = pack-comes s around reference.inner (at + 1 + 1 + 1) st scope reference.awaits third.1 in
-    let named_state = with_candidate e (parameter 0) (named_many (count (list_of scope.elements)) st) in
-    let whole = with_candidate e each named_state in
+    let named_state = with_candidate around (parameter 0) (named_many (count (list_of scope.elements)) st) in
+    let whole = with_candidate around each named_state in
     let at_end = at + 1 + 1 + 1 + 2 in
     let refers = reference.passes (parameter 0) at_end named_state named in
-    subst (λ k. Comes s os (tree (expansion each) true) k (with_expansion (count (list_of scope.elements)) e st)) (omega arith)
+    subst (λ k. Comes s os (tree (expansion each) true) k (with_expansion (count (list_of scope.elements)) around st)) (omega arith)
     (last-of s p (68 ∷ []) at around st [] (tree (expansion each) false) os at_end (record whole { packs = st.packs }) (tree (expansion each) true)
-    (with_expansion (count (list_of scope.elements)) e st) refl
+    (with_expansion (count (list_of scope.elements)) around st) refl
     (last-of s q (112 ∷ []) (at + 1) around st [] (tree each true) outer at_end whole (tree (expansion each) false) (record whole { packs = st.packs }) refl
     refers))

@@ -28,7 +28,7 @@ pub record SignatureGoesOn (s : Symbol) (outer : List Opened) (made_in : Around)
   pub inner : List Opened
   pub awaits : Expects s Kind.FunctionRest around inner at st
   pub passes : (l : Term) (at : ℕ) (st : State) → Comes s inner (signature l any_value) at st
-      → Comes s outer (tree (pointed is_pointer (made l)) true) at (with_pointed is_pointer encoding (made l) st)
+      → Comes s outer (tree (pointed is_pointer (made l)) true) at (with_pointed is_pointer made_in (made l) st)
 
 -- Behind an F the return type is expected.
 pub record FunctionOpened (s : Symbol) (outer : List Opened) (around : Around) (is_pointer : Bool) (at : ℕ) (st : State) : Type 0 where
