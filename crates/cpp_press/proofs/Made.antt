@@ -49,6 +49,7 @@ below-later s held m n (Node.Integer t v) b most = (omega (arith, b.0, most), b.
 below-later s held m n (Node.Whole e suffix) b most = (omega (arith, b.0, most), b.1)
 below-later s held m n (Node.Instance t a) b most = (omega (arith, b.0, most), omega (arith, b.1, most))
 below-later s held m n (Node.MemberPointer c t) b most = (omega (arith, b.0, most), omega (arith, b.1, most))
+below-later s held m n (Node.Bounded bound t) b most = (omega (arith, b.0, most), omega (arith, b.1, most))
 below-later s held m n (Node.FunctionType c e k returned parameters) b most = (omega (arith, b.0, most), omega (arith, b.1, most))
 below-later s held m n (Node.Cell first rest) b most = (omega (arith, b.0, most), omega (arith, b.1, most))
 below-later s held m n (Node.Again t a) b most = (omega (arith, b.0, most), omega (arith, b.1, most))
