@@ -1,4 +1,4 @@
-use Rattle.std.proofs.Common.{◌≡◌, ◌∙◌, sym, ap, subst, ℕ, ◌<◌, ◌≤◌, [], ◌∷◌, refl, arith, Ok, Err, true}
+use Rattle.std.proofs.Common.{◌≡◌, ◌∙◌, sym, ap, subst, ℕ, ◌<◌, ◌≤◌, [], ◌∷◌, refl, arith, Ok, Err}
 use Rattle.std.specs.Prelude.{MatchOption}
 use Rattle.std.proofs.lemmas.Bool.{le-ltb, lt-ltb}
 use Rattle.sym_core.specs.Value.{counted_value}
@@ -7,7 +7,6 @@ use Rattle.cpp_term.specs.Term.{Term, parameter}
 use Rattle.cpp_term.specs.Scope.{count, element, length_if_pack}
 use Rattle.cpp_term.specs.Values.{Around, State}
 use Rattle.cpp_term.specs.References.{appended, with_packs}
-use Rattle.cpp_term.specs.Between.{argument_at}
 use Rattle.cpp_tree.specs.Nodes.{tree_at, bytes_at, arguments_are, tree_of}
 use Rattle.cpp_link.specs.Parts.{trees_in, around_of}
 use Rattle.cpp_link.specs.Reads.{packs_read, parameter_read}
