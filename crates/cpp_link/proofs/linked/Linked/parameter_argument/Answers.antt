@@ -5,6 +5,7 @@ use Rattle.sym_link.specs.Reading.{◌>>=◌}
 use Rattle.cpp_term.specs.Term.{parameter}
 use Rattle.cpp_term.specs.Values as values
 use Rattle.cpp_term.specs.Values.{Around, State}
+use Rattle.cpp_term.specs.References.{appended}
 use Rattle.cpp_term.specs.Between.{next, argument_at, argument_so_far}
 use Rattle.cpp_tree.specs.Nodes.{bytes_at}
 use Rattle.cpp_link.specs.Parts.{trees_in, around_of}
@@ -13,7 +14,7 @@ use Rattle.cpp_link.proofs.Candidates.{fails_is}
 use Rattle.cpp_link.proofs.linked.Linked.parameter_argument.Goals as goal
 
 pub returns-in-Ok-clause-is : goal.returns-in-Ok-clause-is
-unfolding argument_so_far parameter_read goes_on behind_first named_if appended_if
+unfolding argument_so_far parameter_read goes_on behind_first named_if appended_if appended
 returns-in-Ok-clause-is c v cs =
     let y = c.args.self.now.nodes in
     let around : Around = around_of (trees_in c.args.symbol.now y) c.args.kept in
