@@ -28,7 +28,8 @@ NAMES = (b"a", b"b", b"B", b"C1", b"foo", b"_M_x", b"a.b$", b"operator", b"_GLOB
 NUMBERS = (0, 0, 0, 1, 2, 7, 9, 10, 16, 32, 64, 1000)
 EDGES = (2**31, 2**32 - 1, 2**64 - 3, 2**64 - 2, 2**64 - 1, 2**64, 10**40)
 # references, and the rules on the way from a type to them
-REFERENCES = {"Substitution", "Parameter", "NestParameter"}
+PARAMETERS = {"Parameter", "NestParameter", "ParameterExpression"}
+REFERENCES = {"Substitution", *PARAMETERS}
 REFERRING = {"PlainType", "QualifiedPlain", "TypeWithS", "AbbreviatedType", *REFERENCES}
 NAMING = {"Anonymous", "Operator", "ConstructorDigit", "DestructorDigit"}
 TYPES = {"Type", "Plain", "Item", "ItemButRef"}
@@ -256,12 +257,13 @@ class Spelling:
             self.packed += self.candidates[number].is_packed
         return number
 
-    def parameter(self, around):
+    def parameter(self, around, is_candidate):
         number = self.one_of(self.parameters(around))
         self.open += 1
         self.packed += number < len(around.scope or ()) and around.scope[number]
-        self.append(around)
-        self.listed = True
+        if is_candidate:
+            self.append(around)
+            self.listed = True
         return number
 
     def possible(self, node, around):
@@ -272,8 +274,8 @@ class Spelling:
             return self.derivation.derived(node.kind, self.derivation.depth + 1, [("Abbreviation", "Substitution")])
         if node.production == "Substitution" and not self.substitutions(around):
             return self.derivation.derived(node.kind, self.derivation.depth + 1, without={"Substitution"})
-        if node.production in ("Parameter", "NestParameter") and not self.parameters(around):
-            return self.derivation.derived(node.kind, self.derivation.depth + 1, without={"Parameter", "NestParameter", "TypeWithS"})
+        if node.production in PARAMETERS and not self.parameters(around):
+            return self.derivation.derived(node.kind, self.derivation.depth + 1, without={*PARAMETERS, "TypeWithS"})
         return node
 
     # ## Tokens
@@ -285,8 +287,8 @@ class Spelling:
             self.out += str(len(name)).encode() + name
         elif token.cls == grammar.SEQ36:
             self.out += counted(self.substitution(around), 36)
-        elif token.production in ("Parameter", "NestParameter"):
-            self.out += counted(self.parameter(around), 10)
+        elif token.production in PARAMETERS:
+            self.out += counted(self.parameter(around, token.production != "ParameterExpression"), 10)
         elif token.cls == grammar.DECIMAL:
             self.out += counted(self.number(), 10)
         else:
