@@ -28,7 +28,7 @@ NAMES = (b"a", b"b", b"B", b"C1", b"foo", b"_M_x", b"a.b$", b"operator", b"_GLOB
 NUMBERS = (0, 0, 0, 1, 2, 7, 9, 10, 16, 32, 64, 1000)
 EDGES = (2**31, 2**32 - 1, 2**64 - 3, 2**64 - 2, 2**64 - 1, 2**64, 10**40)
 # references, and the rules on the way from a type to them
-PARAMETERS = {"Parameter", "NestParameter", "ParameterExpression"}
+PARAMETERS = {"Parameter", "NestParameter", "ParameterExpression", "BoundedArray"}
 REFERENCES = {"Substitution", *PARAMETERS}
 REFERRING = {"PlainType", "QualifiedPlain", "TypeWithS", "AbbreviatedType", *REFERENCES}
 NAMING = {"Anonymous", "Operator", "ConstructorDigit", "DestructorDigit"}
@@ -288,7 +288,7 @@ class Spelling:
         elif token.cls == grammar.SEQ36:
             self.out += counted(self.substitution(around), 36)
         elif token.production in PARAMETERS:
-            self.out += counted(self.parameter(around, token.production != "ParameterExpression"), 10)
+            self.out += counted(self.parameter(around, token.production not in ("ParameterExpression", "BoundedArray")), 10)
         elif token.cls == grammar.DECIMAL:
             self.out += counted(self.number(), 10)
         else:

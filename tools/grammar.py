@@ -114,7 +114,8 @@ def build(extended=True, widened=False):
     NAMED = [eats("P", "Pointer", "Type"), eats("M", "MemberPointer", "Type", "Type"), eats("T", "Parameter", DECIMAL, "ArgumentsAlone"),
              eats("S", "TypeWithS", "TypeAfterS", "ArgumentsAlone"), eats("N", "NestedType", "Nest"),
              eats("Z", "LocalType", "Encoding", "'E'", "TypeEntity", "MaybeDiscriminator"), U_NAME, S_NAME]
-    kind("Solid", eats(builtins(False), "Builtin"), eats("u", "Vendor", NAME), eats("A", "Array", DECIMAL, "Type"),
+    kind("Solid", eats(builtins(False), "Builtin"), eats("u", "Vendor", NAME),
+         narrow(eats("A", "Array", DECIMAL, "Type")), wide(chain("ArrayType", "AnyArray")),
          eats("F", "Function", "MaybeCLinkage", "Type", "FunctionRest"), *([eats("C", "Complex", "Type")] if extended else []), *NAMED)
     kind("MaybeCLinkage", MARK("Y"), empty=True)
     kind("TypeAfterS", narrow(eats("t", "StdType", "SourceOrLocal")), wide(chain("TypeInStd", "TypeInStd")), chain("AbbreviatedType", "Abbreviation"))
@@ -170,6 +171,9 @@ def build(extended=True, widened=False):
     # an argument that is an expression: the address of an encoding, or a parameter
     kind("Expression", eats("X", "Expression", "ExpressionRest"))
     kind("ExpressionRest", eats("a", "AddressExpression", "'d'", "Address"), eats("T", "ParameterExpression", DECIMAL, "'E'"))
+    # an array whose length is a parameter, or a number, or isn't said
+    kind("AnyArray", eats("A", "AnyArray", "ArrayRest"))
+    kind("ArrayRest", eats("T", "BoundedArray", DECIMAL, "'_'", "Type"), chain("LengthArray", DECIMAL, "Type"))
     shared = {p for k in abi_kinds for cls, p in K[k][1] if (k, cls, p) not in MARKED}
     for p in [p for (k, cls, p), mark in MARKED.items() if mark == "wide" and p not in shared]: P[p] = P.pop(p)
 

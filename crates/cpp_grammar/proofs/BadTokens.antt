@@ -103,6 +103,7 @@ unfolding between named_so_far listed_so_far piece_so_far tag_so_far
 between_bad Production.NestParameter around place (v ∷ []) state = parameter_bad around place (index_of v) [] state
 between_bad Production.Parameter around place (v ∷ []) state = parameter_bad around place (index_of v) [] state
 between_bad Production.ParameterExpression around place (v ∷ []) state = argument_bad around place (index_of v) state
+between_bad Production.BoundedArray around place (v ∷ []) state = argument_bad around place (index_of v) state
 between_bad Production.Symbol around place [] state = tt
 between_bad _ around place [] state = tt
 between_bad _ around place (v ∷ []) state = tt
@@ -195,6 +196,7 @@ unfolding between_wide
 wide_between_bad Production.NestParameter around place (v ∷ []) state = here_bad around place (index_of v) state
 wide_between_bad Production.Parameter around place (v ∷ []) state = here_bad around place (index_of v) state
 wide_between_bad Production.ParameterExpression around place (v ∷ []) state = argument_here_bad around place (index_of v) state
+wide_between_bad Production.BoundedArray around place (v ∷ []) state = argument_here_bad around place (index_of v) state
 wide_between_bad p around place vs state = between_bad p around place vs state
 
 wide_close_bad : (p : Production) (byte : ℕ) (around : Around) (place : ℕ) (began : State) (vs : List Value) (state : State) → IsBad (close_wide p byte around place began vs state)

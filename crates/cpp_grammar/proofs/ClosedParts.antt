@@ -167,6 +167,7 @@ between_goes Production.Expansion around place vs state n at stays pre all e =
     goes around at state vs (under_expansion around) (record state { packs = None }) n all (grows_same around at state (record state { packs = None }) refl) (fits_expansion around pre) e
 between_goes Production.Parameter around place (v ∷ []) state n at stays pre all e = parameter_goes around place at state (index_of v) n e
 between_goes Production.ParameterExpression around place (v ∷ []) state n at stays pre all e = argument_goes around place at state (index_of v) n pre e
+between_goes Production.BoundedArray around place (v ∷ []) state n at stays pre all e = argument_goes around place at state (index_of v) n pre e
 between_goes Production.TypeWithS around place (v ∷ []) state n at stays pre all e =
     goes around at state (v ∷ []) (after (tree_of v) (is_listed v) around) state n all (grows_same around at state state refl) (fits_after around (tree_of v) (is_listed v) (good_tree _ v all.0)) e
 between_goes Production.LvalueItem around place (v ∷ []) state n at stays pre all e =
@@ -214,4 +215,5 @@ unfolding between_wide
 wide_goes Production.Parameter around place (v ∷ []) state n at stays pre all e = here_goes around place at state (index_of v) n e
 wide_goes Production.NestParameter around place (v ∷ []) state n at stays pre all e = here_goes around place at state (index_of v) n e
 wide_goes Production.ParameterExpression around place (v ∷ []) state n at stays pre all e = argument_here_goes around place at state (index_of v) n pre e
+wide_goes Production.BoundedArray around place (v ∷ []) state n at stays pre all e = argument_here_goes around place at state (index_of v) n pre e
 wide_goes p around place vs state n at stays pre all e = between_goes p around place vs state n at stays pre all e

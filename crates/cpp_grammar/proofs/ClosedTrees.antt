@@ -263,6 +263,7 @@ opens_apart Production.Parameter o = absurd (false≢true o)
 opens_apart Production.NestParameter o = absurd (false≢true o)
 opens_apart Production.Substitution o = absurd (false≢true o)
 opens_apart Production.ParameterExpression o = absurd (false≢true o)
+opens_apart Production.BoundedArray o = absurd (false≢true o)
 opens_apart _ o = refl
 
 -- ## Encodings

@@ -190,6 +190,7 @@ between_none Production.Constructor around place (v ∷ []) state settled all cs
 between_none Production.Destructor around place (v ∷ []) state settled all cs = piece_none around (destructor (letter_of v)) state settled refl cs
 between_none Production.StdName around place (v ∷ []) state settled all cs = named_none around (in_std (piece_of v)) false [] state settled (none_piece v all.0) tt cs
 between_none Production.ParameterExpression around place (v ∷ []) state settled all cs = argument_none around place (index_of v) state settled cs
+between_none Production.BoundedArray around place (v ∷ []) state settled all cs = argument_none around place (index_of v) state settled cs
 between_none Production.TaggedStdType around place (v ∷ []) state settled all cs = named_none around (in_std (piece_of v)) false [] state settled (none_piece v all.0) tt cs
 between_none Production.AbbreviatedName around place (v ∷ []) state settled all cs = named_none around (tree_of v) true [] state settled (none_tree v all.0) tt cs
 between_none Production.NestStd around place (v ∷ []) state settled all cs = named_none around (in_std (piece_of v)) false [] state settled (none_piece v all.0) tt cs
@@ -295,6 +296,7 @@ unfolding between between_wide
 between_stays Production.Parameter around place (v ∷ []) state n settled e = here_stays around place (index_of v) state n settled e
 between_stays Production.NestParameter around place (v ∷ []) state n settled e = here_stays around place (index_of v) state n settled e
 between_stays Production.ParameterExpression around place (v ∷ []) state n settled e = argument_stays around place (index_of v) state n settled e
+between_stays Production.BoundedArray around place (v ∷ []) state n settled e = argument_stays around place (index_of v) state n settled e
 between_stays _ around place vs state n settled e = e
 
 -- what isn't refused isn't foreign

@@ -35,6 +35,7 @@ is_reference Production.Parameter = true
 is_reference Production.NestParameter = true
 is_reference Production.Substitution = true
 is_reference Production.ParameterExpression = true
+is_reference Production.BoundedArray = true
 is_reference _ = false
 
 -- all others go as in the reading of the ABI's grammar
@@ -52,6 +53,7 @@ unfolding is_reference between_wide
 plain_between Production.Parameter apart around place vs state = absurd (true≢false apart)
 plain_between Production.NestParameter apart around place vs state = absurd (true≢false apart)
 plain_between Production.ParameterExpression apart around place vs state = absurd (true≢false apart)
+plain_between Production.BoundedArray apart around place vs state = absurd (true≢false apart)
 plain_between _ apart around place vs state = refl
 
 plain_close : (p : Production) → is_reference p ≡ false → (byte : ℕ) (around : Around) (place : ℕ) (began : State) (vs : List Value) (state : State) →

@@ -22,8 +22,8 @@ use Rattle.cpp_grammar.specs.Between.{in_name, inside, after, no_items, applied,
 use Rattle.cpp_grammar.specs.Meaning.{meaning}
 use Rattle.cpp_grammar.specs.Unfolding as unfolding_
 use Rattle.cpp_grammar.specs.Unfolding.{last_token, number_tested, opening, close, production_at, byte_of, cpp, first_around, first_state, first_tree, unfold_cpp}
-use Rattle.cpp_grammar.specs.Widened.{Change, with_rest, within_name, with_g, with_t, with_x, unchanged, rest_or_end, with_rest_or_end, letters_component, operator_component, variable_with_g, type_without_tags, address_as_expression, change_of, changed, widened_branch, widened_as, widened_all, widened}
-use Rattle.cpp_grammar.proofs.Widening.{arguments_rule, next_rule, rest_rule, takes_its, as_wide, aside, behind_s, of_operator, of_variable, in_std_, of_address, IsAddress, in_arguments, in_packs, address_parts, chosen_rule, with_c, without_c, operator_rule, without_c_letters, same_branch, spell_as, widened_trees, either_symbols, either_start}
+use Rattle.cpp_grammar.specs.Widened.{Change, with_rest, within_name, with_g, with_t, with_x, with_a, unchanged, rest_or_end, with_rest_or_end, letters_component, operator_component, variable_with_g, type_without_tags, address_as_expression, array_behind_letter, change_of, changed, widened_branch, widened_as, widened_all, widened}
+use Rattle.cpp_grammar.proofs.Widening.{arguments_rule, next_rule, rest_rule, takes_its, as_wide, aside, behind_s, of_operator, of_variable, in_std_, of_array, of_address, IsAddress, in_arguments, in_packs, address_parts, chosen_rule, with_c, without_c, operator_rule, without_c_letters, same_branch, spell_as, widened_trees, either_symbols, either_start}
 
 -- ## A tree has one value
 
@@ -302,6 +302,41 @@ type_same piece around place taken state =
     ≡ ((unfold_tree cpp around (n + length taken) piece state >>= plain) >>= old_end)) (add-zero place)
     (deep_same (unfold_tree cpp around on piece state) (tree_one piece around on state) behind tagged_end onward new_end plain old_end (λ v s. refl))
 
+-- ## An array
+
+array_same : (digits element : Tree) (around : Around) (place : ℕ) (taken : List ℕ) (state : State) →
+    unfold_tree cpp around place (array_behind_letter taken (grown digits (grown element nothing))) state
+    ≡ unfold_tree cpp around place (branch (rule_of Production.Array) taken (grown digits (grown element nothing))) state
+unfolding array_behind_letter cpp opening production_at productions rule_of number_of between close unfolding_.behind meaning part byte_of
+array_same digits element around place taken state =
+    let parts : Forest = grown digits (grown element nothing) in
+    let inner : Tree = branch (rule_of Production.LengthArray) [] parts in
+    let any : Tree = branch (rule_of Production.AnyArray) taken (grown inner nothing) in
+    let at = place + 0 in
+    let on = at + length taken in
+    let from = on + 0 in
+    let new = standing (rule_of Production.ArrayType) [] place around state in
+    let lettered = standing (rule_of Production.AnyArray) taken at around state in
+    let behind = standing (rule_of Production.LengthArray) [] on around state in
+    let old = standing (rule_of Production.Array) taken place around state in
+    let new_end : Read → Result Read Refusal = λ i. close Production.ArrayType (byte_of []) around place state i.value i.state >>= alone in
+    let lettered_end : Read → Result Read Refusal = λ i. close Production.AnyArray (byte_of taken) around at state i.value i.state >>= alone in
+    let behind_end : Read → Result Read Refusal = λ i. close Production.LengthArray (byte_of []) around on state i.value i.state >>= alone in
+    let old_end : Read → Result Read Refusal = λ i. close Production.Array (byte_of taken) around place state i.value i.state >>= alone in
+    let onward : Read → Result Read Refusal = λ p. unfold_forest cpp new ([] ++ p.value) (at + length (spell any)) nothing p.state in
+    let lettered_onward : Read → Result Read Refusal = λ p. unfold_forest cpp lettered ([] ++ p.value) (on + length (spell inner)) nothing p.state in
+    let first : ℕ → Read → Result Read Refusal = λ n p. unfold_forest cpp behind ([] ++ p.value) (n + length (spell digits)) (grown element nothing) p.state in
+    let plain : ℕ → Read → Result Read Refusal = λ n p. unfold_forest cpp old ([] ++ p.value) (n + length (spell digits)) (grown element nothing) p.state in
+    let there : from ≡ place + length taken = omega arith in
+    subst (λ n. unfold_tree cpp around place (branch (rule_of Production.ArrayType) [] (grown any nothing)) state
+    ≡ ((unfold_tree cpp around n digits state >>= plain n) >>= old_end)) there
+    (deeper_same (unfold_tree cpp around from digits state) (tree_one digits around from state) (first from) behind_end lettered_onward lettered_end onward new_end (plain from) old_end
+    (λ v s. deeper_same (unfold_tree cpp around (from + length (spell digits)) element s) (tree_one element around (from + length (spell digits)) s)
+    (λ p. unfold_forest cpp behind ((v ∷ []) ++ p.value) (from + length (spell digits) + length (spell element)) nothing p.state)
+    behind_end lettered_onward lettered_end onward new_end
+    (λ p. unfold_forest cpp old ((v ∷ []) ++ p.value) (from + length (spell digits) + length (spell element)) nothing p.state)
+    old_end (λ w t. refl)))
+
 -- ## An address as an argument
 
 spelled_long : (taken address : List ℕ) → length (taken ++ (97 ∷ 100 ∷ ((address ++ []) ++ []))) ≡ length taken + (2 + length address)
@@ -400,6 +435,14 @@ type_branch_same k taken (grown piece nothing) trees around place state = type_s
 type_branch_same k taken nothing trees around place state = absurd trees
 type_branch_same k taken (grown piece (grown u f)) trees around place state = absurd trees.1
 
+array_branch_same : (k : ℕ) (taken : List ℕ) (parts : Forest) → AreTrees wide (symbols_of (rule_of Production.Array)) parts → (around : Around) (place : ℕ) (state : State) →
+    unfold_tree cpp around place (widened_branch k (rule_of Production.Array) taken parts) state ≡ unfold_tree cpp around place (branch (rule_of Production.Array) taken parts) state
+unfolding change_of changed rule_of parts_of padded number_of_kind number_of
+array_branch_same k taken (grown digits (grown element nothing)) trees around place state = array_same digits element around place taken state
+array_branch_same k taken nothing trees around place state = absurd trees
+array_branch_same k taken (grown digits nothing) trees around place state = absurd trees.1
+array_branch_same k taken (grown digits (grown element (grown u f))) trees around place state = absurd trees.1.1
+
 branch_same : (k : ℕ) (rule : Rule) (taken : List ℕ) (parts : Forest) → k < either.kinds → TakesRule either k rule taken → AreTrees wide (symbols_of rule) parts → (around : Around) (place : ℕ) (state : State)
     → unfold_tree cpp around place (widened_branch k rule taken parts) state ≡ unfold_tree cpp around place (branch rule taken parts) state
 unfolding rule_of is_chain
@@ -410,6 +453,7 @@ branch_same k rule taken parts lt takes trees around place state = elim (chosen_
   | of_operator is at ↦ rw (is, at, takes_its rule (rule_of Production.OperatorName) taken takes.byte false is refl takes.takes)
       (operator_branch_same parts (subst (λ r. AreTrees wide (symbols_of r) parts) is trees) around place state)
   | of_variable is at here ↦ rw is (variable_branch_same k taken parts (subst (λ r. AreTrees wide (symbols_of r) parts) is trees) around place state)
+  | of_array is at here ↦ rw is (array_branch_same k taken parts (subst (λ r. AreTrees wide (symbols_of r) parts) is trees) around place state)
   | of_address p own its is here at ↦ rw is (address_branch_same k p own its taken parts (subst (λ r. AreTrees wide (symbols_of r) parts) is trees) around place state)
   | in_std_ is at here ↦ rw is (type_branch_same k taken parts (subst (λ r. AreTrees wide (symbols_of r) parts) is trees) around place state)
 ]
@@ -435,7 +479,7 @@ operator_last taken (grown (branch rule first (grown second nothing)) (grown arg
 operator_last taken _ rest digits = refl
 
 last_behind : (change : Change) (rule : Rule) (taken : List ℕ) (parts rest : Forest) (digits : List ℕ) → last_token (grown (changed change rule taken parts) rest) digits ≡ last_token rest digits
-unfolding changed variable_with_g type_without_tags address_as_expression last_token
+unfolding changed variable_with_g type_without_tags address_as_expression array_behind_letter last_token
 last_behind with_rest rule taken parts rest digits = refl
 last_behind within_name rule taken parts rest digits = operator_last taken parts rest digits
 last_behind with_g rule taken (grown (fixed letter) (grown name nothing)) rest digits = refl
@@ -444,6 +488,7 @@ last_behind with_t rule taken (grown piece nothing) rest digits = refl
 last_behind with_t rule taken _ rest digits = refl
 last_behind (with_x own) rule taken (grown (fixed a) (grown (fixed d) (grown address (grown rest_ nothing)))) rest digits = refl
 last_behind (with_x own) rule taken _ rest digits = refl
+last_behind with_a rule taken parts rest digits = refl
 last_behind unchanged rule taken parts rest digits = refl
 
 last_same : (f : Forest) (xs : List Sym) (digits : List ℕ) → last_token (widened_all f xs) digits ≡ last_token f digits

@@ -13,27 +13,27 @@ use Rattle.sym_shape.proofs.Firsts.{branch_first, branch_filled}
 use Rattle.sym_link.specs.Sound.{IsSound}
 use Rattle.cpp_grammar.specs.declared.kind.Kind.{Kind}
 use Rattle.cpp_grammar.specs.declared.production.Production.{Production}
-use Rattle.cpp_grammar.specs.KindNumbers.{SYMBOL, ENCODING, NEST_AFTER_S, NEST_REST_ALONE, NEST_TAIL, COMPONENT, TYPE_AFTER_S, MAYBE_ARGUMENTS, OPERATOR, NEST_REST_OR_END, COMPONENT_AFTER_C, OTHER_OPERATOR, SPECIAL_MARK, SPECIAL_AFTER_G, TYPE_IN_STD, MAYBE_TAGS, ADDRESS, ARGUMENT_LIST, PACK_LIST, EXPRESSION, EXPRESSION_REST}
+use Rattle.cpp_grammar.specs.KindNumbers.{SYMBOL, ENCODING, NEST_AFTER_S, NEST_REST_ALONE, NEST_TAIL, COMPONENT, TYPE_AFTER_S, MAYBE_ARGUMENTS, OPERATOR, NEST_REST_OR_END, COMPONENT_AFTER_C, OTHER_OPERATOR, SPECIAL_MARK, SPECIAL_AFTER_G, TYPE_IN_STD, MAYBE_TAGS, ADDRESS, ARGUMENT_LIST, PACK_LIST, EXPRESSION, EXPRESSION_REST, SOLID, ANY_ARRAY, ARRAY_REST}
 use Rattle.cpp_grammar.specs.Grammar.{Alternative, in_ranges, among, is_in, pick, kinds, number_of, number_of_kind, parts_of, is_chain, may_be_empty}
 use Rattle.cpp_grammar.specs.Wide.{wide_alternatives, wide_choose}
 use Rattle.cpp_grammar.specs.Either.{either_alternatives, either_choose}
 use Rattle.cpp_grammar.specs.Table.{rule_of, rule_taken, padded, sheet_with, wide_sheet, wide, either_sheet, either}
 use Rattle.cpp_grammar.specs.TableLaws.{wide_lawful}
-use Rattle.cpp_grammar.specs.Widened.{Change, with_rest, within_name, with_g, with_t, with_x, unchanged, rest_or_end, with_rest_or_end, letters_component, operator_component, variable_with_g, type_without_tags, address_as_expression, change_of, changed, widened_branch, widened_as, widened_all, widened}
+use Rattle.cpp_grammar.specs.Widened.{Change, with_rest, within_name, with_g, with_t, with_x, with_a, unchanged, rest_or_end, with_rest_or_end, letters_component, operator_component, variable_with_g, type_without_tags, address_as_expression, array_behind_letter, change_of, changed, widened_branch, widened_as, widened_all, widened}
 use Rattle.cpp_grammar.proofs.Choosing.{kinds_numbered, number_at, wide_rule_at, wide_empty_at, either_rule_at, is_either_kind}
 use Rattle.cpp_grammar.proofs.Growing.{same_choice, each_below, below, or_parts, kept, same_production, empty_keeps, wide_rule_kept}
 
 -- ## What a kind takes
 
--- where the wide grammar has a rule that stands aside in the table of both: behind a G, a t and an X, each of other kinds
+-- where the wide grammar has a rule that stands aside in the table of both: behind a G, a t, an A and an X, each of other kinds
 unfoldable chosen_at : ℕ → ℕ
-chosen_at kind = cond (nat_eq kind ENCODING) 71 (cond (nat_eq kind TYPE_AFTER_S) 116 88)
+chosen_at kind = cond (nat_eq kind ENCODING) 71 (cond (nat_eq kind TYPE_AFTER_S) 116 (cond (nat_eq kind SOLID) 65 88))
 
 unfoldable is_aside : Kind → Production → Bool
 is_aside kind p = is_chain p && same_choice (Some p) (pick (wide_alternatives kind) (chosen_at (number_of_kind kind)))
 
 -- A kind takes what it takes in the wide grammar, perhaps at another byte if that takes none, or the rule that the other grammar has there:
--- behind an S, of an operator within a nested name, of a guard variable, of a type in std, and of an address as an argument.
+-- behind an S, of an operator within a nested name, of a guard variable, of a type in std, of an array, and of an address as an argument.
 unfoldable is_wide_or_narrow : Kind → (byte : ℕ) → (chosen other : Option Production) → Bool
 is_wide_or_narrow kind byte None other = true
 is_wide_or_narrow kind byte (Some p) other = elim (change_of (number_of_kind kind) (number_of p)) [
@@ -42,6 +42,7 @@ is_wide_or_narrow kind byte (Some p) other = elim (change_of (number_of_kind kin
   | with_g ↦ nat_eq (number_of_kind kind) ENCODING && nat_eq byte 71
   | with_t ↦ nat_eq (number_of_kind kind) TYPE_AFTER_S && nat_eq byte 116
   | with_x own ↦ nat_eq byte 88 && same_choice (Some own) (pick (wide_alternatives kind) 88)
+  | with_a ↦ nat_eq (number_of_kind kind) SOLID && nat_eq byte 65
   | unchanged ↦ same_choice (Some p) other || is_aside kind p
 ]
 
@@ -63,6 +64,7 @@ pub data Here (k byte : ℕ) (rule : Rule) : Type 0 where
   of_operator : rule ≡ rule_of Production.OperatorName → k ≡ COMPONENT → Here k byte rule
   of_variable : rule ≡ rule_of Production.Guard → k ≡ ENCODING → byte ≡ 71 → Here k byte rule
   in_std_ : rule ≡ rule_of Production.StdType → k ≡ TYPE_AFTER_S → byte ≡ 116 → Here k byte rule
+  of_array : rule ≡ rule_of Production.Array → k ≡ SOLID → byte ≡ 65 → Here k byte rule
   of_address : (p own : Production) → IsAddress p own → rule ≡ rule_of p → byte ≡ 88 → wide.rule k 88 ≡ Some (rule_of own) → Here k byte rule
 
 -- the rule that a kind takes at a byte
@@ -78,34 +80,42 @@ data Changing (kind : ℕ) (p : Production) : Change → Type 0 where
   g_ : p ≡ Production.Guard → Changing kind p with_g
   t_ : p ≡ Production.StdType → Changing kind p with_t
   x_ : (own : Production) → IsAddress p own → Changing kind p (with_x own)
+  a_ : p ≡ Production.Array → Changing kind p with_a
   none_ : Changing kind p unchanged
 
 changing : (kind : ℕ) (p : Production) → Changing kind p (change_of kind (number_of p))
 unfolding change_of
 changing kind p = go (nat_eq (number_of p) (number_of Production.NestAbbreviated)) (nat_eq (number_of p) (number_of Production.OperatorName)) (nat_eq kind COMPONENT) refl refl
   where
+    array_ : (h : Bool) → nat_eq (number_of p) (number_of Production.Array) ≡ h → Changing kind p (cond h with_a unchanged)
+    array_ true six = a_ (same_production p Production.Array six)
+    array_ false six = none_
+
     address : (f g : Bool) → nat_eq (number_of p) (number_of Production.AddressArgument) ≡ f → nat_eq (number_of p) (number_of Production.AddressElement) ≡ g
-        → Changing kind p (cond f (with_x Production.ExpressionArgument) (cond g (with_x Production.ExpressionElement) unchanged))
+        → Changing kind p (cond f (with_x Production.ExpressionArgument) (cond g (with_x Production.ExpressionElement) (cond (nat_eq (number_of p) (number_of Production.Array)) with_a unchanged)))
     address true g one two = x_ Production.ExpressionArgument (subst (λ q. IsAddress q Production.ExpressionArgument) (sym (same_production p Production.AddressArgument one)) in_arguments)
     address false true one two = x_ Production.ExpressionElement (subst (λ q. IsAddress q Production.ExpressionElement) (sym (same_production p Production.AddressElement two)) in_packs)
-    address false false one two = none_
+    address false false one two = array_ (nat_eq (number_of p) (number_of Production.Array)) refl
 
     others : (d e : Bool) → nat_eq (number_of p) (number_of Production.Guard) ≡ d → nat_eq (number_of p) (number_of Production.StdType) ≡ e
         → Changing kind p (cond d with_g (cond e with_t (cond (nat_eq (number_of p) (number_of Production.AddressArgument)) (with_x Production.ExpressionArgument)
-          (cond (nat_eq (number_of p) (number_of Production.AddressElement)) (with_x Production.ExpressionElement) unchanged))))
+          (cond (nat_eq (number_of p) (number_of Production.AddressElement)) (with_x Production.ExpressionElement)
+          (cond (nat_eq (number_of p) (number_of Production.Array)) with_a unchanged)))))
     others true e three four = g_ (same_production p Production.Guard three)
     others false true three four = t_ (same_production p Production.StdType four)
     others false false three four = address (nat_eq (number_of p) (number_of Production.AddressArgument)) (nat_eq (number_of p) (number_of Production.AddressElement)) refl refl
 
     rest : Changing kind p (cond (nat_eq (number_of p) (number_of Production.Guard)) with_g (cond (nat_eq (number_of p) (number_of Production.StdType)) with_t
         (cond (nat_eq (number_of p) (number_of Production.AddressArgument)) (with_x Production.ExpressionArgument)
-        (cond (nat_eq (number_of p) (number_of Production.AddressElement)) (with_x Production.ExpressionElement) unchanged))))
+        (cond (nat_eq (number_of p) (number_of Production.AddressElement)) (with_x Production.ExpressionElement)
+        (cond (nat_eq (number_of p) (number_of Production.Array)) with_a unchanged)))))
     rest = others (nat_eq (number_of p) (number_of Production.Guard)) (nat_eq (number_of p) (number_of Production.StdType)) refl refl
 
     go : (a b c : Bool) → nat_eq (number_of p) (number_of Production.NestAbbreviated) ≡ a → nat_eq (number_of p) (number_of Production.OperatorName) ≡ b
         → Changing kind p (cond a with_rest (cond (b && c) within_name (cond (nat_eq (number_of p) (number_of Production.Guard)) with_g
           (cond (nat_eq (number_of p) (number_of Production.StdType)) with_t (cond (nat_eq (number_of p) (number_of Production.AddressArgument)) (with_x Production.ExpressionArgument)
-          (cond (nat_eq (number_of p) (number_of Production.AddressElement)) (with_x Production.ExpressionElement) unchanged))))))
+          (cond (nat_eq (number_of p) (number_of Production.AddressElement)) (with_x Production.ExpressionElement)
+          (cond (nat_eq (number_of p) (number_of Production.Array)) with_a unchanged)))))))
     go true b c one two = rest_ (same_production p Production.NestAbbreviated one)
     go false true true one two = name_ (same_production p Production.OperatorName two)
     go false true false one two = rest
@@ -126,12 +136,13 @@ which k byte kind p rule at is test = go (change_of (number_of_kind kind) (numbe
     wide_at b h = wide_rule_at k kind b at ∙ ap rule_taken (kept (Some p) (pick (wide_alternatives kind) b) p h refl) ∙ ap Some (sym is)
 
     below_all : (n : ℕ) → chosen_at n < 256
-    below_all n = by (nat_eq n ENCODING) (nat_eq n TYPE_AFTER_S)
+    below_all n = by (nat_eq n ENCODING) (nat_eq n TYPE_AFTER_S) (nat_eq n SOLID)
       where
-        by : (b c : Bool) → cond b 71 (cond c 116 88) < 256
-        by true c = lit≤ tt
-        by false true = lit≤ tt
-        by false false = lit≤ tt
+        by : (b c d : Bool) → cond b 71 (cond c 116 (cond d 65 88)) < 256
+        by true c d = lit≤ tt
+        by false true d = lit≤ tt
+        by false false true = lit≤ tt
+        by false false false = lit≤ tt
 
     address_at : (own : Production) → same_choice (Some own) (pick (wide_alternatives kind) 88) ≡ true → wide.rule k 88 ≡ Some (rule_of own)
     address_at own h = wide_rule_at k kind 88 at ∙ ap rule_taken (kept (Some own) (pick (wide_alternatives kind) 88) own h refl)
@@ -142,6 +153,7 @@ which k byte kind p rule at is test = go (change_of (number_of_kind kind) (numbe
       | with_g ↦ nat_eq (number_of_kind kind) ENCODING && nat_eq byte 71
       | with_t ↦ nat_eq (number_of_kind kind) TYPE_AFTER_S && nat_eq byte 116
       | with_x own ↦ nat_eq byte 88 && same_choice (Some own) (pick (wide_alternatives kind) 88)
+      | with_a ↦ nat_eq (number_of_kind kind) SOLID && nat_eq byte 65
       | unchanged ↦ same_choice (Some p) (pick (wide_alternatives kind) byte) || is_aside kind p
     ] ≡ true → Here k byte rule
     go _ e (rest_ one) h = behind_s (is ∙ ap rule_of one) (sym numbered ∙ eqb-true (number_of_kind kind) NEST_AFTER_S h)
@@ -152,6 +164,9 @@ which k byte kind p rule at is test = go (change_of (number_of_kind kind) (numbe
     go _ e (t_ one) h =
         let both = and_parts (nat_eq (number_of_kind kind) TYPE_AFTER_S) (nat_eq byte 116) h in
         in_std_ (is ∙ ap rule_of one) (sym numbered ∙ eqb-true (number_of_kind kind) TYPE_AFTER_S both.0) (eqb-true byte 116 both.1)
+    go _ e (a_ one) h =
+        let both = and_parts (nat_eq (number_of_kind kind) SOLID) (nat_eq byte 65) h in
+        of_array (is ∙ ap rule_of one) (sym numbered ∙ eqb-true (number_of_kind kind) SOLID both.0) (eqb-true byte 65 both.1)
     go _ e (x_ own one) h =
         let both = and_parts (nat_eq byte 88) (same_choice (Some own) (pick (wide_alternatives kind) 88)) h in
         of_address p own one is (eqb-true byte 88 both.0) (address_at own both.1)
@@ -214,6 +229,7 @@ either_number k b rule lt byte found = elim (chosen_rule k b rule lt byte found)
   | of_operator is at ↦ rw is (lit≤ tt)
   | of_variable is at here ↦ rw is (lit≤ tt)
   | in_std_ is at here ↦ rw is (lit≤ tt)
+  | of_array is at here ↦ rw is (lit≤ tt)
   | of_address p own one is here at ↦ rw is (address_number p own one)
 ]
 
@@ -233,6 +249,10 @@ type_symbols : AreSymbols either (symbols_of (rule_of Production.StdType))
 unfolding rule_of parts_of padded number_of_kind either either_sheet kinds
 type_symbols = (lit≤ tt, tt)
 
+array_symbols : AreSymbols either (symbols_of (rule_of Production.Array))
+unfolding rule_of parts_of padded number_of_kind either either_sheet kinds
+array_symbols = (tt, (lit≤ tt, tt))
+
 address_symbols : (p own : Production) → IsAddress p own → AreSymbols either (symbols_of (rule_of p))
 unfolding rule_of parts_of padded number_of_kind either either_sheet kinds
 address_symbols _ _ in_arguments = (lit≤ tt, (lit≤ tt, (lit≤ tt, (lit≤ tt, tt))))
@@ -246,6 +266,7 @@ either_symbols k b rule lt byte found = elim (chosen_rule k b rule lt byte found
   | of_operator is at ↦ rw is operator_symbols
   | of_variable is at here ↦ rw is variable_symbols
   | in_std_ is at here ↦ rw is type_symbols
+  | of_array is at here ↦ rw is array_symbols
   | of_address p own one is here at ↦ rw is (address_symbols p own one)
 ]
 
@@ -492,6 +513,20 @@ type_branch taken (grown piece nothing) own trees = rw own (
 type_branch taken nothing own trees = absurd trees
 type_branch taken (grown piece (grown u f)) own trees = absurd trees.1
 
+array_branch : (taken : List ℕ) (parts : Forest) → taken ≡ 65 ∷ [] → AreTrees wide (symbols_of (rule_of Production.Array)) parts
+    → IsTree wide (OfKind SOLID) (widened_branch SOLID (rule_of Production.Array) taken parts)
+unfolding change_of changed array_behind_letter rule_of parts_of padded is_chain number_of number_of_kind kinds wide_choose wide_alternatives pick is_in in_ranges among
+array_branch taken parts own trees = rw own (
+  takes_at SOLID Kind.Solid Production.ArrayType [] 65 refl (lit≤ tt) refl refl,
+  (
+    (
+      takes_at ANY_ARRAY Kind.AnyArray Production.AnyArray (65 ∷ []) 65 refl (lit≤ tt) refl refl,
+      ((takes_at ARRAY_REST Kind.ArrayRest Production.LengthArray [] 95 refl (lit≤ tt) refl refl, trees), tt),
+    ),
+    tt,
+  ),
+)
+
 -- the parts of an address as an argument, with the rest of the list behind it
 pub record AddressParts (n : ℕ) (parts : Forest) : Type 0 where
   pub address : Tree
@@ -565,6 +600,8 @@ branch_tree k rule taken parts lt takes trees = elim (chosen_rule k takes.byte r
   | of_variable is at here ↦ rw (is, at) (variable_branch taken parts (takes_its rule (rule_of Production.Guard) taken takes.byte true is refl takes.takes ∙ ap (λ b. b ∷ []) here)
       (subst (λ r. AreTrees wide (symbols_of r) parts) is trees))
   | in_std_ is at here ↦ rw (is, at) (type_branch taken parts (takes_its rule (rule_of Production.StdType) taken takes.byte true is refl takes.takes ∙ ap (λ b. b ∷ []) here)
+      (subst (λ r. AreTrees wide (symbols_of r) parts) is trees))
+  | of_array is at here ↦ rw (is, at) (array_branch taken parts (takes_its rule (rule_of Production.Array) taken takes.byte true is refl takes.takes ∙ ap (λ b. b ∷ []) here)
       (subst (λ r. AreTrees wide (symbols_of r) parts) is trees))
   | of_address p own one is here at ↦ rw is (address_branch k p own one taken parts
       (takes_its rule (rule_of p) taken takes.byte true is (address_eats p own one) takes.takes ∙ ap (λ b. b ∷ []) here) at (subst (λ r. AreTrees wide (symbols_of r) parts) is trees))
@@ -642,6 +679,10 @@ spell_address own rule taken (grown (fixed a) (grown (fixed d) (grown address (g
     ∙ append_assoc taken (a ∷ d ∷ spell address) (spell rest ++ [])
 spell_address own rule taken _ = refl
 
+spell_array : (taken : List ℕ) (parts : Forest) → spell (array_behind_letter taken parts) ≡ taken ++ spell_all parts
+unfolding array_behind_letter
+spell_array taken parts = append-nil (taken ++ (spell_all parts ++ [])) ∙ ap (λ w. taken ++ w) (append-nil (spell_all parts))
+
 spell_changed : (change : Change) (rule : Rule) (taken : List ℕ) (parts : Forest) → spell (changed change rule taken parts) ≡ taken ++ spell_all parts
 unfolding changed
 spell_changed with_rest rule taken parts = ap (λ w. taken ++ w) (spell_parts parts)
@@ -649,6 +690,7 @@ spell_changed within_name rule taken parts = spell_operator taken parts
 spell_changed with_g rule taken parts = spell_variable taken parts
 spell_changed with_t rule taken parts = spell_type taken parts
 spell_changed (with_x own) rule taken parts = spell_address own rule taken parts
+spell_changed with_a rule taken parts = spell_array taken parts
 spell_changed unchanged rule taken parts = refl
 
 mutual
@@ -705,7 +747,7 @@ operator_branch taken (grown (branch r first (grown second nothing)) (grown argu
 operator_branch taken parts = some (rule_of Production.OtherOperatorName) taken parts
 
 some_branch : (change : Change) (rule : Rule) (taken : List ℕ) (parts : Forest) → IsSome (changed change rule taken parts)
-unfolding changed variable_with_g type_without_tags address_as_expression
+unfolding changed variable_with_g type_without_tags address_as_expression array_behind_letter
 some_branch with_rest rule taken parts = some _ _ _
 some_branch within_name rule taken parts = operator_branch taken parts
 some_branch with_g rule taken (grown (fixed letter) (grown name nothing)) = some _ _ _
@@ -714,6 +756,7 @@ some_branch with_t rule taken (grown piece nothing) = some _ _ _
 some_branch with_t rule taken parts = some (rule_of Production.StdType) taken parts
 some_branch (with_x own) rule taken (grown (fixed a) (grown (fixed d) (grown address (grown rest nothing)))) = some _ _ _
 some_branch (with_x own) rule taken parts = some rule taken parts
+some_branch with_a rule taken parts = some _ _ _
 some_branch unchanged rule taken parts = some rule taken parts
 
 wide_branch : (k : ℕ) (rule : Rule) (taken : List ℕ) (parts : Forest) → k < either.kinds → IsTree either (OfKind k) (branch rule taken parts) → IsBranch k rule (taken ++ spell_all parts)
@@ -743,6 +786,7 @@ wide_branch k rule taken parts lt is =
     go within_name e tree spelled = other_than within_name (λ h. cc h) e tree spelled
     go with_g e tree spelled = other_than with_g (λ h. cc h) e tree spelled
     go with_t e tree spelled = other_than with_t (λ h. cc h) e tree spelled
+    go with_a e tree spelled = other_than with_a (λ h. cc h) e tree spelled
     go (with_x own) e tree spelled = other_than (with_x own) (λ h. cc h) e tree spelled
 
 -- a rule's tree isn't empty
@@ -785,6 +829,7 @@ either_first k rule taken parts b w lt is spelled =
         | of_operator is at ↦ inr (ap (λ n. either.rule n 33) at ∙ operator_at ∙ ap Some (sym is))
         | of_variable same at here ↦ inl (taken_at k rule taken (spell_all parts) b w is.0 (ap (λ r. r.eats) same) spelled)
         | in_std_ same at here ↦ inl (taken_at k rule taken (spell_all parts) b w is.0 (ap (λ r. r.eats) same) spelled)
+        | of_array same at here ↦ inl (taken_at k rule taken (spell_all parts) b w is.0 (ap (λ r. r.eats) same) spelled)
         | of_address p own one same here at ↦ inl (taken_at k rule taken (spell_all parts) b w is.0 (ap (λ r. r.eats) same ∙ address_eats p own one) spelled)
       ],
     )

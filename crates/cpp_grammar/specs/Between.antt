@@ -80,7 +80,7 @@ tag_so_far around tag state = named_so_far around (with_tag (prefix_tree around.
 unfoldable pub parameter_so_far : Around → (place : ℕ) → ℕ → List Value → State → Going
 parameter_so_far around place k vs state = parameter_named around place k state >>= λ s. listed_so_far around (parameter k) vs s
 
--- a parameter that is an argument itself is tested in the same way, and no candidate
+-- a parameter that is an argument itself, or the length of an array, is tested in the same way, and no candidate
 unfoldable pub argument_so_far : Around → (place : ℕ) → ℕ → State → Going
 argument_so_far around place k state = parameter_named around place k state >>= λ s. next (tree (parameter k) true ∷ []) around (record s { candidates = state.candidates })
 
@@ -142,6 +142,7 @@ between Production.Lambda around place vs state = next vs (in_signature around) 
 between Production.Expansion around place vs state = next vs (under_expansion around) (record state { packs = None })
 between Production.Parameter around place (v ∷ []) state = parameter_so_far around place (index_of v) [] state
 between Production.ParameterExpression around place (v ∷ []) state = argument_so_far around place (index_of v) state
+between Production.BoundedArray around place (v ∷ []) state = argument_so_far around place (index_of v) state
 between Production.TaggedStdType around place (v ∷ []) state = named_so_far around (in_std (piece_of v)) [] state
 between Production.TypeWithS around place (v ∷ []) state = next (v ∷ []) (after (tree_of v) (is_listed v) around) state
 between Production.LvalueItem around place (v ∷ []) state = let t = lvalue (tree_of v) in next (tree t true ∷ []) around (appended around t state)

@@ -88,6 +88,8 @@ after_ranges Kind.TypeInStd = codes ".-.0-9A-AC-FI-PR-VX-XZ-Za-jl-pr-z"
 after_ranges Kind.MaybeTags = codes ".-.0-9A-AC-FI-PR-VX-XZ-Za-jl-pr-z"
 after_ranges Kind.Expression = codes "0-9A-AC-FJ-PR-VX-XZ-Za-jl-or-z"
 after_ranges Kind.ExpressionRest = codes "0-9A-AC-FJ-PR-VX-XZ-Za-jl-or-z"
+after_ranges Kind.AnyArray = codes ".-.0-9A-AC-FJ-PR-VX-XZ-Za-jl-pr-z"
+after_ranges Kind.ArrayRest = codes ".-.0-9A-AC-FJ-PR-VX-XZ-Za-jl-pr-z"
 
 -- how many chains may stand on one another at the beginning of a kind
 unfoldable pub rank : Kind → ℕ
@@ -127,6 +129,7 @@ rank Kind.ComponentAfterC = 1
 rank Kind.ArgumentsFirst = 3
 rank Kind.PlainEntity = 1
 rank Kind.PlainTypeEntity = 1
+rank Kind.ArrayRest = 1
 rank _ = 0
 
 -- how high the lowest tree of a kind is
@@ -199,4 +202,6 @@ height Kind.CloneLetter = 1
 height Kind.TypeInStd = 2
 height Kind.Expression = 2
 height Kind.ExpressionRest = 1
+height Kind.AnyArray = 4
+height Kind.ArrayRest = 3
 height _ = 0

@@ -124,6 +124,8 @@ number_of_kind Kind.TypeInStd = 80
 number_of_kind Kind.MaybeTags = 81
 number_of_kind Kind.Expression = 82
 number_of_kind Kind.ExpressionRest = 83
+number_of_kind Kind.AnyArray = 84
+number_of_kind Kind.ArrayRest = 85
 
 -- a kind as a symbol of a rule
 abbrev part : Kind → Sym
@@ -215,6 +217,8 @@ alternatives Kind.TypeInStd = on "t" Production.TaggedStdType ∷ []
 alternatives Kind.MaybeTags = on "B" Production.TypeTag ∷ []
 alternatives Kind.Expression = on "X" Production.Expression ∷ []
 alternatives Kind.ExpressionRest = on "a" Production.AddressExpression ∷ on "T" Production.ParameterExpression ∷ []
+alternatives Kind.AnyArray = on "A" Production.AnyArray ∷ []
+alternatives Kind.ArrayRest = on "T" Production.BoundedArray ∷ on_ranges "0-9" "_" Production.LengthArray ∷ []
 
 -- the production that a kind takes at a byte
 unfoldable pub choose : Kind → ℕ → Option Production
@@ -343,6 +347,9 @@ parts_of Production.TypeTag = Name ∷ part Kind.MaybeTags ∷ []
 parts_of Production.Expression = part Kind.ExpressionRest ∷ []
 parts_of Production.AddressExpression = Byte 100 ∷ part Kind.Address ∷ []
 parts_of Production.ParameterExpression = Number Decimal ∷ Byte 69 ∷ []
+parts_of Production.AnyArray = part Kind.ArrayRest ∷ []
+parts_of Production.BoundedArray = Number Decimal ∷ Byte 95 ∷ part Kind.Type ∷ []
+parts_of Production.LengthArray = Number Decimal ∷ part Kind.Type ∷ []
 parts_of Production.OtherSpecial = part Kind.SpecialMark ∷ part Kind.SpecialAfterG ∷ []
 parts_of Production.SpecialName = part Kind.CompleteName ∷ []
 parts_of Production.ConstructionVtable = part Kind.Type ∷ Number Digits ∷ Byte 95 ∷ part Kind.Type ∷ []
@@ -354,6 +361,7 @@ parts_of Production.Holder = part Kind.HolderMark ∷ part Kind.HeldComponent �
 parts_of Production.DefaultEntity = Number Decimal ∷ part Kind.PlainEntity ∷ []
 parts_of Production.DefaultTypeEntity = Number Decimal ∷ part Kind.PlainTypeEntity ∷ []
 parts_of Production.SizedFloat = Number Digits ∷ part Kind.FloatEnd ∷ []
+parts_of Production.ArrayType = part Kind.AnyArray ∷ []
 parts_of Production.TypeInStd = part Kind.TypeInStd ∷ []
 parts_of Production.Tag = Name ∷ part Kind.MaybeArguments ∷ []
 parts_of Production.ExpressionElement = part Kind.Expression ∷ part Kind.PackList ∷ []
@@ -384,10 +392,12 @@ is_chain Production.TypeArgument = true
 is_chain Production.TypeElement = true
 is_chain Production.IntegerLiteral = true
 is_chain Production.OperatorNameWithC = true
+is_chain Production.LengthArray = true
 is_chain Production.OtherSpecial = true
 is_chain Production.NestTemplate = true
 is_chain Production.OtherOperatorName = true
 is_chain Production.Holder = true
+is_chain Production.ArrayType = true
 is_chain Production.TypeInStd = true
 is_chain Production.ExpressionElement = true
 is_chain Production.ExpressionArgument = true
@@ -415,11 +425,11 @@ may_be_empty _ = false
 
 -- the kinds in the order of their numbers
 unfoldable pub kinds : List Kind
-kinds = Kind.Symbol ∷ Kind.MaybeSuffix ∷ Kind.SuffixFirst ∷ Kind.SuffixMore ∷ Kind.Encoding ∷ Kind.Special ∷ Kind.CallOffset ∷ Kind.Integer ∷ Kind.CompleteName ∷ Kind.MaybeRestrict ∷ Kind.MaybeVolatile ∷ Kind.MaybeConst ∷ Kind.MaybeRef ∷ Kind.NameAfterS ∷ Kind.Unqualified ∷ Kind.Nest ∷ Kind.NestAfterS ∷ Kind.NestRest ∷ Kind.NestTail ∷ Kind.Component ∷ Kind.ConstructorDigit ∷ Kind.DestructorDigit ∷ Kind.Abbreviation ∷ Kind.Entity ∷ Kind.TypeEntity ∷ Kind.MaybeDiscriminator ∷ Kind.DiscriminatorRest ∷ Kind.Anonymous ∷ Kind.Type ∷ Kind.Plain ∷ Kind.Item ∷ Kind.ItemButRef ∷ Kind.ItemAfterD ∷ Kind.AfterD ∷ Kind.Solid ∷ Kind.MaybeCLinkage ∷ Kind.TypeAfterS ∷ Kind.SourceOrLocal ∷ Kind.FunctionRest ∷ Kind.AfterR ∷ Kind.AfterO ∷ Kind.Items ∷ Kind.MaybeArguments ∷ Kind.Arguments ∷ Kind.ArgumentList ∷ Kind.PackList ∷ Kind.Address ∷ Kind.Literal ∷ Kind.Bit ∷ Kind.LiteralAfterD ∷ Kind.MaybeZero ∷ Kind.LiteralType ∷ Kind.Operator ∷ Kind.OperatorAfterN ∷ Kind.OperatorAfterD ∷ Kind.OperatorAfterA ∷ Kind.OperatorAfterP ∷ Kind.OperatorAfterC ∷ Kind.OperatorAfterM ∷ Kind.OperatorAfterR ∷ Kind.OperatorAfterO ∷ Kind.OperatorAfterE ∷ Kind.OperatorAfterL ∷ Kind.OperatorAfterS ∷ Kind.OperatorAfterI ∷ Kind.OperatorAfterG ∷ Kind.NestRestOrEnd ∷ Kind.ArgumentsAlone ∷ Kind.NestRestAlone ∷ Kind.HolderMark ∷ Kind.HeldComponent ∷ Kind.FloatEnd ∷ Kind.ComponentAfterC ∷ Kind.OtherOperator ∷ Kind.ArgumentsFirst ∷ Kind.PlainEntity ∷ Kind.PlainTypeEntity ∷ Kind.SpecialMark ∷ Kind.SpecialAfterG ∷ Kind.CloneLetter ∷ Kind.TypeInStd ∷ Kind.MaybeTags ∷ Kind.Expression ∷ Kind.ExpressionRest ∷ []
+kinds = Kind.Symbol ∷ Kind.MaybeSuffix ∷ Kind.SuffixFirst ∷ Kind.SuffixMore ∷ Kind.Encoding ∷ Kind.Special ∷ Kind.CallOffset ∷ Kind.Integer ∷ Kind.CompleteName ∷ Kind.MaybeRestrict ∷ Kind.MaybeVolatile ∷ Kind.MaybeConst ∷ Kind.MaybeRef ∷ Kind.NameAfterS ∷ Kind.Unqualified ∷ Kind.Nest ∷ Kind.NestAfterS ∷ Kind.NestRest ∷ Kind.NestTail ∷ Kind.Component ∷ Kind.ConstructorDigit ∷ Kind.DestructorDigit ∷ Kind.Abbreviation ∷ Kind.Entity ∷ Kind.TypeEntity ∷ Kind.MaybeDiscriminator ∷ Kind.DiscriminatorRest ∷ Kind.Anonymous ∷ Kind.Type ∷ Kind.Plain ∷ Kind.Item ∷ Kind.ItemButRef ∷ Kind.ItemAfterD ∷ Kind.AfterD ∷ Kind.Solid ∷ Kind.MaybeCLinkage ∷ Kind.TypeAfterS ∷ Kind.SourceOrLocal ∷ Kind.FunctionRest ∷ Kind.AfterR ∷ Kind.AfterO ∷ Kind.Items ∷ Kind.MaybeArguments ∷ Kind.Arguments ∷ Kind.ArgumentList ∷ Kind.PackList ∷ Kind.Address ∷ Kind.Literal ∷ Kind.Bit ∷ Kind.LiteralAfterD ∷ Kind.MaybeZero ∷ Kind.LiteralType ∷ Kind.Operator ∷ Kind.OperatorAfterN ∷ Kind.OperatorAfterD ∷ Kind.OperatorAfterA ∷ Kind.OperatorAfterP ∷ Kind.OperatorAfterC ∷ Kind.OperatorAfterM ∷ Kind.OperatorAfterR ∷ Kind.OperatorAfterO ∷ Kind.OperatorAfterE ∷ Kind.OperatorAfterL ∷ Kind.OperatorAfterS ∷ Kind.OperatorAfterI ∷ Kind.OperatorAfterG ∷ Kind.NestRestOrEnd ∷ Kind.ArgumentsAlone ∷ Kind.NestRestAlone ∷ Kind.HolderMark ∷ Kind.HeldComponent ∷ Kind.FloatEnd ∷ Kind.ComponentAfterC ∷ Kind.OtherOperator ∷ Kind.ArgumentsFirst ∷ Kind.PlainEntity ∷ Kind.PlainTypeEntity ∷ Kind.SpecialMark ∷ Kind.SpecialAfterG ∷ Kind.CloneLetter ∷ Kind.TypeInStd ∷ Kind.MaybeTags ∷ Kind.Expression ∷ Kind.ExpressionRest ∷ Kind.AnyArray ∷ Kind.ArrayRest ∷ []
 
 -- the productions in the order of their numbers
 unfoldable pub productions : List Production
-productions = Production.Mark ∷ Production.InternalName ∷ Production.LocalTypeName ∷ Production.SourceName ∷ Production.OperatorName ∷ Production.InternalPiece ∷ Production.LocalTypePiece ∷ Production.SourcePiece ∷ Production.NestedName ∷ Production.Symbol ∷ Production.Suffix ∷ Production.SuffixByte ∷ Production.Special ∷ Production.Guard ∷ Production.Encoding ∷ Production.SpecialType ∷ Production.NonVirtualThunk ∷ Production.VirtualThunk ∷ Production.CovariantThunk ∷ Production.NonVirtualOffset ∷ Production.VirtualOffset ∷ Production.Negative ∷ Production.Positive ∷ Production.NameWithS ∷ Production.LocalName ∷ Production.StdName ∷ Production.AbbreviatedName ∷ Production.OperatorPiece ∷ Production.NestWithS ∷ Production.NestParameter ∷ Production.NestInternal ∷ Production.NestLocalType ∷ Production.NestSource ∷ Production.NestStd ∷ Production.NestAbbreviated ∷ Production.NestArguments ∷ Production.NestNext ∷ Production.NestEnd ∷ Production.Constructor ∷ Production.Destructor ∷ Production.Abbreviation ∷ Production.Substitution ∷ Production.NestedType ∷ Production.StringLiteral ∷ Production.Discriminator ∷ Production.OneDigit ∷ Production.ManyDigits ∷ Production.Lambda ∷ Production.Unnamed ∷ Production.RestrictType ∷ Production.VolatileType ∷ Production.ConstType ∷ Production.ReferenceType ∷ Production.PlainType ∷ Production.TypeWithD ∷ Production.PlainWithD ∷ Production.QualifiedPlain ∷ Production.ItemWithD ∷ Production.Expansion ∷ Production.ItemIsType ∷ Production.BuiltinWithD ∷ Production.Vector ∷ Production.NoexceptFunction ∷ Production.Pointer ∷ Production.MemberPointer ∷ Production.Parameter ∷ Production.TypeWithS ∷ Production.LocalType ∷ Production.Builtin ∷ Production.Vendor ∷ Production.Array ∷ Production.Function ∷ Production.Complex ∷ Production.StdType ∷ Production.AbbreviatedType ∷ Production.RestEnd ∷ Production.RestLvalue ∷ Production.RestRvalue ∷ Production.RestItem ∷ Production.RefEnd ∷ Production.LvalueItem ∷ Production.RvalueItem ∷ Production.Items ∷ Production.Arguments ∷ Production.PackArgument ∷ Production.LiteralArgument ∷ Production.AddressArgument ∷ Production.TypeArgument ∷ Production.LiteralElement ∷ Production.AddressElement ∷ Production.TypeElement ∷ Production.Address ∷ Production.EncodingLiteral ∷ Production.BoolLiteral ∷ Production.LiteralWithD ∷ Production.IntegerLiteral ∷ Production.NullLiteral ∷ Production.CharLiteral ∷ Production.OperatorN ∷ Production.OperatorD ∷ Production.OperatorA ∷ Production.OperatorP ∷ Production.OperatorC ∷ Production.OperatorM ∷ Production.OperatorR ∷ Production.OperatorO ∷ Production.OperatorE ∷ Production.OperatorL ∷ Production.OperatorS ∷ Production.OperatorI ∷ Production.OperatorG ∷ Production.LiteralOperator ∷ Production.NestInstance ∷ Production.Conversion ∷ Production.OperatorNameWithC ∷ Production.Clone ∷ Production.TaggedStdType ∷ Production.TypeTag ∷ Production.Expression ∷ Production.AddressExpression ∷ Production.ParameterExpression ∷ Production.OtherSpecial ∷ Production.SpecialName ∷ Production.ConstructionVtable ∷ Production.NestTemplate ∷ Production.NestTag ∷ Production.ComponentWithC ∷ Production.OtherOperatorName ∷ Production.Holder ∷ Production.DefaultEntity ∷ Production.DefaultTypeEntity ∷ Production.SizedFloat ∷ Production.TypeInStd ∷ Production.Tag ∷ Production.ExpressionElement ∷ Production.ExpressionArgument ∷ []
+productions = Production.Mark ∷ Production.InternalName ∷ Production.LocalTypeName ∷ Production.SourceName ∷ Production.OperatorName ∷ Production.InternalPiece ∷ Production.LocalTypePiece ∷ Production.SourcePiece ∷ Production.NestedName ∷ Production.Symbol ∷ Production.Suffix ∷ Production.SuffixByte ∷ Production.Special ∷ Production.Guard ∷ Production.Encoding ∷ Production.SpecialType ∷ Production.NonVirtualThunk ∷ Production.VirtualThunk ∷ Production.CovariantThunk ∷ Production.NonVirtualOffset ∷ Production.VirtualOffset ∷ Production.Negative ∷ Production.Positive ∷ Production.NameWithS ∷ Production.LocalName ∷ Production.StdName ∷ Production.AbbreviatedName ∷ Production.OperatorPiece ∷ Production.NestWithS ∷ Production.NestParameter ∷ Production.NestInternal ∷ Production.NestLocalType ∷ Production.NestSource ∷ Production.NestStd ∷ Production.NestAbbreviated ∷ Production.NestArguments ∷ Production.NestNext ∷ Production.NestEnd ∷ Production.Constructor ∷ Production.Destructor ∷ Production.Abbreviation ∷ Production.Substitution ∷ Production.NestedType ∷ Production.StringLiteral ∷ Production.Discriminator ∷ Production.OneDigit ∷ Production.ManyDigits ∷ Production.Lambda ∷ Production.Unnamed ∷ Production.RestrictType ∷ Production.VolatileType ∷ Production.ConstType ∷ Production.ReferenceType ∷ Production.PlainType ∷ Production.TypeWithD ∷ Production.PlainWithD ∷ Production.QualifiedPlain ∷ Production.ItemWithD ∷ Production.Expansion ∷ Production.ItemIsType ∷ Production.BuiltinWithD ∷ Production.Vector ∷ Production.NoexceptFunction ∷ Production.Pointer ∷ Production.MemberPointer ∷ Production.Parameter ∷ Production.TypeWithS ∷ Production.LocalType ∷ Production.Builtin ∷ Production.Vendor ∷ Production.Array ∷ Production.Function ∷ Production.Complex ∷ Production.StdType ∷ Production.AbbreviatedType ∷ Production.RestEnd ∷ Production.RestLvalue ∷ Production.RestRvalue ∷ Production.RestItem ∷ Production.RefEnd ∷ Production.LvalueItem ∷ Production.RvalueItem ∷ Production.Items ∷ Production.Arguments ∷ Production.PackArgument ∷ Production.LiteralArgument ∷ Production.AddressArgument ∷ Production.TypeArgument ∷ Production.LiteralElement ∷ Production.AddressElement ∷ Production.TypeElement ∷ Production.Address ∷ Production.EncodingLiteral ∷ Production.BoolLiteral ∷ Production.LiteralWithD ∷ Production.IntegerLiteral ∷ Production.NullLiteral ∷ Production.CharLiteral ∷ Production.OperatorN ∷ Production.OperatorD ∷ Production.OperatorA ∷ Production.OperatorP ∷ Production.OperatorC ∷ Production.OperatorM ∷ Production.OperatorR ∷ Production.OperatorO ∷ Production.OperatorE ∷ Production.OperatorL ∷ Production.OperatorS ∷ Production.OperatorI ∷ Production.OperatorG ∷ Production.LiteralOperator ∷ Production.NestInstance ∷ Production.Conversion ∷ Production.OperatorNameWithC ∷ Production.Clone ∷ Production.TaggedStdType ∷ Production.TypeTag ∷ Production.Expression ∷ Production.AddressExpression ∷ Production.ParameterExpression ∷ Production.AnyArray ∷ Production.BoundedArray ∷ Production.LengthArray ∷ Production.OtherSpecial ∷ Production.SpecialName ∷ Production.ConstructionVtable ∷ Production.NestTemplate ∷ Production.NestTag ∷ Production.ComponentWithC ∷ Production.OtherOperatorName ∷ Production.Holder ∷ Production.DefaultEntity ∷ Production.DefaultTypeEntity ∷ Production.SizedFloat ∷ Production.ArrayType ∷ Production.TypeInStd ∷ Production.Tag ∷ Production.ExpressionElement ∷ Production.ExpressionArgument ∷ []
 
 -- the numbers of the productions
 unfoldable pub number_of : Production → ℕ
@@ -544,18 +554,22 @@ number_of Production.TypeTag = 117
 number_of Production.Expression = 118
 number_of Production.AddressExpression = 119
 number_of Production.ParameterExpression = 120
-number_of Production.OtherSpecial = 121
-number_of Production.SpecialName = 122
-number_of Production.ConstructionVtable = 123
-number_of Production.NestTemplate = 124
-number_of Production.NestTag = 125
-number_of Production.ComponentWithC = 126
-number_of Production.OtherOperatorName = 127
-number_of Production.Holder = 128
-number_of Production.DefaultEntity = 129
-number_of Production.DefaultTypeEntity = 130
-number_of Production.SizedFloat = 131
-number_of Production.TypeInStd = 132
-number_of Production.Tag = 133
-number_of Production.ExpressionElement = 134
-number_of Production.ExpressionArgument = 135
+number_of Production.AnyArray = 121
+number_of Production.BoundedArray = 122
+number_of Production.LengthArray = 123
+number_of Production.OtherSpecial = 124
+number_of Production.SpecialName = 125
+number_of Production.ConstructionVtable = 126
+number_of Production.NestTemplate = 127
+number_of Production.NestTag = 128
+number_of Production.ComponentWithC = 129
+number_of Production.OtherOperatorName = 130
+number_of Production.Holder = 131
+number_of Production.DefaultEntity = 132
+number_of Production.DefaultTypeEntity = 133
+number_of Production.SizedFloat = 134
+number_of Production.ArrayType = 135
+number_of Production.TypeInStd = 136
+number_of Production.Tag = 137
+number_of Production.ExpressionElement = 138
+number_of Production.ExpressionArgument = 139

@@ -3,10 +3,10 @@ use Rattle.std.specs.Prelude.{ℕ}
 
 -- how many kinds there are, and how many productions
 abbrev pub KIND_COUNT : ℕ
-KIND_COUNT = 84
+KIND_COUNT = 86
 
 abbrev pub PRODUCTION_COUNT : ℕ
-PRODUCTION_COUNT = 136
+PRODUCTION_COUNT = 140
 
 abbrev pub SYMBOL : ℕ
 SYMBOL = 0
@@ -259,3 +259,9 @@ EXPRESSION = 82
 
 abbrev pub EXPRESSION_REST : ℕ
 EXPRESSION_REST = 83
+
+abbrev pub ANY_ARRAY : ℕ
+ANY_ARRAY = 84
+
+abbrev pub ARRAY_REST : ℕ
+ARRAY_REST = 85

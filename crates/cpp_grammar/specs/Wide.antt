@@ -47,7 +47,7 @@ wide_alternatives Kind.Item = on "r" Production.RestrictType ∷ on "V" Producti
 wide_alternatives Kind.ItemButRef = on "r" Production.RestrictType ∷ on "V" Production.VolatileType ∷ on "K" Production.ConstType ∷ on "D" Production.ItemWithD ∷ on_ranges "0-9S-Ua-jl-os-z" "ACFMNPZ" Production.PlainType ∷ []
 wide_alternatives Kind.ItemAfterD = on "p" Production.Expansion ∷ on_ranges "c-f" "Fahinosuv" Production.ItemIsType ∷ []
 wide_alternatives Kind.AfterD = on "acinsu" Production.BuiltinWithD ∷ on "v" Production.Vector ∷ on "o" Production.NoexceptFunction ∷ on_ranges "d-f" "h" Production.BuiltinWithD ∷ on "F" Production.SizedFloat ∷ []
-wide_alternatives Kind.Solid = on_ranges "a-jl-ov-z" "st" Production.Builtin ∷ on "u" Production.Vendor ∷ on "A" Production.Array ∷ on "F" Production.Function ∷ on "C" Production.Complex ∷ on "P" Production.Pointer ∷ on "M" Production.MemberPointer ∷ on "T" Production.Parameter ∷ on "S" Production.TypeWithS ∷ on "N" Production.NestedType ∷ on "Z" Production.LocalType ∷ on "U" Production.LocalTypeName ∷ on_ranges "0-9" "" Production.SourceName ∷ []
+wide_alternatives Kind.Solid = on_ranges "a-jl-ov-z" "st" Production.Builtin ∷ on "u" Production.Vendor ∷ on "A" Production.ArrayType ∷ on "F" Production.Function ∷ on "C" Production.Complex ∷ on "P" Production.Pointer ∷ on "M" Production.MemberPointer ∷ on "T" Production.Parameter ∷ on "S" Production.TypeWithS ∷ on "N" Production.NestedType ∷ on "Z" Production.LocalType ∷ on "U" Production.LocalTypeName ∷ on_ranges "0-9" "" Production.SourceName ∷ []
 wide_alternatives Kind.MaybeCLinkage = on "Y" Production.Mark ∷ []
 wide_alternatives Kind.TypeAfterS = on "t" Production.TypeInStd ∷ on_ranges "0-9A-Z" "_abdios" Production.AbbreviatedType ∷ []
 wide_alternatives Kind.SourceOrLocal = on "L" Production.InternalPiece ∷ on "U" Production.LocalTypePiece ∷ on_ranges "0-9" "" Production.SourcePiece ∷ []
@@ -97,6 +97,8 @@ wide_alternatives Kind.TypeInStd = on "t" Production.TaggedStdType ∷ []
 wide_alternatives Kind.MaybeTags = on "B" Production.TypeTag ∷ []
 wide_alternatives Kind.Expression = on "X" Production.Expression ∷ []
 wide_alternatives Kind.ExpressionRest = on "a" Production.AddressExpression ∷ on "T" Production.ParameterExpression ∷ []
+wide_alternatives Kind.AnyArray = on "A" Production.AnyArray ∷ []
+wide_alternatives Kind.ArrayRest = on "T" Production.BoundedArray ∷ on_ranges "0-9" "_" Production.LengthArray ∷ []
 
 -- the production that a kind takes at a byte
 unfoldable pub wide_choose : Kind → ℕ → Option Production

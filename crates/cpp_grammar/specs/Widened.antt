@@ -3,7 +3,8 @@
 -- rule of its own takes these, and what comes behind them is a part as behind any other piece of a name. And they differ in an operator's
 -- name within a nested one: there the wide grammar has conversions to types, which begin with a c too, so a rule takes the c, and another
 -- what comes behind it. In the same way it has clones behind the G of a guard variable. Behind a name of std, as a type, it has tags. And
--- behind the X of an address it has parameters: the address is a part of its own there, of one kind for arguments and for packs.
+-- behind the X of an address it has parameters: the address is a part of its own there, of one kind for arguments and for packs. An array
+-- has a rule for its A, and another for what comes behind it, since there its length may be a parameter.
 use Rattle.std.specs.Prelude.{List, ℕ, [], ◌∷◌, ◌++◌, ◌&&◌, true, false, cond, nat_eq}
 use Rattle.sym_shape.specs.declared.rule.Rule.{Rule}
 use Rattle.sym_shape.specs.declared.rule.Sym.{Sym}
@@ -62,6 +63,12 @@ address_as_expression own rule taken (grown (fixed a) (grown (fixed d) (grown ad
     (grown rest nothing))
 address_as_expression own rule taken parts = branch rule taken parts
 
+-- an array, behind the A
+unfoldable pub array_behind_letter : (taken : List ℕ) → Forest → Tree
+array_behind_letter taken parts =
+    branch (rule_of Production.ArrayType) []
+    (grown (branch (rule_of Production.AnyArray) taken (grown (branch (rule_of Production.LengthArray) [] parts) nothing)) nothing)
+
 -- what becomes of a tree of a kind
 pub data Change : Type 0 where
   with_rest : Change
@@ -69,6 +76,7 @@ pub data Change : Type 0 where
   with_g : Change
   with_t : Change
   with_x : (own : Production) → Change
+  with_a : Change
   unchanged : Change
 
 unfoldable pub change_of : (kind rule : ℕ) → Change
@@ -77,7 +85,8 @@ change_of kind rule =
     (cond (nat_eq rule (number_of Production.OperatorName) && nat_eq kind COMPONENT) within_name
     (cond (nat_eq rule (number_of Production.Guard)) with_g (cond (nat_eq rule (number_of Production.StdType)) with_t
     (cond (nat_eq rule (number_of Production.AddressArgument)) (with_x Production.ExpressionArgument)
-    (cond (nat_eq rule (number_of Production.AddressElement)) (with_x Production.ExpressionElement) unchanged)))))
+    (cond (nat_eq rule (number_of Production.AddressElement)) (with_x Production.ExpressionElement)
+    (cond (nat_eq rule (number_of Production.Array)) with_a unchanged))))))
 
 unfoldable pub changed : Change → Rule → (taken : List ℕ) → Forest → Tree
 changed with_rest rule taken parts = branch (rule_of Production.NestTemplate) taken (with_rest_or_end parts)
@@ -85,6 +94,7 @@ changed within_name rule taken parts = operator_component taken parts
 changed with_g rule taken parts = variable_with_g taken parts
 changed with_t rule taken parts = type_without_tags taken parts
 changed (with_x own) rule taken parts = address_as_expression own rule taken parts
+changed with_a rule taken parts = array_behind_letter taken parts
 changed unchanged rule taken parts = branch rule taken parts
 
 -- a tree of a kind whose parts are widened

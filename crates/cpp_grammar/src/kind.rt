@@ -90,6 +90,8 @@ pub enum Kind {
     MaybeTags,
     Expression,
     ExpressionRest,
+    AnyArray,
+    ArrayRest,
 }
 
 /// The kind with a number.
@@ -182,6 +184,8 @@ pub fn kind_of(number: u16) -> Option<Kind>
         81 => Some(Kind::MaybeTags),
         82 => Some(Kind::Expression),
         83 => Some(Kind::ExpressionRest),
+        84 => Some(Kind::AnyArray),
+        85 => Some(Kind::ArrayRest),
         _ => None,
     }
 }

@@ -177,6 +177,10 @@ const EXPRESSION: Sym = Sym::Kind(82);
 
 const EXPRESSION_REST: Sym = Sym::Kind(83);
 
+const ANY_ARRAY: Sym = Sym::Kind(84);
+
+const ARRAY_REST: Sym = Sym::Kind(85);
+
 const NAME: Sym = Sym::Name;
 
 const DECIMAL: Sym = Sym::Number(NumberKind::Decimal);
@@ -189,7 +193,7 @@ const DIGITS: Sym = Sym::Number(NumberKind::Digits);
 pub const FIRST_LETTER: u8 = b'!';
 
 // For each kind a row: for each byte from `$` to `z` the letter of the production that the kind takes there.
-static LETTERS: [[u8; 87]; 84] = [
+static LETTERS: [[u8; 87]; 86] = [
     // $%&'()*+,-./0123456789:;<=>?@ABCDEFGHIJKLMNOPQRSTUVWXYZ[\]^_`abcdefghijklmnopqrstuvwxyz
     *b"                                                           *                           ", // Symbol
     *b"          +                                                                            ", // MaybeSuffix
@@ -261,7 +265,7 @@ static LETTERS: [[u8; 87]; 84] = [
     *b"                                     t                                                 ", // ArgumentsAlone
     *b"            EEEEEEEEEE         EE    D  E        E           E EEE E E  EEEEE EE       ", // NestRestAlone
     *b"                                         !                                             ", // HolderMark
-    *b"            $$$$$$$$$$         GH       \"        #           \xa0 \x9f\xa0\xa0 \xa0 \xa0  \xa0\xa0\xa0\xa0\xa0 \xa0\xa0       ", // HeldComponent
+    *b"            $$$$$$$$$$         GH       \"        #           \xa3 \xa2\xa3\xa3 \xa3 \xa3  \xa3\xa3\xa3\xa3\xa3 \xa3\xa3       ", // HeldComponent
     *b"                                                           !  !                     !  ", // FloatEnd
     *b"                                                                        \x93\x93 \x93      \x92    ", // ComponentAfterC
     *b"                                                             \x85  \x84\x8b \x8f \x8e  \x8c\x88\x83\x8a\x86 \x89\x8d       ", // OtherOperator
@@ -269,12 +273,14 @@ static LETTERS: [[u8; 87]; 84] = [
     *b"            $$$$$$$$$$                  \" )      #                                     ", // PlainEntity
     *b"            $$$$$$$$$$                  \" K      #                                     ", // PlainTypeEntity
     *b"                                   !                                                   ", // SpecialMark
-    *b"                                                \x94 \x9b                                    ", // SpecialAfterG
+    *b"                                                \x94 \x9e                                    ", // SpecialAfterG
     *b"                                                                          !     !      ", // CloneLetter
     *b"                                                                                \x95      ", // TypeInStd
     *b"                              \x96                                                        ", // MaybeTags
     *b"                                                    \x97                                  ", // Expression
     *b"                                                \x99            \x98                         ", // ExpressionRest
+    *b"                             \x9a                                                         ", // AnyArray
+    *b"            \x9c\x9c\x9c\x9c\x9c\x9c\x9c\x9c\x9c\x9c                          \x9b          \x9c                           ", // ArrayRest
 ];
 
 /// A rule without its number and its symbols.
@@ -304,7 +310,7 @@ macro_rules! chains {
 }
 
 // The rules of the productions, in the order of their numbers.
-pub static HEADS: [Head; 136] = [
+pub static HEADS: [Head; 140] = [
     takes!(0), // ! Mark
     takes!(2), // \" InternalName
     takes!(2), // # LocalTypeName
@@ -426,25 +432,29 @@ pub static HEADS: [Head; 136] = [
     takes!(1), // \x97 Expression
     takes!(2), // \x98 AddressExpression
     takes!(2), // \x99 ParameterExpression
-    chains!(2), // \x9a OtherSpecial
-    takes!(1), // \x9b SpecialName
-    takes!(4), // \x9c ConstructionVtable
-    chains!(2), // \x9d NestTemplate
-    takes!(2), // \x9e NestTag
-    takes!(1), // \x9f ComponentWithC
-    chains!(2), // \xa0 OtherOperatorName
-    chains!(2), // \xa1 Holder
-    takes!(2), // \xa2 DefaultEntity
-    takes!(2), // \xa3 DefaultTypeEntity
-    takes!(2), // \xa4 SizedFloat
-    chains!(1), // \xa5 TypeInStd
-    takes!(2), // \xa6 Tag
-    chains!(2), // \xa7 ExpressionElement
-    chains!(2), // \xa8 ExpressionArgument
+    takes!(1), // \x9a AnyArray
+    takes!(3), // \x9b BoundedArray
+    chains!(2), // \x9c LengthArray
+    chains!(2), // \x9d OtherSpecial
+    takes!(1), // \x9e SpecialName
+    takes!(4), // \x9f ConstructionVtable
+    chains!(2), // \xa0 NestTemplate
+    takes!(2), // \xa1 NestTag
+    takes!(1), // \xa2 ComponentWithC
+    chains!(2), // \xa3 OtherOperatorName
+    chains!(2), // \xa4 Holder
+    takes!(2), // \xa5 DefaultEntity
+    takes!(2), // \xa6 DefaultTypeEntity
+    takes!(2), // \xa7 SizedFloat
+    chains!(1), // \xa8 ArrayType
+    chains!(1), // \xa9 TypeInStd
+    takes!(2), // \xaa Tag
+    chains!(2), // \xab ExpressionElement
+    chains!(2), // \xac ExpressionArgument
 ];
 
 // The symbols of the rules, in the same order.
-pub static SYMBOLS: [Sym; 822] = symbols_listed! {
+pub static SYMBOLS: [Sym; 846] = symbols_listed! {
     [NONE, NONE, NONE, NONE, NONE], // ! Mark
     [NAME, MAYBE_ARGUMENTS, NONE, NONE, NONE], // \" InternalName
     [ANONYMOUS, MAYBE_ARGUMENTS, NONE, NONE, NONE], // # LocalTypeName
@@ -566,28 +576,32 @@ pub static SYMBOLS: [Sym; 822] = symbols_listed! {
     [EXPRESSION_REST, NONE, NONE, NONE, NONE], // \x97 Expression
     [Sym::Byte(b'd'), ADDRESS, NONE, NONE, NONE], // \x98 AddressExpression
     [DECIMAL, Sym::Byte(b'E'), NONE, NONE, NONE], // \x99 ParameterExpression
-    [SPECIAL_MARK, SPECIAL_AFTER_G, NONE, NONE, NONE], // \x9a OtherSpecial
-    [COMPLETE_NAME, NONE, NONE, NONE, NONE], // \x9b SpecialName
-    [TYPE, DIGITS, Sym::Byte(b'_'), TYPE, NONE], // \x9c ConstructionVtable
-    [ABBREVIATION, NEST_REST_OR_END, NONE, NONE, NONE], // \x9d NestTemplate
-    [NAME, NEST_REST, NONE, NONE, NONE], // \x9e NestTag
-    [COMPONENT_AFTER_C, NONE, NONE, NONE, NONE], // \x9f ComponentWithC
-    [OTHER_OPERATOR, MAYBE_ARGUMENTS, NONE, NONE, NONE], // \xa0 OtherOperatorName
-    [HOLDER_MARK, HELD_COMPONENT, NONE, NONE, NONE], // \xa1 Holder
-    [DECIMAL, PLAIN_ENTITY, NONE, NONE, NONE], // \xa2 DefaultEntity
-    [DECIMAL, PLAIN_TYPE_ENTITY, NONE, NONE, NONE], // \xa3 DefaultTypeEntity
-    [DIGITS, FLOAT_END, NONE, NONE, NONE], // \xa4 SizedFloat
-    [TYPE_IN_STD, NONE, NONE, NONE, NONE], // \xa5 TypeInStd
-    [NAME, MAYBE_ARGUMENTS, NONE, NONE, NONE], // \xa6 Tag
-    [EXPRESSION, PACK_LIST, NONE, NONE, NONE], // \xa7 ExpressionElement
-    [EXPRESSION, ARGUMENT_LIST, NONE, NONE, NONE], // \xa8 ExpressionArgument
+    [ARRAY_REST, NONE, NONE, NONE, NONE], // \x9a AnyArray
+    [DECIMAL, Sym::Byte(b'_'), TYPE, NONE, NONE], // \x9b BoundedArray
+    [DECIMAL, TYPE, NONE, NONE, NONE], // \x9c LengthArray
+    [SPECIAL_MARK, SPECIAL_AFTER_G, NONE, NONE, NONE], // \x9d OtherSpecial
+    [COMPLETE_NAME, NONE, NONE, NONE, NONE], // \x9e SpecialName
+    [TYPE, DIGITS, Sym::Byte(b'_'), TYPE, NONE], // \x9f ConstructionVtable
+    [ABBREVIATION, NEST_REST_OR_END, NONE, NONE, NONE], // \xa0 NestTemplate
+    [NAME, NEST_REST, NONE, NONE, NONE], // \xa1 NestTag
+    [COMPONENT_AFTER_C, NONE, NONE, NONE, NONE], // \xa2 ComponentWithC
+    [OTHER_OPERATOR, MAYBE_ARGUMENTS, NONE, NONE, NONE], // \xa3 OtherOperatorName
+    [HOLDER_MARK, HELD_COMPONENT, NONE, NONE, NONE], // \xa4 Holder
+    [DECIMAL, PLAIN_ENTITY, NONE, NONE, NONE], // \xa5 DefaultEntity
+    [DECIMAL, PLAIN_TYPE_ENTITY, NONE, NONE, NONE], // \xa6 DefaultTypeEntity
+    [DIGITS, FLOAT_END, NONE, NONE, NONE], // \xa7 SizedFloat
+    [ANY_ARRAY, NONE, NONE, NONE, NONE], // \xa8 ArrayType
+    [TYPE_IN_STD, NONE, NONE, NONE, NONE], // \xa9 TypeInStd
+    [NAME, MAYBE_ARGUMENTS, NONE, NONE, NONE], // \xaa Tag
+    [EXPRESSION, PACK_LIST, NONE, NONE, NONE], // \xab ExpressionElement
+    [EXPRESSION, ARGUMENT_LIST, NONE, NONE, NONE], // \xac ExpressionArgument
 };
 
 /// The number of the rule that a kind takes at a byte, if it takes one.
 #[inline]
 fn number(kind: u16, byte: u8) -> Option<usize>
     requires { kind < abi.kinds }
-    ensures few { IfSome result (λ number. number < 136) }
+    ensures few { IfSome result (λ number. number < 140) }
     ensures rule { (head : Head) → MatchOption result (abi.rule kind byte ≡ None) (λ number. abi.rule kind byte ≡ Some (listed_rule head number)) }
 {
     match letter_in(&LETTERS[kind as usize], byte) {

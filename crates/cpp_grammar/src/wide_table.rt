@@ -8,14 +8,14 @@ use crate::table::{FIRST_LETTER, HEADS, SYMBOLS};
 use sym_shape::{Rule, letter_in, place_of, symbols_from};
 
 // For each kind a row: for each byte from `$` to `z` the letter of the production that the kind takes there.
-static WIDE_LETTERS: [[u8; 87]; 84] = [
+static WIDE_LETTERS: [[u8; 87]; 86] = [
     // $%&'()*+,-./0123456789:;<=>?@ABCDEFGHIJKLMNOPQRSTUVWXYZ[\]^_`abcdefghijklmnopqrstuvwxyz
     *b"                                                           *                           ", // Symbol
     *b"          +                                                                            ", // MaybeSuffix
     *b",         , ,,,,,,,,,,       ,,,,,,,,,,,,,,,,,,,,,,,,,,    , ,,,,,,,,,,,,,,,,,,,,,,,,,,", // SuffixFirst
     *b",         , ,,,,,,,,,,       ,,,,,,,,,,,,,,,,,,,,,,,,,,    , ,,,,,,,,,,,,,,,,,,,,,,,,,,", // SuffixMore
-    *b"            //////////             \x9a    / /    /-/    /      / /// / /  ///// //       ", // Encoding
-    *b"                               \x9c    \x9b0         00 0\x9b           3    1             2    ", // Special
+    *b"            //////////             \x9d    / /    /-/    /      / /// / /  ///// //       ", // Encoding
+    *b"                               \x9f    \x9e0         00 0\x9e           3    1             2    ", // Special
     *b"                                                                    4             5    ", // CallOffset
     *b"            7777777777                                                    6            ", // Integer
     *b"            $$$$$$$$$$                  \" )    8 #    9      % %%% % %  %%%%% %%       ", // CompleteName
@@ -26,15 +26,15 @@ static WIDE_LETTERS: [[u8; 87]; 84] = [
     *b"            ;;;;;;;;;;       ;;;;;;;;;;;;;;;;;;;;;;;;;;    ; ;; ;    ;     ;   ;:      ", // NameAfterS
     *b"            ((((((((((                  &        '           < <<< < <  <<<<< <<       ", // Unqualified
     *b"            AAAAAAAAAA                  ?      =>@                                     ", // Nest
-    *b"            \x9d\x9d\x9d\x9d\x9d\x9d\x9d\x9d\x9d\x9d       \x9d\x9d\x9d\x9d\x9d\x9d\x9d\x9d\x9d\x9d\x9d\x9d\x9d\x9d\x9d\x9d\x9d\x9d\x9d\x9d\x9d\x9d\x9d\x9d\x9d\x9d    \x9d \x9d\x9d \x9d    \x9d     \x9d   \x9dB      ", // NestAfterS
-    *b"            EEEEEEEEEE        \x9eEE    D  EE       E           E EEE E E  EEEEE EE       ", // NestRest
+    *b"            \xa0\xa0\xa0\xa0\xa0\xa0\xa0\xa0\xa0\xa0       \xa0\xa0\xa0\xa0\xa0\xa0\xa0\xa0\xa0\xa0\xa0\xa0\xa0\xa0\xa0\xa0\xa0\xa0\xa0\xa0\xa0\xa0\xa0\xa0\xa0\xa0    \xa0 \xa0\xa0 \xa0    \xa0     \xa0   \xa0B      ", // NestAfterS
+    *b"            EEEEEEEEEE        \xa1EE    D  EE       E           E EEE E E  EEEEE EE       ", // NestRest
     *b"            EEEEEEEEEE         EEF      EE       E           E EEE E E  EEEEE EE       ", // NestTail
-    *b"            $$$$$$$$$$         GH       \"\xa1       #           \xa0 \x9f\xa0\xa0 \xa0 \xa0  \xa0\xa0\xa0\xa0\xa0 \xa0\xa0       ", // Component
+    *b"            $$$$$$$$$$         GH       \"\xa4       #           \xa3 \xa2\xa3\xa3 \xa3 \xa3  \xa3\xa3\xa3\xa3\xa3 \xa3\xa3       ", // Component
     *b"             !!!!!                                                                     ", // ConstructorDigit
     *b"            !!! !!                                                                     ", // DestructorDigit
     *b"            JJJJJJJJJJ       JJJJJJJJJJJJJJJJJJJJJJJJJJ    J II I    I     I   I       ", // Abbreviation
-    *b"            $$$$$$$$$$                  \" )      #              \xa2              L       ", // Entity
-    *b"            $$$$$$$$$$                  \" K      #              \xa3                      ", // TypeEntity
+    *b"            $$$$$$$$$$                  \" )      #              \xa5              L       ", // Entity
+    *b"            $$$$$$$$$$                  \" K      #              \xa6                      ", // TypeEntity
     *b"                                                           M                           ", // MaybeDiscriminator
     *b"            NNNNNNNNNN                                     O                           ", // DiscriminatorRest
     *b"                                                                        P       Q      ", // Anonymous
@@ -43,19 +43,19 @@ static WIDE_LETTERS: [[u8; 87]; 84] = [
     *b"            VVVVVVVVVV       V VZ V    T VVUV UVVVS   V      VVVVVVVVVV VVVV  RVVVVVVVV", // Item
     *b"            VVVVVVVVVV       V VZ V    T VV V  VVVS   V      VVVVVVVVVV VVVV  RVVVVVVVV", // ItemButRef
     *b"                                  \\                          \\ \\\\\\\\ \\\\    \\\\[  \\ \\\\    ", // ItemAfterD
-    *b"                                  \xa4                          ] ]]]] ]]    ]_   ] ]^    ", // AfterD
-    *b"            $$$$$$$$$$       g i  h      aK `  cb#    d      eeeeeeeeee eeee   eefeeeee", // Solid
+    *b"                                  \xa7                          ] ]]]] ]]    ]_   ] ]^    ", // AfterD
+    *b"            $$$$$$$$$$       \xa8 i  h      aK `  cb#    d      eeeeeeeeee eeee   eefeeeee", // Solid
     *b"                                                     !                                 ", // MaybeCLinkage
-    *b"            kkkkkkkkkk       kkkkkkkkkkkkkkkkkkkkkkkkkk    k kk k    k     k   k\xa5      ", // TypeAfterS
+    *b"            kkkkkkkkkk       kkkkkkkkkkkkkkkkkkkkkkkkkk    k kk k    k     k   k\xa9      ", // TypeAfterS
     *b"            ((((((((((                  &        '                                     ", // SourceOrLocal
     *b"            oooooooooo       o oolo    o oono moooo   o      oooooooooo oooo  ooooooooo", // FunctionRest
     *b"            qqqqqqqqqq       q qqpq    q qqqq qqqqq   q      qqqqqqqqqq qqqq  qqqqqqqqq", // AfterR
     *b"            rrrrrrrrrr       r rrpr    r rrrr rrrrr   r      rrrrrrrrrr rrrr  rrrrrrrrr", // AfterO
     *b"            ssssssssss       s ss s    s ssss sssss   s      ssssssssss ssss  sssssssss", // Items
-    *b"                              \xa6      t                                                 ", // MaybeArguments
+    *b"                              \xaa      t                                                 ", // MaybeArguments
     *b"                                     t                                                 ", // Arguments
-    *b"            xxxxxxxxxx       x xx x   uxvxxxx xxxxx \xa8 x      xxxxxxxxxx xxxx  xxxxxxxxx", // ArgumentList
-    *b"            {{{{{{{{{{       { {{ {    {y{{{{ {{{{{ \xa7 {      {{{{{{{{{{ {{{{  {{{{{{{{{", // PackList
+    *b"            xxxxxxxxxx       x xx x   uxvxxxx xxxxx \xac x      xxxxxxxxxx xxxx  xxxxxxxxx", // ArgumentList
+    *b"            {{{{{{{{{{       { {{ {    {y{{{{ {{{{{ \xab {      {{{{{{{{{{ {{{{  {{{{{{{{{", // PackList
     *b"                                        |                                              ", // Address
     *b"            \x80\x80\x80\x80\x80\x80\x80\x80\x80\x80          \x7f        \x80\x80 \x80  \x80\x80\x80    \x80    } \x80~\x80    \x80\x80\x80 \x80\x80\x80\x80   \x80\x80  \x80\x80\x80 ", // Literal
     *b"            !!                                                                         ", // Bit
@@ -80,27 +80,29 @@ static WIDE_LETTERS: [[u8; 87]; 84] = [
     *b"                                     t                                                 ", // ArgumentsAlone
     *b"            EEEEEEEEEE         EE    D  EE       E           E EEE E E  EEEEE EE       ", // NestRestAlone
     *b"                                         !                                             ", // HolderMark
-    *b"            $$$$$$$$$$         GH       \"        #           \xa0 \x9f\xa0\xa0 \xa0 \xa0  \xa0\xa0\xa0\xa0\xa0 \xa0\xa0       ", // HeldComponent
+    *b"            $$$$$$$$$$         GH       \"        #           \xa3 \xa2\xa3\xa3 \xa3 \xa3  \xa3\xa3\xa3\xa3\xa3 \xa3\xa3       ", // HeldComponent
     *b"                                                           !  !                     !  ", // FloatEnd
     *b"                                                                        \x93\x93 \x93      \x92    ", // ComponentAfterC
     *b"                                                             \x85  \x84\x8b \x8f \x8e  \x8c\x88\x83\x8a\x86 \x89\x8d       ", // OtherOperator
-    *b"            xxxxxxxxxx       x xx x  uuxvxxxx xxxxx \xa8 x      xxxxxxxxxx xxxx  xxxxxxxxx", // ArgumentsFirst
+    *b"            xxxxxxxxxx       x xx x  uuxvxxxx xxxxx \xac x      xxxxxxxxxx xxxx  xxxxxxxxx", // ArgumentsFirst
     *b"            $$$$$$$$$$                  \" )      #                                     ", // PlainEntity
     *b"            $$$$$$$$$$                  \" K      #                                     ", // PlainTypeEntity
     *b"                                   !                                                   ", // SpecialMark
-    *b"                                                \x94 \x9b                                    ", // SpecialAfterG
+    *b"                                                \x94 \x9e                                    ", // SpecialAfterG
     *b"                                                                          !     !      ", // CloneLetter
     *b"                                                                                \x95      ", // TypeInStd
     *b"                              \x96                                                        ", // MaybeTags
     *b"                                                    \x97                                  ", // Expression
     *b"                                                \x99            \x98                         ", // ExpressionRest
+    *b"                             \x9a                                                         ", // AnyArray
+    *b"            \x9c\x9c\x9c\x9c\x9c\x9c\x9c\x9c\x9c\x9c                          \x9b          \x9c                           ", // ArrayRest
 ];
 
 /// The number of the rule that a kind takes at a byte, if it takes one.
 #[inline]
 fn number(kind: u16, byte: u8) -> Option<usize>
     requires { kind < wide.kinds }
-    ensures few { IfSome result (λ number. number < 136) }
+    ensures few { IfSome result (λ number. number < 140) }
     ensures rule { (head : Head) → MatchOption result (wide.rule kind byte ≡ None) (λ number. wide.rule kind byte ≡ Some (listed_rule head number)) }
 {
     match letter_in(&WIDE_LETTERS[kind as usize], byte) {

@@ -48,6 +48,8 @@ any_byte s Production.TypeArgument b c around place began vs state chain = refl
 any_byte s Production.TypeElement b c around place began vs state chain = refl
 any_byte s Production.ExpressionArgument b c around place began vs state chain = refl
 any_byte s Production.ExpressionElement b c around place began vs state chain = refl
+any_byte s Production.ArrayType b c around place began vs state chain = refl
+any_byte s Production.LengthArray b c around place began vs state chain = refl
 any_byte s Production.IntegerLiteral b c around place began vs state chain = refl
 any_byte s _ b c around place began vs state chain = absurd (false≢true chain)
 

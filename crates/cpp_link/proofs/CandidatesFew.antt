@@ -37,6 +37,7 @@ unfoldable pub becomes_candidate : ℕ → Bool
 becomes_candidate k =
     nat_eq k 15 || nat_eq k 16 || nat_eq k 17 || nat_eq k 18 || nat_eq k 22
     || nat_eq k 32 || nat_eq k 33 || nat_eq k 34 || nat_eq k 36 || nat_eq k 51 || nat_eq k 66 || nat_eq k 68 || nat_eq k 80
+    || nat_eq k 84 || nat_eq k 85
 
 -- what goes on with the name so far, and arguments behind it
 unfoldable pub goes_on : ℕ → Bool
@@ -116,6 +117,10 @@ may_leave Production.AbbreviatedType = true
 may_leave Production.SizedFloat = true
 may_leave Production.TaggedStdType = true
 may_leave Production.TypeInStd = true
+may_leave Production.ArrayType = true
+may_leave Production.AnyArray = true
+may_leave Production.LengthArray = true
+may_leave Production.BoundedArray = true
 may_leave _ = false
 
 -- what goes on with the name so far

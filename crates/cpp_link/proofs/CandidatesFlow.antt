@@ -9,7 +9,7 @@ use Rattle.sym_shape.specs.declared.rule.Sym.TheVariants.{Kind as OfKind, Name, 
 use Rattle.sym_link.specs.Reading.{Found, Next}
 use Rattle.sym_link.specs.Unfold.{found}
 use Rattle.cpp_grammar.specs.declared.production.Production.{Production}
-use Rattle.cpp_grammar.specs.KindNumbers.{INTEGER, UNQUALIFIED, NEST, NEST_AFTER_S, NEST_REST, NEST_REST_OR_END, NEST_REST_ALONE, ARGUMENTS_ALONE, NEST_TAIL, COMPONENT, HOLDER_MARK, HELD_COMPONENT, COMPONENT_AFTER_C, OPERATOR_AFTER_C, OTHER_OPERATOR, CONSTRUCTOR_DIGIT, DESTRUCTOR_DIGIT, ABBREVIATION, ANONYMOUS, ITEM_AFTER_D, AFTER_D, SOLID, TYPE_AFTER_S, TYPE_IN_STD, SOURCE_OR_LOCAL, MAYBE_TAGS, MAYBE_ARGUMENTS, ARGUMENTS, ARGUMENTS_FIRST, LITERAL_TYPE, OPERATOR}
+use Rattle.cpp_grammar.specs.KindNumbers.{INTEGER, UNQUALIFIED, NEST, NEST_AFTER_S, NEST_REST, NEST_REST_OR_END, NEST_REST_ALONE, ARGUMENTS_ALONE, NEST_TAIL, COMPONENT, HOLDER_MARK, HELD_COMPONENT, COMPONENT_AFTER_C, OPERATOR_AFTER_C, OTHER_OPERATOR, CONSTRUCTOR_DIGIT, DESTRUCTOR_DIGIT, ABBREVIATION, ANONYMOUS, ITEM_AFTER_D, AFTER_D, SOLID, TYPE_AFTER_S, TYPE_IN_STD, SOURCE_OR_LOCAL, MAYBE_TAGS, ANY_ARRAY, ARRAY_REST, MAYBE_ARGUMENTS, ARGUMENTS, ARGUMENTS_FIRST, LITERAL_TYPE, OPERATOR}
 use Rattle.cpp_grammar.specs.Grammar.{parts_of, number_of_kind}
 use Rattle.cpp_grammar.proofs.ClosedStates.{ok_same}
 use Rattle.cpp_term.specs.Term.{Term, source, operator, constructor, destructor, in_std, instance, holder, pack, lvalue, rvalue}
@@ -481,6 +481,13 @@ parameter-keeps around place (v ∷ []) state next e = omega (arith, argument-no
 parameter-keeps around place (v ∷ w ∷ vs) state next e = kept (v ∷ w ∷ vs) around state next
     (makes_before Production.ParameterExpression (v ∷ w ∷ vs)) e
 
+bounded-keeps : (around : Around) (place : ℕ) → Keeps Production.BoundedArray around place
+unfolding between makes_before made_before
+bounded-keeps around place [] state next e = kept [] around state next 0 e
+bounded-keeps around place (v ∷ []) state next e = omega (arith, argument-none around place (index_of v) state next e)
+bounded-keeps around place (v ∷ w ∷ vs) state next e = kept (v ∷ w ∷ vs) around state next
+    (makes_before Production.BoundedArray (v ∷ w ∷ vs)) e
+
 lvalue-keeps : (around : Around) (place : ℕ) → Keeps Production.LvalueItem around place
 unfolding between makes_before made_before
 lvalue-keeps around place [] state next e = kept [] around state next 0 e
@@ -615,6 +622,15 @@ flows Production.LocalType around place = plain-flow Production.LocalType around
 flows Production.PackArgument around place = plain-flow Production.PackArgument around place (pack-keeps around place)
     (plain-closes Production.PackArgument around place (λ byte began vs state. refl) (λ byte began vs state. refl)
     (λ byte vs. omega arith)) (parts_of Production.PackArgument) refl []
+flows Production.ArrayType around place = value-flow Production.ArrayType around place (OfKind ANY_ARRAY) (λ a v. refl) (λ v. refl)
+    (λ state. refl)
+    (λ v. same-closes Production.ArrayType around place (v ∷ []) v (λ u. refl) (λ byte began state. refl))
+flows Production.AnyArray around place = value-flow Production.AnyArray around place (OfKind ARRAY_REST) (λ a v. refl) (λ v. refl)
+    (λ state. refl)
+    (λ v. same-closes Production.AnyArray around place (v ∷ []) v (λ u. refl) (λ byte began state. refl))
+flows Production.BoundedArray around place = plain-flow Production.BoundedArray around place (bounded-keeps around place)
+    (plain-closes Production.BoundedArray around place (λ byte began vs state. refl) (λ byte began vs state. refl)
+    (λ byte vs. omega arith)) (parts_of Production.BoundedArray) refl []
 flows Production.ParameterExpression around place = plain-flow Production.ParameterExpression around place (parameter-keeps around place)
     (plain-closes Production.ParameterExpression around place (λ byte began vs state. refl) (λ byte began vs state. refl)
     (λ byte vs. omega arith)) (parts_of Production.ParameterExpression) refl []

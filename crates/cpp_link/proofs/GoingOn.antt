@@ -181,6 +181,8 @@ quiet_between Production.TypeTag around place [] state less = refl
 quiet_between Production.TypeTag around place (v ∷ vs) state less = absurd (not_first vs less)
 quiet_between Production.ParameterExpression around place [] state less = refl
 quiet_between Production.ParameterExpression around place (v ∷ vs) state less = absurd (not_first vs less)
+quiet_between Production.BoundedArray around place [] state less = refl
+quiet_between Production.BoundedArray around place (v ∷ vs) state less = absurd (not_first vs less)
 quiet_between _ around place vs state less = refl
 
 pub quiet_right : (s : List ℕ) (old : Linked) (frame : Frame Kept) (parts : List Part) (held : ℕ)

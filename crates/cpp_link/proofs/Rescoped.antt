@@ -98,6 +98,15 @@ apart_between Production.ParameterExpression around place (v ∷ []) state apart
         → elim b [ true ↦ own | false ↦ argument_so_far around place (index_of v) state ] ≡ argument_so_far around place (index_of v) state
     go true e = absurd (true≢false e)
     go false e = refl
+apart_between Production.BoundedArray around place (v ∷ []) state apart = go around.in_lambda apart
+  where
+    own : Going
+    own = next (tree (generic_parameter (generic_number (index_of v))) true ∷ []) around state
+
+    go : (b : Bool) → (b && true && nat_eq (length (v ∷ [])) 1) ≡ false
+        → elim b [ true ↦ own | false ↦ argument_so_far around place (index_of v) state ] ≡ argument_so_far around place (index_of v) state
+    go true e = absurd (true≢false e)
+    go false e = refl
 apart_between p around place vs state apart = refl
 
 -- what is done before the next part of the open rule of the reading, in terms of the frame
@@ -318,6 +327,8 @@ generic_between Production.Parameter around place v state is lambda =
 generic_between Production.NestParameter around place v state is lambda =
     ap (λ b. elim b as (λ _. Going) [ true ↦ generic_so_far around (index_of v) [] state | false ↦ parameter_so_far around place (index_of v) [] state ]) lambda
 generic_between Production.ParameterExpression around place v state is lambda =
+    ap (λ b. elim b as (λ _. Going) [ true ↦ next (tree (generic_parameter (generic_number (index_of v))) true ∷ []) around state | false ↦ argument_so_far around place (index_of v) state ]) lambda
+generic_between Production.BoundedArray around place v state is lambda =
     ap (λ b. elim b as (λ _. Going) [ true ↦ next (tree (generic_parameter (generic_number (index_of v))) true ∷ []) around state | false ↦ argument_so_far around place (index_of v) state ]) lambda
 generic_between _ around place v state is lambda = absurd (false≢true is)
 

@@ -30,6 +30,7 @@ unfolding between named_so_far listed_so_far piece_so_far tag_so_far
 between_counts Production.NestParameter around place (v ∷ []) state = parameter_counts around place (index_of v) [] state
 between_counts Production.Parameter around place (v ∷ []) state = parameter_counts around place (index_of v) [] state
 between_counts Production.ParameterExpression around place (v ∷ []) state = argument_counts around place (index_of v) state
+between_counts Production.BoundedArray around place (v ∷ []) state = argument_counts around place (index_of v) state
 between_counts Production.Symbol around place [] state = refl
 between_counts _ around place [] state = refl
 between_counts _ around place (v ∷ []) state = refl

@@ -55,6 +55,7 @@ behind_bytes Production.LiteralArgument held = over 1 held
 behind_bytes Production.LiteralElement held = over 1 held
 behind_bytes Production.ConstructionVtable held = over 2 held
 behind_bytes Production.AddressExpression held = at_least 1 held
+behind_bytes Production.BoundedArray held = over 1 held
 behind_bytes _ held = held
 
 -- in a rule that begins with a list of arguments

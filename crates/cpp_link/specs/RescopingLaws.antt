@@ -47,6 +47,7 @@ unfolding between_wide
 wide_between_counts Production.NestParameter around place (v ∷ []) state = here_counts around place (index_of v) [] state
 wide_between_counts Production.Parameter around place (v ∷ []) state = here_counts around place (index_of v) [] state
 wide_between_counts Production.ParameterExpression around place (v ∷ []) state = argument_here_counts around place (index_of v) state
+wide_between_counts Production.BoundedArray around place (v ∷ []) state = argument_here_counts around place (index_of v) state
 wide_between_counts p around place vs state = between_counts p around place vs state
 
 -- ## The language

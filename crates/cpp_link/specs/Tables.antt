@@ -46,6 +46,7 @@ quiet_parts Production.OperatorNameWithC = 1
 quiet_parts Production.TaggedStdType = 1
 quiet_parts Production.TypeTag = 1
 quiet_parts Production.ParameterExpression = 1
+quiet_parts Production.BoundedArray = 1
 quiet_parts _ = 5
 
 -- parts without a row may stand between those with one
@@ -75,4 +76,5 @@ skips_parts Production.Function = true
 skips_parts Production.PackArgument = true
 skips_parts Production.ConstructionVtable = true
 skips_parts Production.AddressExpression = true
+skips_parts Production.BoundedArray = true
 skips_parts _ = false

@@ -109,6 +109,7 @@ fn behind_bytes(production: Production, held: usize) -> usize
         Production::LiteralElement => over(1, held),
         Production::ConstructionVtable => over(2, held),
         Production::AddressExpression => at_least(1, held),
+        Production::BoundedArray => over(1, held),
         _ => held,
     }
 }

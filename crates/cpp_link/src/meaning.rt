@@ -263,6 +263,26 @@ impl Linked {
             Production::Vendor => made(Node::Vendor(self.text(symbol, parts, 0)), false),
             // <type> ::= C <type>
             Production::Complex => made(Node::Complex(self.tree(symbol, parts, 0)), false),
+            // <array-type> ::= A <number> _ <element type> | A <expression> _ <element type>
+            Production::ArrayType => Meant::Given(self.given(symbol, parts, 0)),
+            // <array-type>, behind the A
+            Production::AnyArray => Meant::Given(self.given(symbol, parts, 0)),
+            // <array-type> ::= A <number> _ <element type>, behind the A
+            Production::LengthArray => made(
+                Node::Array {
+                    digits: normal(symbol, self.text(symbol, parts, 0)),
+                    element: self.tree(symbol, parts, 1),
+                },
+                false,
+            ),
+            // <array-type> ::= A <template-param> _ <element type>, behind the A
+            Production::BoundedArray => made(
+                Node::Bounded {
+                    bound: self.tree(symbol, parts, 0),
+                    element: self.tree(symbol, parts, 2),
+                },
+                false,
+            ),
             // <pointer-to-member-type> ::= M <class type> <member type>
             Production::MemberPointer => made(
                 Node::MemberPointer {

@@ -241,7 +241,7 @@ impl Linked {
         }
     }
 
-    /// The same where the parameter is an argument itself: it is no name to go on with, and no candidate.
+    /// The same where the parameter is an argument itself, or the length of an array: it is no name to go on with, and no candidate.
     ///
     /// # Errors
     ///

@@ -66,17 +66,19 @@ pub fn is_parameter(production: Production) -> bool
         Production::Parameter => true,
         Production::NestParameter => true,
         Production::ParameterExpression => true,
+        Production::BoundedArray => true,
         _ => false,
     }
 }
 
-/// Whether a production is a parameter that is an argument itself.
+/// Whether a production is a parameter that is an argument itself, or the length of an array.
 #[tactic(auto, unfolding(crate::specs::LinkRescoping::is_parameter_argument))]
 fn is_parameter_argument(production: Production) -> bool
     ensures { result ≡ is_parameter_argument production }
 {
     match production {
         Production::ParameterExpression => true,
+        Production::BoundedArray => true,
         _ => false,
     }
 }

@@ -378,6 +378,7 @@ impl Linked {
         requires parameter { production ≡ productions.Parameter → ⊥ }
         requires nest { production ≡ productions.NestParameter → ⊥ }
         requires expression { production ≡ productions.ParameterExpression → ⊥ }
+        requires length { production ≡ productions.BoundedArray → ⊥ }
         requires pack { production ≡ productions.PackArgument → ⊥ }
         ensures is { (cs : List values.Candidate) → between production (around_of (trees_in symbol.now self.now.nodes) kept) place (value_in symbol.now self.now.nodes first ∷ []) (record { candidates = cs; packs = self.now.packs }) ≡ goes_on symbol.now self.now.nodes kept (value_in symbol.now self.now.nodes first ∷ []) cs self.now.packs result }
         ensures there { IsStepThere symbol.now (length self.now.nodes.thunks) (length self.now.nodes.nodes) result }
@@ -750,6 +751,10 @@ impl Linked {
                 self.parameter(symbol, kept, place, digits)
             }
             Production::ParameterExpression => {
+                let digits = self.text_in(symbol, first);
+                self.parameter_argument(symbol, kept, place, digits)
+            }
+            Production::BoundedArray => {
                 let digits = self.text_in(symbol, first);
                 self.parameter_argument(symbol, kept, place, digits)
             }

@@ -3,7 +3,7 @@
 use cpp_grammar::production::Production;
 
 /// The productions.
-pub(crate) const PRODUCTIONS: [Production; 136] = [
+pub(crate) const PRODUCTIONS: [Production; 140] = [
     Production::Mark,
     Production::InternalName,
     Production::LocalTypeName,
@@ -125,6 +125,9 @@ pub(crate) const PRODUCTIONS: [Production; 136] = [
     Production::Expression,
     Production::AddressExpression,
     Production::ParameterExpression,
+    Production::AnyArray,
+    Production::BoundedArray,
+    Production::LengthArray,
     Production::OtherSpecial,
     Production::SpecialName,
     Production::ConstructionVtable,
@@ -136,6 +139,7 @@ pub(crate) const PRODUCTIONS: [Production; 136] = [
     Production::DefaultEntity,
     Production::DefaultTypeEntity,
     Production::SizedFloat,
+    Production::ArrayType,
     Production::TypeInStd,
     Production::Tag,
     Production::ExpressionElement,
@@ -143,7 +147,7 @@ pub(crate) const PRODUCTIONS: [Production; 136] = [
 ];
 
 /// How many parts each has.
-pub(crate) const PART_COUNTS: [u8; 136] = [
+pub(crate) const PART_COUNTS: [u8; 140] = [
     0, // Mark
     2, // InternalName
     2, // LocalTypeName
@@ -265,6 +269,9 @@ pub(crate) const PART_COUNTS: [u8; 136] = [
     1, // Expression
     2, // AddressExpression
     2, // ParameterExpression
+    1, // AnyArray
+    3, // BoundedArray
+    2, // LengthArray
     2, // OtherSpecial
     1, // SpecialName
     4, // ConstructionVtable
@@ -276,6 +283,7 @@ pub(crate) const PART_COUNTS: [u8; 136] = [
     2, // DefaultEntity
     2, // DefaultTypeEntity
     2, // SizedFloat
+    1, // ArrayType
     1, // TypeInStd
     2, // Tag
     2, // ExpressionElement
@@ -283,7 +291,7 @@ pub(crate) const PART_COUNTS: [u8; 136] = [
 ];
 
 /// Whether parts without a row may stand between those of each.
-pub(crate) const SKIPS_PARTS: [bool; 136] = [
+pub(crate) const SKIPS_PARTS: [bool; 140] = [
     false, // Mark
     false, // InternalName
     false, // LocalTypeName
@@ -405,6 +413,9 @@ pub(crate) const SKIPS_PARTS: [bool; 136] = [
     false, // Expression
     true, // AddressExpression
     false, // ParameterExpression
+    false, // AnyArray
+    true, // BoundedArray
+    false, // LengthArray
     false, // OtherSpecial
     false, // SpecialName
     true, // ConstructionVtable
@@ -416,6 +427,7 @@ pub(crate) const SKIPS_PARTS: [bool; 136] = [
     false, // DefaultEntity
     false, // DefaultTypeEntity
     false, // SizedFloat
+    false, // ArrayType
     false, // TypeInStd
     false, // Tag
     false, // ExpressionElement
@@ -423,7 +435,7 @@ pub(crate) const SKIPS_PARTS: [bool; 136] = [
 ];
 
 /// Before how many of its parts nothing is done in each: before none, the first, or all, which are five at most.
-pub(crate) const QUIET_PARTS: [u8; 136] = [
+pub(crate) const QUIET_PARTS: [u8; 140] = [
     5, // Mark
     1, // InternalName
     1, // LocalTypeName
@@ -545,6 +557,9 @@ pub(crate) const QUIET_PARTS: [u8; 136] = [
     5, // Expression
     5, // AddressExpression
     1, // ParameterExpression
+    5, // AnyArray
+    1, // BoundedArray
+    5, // LengthArray
     0, // OtherSpecial
     5, // SpecialName
     5, // ConstructionVtable
@@ -556,6 +571,7 @@ pub(crate) const QUIET_PARTS: [u8; 136] = [
     5, // DefaultEntity
     5, // DefaultTypeEntity
     5, // SizedFloat
+    5, // ArrayType
     5, // TypeInStd
     1, // Tag
     5, // ExpressionElement

@@ -199,6 +199,7 @@ between_noted Production.Lambda around place vs x y stays packs = signature_goes
 between_noted Production.Expansion around place vs x y stays packs = expansion_goes around x y vs
 between_noted Production.Parameter around place (v ∷ []) x y stays packs = named_parameter around x y place v packs
 between_noted Production.ParameterExpression around place (v ∷ []) x y stays packs = named_argument around x y place v packs
+between_noted Production.BoundedArray around place (v ∷ []) x y stays packs = named_argument around x y place v packs
 between_noted Production.TypeWithS around place (v ∷ []) x y stays packs = listed_goes around x y v packs
 between_noted Production.LvalueItem around place (v ∷ []) x y stays packs = record {
   values = ap (λ t. value_.tree (term_.lvalue t) true ∷ []) (tree_noted (noted_scope around.scope) v);
@@ -320,6 +321,9 @@ wide_between_noted Production.NestParameter around place (v ∷ w ∷ vs) x y st
 wide_between_noted Production.ParameterExpression around place [] x y stays packs = between_noted Production.ParameterExpression around place [] x y stays packs
 wide_between_noted Production.ParameterExpression around place (v ∷ []) x y stays packs = argument_here_goes around x y place v packs
 wide_between_noted Production.ParameterExpression around place (v ∷ w ∷ vs) x y stays packs = between_noted Production.ParameterExpression around place (v ∷ w ∷ vs) x y stays packs
+wide_between_noted Production.BoundedArray around place [] x y stays packs = between_noted Production.BoundedArray around place [] x y stays packs
+wide_between_noted Production.BoundedArray around place (v ∷ []) x y stays packs = argument_here_goes around x y place v packs
+wide_between_noted Production.BoundedArray around place (v ∷ w ∷ vs) x y stays packs = between_noted Production.BoundedArray around place (v ∷ w ∷ vs) x y stays packs
 wide_between_noted p around place vs x y stays packs = between_noted p around place vs x y stays packs
 
 pub wide_close_noted : (production : Production) (byte : ℕ) (around : Around) (place : ℕ) (began : State) (first : value_.State) (vs : List Value) (x : State) (y : value_.State) → Inside production vs →

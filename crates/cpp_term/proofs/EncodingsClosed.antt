@@ -149,6 +149,7 @@ encodings_apart Production.Parameter h = absurd (false≢true h)
 encodings_apart Production.NestParameter h = absurd (false≢true h)
 encodings_apart Production.Substitution h = absurd (false≢true h)
 encodings_apart Production.ParameterExpression h = absurd (false≢true h)
+encodings_apart Production.BoundedArray h = absurd (false≢true h)
 encodings_apart _ h = refl
 
 abbrev Encodings : List Sym → List Value → Type 0

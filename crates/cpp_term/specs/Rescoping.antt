@@ -32,7 +32,7 @@ parameter_here around place k vs state = elim around.in_lambda [
   | false ↦ parameter_so_far around place k vs state
 ]
 
--- so is a parameter that is an argument itself, which is no candidate
+-- so is a parameter that is an argument itself, or the length of an array, which is no candidate
 unfoldable pub argument_here : Around → (place : ℕ) → ℕ → State → Going
 argument_here around place k state = elim around.in_lambda [
   | true ↦ next (tree (generic_parameter (generic_number k)) true ∷ []) around state
@@ -102,6 +102,7 @@ unfoldable pub between_wide : Production → Around → (place : ℕ) → List V
 between_wide Production.Parameter around place (v ∷ []) state = parameter_here around place (index_of v) [] state
 between_wide Production.NestParameter around place (v ∷ []) state = parameter_here around place (index_of v) [] state
 between_wide Production.ParameterExpression around place (v ∷ []) state = argument_here around place (index_of v) state
+between_wide Production.BoundedArray around place (v ∷ []) state = argument_here around place (index_of v) state
 between_wide production around place vs state = between production around place vs state
 
 unfoldable pub close_wide : Production → (byte : ℕ) → Around → (place : ℕ) → (began : State) → List Value → State → Result (Found Value State) Refusal

@@ -311,6 +311,7 @@ lambdas-go Production.Expansion around place vs state n bare e =
     bare-next (under_expansion around) vs (record state { packs = None }) n bare e
 lambdas-go Production.Parameter around place (v ∷ []) state n bare e = bare-parameter around place (index_of v) state n bare e
 lambdas-go Production.ParameterExpression around place (v ∷ []) state n bare e = bare-argument around place (index_of v) state n bare e
+lambdas-go Production.BoundedArray around place (v ∷ []) state n bare e = bare-argument around place (index_of v) state n bare e
 lambdas-go Production.TypeWithS around place (v ∷ []) state n bare e = bare-next _ _ state n bare e
 lambdas-go Production.LvalueItem around place (v ∷ []) state n bare e = bare-next _ _ _ n bare e
 lambdas-go Production.RvalueItem around place (v ∷ []) state n bare e = bare-next _ _ _ n bare e

@@ -186,6 +186,8 @@ between-outside Production.Parameter around place (v ∷ []) state next no_ outs
     parameter-goes around place (index_of v) state next outside e
 between-outside Production.ParameterExpression around place (v ∷ []) state next no_ outside e =
     argument-goes around place (index_of v) state next outside e
+between-outside Production.BoundedArray around place (v ∷ []) state next no_ outside e =
+    argument-goes around place (index_of v) state next outside e
 between-outside Production.TypeWithS around place (v ∷ []) state next no_ outside e = goes state _ _ state next outside refl e
 between-outside Production.LvalueItem around place (v ∷ []) state next no_ outside e = goes state _ _ _ next outside refl e
 between-outside Production.RvalueItem around place (v ∷ []) state next no_ outside e = goes state _ _ _ next outside refl e

@@ -180,6 +180,8 @@ kind-branch Kind.PlainEntity = λ rule taken parts all around at old v new front
 kind-branch Kind.PlainTypeEntity = λ rule taken parts all around at old v new front is e outer. tt
 kind-branch Kind.Expression = λ rule taken parts all around at old v new front is e outer. tt
 kind-branch Kind.ExpressionRest = λ rule taken parts all around at old v new front is e outer. tt
+kind-branch Kind.AnyArray = λ rule taken parts all around at old v new front is e outer. tt
+kind-branch Kind.ArrayRest = λ rule taken parts all around at old v new front is e outer. tt
 
 branch-read : (rule : Rule) (taken : List ℕ) (parts : Forest) → AllOf ShapeRead parts → ShapeRead (branch rule taken parts)
 branch-read rule taken parts all kind around at old v new front is e = kind-branch kind rule taken parts all around at old v new front is e
