@@ -102,6 +102,7 @@ between_bad : (p : Production) (around : Around) (place : ℕ) (vs : List Value)
 unfolding between named_so_far listed_so_far piece_so_far tag_so_far
 between_bad Production.NestParameter around place (v ∷ []) state = parameter_bad around place (index_of v) [] state
 between_bad Production.Parameter around place (v ∷ []) state = parameter_bad around place (index_of v) [] state
+between_bad Production.ParameterArgument around place (v ∷ []) state = parameter_bad around (place - 1) (index_of v) [] state
 between_bad Production.ParameterExpression around place (v ∷ []) state = argument_bad around place (index_of v) state
 between_bad Production.BoundedArray around place (v ∷ []) state = argument_bad around place (index_of v) state
 between_bad Production.Symbol around place [] state = tt
@@ -195,6 +196,7 @@ wide_between_bad : (p : Production) (around : Around) (place : ℕ) (vs : List V
 unfolding between_wide
 wide_between_bad Production.NestParameter around place (v ∷ []) state = here_bad around place (index_of v) state
 wide_between_bad Production.Parameter around place (v ∷ []) state = here_bad around place (index_of v) state
+wide_between_bad Production.ParameterArgument around place (v ∷ []) state = here_bad around (place - 1) (index_of v) state
 wide_between_bad Production.ParameterExpression around place (v ∷ []) state = argument_here_bad around place (index_of v) state
 wide_between_bad Production.BoundedArray around place (v ∷ []) state = argument_here_bad around place (index_of v) state
 wide_between_bad p around place vs state = between_bad p around place vs state

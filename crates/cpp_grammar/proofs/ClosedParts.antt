@@ -1,5 +1,5 @@
 -- What is done between the parts of a production keeps to what is closed.
-use Rattle.std.proofs.Common.{◌≡◌, refl, subst, ℕ, List, [], ◌∷◌, Bool, true, false, None, Ok}
+use Rattle.std.proofs.Common.{◌≡◌, refl, subst, ℕ, ◌-◌, List, [], ◌∷◌, Bool, true, false, None, Ok}
 use Rattle.std.proofs.lemmas.Bool.{true≢false}
 use Rattle.sym_link.specs.Reading.{Next}
 use Rattle.cpp_grammar.specs.declared.production.Production.{Production}
@@ -166,6 +166,8 @@ between_goes Production.Lambda around place vs state n at stays pre all e = goes
 between_goes Production.Expansion around place vs state n at stays pre all e =
     goes around at state vs (under_expansion around) (record state { packs = None }) n all (grows_same around at state (record state { packs = None }) refl) (fits_expansion around pre) e
 between_goes Production.Parameter around place (v ∷ []) state n at stays pre all e = parameter_goes around place at state (index_of v) n e
+between_goes Production.ParameterArgument around place (v ∷ []) state n at stays pre all e = parameter_goes around (place - 1) at state (index_of v) n e
+between_goes Production.DeclaredArgument around place [] state n at stays pre all e = goes around at state [] (in_signature around) state n tt (grows_same around at state state refl) (fits_signature around) e
 between_goes Production.ParameterExpression around place (v ∷ []) state n at stays pre all e = argument_goes around place at state (index_of v) n pre e
 between_goes Production.BoundedArray around place (v ∷ []) state n at stays pre all e = argument_goes around place at state (index_of v) n pre e
 between_goes Production.TypeWithS around place (v ∷ []) state n at stays pre all e =
@@ -214,6 +216,7 @@ pub wide_goes : (production : Production) (around : Around) (place : ℕ) (vs : 
 unfolding between_wide
 wide_goes Production.Parameter around place (v ∷ []) state n at stays pre all e = here_goes around place at state (index_of v) n e
 wide_goes Production.NestParameter around place (v ∷ []) state n at stays pre all e = here_goes around place at state (index_of v) n e
+wide_goes Production.ParameterArgument around place (v ∷ []) state n at stays pre all e = here_goes around (place - 1) at state (index_of v) n e
 wide_goes Production.ParameterExpression around place (v ∷ []) state n at stays pre all e = argument_here_goes around place at state (index_of v) n pre e
 wide_goes Production.BoundedArray around place (v ∷ []) state n at stays pre all e = argument_here_goes around place at state (index_of v) n pre e
 wide_goes p around place vs state n at stays pre all e = between_goes p around place vs state n at stays pre all e

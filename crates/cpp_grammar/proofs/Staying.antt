@@ -189,6 +189,8 @@ between_none Production.Conversion around place [] state settled all cs = record
 between_none Production.Constructor around place (v ∷ []) state settled all cs = piece_none around (constructor (letter_of v)) state settled refl cs
 between_none Production.Destructor around place (v ∷ []) state settled all cs = piece_none around (destructor (letter_of v)) state settled refl cs
 between_none Production.StdName around place (v ∷ []) state settled all cs = named_none around (in_std (piece_of v)) false [] state settled (none_piece v all.0) tt cs
+between_none Production.ParameterArgument around place (v ∷ []) state settled all cs = parameter_none around (place - 1) (index_of v) state settled cs
+between_none Production.DeclaredArgument around place [] state settled all cs = record { values = tt; context = signature_none around; candidates = cs }
 between_none Production.ParameterExpression around place (v ∷ []) state settled all cs = argument_none around place (index_of v) state settled cs
 between_none Production.BoundedArray around place (v ∷ []) state settled all cs = argument_none around place (index_of v) state settled cs
 between_none Production.TaggedStdType around place (v ∷ []) state settled all cs = named_none around (in_std (piece_of v)) false [] state settled (none_piece v all.0) tt cs
@@ -247,6 +249,8 @@ behind_none Production.VolatileType byte around began vs state settled all cs = 
 behind_none Production.ConstType byte around began vs state settled all cs = made_none Production.ConstType byte around vs state settled all cs
 behind_none Production.ReferenceType byte around began vs state settled all cs = made_none Production.ReferenceType byte around vs state settled all cs
 behind_none Production.PlainType byte around began vs state settled all cs = typed_none around (part vs 0) state (none_part vs 0 all) cs
+behind_none Production.PlainArgument byte around began vs state settled all cs = typed_none around (part vs 0) state (none_part vs 0 all) cs
+behind_none Production.ArgumentWithT byte around began vs state settled all cs = typed_none around (part vs 0) state (none_part vs 0 all) cs
 behind_none Production.TypeWithD byte around began vs state settled all cs = typed_none around (part vs 0) state (none_part vs 0 all) cs
 behind_none Production.ItemWithD byte around began vs state settled all cs = typed_none around (part vs 0) state (none_part vs 0 all) cs
 behind_none Production.QualifiedPlain byte around began vs state settled all cs = unqualified_none around (part vs 0) state (none_part vs 0 all) cs
@@ -295,6 +299,7 @@ between_stays : (p : Production) (around : Around) (place : ℕ) (vs : List Valu
 unfolding between between_wide
 between_stays Production.Parameter around place (v ∷ []) state n settled e = here_stays around place (index_of v) state n settled e
 between_stays Production.NestParameter around place (v ∷ []) state n settled e = here_stays around place (index_of v) state n settled e
+between_stays Production.ParameterArgument around place (v ∷ []) state n settled e = here_stays around (place - 1) (index_of v) state n settled e
 between_stays Production.ParameterExpression around place (v ∷ []) state n settled e = argument_stays around place (index_of v) state n settled e
 between_stays Production.BoundedArray around place (v ∷ []) state n settled e = argument_stays around place (index_of v) state n settled e
 between_stays _ around place vs state n settled e = e

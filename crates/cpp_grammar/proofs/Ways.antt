@@ -34,6 +34,7 @@ unfoldable pub is_reference : Production → Bool
 is_reference Production.Parameter = true
 is_reference Production.NestParameter = true
 is_reference Production.Substitution = true
+is_reference Production.ParameterArgument = true
 is_reference Production.ParameterExpression = true
 is_reference Production.BoundedArray = true
 is_reference _ = false
@@ -52,6 +53,7 @@ plain_between : (p : Production) → is_reference p ≡ false → (around : Arou
 unfolding is_reference between_wide
 plain_between Production.Parameter apart around place vs state = absurd (true≢false apart)
 plain_between Production.NestParameter apart around place vs state = absurd (true≢false apart)
+plain_between Production.ParameterArgument apart around place vs state = absurd (true≢false apart)
 plain_between Production.ParameterExpression apart around place vs state = absurd (true≢false apart)
 plain_between Production.BoundedArray apart around place vs state = absurd (true≢false apart)
 plain_between _ apart around place vs state = refl

@@ -1,7 +1,7 @@
 -- What surrounds the parts of a production, and what is done before each of them.
 -- A name grows from part to part: each piece is added to the name so far, and a name to which something is added is a
 -- candidate, unless it is one already or never is one.
-use Rattle.std.specs.Prelude.{ℕ, List, [], ◌∷◌, Bool, true, false, None, Result, Ok}
+use Rattle.std.specs.Prelude.{ℕ, ◌-◌, List, [], ◌∷◌, Bool, true, false, None, Result, Ok}
 use Rattle.sym_core.specs.declared.refusal.Refusal.{Refusal}
 use Rattle.sym_core.specs.declared.NumberKind.TheVariants.{Decimal}
 use Rattle.sym_core.specs.Value.{counted_value}
@@ -141,6 +141,9 @@ between Production.Lambda around place vs state = next vs (in_signature around) 
 -- types
 between Production.Expansion around place vs state = next vs (under_expansion around) (record state { packs = None })
 between Production.Parameter around place (v ∷ []) state = parameter_so_far around place (index_of v) [] state
+-- a parameter behind the T, and what is declared of an argument, in which parameters are those of no encoding, as in a lambda's signature
+between Production.ParameterArgument around place (v ∷ []) state = parameter_so_far around (place - 1) (index_of v) [] state
+between Production.DeclaredArgument around place [] state = next [] (in_signature around) state
 between Production.ParameterExpression around place (v ∷ []) state = argument_so_far around place (index_of v) state
 between Production.BoundedArray around place (v ∷ []) state = argument_so_far around place (index_of v) state
 between Production.TaggedStdType around place (v ∷ []) state = named_so_far around (in_std (piece_of v)) [] state

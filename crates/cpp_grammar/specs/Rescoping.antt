@@ -103,6 +103,7 @@ substituted_wide around place (Some c) state = elim (is_foreign around c) [
 unfoldable pub between_wide : Production → Around → (place : ℕ) → List Value → State → Going
 between_wide Production.Parameter around place (v ∷ []) state = parameter_here around place (index_of v) [] state
 between_wide Production.NestParameter around place (v ∷ []) state = parameter_here around place (index_of v) [] state
+between_wide Production.ParameterArgument around place (v ∷ []) state = parameter_here around (place - 1) (index_of v) [] state
 between_wide Production.ParameterExpression around place (v ∷ []) state = argument_here around place (index_of v) state
 between_wide Production.BoundedArray around place (v ∷ []) state = argument_here around place (index_of v) state
 between_wide production around place vs state = between production around place vs state

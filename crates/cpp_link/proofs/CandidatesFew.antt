@@ -37,7 +37,7 @@ unfoldable pub becomes_candidate : ℕ → Bool
 becomes_candidate k =
     nat_eq k 15 || nat_eq k 16 || nat_eq k 17 || nat_eq k 18 || nat_eq k 22
     || nat_eq k 32 || nat_eq k 33 || nat_eq k 34 || nat_eq k 36 || nat_eq k 51 || nat_eq k 66 || nat_eq k 68 || nat_eq k 80
-    || nat_eq k 84 || nat_eq k 85
+    || nat_eq k 83 || nat_eq k 87 || nat_eq k 88 || nat_eq k 90 || nat_eq k 91
 
 -- what goes on with the name so far, and arguments behind it
 unfoldable pub goes_on : ℕ → Bool
@@ -121,6 +121,8 @@ may_leave Production.ArrayType = true
 may_leave Production.AnyArray = true
 may_leave Production.LengthArray = true
 may_leave Production.BoundedArray = true
+may_leave Production.ParameterArgument = true
+may_leave Production.DeclaredArgument = true
 may_leave _ = false
 
 -- what goes on with the name so far

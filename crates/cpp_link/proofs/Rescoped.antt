@@ -89,6 +89,12 @@ apart_between Production.NestParameter around place (v ∷ []) state apart = go 
         → elim b [ true ↦ generic_so_far around (index_of v) [] state | false ↦ parameter_so_far around place (index_of v) [] state ] ≡ parameter_so_far around place (index_of v) [] state
     go true e = absurd (true≢false e)
     go false e = refl
+apart_between Production.ParameterArgument around place (v ∷ []) state apart = go around.in_lambda apart
+  where
+    go : (b : Bool) → (b && true && nat_eq (length (v ∷ [])) 1) ≡ false
+        → elim b [ true ↦ generic_so_far around (index_of v) [] state | false ↦ parameter_so_far around (place - 1) (index_of v) [] state ] ≡ parameter_so_far around (place - 1) (index_of v) [] state
+    go true e = absurd (true≢false e)
+    go false e = refl
 apart_between Production.ParameterExpression around place (v ∷ []) state apart = go around.in_lambda apart
   where
     own : Going
@@ -326,6 +332,8 @@ generic_between Production.Parameter around place v state is lambda =
     ap (λ b. elim b as (λ _. Going) [ true ↦ generic_so_far around (index_of v) [] state | false ↦ parameter_so_far around place (index_of v) [] state ]) lambda
 generic_between Production.NestParameter around place v state is lambda =
     ap (λ b. elim b as (λ _. Going) [ true ↦ generic_so_far around (index_of v) [] state | false ↦ parameter_so_far around place (index_of v) [] state ]) lambda
+generic_between Production.ParameterArgument around place v state is lambda =
+    ap (λ b. elim b as (λ _. Going) [ true ↦ generic_so_far around (index_of v) [] state | false ↦ parameter_so_far around (place - 1) (index_of v) [] state ]) lambda
 generic_between Production.ParameterExpression around place v state is lambda =
     ap (λ b. elim b as (λ _. Going) [ true ↦ next (tree (generic_parameter (generic_number (index_of v))) true ∷ []) around state | false ↦ argument_so_far around place (index_of v) state ]) lambda
 generic_between Production.BoundedArray around place v state is lambda =

@@ -42,6 +42,13 @@ nest_parameter_steps (Ok (Step.Go candidate then packs)) = tt
 nest_parameter_steps (Ok (Step.Named node listed is_name)) = omega arith
 nest_parameter_steps (Ok (Step.Made node listed is_name is_candidate packs)) = (omega arith, refl)
 
+pub argument_steps : (result : Result Step Refusal) → IfOk result (λ step. IsStepOf Production.ParameterArgument 1 step)
+unfolding made_before
+argument_steps (Err e) = tt
+argument_steps (Ok (Step.Go candidate then packs)) = tt
+argument_steps (Ok (Step.Named node listed is_name)) = omega arith
+argument_steps (Ok (Step.Made node listed is_name is_candidate packs)) = (omega arith, refl)
+
 pub expression_steps : (result : Result Step Refusal) → IfOk result (λ step. IsStepOf Production.ParameterExpression 1 step)
 unfolding made_before
 expression_steps (Err e) = tt

@@ -1,5 +1,5 @@
 -- As many values go into a part of C++ as were known.
-use Rattle.std.proofs.Common.{◌≡◌, refl, ℕ, suc, List, [], ◌∷◌, length, true, Result, Ok, Err}
+use Rattle.std.proofs.Common.{◌≡◌, refl, ◌-◌, ℕ, suc, List, [], ◌∷◌, length, true, Result, Ok, Err}
 use Rattle.std.specs.Result.{IfOk}
 use Rattle.sym_core.specs.declared.refusal.Refusal.{Refusal}
 use Rattle.sym_link.specs.Reading.{◌>>=◌}
@@ -29,6 +29,7 @@ pub between_counts : (p : Production) (around : Around) (place : ℕ) (vs : List
 unfolding between named_so_far listed_so_far piece_so_far tag_so_far
 between_counts Production.NestParameter around place (v ∷ []) state = parameter_counts around place (index_of v) [] state
 between_counts Production.Parameter around place (v ∷ []) state = parameter_counts around place (index_of v) [] state
+between_counts Production.ParameterArgument around place (v ∷ []) state = parameter_counts around (place - 1) (index_of v) [] state
 between_counts Production.ParameterExpression around place (v ∷ []) state = argument_counts around place (index_of v) state
 between_counts Production.BoundedArray around place (v ∷ []) state = argument_counts around place (index_of v) state
 between_counts Production.Symbol around place [] state = refl

@@ -49,6 +49,7 @@ linked_wide s = record {
 unfoldable pub is_parameter : Production → Bool
 is_parameter Production.Parameter = true
 is_parameter Production.NestParameter = true
+is_parameter Production.ParameterArgument = true
 is_parameter Production.ParameterExpression = true
 is_parameter Production.BoundedArray = true
 is_parameter _ = false

@@ -1,5 +1,5 @@
 -- What is linked of a symbol by the wide grammar keeps to what every language does.
-use Rattle.std.proofs.Common.{◌≡◌, refl, ℕ, suc, ◌≤◌, List, [], ◌∷◌, length, Bool, true, false, Result}
+use Rattle.std.proofs.Common.{◌≡◌, refl, ℕ, ◌-◌, suc, ◌≤◌, List, [], ◌∷◌, length, Bool, true, false, Result}
 use Rattle.std.specs.Result.{IfOk}
 use Rattle.sym_core.specs.declared.refusal.Refusal.{Refusal}
 use Rattle.sym_link.specs.Reading.{Next}
@@ -46,6 +46,7 @@ wide_between_counts : (p : Production) (around : Around) (place : ℕ) (vs : Lis
 unfolding between_wide
 wide_between_counts Production.NestParameter around place (v ∷ []) state = here_counts around place (index_of v) [] state
 wide_between_counts Production.Parameter around place (v ∷ []) state = here_counts around place (index_of v) [] state
+wide_between_counts Production.ParameterArgument around place (v ∷ []) state = here_counts around (place - 1) (index_of v) [] state
 wide_between_counts Production.ParameterExpression around place (v ∷ []) state = argument_here_counts around place (index_of v) state
 wide_between_counts Production.BoundedArray around place (v ∷ []) state = argument_here_counts around place (index_of v) state
 wide_between_counts p around place vs state = between_counts p around place vs state

@@ -330,7 +330,7 @@ impl Linked {
                 true,
             ),
             // <template-arg> ::= X <expression> E, with an <expression> that is read by itself
-            Production::ExpressionArgument => made(
+            Production::AnyArgument => made(
                 Node::Cell {
                     first: self.tree(symbol, parts, 0),
                     rest: self.list(symbol, parts, 1),
@@ -362,13 +362,35 @@ impl Linked {
                 true,
             ),
             // <template-arg> ::= X <expression> E, with an <expression> that is read by itself, in a pack
-            Production::ExpressionElement => made(
+            Production::AnyElement => made(
                 Node::Cell {
                     first: self.tree(symbol, parts, 0),
                     rest: self.list(symbol, parts, 1),
                 },
                 true,
             ),
+            // <template-arg> ::= <type>, where the type is no parameter
+            Production::PlainArgument => tree(self.tree(symbol, parts, 0), true),
+            // <template-arg> ::= <template-param> [<template-args>] | <template-param-decl> <template-arg>
+            Production::ArgumentWithT => tree(self.tree(symbol, parts, 0), true),
+            // <template-param> ::= T_ | T <parameter number> _, behind the T
+            Production::ParameterArgument => self.applied(symbol, parts, true),
+            // <template-arg> ::= <template-param-decl> <template-arg>, behind the T
+            Production::DeclaredArgument => tree(self.tree(symbol, parts, 1), true),
+            // <template-arg> ::= <expr-primary>
+            Production::OneLiteral => Meant::Given(self.given(symbol, parts, 0)),
+            // <template-param-decl> ::= Ty
+            Production::AnyType => Meant::Given(Part::Letter(byte)),
+            // <template-param-decl> ::= Tn <type>
+            Production::ValueOf => Meant::Given(Part::Letter(byte)),
+            // <template-param-decl> ::= Tk <concept name>
+            Production::OfConcept => Meant::Given(Part::Letter(byte)),
+            // <template-param-decl> ::= Tt <template-param-decl>* E
+            Production::TemplateOf => Meant::Given(Part::Letter(byte)),
+            // <template-param-decl> ::= Tp <non-pack template-param-decl>
+            Production::PackOf => Meant::Given(Part::Letter(byte)),
+            // <template-param-decl>*
+            Production::Declarations => Meant::Given(Part::Letter(byte)),
             // X <expression> E
             Production::Expression => Meant::Given(self.given(symbol, parts, 0)),
             // <expression> ::= ad <expression>, behind the a

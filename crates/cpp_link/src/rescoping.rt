@@ -65,6 +65,7 @@ pub fn is_parameter(production: Production) -> bool
     match production {
         Production::Parameter => true,
         Production::NestParameter => true,
+        Production::ParameterArgument => true,
         Production::ParameterExpression => true,
         Production::BoundedArray => true,
         _ => false,

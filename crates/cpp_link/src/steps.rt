@@ -224,6 +224,7 @@ impl Linked {
             Production::Guard => self.go(self.in_encoding(kept, place, None)),
             Production::OtherSpecial => self.go(self.in_encoding(kept, place, None)),
             Production::Lambda => self.go(self.in_signature(kept)),
+            Production::DeclaredArgument => self.go(self.in_signature(kept)),
             Production::Expansion => Step::Go {
                 candidate: None,
                 then: self.under_expansion(kept),
@@ -377,6 +378,7 @@ impl Linked {
         requires first { IsThere symbol.now (length self.now.nodes.nodes) first }
         requires parameter { production ≡ productions.Parameter → ⊥ }
         requires nest { production ≡ productions.NestParameter → ⊥ }
+        requires argument { production ≡ productions.ParameterArgument → ⊥ }
         requires expression { production ≡ productions.ParameterExpression → ⊥ }
         requires length { production ≡ productions.BoundedArray → ⊥ }
         requires pack { production ≡ productions.PackArgument → ⊥ }
@@ -749,6 +751,10 @@ impl Linked {
             Production::NestParameter => {
                 let digits = self.text_in(symbol, first);
                 self.parameter(symbol, kept, place, digits)
+            }
+            Production::ParameterArgument => {
+                let digits = self.text_in(symbol, first);
+                self.parameter(symbol, kept, place.saturating_sub(1), digits)
             }
             Production::ParameterExpression => {
                 let digits = self.text_in(symbol, first);

@@ -3,7 +3,7 @@
 use cpp_grammar::production::Production;
 
 /// The productions.
-pub(crate) const PRODUCTIONS: [Production; 140] = [
+pub(crate) const PRODUCTIONS: [Production; 151] = [
     Production::Mark,
     Production::InternalName,
     Production::LocalTypeName,
@@ -123,6 +123,17 @@ pub(crate) const PRODUCTIONS: [Production; 140] = [
     Production::TaggedStdType,
     Production::TypeTag,
     Production::Expression,
+    Production::ArgumentWithT,
+    Production::PlainArgument,
+    Production::DeclaredArgument,
+    Production::ParameterArgument,
+    Production::OneLiteral,
+    Production::AnyType,
+    Production::ValueOf,
+    Production::OfConcept,
+    Production::TemplateOf,
+    Production::PackOf,
+    Production::Declarations,
     Production::AddressExpression,
     Production::ParameterExpression,
     Production::AnyArray,
@@ -142,12 +153,12 @@ pub(crate) const PRODUCTIONS: [Production; 140] = [
     Production::ArrayType,
     Production::TypeInStd,
     Production::Tag,
-    Production::ExpressionElement,
-    Production::ExpressionArgument,
+    Production::AnyElement,
+    Production::AnyArgument,
 ];
 
 /// How many parts each has.
-pub(crate) const PART_COUNTS: [u8; 140] = [
+pub(crate) const PART_COUNTS: [u8; 151] = [
     0, // Mark
     2, // InternalName
     2, // LocalTypeName
@@ -267,6 +278,17 @@ pub(crate) const PART_COUNTS: [u8; 140] = [
     2, // TaggedStdType
     2, // TypeTag
     1, // Expression
+    1, // ArgumentWithT
+    1, // PlainArgument
+    2, // DeclaredArgument
+    2, // ParameterArgument
+    2, // OneLiteral
+    0, // AnyType
+    1, // ValueOf
+    1, // OfConcept
+    2, // TemplateOf
+    2, // PackOf
+    2, // Declarations
     2, // AddressExpression
     2, // ParameterExpression
     1, // AnyArray
@@ -286,12 +308,12 @@ pub(crate) const PART_COUNTS: [u8; 140] = [
     1, // ArrayType
     1, // TypeInStd
     2, // Tag
-    2, // ExpressionElement
-    2, // ExpressionArgument
+    2, // AnyElement
+    2, // AnyArgument
 ];
 
 /// Whether parts without a row may stand between those of each.
-pub(crate) const SKIPS_PARTS: [bool; 140] = [
+pub(crate) const SKIPS_PARTS: [bool; 151] = [
     false, // Mark
     false, // InternalName
     false, // LocalTypeName
@@ -411,6 +433,17 @@ pub(crate) const SKIPS_PARTS: [bool; 140] = [
     false, // TaggedStdType
     false, // TypeTag
     false, // Expression
+    false, // ArgumentWithT
+    false, // PlainArgument
+    false, // DeclaredArgument
+    false, // ParameterArgument
+    false, // OneLiteral
+    false, // AnyType
+    false, // ValueOf
+    false, // OfConcept
+    false, // TemplateOf
+    true, // PackOf
+    false, // Declarations
     true, // AddressExpression
     false, // ParameterExpression
     false, // AnyArray
@@ -430,12 +463,12 @@ pub(crate) const SKIPS_PARTS: [bool; 140] = [
     false, // ArrayType
     false, // TypeInStd
     false, // Tag
-    false, // ExpressionElement
-    false, // ExpressionArgument
+    false, // AnyElement
+    false, // AnyArgument
 ];
 
 /// Before how many of its parts nothing is done in each: before none, the first, or all, which are five at most.
-pub(crate) const QUIET_PARTS: [u8; 140] = [
+pub(crate) const QUIET_PARTS: [u8; 151] = [
     5, // Mark
     1, // InternalName
     1, // LocalTypeName
@@ -555,6 +588,17 @@ pub(crate) const QUIET_PARTS: [u8; 140] = [
     1, // TaggedStdType
     1, // TypeTag
     5, // Expression
+    5, // ArgumentWithT
+    5, // PlainArgument
+    0, // DeclaredArgument
+    1, // ParameterArgument
+    5, // OneLiteral
+    5, // AnyType
+    5, // ValueOf
+    5, // OfConcept
+    5, // TemplateOf
+    5, // PackOf
+    5, // Declarations
     5, // AddressExpression
     1, // ParameterExpression
     5, // AnyArray
@@ -574,6 +618,6 @@ pub(crate) const QUIET_PARTS: [u8; 140] = [
     5, // ArrayType
     5, // TypeInStd
     1, // Tag
-    5, // ExpressionElement
-    5, // ExpressionArgument
+    5, // AnyElement
+    5, // AnyArgument
 ];

@@ -185,11 +185,23 @@ meaning Production.PackArgument byte around vs = tree (list (tree_of (part vs 0)
 meaning Production.LiteralArgument byte around vs = tree (list (tree_of (part vs 0)) (no_items (part vs 2))) true
 meaning Production.AddressArgument byte around vs = tree (list (tree_of (part vs 2)) (no_items (part vs 3))) true
 meaning Production.TypeArgument byte around vs = tree (list (tree_of (part vs 0)) (no_items (part vs 1))) true
-meaning Production.ExpressionArgument byte around vs = tree (list (tree_of (part vs 0)) (no_items (part vs 1))) true
+meaning Production.AnyArgument byte around vs = tree (list (tree_of (part vs 0)) (no_items (part vs 1))) true
 meaning Production.LiteralElement byte around vs = tree (list (tree_of (part vs 0)) (no_items (part vs 2))) true
 meaning Production.AddressElement byte around vs = tree (list (tree_of (part vs 2)) (no_items (part vs 3))) true
 meaning Production.TypeElement byte around vs = tree (list (tree_of (part vs 0)) (no_items (part vs 1))) true
-meaning Production.ExpressionElement byte around vs = tree (list (tree_of (part vs 0)) (no_items (part vs 1))) true
+meaning Production.AnyElement byte around vs = tree (list (tree_of (part vs 0)) (no_items (part vs 1))) true
+-- an argument of the wide grammar; what is declared of it isn't in the tree
+meaning Production.PlainArgument byte around vs = listed_value (part vs 0)
+meaning Production.ArgumentWithT byte around vs = listed_value (part vs 0)
+meaning Production.ParameterArgument byte around vs = tree (applied (tree_of (part vs 0)) (part vs 1)) (not (is_there (part vs 1)))
+meaning Production.DeclaredArgument byte around vs = listed_value (part vs 1)
+meaning Production.OneLiteral byte around vs = part vs 0
+meaning Production.AnyType byte around vs = letter byte
+meaning Production.ValueOf byte around vs = letter byte
+meaning Production.OfConcept byte around vs = letter byte
+meaning Production.TemplateOf byte around vs = letter byte
+meaning Production.PackOf byte around vs = letter byte
+meaning Production.Declarations byte around vs = letter byte
 -- an argument that is an expression
 meaning Production.Expression byte around vs = part vs 0
 meaning Production.AddressExpression byte around vs = part vs 1

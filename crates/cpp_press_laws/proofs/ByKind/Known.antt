@@ -1,5 +1,5 @@
 -- What is known of what was read as each kind, and how a production's parts come to what is known of the whole.
-use Rattle.std.proofs.Common.{◌≡◌, ℕ, ◌+◌, ◌<◌, ◌≤◌, ◌⊎◌, inl, inr, length, List, [], ◌∷◌, ◌++◌, Bool, true, false, cond, Some, None, Ok, Err, refl, ap, sym, subst, ◌∙◌, arith}
+use Rattle.std.proofs.Common.{◌≡◌, ℕ, ◌+◌, ◌-◌, ◌<◌, ◌≤◌, ◌⊎◌, inl, inr, length, List, [], ◌∷◌, ◌++◌, Bool, true, false, cond, Some, None, Ok, Err, refl, ap, sym, subst, ◌∙◌, arith}
 use Rattle.std.specs.Prelude.{◌&&◌, ◌||◌, nat_lt}
 use Rattle.std.proofs.lemmas.Bool.{true≢false, false≢true, and_parts}
 use Rattle.std.proofs.lemmas.Bool.Decides.{nat_tests}
@@ -312,6 +312,8 @@ lambdas-go Production.Expansion around place vs state n bare e =
 lambdas-go Production.Parameter around place (v ∷ []) state n bare e = bare-parameter around place (index_of v) state n bare e
 lambdas-go Production.ParameterExpression around place (v ∷ []) state n bare e = bare-argument around place (index_of v) state n bare e
 lambdas-go Production.BoundedArray around place (v ∷ []) state n bare e = bare-argument around place (index_of v) state n bare e
+lambdas-go Production.ParameterArgument around place (v ∷ []) state n bare e = bare-parameter around (place - 1) (index_of v) state n bare e
+lambdas-go Production.DeclaredArgument around place [] state n bare e = bare-next (in_signature around) [] state n (λ is. refl) e
 lambdas-go Production.TypeWithS around place (v ∷ []) state n bare e = bare-next _ _ state n bare e
 lambdas-go Production.LvalueItem around place (v ∷ []) state n bare e = bare-next _ _ _ n bare e
 lambdas-go Production.RvalueItem around place (v ∷ []) state n bare e = bare-next _ _ _ n bare e

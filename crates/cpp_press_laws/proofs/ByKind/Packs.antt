@@ -188,6 +188,9 @@ between-outside Production.ParameterExpression around place (v ∷ []) state nex
     argument-goes around place (index_of v) state next outside e
 between-outside Production.BoundedArray around place (v ∷ []) state next no_ outside e =
     argument-goes around place (index_of v) state next outside e
+between-outside Production.ParameterArgument around place (v ∷ []) state next no_ outside e =
+    parameter-goes around (place - 1) (index_of v) state next outside e
+between-outside Production.DeclaredArgument around place [] state next no_ outside e = goes state _ _ state next outside refl e
 between-outside Production.TypeWithS around place (v ∷ []) state next no_ outside e = goes state _ _ state next outside refl e
 between-outside Production.LvalueItem around place (v ∷ []) state next no_ outside e = goes state _ _ _ next outside refl e
 between-outside Production.RvalueItem around place (v ∷ []) state next no_ outside e = goes state _ _ _ next outside refl e
@@ -205,6 +208,10 @@ unfolding close unfolding_.behind appended
 close-kept Production.Substitution byte around place began vs state r outside same e =
     substituted-kept around (place - 1) (slice_get state.candidates (counted_value Seq36 (text_of (part vs 0)))) state r outside e ∙ same tt
 close-kept Production.PlainType byte around place began vs state r outside same e =
+    ap (λ x. x.state.packs) (sym (ok_same _ r e)) ∙ type-kept around (part vs 0) state ∙ same tt
+close-kept Production.PlainArgument byte around place began vs state r outside same e =
+    ap (λ x. x.state.packs) (sym (ok_same _ r e)) ∙ type-kept around (part vs 0) state ∙ same tt
+close-kept Production.ArgumentWithT byte around place began vs state r outside same e =
     ap (λ x. x.state.packs) (sym (ok_same _ r e)) ∙ type-kept around (part vs 0) state ∙ same tt
 close-kept Production.TypeWithD byte around place began vs state r outside same e =
     ap (λ x. x.state.packs) (sym (ok_same _ r e)) ∙ type-kept around (part vs 0) state ∙ same tt

@@ -15,6 +15,7 @@ made : (p : Production) (node : Node) (listed is_name is_candidate : Bool) (pack
 unfolding is_parameter made_before
 made Production.Parameter node listed is_name is_candidate packs is = (omega arith, refl)
 made Production.NestParameter node listed is_name is_candidate packs is = (omega arith, refl)
+made Production.ParameterArgument node listed is_name is_candidate packs is = (omega arith, refl)
 made Production.ParameterExpression node listed is_name is_candidate packs is = (omega arith, refl)
 made Production.BoundedArray node listed is_name is_candidate packs is = (omega arith, refl)
 made _ node listed is_name is_candidate packs is = absurd (false≢true is)
@@ -23,6 +24,7 @@ one : (p : Production) (known : List Value) → is_parameter p ≡ true → leng
 unfolding is_parameter makes_before made_before
 one Production.Parameter (v ∷ []) is e = refl
 one Production.NestParameter (v ∷ []) is e = refl
+one Production.ParameterArgument (v ∷ []) is e = refl
 one Production.ParameterExpression (v ∷ []) is e = refl
 one Production.BoundedArray (v ∷ []) is e = refl
 one p [] is e = absurd (omega (arith, e))

@@ -6,7 +6,7 @@ use Rattle.cpp_link.specs.Parts.{value_in}
 use Rattle.cpp_link.specs.Owed.{made_before}
 use Rattle.cpp_link.specs.NodeCount.{makes_before}
 use Rattle.cpp_link.specs.Stepping.{IsStepOf, nodes_of_step}
-use Rattle.cpp_link.proofs.Stepping.{parameter_steps, nest_parameter_steps, expression_steps, length_steps}
+use Rattle.cpp_link.proofs.Stepping.{parameter_steps, nest_parameter_steps, argument_steps, expression_steps, length_steps}
 use Rattle.cpp_link.proofs.linked.Linked.step_behind_first.Goals as goal
 
 pub returns-in-Parameter-clause-of : goal.returns-in-Parameter-clause-of
@@ -14,6 +14,9 @@ returns-in-Parameter-clause-of c = subst (λ p. IfOk c.parameter.result (λ step
 
 pub returns-in-NestParameter-clause-of : goal.returns-in-NestParameter-clause-of
 returns-in-NestParameter-clause-of c = subst (λ p. IfOk c.parameter-in-NestParameter.result (λ step. IsStepOf p 1 step)) (sym c.in-NestParameter.is) (nest_parameter_steps c.parameter-in-NestParameter.result)
+
+pub returns-in-ParameterArgument-clause-of : goal.returns-in-ParameterArgument-clause-of
+returns-in-ParameterArgument-clause-of c = subst (λ p. IfOk c.parameter-in-ParameterArgument.result (λ step. IsStepOf p 1 step)) (sym c.in-ParameterArgument.is) (argument_steps c.parameter-in-ParameterArgument.result)
 
 pub returns-in-ParameterExpression-clause-of : goal.returns-in-ParameterExpression-clause-of
 returns-in-ParameterExpression-clause-of c = subst (λ p. IfOk c.parameter_argument.result (λ step. IsStepOf p 1 step)) (sym c.in-ParameterExpression.is) (expression_steps c.parameter_argument.result)
@@ -26,6 +29,9 @@ parameter_is_no_pack h = cc
 
 nest_is_no_pack : Production.NestParameter ≡ Production.PackArgument → ⊥
 nest_is_no_pack h = cc
+
+argument_is_no_pack : Production.ParameterArgument ≡ Production.PackArgument → ⊥
+argument_is_no_pack h = cc
 
 expression_is_no_pack : Production.ParameterExpression ≡ Production.PackArgument → ⊥
 expression_is_no_pack h = cc
@@ -45,6 +51,9 @@ returns-in-Parameter-clause-pack c is = absurd (parameter_is_no_pack (sym c.in-P
 
 pub returns-in-NestParameter-clause-pack : goal.returns-in-NestParameter-clause-pack
 returns-in-NestParameter-clause-pack c is = absurd (nest_is_no_pack (sym c.in-NestParameter.is ∙ is))
+
+pub returns-in-ParameterArgument-clause-pack : goal.returns-in-ParameterArgument-clause-pack
+returns-in-ParameterArgument-clause-pack c is = absurd (argument_is_no_pack (sym c.in-ParameterArgument.is ∙ is))
 
 pub returns-in-ParameterExpression-clause-pack : goal.returns-in-ParameterExpression-clause-pack
 returns-in-ParameterExpression-clause-pack c is = absurd (expression_is_no_pack (sym c.in-ParameterExpression.is ∙ is))
@@ -68,6 +77,12 @@ unfolding makes_before made_before
 returns-in-NestParameter-clause-makes c =
     subst (λ p. IfOk c.parameter-in-NestParameter.result (λ step. nodes_of_step step ≡ makes_before p (value_in c.args.symbol.now c.args.self.now.nodes c.args.first ∷ []))) (sym c.in-NestParameter.is)
     c.parameter-in-NestParameter.ensures.one
+
+pub returns-in-ParameterArgument-clause-makes : goal.returns-in-ParameterArgument-clause-makes
+unfolding makes_before made_before
+returns-in-ParameterArgument-clause-makes c =
+    subst (λ p. IfOk c.parameter-in-ParameterArgument.result (λ step. nodes_of_step step ≡ makes_before p (value_in c.args.symbol.now c.args.self.now.nodes c.args.first ∷ []))) (sym c.in-ParameterArgument.is)
+    c.parameter-in-ParameterArgument.ensures.one
 
 pub returns-in-ParameterExpression-clause-makes : goal.returns-in-ParameterExpression-clause-makes
 unfolding makes_before made_before
