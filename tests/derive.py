@@ -28,10 +28,11 @@ NAMES = (b"a", b"b", b"B", b"C1", b"foo", b"_M_x", b"a.b$", b"operator", b"_GLOB
 NUMBERS = (0, 0, 0, 1, 2, 7, 9, 10, 16, 32, 64, 1000)
 EDGES = (2**31, 2**32 - 1, 2**64 - 3, 2**64 - 2, 2**64 - 1, 2**64, 10**40)
 # references, and the rules on the way from a type to them
-REFERENCES = {"Substitution", "Parameter", "NestParameter"}
+PARAMETERS = {"Parameter", "NestParameter", "ParameterArgument", "ParameterExpression", "BoundedArray"}
+REFERENCES = {"Substitution", *PARAMETERS}
 REFERRING = {"PlainType", "QualifiedPlain", "TypeWithS", "AbbreviatedType", *REFERENCES}
 NAMING = {"Anonymous", "Operator", "ConstructorDigit", "DestructorDigit"}
-TYPES = {"Type", "Plain", "Item", "ItemButRef"}
+TYPES = {"Type", "Plain", "Item", "ItemButRef", "Argument"}
 BATCH = 200
 FAR = 10**6
 
@@ -56,7 +57,8 @@ class Table:
         self.parts = {production: symbols for production, (_, symbols) in grammar.P.items()}
         self.may_be_empty = {kind for kind, (empty, _) in grammar.K.items() if empty}
         self.own = {rule for rule, mark in grammar.MARKED.items() if mark == "wide"} if wide else set()
-        self.argument_lists = {kind for kind, rules in self.rules.items() if any(production == "TypeArgument" for _, production, _ in rules)}
+        self.type_argument = "AnyArgument" if wide else "TypeArgument"
+        self.argument_lists = {kind for kind, rules in self.rules.items() if any(production == self.type_argument for _, production, _ in rules)}
         self.kept_distances = {}
         self.targets = [(kind, production) for kind, rules in self.rules.items() for _, production, _ in rules if "Symbol" in self.distances(kind)]
 
@@ -107,7 +109,7 @@ class Derivation:
     def types_of_types(self, size):
         """An encoding with a type that has two others, for a list in which each has the one before it twice."""
         self.left = size
-        rule = self.rng.choice((("ArgumentList", "TypeArgument"), ("FunctionRest", "RestItem")))
+        rule = self.rng.choice((("ArgumentList", self.table.type_argument), ("FunctionRest", "RestItem")))
         return self.derived("Symbol", 0, [("Encoding", "Encoding"), ("Items", "Items"), rule, rule])
 
     def weight(self, kind, cls, production):
@@ -158,7 +160,7 @@ class Derivation:
                 parts.append(Token(part, production))
             elif production == "Encoding" and number == 0 and way != 0 and (targets or self.rng.random() < 0.6):
                 # parameters are named only where the name ends in arguments
-                parts.append(self.derived(part, depth + 1, [("MaybeArguments", "Arguments"), ("ArgumentList", "TypeArgument")]))
+                parts.append(self.derived(part, depth + 1, [("MaybeArguments", "Arguments"), ("ArgumentList", self.table.type_argument)]))
             else:
                 # the rest of a list is as deep as the list
                 parts.append(self.derived(part, depth if part == kind else depth + 1, targets if number == way else ()))
@@ -256,12 +258,13 @@ class Spelling:
             self.packed += self.candidates[number].is_packed
         return number
 
-    def parameter(self, around):
+    def parameter(self, around, is_candidate):
         number = self.one_of(self.parameters(around))
         self.open += 1
         self.packed += number < len(around.scope or ()) and around.scope[number]
-        self.append(around)
-        self.listed = True
+        if is_candidate:
+            self.append(around)
+            self.listed = True
         return number
 
     def possible(self, node, around):
@@ -272,8 +275,8 @@ class Spelling:
             return self.derivation.derived(node.kind, self.derivation.depth + 1, [("Abbreviation", "Substitution")])
         if node.production == "Substitution" and not self.substitutions(around):
             return self.derivation.derived(node.kind, self.derivation.depth + 1, without={"Substitution"})
-        if node.production in ("Parameter", "NestParameter") and not self.parameters(around):
-            return self.derivation.derived(node.kind, self.derivation.depth + 1, without={"Parameter", "NestParameter", "TypeWithS"})
+        if node.production in PARAMETERS and not self.parameters(around):
+            return self.derivation.derived(node.kind, self.derivation.depth + 1, without={*PARAMETERS, "TypeWithS"})
         return node
 
     # ## Tokens
@@ -285,8 +288,8 @@ class Spelling:
             self.out += str(len(name)).encode() + name
         elif token.cls == grammar.SEQ36:
             self.out += counted(self.substitution(around), 36)
-        elif token.production in ("Parameter", "NestParameter"):
-            self.out += counted(self.parameter(around), 10)
+        elif token.production in PARAMETERS:
+            self.out += counted(self.parameter(around, token.production not in ("ParameterExpression", "BoundedArray")), 10)
         elif token.cls == grammar.DECIMAL:
             self.out += counted(self.number(), 10)
         else:
@@ -330,7 +333,8 @@ class Spelling:
         for number, part in enumerate(node.parts):
             if node.production == "Encoding" and number == 1:
                 around = around._replace(scope=self.arguments)
-            values.append(self.spell(part, around))
+            declares = node.production == "DeclaredArgument" and number == 0
+            values.append(self.spell(part, around._replace(scope=None, in_lambda=True) if declares else around))
             if self.table.parts[node.production][number] in self.table.argument_lists and node.kind not in self.table.argument_lists:
                 self.arguments = values[-1]
                 self.listed = node.production == "NestArguments"
@@ -354,14 +358,14 @@ def leaves_candidate(node):
     """Whether a type is a candidate behind this node."""
     if node.production in ("RestrictType", "VolatileType", "ConstType", "ReferenceType", "LvalueItem", "RvalueItem"):
         return True
-    if node.production not in ("PlainType", "TypeWithD"):
+    if node.production not in ("PlainType", "TypeWithD", "PlainArgument", "ArgumentWithT"):
         return False
     inner = node.parts[0]
     if inner.production == "TypeWithS":
         return inner.parts[0].production == "StdType" or inner.parts[1] is not None
-    if inner.production == "Parameter":
+    if inner.production in ("Parameter", "ParameterArgument"):
         return inner.parts[1] is not None
-    return inner.production not in ("Builtin", "BuiltinWithD", "SizedFloat")
+    return inner.production not in ("Builtin", "BuiltinWithD", "SizedFloat", "DeclaredArgument")
 
 
 def counted(number, base):

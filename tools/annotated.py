@@ -29,7 +29,8 @@ CHANGED = {
                   ("with_parameter t (parameter k)", "with_parameter t (parameter k (element arguments k))")],
     "Between": [("-- a parameter is tested, and becomes", "-- the argument that a parameter names\nunfoldable pub argument_at : Around → ℕ → Term\n"
                  "argument_at around k = elim around.scope [ None ↦ absent | Some arguments ↦ element arguments k ]\n\n-- a parameter is tested, and becomes"),
-                ("listed_so_far around (parameter k) vs s", "listed_so_far around (parameter k (argument_at around k)) vs s")],
+                ("listed_so_far around (parameter k) vs s", "listed_so_far around (parameter k (argument_at around k)) vs s"),
+                ("next (tree (parameter k) true ∷ [])", "next (tree (parameter k (argument_at around k)) true ∷ [])")],
     "Parts": [(f"{form}_parts {d}context (parameter k) = as_item {form} closed (argument context k) ∷ []",
                f"{form}_parts {d}context (parameter k a) = as_item {form} closed (argument context a) ∷ []")
               for form, d in (("left", "d "), ("low", "d "), ("right", ""), ("base", "d "))]

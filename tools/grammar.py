@@ -114,8 +114,10 @@ def build(extended=True, widened=False):
     NAMED = [eats("P", "Pointer", "Type"), eats("M", "MemberPointer", "Type", "Type"), eats("T", "Parameter", DECIMAL, "ArgumentsAlone"),
              eats("S", "TypeWithS", "TypeAfterS", "ArgumentsAlone"), eats("N", "NestedType", "Nest"),
              eats("Z", "LocalType", "Encoding", "'E'", "TypeEntity", "MaybeDiscriminator"), U_NAME, S_NAME]
-    kind("Solid", eats(builtins(False), "Builtin"), eats("u", "Vendor", NAME), eats("A", "Array", DECIMAL, "Type"),
-         eats("F", "Function", "MaybeCLinkage", "Type", "FunctionRest"), *([eats("C", "Complex", "Type")] if extended else []), *NAMED)
+    solid = [eats(builtins(False), "Builtin"), eats("u", "Vendor", NAME),
+             narrow(eats("A", "Array", DECIMAL, "Type")), wide(chain("ArrayType", "AnyArray")),
+             eats("F", "Function", "MaybeCLinkage", "Type", "FunctionRest"), *([eats("C", "Complex", "Type")] if extended else []), *NAMED]
+    kind("Solid", *solid)
     kind("MaybeCLinkage", MARK("Y"), empty=True)
     kind("TypeAfterS", narrow(eats("t", "StdType", "SourceOrLocal")), wide(chain("TypeInStd", "TypeInStd")), chain("AbbreviatedType", "Abbreviation"))
     kind("SourceOrLocal", *BARE)
@@ -127,10 +129,12 @@ def build(extended=True, widened=False):
     kind("MaybeArguments", ARGUMENTS, wide(eats("B", "Tag", NAME, "MaybeArguments")), empty=True)
     kind("Arguments", ARGUMENTS)
     arguments = [eats("J", "PackArgument", "PackList", "'E'", "ArgumentList"), eats("L", "LiteralArgument", "Literal", "'E'", "ArgumentList"),
-                 eats("X", "AddressArgument", "'a'", "'d'", "Address", "ArgumentList"), chain("TypeArgument", "Item", "ArgumentList")]
+                 narrow(eats("X", "AddressArgument", "'a'", "'d'", "Address", "ArgumentList")), narrow(chain("TypeArgument", "Item", "ArgumentList")),
+                 wide(chain("AnyArgument", "Argument", "ArgumentList"))]
     kind("ArgumentList", *arguments, empty=True)
     kind("PackList", eats("L", "LiteralElement", "Literal", "'E'", "PackList"),
-         eats("X", "AddressElement", "'a'", "'d'", "Address", "PackList"), chain("TypeElement", "Item", "PackList"), empty=True)
+         narrow(eats("X", "AddressElement", "'a'", "'d'", "Address", "PackList")), narrow(chain("TypeElement", "Item", "PackList")),
+         wide(chain("AnyElement", "Argument", "PackList")), empty=True)
     kind("Address", eats("L", "Address", "'_'", "'Z'", "Encoding", "'E'", "'E'"))
     kind("Literal", eats("_", "EncodingLiteral", "'Z'", "Encoding"), eats("b", "BoolLiteral", "Bit"), eats("D", "LiteralWithD", "LiteralAfterD"),
          chain("IntegerLiteral", "LiteralType", "Integer"))
@@ -165,6 +169,22 @@ def build(extended=True, widened=False):
     kind("CloneLetter", MARK("tn"))
     kind("TypeInStd", eats("t", "TaggedStdType", "SourceOrLocal", "MaybeTags"))
     kind("MaybeTags", eats("B", "TypeTag", NAME, "MaybeTags"), empty=True)
+    # an argument: behind an X an expression, the address of an encoding or a parameter; behind a T a parameter, or what is declared of
+    # the argument that follows; or a type that begins with no T
+    argument = [*QUALS, eats("D", "ItemWithD", "ItemAfterD"), REF, eats("X", "Expression", "ExpressionRest"), eats("T", "ArgumentWithT", "ArgumentAfterT"),
+                chain("PlainArgument", "SolidButT")]
+    kind("Argument", *argument)
+    kind("ArgumentAfterT", chain("DeclaredArgument", "DeclarationAfterT", "OneArgument"), chain("ParameterArgument", DECIMAL, "ArgumentsAlone"))
+    kind("OneArgument", eats("L", "OneLiteral", "Literal", "'E'"), *argument)
+    kind("DeclarationAfterT", eats("y", "AnyType"), eats("n", "ValueOf", "Type"), eats("k", "OfConcept", "Concept"), eats("t", "TemplateOf", "Declarations", "'E'"),
+         eats("p", "PackOf", "'T'", "DeclarationAfterT"))
+    kind("Declarations", eats("T", "Declarations", "DeclarationAfterT", "Declarations"), empty=True)
+    kind("Concept", eats("S", "TypeWithS", "TypeAfterS", "ArgumentsAlone"), eats("N", "NestedType", "Nest"), S_NAME)
+    kind("SolidButT", *[rule[:2] for rule in solid if rule[1] not in ("Parameter", "Array")])
+    kind("ExpressionRest", eats("a", "AddressExpression", "'d'", "Address"), eats("T", "ParameterExpression", DECIMAL, "'E'"))
+    # an array whose length is a parameter, or a number, or isn't said
+    kind("AnyArray", eats("A", "AnyArray", "ArrayRest"))
+    kind("ArrayRest", eats("T", "BoundedArray", DECIMAL, "'_'", "Type"), chain("LengthArray", DECIMAL, "Type"))
     shared = {p for k in abi_kinds for cls, p in K[k][1] if (k, cls, p) not in MARKED}
     for p in [p for (k, cls, p), mark in MARKED.items() if mark == "wide" and p not in shared]: P[p] = P.pop(p)
 
@@ -186,7 +206,7 @@ def begins(k):
     return out
 def in_place_of(k, cls):
     """the chain that the wide grammar has in the place of a rule that takes a byte"""
-    return next((q for (name, c, q), mark in MARKED.items() if (name, c, mark) == (k, None, "wide") and begins_symbol(P[q][1][0]) == set(cls)), None)
+    return next((q for (name, c, q), mark in MARKED.items() if (name, c, mark) == (k, None, "wide") and begins_symbol(P[q][1][0]) >= set(cls)), None)
 def empty(s): return sym_class(s) == "kind" and K[s][0]
 def laws():
     KINDSET.clear(); KINDSET.update(K); memo.clear()
@@ -582,9 +602,10 @@ def antt_either():
     out = [EITHER_HEAD.rstrip("\n")]
     for k, (e, rules) in K.items():
         narrow_of = [(cls, p) for (name, cls, p), mark in MARKED.items() if mark == "narrow" and name == k]
-        aside = [p for cls, p in narrow_of if cls is None] + [in_place_of(k, cls) for cls, p in narrow_of if cls is not None]
+        # a chain of the wide grammar that stands for several rules is the one that stands aside
+        aside = [in_place_of(k, cls) for cls, p in narrow_of if cls is not None] or [p for cls, p in narrow_of if cls is None]
         assert len(aside) < 2, k
-        at = [on(klass(c, p), p) for c, p in rules + [rule for rule in narrow_of if rule[0] is not None] if p not in aside] + [f'on "{NO_BYTE}" Production.{p}' for p in aside]
+        at = [on(klass(c, p), p) for c, p in rules + narrow_of if p not in aside] + [f'on "{NO_BYTE}" Production.{p}' for p in aside]
         if aside: out.append(f"either_alternatives Kind.{k} = " + " ∷ ".join(at) + " ∷ []")
     out += ["either_alternatives kind = wide_alternatives kind", "", "-- the production that a kind takes at a byte", "unfoldable pub either_choose : Kind → ℕ → Option Production",
             "either_choose kind byte = pick (either_alternatives kind) byte"]
@@ -615,12 +636,14 @@ def antt_before():
 def files():
     """what is written: each file's path in the folder of the crates, and its text"""
     yield "cpp_grammar/specs/Before.antt", antt_before()
-    # what may come after each kind, and how many chains begin it, is said once, of the wide grammar, within which the other is; how low
-    # its lowest tree is, of the other, whose trees the wide grammar has
-    build(True); bad, _, _, height = laws()
+    # what may come after each kind is said once, of both grammars; how many chains begin it, of the wide one; how low its lowest tree
+    # is, of the other, whose trees the wide grammar has
+    build(True); bad, after_narrow, _, height = laws()
     assert not bad, bad
-    build(True, widened=True); bad, after, depth, _ = laws()
+    build(True, widened=True); bad, after_wide, depth, _ = laws()
     assert not bad, bad
+    after = {k: after_narrow[k] | after_wide[k] for k in K}
+    for k in K: assert not K[k][0] or not begins(k) & after[k], k
     yield "cpp_grammar/src/wide_table.rt", rust_wide_table()
     yield "cpp_grammar/specs/Wide.antt", antt_wide()
     yield "cpp_grammar/specs/Either.antt", antt_either()

@@ -188,13 +188,14 @@ QUIET = {
     "Destructor": 1, "StdName": 1, "AbbreviatedName": 1, "NestStd": 1, "NestAbbreviated": 1, "NestTemplate": 1, "NestParameter": 1,
     "NestInternal": 1, "NestSource": 1, "NestLocalType": 1, "PackArgument": 1, "Parameter": 1, "TypeWithS": 1, "LvalueItem": 1,
     "RvalueItem": 1, "IntegerLiteral": 1, "Holder": 1, "NestTag": 1, "Tag": 1, "OtherOperatorName": 1, "OperatorNameWithC": 1,
-    "TaggedStdType": 1, "TypeTag": 1,
+    "TaggedStdType": 1, "TypeTag": 1, "ParameterExpression": 1, "BoundedArray": 1,
+    "ParameterArgument": 1, "DeclaredArgument": 0,
 }
 
 # the productions in which parts without a row may stand between those with one
 SKIPS = """Symbol Guard EncodingLiteral AddressArgument AddressElement Address NonVirtualThunk VirtualThunk VirtualOffset
     LocalName LocalType Vector LiteralArgument LiteralElement NestedName RestrictType VolatileType NestStd NestArguments
-    NestInstance NoexceptFunction Function PackArgument ConstructionVtable""".split()
+    NestInstance NoexceptFunction Function PackArgument ConstructionVtable AddressExpression BoundedArray PackOf""".split()
 
 # how many nodes a production makes before each of its parts, as far as it makes some, and at its end
 MADE_BEFORE = {
@@ -223,6 +224,9 @@ MADE_BEFORE = {
     "OperatorNameWithC": [0, 1],
     "TaggedStdType": [0, 1],
     "TypeTag": [0, 1],
+    "ParameterExpression": [0, 1],
+    "BoundedArray": [0, 1],
+    "ParameterArgument": [0, 1],
 }
 MADE_AT_END = {p: 1 for p in """InternalName LocalTypeName SourceName OperatorName Symbol Guard Encoding SpecialType NonVirtualThunk VirtualThunk
     CovariantThunk LocalName StdName AbbreviatedName Constructor Destructor Abbreviation StringLiteral Lambda RestrictType
@@ -230,7 +234,7 @@ MADE_AT_END = {p: 1 for p in """InternalName LocalTypeName SourceName OperatorNa
     TypeWithS LocalType Builtin Vendor Array Function Complex StdType RestItem LvalueItem RvalueItem Items PackArgument
     LiteralArgument AddressArgument TypeArgument LiteralElement AddressElement TypeElement Address EncodingLiteral
     BoolLiteral IntegerLiteral NullLiteral SpecialName ConstructionVtable SizedFloat Tag DefaultEntity DefaultTypeEntity Conversion OtherOperatorName
-    OperatorNameWithC Clone TaggedStdType TypeTag""".split()}
+    OperatorNameWithC Clone TaggedStdType TypeTag AnyArgument AnyElement LengthArray BoundedArray ParameterArgument""".split()}
 MADE_AT_END["CharLiteral"] = 2
 MADE_AT_END["Substitution"] = 2
 
@@ -239,7 +243,8 @@ LEAVES = """NestWithS NestParameter NestInternal NestLocalType NestSource NestSt
     NestNext NestTag NestEnd
     Abbreviation Substitution NestedType Expansion ItemIsType BuiltinWithD Vector NoexceptFunction Pointer MemberPointer
     Parameter TypeWithS LocalType Builtin Vendor Array Function Complex StdType AbbreviatedType SizedFloat
-    TaggedStdType TypeInStd""".split()
+    TaggedStdType TypeInStd ArrayType AnyArray LengthArray BoundedArray
+    ParameterArgument DeclaredArgument""".split()
 
 # ## The trees
 
@@ -284,6 +289,7 @@ TREES = [
     ("lvalue", ("t", TREE)),
     ("rvalue", ("t", TREE)),
     ("array", ("digits", BYTES), ("t", TREE)),
+    ("bounded", ("bound", TREE), ("t", TREE)),
     ("member_pointer", ("class", TREE), ("t", TREE)),
     ("function_type", ("c_linkage", TRUTH), ("noexcept", TRUTH), ("ref", MARK), ("returned", TREE), ("parameters", TREE)),
     ("qualified", ("q", QUALIFIERS), ("t", TREE)),

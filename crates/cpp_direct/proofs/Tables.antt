@@ -1,5 +1,5 @@
 -- What holds of the tables of both grammars.
-use Rattle.std.proofs.Common.{◌≡◌, inl, inr, ℕ, ◌<◌, List, [], ◌∷◌, ◌++◌, slice_get, Bool, true, false, not, cond, ◌||◌, ◌&&◌, Option, Some, None, refl, sym, ap, ◌∙◌, arith}
+use Rattle.std.proofs.Common.{◌≡◌, inl, inr, ℕ, ◌<◌, List, [], ◌∷◌, slice_get, Bool, true, false, not, ◌||◌, ◌&&◌, Option, Some, None, refl, sym, ap, ◌∙◌, arith}
 use Rattle.std.specs.Prelude.{Ok, if◌then◌else◌}
 use Rattle.std.proofs.lemmas.Bool.{and_parts}
 use Rattle.sym_core.specs.declared.NameClass.TheVariants.{Cpp}
@@ -12,7 +12,7 @@ use Rattle.sym_shape.specs.Tree.{Tree, TakesRule, IsTree, branch, empty, token, 
 use Rattle.sym_demangle.specs.Mangled.{StandsFor}
 use Rattle.cpp_grammar.specs.declared.kind.Kind.{Kind}
 use Rattle.cpp_grammar.specs.declared.production.Production.{Production}
-use Rattle.cpp_grammar.specs.Grammar.{Alternative, alternatives, choose, in_ranges, among, is_in, pick, number_of, is_chain, kinds, may_be_empty}
+use Rattle.cpp_grammar.specs.Grammar.{alternatives, choose, in_ranges, among, is_in, pick, number_of, is_chain, kinds, may_be_empty}
 use Rattle.cpp_grammar.specs.Wide.{wide_alternatives}
 use Rattle.cpp_grammar.specs.Either.{either_alternatives, either_choose}
 use Rattle.cpp_grammar.specs.KindNumbers.{SYMBOL, MAYBE_ARGUMENTS, ARGUMENTS_ALONE, NEST_REST, NEST_REST_ALONE, ARGUMENT_LIST, ARGUMENTS_FIRST}
@@ -92,60 +92,45 @@ names-are false x t is = is
 
 -- ## Kinds without tags, and without packs that begin with an I
 
--- what is chosen among the first of some alternatives is chosen among all
-pick-more : (xs ys : List Alternative) (byte : ℕ) (p : Production) → pick xs byte ≡ Some p → pick (xs ++ ys) byte ≡ Some p
-unfolding pick
-pick-more [] ys byte p is = let clash : None ≡ Some p = is in absurd cc
-pick-more (a ∷ xs) ys byte p is = go (is_in a byte) (λ h. pick-more xs ys byte p h) is
-  where
-    go : (b : Bool) → (pick xs byte ≡ Some p → pick (xs ++ ys) byte ≡ Some p) → cond b (Some a.production) (pick xs byte) ≡ Some p
-        → cond b (Some a.production) (pick (xs ++ ys) byte) ≡ Some p
-    go true rest h = h
-    go false rest h = rest h
-
-rule-more : (xs ys : List Alternative) (byte : ℕ) (rule : Rule) → rule_taken (pick xs byte) ≡ Some rule → rule_taken (pick (xs ++ ys) byte) ≡ Some rule
+rule-same : (small big : Option Production) (rule : Rule) → same_choice small big ≡ true → rule_taken small ≡ Some rule → rule_taken big ≡ Some rule
 unfolding rule_taken
-rule-more xs ys byte rule is = go (pick xs byte) refl is
-  where
-    go : (o : Option Production) → pick xs byte ≡ o → rule_taken o ≡ Some rule → rule_taken (pick (xs ++ ys) byte) ≡ Some rule
-    go None e h = let clash : None ≡ Some rule = h in absurd cc
-    go (Some p) e h = ap rule_taken (pick-more xs ys byte p e) ∙ h
+rule-same None big rule same is = let clash : None ≡ Some rule = is in absurd cc
+rule-same (Some p) big rule same is = ap rule_taken (kept (Some p) big p same refl) ∙ is
 
--- a kind with more alternatives has the trees of one that has fewer
-grows : (j k : ℕ) (small big : Kind) (more : List Alternative) → slice_get kinds j ≡ Some small → slice_get kinds k ≡ Some big
-    → either_alternatives big ≡ either_alternatives small ++ more → may_be_empty small ≡ may_be_empty big → (t : Tree)
+-- a kind with more alternatives, in whichever order, has the trees of one that has fewer
+grows : (j k : ℕ) (small big : Kind) → slice_get kinds j ≡ Some small → slice_get kinds k ≡ Some big
+    → each_below 256 (λ b. same_choice (either_choose small b) (either_choose big b)) ≡ true → may_be_empty small ≡ may_be_empty big → (t : Tree)
     → IsTree either (OfKind j) t → IsTree either (OfKind k) t
-unfolding either_choose
-grows j k small big more at_small at_big are empties (branch rule taken parts) is =
-    let found = sym (either_rule_at j small is.0.byte at_small) ∙ is.0.found in (
-      record {
-        byte = is.0.byte;
-        is_byte = is.0.is_byte;
-        found = either_rule_at k big is.0.byte at_big ∙ ap (λ l. rule_taken (pick l is.0.byte)) are
-            ∙ rule-more (either_alternatives small) more is.0.byte rule found;
-        takes = is.0.takes;
-      },
-      is.1,
-    )
-grows j k small big more at_small at_big are empties empty is = either_empty_at k big at_big ∙ sym empties ∙ sym (either_empty_at j small at_small) ∙ is
-grows j k small big more at_small at_big are empties (token t) is = absurd is
-grows j k small big more at_small at_big are empties (fixed byte) is = absurd is
+grows j k small big at_small at_big same empties (branch rule taken parts) is = (
+  record {
+    byte = is.0.byte;
+    is_byte = is.0.is_byte;
+    found = either_rule_at k big is.0.byte at_big
+        ∙ rule-same (either_choose small is.0.byte) (either_choose big is.0.byte) rule
+        (below 256 (λ b. same_choice (either_choose small b) (either_choose big b)) is.0.byte same is.0.is_byte) (sym (either_rule_at j small is.0.byte at_small) ∙ is.0.found);
+    takes = is.0.takes;
+  },
+  is.1,
+)
+grows j k small big at_small at_big same empties empty is = either_empty_at k big at_big ∙ sym empties ∙ sym (either_empty_at j small at_small) ∙ is
+grows j k small big at_small at_big same empties (token t) is = absurd is
+grows j k small big at_small at_big same empties (fixed byte) is = absurd is
 
 -- what may stand behind a parameter or a substitution may stand behind any name
 pub arguments-by : (wide : Bool) (t : Tree) → IsTree (table_by wide) (OfKind ARGUMENTS_ALONE) t → IsTree (table_by wide) (OfKind MAYBE_ARGUMENTS) t
-unfolding kinds may_be_empty either_alternatives wide_alternatives
-arguments-by true t is = grows ARGUMENTS_ALONE MAYBE_ARGUMENTS Kind.ArgumentsAlone Kind.MaybeArguments _ refl refl refl refl t is
+unfolding kinds may_be_empty in_ranges among is_in pick number_of either_choose either_alternatives wide_alternatives same_choice each_below
+arguments-by true t is = grows ARGUMENTS_ALONE MAYBE_ARGUMENTS Kind.ArgumentsAlone Kind.MaybeArguments refl refl refl refl t is
 arguments-by false t is = arguments_maybe t is
 
 pub rests-by : (wide : Bool) (t : Tree) → IsTree (table_by wide) (OfKind NEST_REST_ALONE) t → IsTree (table_by wide) (OfKind NEST_REST) t
-unfolding kinds may_be_empty either_alternatives wide_alternatives
-rests-by true t is = grows NEST_REST_ALONE NEST_REST Kind.NestRestAlone Kind.NestRest _ refl refl refl refl t is
+unfolding kinds may_be_empty in_ranges among is_in pick number_of either_choose either_alternatives wide_alternatives same_choice each_below
+rests-by true t is = grows NEST_REST_ALONE NEST_REST Kind.NestRestAlone Kind.NestRest refl refl refl refl t is
 rests-by false t is = rest_any t is
 
 -- arguments are a list of them from the first one on
 pub lists-by : (wide : Bool) (t : Tree) → IsTree (table_by wide) (OfKind ARGUMENT_LIST) t → IsTree (table_by wide) (OfKind ARGUMENTS_FIRST) t
-unfolding kinds may_be_empty either_alternatives wide_alternatives
-lists-by true t is = grows ARGUMENT_LIST ARGUMENTS_FIRST Kind.ArgumentList Kind.ArgumentsFirst _ refl refl refl refl t is
+unfolding kinds may_be_empty in_ranges among is_in pick number_of either_choose either_alternatives wide_alternatives same_choice each_below
+lists-by true t is = grows ARGUMENT_LIST ARGUMENTS_FIRST Kind.ArgumentList Kind.ArgumentsFirst refl refl refl refl t is
 lists-by false t is = list_first t is
 
 -- ## Symbols

@@ -14,8 +14,8 @@ use Rattle.cpp_grammar.specs.Term.{Term, parameter, generic_parameter}
 use Rattle.cpp_grammar.specs.Scope.{count, element, length_if_pack, is_open}
 use Rattle.cpp_grammar.specs.Values.{Candidate, State, Around, Value, tree, text_of, part, local_number}
 use Rattle.cpp_grammar.specs.References.{appended, with_packs, packs_in, substituted, parameter_named}
-use Rattle.cpp_grammar.specs.Between.{named_so_far, listed_so_far, piece_so_far, tag_so_far, parameter_so_far, index_of, between}
-use Rattle.cpp_grammar.specs.Rescoping.{generic_so_far, parameter_here, is_foreign, number_behind_mark, with_parameter, in_scope, restated, substituted_wide, between_wide, close_wide, cpp_wide, unfold_wide}
+use Rattle.cpp_grammar.specs.Between.{named_so_far, listed_so_far, piece_so_far, tag_so_far, parameter_so_far, index_of, between, next, argument_so_far}
+use Rattle.cpp_grammar.specs.Rescoping.{generic_so_far, parameter_here, is_foreign, number_behind_mark, with_parameter, in_scope, restated, substituted_wide, between_wide, close_wide, cpp_wide, unfold_wide, argument_here, generic_number}
 use Rattle.cpp_grammar.proofs.Ways.{Way, reading_by, abi_way, wide_way}
 use Rattle.cpp_grammar.specs.Unfolding.{last_token, number_tested, opening, close, production_at, byte_of, cpp, first_around, first_state, first_tree, unfold_cpp}
 
@@ -79,6 +79,11 @@ parameter_bad : (around : Around) (place k : ℕ) (vs : List Value) (state : Sta
 unfolding parameter_so_far listed_so_far
 parameter_bad around place k vs state = bad_bind (parameter_named around place k state) (λ s. listed_so_far around (parameter k) vs s) (named_bad around place k state) (λ s. tt)
 
+argument_bad : (around : Around) (place k : ℕ) (state : State) → IsBad (argument_so_far around place k state)
+unfolding argument_so_far
+argument_bad around place k state =
+    bad_bind (parameter_named around place k state) (λ s. next (tree (parameter k) true ∷ []) around (record s { candidates = state.candidates })) (named_bad around place k state) (λ s. tt)
+
 number_bad : (place : ℕ) (digits : List ℕ) (state : State) → IsBad (number_tested place digits state)
 unfolding number_tested
 number_bad place digits state = go (nat_lt (local_number digits) (2 ^ 64))
@@ -97,6 +102,9 @@ between_bad : (p : Production) (around : Around) (place : ℕ) (vs : List Value)
 unfolding between named_so_far listed_so_far piece_so_far tag_so_far
 between_bad Production.NestParameter around place (v ∷ []) state = parameter_bad around place (index_of v) [] state
 between_bad Production.Parameter around place (v ∷ []) state = parameter_bad around place (index_of v) [] state
+between_bad Production.ParameterArgument around place (v ∷ []) state = parameter_bad around (place - 1) (index_of v) [] state
+between_bad Production.ParameterExpression around place (v ∷ []) state = argument_bad around place (index_of v) state
+between_bad Production.BoundedArray around place (v ∷ []) state = argument_bad around place (index_of v) state
 between_bad Production.Symbol around place [] state = tt
 between_bad _ around place [] state = tt
 between_bad _ around place (v ∷ []) state = tt
@@ -121,6 +129,14 @@ here_bad around place k state = go around.in_lambda
     go : (b : Bool) → IsBad {A = Next Value State Around} (elim b [ true ↦ generic_so_far around k [] state | false ↦ parameter_so_far around place k [] state ])
     go true = tt
     go false = parameter_bad around place k [] state
+
+argument_here_bad : (around : Around) (place k : ℕ) (state : State) → IsBad (argument_here around place k state)
+unfolding argument_here
+argument_here_bad around place k state = go around.in_lambda
+  where
+    go : (b : Bool) → IsBad {A = Next Value State Around} (elim b [ true ↦ next (tree (generic_parameter (generic_number k)) true ∷ []) around state | false ↦ argument_so_far around place k state ])
+    go true = tt
+    go false = argument_bad around place k state
 
 scope_bad : (around : Around) (place : ℕ) (t : Term) (k : ℕ) (state : State) → IsBad (in_scope around place t k state)
 unfolding in_scope
@@ -180,6 +196,9 @@ wide_between_bad : (p : Production) (around : Around) (place : ℕ) (vs : List V
 unfolding between_wide
 wide_between_bad Production.NestParameter around place (v ∷ []) state = here_bad around place (index_of v) state
 wide_between_bad Production.Parameter around place (v ∷ []) state = here_bad around place (index_of v) state
+wide_between_bad Production.ParameterArgument around place (v ∷ []) state = here_bad around (place - 1) (index_of v) state
+wide_between_bad Production.ParameterExpression around place (v ∷ []) state = argument_here_bad around place (index_of v) state
+wide_between_bad Production.BoundedArray around place (v ∷ []) state = argument_here_bad around place (index_of v) state
 wide_between_bad p around place vs state = between_bad p around place vs state
 
 wide_close_bad : (p : Production) (byte : ℕ) (around : Around) (place : ℕ) (began : State) (vs : List Value) (state : State) → IsBad (close_wide p byte around place began vs state)

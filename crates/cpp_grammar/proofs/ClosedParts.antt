@@ -1,14 +1,14 @@
 -- What is done between the parts of a production keeps to what is closed.
-use Rattle.std.proofs.Common.{◌≡◌, refl, subst, ℕ, List, [], ◌∷◌, Bool, true, false, None, Ok}
+use Rattle.std.proofs.Common.{◌≡◌, refl, subst, ℕ, ◌-◌, List, [], ◌∷◌, Bool, true, false, None, Ok}
 use Rattle.std.proofs.lemmas.Bool.{true≢false}
 use Rattle.sym_link.specs.Reading.{Next}
 use Rattle.cpp_grammar.specs.declared.production.Production.{Production}
-use Rattle.cpp_grammar.specs.Rescoping.{generic_number, generic_so_far, parameter_here, between_wide}
+use Rattle.cpp_grammar.specs.Rescoping.{generic_number, generic_so_far, parameter_here, between_wide, argument_here}
 use Rattle.cpp_grammar.specs.Term.{Term, generic_parameter, in_std, instance, holder, parameter, lvalue, rvalue, pack, source, operator, constructor, destructor}
 use Rattle.cpp_grammar.specs.Scope.{is_open}
 use Rattle.cpp_grammar.specs.Values.{State, Around, prefix_tree, Value, tree, tree_of, piece_of, is_listed, letter_of, text_of}
 use Rattle.cpp_grammar.specs.References.{appended, with_type, with_prefix, parameter_named}
-use Rattle.cpp_grammar.specs.Between.{in_signature, under_expansion, after, inside, extended, applied, no_items, Going, named_so_far, listed_so_far, piece_so_far, with_tag, tag_so_far, parameter_so_far, index_of, between}
+use Rattle.cpp_grammar.specs.Between.{in_signature, under_expansion, after, inside, extended, applied, no_items, Going, named_so_far, listed_so_far, piece_so_far, with_tag, tag_so_far, parameter_so_far, index_of, between, next, argument_so_far}
 use Rattle.cpp_grammar.proofs.ClosedValues.{Good, AllGood, GoodPrefix, held, good_tree, good_piece, good_no_items, good_applied, good_instance, good_extended, good_prefix}
 use Rattle.cpp_grammar.proofs.ClosedStates.{Bare, Grows, grows_same, grows_one, with_prefix_grows, with_type_grows, parameter_good, generic_good, parameter_grows, ok_same, behind_bind}
 
@@ -85,6 +85,16 @@ same_goes : (around : Around) (at : ℕ) (state : State) (vs : List Value) (n : 
     ◌≡◌ {A = Going} (Ok (record { context = around; values = vs; state = state })) (Ok n) → Goes around at state n
 same_goes around at state vs n pre all e = goes around at state vs around state n all (grows_same around at state state refl) (fits_same around pre) e
 
+-- a parameter that is an argument itself leaves the candidates
+argument_goes : (around : Around) (place at : ℕ) (state : State) (k : ℕ) (n : Next Value State Around) → GoodPrefix (Bare around) around.prefix → argument_so_far around place k state ≡ Ok n →
+    Goes around at state n
+unfolding argument_so_far held
+argument_goes around place at state k n pre e =
+    let b = behind_bind (parameter_named around place k state) (λ s. next (tree (parameter k) true ∷ []) around (record s { candidates = state.candidates })) n e in
+    let named = parameter_grows around place k at state b.value b.is in
+    let new : State = record b.value { candidates = state.candidates } in
+    goes around at state (tree (parameter k) true ∷ []) around new n (parameter_good around k named.scoped, tt) (grows_same around at state new refl) (fits_same around pre) b.next
+
 good_leaf : (s : Type 0) (internal : Bool) (bytes : List ℕ) → Good s (source internal bytes)
 unfolding is_open
 good_leaf s internal bytes = record { closed = λ h. refl; scopes = tt }
@@ -156,6 +166,10 @@ between_goes Production.Lambda around place vs state n at stays pre all e = goes
 between_goes Production.Expansion around place vs state n at stays pre all e =
     goes around at state vs (under_expansion around) (record state { packs = None }) n all (grows_same around at state (record state { packs = None }) refl) (fits_expansion around pre) e
 between_goes Production.Parameter around place (v ∷ []) state n at stays pre all e = parameter_goes around place at state (index_of v) n e
+between_goes Production.ParameterArgument around place (v ∷ []) state n at stays pre all e = parameter_goes around (place - 1) at state (index_of v) n e
+between_goes Production.DeclaredArgument around place [] state n at stays pre all e = goes around at state [] (in_signature around) state n tt (grows_same around at state state refl) (fits_signature around) e
+between_goes Production.ParameterExpression around place (v ∷ []) state n at stays pre all e = argument_goes around place at state (index_of v) n pre e
+between_goes Production.BoundedArray around place (v ∷ []) state n at stays pre all e = argument_goes around place at state (index_of v) n pre e
 between_goes Production.TypeWithS around place (v ∷ []) state n at stays pre all e =
     goes around at state (v ∷ []) (after (tree_of v) (is_listed v) around) state n all (grows_same around at state state refl) (fits_after around (tree_of v) (is_listed v) (good_tree _ v all.0)) e
 between_goes Production.LvalueItem around place (v ∷ []) state n at stays pre all e =
@@ -185,9 +199,24 @@ here_goes around place at state k n e = go around.in_lambda e
     go true h = generic_goes around at state k n h
     go false h = parameter_goes around place at state k n h
 
+argument_here_goes : (around : Around) (place at : ℕ) (state : State) (k : ℕ) (n : Next Value State Around) → GoodPrefix (Bare around) around.prefix → argument_here around place k state ≡ Ok n →
+    Goes around at state n
+unfolding argument_here held
+argument_here_goes around place at state k n pre e = go around.in_lambda e
+  where
+    own : Value
+    own = tree (generic_parameter (generic_number k)) true
+
+    go : (b : Bool) → ◌≡◌ {A = Going} (elim b [ true ↦ next (own ∷ []) around state | false ↦ argument_so_far around place k state ]) (Ok n) → Goes around at state n
+    go true h = goes around at state (own ∷ []) around state n (generic_good (Bare around) (generic_number k), tt) (grows_same around at state state refl) (fits_same around pre) h
+    go false h = argument_goes around place at state k n pre h
+
 pub wide_goes : (production : Production) (around : Around) (place : ℕ) (vs : List Value) (state : State) (n : Next Value State Around) (at : ℕ) → StaysInside production →
     GoodPrefix (Bare around) around.prefix → AllGood (Bare around) vs → between_wide production around place vs state ≡ Ok n → Goes around at state n
 unfolding between_wide
 wide_goes Production.Parameter around place (v ∷ []) state n at stays pre all e = here_goes around place at state (index_of v) n e
 wide_goes Production.NestParameter around place (v ∷ []) state n at stays pre all e = here_goes around place at state (index_of v) n e
+wide_goes Production.ParameterArgument around place (v ∷ []) state n at stays pre all e = here_goes around (place - 1) at state (index_of v) n e
+wide_goes Production.ParameterExpression around place (v ∷ []) state n at stays pre all e = argument_here_goes around place at state (index_of v) n pre e
+wide_goes Production.BoundedArray around place (v ∷ []) state n at stays pre all e = argument_here_goes around place at state (index_of v) n pre e
 wide_goes p around place vs state n at stays pre all e = between_goes p around place vs state n at stays pre all e

@@ -262,6 +262,9 @@ unfolding opens is_reference
 opens_apart Production.Parameter o = absurd (false≢true o)
 opens_apart Production.NestParameter o = absurd (false≢true o)
 opens_apart Production.Substitution o = absurd (false≢true o)
+opens_apart Production.ParameterArgument o = absurd (false≢true o)
+opens_apart Production.ParameterExpression o = absurd (false≢true o)
+opens_apart Production.BoundedArray o = absurd (false≢true o)
 opens_apart _ o = refl
 
 -- ## Encodings

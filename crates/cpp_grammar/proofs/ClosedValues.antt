@@ -2,7 +2,7 @@
 use Rattle.std.proofs.Common.{◌≡◌, refl, ℕ, zero, suc, List, [], ◌∷◌, Bool, true, false, ◌||◌, ◌&&◌, cond, nat_eq}
 use Rattle.std.proofs.lemmas.Bool.{true≢false}
 use Rattle.cpp_grammar.specs.declared.production.Production.{Production}
-use Rattle.cpp_grammar.specs.Term.{RefQualifier, lvalue_only, rvalue_only, Term, symbol, function, within, instance, local, of_default, string_literal, conversion, lvalue, rvalue, member_pointer, function_type, nil, list, absent}
+use Rattle.cpp_grammar.specs.Term.{RefQualifier, lvalue_only, rvalue_only, Term, symbol, function, within, instance, local, of_default, string_literal, conversion, lvalue, rvalue, member_pointer, function_type, nil, list, absent, bounded}
 use Rattle.cpp_grammar.specs.Scope.{arguments_of, is_open, has_return_type}
 use Rattle.cpp_grammar.specs.Closed.{HasNoneFree, ScopesAreClosed}
 use Rattle.cpp_grammar.specs.Values.{Around, Prefix, outermost, behind, prefix_tree, Value, nothing_there, letter, tree, piece, named, signature, tree_of, text_of, piece_of, qualifiers_of, ref_of, is_there, part}
@@ -79,6 +79,10 @@ good_within s a b g h = record { closed = λ c. or_no _ _ (g.closed c) (h.closed
 good_member : (s : Type 0) (a b : Term) → Good s a → Good s b → Good s (member_pointer a b)
 unfolding is_open
 good_member s a b g h = record { closed = λ c. or_no _ _ (g.closed c) (h.closed c); scopes = (g.scopes, h.scopes) }
+
+good_bounded : (s : Type 0) (a b : Term) → Good s a → Good s b → Good s (bounded a b)
+unfolding is_open
+good_bounded s a b g h = record { closed = λ c. or_no _ _ (g.closed c) (h.closed c); scopes = (g.scopes, h.scopes) }
 
 good_nil : (s : Type 0) → Good s nil
 unfolding is_open
@@ -269,6 +273,10 @@ meaning_good s Production.Array byte around vs pre all name = let g = good_part 
 meaning_good s Production.Function byte around vs pre all name = good_function s (is_there (part vs 0)) false (ref_of (part vs 2)) _ _ (good_part s vs 1 all) (good_part s vs 2 all)
 meaning_good s Production.Complex byte around vs pre all name = let g = good_part s vs 0 all in record { closed = g.closed; scopes = g.scopes }
 meaning_good s Production.Pointer byte around vs pre all name = let g = good_part s vs 0 all in record { closed = g.closed; scopes = g.scopes }
+meaning_good s Production.ArrayType byte around vs pre all name = good_held s vs 0 all
+meaning_good s Production.AnyArray byte around vs pre all name = good_held s vs 0 all
+meaning_good s Production.LengthArray byte around vs pre all name = let g = good_part s vs 1 all in record { closed = g.closed; scopes = g.scopes }
+meaning_good s Production.BoundedArray byte around vs pre all name = good_bounded s _ _ (good_part s vs 0 all) (good_part s vs 2 all)
 meaning_good s Production.MemberPointer byte around vs pre all name = good_member s _ _ (good_part s vs 0 all) (good_part s vs 1 all)
 meaning_good s Production.Parameter byte around vs pre all name = good_name s vs all
 meaning_good s Production.TypeWithS byte around vs pre all name = good_name s vs all
@@ -289,6 +297,16 @@ meaning_good s Production.PackArgument byte around vs pre all name = good_pair s
 meaning_good s Production.LiteralArgument byte around vs pre all name = good_pair s vs 0 2 all
 meaning_good s Production.AddressArgument byte around vs pre all name = good_pair s vs 2 3 all
 meaning_good s Production.TypeArgument byte around vs pre all name = good_pair s vs 0 1 all
+meaning_good s Production.AnyArgument byte around vs pre all name = good_pair s vs 0 1 all
+meaning_good s Production.AnyElement byte around vs pre all name = good_pair s vs 0 1 all
+meaning_good s Production.PlainArgument byte around vs pre all name = good_part s vs 0 all
+meaning_good s Production.ArgumentWithT byte around vs pre all name = good_part s vs 0 all
+meaning_good s Production.ParameterArgument byte around vs pre all name = good_name s vs all
+meaning_good s Production.DeclaredArgument byte around vs pre all name = good_part s vs 1 all
+meaning_good s Production.OneLiteral byte around vs pre all name = good_held s vs 0 all
+meaning_good s Production.Expression byte around vs pre all name = good_held s vs 0 all
+meaning_good s Production.AddressExpression byte around vs pre all name = good_held s vs 1 all
+meaning_good s Production.ParameterExpression byte around vs pre all name = good_held s vs 0 all
 meaning_good s Production.LiteralElement byte around vs pre all name = good_pair s vs 0 2 all
 meaning_good s Production.AddressElement byte around vs pre all name = good_pair s vs 2 3 all
 meaning_good s Production.TypeElement byte around vs pre all name = good_pair s vs 0 1 all

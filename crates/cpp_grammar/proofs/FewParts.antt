@@ -6,7 +6,7 @@ use Rattle.std.proofs.lemmas.List.{length-append}
 use Rattle.sym_print.specs.declared.detail.Detail.{Detail}
 use Rattle.sym_print.specs.Details.{has_arguments, has_parameters}
 use Rattle.sym_print.specs.Unfold.{PartOf, text, sub}
-use Rattle.cpp_grammar.specs.Term.{Qualifiers, RefQualifier, Signed, Term, symbol, function, object, of_name, alone, in_std, within, instance, local, holder, tagged, abbreviation, parameter, source, constructor, destructor, lambda, sized_float, pointer, lvalue, rvalue, array, member_pointer, function_type, qualified, expansion, integer, pack, nil, list, absent}
+use Rattle.cpp_grammar.specs.Term.{Qualifiers, RefQualifier, Signed, Term, symbol, function, object, of_name, alone, in_std, within, instance, local, holder, tagged, abbreviation, parameter, source, constructor, destructor, lambda, sized_float, pointer, lvalue, rvalue, array, bounded, member_pointer, function_type, qualified, expansion, integer, pack, nil, list, absent}
 use Rattle.cpp_grammar.specs.Items.{Form, root, full, bare, left, right, low, base, piece, first, more, expand, Context, Item, closed, head, is_reference, is_funarr, packs_of, is_empty}
 use Rattle.cpp_grammar.specs.Parts.{as_item, says, text_part, list_part, piece_parts, within_parts, last_piece, opening_text, instance_parts, marked_parts, reference_parts, qualified_left, blank_last, qualifier_text, expansion_parts, sign_part, is_plain_integer, integer_parts, builtin_code, member_parts, array_left, float_parts, left_parts, low_parts, function_right, ref_text, closing_right, qualified_right, right_parts, base_within, base_tagged, base_parts, types_of, encoding_text, function_bare, function_full, full_parts, bare_parts, root_parts, first_parts, more_parts, at_index, is_below, comma_before, expand_rest, expand_parts, parts_in, not_empty, parts, own_piece}
 use Rattle.cpp_grammar.specs.Scope.{without_tags}
@@ -117,6 +117,7 @@ left_few d c (pointer t) = omega (arith, marked_few c t "*")
 left_few d c (lvalue t) = omega (arith, reference_few c low t "&")
 left_few d c (rvalue t) = omega (arith, reference_few c left t "&&")
 left_few d c (array digits t) = omega (arith, array_few c t)
+left_few d c (bounded bound t) = omega (arith, array_few c t)
 left_few d c (member_pointer class t) = omega (arith, member_few c class t)
 left_few d c (qualified q t) = omega (arith, qualified_few c q t)
 left_few d c (expansion t) = omega (arith, expansion_few c t (packs_of c t))

@@ -1,7 +1,7 @@
 -- The reading of the ABI's grammar makes no parameters of lambdas.
 use Rattle.std.proofs.Common.{◌≡◌, refl, ℕ, zero, suc, List, [], ◌∷◌, Bool, true, false, ◌&&◌, cond, nat_eq}
 use Rattle.cpp_grammar.specs.declared.production.Production.{Production}
-use Rattle.cpp_grammar.specs.Term.{RefQualifier, lvalue_only, rvalue_only, Term, symbol, function, within, instance, string_literal, conversion, lvalue, rvalue, member_pointer, function_type, nil, list, absent}
+use Rattle.cpp_grammar.specs.Term.{RefQualifier, lvalue_only, rvalue_only, Term, symbol, function, within, instance, string_literal, conversion, lvalue, rvalue, member_pointer, function_type, nil, list, absent, bounded}
 use Rattle.cpp_grammar.specs.Scope.{is_generic, has_return_type}
 use Rattle.cpp_grammar.specs.Values.{Around, Prefix, outermost, behind, prefix_tree, Value, nothing_there, letter, piece, named, tree_of, text_of, piece_of, qualifiers_of, ref_of, is_there, part}
 use Rattle.cpp_grammar.specs.Between.{extended, applied, no_items}
@@ -57,6 +57,10 @@ none_within a b g h = or_no _ _ g h
 none_member : (a b : Term) → HasNone a → HasNone b → HasNone (member_pointer a b)
 unfolding is_generic
 none_member a b g h = or_no _ _ g h
+
+none_bounded : (a b : Term) → HasNone a → HasNone b → HasNone (bounded a b)
+unfolding is_generic
+none_bounded a b g h = or_no _ _ g h
 
 pub none_no_items : (v : Value) → HasNone (tree_of v) → HasNone (no_items v)
 unfolding no_items tree_of is_generic
@@ -203,6 +207,10 @@ meaning_none Production.Array byte around vs pre all = none_part vs 1 all
 meaning_none Production.Function byte around vs pre all = none_function (is_there (part vs 0)) false (ref_of (part vs 2)) (tree_of (part vs 1)) (tree_of (part vs 2)) (none_part vs 1 all) (none_part vs 2 all)
 meaning_none Production.Complex byte around vs pre all = none_part vs 0 all
 meaning_none Production.Pointer byte around vs pre all = none_part vs 0 all
+meaning_none Production.ArrayType byte around vs pre all = none_held vs 0 all
+meaning_none Production.AnyArray byte around vs pre all = none_held vs 0 all
+meaning_none Production.LengthArray byte around vs pre all = none_part vs 1 all
+meaning_none Production.BoundedArray byte around vs pre all = none_bounded (tree_of (part vs 0)) (tree_of (part vs 2)) (none_part vs 0 all) (none_part vs 2 all)
 meaning_none Production.MemberPointer byte around vs pre all = none_member (tree_of (part vs 0)) (tree_of (part vs 1)) (none_part vs 0 all) (none_part vs 1 all)
 meaning_none Production.Parameter byte around vs pre all = none_name vs all
 meaning_none Production.TypeWithS byte around vs pre all = none_name vs all
@@ -222,6 +230,16 @@ meaning_none Production.PackArgument byte around vs pre all = none_pair vs 0 2 a
 meaning_none Production.LiteralArgument byte around vs pre all = none_pair vs 0 2 all
 meaning_none Production.AddressArgument byte around vs pre all = none_pair vs 2 3 all
 meaning_none Production.TypeArgument byte around vs pre all = none_pair vs 0 1 all
+meaning_none Production.AnyArgument byte around vs pre all = none_pair vs 0 1 all
+meaning_none Production.AnyElement byte around vs pre all = none_pair vs 0 1 all
+meaning_none Production.PlainArgument byte around vs pre all = none_part vs 0 all
+meaning_none Production.ArgumentWithT byte around vs pre all = none_part vs 0 all
+meaning_none Production.ParameterArgument byte around vs pre all = none_name vs all
+meaning_none Production.DeclaredArgument byte around vs pre all = none_part vs 1 all
+meaning_none Production.OneLiteral byte around vs pre all = none_held vs 0 all
+meaning_none Production.Expression byte around vs pre all = none_held vs 0 all
+meaning_none Production.AddressExpression byte around vs pre all = none_held vs 1 all
+meaning_none Production.ParameterExpression byte around vs pre all = none_held vs 0 all
 meaning_none Production.LiteralElement byte around vs pre all = none_pair vs 0 2 all
 meaning_none Production.AddressElement byte around vs pre all = none_pair vs 2 3 all
 meaning_none Production.TypeElement byte around vs pre all = none_pair vs 0 1 all

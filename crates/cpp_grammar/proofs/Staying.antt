@@ -10,15 +10,15 @@ use Rattle.sym_shape.specs.Tree.{Tree, Forest, branch, empty, token, fixed, noth
 use Rattle.sym_link.specs.Reading.{Found, Next, Open, ◌>>=◌}
 use Rattle.sym_link.specs.Unfold.{found, alone, standing, unfold_tree, unfold_forest}
 use Rattle.cpp_grammar.specs.declared.production.Production.{Production}
-use Rattle.cpp_grammar.specs.Term.{Term, in_std, instance, holder, parameter, lvalue, rvalue, source, operator, constructor, destructor}
+use Rattle.cpp_grammar.specs.Term.{Term, in_std, instance, holder, parameter, lvalue, rvalue, source, operator, constructor, destructor, generic_parameter}
 use Rattle.cpp_grammar.specs.Scope.{count, element, is_open, is_generic, length_if_pack}
 use Rattle.cpp_grammar.specs.Values.{Candidate, State, Around, prefix_tree, prefix_listed, Value, nothing_there, text, tree, tree_of, piece_of, is_listed, letter_of, text_of, part}
 use Rattle.cpp_grammar.specs.References.{appended, is_function_type, with_type, with_unqualified, with_prefix, with_packs, packs_in, substituted, parameter_named}
-use Rattle.cpp_grammar.specs.Between.{in_name, in_types, in_signature, under_expansion, after, inside, extended, applied, no_items, Going, named_so_far, listed_so_far, piece_so_far, with_tag, tag_so_far, parameter_so_far, index_of, between}
+use Rattle.cpp_grammar.specs.Between.{in_name, in_types, in_signature, under_expansion, after, inside, extended, applied, no_items, Going, named_so_far, listed_so_far, piece_so_far, with_tag, tag_so_far, parameter_so_far, index_of, between, next, argument_so_far}
 use Rattle.cpp_grammar.specs.Meaning.{meaning}
 use Rattle.cpp_grammar.specs.Unfolding as unfolding_
 use Rattle.cpp_grammar.specs.Unfolding.{opening, close, production_at, byte_of, cpp, first_around, first_state, first_tree, unfold_cpp}
-use Rattle.cpp_grammar.specs.Rescoping.{generic_so_far, parameter_here, is_foreign, restated, substituted_wide, between_wide, close_wide, cpp_wide, unfold_wide}
+use Rattle.cpp_grammar.specs.Rescoping.{generic_so_far, parameter_here, is_foreign, restated, substituted_wide, between_wide, close_wide, cpp_wide, unfold_wide, argument_here, generic_number}
 use Rattle.cpp_grammar.proofs.ClosedValues.{held}
 use Rattle.cpp_grammar.proofs.ClosedStates.{ok_same, behind_bind}
 use Rattle.cpp_grammar.proofs.ClosedTrees.{opening_keeps}
@@ -162,6 +162,14 @@ parameter_none around place k state settled cs = go around.scope
     go None = tt
     go (Some arguments) = tested arguments (nat_lt k (count arguments))
 
+argument_none : (around : Around) (place k : ℕ) (state : State) → Settled around → AllHaveNone state.candidates → IfOk (argument_so_far around place k state) NextHasNone
+unfolding argument_so_far held is_generic
+argument_none around place k state settled cs = go (parameter_named around place k state)
+  where
+    go : (m : Result State Refusal) → IfOk {T = Next Value State Around} (m >>= λ s. next (tree (parameter k) true ∷ []) around (record s { candidates = state.candidates })) NextHasNone
+    go (Ok s) = record { values = (refl, tt); context = settled; candidates = cs }
+    go (Err e) = tt
+
 between_none : (p : Production) (around : Around) (place : ℕ) (vs : List Value) (state : State) → Settled around → AllNone vs → AllHaveNone state.candidates → IfOk (between p around place vs state) NextHasNone
 unfolding between held is_generic named_so_far listed_so_far piece_so_far
 between_none Production.Encoding around place [] state settled all cs = record { values = tt; context = name_none place; candidates = cs }
@@ -181,6 +189,10 @@ between_none Production.Conversion around place [] state settled all cs = record
 between_none Production.Constructor around place (v ∷ []) state settled all cs = piece_none around (constructor (letter_of v)) state settled refl cs
 between_none Production.Destructor around place (v ∷ []) state settled all cs = piece_none around (destructor (letter_of v)) state settled refl cs
 between_none Production.StdName around place (v ∷ []) state settled all cs = named_none around (in_std (piece_of v)) false [] state settled (none_piece v all.0) tt cs
+between_none Production.ParameterArgument around place (v ∷ []) state settled all cs = parameter_none around (place - 1) (index_of v) state settled cs
+between_none Production.DeclaredArgument around place [] state settled all cs = record { values = tt; context = signature_none around; candidates = cs }
+between_none Production.ParameterExpression around place (v ∷ []) state settled all cs = argument_none around place (index_of v) state settled cs
+between_none Production.BoundedArray around place (v ∷ []) state settled all cs = argument_none around place (index_of v) state settled cs
 between_none Production.TaggedStdType around place (v ∷ []) state settled all cs = named_none around (in_std (piece_of v)) false [] state settled (none_piece v all.0) tt cs
 between_none Production.AbbreviatedName around place (v ∷ []) state settled all cs = named_none around (tree_of v) true [] state settled (none_tree v all.0) tt cs
 between_none Production.NestStd around place (v ∷ []) state settled all cs = named_none around (in_std (piece_of v)) false [] state settled (none_piece v all.0) tt cs
@@ -237,6 +249,8 @@ behind_none Production.VolatileType byte around began vs state settled all cs = 
 behind_none Production.ConstType byte around began vs state settled all cs = made_none Production.ConstType byte around vs state settled all cs
 behind_none Production.ReferenceType byte around began vs state settled all cs = made_none Production.ReferenceType byte around vs state settled all cs
 behind_none Production.PlainType byte around began vs state settled all cs = typed_none around (part vs 0) state (none_part vs 0 all) cs
+behind_none Production.PlainArgument byte around began vs state settled all cs = typed_none around (part vs 0) state (none_part vs 0 all) cs
+behind_none Production.ArgumentWithT byte around began vs state settled all cs = typed_none around (part vs 0) state (none_part vs 0 all) cs
 behind_none Production.TypeWithD byte around began vs state settled all cs = typed_none around (part vs 0) state (none_part vs 0 all) cs
 behind_none Production.ItemWithD byte around began vs state settled all cs = typed_none around (part vs 0) state (none_part vs 0 all) cs
 behind_none Production.QualifiedPlain byte around began vs state settled all cs = unqualified_none around (part vs 0) state (none_part vs 0 all) cs
@@ -263,10 +277,31 @@ here_stays around place k state n settled e = go around.in_lambda refl
     go true is = absurd (nowhere around.scope (settled.bare is) e)
     go false is = e
 
+argument_stays : (around : Around) (place k : ℕ) (state : State) (n : Next Value State Around) → Settled around → argument_so_far around place k state ≡ Ok n → argument_here around place k state ≡ Ok n
+unfolding argument_here argument_so_far parameter_named
+argument_stays around place k state n settled e = go around.in_lambda refl
+  where
+    nowhere : (o : Option Term) → o ≡ None → ((elim o as (λ _. Result State Refusal) [
+      | None ↦ Err (BadReference place)
+      | Some arguments ↦ elim (nat_lt k (count arguments)) [
+        | false ↦ Err (BadReference place)
+        | true ↦ with_packs place around.in_expansion (length_if_pack (element arguments k)) state >>= λ s. Ok (appended around (parameter k) s)
+      ]
+    ]) >>= λ s. next (tree (parameter k) true ∷ []) around (record s { candidates = state.candidates })) ≡ Ok n → ⊥
+    nowhere None is h = let clash : ◌≡◌ {A = Going} (Err (BadReference place)) (Ok n) = h in cc
+    nowhere (Some arguments) is h = cc
+
+    go : (b : Bool) → around.in_lambda ≡ b → ◌≡◌ {A = Going} (elim b [ true ↦ next (tree (generic_parameter (generic_number k)) true ∷ []) around state | false ↦ argument_so_far around place k state ]) (Ok n)
+    go true is = absurd (nowhere around.scope (settled.bare is) e)
+    go false is = e
+
 between_stays : (p : Production) (around : Around) (place : ℕ) (vs : List Value) (state : State) (n : Next Value State Around) → Settled around → between p around place vs state ≡ Ok n → between_wide p around place vs state ≡ Ok n
 unfolding between between_wide
 between_stays Production.Parameter around place (v ∷ []) state n settled e = here_stays around place (index_of v) state n settled e
 between_stays Production.NestParameter around place (v ∷ []) state n settled e = here_stays around place (index_of v) state n settled e
+between_stays Production.ParameterArgument around place (v ∷ []) state n settled e = here_stays around (place - 1) (index_of v) state n settled e
+between_stays Production.ParameterExpression around place (v ∷ []) state n settled e = argument_stays around place (index_of v) state n settled e
+between_stays Production.BoundedArray around place (v ∷ []) state n settled e = argument_stays around place (index_of v) state n settled e
 between_stays _ around place vs state n settled e = e
 
 -- what isn't refused isn't foreign

@@ -34,6 +34,9 @@ unfoldable pub is_reference : Production → Bool
 is_reference Production.Parameter = true
 is_reference Production.NestParameter = true
 is_reference Production.Substitution = true
+is_reference Production.ParameterArgument = true
+is_reference Production.ParameterExpression = true
+is_reference Production.BoundedArray = true
 is_reference _ = false
 
 -- all others go as in the reading of the ABI's grammar
@@ -50,6 +53,9 @@ plain_between : (p : Production) → is_reference p ≡ false → (around : Arou
 unfolding is_reference between_wide
 plain_between Production.Parameter apart around place vs state = absurd (true≢false apart)
 plain_between Production.NestParameter apart around place vs state = absurd (true≢false apart)
+plain_between Production.ParameterArgument apart around place vs state = absurd (true≢false apart)
+plain_between Production.ParameterExpression apart around place vs state = absurd (true≢false apart)
+plain_between Production.BoundedArray apart around place vs state = absurd (true≢false apart)
 plain_between _ apart around place vs state = refl
 
 plain_close : (p : Production) → is_reference p ≡ false → (byte : ℕ) (around : Around) (place : ℕ) (began : State) (vs : List Value) (state : State) →

@@ -1,29 +1,31 @@
 -- What a widened tree stands for is what the tree stands for.
 use Rattle.std.proofs.Common.{◌≡◌, ℕ, ◌+◌, ◌-◌, ◌<◌, List, [], ◌∷◌, ◌++◌, length, Bool, true, false, nat_eq, Result, Ok, Err, refl, ap, sym, ◌∙◌, subst, add-zero, append-nil, arith}
+use Rattle.std.proofs.lemmas.Bool.{true≢false}
 use Rattle.sym_core.specs.declared.refusal.Refusal.{Refusal}
+use Rattle.sym_core.specs.Token.{Token}
 use Rattle.sym_shape.specs.declared.rule.Rule.{Rule}
 use Rattle.sym_shape.specs.declared.rule.Sym.{Sym}
 use Rattle.sym_shape.specs.declared.rule.Sym.TheVariants.{Kind as OfKind, Name, Number, Byte}
 use Rattle.sym_shape.specs.Table.{symbols_of}
 use Rattle.sym_shape.specs.Law.{IsSymbol, AreSymbols}
 use Rattle.sym_shape.specs.Tree.{Tree, Forest, branch, empty, token, fixed, nothing, grown, spell, TakesRule, IsTree, AreTrees}
-use Rattle.sym_link.specs.Reading.{Found, Open, ◌>>=◌}
+use Rattle.sym_link.specs.Reading.{Found, Next, Open, ◌>>=◌}
 use Rattle.sym_link.specs.Unfold.{found, alone, standing, unfold_tree, unfold_forest}
 use Rattle.sym_link.proofs.Steps.{bind_same}
 use Rattle.cpp_grammar.specs.declared.production.Production.{Production}
-use Rattle.cpp_grammar.specs.KindNumbers.{SYMBOL, NEST_REST_ALONE, COMPONENT, OPERATOR}
+use Rattle.cpp_grammar.specs.KindNumbers.{SYMBOL, NEST_REST_ALONE, COMPONENT, OPERATOR, ARGUMENT_LIST, PACK_LIST, ITEM, SOLID}
 use Rattle.cpp_grammar.specs.Grammar.{productions, number_of, number_of_kind, parts_of, is_chain}
 use Rattle.cpp_grammar.specs.Table.{rule_of, padded, wide, either}
 use Rattle.cpp_grammar.specs.Term.{instance, operator}
 use Rattle.cpp_grammar.specs.Values.{State, Around, prefix_tree, prefix_listed, Value, nothing_there, text, tree, tree_of, piece_of, letter_of, is_there, part}
 use Rattle.cpp_grammar.specs.Values as leaf_
 use Rattle.cpp_grammar.specs.References.{appended, with_prefix}
-use Rattle.cpp_grammar.specs.Between.{in_name, inside, after, no_items, applied, extended, piece_so_far, named_so_far, listed_so_far, applied, between}
+use Rattle.cpp_grammar.specs.Between.{in_name, inside, after, no_items, applied, extended, piece_so_far, named_so_far, listed_so_far, parameter_so_far, index_of, applied, between}
 use Rattle.cpp_grammar.specs.Meaning.{meaning}
 use Rattle.cpp_grammar.specs.Unfolding as unfolding_
 use Rattle.cpp_grammar.specs.Unfolding.{last_token, number_tested, opening, close, production_at, byte_of, cpp, first_around, first_state, first_tree, unfold_cpp}
-use Rattle.cpp_grammar.specs.Widened.{Change, with_rest, within_name, with_g, with_t, unchanged, rest_or_end, with_rest_or_end, letters_component, operator_component, variable_with_g, type_without_tags, change_of, changed, widened_branch, widened_as, widened_all, widened}
-use Rattle.cpp_grammar.proofs.Widening.{arguments_rule, next_rule, rest_rule, takes_its, as_wide, aside, behind_s, of_operator, of_variable, in_std_, chosen_rule, with_c, without_c, operator_rule, without_c_letters, same_branch, spell_as, widened_trees, either_symbols, either_start}
+use Rattle.cpp_grammar.specs.Widened.{Change, with_rest, within_name, with_g, with_t, with_x, with_a, with_item, unchanged, rest_or_end, with_rest_or_end, letters_component, operator_component, variable_with_g, type_without_tags, address_as_expression, array_behind_letter, plain_argument, as_argument, argument_behind, change_of, changed, widened_branch, widened_as, widened_all, widened}
+use Rattle.cpp_grammar.proofs.Widening.{arguments_rule, next_rule, rest_rule, takes_its, as_wide, aside, behind_s, of_operator, of_variable, in_std_, of_array, of_item, IsItem, item_argument, item_element, item_parts, Typed, plain_item, other_item, typed, spell_argument, Solid, of_parameter, of_other, solid, no_empty_solid, of_address, IsAddress, in_arguments, in_packs, address_parts, chosen_rule, with_c, without_c, operator_rule, without_c_letters, same_branch, spell_as, widened_trees, either_symbols, either_start}
 
 -- ## A tree has one value
 
@@ -63,6 +65,12 @@ deep_same : (m : Result Read Refusal) → One m → (a b c d f g : Read → Resu
     → ((((m >>= a) >>= b) >>= c) >>= d) ≡ ((m >>= f) >>= g)
 deep_same _ (refused e) a b c d f g same = refl
 deep_same _ (one v s) a b c d f g same = same v s
+
+deeper_same : (m : Result Read Refusal) → One m → (a b c d e f g h : Read → Result Read Refusal)
+    → ((v : Value) (s : State) → (((((a (found (v ∷ []) s) >>= b) >>= c) >>= d) >>= e) >>= f) ≡ (g (found (v ∷ []) s) >>= h))
+    → ((((((m >>= a) >>= b) >>= c) >>= d) >>= e) >>= f) ≡ ((m >>= g) >>= h)
+deeper_same _ (refused x) a b c d e f g h same = refl
+deeper_same _ (one v s) a b c d e f g h same = same v s
 
 deep_alike : (m : Result Read Refusal) → One m → (a b c d f g h k : Read → Result Read Refusal)
     → ((v : Value) (s : State) → (((a (found (v ∷ []) s) >>= b) >>= c) >>= d) ≡ (((f (found (v ∷ []) s) >>= g) >>= h) >>= k))
@@ -296,6 +304,240 @@ type_same piece around place taken state =
     ≡ ((unfold_tree cpp around (n + length taken) piece state >>= plain) >>= old_end)) (add-zero place)
     (deep_same (unfold_tree cpp around on piece state) (tree_one piece around on state) behind tagged_end onward new_end plain old_end (λ v s. refl))
 
+-- ## A type as an argument
+
+-- two ways on from one part, or a refusal
+then_same : {A : Type 0} (m : Result A Refusal) (f : A → Result Read Refusal) (a b c d e g : Read → Result Read Refusal)
+    → ((r : Read) → ((a r >>= b) >>= c) ≡ ((d r >>= e) >>= g)) → ((((m >>= f) >>= a) >>= b) >>= c) ≡ ((((m >>= f) >>= d) >>= e) >>= g)
+then_same (Err x) f a b c d e g same = refl
+then_same (Ok n) f a b c d e g same = go (f n)
+  where
+    go : (r : Result Read Refusal) → (((r >>= a) >>= b) >>= c) ≡ (((r >>= d) >>= e) >>= g)
+    go (Err x) = refl
+    go (Ok r) = same r
+
+-- a parameter is named at its T
+named_same : (digits : Token) (arguments : Tree) (around : Around) (place : ℕ) (state : State) →
+    unfold_tree cpp around place (branch (rule_of Production.ArgumentWithT) (84 ∷ []) (grown (branch (rule_of Production.ParameterArgument) [] (grown (token digits) (grown arguments nothing))) nothing)) state
+    ≡ unfold_tree cpp around place (branch (rule_of Production.PlainType) [] (grown (branch (rule_of Production.Parameter) (84 ∷ []) (grown (token digits) (grown arguments nothing))) nothing)) state
+unfolding cpp opening production_at productions rule_of number_of between close unfolding_.behind meaning part byte_of
+named_same digits arguments around place state =
+    let at = place + 1 in
+    let new = standing (rule_of Production.ArgumentWithT) (84 ∷ []) place around state in
+    let new_inner = standing (rule_of Production.ParameterArgument) [] at around state in
+    let old = standing (rule_of Production.PlainType) [] place around state in
+    let old_inner = standing (rule_of Production.Parameter) (84 ∷ []) (place + 0) around state in
+    let new_end : Read → Result Read Refusal = λ i. close Production.ArgumentWithT (byte_of (84 ∷ [])) around place state i.value i.state >>= alone in
+    let new_inner_end : Read → Result Read Refusal = λ i. close Production.ParameterArgument (byte_of []) around at state i.value i.state >>= alone in
+    let old_end : Read → Result Read Refusal = λ i. close Production.PlainType (byte_of []) around place state i.value i.state >>= alone in
+    let old_inner_end : Read → Result Read Refusal = λ i. close Production.Parameter (byte_of (84 ∷ [])) around (place + 0) state i.value i.state >>= alone in
+    let inner_new : Tree = branch (rule_of Production.ParameterArgument) [] (grown (token digits) (grown arguments nothing)) in
+    let inner_old : Tree = branch (rule_of Production.Parameter) (84 ∷ []) (grown (token digits) (grown arguments nothing)) in
+    let onward_new : Read → Result Read Refusal = λ p. unfold_forest cpp new ([] ++ p.value) (at + length (spell inner_new)) nothing p.state in
+    let onward_old : Read → Result Read Refusal = λ p. unfold_forest cpp old ([] ++ p.value) (place + 0 + length (spell inner_old)) nothing p.state in
+    let k = index_of (text digits.own) in
+    let first : ℕ → Next Value State Around → Result Read Refusal = λ n next.
+    unfold_tree cpp next.context n arguments next.state >>= λ p. unfold_forest cpp old_inner (next.values ++ p.value) (n + length (spell arguments)) nothing p.state in
+    let named : at - 1 ≡ place + 0 = omega arith in
+    let there : at + 0 + length (spell (token digits)) ≡ place + 0 + 1 + length (spell (token digits)) = omega arith in
+    subst (λ n. unfold_tree cpp around place (branch (rule_of Production.ArgumentWithT) (84 ∷ []) (grown inner_new nothing)) state
+    ≡ ((((parameter_so_far around n k [] state >>= first (place + 0 + 1 + length (spell (token digits)))) >>= old_inner_end) >>= onward_old) >>= old_end)) named
+    (subst (λ n. unfold_tree cpp around place (branch (rule_of Production.ArgumentWithT) (84 ∷ []) (grown inner_new nothing)) state
+    ≡ ((((parameter_so_far around (at - 1) k [] state >>= first n) >>= old_inner_end) >>= onward_old) >>= old_end)) there
+    (then_same (parameter_so_far around (at - 1) k [] state) (first (at + 0 + length (spell (token digits)))) new_inner_end onward_new new_end old_inner_end onward_old old_end (λ r. refl)))
+
+-- a type of its own, as an argument
+plain_same : (t : Tree) → IsTree wide (OfKind SOLID) t → (around : Around) (place : ℕ) (state : State) →
+    unfold_tree cpp around place (plain_argument [] t) state ≡ unfold_tree cpp around place (branch (rule_of Production.PlainType) [] (grown t nothing)) state
+unfolding plain_argument cpp opening production_at productions rule_of number_of between close unfolding_.behind meaning part byte_of parts_of padded number_of_kind is_chain
+plain_same (branch rule taken parts) is_tree around place state = elim (solid rule taken parts is_tree) [
+  | of_parameter is own digits arguments are ↦ rw (is, own, are) (named_same digits arguments around place state)
+  | of_other apart ↦ subst (λ b. unfold_tree cpp around place (elim b as (λ _. Tree) [
+    | true ↦ branch (rule_of Production.ArgumentWithT) ([] ++ taken) (grown (branch (rule_of Production.ParameterArgument) [] parts) nothing)
+    | false ↦ branch (rule_of Production.PlainArgument) [] (grown (branch rule taken parts) nothing)
+  ]) state ≡ unfold_tree cpp around place (branch (rule_of Production.PlainType) [] (grown (branch rule taken parts) nothing)) state) (sym apart) other
+]
+  where
+    at : ℕ
+    at = place + 0
+
+    other : unfold_tree cpp around place (branch (rule_of Production.PlainArgument) [] (grown (branch rule taken parts) nothing)) state
+        ≡ unfold_tree cpp around place (branch (rule_of Production.PlainType) [] (grown (branch rule taken parts) nothing)) state
+    other = first_same (unfold_tree cpp around at (branch rule taken parts) state) (tree_one (branch rule taken parts) around at state)
+        (λ p. unfold_forest cpp (standing (rule_of Production.PlainArgument) [] place around state) ([] ++ p.value) (at + length (spell (branch rule taken parts))) nothing p.state)
+        (λ p. unfold_forest cpp (standing (rule_of Production.PlainType) [] place around state) ([] ++ p.value) (at + length (spell (branch rule taken parts))) nothing p.state)
+        (λ i. close Production.PlainArgument (byte_of []) around place state i.value i.state >>= alone)
+        (λ i. close Production.PlainType (byte_of []) around place state i.value i.state >>= alone) (λ v s. refl)
+plain_same empty is_tree around place state = absurd (true≢false (sym is_tree ∙ no_empty_solid))
+plain_same (token t) is_tree around place state = absurd is_tree
+plain_same (fixed b) is_tree around place state = absurd is_tree
+
+argument_same_as : (t : Tree) → IsTree wide (OfKind ITEM) t → (around : Around) (place : ℕ) (state : State) → unfold_tree cpp around place (as_argument t) state ≡ unfold_tree cpp around place t state
+unfolding as_argument rule_of number_of
+argument_same_as (branch rule taken (grown first nothing)) is_tree around place state = elim (typed rule taken (grown first nothing) is_tree) [
+  | plain_item own none trees ↦ rw (own, none) (plain_same first trees.0 around place state)
+  | other_item apart same ↦ subst (λ b. unfold_tree cpp around place (elim b as (λ _. Tree) [ true ↦ plain_argument taken first | false ↦ branch rule taken (grown first nothing) ]) state
+      ≡ unfold_tree cpp around place (branch rule taken (grown first nothing)) state) (sym apart) refl
+]
+argument_same_as _ is_tree around place state = refl
+
+-- and the rest of the list behind it
+list_same : (p own : Production) → IsItem p own → (item rest : Tree) → IsTree wide (OfKind ITEM) item → (around : Around) (place : ℕ) (taken : List ℕ) (state : State) →
+    unfold_tree cpp around place (branch (rule_of own) taken (grown (as_argument item) (grown rest nothing))) state
+    ≡ unfold_tree cpp around place (branch (rule_of p) taken (grown item (grown rest nothing))) state
+unfolding cpp opening production_at productions rule_of number_of between close unfolding_.behind meaning part byte_of
+list_same _ _ item_argument item rest is around place taken state =
+    let on = place + length taken in
+    let new = standing (rule_of Production.AnyArgument) taken place around state in
+    let old = standing (rule_of Production.TypeArgument) taken place around state in
+    let new_end : Read → Result Read Refusal = λ i. close Production.AnyArgument (byte_of taken) around place state i.value i.state >>= alone in
+    let old_end : Read → Result Read Refusal = λ i. close Production.TypeArgument (byte_of taken) around place state i.value i.state >>= alone in
+    ap (λ m. (m >>= λ p. unfold_forest cpp new ([] ++ p.value) (on + length (spell (as_argument item))) (grown rest nothing) p.state) >>= new_end) (argument_same_as item is around on state)
+    ∙ ap (λ w. (unfold_tree cpp around on item state >>= λ p. unfold_forest cpp new ([] ++ p.value) (on + length w) (grown rest nothing) p.state) >>= new_end) (spell_argument item)
+    ∙ first_same (unfold_tree cpp around on item state) (tree_one item around on state)
+    (λ p. unfold_forest cpp new ([] ++ p.value) (on + length (spell item)) (grown rest nothing) p.state)
+    (λ p. unfold_forest cpp old ([] ++ p.value) (on + length (spell item)) (grown rest nothing) p.state) new_end old_end
+    (λ v s. first_same (unfold_tree cpp around (on + length (spell item)) rest s) (tree_one rest around (on + length (spell item)) s)
+    (λ p. unfold_forest cpp new ((v ∷ []) ++ p.value) (on + length (spell item) + length (spell rest)) nothing p.state)
+    (λ p. unfold_forest cpp old ((v ∷ []) ++ p.value) (on + length (spell item) + length (spell rest)) nothing p.state) new_end old_end (λ w t. refl))
+list_same _ _ item_element item rest is around place taken state =
+    let on = place + length taken in
+    let new = standing (rule_of Production.AnyElement) taken place around state in
+    let old = standing (rule_of Production.TypeElement) taken place around state in
+    let new_end : Read → Result Read Refusal = λ i. close Production.AnyElement (byte_of taken) around place state i.value i.state >>= alone in
+    let old_end : Read → Result Read Refusal = λ i. close Production.TypeElement (byte_of taken) around place state i.value i.state >>= alone in
+    ap (λ m. (m >>= λ p. unfold_forest cpp new ([] ++ p.value) (on + length (spell (as_argument item))) (grown rest nothing) p.state) >>= new_end) (argument_same_as item is around on state)
+    ∙ ap (λ w. (unfold_tree cpp around on item state >>= λ p. unfold_forest cpp new ([] ++ p.value) (on + length w) (grown rest nothing) p.state) >>= new_end) (spell_argument item)
+    ∙ first_same (unfold_tree cpp around on item state) (tree_one item around on state)
+    (λ p. unfold_forest cpp new ([] ++ p.value) (on + length (spell item)) (grown rest nothing) p.state)
+    (λ p. unfold_forest cpp old ([] ++ p.value) (on + length (spell item)) (grown rest nothing) p.state) new_end old_end
+    (λ v s. first_same (unfold_tree cpp around (on + length (spell item)) rest s) (tree_one rest around (on + length (spell item)) s)
+    (λ p. unfold_forest cpp new ((v ∷ []) ++ p.value) (on + length (spell item) + length (spell rest)) nothing p.state)
+    (λ p. unfold_forest cpp old ((v ∷ []) ++ p.value) (on + length (spell item) + length (spell rest)) nothing p.state) new_end old_end (λ w t. refl))
+
+item_branch_same : (k : ℕ) (p own : Production) → IsItem p own → (taken : List ℕ) (parts : Forest) → AreTrees wide (symbols_of (rule_of p)) parts → (around : Around) (place : ℕ) (state : State) →
+    unfold_tree cpp around place (widened_branch k (rule_of p) taken parts) state ≡ unfold_tree cpp around place (branch (rule_of p) taken parts) state
+unfolding change_of changed argument_behind rule_of parts_of padded number_of_kind number_of
+item_branch_same k _ _ item_argument taken parts trees around place state =
+    let a = item_parts ARGUMENT_LIST parts trees in rw a.are (list_same Production.TypeArgument Production.AnyArgument item_argument a.item a.rest a.item_is around place taken state)
+item_branch_same k _ _ item_element taken parts trees around place state =
+    let a = item_parts PACK_LIST parts trees in rw a.are (list_same Production.TypeElement Production.AnyElement item_element a.item a.rest a.item_is around place taken state)
+
+-- ## An array
+
+array_same : (digits element : Tree) (around : Around) (place : ℕ) (taken : List ℕ) (state : State) →
+    unfold_tree cpp around place (array_behind_letter taken (grown digits (grown element nothing))) state
+    ≡ unfold_tree cpp around place (branch (rule_of Production.Array) taken (grown digits (grown element nothing))) state
+unfolding array_behind_letter cpp opening production_at productions rule_of number_of between close unfolding_.behind meaning part byte_of
+array_same digits element around place taken state =
+    let parts : Forest = grown digits (grown element nothing) in
+    let inner : Tree = branch (rule_of Production.LengthArray) [] parts in
+    let any : Tree = branch (rule_of Production.AnyArray) taken (grown inner nothing) in
+    let at = place + 0 in
+    let on = at + length taken in
+    let from = on + 0 in
+    let new = standing (rule_of Production.ArrayType) [] place around state in
+    let lettered = standing (rule_of Production.AnyArray) taken at around state in
+    let behind = standing (rule_of Production.LengthArray) [] on around state in
+    let old = standing (rule_of Production.Array) taken place around state in
+    let new_end : Read → Result Read Refusal = λ i. close Production.ArrayType (byte_of []) around place state i.value i.state >>= alone in
+    let lettered_end : Read → Result Read Refusal = λ i. close Production.AnyArray (byte_of taken) around at state i.value i.state >>= alone in
+    let behind_end : Read → Result Read Refusal = λ i. close Production.LengthArray (byte_of []) around on state i.value i.state >>= alone in
+    let old_end : Read → Result Read Refusal = λ i. close Production.Array (byte_of taken) around place state i.value i.state >>= alone in
+    let onward : Read → Result Read Refusal = λ p. unfold_forest cpp new ([] ++ p.value) (at + length (spell any)) nothing p.state in
+    let lettered_onward : Read → Result Read Refusal = λ p. unfold_forest cpp lettered ([] ++ p.value) (on + length (spell inner)) nothing p.state in
+    let first : ℕ → Read → Result Read Refusal = λ n p. unfold_forest cpp behind ([] ++ p.value) (n + length (spell digits)) (grown element nothing) p.state in
+    let plain : ℕ → Read → Result Read Refusal = λ n p. unfold_forest cpp old ([] ++ p.value) (n + length (spell digits)) (grown element nothing) p.state in
+    let there : from ≡ place + length taken = omega arith in
+    subst (λ n. unfold_tree cpp around place (branch (rule_of Production.ArrayType) [] (grown any nothing)) state
+    ≡ ((unfold_tree cpp around n digits state >>= plain n) >>= old_end)) there
+    (deeper_same (unfold_tree cpp around from digits state) (tree_one digits around from state) (first from) behind_end lettered_onward lettered_end onward new_end (plain from) old_end
+    (λ v s. deeper_same (unfold_tree cpp around (from + length (spell digits)) element s) (tree_one element around (from + length (spell digits)) s)
+    (λ p. unfold_forest cpp behind ((v ∷ []) ++ p.value) (from + length (spell digits) + length (spell element)) nothing p.state)
+    behind_end lettered_onward lettered_end onward new_end
+    (λ p. unfold_forest cpp old ((v ∷ []) ++ p.value) (from + length (spell digits) + length (spell element)) nothing p.state)
+    old_end (λ w t. refl)))
+
+-- ## An address as an argument
+
+spelled_long : (taken address : List ℕ) → length (taken ++ (97 ∷ 100 ∷ ((address ++ []) ++ []))) ≡ length taken + (2 + length address)
+spelled_long [] address = omega (arith, ap length (append-nil (address ++ []) ∙ append-nil address))
+spelled_long (b ∷ taken) address = omega (arith, spelled_long taken address)
+
+argument_same : (address rest : Tree) (around : Around) (place : ℕ) (taken : List ℕ) (state : State) →
+    unfold_tree cpp around place (address_as_expression Production.AnyArgument (rule_of Production.AddressArgument) taken (grown (fixed 97) (grown (fixed 100) (grown address (grown rest nothing))))) state
+    ≡ unfold_tree cpp around place (branch (rule_of Production.AddressArgument) taken (grown (fixed 97) (grown (fixed 100) (grown address (grown rest nothing))))) state
+unfolding address_as_expression cpp opening production_at productions rule_of number_of between close unfolding_.behind meaning part byte_of
+argument_same address rest around place taken state =
+    let inner : Tree = branch (rule_of Production.AddressExpression) (97 ∷ []) (grown (fixed 100) (grown address nothing)) in
+    let expression : Tree = branch (rule_of Production.Expression) taken (grown inner nothing) in
+    let at = place + 0 in
+    let on = at + length taken in
+    let behind_new = at + length (spell expression) in
+    let new = standing (rule_of Production.AnyArgument) [] place around state in
+    let whole = standing (rule_of Production.Expression) taken at around state in
+    let lettered = standing (rule_of Production.AddressExpression) (97 ∷ []) on around state in
+    let old = standing (rule_of Production.AddressArgument) taken place around state in
+    let new_end : Read → Result Read Refusal = λ i. close Production.AnyArgument (byte_of []) around place state i.value i.state >>= alone in
+    let whole_end : Read → Result Read Refusal = λ i. close Production.Expression (byte_of taken) around at state i.value i.state >>= alone in
+    let inner_end : Read → Result Read Refusal = λ i. close Production.AddressExpression (byte_of (97 ∷ [])) around on state i.value i.state >>= alone in
+    let old_end : Read → Result Read Refusal = λ i. close Production.AddressArgument (byte_of taken) around place state i.value i.state >>= alone in
+    let onward : Read → Result Read Refusal = λ p. unfold_forest cpp new ([] ++ p.value) behind_new (grown rest nothing) p.state in
+    let whole_onward : Read → Result Read Refusal = λ p. unfold_forest cpp whole ([] ++ p.value) (on + length (spell inner)) nothing p.state in
+    let inner_onward : Read → Result Read Refusal = λ p. unfold_forest cpp lettered ((nothing_there ∷ []) ++ p.value) (on + 1 + 1 + length (spell address)) nothing p.state in
+    let plain : ℕ → Read → Result Read Refusal = λ n p. unfold_forest cpp old ((nothing_there ∷ nothing_there ∷ []) ++ p.value) n (grown rest nothing) p.state in
+    let there : behind_new ≡ place + length taken + 1 + 1 + length (spell address) = omega (arith, spelled_long taken (spell address)) in
+    subst (λ n. unfold_tree cpp around place (branch (rule_of Production.AnyArgument) [] (grown expression (grown rest nothing))) state
+    ≡ ((unfold_tree cpp around (n + length taken + 1 + 1) address state >>= plain (place + length taken + 1 + 1 + length (spell address))) >>= old_end)) (add-zero place)
+    (deeper_same (unfold_tree cpp around (on + 1 + 1) address state) (tree_one address around (on + 1 + 1) state) inner_onward inner_end whole_onward whole_end onward new_end
+    (plain (place + length taken + 1 + 1 + length (spell address))) old_end
+    (λ v s. subst (λ n. (onward (found (v ∷ []) s) >>= new_end) ≡ (plain n (found (v ∷ []) s) >>= old_end)) there
+    (first_same (unfold_tree cpp around behind_new rest s) (tree_one rest around behind_new s)
+    (λ p. unfold_forest cpp new ((v ∷ []) ++ p.value) (behind_new + length (spell rest)) nothing p.state)
+    (λ p. unfold_forest cpp old ((nothing_there ∷ nothing_there ∷ v ∷ []) ++ p.value) (behind_new + length (spell rest)) nothing p.state)
+    new_end old_end (λ w t. refl))))
+
+element_same : (address rest : Tree) (around : Around) (place : ℕ) (taken : List ℕ) (state : State) →
+    unfold_tree cpp around place (address_as_expression Production.AnyElement (rule_of Production.AddressElement) taken (grown (fixed 97) (grown (fixed 100) (grown address (grown rest nothing))))) state
+    ≡ unfold_tree cpp around place (branch (rule_of Production.AddressElement) taken (grown (fixed 97) (grown (fixed 100) (grown address (grown rest nothing))))) state
+unfolding address_as_expression cpp opening production_at productions rule_of number_of between close unfolding_.behind meaning part byte_of
+element_same address rest around place taken state =
+    let inner : Tree = branch (rule_of Production.AddressExpression) (97 ∷ []) (grown (fixed 100) (grown address nothing)) in
+    let expression : Tree = branch (rule_of Production.Expression) taken (grown inner nothing) in
+    let at = place + 0 in
+    let on = at + length taken in
+    let behind_new = at + length (spell expression) in
+    let new = standing (rule_of Production.AnyElement) [] place around state in
+    let whole = standing (rule_of Production.Expression) taken at around state in
+    let lettered = standing (rule_of Production.AddressExpression) (97 ∷ []) on around state in
+    let old = standing (rule_of Production.AddressElement) taken place around state in
+    let new_end : Read → Result Read Refusal = λ i. close Production.AnyElement (byte_of []) around place state i.value i.state >>= alone in
+    let whole_end : Read → Result Read Refusal = λ i. close Production.Expression (byte_of taken) around at state i.value i.state >>= alone in
+    let inner_end : Read → Result Read Refusal = λ i. close Production.AddressExpression (byte_of (97 ∷ [])) around on state i.value i.state >>= alone in
+    let old_end : Read → Result Read Refusal = λ i. close Production.AddressElement (byte_of taken) around place state i.value i.state >>= alone in
+    let onward : Read → Result Read Refusal = λ p. unfold_forest cpp new ([] ++ p.value) behind_new (grown rest nothing) p.state in
+    let whole_onward : Read → Result Read Refusal = λ p. unfold_forest cpp whole ([] ++ p.value) (on + length (spell inner)) nothing p.state in
+    let inner_onward : Read → Result Read Refusal = λ p. unfold_forest cpp lettered ((nothing_there ∷ []) ++ p.value) (on + 1 + 1 + length (spell address)) nothing p.state in
+    let plain : ℕ → Read → Result Read Refusal = λ n p. unfold_forest cpp old ((nothing_there ∷ nothing_there ∷ []) ++ p.value) n (grown rest nothing) p.state in
+    let there : behind_new ≡ place + length taken + 1 + 1 + length (spell address) = omega (arith, spelled_long taken (spell address)) in
+    subst (λ n. unfold_tree cpp around place (branch (rule_of Production.AnyElement) [] (grown expression (grown rest nothing))) state
+    ≡ ((unfold_tree cpp around (n + length taken + 1 + 1) address state >>= plain (place + length taken + 1 + 1 + length (spell address))) >>= old_end)) (add-zero place)
+    (deeper_same (unfold_tree cpp around (on + 1 + 1) address state) (tree_one address around (on + 1 + 1) state) inner_onward inner_end whole_onward whole_end onward new_end
+    (plain (place + length taken + 1 + 1 + length (spell address))) old_end
+    (λ v s. subst (λ n. (onward (found (v ∷ []) s) >>= new_end) ≡ (plain n (found (v ∷ []) s) >>= old_end)) there
+    (first_same (unfold_tree cpp around behind_new rest s) (tree_one rest around behind_new s)
+    (λ p. unfold_forest cpp new ((v ∷ []) ++ p.value) (behind_new + length (spell rest)) nothing p.state)
+    (λ p. unfold_forest cpp old ((nothing_there ∷ nothing_there ∷ v ∷ []) ++ p.value) (behind_new + length (spell rest)) nothing p.state)
+    new_end old_end (λ w t. refl))))
+
+address_branch_same : (k : ℕ) (p own : Production) → IsAddress p own → (taken : List ℕ) (parts : Forest) → AreTrees wide (symbols_of (rule_of p)) parts → (around : Around) (place : ℕ) (state : State) →
+    unfold_tree cpp around place (widened_branch k (rule_of p) taken parts) state ≡ unfold_tree cpp around place (branch (rule_of p) taken parts) state
+unfolding change_of changed rule_of parts_of padded number_of_kind number_of
+address_branch_same k _ _ in_arguments taken parts trees around place state =
+    let a = address_parts ARGUMENT_LIST parts trees in rw a.are (argument_same a.address a.rest around place taken state)
+address_branch_same k _ _ in_packs taken parts trees around place state =
+    let a = address_parts PACK_LIST parts trees in rw a.are (element_same a.address a.rest around place taken state)
+
 variable_branch_same : (k : ℕ) (taken : List ℕ) (parts : Forest) → AreTrees wide (symbols_of (rule_of Production.Guard)) parts → (around : Around) (place : ℕ) (state : State) →
     unfold_tree cpp around place (widened_branch k (rule_of Production.Guard) taken parts) state ≡ unfold_tree cpp around place (branch (rule_of Production.Guard) taken parts) state
 unfolding change_of changed rule_of parts_of padded number_of_kind number_of
@@ -314,6 +556,14 @@ type_branch_same k taken (grown piece nothing) trees around place state = type_s
 type_branch_same k taken nothing trees around place state = absurd trees
 type_branch_same k taken (grown piece (grown u f)) trees around place state = absurd trees.1
 
+array_branch_same : (k : ℕ) (taken : List ℕ) (parts : Forest) → AreTrees wide (symbols_of (rule_of Production.Array)) parts → (around : Around) (place : ℕ) (state : State) →
+    unfold_tree cpp around place (widened_branch k (rule_of Production.Array) taken parts) state ≡ unfold_tree cpp around place (branch (rule_of Production.Array) taken parts) state
+unfolding change_of changed rule_of parts_of padded number_of_kind number_of
+array_branch_same k taken (grown digits (grown element nothing)) trees around place state = array_same digits element around place taken state
+array_branch_same k taken nothing trees around place state = absurd trees
+array_branch_same k taken (grown digits nothing) trees around place state = absurd trees.1
+array_branch_same k taken (grown digits (grown element (grown u f))) trees around place state = absurd trees.1.1
+
 branch_same : (k : ℕ) (rule : Rule) (taken : List ℕ) (parts : Forest) → k < either.kinds → TakesRule either k rule taken → AreTrees wide (symbols_of rule) parts → (around : Around) (place : ℕ) (state : State)
     → unfold_tree cpp around place (widened_branch k rule taken parts) state ≡ unfold_tree cpp around place (branch rule taken parts) state
 unfolding rule_of is_chain
@@ -324,6 +574,9 @@ branch_same k rule taken parts lt takes trees around place state = elim (chosen_
   | of_operator is at ↦ rw (is, at, takes_its rule (rule_of Production.OperatorName) taken takes.byte false is refl takes.takes)
       (operator_branch_same parts (subst (λ r. AreTrees wide (symbols_of r) parts) is trees) around place state)
   | of_variable is at here ↦ rw is (variable_branch_same k taken parts (subst (λ r. AreTrees wide (symbols_of r) parts) is trees) around place state)
+  | of_array is at here ↦ rw is (array_branch_same k taken parts (subst (λ r. AreTrees wide (symbols_of r) parts) is trees) around place state)
+  | of_item p own its is at ↦ rw is (item_branch_same k p own its taken parts (subst (λ r. AreTrees wide (symbols_of r) parts) is trees) around place state)
+  | of_address p own its is here at ↦ rw is (address_branch_same k p own its taken parts (subst (λ r. AreTrees wide (symbols_of r) parts) is trees) around place state)
   | in_std_ is at here ↦ rw is (type_branch_same k taken parts (subst (λ r. AreTrees wide (symbols_of r) parts) is trees) around place state)
 ]
 
@@ -348,13 +601,18 @@ operator_last taken (grown (branch rule first (grown second nothing)) (grown arg
 operator_last taken _ rest digits = refl
 
 last_behind : (change : Change) (rule : Rule) (taken : List ℕ) (parts rest : Forest) (digits : List ℕ) → last_token (grown (changed change rule taken parts) rest) digits ≡ last_token rest digits
-unfolding changed variable_with_g type_without_tags last_token
+unfolding changed variable_with_g type_without_tags address_as_expression array_behind_letter argument_behind last_token
 last_behind with_rest rule taken parts rest digits = refl
 last_behind within_name rule taken parts rest digits = operator_last taken parts rest digits
 last_behind with_g rule taken (grown (fixed letter) (grown name nothing)) rest digits = refl
 last_behind with_g rule taken _ rest digits = refl
 last_behind with_t rule taken (grown piece nothing) rest digits = refl
 last_behind with_t rule taken _ rest digits = refl
+last_behind (with_x own) rule taken (grown (fixed a) (grown (fixed d) (grown address (grown rest_ nothing)))) rest digits = refl
+last_behind (with_x own) rule taken _ rest digits = refl
+last_behind with_a rule taken parts rest digits = refl
+last_behind (with_item own) rule taken (grown item (grown rest_ nothing)) rest digits = refl
+last_behind (with_item own) rule taken _ rest digits = refl
 last_behind unchanged rule taken parts rest digits = refl
 
 last_same : (f : Forest) (xs : List Sym) (digits : List ℕ) → last_token (widened_all f xs) digits ≡ last_token f digits

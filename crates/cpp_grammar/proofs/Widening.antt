@@ -1,7 +1,8 @@
 -- The trees of both grammars, widened, are those of the wide one, and spell what they spelled.
 use Rattle.std.proofs.Common.{◌≡◌, ℕ, ◌<◌, List, [], ◌∷◌, ◌++◌, slice_get, Bool, true, false, not, cond, ◌||◌, ◌&&◌, nat_eq, Option, Some, None, inl, inr, refl, ap, sym, ◌∙◌, subst, lit≤, arith, append-nil, append_assoc}
 use Rattle.std.specs.Prelude.{◌⊎◌}
-use Rattle.std.proofs.lemmas.Bool.{eqb-true, and_parts, true≢false}
+use Rattle.std.proofs.lemmas.Bool.{eqb-true, eq-eqb, and_parts, true≢false}
+use Rattle.sym_core.specs.Token.{Token}
 use Rattle.sym_shape.specs.declared.rule.Rule.{Rule}
 use Rattle.sym_shape.specs.declared.rule.Sym.{Sym}
 use Rattle.sym_shape.specs.declared.rule.Sym.TheVariants.{Kind as OfKind, Name, Number, Byte}
@@ -13,27 +14,27 @@ use Rattle.sym_shape.proofs.Firsts.{branch_first, branch_filled}
 use Rattle.sym_link.specs.Sound.{IsSound}
 use Rattle.cpp_grammar.specs.declared.kind.Kind.{Kind}
 use Rattle.cpp_grammar.specs.declared.production.Production.{Production}
-use Rattle.cpp_grammar.specs.KindNumbers.{SYMBOL, ENCODING, NEST_AFTER_S, NEST_REST_ALONE, NEST_TAIL, COMPONENT, TYPE_AFTER_S, MAYBE_ARGUMENTS, OPERATOR, NEST_REST_OR_END, COMPONENT_AFTER_C, OTHER_OPERATOR, SPECIAL_MARK, SPECIAL_AFTER_G, TYPE_IN_STD, MAYBE_TAGS}
+use Rattle.cpp_grammar.specs.KindNumbers.{SYMBOL, ENCODING, NEST_AFTER_S, NEST_REST_ALONE, NEST_TAIL, COMPONENT, TYPE_AFTER_S, MAYBE_ARGUMENTS, OPERATOR, NEST_REST_OR_END, COMPONENT_AFTER_C, OTHER_OPERATOR, SPECIAL_MARK, SPECIAL_AFTER_G, TYPE_IN_STD, MAYBE_TAGS, ADDRESS, ARGUMENT_LIST, PACK_LIST, ARGUMENT, ARGUMENT_AFTER_T, EXPRESSION_REST, ITEM, SOLID, SOLID_BUT_T, ANY_ARRAY, ARRAY_REST}
 use Rattle.cpp_grammar.specs.Grammar.{Alternative, in_ranges, among, is_in, pick, kinds, number_of, number_of_kind, parts_of, is_chain, may_be_empty}
 use Rattle.cpp_grammar.specs.Wide.{wide_alternatives, wide_choose}
 use Rattle.cpp_grammar.specs.Either.{either_alternatives, either_choose}
 use Rattle.cpp_grammar.specs.Table.{rule_of, rule_taken, padded, sheet_with, wide_sheet, wide, either_sheet, either}
 use Rattle.cpp_grammar.specs.TableLaws.{wide_lawful}
-use Rattle.cpp_grammar.specs.Widened.{Change, with_rest, within_name, with_g, with_t, unchanged, rest_or_end, with_rest_or_end, letters_component, operator_component, variable_with_g, type_without_tags, change_of, changed, widened_branch, widened_as, widened_all, widened}
-use Rattle.cpp_grammar.proofs.Choosing.{kinds_numbered, number_at, wide_rule_at, wide_empty_at, either_rule_at, is_either_kind}
+use Rattle.cpp_grammar.specs.Widened.{Change, with_rest, within_name, with_g, with_t, with_x, with_a, with_item, unchanged, rest_or_end, with_rest_or_end, letters_component, operator_component, variable_with_g, type_without_tags, address_as_expression, array_behind_letter, plain_argument, as_argument, argument_behind, change_of, changed, widened_branch, widened_as, widened_all, widened}
+use Rattle.cpp_grammar.proofs.Choosing.{kinds_numbered, number_at, wide_rule_at, wide_empty_at, either_rule_at, either_empty_at, is_either_kind}
 use Rattle.cpp_grammar.proofs.Growing.{same_choice, each_below, below, or_parts, kept, same_production, empty_keeps, wide_rule_kept}
 
 -- ## What a kind takes
 
--- where the wide grammar has a rule that stands aside in the table of both: behind a G and a t, each of another kind
+-- where the wide grammar has a rule that stands aside in the table of both: behind a G, a t, an A and an X, each of other kinds
 unfoldable chosen_at : ℕ → ℕ
-chosen_at kind = cond (nat_eq kind ENCODING) 71 116
+chosen_at kind = cond (nat_eq kind ENCODING) 71 (cond (nat_eq kind TYPE_AFTER_S) 116 (cond (nat_eq kind SOLID) 65 88))
 
 unfoldable is_aside : Kind → Production → Bool
 is_aside kind p = is_chain p && same_choice (Some p) (pick (wide_alternatives kind) (chosen_at (number_of_kind kind)))
 
 -- A kind takes what it takes in the wide grammar, perhaps at another byte if that takes none, or the rule that the other grammar has there:
--- behind an S, of an operator within a nested name, of a guard variable, and of a type in std.
+-- behind an S, of an operator within a nested name, of a guard variable, of a type in std, of an array, of an address as an argument, and of a type as one.
 unfoldable is_wide_or_narrow : Kind → (byte : ℕ) → (chosen other : Option Production) → Bool
 is_wide_or_narrow kind byte None other = true
 is_wide_or_narrow kind byte (Some p) other = elim (change_of (number_of_kind kind) (number_of p)) [
@@ -41,6 +42,9 @@ is_wide_or_narrow kind byte (Some p) other = elim (change_of (number_of_kind kin
   | within_name ↦ nat_eq (number_of_kind kind) COMPONENT
   | with_g ↦ nat_eq (number_of_kind kind) ENCODING && nat_eq byte 71
   | with_t ↦ nat_eq (number_of_kind kind) TYPE_AFTER_S && nat_eq byte 116
+  | with_x own ↦ nat_eq byte 88 && same_choice (Some own) (pick (wide_alternatives kind) 88)
+  | with_a ↦ nat_eq (number_of_kind kind) SOLID && nat_eq byte 65
+  | with_item own ↦ same_choice (Some own) other
   | unchanged ↦ same_choice (Some p) other || is_aside kind p
 ]
 
@@ -48,6 +52,16 @@ wide_or_narrow : (kind : Kind) → each_below 256 (λ b. is_wide_or_narrow kind 
 unfolding in_ranges among is_in pick number_of number_of_kind wide_alternatives either_alternatives same_choice each_below is_chain change_of chosen_at is_aside is_wide_or_narrow
 wide_or_narrow Kind.Symbol = refl
 wide_or_narrow _ = refl
+
+-- an address as an argument, and what it is in the wide grammar
+pub data IsAddress : (narrow own : Production) → Type 0 where
+  in_arguments : IsAddress Production.AddressArgument Production.AnyArgument
+  in_packs : IsAddress Production.AddressElement Production.AnyElement
+
+-- a type as an argument, and what it is in the wide grammar
+pub data IsItem : (narrow own : Production) → Type 0 where
+  item_argument : IsItem Production.TypeArgument Production.AnyArgument
+  item_element : IsItem Production.TypeElement Production.AnyElement
 
 -- which of these a rule is
 pub data Here (k byte : ℕ) (rule : Rule) : Type 0 where
@@ -57,6 +71,9 @@ pub data Here (k byte : ℕ) (rule : Rule) : Type 0 where
   of_operator : rule ≡ rule_of Production.OperatorName → k ≡ COMPONENT → Here k byte rule
   of_variable : rule ≡ rule_of Production.Guard → k ≡ ENCODING → byte ≡ 71 → Here k byte rule
   in_std_ : rule ≡ rule_of Production.StdType → k ≡ TYPE_AFTER_S → byte ≡ 116 → Here k byte rule
+  of_array : rule ≡ rule_of Production.Array → k ≡ SOLID → byte ≡ 65 → Here k byte rule
+  of_item : (p own : Production) → IsItem p own → rule ≡ rule_of p → wide.rule k byte ≡ Some (rule_of own) → Here k byte rule
+  of_address : (p own : Production) → IsAddress p own → rule ≡ rule_of p → byte ≡ 88 → wide.rule k 88 ≡ Some (rule_of own) → Here k byte rule
 
 -- the rule that a kind takes at a byte
 pub record Chosen (k byte : ℕ) (rule : Rule) : Type 0 where
@@ -70,24 +87,58 @@ data Changing (kind : ℕ) (p : Production) : Change → Type 0 where
   name_ : p ≡ Production.OperatorName → Changing kind p within_name
   g_ : p ≡ Production.Guard → Changing kind p with_g
   t_ : p ≡ Production.StdType → Changing kind p with_t
+  x_ : (own : Production) → IsAddress p own → Changing kind p (with_x own)
+  a_ : p ≡ Production.Array → Changing kind p with_a
+  item_ : (own : Production) → IsItem p own → Changing kind p (with_item own)
   none_ : Changing kind p unchanged
 
 changing : (kind : ℕ) (p : Production) → Changing kind p (change_of kind (number_of p))
 unfolding change_of
-changing kind p = go (nat_eq (number_of p) (number_of Production.NestAbbreviated)) (nat_eq (number_of p) (number_of Production.OperatorName)) (nat_eq kind COMPONENT)
-    (nat_eq (number_of p) (number_of Production.Guard)) (nat_eq (number_of p) (number_of Production.StdType)) refl refl refl refl
+changing kind p = go (nat_eq (number_of p) (number_of Production.NestAbbreviated)) (nat_eq (number_of p) (number_of Production.OperatorName)) (nat_eq kind COMPONENT) refl refl
   where
-    go : (a b c d e : Bool) → nat_eq (number_of p) (number_of Production.NestAbbreviated) ≡ a → nat_eq (number_of p) (number_of Production.OperatorName) ≡ b
-        → nat_eq (number_of p) (number_of Production.Guard) ≡ d → nat_eq (number_of p) (number_of Production.StdType) ≡ e
-        → Changing kind p (cond a with_rest (cond (b && c) within_name (cond d with_g (cond e with_t unchanged))))
-    go true b c d e one two three four = rest_ (same_production p Production.NestAbbreviated one)
-    go false true true d e one two three four = name_ (same_production p Production.OperatorName two)
-    go false true false true e one two three four = g_ (same_production p Production.Guard three)
-    go false true false false true one two three four = t_ (same_production p Production.StdType four)
-    go false true false false false one two three four = none_
-    go false false c true e one two three four = g_ (same_production p Production.Guard three)
-    go false false c false true one two three four = t_ (same_production p Production.StdType four)
-    go false false c false false one two three four = none_
+    items : (h i : Bool) → nat_eq (number_of p) (number_of Production.TypeArgument) ≡ h → nat_eq (number_of p) (number_of Production.TypeElement) ≡ i
+        → Changing kind p (cond h (with_item Production.AnyArgument) (cond i (with_item Production.AnyElement) unchanged))
+    items true i seven eight = item_ Production.AnyArgument (subst (λ q. IsItem q Production.AnyArgument) (sym (same_production p Production.TypeArgument seven)) item_argument)
+    items false true seven eight = item_ Production.AnyElement (subst (λ q. IsItem q Production.AnyElement) (sym (same_production p Production.TypeElement eight)) item_element)
+    items false false seven eight = none_
+
+    array_ : (h : Bool) → nat_eq (number_of p) (number_of Production.Array) ≡ h → Changing kind p (cond h with_a (cond (nat_eq (number_of p) (number_of Production.TypeArgument)) (with_item Production.AnyArgument) (cond (nat_eq (number_of p) (number_of Production.TypeElement)) (with_item Production.AnyElement) unchanged)))
+    array_ true six = a_ (same_production p Production.Array six)
+    array_ false six = items (nat_eq (number_of p) (number_of Production.TypeArgument)) (nat_eq (number_of p) (number_of Production.TypeElement)) refl refl
+
+    address : (f g : Bool) → nat_eq (number_of p) (number_of Production.AddressArgument) ≡ f → nat_eq (number_of p) (number_of Production.AddressElement) ≡ g
+        → Changing kind p (cond f (with_x Production.AnyArgument) (cond g (with_x Production.AnyElement) (cond (nat_eq (number_of p) (number_of Production.Array)) with_a
+        (cond (nat_eq (number_of p) (number_of Production.TypeArgument)) (with_item Production.AnyArgument) (cond (nat_eq (number_of p) (number_of Production.TypeElement)) (with_item Production.AnyElement) unchanged)))))
+    address true g one two = x_ Production.AnyArgument (subst (λ q. IsAddress q Production.AnyArgument) (sym (same_production p Production.AddressArgument one)) in_arguments)
+    address false true one two = x_ Production.AnyElement (subst (λ q. IsAddress q Production.AnyElement) (sym (same_production p Production.AddressElement two)) in_packs)
+    address false false one two = array_ (nat_eq (number_of p) (number_of Production.Array)) refl
+
+    others : (d e : Bool) → nat_eq (number_of p) (number_of Production.Guard) ≡ d → nat_eq (number_of p) (number_of Production.StdType) ≡ e
+        → Changing kind p (cond d with_g (cond e with_t (cond (nat_eq (number_of p) (number_of Production.AddressArgument)) (with_x Production.AnyArgument)
+        (cond (nat_eq (number_of p) (number_of Production.AddressElement)) (with_x Production.AnyElement)
+        (cond (nat_eq (number_of p) (number_of Production.Array)) with_a
+        (cond (nat_eq (number_of p) (number_of Production.TypeArgument)) (with_item Production.AnyArgument) (cond (nat_eq (number_of p) (number_of Production.TypeElement)) (with_item Production.AnyElement) unchanged)))))))
+    others true e three four = g_ (same_production p Production.Guard three)
+    others false true three four = t_ (same_production p Production.StdType four)
+    others false false three four = address (nat_eq (number_of p) (number_of Production.AddressArgument)) (nat_eq (number_of p) (number_of Production.AddressElement)) refl refl
+
+    rest : Changing kind p (cond (nat_eq (number_of p) (number_of Production.Guard)) with_g (cond (nat_eq (number_of p) (number_of Production.StdType)) with_t
+        (cond (nat_eq (number_of p) (number_of Production.AddressArgument)) (with_x Production.AnyArgument)
+        (cond (nat_eq (number_of p) (number_of Production.AddressElement)) (with_x Production.AnyElement)
+        (cond (nat_eq (number_of p) (number_of Production.Array)) with_a
+        (cond (nat_eq (number_of p) (number_of Production.TypeArgument)) (with_item Production.AnyArgument) (cond (nat_eq (number_of p) (number_of Production.TypeElement)) (with_item Production.AnyElement) unchanged)))))))
+    rest = others (nat_eq (number_of p) (number_of Production.Guard)) (nat_eq (number_of p) (number_of Production.StdType)) refl refl
+
+    go : (a b c : Bool) → nat_eq (number_of p) (number_of Production.NestAbbreviated) ≡ a → nat_eq (number_of p) (number_of Production.OperatorName) ≡ b
+        → Changing kind p (cond a with_rest (cond (b && c) within_name (cond (nat_eq (number_of p) (number_of Production.Guard)) with_g
+        (cond (nat_eq (number_of p) (number_of Production.StdType)) with_t (cond (nat_eq (number_of p) (number_of Production.AddressArgument)) (with_x Production.AnyArgument)
+        (cond (nat_eq (number_of p) (number_of Production.AddressElement)) (with_x Production.AnyElement)
+        (cond (nat_eq (number_of p) (number_of Production.Array)) with_a
+        (cond (nat_eq (number_of p) (number_of Production.TypeArgument)) (with_item Production.AnyArgument) (cond (nat_eq (number_of p) (number_of Production.TypeElement)) (with_item Production.AnyElement) unchanged)))))))))
+    go true b c one two = rest_ (same_production p Production.NestAbbreviated one)
+    go false true true one two = name_ (same_production p Production.OperatorName two)
+    go false true false one two = rest
+    go false false c one two = rest
 
 which : (k byte : ℕ) (kind : Kind) (p : Production) (rule : Rule) → slice_get kinds k ≡ Some kind → rule ≡ rule_of p
     → is_wide_or_narrow kind byte (Some p) (pick (wide_alternatives kind) byte) ≡ true → Here k byte rule
@@ -104,17 +155,28 @@ which k byte kind p rule at is test = go (change_of (number_of_kind kind) (numbe
     wide_at b h = wide_rule_at k kind b at ∙ ap rule_taken (kept (Some p) (pick (wide_alternatives kind) b) p h refl) ∙ ap Some (sym is)
 
     below_all : (n : ℕ) → chosen_at n < 256
-    below_all n = by (nat_eq n ENCODING)
+    below_all n = by (nat_eq n ENCODING) (nat_eq n TYPE_AFTER_S) (nat_eq n SOLID)
       where
-        by : (b : Bool) → cond b 71 116 < 256
-        by true = lit≤ tt
-        by false = lit≤ tt
+        by : (b c d : Bool) → cond b 71 (cond c 116 (cond d 65 88)) < 256
+        by true c d = lit≤ tt
+        by false true d = lit≤ tt
+        by false false true = lit≤ tt
+        by false false false = lit≤ tt
+
+    item_at : (own : Production) → same_choice (Some own) (pick (wide_alternatives kind) byte) ≡ true → wide.rule k byte ≡ Some (rule_of own)
+    item_at own h = wide_rule_at k kind byte at ∙ ap rule_taken (kept (Some own) (pick (wide_alternatives kind) byte) own h refl)
+
+    address_at : (own : Production) → same_choice (Some own) (pick (wide_alternatives kind) 88) ≡ true → wide.rule k 88 ≡ Some (rule_of own)
+    address_at own h = wide_rule_at k kind 88 at ∙ ap rule_taken (kept (Some own) (pick (wide_alternatives kind) 88) own h refl)
 
     go : (c : Change) → change_of (number_of_kind kind) (number_of p) ≡ c → Changing (number_of_kind kind) p c → elim c [
       | with_rest ↦ nat_eq (number_of_kind kind) NEST_AFTER_S
       | within_name ↦ nat_eq (number_of_kind kind) COMPONENT
       | with_g ↦ nat_eq (number_of_kind kind) ENCODING && nat_eq byte 71
       | with_t ↦ nat_eq (number_of_kind kind) TYPE_AFTER_S && nat_eq byte 116
+      | with_x own ↦ nat_eq byte 88 && same_choice (Some own) (pick (wide_alternatives kind) 88)
+      | with_a ↦ nat_eq (number_of_kind kind) SOLID && nat_eq byte 65
+      | with_item own ↦ same_choice (Some own) (pick (wide_alternatives kind) byte)
       | unchanged ↦ same_choice (Some p) (pick (wide_alternatives kind) byte) || is_aside kind p
     ] ≡ true → Here k byte rule
     go _ e (rest_ one) h = behind_s (is ∙ ap rule_of one) (sym numbered ∙ eqb-true (number_of_kind kind) NEST_AFTER_S h)
@@ -125,6 +187,13 @@ which k byte kind p rule at is test = go (change_of (number_of_kind kind) (numbe
     go _ e (t_ one) h =
         let both = and_parts (nat_eq (number_of_kind kind) TYPE_AFTER_S) (nat_eq byte 116) h in
         in_std_ (is ∙ ap rule_of one) (sym numbered ∙ eqb-true (number_of_kind kind) TYPE_AFTER_S both.0) (eqb-true byte 116 both.1)
+    go _ e (a_ one) h =
+        let both = and_parts (nat_eq (number_of_kind kind) SOLID) (nat_eq byte 65) h in
+        of_array (is ∙ ap rule_of one) (sym numbered ∙ eqb-true (number_of_kind kind) SOLID both.0) (eqb-true byte 65 both.1)
+    go _ e (item_ own one) h = of_item p own one is (item_at own h)
+    go _ e (x_ own one) h =
+        let both = and_parts (nat_eq byte 88) (same_choice (Some own) (pick (wide_alternatives kind) 88)) h in
+        of_address p own one is (eqb-true byte 88 both.0) (address_at own both.1)
     go _ e none_ h = elim (or_parts (same_choice (Some p) (pick (wide_alternatives kind) byte)) (is_aside kind p) h) [
       | inl same ↦ as_wide (stays_ e) (wide_at byte same)
       | inr apart ↦ (
@@ -170,6 +239,16 @@ symbols_either (Byte c ∷ xs) known = (known.0, symbols_either xs known.1)
 
 -- ## Its rules are known
 
+address_number : (p own : Production) → IsAddress p own → (rule_of p).number < TOKEN
+unfolding rule_of number_of
+address_number _ _ in_arguments = lit≤ tt
+address_number _ _ in_packs = lit≤ tt
+
+item_number : (p own : Production) → IsItem p own → (rule_of p).number < TOKEN
+unfolding rule_of number_of
+item_number _ _ item_argument = lit≤ tt
+item_number _ _ item_element = lit≤ tt
+
 pub either_number : (k b : ℕ) (rule : Rule) → k < either.kinds → b < 256 → either.rule k b ≡ Some rule → rule.number < TOKEN
 unfolding rule_of number_of
 either_number k b rule lt byte found = elim (chosen_rule k b rule lt byte found).here [
@@ -179,6 +258,9 @@ either_number k b rule lt byte found = elim (chosen_rule k b rule lt byte found)
   | of_operator is at ↦ rw is (lit≤ tt)
   | of_variable is at here ↦ rw is (lit≤ tt)
   | in_std_ is at here ↦ rw is (lit≤ tt)
+  | of_array is at here ↦ rw is (lit≤ tt)
+  | of_item p own one is at ↦ rw is (item_number p own one)
+  | of_address p own one is here at ↦ rw is (address_number p own one)
 ]
 
 narrow_symbols : AreSymbols either (symbols_of (rule_of Production.NestAbbreviated))
@@ -197,6 +279,20 @@ type_symbols : AreSymbols either (symbols_of (rule_of Production.StdType))
 unfolding rule_of parts_of padded number_of_kind either either_sheet kinds
 type_symbols = (lit≤ tt, tt)
 
+array_symbols : AreSymbols either (symbols_of (rule_of Production.Array))
+unfolding rule_of parts_of padded number_of_kind either either_sheet kinds
+array_symbols = (tt, (lit≤ tt, tt))
+
+address_symbols : (p own : Production) → IsAddress p own → AreSymbols either (symbols_of (rule_of p))
+unfolding rule_of parts_of padded number_of_kind either either_sheet kinds
+address_symbols _ _ in_arguments = (lit≤ tt, (lit≤ tt, (lit≤ tt, (lit≤ tt, tt))))
+address_symbols _ _ in_packs = (lit≤ tt, (lit≤ tt, (lit≤ tt, (lit≤ tt, tt))))
+
+item_symbols : (p own : Production) → IsItem p own → AreSymbols either (symbols_of (rule_of p))
+unfolding rule_of parts_of padded number_of_kind either either_sheet kinds
+item_symbols _ _ item_argument = (lit≤ tt, (lit≤ tt, tt))
+item_symbols _ _ item_element = (lit≤ tt, (lit≤ tt, tt))
+
 pub either_symbols : (k b : ℕ) (rule : Rule) → k < either.kinds → b < 256 → either.rule k b ≡ Some rule → AreSymbols either (symbols_of rule)
 either_symbols k b rule lt byte found = elim (chosen_rule k b rule lt byte found).here [
   | as_wide stays same ↦ symbols_either (symbols_of rule) (wide_lawful.rule k b rule (wide_kind k lt) byte same).symbols
@@ -205,6 +301,9 @@ either_symbols k b rule lt byte found = elim (chosen_rule k b rule lt byte found
   | of_operator is at ↦ rw is operator_symbols
   | of_variable is at here ↦ rw is variable_symbols
   | in_std_ is at here ↦ rw is type_symbols
+  | of_array is at here ↦ rw is array_symbols
+  | of_item p own one is at ↦ rw is (item_symbols p own one)
+  | of_address p own one is here at ↦ rw is (address_symbols p own one)
 ]
 
 -- ## What comes behind the abbreviation of a nested name
@@ -450,6 +549,293 @@ type_branch taken (grown piece nothing) own trees = rw own (
 type_branch taken nothing own trees = absurd trees
 type_branch taken (grown piece (grown u f)) own trees = absurd trees.1
 
+array_branch : (taken : List ℕ) (parts : Forest) → taken ≡ 65 ∷ [] → AreTrees wide (symbols_of (rule_of Production.Array)) parts
+    → IsTree wide (OfKind SOLID) (widened_branch SOLID (rule_of Production.Array) taken parts)
+unfolding change_of changed array_behind_letter rule_of parts_of padded is_chain number_of number_of_kind kinds wide_choose wide_alternatives pick is_in in_ranges among
+array_branch taken parts own trees = rw own (
+  takes_at SOLID Kind.Solid Production.ArrayType [] 65 refl (lit≤ tt) refl refl,
+  (
+    (
+      takes_at ANY_ARRAY Kind.AnyArray Production.AnyArray (65 ∷ []) 65 refl (lit≤ tt) refl refl,
+      ((takes_at ARRAY_REST Kind.ArrayRest Production.LengthArray [] 95 refl (lit≤ tt) refl refl, trees), tt),
+    ),
+    tt,
+  ),
+)
+
+-- the parts of an address as an argument, with the rest of the list behind it
+pub record AddressParts (n : ℕ) (parts : Forest) : Type 0 where
+  pub address : Tree
+  pub rest : Tree
+  pub are : parts ≡ grown (fixed 97) (grown (fixed 100) (grown address (grown rest nothing)))
+  pub address_is : IsTree wide (OfKind ADDRESS) address
+  pub rest_is : IsTree wide (OfKind n) rest
+
+pub address_parts : (n : ℕ) (parts : Forest) → AreTrees wide (Byte 97 ∷ Byte 100 ∷ OfKind ADDRESS ∷ OfKind n ∷ []) parts → AddressParts n parts
+address_parts n (grown (fixed a) (grown (fixed d) (grown address (grown rest nothing)))) trees = record {
+  address = address;
+  rest = rest;
+  are = rw (sym trees.0, sym trees.1.0) refl;
+  address_is = trees.1.1.0;
+  rest_is = trees.1.1.1.0;
+}
+address_parts n nothing trees = absurd trees
+address_parts n (grown (branch r u f) g) trees = absurd trees.0
+address_parts n (grown empty g) trees = absurd trees.0
+address_parts n (grown (token t) g) trees = absurd trees.0
+address_parts n (grown (fixed a) nothing) trees = absurd trees.1
+address_parts n (grown (fixed a) (grown (branch r u f) g)) trees = absurd trees.1.0
+address_parts n (grown (fixed a) (grown empty g)) trees = absurd trees.1.0
+address_parts n (grown (fixed a) (grown (token t) g)) trees = absurd trees.1.0
+address_parts n (grown (fixed a) (grown (fixed d) nothing)) trees = absurd trees.1.1
+address_parts n (grown (fixed a) (grown (fixed d) (grown address nothing))) trees = absurd trees.1.1.1
+address_parts n (grown (fixed a) (grown (fixed d) (grown address (grown rest (grown u f))))) trees = absurd trees.1.1.1.1
+
+address_tree : (address : Tree) → IsTree wide (OfKind ADDRESS) address
+    → IsTree wide (OfKind ARGUMENT) (branch (rule_of Production.Expression) (88 ∷ []) (grown (branch (rule_of Production.AddressExpression) (97 ∷ []) (grown (fixed 100) (grown address nothing))) nothing))
+unfolding rule_of parts_of padded is_chain number_of number_of_kind kinds wide_choose wide_alternatives pick is_in in_ranges among
+address_tree address is = (
+  takes_at ARGUMENT Kind.Argument Production.Expression (88 ∷ []) 88 refl (lit≤ tt) refl refl,
+  ((takes_at EXPRESSION_REST Kind.ExpressionRest Production.AddressExpression (97 ∷ []) 97 refl (lit≤ tt) refl refl, (refl, (is, tt))), tt),
+)
+
+address_branch : (k : ℕ) (p own : Production) → IsAddress p own → (taken : List ℕ) (parts : Forest) → taken ≡ 88 ∷ [] → wide.rule k 88 ≡ Some (rule_of own)
+    → AreTrees wide (symbols_of (rule_of p)) parts → IsTree wide (OfKind k) (widened_branch k (rule_of p) taken parts)
+unfolding change_of changed address_as_expression rule_of parts_of padded is_chain number_of number_of_kind
+address_branch k _ _ in_arguments taken parts own at trees =
+    let a = address_parts ARGUMENT_LIST parts trees in
+    rw (own, a.are) (record { byte = 88; is_byte = lit≤ tt; found = at; takes = refl }, (address_tree a.address a.address_is, (a.rest_is, tt)))
+address_branch k _ _ in_packs taken parts own at trees =
+    let a = address_parts PACK_LIST parts trees in
+    rw (own, a.are) (record { byte = 88; is_byte = lit≤ tt; found = at; takes = refl }, (address_tree a.address a.address_is, (a.rest_is, tt)))
+
+-- ## A type as an argument
+
+-- what a type begins with, a type as an argument does, too, but for one that is a type of its own
+unfoldable item_stays : (chosen other : Option Production) → Bool
+item_stays None other = true
+item_stays (Some p) other = nat_eq (number_of p) (number_of Production.PlainType) || same_choice (Some p) other
+
+items_stay : each_below 256 (λ b. item_stays (pick (wide_alternatives Kind.Item) b) (pick (wide_alternatives Kind.Argument) b)) ≡ true
+unfolding in_ranges among is_in pick number_of wide_alternatives same_choice each_below item_stays
+items_stay = refl
+
+-- and that begins as it does elsewhere, but for a parameter
+unfoldable solid_stays : (chosen other argument : Option Production) → Bool
+solid_stays None other argument = true
+solid_stays (Some p) other argument = elim (nat_eq (number_of p) (number_of Production.Parameter)) [
+  | true ↦ same_choice (Some Production.ArgumentWithT) argument
+  | false ↦ same_choice (Some p) other && same_choice (Some Production.PlainArgument) argument
+]
+
+solids_stay : each_below 256 (λ b. solid_stays (pick (wide_alternatives Kind.Solid) b) (pick (wide_alternatives Kind.SolidButT) b) (pick (wide_alternatives Kind.Argument) b)) ≡ true
+unfolding in_ranges among is_in pick number_of wide_alternatives same_choice each_below solid_stays
+solids_stay = refl
+
+-- the production that is taken at a byte
+record Picked (kind : Kind) (byte : ℕ) (rule : Rule) : Type 0 where
+  production : Production
+  picked : pick (wide_alternatives kind) byte ≡ Some production
+  is : rule ≡ rule_of production
+
+picked_at : (k : ℕ) (kind : Kind) (byte : ℕ) (rule : Rule) → slice_get kinds k ≡ Some kind → wide.rule k byte ≡ Some rule → Picked kind byte rule
+unfolding rule_taken wide_choose
+picked_at k kind byte rule at found = go (pick (wide_alternatives kind) byte) refl (sym (wide_rule_at k kind byte at) ∙ found)
+  where
+    go : (o : Option Production) → pick (wide_alternatives kind) byte ≡ o → rule_taken o ≡ Some rule → Picked kind byte rule
+    go None is taken = cc
+    go (Some p) is taken = let same : rule_of p ≡ rule = cc in record { production = p; picked = is; is = sym same }
+
+same_at : (k : ℕ) (kind : Kind) (byte : ℕ) (p : Production) → slice_get kinds k ≡ Some kind → same_choice (Some p) (pick (wide_alternatives kind) byte) ≡ true → wide.rule k byte ≡ Some (rule_of p)
+unfolding rule_taken wide_choose
+same_at k kind byte p at h = wide_rule_at k kind byte at ∙ ap rule_taken (kept (Some p) (pick (wide_alternatives kind) byte) p h refl)
+
+-- the rule of a parameter takes a byte, and that of no other type begins one
+parameter_eats : (rule_of Production.Parameter).eats ≡ true
+unfolding rule_of is_chain
+parameter_eats = refl
+
+parameter_behind_t : TakesRule wide ARGUMENT_AFTER_T (rule_of Production.ParameterArgument) []
+unfolding rule_of is_chain number_of kinds wide_choose wide_alternatives pick is_in in_ranges among
+parameter_behind_t = takes_at ARGUMENT_AFTER_T Kind.ArgumentAfterT Production.ParameterArgument [] 95 refl (lit≤ tt) refl refl
+
+plain_argument_tree : (t : Tree) → IsTree wide (OfKind SOLID) t → IsTree wide (OfKind ARGUMENT) (plain_argument [] t)
+unfolding plain_argument rule_of parts_of padded is_chain number_of_kind kinds may_be_empty solid_stays
+plain_argument_tree (branch rule taken parts) tree =
+    let byte = tree.0.byte in
+    let p = picked_at SOLID Kind.Solid byte rule refl tree.0.found in
+    let test = subst (λ o. solid_stays o (pick (wide_alternatives Kind.SolidButT) byte) (pick (wide_alternatives Kind.Argument) byte) ≡ true) p.picked
+    (below 256 (λ b. solid_stays (pick (wide_alternatives Kind.Solid) b) (pick (wide_alternatives Kind.SolidButT) b) (pick (wide_alternatives Kind.Argument) b)) byte solids_stay tree.0.is_byte) in
+    let numbered : rule.number ≡ number_of p.production = ap (λ r. r.number) p.is in
+    subst (λ n. IsTree wide (OfKind ARGUMENT) (elim (nat_eq n (number_of Production.Parameter)) as (λ _. Tree) [
+      | true ↦ branch (rule_of Production.ArgumentWithT) ([] ++ taken) (grown (branch (rule_of Production.ParameterArgument) [] parts) nothing)
+      | false ↦ branch (rule_of Production.PlainArgument) [] (grown (branch rule taken parts) nothing)
+    ])) (sym numbered) (go p.production p.is (nat_eq (number_of p.production) (number_of Production.Parameter)) refl test)
+  where
+    go : (p : Production) → rule ≡ rule_of p → (b : Bool) → nat_eq (number_of p) (number_of Production.Parameter) ≡ b
+        → elim b as (λ _. Bool) [
+          | true ↦ same_choice (Some Production.ArgumentWithT) (pick (wide_alternatives Kind.Argument) tree.0.byte)
+          | false ↦ same_choice (Some p) (pick (wide_alternatives Kind.SolidButT) tree.0.byte) && same_choice (Some Production.PlainArgument) (pick (wide_alternatives Kind.Argument) tree.0.byte)
+        ] ≡ true
+        → IsTree wide (OfKind ARGUMENT) (elim b as (λ _. Tree) [
+          | true ↦ branch (rule_of Production.ArgumentWithT) ([] ++ taken) (grown (branch (rule_of Production.ParameterArgument) [] parts) nothing)
+          | false ↦ branch (rule_of Production.PlainArgument) [] (grown (branch rule taken parts) nothing)
+        ])
+    go p is true e h = (
+      record {
+        byte = tree.0.byte;
+        is_byte = tree.0.is_byte;
+        found = same_at ARGUMENT Kind.Argument tree.0.byte Production.ArgumentWithT refl h;
+        takes = takes_its rule (rule_of Production.Parameter) taken tree.0.byte true (is ∙ ap rule_of (same_production p Production.Parameter e)) parameter_eats tree.0.takes;
+      },
+      (
+        (
+          parameter_behind_t,
+          subst (λ r. AreTrees wide (symbols_of r) parts) (is ∙ ap rule_of (same_production p Production.Parameter e)) tree.1,
+        ),
+        tt,
+      ),
+    )
+    go p is false e h =
+        let both = and_parts (same_choice (Some p) (pick (wide_alternatives Kind.SolidButT) tree.0.byte)) (same_choice (Some Production.PlainArgument) (pick (wide_alternatives Kind.Argument) tree.0.byte)) h in (
+          record { byte = tree.0.byte; is_byte = tree.0.is_byte; found = same_at ARGUMENT Kind.Argument tree.0.byte Production.PlainArgument refl both.1; takes = refl },
+          ((record { byte = tree.0.byte; is_byte = tree.0.is_byte; found = same_at SOLID_BUT_T Kind.SolidButT tree.0.byte p refl both.0 ∙ ap Some (sym is); takes = tree.0.takes }, tree.1), tt),
+        )
+plain_argument_tree empty tree = absurd (true≢false (sym tree ∙ wide_empty_at SOLID Kind.Solid refl))
+plain_argument_tree (token t) tree = absurd tree
+plain_argument_tree (fixed b) tree = absurd tree
+
+-- a type of its own: a parameter, or another
+pub data Solid (rule : Rule) (taken : List ℕ) (parts : Forest) : Type 0 where
+  of_parameter : rule ≡ rule_of Production.Parameter → taken ≡ 84 ∷ [] → (digits : Token) (arguments : Tree) → parts ≡ grown (token digits) (grown arguments nothing) → Solid rule taken parts
+  of_other : nat_eq rule.number (number_of Production.Parameter) ≡ false → Solid rule taken parts
+
+unfoldable parameter_test : (byte : ℕ) → (chosen : Option Production) → Bool
+parameter_test byte None = true
+parameter_test byte (Some p) = not (nat_eq (number_of p) (number_of Production.Parameter)) || nat_eq byte 84
+
+parameters_at : each_below 256 (λ b. parameter_test b (pick (wide_alternatives Kind.Solid) b)) ≡ true
+unfolding in_ranges among is_in pick number_of wide_alternatives each_below parameter_test
+parameters_at = refl
+
+parameter_at : (byte : ℕ) → byte < 256 → pick (wide_alternatives Kind.Solid) byte ≡ Some Production.Parameter → byte ≡ 84
+unfolding parameter_test number_of
+parameter_at byte lt is =
+    let test = subst (λ o. parameter_test byte o ≡ true) is (below 256 (λ b. parameter_test b (pick (wide_alternatives Kind.Solid) b)) byte parameters_at lt) in
+    parameter_byte byte test
+  where
+    parameter_byte : (byte : ℕ) → parameter_test byte (Some Production.Parameter) ≡ true → byte ≡ 84
+    parameter_byte byte h = eqb-true byte 84 h
+
+pub no_empty_solid : wide.may_be_empty SOLID ≡ false
+unfolding kinds may_be_empty
+no_empty_solid = wide_empty_at SOLID Kind.Solid refl
+
+parameter_parts : (rule : Rule) (taken : List ℕ) (parts : Forest) → rule ≡ rule_of Production.Parameter → taken ≡ 84 ∷ [] → AreTrees wide (symbols_of (rule_of Production.Parameter)) parts → Solid rule taken parts
+unfolding rule_of parts_of padded number_of_kind
+parameter_parts rule taken (grown (token digits) (grown arguments nothing)) is own trees = of_parameter is own digits arguments refl
+parameter_parts rule taken nothing is own trees = absurd trees
+parameter_parts rule taken (grown (branch r t f) g) is own trees = absurd trees.0
+parameter_parts rule taken (grown empty g) is own trees = absurd trees.0
+parameter_parts rule taken (grown (fixed b) g) is own trees = absurd trees.0
+parameter_parts rule taken (grown (token digits) nothing) is own trees = absurd trees.1
+parameter_parts rule taken (grown (token digits) (grown arguments (grown u f))) is own trees = absurd trees.1.1
+
+pub solid : (rule : Rule) (taken : List ℕ) (parts : Forest) → IsTree wide (OfKind SOLID) (branch rule taken parts) → Solid rule taken parts
+unfolding kinds rule_of
+solid rule taken parts tree =
+    let p = picked_at SOLID Kind.Solid tree.0.byte rule refl tree.0.found in
+    go p.production p.picked p.is (nat_eq (number_of p.production) (number_of Production.Parameter)) refl
+  where
+    go : (p : Production) → pick (wide_alternatives Kind.Solid) tree.0.byte ≡ Some p → rule ≡ rule_of p → (b : Bool) → nat_eq (number_of p) (number_of Production.Parameter) ≡ b → Solid rule taken parts
+    go p picked is false e = of_other (ap (λ r. nat_eq r.number (number_of Production.Parameter)) is ∙ e)
+    go p picked is true e =
+        let same = same_production p Production.Parameter e in
+        let own : rule ≡ rule_of Production.Parameter = is ∙ ap rule_of same in
+        let at = parameter_at tree.0.byte tree.0.is_byte (picked ∙ ap Some same) in
+        parameter_parts rule taken parts own (takes_its rule (rule_of Production.Parameter) taken tree.0.byte true own parameter_eats tree.0.takes ∙ ap (λ b. b ∷ []) at)
+        (subst (λ r. AreTrees wide (symbols_of r) parts) own tree.1)
+
+-- a tree of a type: that of a type of its own, or one that begins an argument, too
+pub data Typed (rule : Rule) (taken : List ℕ) (parts : Forest) : Type 0 where
+  plain_item : rule ≡ rule_of Production.PlainType → taken ≡ [] → AreTrees wide (OfKind SOLID ∷ []) parts → Typed rule taken parts
+  other_item : nat_eq rule.number (number_of Production.PlainType) ≡ false → IsTree wide (OfKind ARGUMENT) (branch rule taken parts) → Typed rule taken parts
+
+pub typed : (rule : Rule) (taken : List ℕ) (parts : Forest) → IsTree wide (OfKind ITEM) (branch rule taken parts) → Typed rule taken parts
+unfolding item_stays rule_of parts_of padded is_chain number_of_kind kinds
+typed rule taken parts tree =
+    let byte = tree.0.byte in
+    let p = picked_at ITEM Kind.Item byte rule refl tree.0.found in
+    let test = subst (λ o. item_stays o (pick (wide_alternatives Kind.Argument) byte) ≡ true) p.picked
+    (below 256 (λ b. item_stays (pick (wide_alternatives Kind.Item) b) (pick (wide_alternatives Kind.Argument) b)) byte items_stay tree.0.is_byte) in
+    go p.production p.is (nat_eq (number_of p.production) (number_of Production.PlainType)) refl test
+  where
+    go : (p : Production) → rule ≡ rule_of p → (b : Bool) → nat_eq (number_of p) (number_of Production.PlainType) ≡ b
+        → b || same_choice (Some p) (pick (wide_alternatives Kind.Argument) tree.0.byte) ≡ true → Typed rule taken parts
+    go p is true e h =
+        let own : rule ≡ rule_of Production.PlainType = is ∙ ap rule_of (same_production p Production.PlainType e) in
+        plain_item own (takes_its rule (rule_of Production.PlainType) taken tree.0.byte false own refl tree.0.takes) (subst (λ r. AreTrees wide (symbols_of r) parts) own tree.1)
+    go p is false e h = other_item (ap (λ r. nat_eq r.number (number_of Production.PlainType)) is ∙ e)
+        (record { byte = tree.0.byte; is_byte = tree.0.is_byte; found = same_at ARGUMENT Kind.Argument tree.0.byte p refl h ∙ ap Some (sym is); takes = tree.0.takes }, tree.1)
+
+as_argument_tree : (t : Tree) → IsTree wide (OfKind ITEM) t → IsTree wide (OfKind ARGUMENT) (as_argument t)
+unfolding as_argument rule_of number_of kinds may_be_empty
+as_argument_tree (branch rule taken (grown first nothing)) tree = elim (typed rule taken (grown first nothing) tree) [
+  | plain_item own none trees ↦ rw (own, none) (plain_argument_tree first trees.0)
+  | other_item apart same ↦ subst (λ b. IsTree wide (OfKind ARGUMENT) (elim b as (λ _. Tree) [ true ↦ plain_argument taken first | false ↦ branch rule taken (grown first nothing) ])) (sym apart) same
+]
+as_argument_tree (branch rule taken nothing) tree = elim (typed rule taken nothing tree) [ plain_item own none trees ↦ absurd trees | other_item apart same ↦ same ]
+as_argument_tree (branch rule taken (grown first (grown second f))) tree = elim (typed rule taken (grown first (grown second f)) tree) [ plain_item own none trees ↦ absurd trees.1 | other_item apart same ↦ same ]
+as_argument_tree empty tree = absurd (true≢false (sym tree ∙ wide_empty_at ITEM Kind.Item refl))
+as_argument_tree (token t) tree = absurd tree
+as_argument_tree (fixed b) tree = absurd tree
+
+-- the parts of a type as an argument: it, and the rest of the list
+pub record ItemParts (n : ℕ) (parts : Forest) : Type 0 where
+  pub item : Tree
+  pub rest : Tree
+  pub are : parts ≡ grown item (grown rest nothing)
+  pub item_is : IsTree wide (OfKind ITEM) item
+  pub rest_is : IsTree wide (OfKind n) rest
+
+pub item_parts : (n : ℕ) (parts : Forest) → AreTrees wide (OfKind ITEM ∷ OfKind n ∷ []) parts → ItemParts n parts
+item_parts n (grown item (grown rest nothing)) trees = record { item = item; rest = rest; are = refl; item_is = trees.0; rest_is = trees.1.0 }
+item_parts n nothing trees = absurd trees
+item_parts n (grown item nothing) trees = absurd trees.1
+item_parts n (grown item (grown rest (grown u f))) trees = absurd trees.1.1
+
+-- the tree that it is in the wide grammar
+record ItemTree (k : ℕ) (own : Production) (parts : Forest) : Type 0 where
+  item : Tree
+  rest : Tree
+  are : parts ≡ grown item (grown rest nothing)
+  tree : IsTree wide (OfKind k) (branch (rule_of own) [] (grown (as_argument item) (grown rest nothing)))
+
+item_tree : (k byte : ℕ) (p own : Production) → IsItem p own → (parts : Forest) → byte < 256 → wide.rule k byte ≡ Some (rule_of own) → AreTrees wide (symbols_of (rule_of p)) parts → ItemTree k own parts
+unfolding rule_of parts_of padded is_chain number_of_kind
+item_tree k byte _ _ item_argument parts lt at trees =
+    let a = item_parts ARGUMENT_LIST parts trees in
+    record { item = a.item; rest = a.rest; are = a.are; tree = (record { byte = byte; is_byte = lt; found = at; takes = refl }, (as_argument_tree a.item a.item_is, (a.rest_is, tt))) }
+item_tree k byte _ _ item_element parts lt at trees =
+    let a = item_parts PACK_LIST parts trees in
+    record { item = a.item; rest = a.rest; are = a.are; tree = (record { byte = byte; is_byte = lt; found = at; takes = refl }, (as_argument_tree a.item a.item_is, (a.rest_is, tt))) }
+
+item_branch : (k byte : ℕ) (p own : Production) → IsItem p own → (taken : List ℕ) (parts : Forest) → byte < 256 → taken ≡ [] → wide.rule k byte ≡ Some (rule_of own)
+    → AreTrees wide (symbols_of (rule_of p)) parts → IsTree wide (OfKind k) (widened_branch k (rule_of p) taken parts)
+unfolding change_of changed argument_behind rule_of number_of
+item_branch k byte _ _ item_argument taken parts lt none at trees = let a = item_tree k byte Production.TypeArgument Production.AnyArgument item_argument parts lt at trees in rw (none, a.are) a.tree
+item_branch k byte _ _ item_element taken parts lt none at trees = let a = item_tree k byte Production.TypeElement Production.AnyElement item_element parts lt at trees in rw (none, a.are) a.tree
+
+pub item_chains : (p own : Production) → IsItem p own → (rule_of p).eats ≡ false
+unfolding rule_of is_chain
+item_chains _ _ item_argument = refl
+item_chains _ _ item_element = refl
+
+address_eats : (p own : Production) → IsAddress p own → (rule_of p).eats ≡ true
+unfolding rule_of is_chain
+address_eats _ _ in_arguments = refl
+address_eats _ _ in_packs = refl
+
 branch_tree : (k : ℕ) (rule : Rule) (taken : List ℕ) (parts : Forest) → k < either.kinds → TakesRule either k rule taken → AreTrees wide (symbols_of rule) parts
     → IsTree wide (OfKind k) (widened_branch k rule taken parts)
 unfolding rule_of is_chain
@@ -473,6 +859,12 @@ branch_tree k rule taken parts lt takes trees = elim (chosen_rule k takes.byte r
       (subst (λ r. AreTrees wide (symbols_of r) parts) is trees))
   | in_std_ is at here ↦ rw (is, at) (type_branch taken parts (takes_its rule (rule_of Production.StdType) taken takes.byte true is refl takes.takes ∙ ap (λ b. b ∷ []) here)
       (subst (λ r. AreTrees wide (symbols_of r) parts) is trees))
+  | of_array is at here ↦ rw (is, at) (array_branch taken parts (takes_its rule (rule_of Production.Array) taken takes.byte true is refl takes.takes ∙ ap (λ b. b ∷ []) here)
+      (subst (λ r. AreTrees wide (symbols_of r) parts) is trees))
+  | of_item p own one is at ↦ rw is (item_branch k takes.byte p own one taken parts takes.is_byte
+      (takes_its rule (rule_of p) taken takes.byte false is (item_chains p own one) takes.takes) at (subst (λ r. AreTrees wide (symbols_of r) parts) is trees))
+  | of_address p own one is here at ↦ rw is (address_branch k p own one taken parts
+      (takes_its rule (rule_of p) taken takes.byte true is (address_eats p own one) takes.takes ∙ ap (λ b. b ∷ []) here) at (subst (λ r. AreTrees wide (symbols_of r) parts) is trees))
 ]
 
 mutual
@@ -539,12 +931,55 @@ unfolding type_without_tags
 spell_type taken (grown piece nothing) = append-nil (taken ++ (spell piece ++ []))
 spell_type taken _ = refl
 
+spell_address : (own : Production) (rule : Rule) (taken : List ℕ) (parts : Forest) → spell (address_as_expression own rule taken parts) ≡ taken ++ spell_all parts
+unfolding address_as_expression
+spell_address own rule taken (grown (fixed a) (grown (fixed d) (grown address (grown rest nothing)))) =
+    ap (λ w. (taken ++ w) ++ (spell rest ++ [])) (append-nil (a ∷ d ∷ (spell address ++ [])))
+    ∙ ap (λ w. (taken ++ (a ∷ d ∷ w)) ++ (spell rest ++ [])) (append-nil (spell address))
+    ∙ append_assoc taken (a ∷ d ∷ spell address) (spell rest ++ [])
+spell_address own rule taken _ = refl
+
+spell_array : (taken : List ℕ) (parts : Forest) → spell (array_behind_letter taken parts) ≡ taken ++ spell_all parts
+unfolding array_behind_letter
+spell_array taken parts = append-nil (taken ++ (spell_all parts ++ [])) ∙ ap (λ w. taken ++ w) (append-nil (spell_all parts))
+
+spell_plain : (before : List ℕ) (t : Tree) → spell (plain_argument before t) ≡ before ++ spell t
+unfolding plain_argument
+spell_plain before (branch rule taken parts) = go (nat_eq rule.number (number_of Production.Parameter))
+  where
+    go : (b : Bool) → spell (elim b as (λ _. Tree) [
+      | true ↦ branch (rule_of Production.ArgumentWithT) (before ++ taken) (grown (branch (rule_of Production.ParameterArgument) [] parts) nothing)
+      | false ↦ branch (rule_of Production.PlainArgument) before (grown (branch rule taken parts) nothing)
+    ]) ≡ before ++ (taken ++ spell_all parts)
+    go true = ap (λ w. (before ++ taken) ++ w) (append-nil (spell_all parts)) ∙ append_assoc before taken (spell_all parts)
+    go false = ap (λ w. before ++ w) (append-nil (taken ++ spell_all parts))
+spell_plain before empty = refl
+spell_plain before (token t) = ap (λ w. before ++ w) (append-nil (spell (token t)))
+spell_plain before (fixed b) = refl
+
+pub spell_argument : (t : Tree) → spell (as_argument t) ≡ spell t
+unfolding as_argument
+spell_argument (branch rule taken (grown first nothing)) = go (nat_eq rule.number (number_of Production.PlainType))
+  where
+    go : (b : Bool) → spell (elim b as (λ _. Tree) [ true ↦ plain_argument taken first | false ↦ branch rule taken (grown first nothing) ]) ≡ taken ++ (spell first ++ [])
+    go true = spell_plain taken first ∙ ap (λ w. taken ++ w) (sym (append-nil (spell first)))
+    go false = refl
+spell_argument _ = refl
+
+spell_item : (own : Production) (rule : Rule) (taken : List ℕ) (parts : Forest) → spell (argument_behind own rule taken parts) ≡ taken ++ spell_all parts
+unfolding argument_behind
+spell_item own rule taken (grown item (grown rest nothing)) = ap (λ w. taken ++ (w ++ (spell rest ++ []))) (spell_argument item)
+spell_item own rule taken _ = refl
+
 spell_changed : (change : Change) (rule : Rule) (taken : List ℕ) (parts : Forest) → spell (changed change rule taken parts) ≡ taken ++ spell_all parts
 unfolding changed
 spell_changed with_rest rule taken parts = ap (λ w. taken ++ w) (spell_parts parts)
 spell_changed within_name rule taken parts = spell_operator taken parts
 spell_changed with_g rule taken parts = spell_variable taken parts
 spell_changed with_t rule taken parts = spell_type taken parts
+spell_changed (with_x own) rule taken parts = spell_address own rule taken parts
+spell_changed with_a rule taken parts = spell_array taken parts
+spell_changed (with_item own) rule taken parts = spell_item own rule taken parts
 spell_changed unchanged rule taken parts = refl
 
 mutual
@@ -601,13 +1036,18 @@ operator_branch taken (grown (branch r first (grown second nothing)) (grown argu
 operator_branch taken parts = some (rule_of Production.OtherOperatorName) taken parts
 
 some_branch : (change : Change) (rule : Rule) (taken : List ℕ) (parts : Forest) → IsSome (changed change rule taken parts)
-unfolding changed variable_with_g type_without_tags
+unfolding changed variable_with_g type_without_tags address_as_expression array_behind_letter argument_behind
 some_branch with_rest rule taken parts = some _ _ _
 some_branch within_name rule taken parts = operator_branch taken parts
 some_branch with_g rule taken (grown (fixed letter) (grown name nothing)) = some _ _ _
 some_branch with_g rule taken parts = some (rule_of Production.Guard) taken parts
 some_branch with_t rule taken (grown piece nothing) = some _ _ _
 some_branch with_t rule taken parts = some (rule_of Production.StdType) taken parts
+some_branch (with_x own) rule taken (grown (fixed a) (grown (fixed d) (grown address (grown rest nothing)))) = some _ _ _
+some_branch (with_x own) rule taken parts = some rule taken parts
+some_branch with_a rule taken parts = some _ _ _
+some_branch (with_item own) rule taken (grown item (grown rest nothing)) = some _ _ _
+some_branch (with_item own) rule taken parts = some rule taken parts
 some_branch unchanged rule taken parts = some rule taken parts
 
 wide_branch : (k : ℕ) (rule : Rule) (taken : List ℕ) (parts : Forest) → k < either.kinds → IsTree either (OfKind k) (branch rule taken parts) → IsBranch k rule (taken ++ spell_all parts)
@@ -637,6 +1077,9 @@ wide_branch k rule taken parts lt is =
     go within_name e tree spelled = other_than within_name (λ h. cc h) e tree spelled
     go with_g e tree spelled = other_than with_g (λ h. cc h) e tree spelled
     go with_t e tree spelled = other_than with_t (λ h. cc h) e tree spelled
+    go with_a e tree spelled = other_than with_a (λ h. cc h) e tree spelled
+    go (with_item own) e tree spelled = other_than (with_item own) (λ h. cc h) e tree spelled
+    go (with_x own) e tree spelled = other_than (with_x own) (λ h. cc h) e tree spelled
 
 -- a rule's tree isn't empty
 pub either_filled : (k : ℕ) (rule : Rule) (taken : List ℕ) (parts : Forest) → k < either.kinds → IsTree either (OfKind k) (branch rule taken parts) → taken ++ spell_all parts ≡ [] → ⊥
@@ -663,6 +1106,104 @@ taken_at k rule taken rest b w takes eats spelled =
     let same : takes.byte ≡ b = cc in
     ap (λ n. either.rule k n) (sym same) ∙ takes.found
 
+-- ## The first byte of a type as an argument
+
+-- what the wide grammar has in the place of a type, the table of both has a type for, but at an X
+unfoldable item_test : (byte : ℕ) → (chosen other : Option Production) → Bool
+item_test byte chosen other = nat_eq byte 88
+    || ((not (same_choice (Some Production.AnyArgument) other) || same_choice (Some Production.TypeArgument) chosen)
+    && (not (same_choice (Some Production.AnyElement) other) || same_choice (Some Production.TypeElement) chosen))
+
+items_chosen : (kind : Kind) → each_below 256 (λ b. item_test b (pick (either_alternatives kind) b) (pick (wide_alternatives kind) b)) ≡ true
+unfolding in_ranges among is_in pick number_of wide_alternatives either_alternatives same_choice each_below item_test
+items_chosen Kind.Symbol = refl
+items_chosen _ = refl
+
+chosen_item : (p own : Production) → IsItem p own → (byte : ℕ) (chosen other : Option Production) → item_test byte chosen other ≡ true → (byte ≡ 88 → ⊥)
+    → same_choice (Some own) other ≡ true → same_choice (Some p) chosen ≡ true
+unfolding item_test
+chosen_item _ _ item_argument byte chosen other h no_x own = go (nat_eq byte 88) refl h
+  where
+    go : (b : Bool) → nat_eq byte 88 ≡ b → b || ((not (same_choice (Some Production.AnyArgument) other) || same_choice (Some Production.TypeArgument) chosen)
+        && (not (same_choice (Some Production.AnyElement) other) || same_choice (Some Production.TypeElement) chosen)) ≡ true → same_choice (Some Production.TypeArgument) chosen ≡ true
+    go true e t = absurd (no_x (eqb-true byte 88 e))
+    go false e t = subst (λ b. not b || same_choice (Some Production.TypeArgument) chosen ≡ true) own
+        (and_parts (not (same_choice (Some Production.AnyArgument) other) || same_choice (Some Production.TypeArgument) chosen)
+        (not (same_choice (Some Production.AnyElement) other) || same_choice (Some Production.TypeElement) chosen) t).0
+chosen_item _ _ item_element byte chosen other h no_x own = go (nat_eq byte 88) refl h
+  where
+    go : (b : Bool) → nat_eq byte 88 ≡ b → b || ((not (same_choice (Some Production.AnyArgument) other) || same_choice (Some Production.TypeArgument) chosen)
+        && (not (same_choice (Some Production.AnyElement) other) || same_choice (Some Production.TypeElement) chosen)) ≡ true → same_choice (Some Production.TypeElement) chosen ≡ true
+    go true e t = absurd (no_x (eqb-true byte 88 e))
+    go false e t = subst (λ b. not b || same_choice (Some Production.TypeElement) chosen ≡ true) own
+        (and_parts (not (same_choice (Some Production.AnyArgument) other) || same_choice (Some Production.TypeArgument) chosen)
+        (not (same_choice (Some Production.AnyElement) other) || same_choice (Some Production.TypeElement) chosen) t).1
+
+-- no type begins with an X
+no_x_item : (rule : Rule) → wide.rule ITEM 88 ≡ Some rule → ⊥
+unfolding wide_choose wide_alternatives kinds pick is_in in_ranges among rule_taken
+no_x_item rule found = let none : wide.rule ITEM 88 ≡ None = wide_rule_at ITEM Kind.Item 88 refl in cc
+
+item_begins : (t : Tree) → IsTree either (OfKind ITEM) t → (b : ℕ) (w : List ℕ) → spell t ≡ b ∷ w → b ≡ 88 → ⊥
+unfolding either either_sheet kinds wide wide_sheet
+item_begins (branch rule taken parts) is b w spelled x =
+    let wide_ = wide_branch ITEM rule taken parts (lit≤ tt) is in
+    let first = branch_first wide wide_lawful ITEM wide_.other wide_.own wide_.parts b w (lit≤ tt) wide_.is (wide_.spells ∙ spelled) in
+    no_x_item wide_.other (subst (λ n. wide.rule ITEM n ≡ Some wide_.other) x first.1)
+item_begins empty is b w spelled x = cc
+item_begins (token t) is b w spelled x = absurd is
+item_begins (fixed c) is b w spelled x = absurd is
+
+-- what is spelled first
+first_of_two : (xs ys : List ℕ) (b : ℕ) (w : List ℕ) → xs ++ ys ≡ b ∷ w → (xs ≡ [] → ⊥) → (v : List ℕ) × (xs ≡ b ∷ v)
+first_of_two [] ys b w e some = absurd (some refl)
+first_of_two (x ∷ xs) ys b w e some = let same : x ≡ b = cc in (xs, ap (λ n. n ∷ xs) same)
+
+item_filled : (t : Tree) → IsTree either (OfKind ITEM) t → spell t ≡ [] → ⊥
+unfolding kinds may_be_empty either either_sheet
+item_filled (branch rule taken parts) is none = either_filled ITEM rule taken parts (lit≤ tt) is none
+item_filled empty is none = absurd (true≢false (sym is ∙ either_empty_at ITEM Kind.Item refl))
+item_filled (token t) is none = absurd is
+item_filled (fixed c) is none = absurd is
+
+items_begin : (n : ℕ) (parts : Forest) → AreTrees either (OfKind ITEM ∷ OfKind n ∷ []) parts → (b : ℕ) (w : List ℕ) → spell_all parts ≡ b ∷ w → b ≡ 88 → ⊥
+items_begin n (grown item (grown rest nothing)) trees b w spelled x =
+    let own = first_of_two (spell item) (spell rest ++ []) b w spelled (item_filled item trees.0) in
+    item_begins item trees.0 b own.0 own.1 x
+items_begin n nothing trees b w spelled x = absurd trees
+items_begin n (grown item nothing) trees b w spelled x = absurd trees.1
+items_begin n (grown item (grown rest (grown u f))) trees b w spelled x = absurd trees.1.1
+
+starts_with_item : (p own : Production) → IsItem p own → (parts : Forest) → AreTrees either (symbols_of (rule_of p)) parts → (b : ℕ) (w : List ℕ) → spell_all parts ≡ b ∷ w → b ≡ 88 → ⊥
+unfolding rule_of parts_of padded number_of_kind
+starts_with_item _ _ item_argument parts trees b w spelled x = items_begin ARGUMENT_LIST parts trees b w spelled x
+starts_with_item _ _ item_element parts trees b w spelled x = items_begin PACK_LIST parts trees b w spelled x
+
+item_first : (k byte : ℕ) (p own : Production) → IsItem p own → (rule : Rule) (taken : List ℕ) (parts : Forest) (b : ℕ) (w : List ℕ) → k < either.kinds → rule ≡ rule_of p → byte < 256 → taken ≡ []
+    → wide.rule k byte ≡ Some (rule_of own) → AreTrees either (symbols_of rule) parts → taken ++ spell_all parts ≡ b ∷ w → either.rule k b ≡ Some rule
+unfolding rule_taken rule_of either_choose same_choice
+item_first k byte p own one rule taken parts b w known is lt none at trees spelled =
+    let symbols : AreSymbols either (symbols_of rule) = subst (λ r. AreSymbols either (symbols_of r)) (sym is) (item_symbols p own one) in
+    let widened_ : AreTrees wide (symbols_of (rule_of p)) (widened_all parts (symbols_of rule)) =
+    subst (λ r. AreTrees wide (symbols_of r) (widened_all parts (symbols_of rule))) is (widened_trees (symbols_of rule) parts symbols trees) in
+    let x = item_tree k byte p own one (widened_all parts (symbols_of rule)) lt at widened_ in
+    let plain : spell_all parts ≡ b ∷ w = sym (ap (λ t. t ++ spell_all parts) none) ∙ spelled in
+    let whole : spell_all (grown (as_argument x.item) (grown x.rest nothing)) ≡ b ∷ w =
+    ap (λ v. v ++ (spell x.rest ++ [])) (spell_argument x.item) ∙ sym (ap spell_all x.are) ∙ spell_widened_all parts (symbols_of rule) ∙ plain in
+    let first = branch_first wide wide_lawful k (rule_of own) [] (grown (as_argument x.item) (grown x.rest nothing)) b w (wide_kind k known) x.tree whole in
+    let no_x = starts_with_item p own one parts (subst (λ r. AreTrees either (symbols_of r) parts) is trees) b w plain in
+    go first.0 first.1 no_x (slice_get kinds k) refl
+  where
+    go : b < 256 → wide.rule k b ≡ Some (rule_of own) → (b ≡ 88 → ⊥) → (o : Option Kind) → slice_get kinds k ≡ o → either.rule k b ≡ Some rule
+    go less found no_x None missing = absurd (is_either_kind k known missing)
+    go less found no_x (Some kind) here =
+        let q = picked_at k kind b (rule_of own) here found in
+        let chosen : same_choice (Some own) (pick (wide_alternatives kind) b) ≡ true =
+        subst (λ o. same_choice (Some own) o ≡ true) (sym q.picked) (eq-eqb (number_of own) (number_of q.production) (ap (λ r. r.number) q.is)) in
+        let test = below 256 (λ c. item_test c (pick (either_alternatives kind) c) (pick (wide_alternatives kind) c)) b (items_chosen kind) less in
+        let its = chosen_item p own one b (pick (either_alternatives kind) b) (pick (wide_alternatives kind) b) test no_x chosen in
+        either_rule_at k kind b here ∙ ap rule_taken (kept (Some p) (pick (either_alternatives kind) b) p its refl) ∙ ap Some (sym is)
+
 -- The rule of a tree is the one that its first byte chooses, or stands at the byte that no symbol has.
 pub either_first : (k : ℕ) (rule : Rule) (taken : List ℕ) (parts : Forest) (b : ℕ) (w : List ℕ) → k < either.kinds → IsTree either (OfKind k) (branch rule taken parts) → taken ++ spell_all parts ≡ b ∷ w
     → (b < 256) × ((either.rule k b ≡ Some rule) ⊎ (either.rule k 33 ≡ Some rule))
@@ -678,6 +1219,10 @@ either_first k rule taken parts b w lt is spelled =
         | of_operator is at ↦ inr (ap (λ n. either.rule n 33) at ∙ operator_at ∙ ap Some (sym is))
         | of_variable same at here ↦ inl (taken_at k rule taken (spell_all parts) b w is.0 (ap (λ r. r.eats) same) spelled)
         | in_std_ same at here ↦ inl (taken_at k rule taken (spell_all parts) b w is.0 (ap (λ r. r.eats) same) spelled)
+        | of_array same at here ↦ inl (taken_at k rule taken (spell_all parts) b w is.0 (ap (λ r. r.eats) same) spelled)
+        | of_item p own one same at ↦ inl (item_first k is.0.byte p own one rule taken parts b w lt same is.0.is_byte
+            (takes_its rule (rule_of p) taken is.0.byte false same (item_chains p own one) is.0.takes) at is.1 spelled)
+        | of_address p own one same here at ↦ inl (taken_at k rule taken (spell_all parts) b w is.0 (ap (λ r. r.eats) same ∙ address_eats p own one) spelled)
       ],
     )
 

@@ -1,7 +1,7 @@
 -- What surrounds the parts of a production, and what is done before each of them.
 -- A name grows from part to part: each piece is added to the name so far, and a name to which something is added is a
 -- candidate, unless it is one already or never is one.
-use Rattle.std.specs.Prelude.{ℕ, List, [], ◌∷◌, Bool, true, false, None, Result, Ok}
+use Rattle.std.specs.Prelude.{ℕ, ◌-◌, List, [], ◌∷◌, Bool, true, false, None, Result, Ok}
 use Rattle.sym_core.specs.declared.refusal.Refusal.{Refusal}
 use Rattle.sym_core.specs.declared.NumberKind.TheVariants.{Decimal}
 use Rattle.sym_core.specs.Value.{counted_value}
@@ -57,7 +57,7 @@ no_items v = tree_of v
 abbrev pub Going : Type 0
 Going = Result (Next Value State Around) Refusal
 
-abbrev next : List Value → Around → State → Going
+abbrev pub next : List Value → Around → State → Going
 next vs around state = Ok (record { values = vs; context = around; state = state })
 
 -- a name that has been made stands before its arguments
@@ -79,6 +79,10 @@ tag_so_far around tag state = named_so_far around (with_tag (prefix_tree around.
 -- a parameter is tested, and becomes a candidate, where its number ends
 unfoldable pub parameter_so_far : Around → (place : ℕ) → ℕ → List Value → State → Going
 parameter_so_far around place k vs state = parameter_named around place k state >>= λ s. listed_so_far around (parameter k) vs s
+
+-- a parameter that is an argument itself, or the length of an array, is tested in the same way, and no candidate
+unfoldable pub argument_so_far : Around → (place : ℕ) → ℕ → State → Going
+argument_so_far around place k state = parameter_named around place k state >>= λ s. next (tree (parameter k) true ∷ []) around (record s { candidates = state.candidates })
 
 unfoldable pub index_of : Value → ℕ
 index_of v = counted_value Decimal (text_of v)
@@ -137,6 +141,11 @@ between Production.Lambda around place vs state = next vs (in_signature around) 
 -- types
 between Production.Expansion around place vs state = next vs (under_expansion around) (record state { packs = None })
 between Production.Parameter around place (v ∷ []) state = parameter_so_far around place (index_of v) [] state
+-- a parameter behind the T, and what is declared of an argument, in which parameters are those of no encoding, as in a lambda's signature
+between Production.ParameterArgument around place (v ∷ []) state = parameter_so_far around (place - 1) (index_of v) [] state
+between Production.DeclaredArgument around place [] state = next [] (in_signature around) state
+between Production.ParameterExpression around place (v ∷ []) state = argument_so_far around place (index_of v) state
+between Production.BoundedArray around place (v ∷ []) state = argument_so_far around place (index_of v) state
 between Production.TaggedStdType around place (v ∷ []) state = named_so_far around (in_std (piece_of v)) [] state
 between Production.TypeWithS around place (v ∷ []) state = next (v ∷ []) (after (tree_of v) (is_listed v) around) state
 between Production.LvalueItem around place (v ∷ []) state = let t = lvalue (tree_of v) in next (tree t true ∷ []) around (appended around t state)

@@ -19,7 +19,11 @@ unfoldable pub either_alternatives : Kind → List Alternative
 either_alternatives Kind.Encoding = on "T" Production.Special ∷ on_ranges "0-9c-el-p" "LNSUZagirs" Production.Encoding ∷ on "G" Production.Guard ∷ on "!" Production.OtherSpecial ∷ []
 either_alternatives Kind.NestAfterS = on "t" Production.NestStd ∷ on_ranges "0-9A-Z" "_abdios" Production.NestTemplate ∷ on "!" Production.NestAbbreviated ∷ []
 either_alternatives Kind.Component = on "C" Production.Constructor ∷ on "D" Production.Destructor ∷ on "L" Production.InternalName ∷ on "U" Production.LocalTypeName ∷ on_ranges "0-9" "" Production.SourceName ∷ on "c" Production.ComponentWithC ∷ on_ranges "l-p" "adegirs" Production.OtherOperatorName ∷ on "M" Production.Holder ∷ on "!" Production.OperatorName ∷ []
+either_alternatives Kind.Solid = on_ranges "a-jl-ov-z" "st" Production.Builtin ∷ on "u" Production.Vendor ∷ on "F" Production.Function ∷ on "C" Production.Complex ∷ on "P" Production.Pointer ∷ on "M" Production.MemberPointer ∷ on "T" Production.Parameter ∷ on "S" Production.TypeWithS ∷ on "N" Production.NestedType ∷ on "Z" Production.LocalType ∷ on "U" Production.LocalTypeName ∷ on_ranges "0-9" "" Production.SourceName ∷ on "A" Production.Array ∷ on "!" Production.ArrayType ∷ []
 either_alternatives Kind.TypeAfterS = on_ranges "0-9A-Z" "_abdios" Production.AbbreviatedType ∷ on "t" Production.StdType ∷ on "!" Production.TypeInStd ∷ []
+either_alternatives Kind.ArgumentList = on "J" Production.PackArgument ∷ on "L" Production.LiteralArgument ∷ on "X" Production.AddressArgument ∷ on_ranges "0-9M-PR-Va-jl-or-z" "ACDFKZ" Production.TypeArgument ∷ on "!" Production.AnyArgument ∷ []
+either_alternatives Kind.PackList = on "L" Production.LiteralElement ∷ on "X" Production.AddressElement ∷ on_ranges "0-9M-PR-Va-jl-or-z" "ACDFKZ" Production.TypeElement ∷ on "!" Production.AnyElement ∷ []
+either_alternatives Kind.ArgumentsFirst = on "J" Production.PackArgument ∷ on "L" Production.LiteralArgument ∷ on "I" Production.PackArgument ∷ on "X" Production.AddressArgument ∷ on_ranges "0-9M-PR-Va-jl-or-z" "ACDFKZ" Production.TypeArgument ∷ on "!" Production.AnyArgument ∷ []
 either_alternatives kind = wide_alternatives kind
 
 -- the production that a kind takes at a byte

@@ -86,6 +86,16 @@ after_ranges Kind.SpecialAfterG = codes ".-.E-E"
 after_ranges Kind.CloneLetter = codes "0-9G-GL-LN-NS-UZ-Za-ac-eg-gi-il-pr-s"
 after_ranges Kind.TypeInStd = codes ".-.0-9A-AC-FI-PR-VX-XZ-Za-jl-pr-z"
 after_ranges Kind.MaybeTags = codes ".-.0-9A-AC-FI-PR-VX-XZ-Za-jl-pr-z"
+after_ranges Kind.Argument = codes "0-9A-AC-FJ-PR-VX-XZ-Za-jl-or-z"
+after_ranges Kind.ArgumentAfterT = codes "0-9A-AC-FJ-PR-VX-XZ-Za-jl-or-z"
+after_ranges Kind.OneArgument = codes "0-9A-AC-FJ-PR-VX-XZ-Za-jl-or-z"
+after_ranges Kind.DeclarationAfterT = codes "0-9A-AC-FK-PR-VX-XZ-Za-jl-or-z"
+after_ranges Kind.Declarations = codes "E-E"
+after_ranges Kind.Concept = codes "0-9A-AC-FK-PR-VX-XZ-Za-jl-or-z"
+after_ranges Kind.SolidButT = codes "0-9A-AC-FJ-PR-VX-XZ-Za-jl-or-z"
+after_ranges Kind.ExpressionRest = codes "0-9A-AC-FJ-PR-VX-XZ-Za-jl-or-z"
+after_ranges Kind.AnyArray = codes ".-.0-9A-AC-FJ-PR-VX-XZ-Za-jl-pr-z"
+after_ranges Kind.ArrayRest = codes ".-.0-9A-AC-FJ-PR-VX-XZ-Za-jl-pr-z"
 
 -- how many chains may stand on one another at the beginning of a kind
 unfoldable pub rank : Kind → ℕ
@@ -125,6 +135,12 @@ rank Kind.ComponentAfterC = 1
 rank Kind.ArgumentsFirst = 3
 rank Kind.PlainEntity = 1
 rank Kind.PlainTypeEntity = 1
+rank Kind.Argument = 2
+rank Kind.ArgumentAfterT = 1
+rank Kind.OneArgument = 2
+rank Kind.Concept = 1
+rank Kind.SolidButT = 1
+rank Kind.ArrayRest = 1
 rank _ = 0
 
 -- how high the lowest tree of a kind is
@@ -195,4 +211,13 @@ height Kind.SpecialMark = 1
 height Kind.SpecialAfterG = 2
 height Kind.CloneLetter = 1
 height Kind.TypeInStd = 2
+height Kind.Argument = 2
+height Kind.ArgumentAfterT = 1
+height Kind.OneArgument = 2
+height Kind.DeclarationAfterT = 1
+height Kind.Concept = 1
+height Kind.SolidButT = 1
+height Kind.ExpressionRest = 1
+height Kind.AnyArray = 4
+height Kind.ArrayRest = 3
 height _ = 0

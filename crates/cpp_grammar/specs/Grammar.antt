@@ -122,6 +122,16 @@ number_of_kind Kind.SpecialAfterG = 78
 number_of_kind Kind.CloneLetter = 79
 number_of_kind Kind.TypeInStd = 80
 number_of_kind Kind.MaybeTags = 81
+number_of_kind Kind.Argument = 82
+number_of_kind Kind.ArgumentAfterT = 83
+number_of_kind Kind.OneArgument = 84
+number_of_kind Kind.DeclarationAfterT = 85
+number_of_kind Kind.Declarations = 86
+number_of_kind Kind.Concept = 87
+number_of_kind Kind.SolidButT = 88
+number_of_kind Kind.ExpressionRest = 89
+number_of_kind Kind.AnyArray = 90
+number_of_kind Kind.ArrayRest = 91
 
 -- a kind as a symbol of a rule
 abbrev part : Kind → Sym
@@ -211,6 +221,16 @@ alternatives Kind.SpecialAfterG = on "V" Production.SpecialName ∷ on "T" Produ
 alternatives Kind.CloneLetter = on "nt" Production.Mark ∷ []
 alternatives Kind.TypeInStd = on "t" Production.TaggedStdType ∷ []
 alternatives Kind.MaybeTags = on "B" Production.TypeTag ∷ []
+alternatives Kind.Argument = on "r" Production.RestrictType ∷ on "V" Production.VolatileType ∷ on "K" Production.ConstType ∷ on "D" Production.ItemWithD ∷ on "OR" Production.ReferenceType ∷ on "X" Production.Expression ∷ on "T" Production.ArgumentWithT ∷ on_ranges "0-9a-jl-os-z" "ACFMNPSUZ" Production.PlainArgument ∷ []
+alternatives Kind.ArgumentAfterT = on "knpty" Production.DeclaredArgument ∷ on_ranges "0-9" "_" Production.ParameterArgument ∷ []
+alternatives Kind.OneArgument = on "L" Production.OneLiteral ∷ on "r" Production.RestrictType ∷ on "V" Production.VolatileType ∷ on "K" Production.ConstType ∷ on "D" Production.ItemWithD ∷ on "OR" Production.ReferenceType ∷ on "X" Production.Expression ∷ on "T" Production.ArgumentWithT ∷ on_ranges "0-9a-jl-os-z" "ACFMNPSUZ" Production.PlainArgument ∷ []
+alternatives Kind.DeclarationAfterT = on "y" Production.AnyType ∷ on "n" Production.ValueOf ∷ on "k" Production.OfConcept ∷ on "t" Production.TemplateOf ∷ on "p" Production.PackOf ∷ []
+alternatives Kind.Declarations = on "T" Production.Declarations ∷ []
+alternatives Kind.Concept = on "S" Production.TypeWithS ∷ on "N" Production.NestedType ∷ on_ranges "0-9" "" Production.SourceName ∷ []
+alternatives Kind.SolidButT = on_ranges "a-jl-ov-z" "st" Production.Builtin ∷ on "u" Production.Vendor ∷ on "A" Production.ArrayType ∷ on "F" Production.Function ∷ on "C" Production.Complex ∷ on "P" Production.Pointer ∷ on "M" Production.MemberPointer ∷ on "S" Production.TypeWithS ∷ on "N" Production.NestedType ∷ on "Z" Production.LocalType ∷ on "U" Production.LocalTypeName ∷ on_ranges "0-9" "" Production.SourceName ∷ []
+alternatives Kind.ExpressionRest = on "a" Production.AddressExpression ∷ on "T" Production.ParameterExpression ∷ []
+alternatives Kind.AnyArray = on "A" Production.AnyArray ∷ []
+alternatives Kind.ArrayRest = on "T" Production.BoundedArray ∷ on_ranges "0-9" "_" Production.LengthArray ∷ []
 
 -- the production that a kind takes at a byte
 unfoldable pub choose : Kind → ℕ → Option Production
@@ -336,6 +356,23 @@ parts_of Production.OperatorNameWithC = part Kind.OperatorAfterC ∷ part Kind.M
 parts_of Production.Clone = part Kind.CloneLetter ∷ part Kind.Encoding ∷ []
 parts_of Production.TaggedStdType = part Kind.SourceOrLocal ∷ part Kind.MaybeTags ∷ []
 parts_of Production.TypeTag = Name ∷ part Kind.MaybeTags ∷ []
+parts_of Production.Expression = part Kind.ExpressionRest ∷ []
+parts_of Production.ArgumentWithT = part Kind.ArgumentAfterT ∷ []
+parts_of Production.PlainArgument = part Kind.SolidButT ∷ []
+parts_of Production.DeclaredArgument = part Kind.DeclarationAfterT ∷ part Kind.OneArgument ∷ []
+parts_of Production.ParameterArgument = Number Decimal ∷ part Kind.ArgumentsAlone ∷ []
+parts_of Production.OneLiteral = part Kind.Literal ∷ Byte 69 ∷ []
+parts_of Production.AnyType = []
+parts_of Production.ValueOf = part Kind.Type ∷ []
+parts_of Production.OfConcept = part Kind.Concept ∷ []
+parts_of Production.TemplateOf = part Kind.Declarations ∷ Byte 69 ∷ []
+parts_of Production.PackOf = Byte 84 ∷ part Kind.DeclarationAfterT ∷ []
+parts_of Production.Declarations = part Kind.DeclarationAfterT ∷ part Kind.Declarations ∷ []
+parts_of Production.AddressExpression = Byte 100 ∷ part Kind.Address ∷ []
+parts_of Production.ParameterExpression = Number Decimal ∷ Byte 69 ∷ []
+parts_of Production.AnyArray = part Kind.ArrayRest ∷ []
+parts_of Production.BoundedArray = Number Decimal ∷ Byte 95 ∷ part Kind.Type ∷ []
+parts_of Production.LengthArray = Number Decimal ∷ part Kind.Type ∷ []
 parts_of Production.OtherSpecial = part Kind.SpecialMark ∷ part Kind.SpecialAfterG ∷ []
 parts_of Production.SpecialName = part Kind.CompleteName ∷ []
 parts_of Production.ConstructionVtable = part Kind.Type ∷ Number Digits ∷ Byte 95 ∷ part Kind.Type ∷ []
@@ -347,8 +384,11 @@ parts_of Production.Holder = part Kind.HolderMark ∷ part Kind.HeldComponent �
 parts_of Production.DefaultEntity = Number Decimal ∷ part Kind.PlainEntity ∷ []
 parts_of Production.DefaultTypeEntity = Number Decimal ∷ part Kind.PlainTypeEntity ∷ []
 parts_of Production.SizedFloat = Number Digits ∷ part Kind.FloatEnd ∷ []
+parts_of Production.ArrayType = part Kind.AnyArray ∷ []
 parts_of Production.TypeInStd = part Kind.TypeInStd ∷ []
 parts_of Production.Tag = Name ∷ part Kind.MaybeArguments ∷ []
+parts_of Production.AnyElement = part Kind.Argument ∷ part Kind.PackList ∷ []
+parts_of Production.AnyArgument = part Kind.Argument ∷ part Kind.ArgumentList ∷ []
 
 -- the productions that take no byte of their own
 unfoldable pub is_chain : Production → Bool
@@ -375,11 +415,18 @@ is_chain Production.TypeArgument = true
 is_chain Production.TypeElement = true
 is_chain Production.IntegerLiteral = true
 is_chain Production.OperatorNameWithC = true
+is_chain Production.PlainArgument = true
+is_chain Production.DeclaredArgument = true
+is_chain Production.ParameterArgument = true
+is_chain Production.LengthArray = true
 is_chain Production.OtherSpecial = true
 is_chain Production.NestTemplate = true
 is_chain Production.OtherOperatorName = true
 is_chain Production.Holder = true
+is_chain Production.ArrayType = true
 is_chain Production.TypeInStd = true
+is_chain Production.AnyElement = true
+is_chain Production.AnyArgument = true
 is_chain _ = false
 
 -- the kinds that may be empty
@@ -400,15 +447,16 @@ may_be_empty Kind.MaybeZero = true
 may_be_empty Kind.ArgumentsAlone = true
 may_be_empty Kind.ArgumentsFirst = true
 may_be_empty Kind.MaybeTags = true
+may_be_empty Kind.Declarations = true
 may_be_empty _ = false
 
 -- the kinds in the order of their numbers
 unfoldable pub kinds : List Kind
-kinds = Kind.Symbol ∷ Kind.MaybeSuffix ∷ Kind.SuffixFirst ∷ Kind.SuffixMore ∷ Kind.Encoding ∷ Kind.Special ∷ Kind.CallOffset ∷ Kind.Integer ∷ Kind.CompleteName ∷ Kind.MaybeRestrict ∷ Kind.MaybeVolatile ∷ Kind.MaybeConst ∷ Kind.MaybeRef ∷ Kind.NameAfterS ∷ Kind.Unqualified ∷ Kind.Nest ∷ Kind.NestAfterS ∷ Kind.NestRest ∷ Kind.NestTail ∷ Kind.Component ∷ Kind.ConstructorDigit ∷ Kind.DestructorDigit ∷ Kind.Abbreviation ∷ Kind.Entity ∷ Kind.TypeEntity ∷ Kind.MaybeDiscriminator ∷ Kind.DiscriminatorRest ∷ Kind.Anonymous ∷ Kind.Type ∷ Kind.Plain ∷ Kind.Item ∷ Kind.ItemButRef ∷ Kind.ItemAfterD ∷ Kind.AfterD ∷ Kind.Solid ∷ Kind.MaybeCLinkage ∷ Kind.TypeAfterS ∷ Kind.SourceOrLocal ∷ Kind.FunctionRest ∷ Kind.AfterR ∷ Kind.AfterO ∷ Kind.Items ∷ Kind.MaybeArguments ∷ Kind.Arguments ∷ Kind.ArgumentList ∷ Kind.PackList ∷ Kind.Address ∷ Kind.Literal ∷ Kind.Bit ∷ Kind.LiteralAfterD ∷ Kind.MaybeZero ∷ Kind.LiteralType ∷ Kind.Operator ∷ Kind.OperatorAfterN ∷ Kind.OperatorAfterD ∷ Kind.OperatorAfterA ∷ Kind.OperatorAfterP ∷ Kind.OperatorAfterC ∷ Kind.OperatorAfterM ∷ Kind.OperatorAfterR ∷ Kind.OperatorAfterO ∷ Kind.OperatorAfterE ∷ Kind.OperatorAfterL ∷ Kind.OperatorAfterS ∷ Kind.OperatorAfterI ∷ Kind.OperatorAfterG ∷ Kind.NestRestOrEnd ∷ Kind.ArgumentsAlone ∷ Kind.NestRestAlone ∷ Kind.HolderMark ∷ Kind.HeldComponent ∷ Kind.FloatEnd ∷ Kind.ComponentAfterC ∷ Kind.OtherOperator ∷ Kind.ArgumentsFirst ∷ Kind.PlainEntity ∷ Kind.PlainTypeEntity ∷ Kind.SpecialMark ∷ Kind.SpecialAfterG ∷ Kind.CloneLetter ∷ Kind.TypeInStd ∷ Kind.MaybeTags ∷ []
+kinds = Kind.Symbol ∷ Kind.MaybeSuffix ∷ Kind.SuffixFirst ∷ Kind.SuffixMore ∷ Kind.Encoding ∷ Kind.Special ∷ Kind.CallOffset ∷ Kind.Integer ∷ Kind.CompleteName ∷ Kind.MaybeRestrict ∷ Kind.MaybeVolatile ∷ Kind.MaybeConst ∷ Kind.MaybeRef ∷ Kind.NameAfterS ∷ Kind.Unqualified ∷ Kind.Nest ∷ Kind.NestAfterS ∷ Kind.NestRest ∷ Kind.NestTail ∷ Kind.Component ∷ Kind.ConstructorDigit ∷ Kind.DestructorDigit ∷ Kind.Abbreviation ∷ Kind.Entity ∷ Kind.TypeEntity ∷ Kind.MaybeDiscriminator ∷ Kind.DiscriminatorRest ∷ Kind.Anonymous ∷ Kind.Type ∷ Kind.Plain ∷ Kind.Item ∷ Kind.ItemButRef ∷ Kind.ItemAfterD ∷ Kind.AfterD ∷ Kind.Solid ∷ Kind.MaybeCLinkage ∷ Kind.TypeAfterS ∷ Kind.SourceOrLocal ∷ Kind.FunctionRest ∷ Kind.AfterR ∷ Kind.AfterO ∷ Kind.Items ∷ Kind.MaybeArguments ∷ Kind.Arguments ∷ Kind.ArgumentList ∷ Kind.PackList ∷ Kind.Address ∷ Kind.Literal ∷ Kind.Bit ∷ Kind.LiteralAfterD ∷ Kind.MaybeZero ∷ Kind.LiteralType ∷ Kind.Operator ∷ Kind.OperatorAfterN ∷ Kind.OperatorAfterD ∷ Kind.OperatorAfterA ∷ Kind.OperatorAfterP ∷ Kind.OperatorAfterC ∷ Kind.OperatorAfterM ∷ Kind.OperatorAfterR ∷ Kind.OperatorAfterO ∷ Kind.OperatorAfterE ∷ Kind.OperatorAfterL ∷ Kind.OperatorAfterS ∷ Kind.OperatorAfterI ∷ Kind.OperatorAfterG ∷ Kind.NestRestOrEnd ∷ Kind.ArgumentsAlone ∷ Kind.NestRestAlone ∷ Kind.HolderMark ∷ Kind.HeldComponent ∷ Kind.FloatEnd ∷ Kind.ComponentAfterC ∷ Kind.OtherOperator ∷ Kind.ArgumentsFirst ∷ Kind.PlainEntity ∷ Kind.PlainTypeEntity ∷ Kind.SpecialMark ∷ Kind.SpecialAfterG ∷ Kind.CloneLetter ∷ Kind.TypeInStd ∷ Kind.MaybeTags ∷ Kind.Argument ∷ Kind.ArgumentAfterT ∷ Kind.OneArgument ∷ Kind.DeclarationAfterT ∷ Kind.Declarations ∷ Kind.Concept ∷ Kind.SolidButT ∷ Kind.ExpressionRest ∷ Kind.AnyArray ∷ Kind.ArrayRest ∷ []
 
 -- the productions in the order of their numbers
 unfoldable pub productions : List Production
-productions = Production.Mark ∷ Production.InternalName ∷ Production.LocalTypeName ∷ Production.SourceName ∷ Production.OperatorName ∷ Production.InternalPiece ∷ Production.LocalTypePiece ∷ Production.SourcePiece ∷ Production.NestedName ∷ Production.Symbol ∷ Production.Suffix ∷ Production.SuffixByte ∷ Production.Special ∷ Production.Guard ∷ Production.Encoding ∷ Production.SpecialType ∷ Production.NonVirtualThunk ∷ Production.VirtualThunk ∷ Production.CovariantThunk ∷ Production.NonVirtualOffset ∷ Production.VirtualOffset ∷ Production.Negative ∷ Production.Positive ∷ Production.NameWithS ∷ Production.LocalName ∷ Production.StdName ∷ Production.AbbreviatedName ∷ Production.OperatorPiece ∷ Production.NestWithS ∷ Production.NestParameter ∷ Production.NestInternal ∷ Production.NestLocalType ∷ Production.NestSource ∷ Production.NestStd ∷ Production.NestAbbreviated ∷ Production.NestArguments ∷ Production.NestNext ∷ Production.NestEnd ∷ Production.Constructor ∷ Production.Destructor ∷ Production.Abbreviation ∷ Production.Substitution ∷ Production.NestedType ∷ Production.StringLiteral ∷ Production.Discriminator ∷ Production.OneDigit ∷ Production.ManyDigits ∷ Production.Lambda ∷ Production.Unnamed ∷ Production.RestrictType ∷ Production.VolatileType ∷ Production.ConstType ∷ Production.ReferenceType ∷ Production.PlainType ∷ Production.TypeWithD ∷ Production.PlainWithD ∷ Production.QualifiedPlain ∷ Production.ItemWithD ∷ Production.Expansion ∷ Production.ItemIsType ∷ Production.BuiltinWithD ∷ Production.Vector ∷ Production.NoexceptFunction ∷ Production.Pointer ∷ Production.MemberPointer ∷ Production.Parameter ∷ Production.TypeWithS ∷ Production.LocalType ∷ Production.Builtin ∷ Production.Vendor ∷ Production.Array ∷ Production.Function ∷ Production.Complex ∷ Production.StdType ∷ Production.AbbreviatedType ∷ Production.RestEnd ∷ Production.RestLvalue ∷ Production.RestRvalue ∷ Production.RestItem ∷ Production.RefEnd ∷ Production.LvalueItem ∷ Production.RvalueItem ∷ Production.Items ∷ Production.Arguments ∷ Production.PackArgument ∷ Production.LiteralArgument ∷ Production.AddressArgument ∷ Production.TypeArgument ∷ Production.LiteralElement ∷ Production.AddressElement ∷ Production.TypeElement ∷ Production.Address ∷ Production.EncodingLiteral ∷ Production.BoolLiteral ∷ Production.LiteralWithD ∷ Production.IntegerLiteral ∷ Production.NullLiteral ∷ Production.CharLiteral ∷ Production.OperatorN ∷ Production.OperatorD ∷ Production.OperatorA ∷ Production.OperatorP ∷ Production.OperatorC ∷ Production.OperatorM ∷ Production.OperatorR ∷ Production.OperatorO ∷ Production.OperatorE ∷ Production.OperatorL ∷ Production.OperatorS ∷ Production.OperatorI ∷ Production.OperatorG ∷ Production.LiteralOperator ∷ Production.NestInstance ∷ Production.Conversion ∷ Production.OperatorNameWithC ∷ Production.Clone ∷ Production.TaggedStdType ∷ Production.TypeTag ∷ Production.OtherSpecial ∷ Production.SpecialName ∷ Production.ConstructionVtable ∷ Production.NestTemplate ∷ Production.NestTag ∷ Production.ComponentWithC ∷ Production.OtherOperatorName ∷ Production.Holder ∷ Production.DefaultEntity ∷ Production.DefaultTypeEntity ∷ Production.SizedFloat ∷ Production.TypeInStd ∷ Production.Tag ∷ []
+productions = Production.Mark ∷ Production.InternalName ∷ Production.LocalTypeName ∷ Production.SourceName ∷ Production.OperatorName ∷ Production.InternalPiece ∷ Production.LocalTypePiece ∷ Production.SourcePiece ∷ Production.NestedName ∷ Production.Symbol ∷ Production.Suffix ∷ Production.SuffixByte ∷ Production.Special ∷ Production.Guard ∷ Production.Encoding ∷ Production.SpecialType ∷ Production.NonVirtualThunk ∷ Production.VirtualThunk ∷ Production.CovariantThunk ∷ Production.NonVirtualOffset ∷ Production.VirtualOffset ∷ Production.Negative ∷ Production.Positive ∷ Production.NameWithS ∷ Production.LocalName ∷ Production.StdName ∷ Production.AbbreviatedName ∷ Production.OperatorPiece ∷ Production.NestWithS ∷ Production.NestParameter ∷ Production.NestInternal ∷ Production.NestLocalType ∷ Production.NestSource ∷ Production.NestStd ∷ Production.NestAbbreviated ∷ Production.NestArguments ∷ Production.NestNext ∷ Production.NestEnd ∷ Production.Constructor ∷ Production.Destructor ∷ Production.Abbreviation ∷ Production.Substitution ∷ Production.NestedType ∷ Production.StringLiteral ∷ Production.Discriminator ∷ Production.OneDigit ∷ Production.ManyDigits ∷ Production.Lambda ∷ Production.Unnamed ∷ Production.RestrictType ∷ Production.VolatileType ∷ Production.ConstType ∷ Production.ReferenceType ∷ Production.PlainType ∷ Production.TypeWithD ∷ Production.PlainWithD ∷ Production.QualifiedPlain ∷ Production.ItemWithD ∷ Production.Expansion ∷ Production.ItemIsType ∷ Production.BuiltinWithD ∷ Production.Vector ∷ Production.NoexceptFunction ∷ Production.Pointer ∷ Production.MemberPointer ∷ Production.Parameter ∷ Production.TypeWithS ∷ Production.LocalType ∷ Production.Builtin ∷ Production.Vendor ∷ Production.Array ∷ Production.Function ∷ Production.Complex ∷ Production.StdType ∷ Production.AbbreviatedType ∷ Production.RestEnd ∷ Production.RestLvalue ∷ Production.RestRvalue ∷ Production.RestItem ∷ Production.RefEnd ∷ Production.LvalueItem ∷ Production.RvalueItem ∷ Production.Items ∷ Production.Arguments ∷ Production.PackArgument ∷ Production.LiteralArgument ∷ Production.AddressArgument ∷ Production.TypeArgument ∷ Production.LiteralElement ∷ Production.AddressElement ∷ Production.TypeElement ∷ Production.Address ∷ Production.EncodingLiteral ∷ Production.BoolLiteral ∷ Production.LiteralWithD ∷ Production.IntegerLiteral ∷ Production.NullLiteral ∷ Production.CharLiteral ∷ Production.OperatorN ∷ Production.OperatorD ∷ Production.OperatorA ∷ Production.OperatorP ∷ Production.OperatorC ∷ Production.OperatorM ∷ Production.OperatorR ∷ Production.OperatorO ∷ Production.OperatorE ∷ Production.OperatorL ∷ Production.OperatorS ∷ Production.OperatorI ∷ Production.OperatorG ∷ Production.LiteralOperator ∷ Production.NestInstance ∷ Production.Conversion ∷ Production.OperatorNameWithC ∷ Production.Clone ∷ Production.TaggedStdType ∷ Production.TypeTag ∷ Production.Expression ∷ Production.ArgumentWithT ∷ Production.PlainArgument ∷ Production.DeclaredArgument ∷ Production.ParameterArgument ∷ Production.OneLiteral ∷ Production.AnyType ∷ Production.ValueOf ∷ Production.OfConcept ∷ Production.TemplateOf ∷ Production.PackOf ∷ Production.Declarations ∷ Production.AddressExpression ∷ Production.ParameterExpression ∷ Production.AnyArray ∷ Production.BoundedArray ∷ Production.LengthArray ∷ Production.OtherSpecial ∷ Production.SpecialName ∷ Production.ConstructionVtable ∷ Production.NestTemplate ∷ Production.NestTag ∷ Production.ComponentWithC ∷ Production.OtherOperatorName ∷ Production.Holder ∷ Production.DefaultEntity ∷ Production.DefaultTypeEntity ∷ Production.SizedFloat ∷ Production.ArrayType ∷ Production.TypeInStd ∷ Production.Tag ∷ Production.AnyElement ∷ Production.AnyArgument ∷ []
 
 -- the numbers of the productions
 unfoldable pub number_of : Production → ℕ
@@ -530,16 +578,36 @@ number_of Production.OperatorNameWithC = 114
 number_of Production.Clone = 115
 number_of Production.TaggedStdType = 116
 number_of Production.TypeTag = 117
-number_of Production.OtherSpecial = 118
-number_of Production.SpecialName = 119
-number_of Production.ConstructionVtable = 120
-number_of Production.NestTemplate = 121
-number_of Production.NestTag = 122
-number_of Production.ComponentWithC = 123
-number_of Production.OtherOperatorName = 124
-number_of Production.Holder = 125
-number_of Production.DefaultEntity = 126
-number_of Production.DefaultTypeEntity = 127
-number_of Production.SizedFloat = 128
-number_of Production.TypeInStd = 129
-number_of Production.Tag = 130
+number_of Production.Expression = 118
+number_of Production.ArgumentWithT = 119
+number_of Production.PlainArgument = 120
+number_of Production.DeclaredArgument = 121
+number_of Production.ParameterArgument = 122
+number_of Production.OneLiteral = 123
+number_of Production.AnyType = 124
+number_of Production.ValueOf = 125
+number_of Production.OfConcept = 126
+number_of Production.TemplateOf = 127
+number_of Production.PackOf = 128
+number_of Production.Declarations = 129
+number_of Production.AddressExpression = 130
+number_of Production.ParameterExpression = 131
+number_of Production.AnyArray = 132
+number_of Production.BoundedArray = 133
+number_of Production.LengthArray = 134
+number_of Production.OtherSpecial = 135
+number_of Production.SpecialName = 136
+number_of Production.ConstructionVtable = 137
+number_of Production.NestTemplate = 138
+number_of Production.NestTag = 139
+number_of Production.ComponentWithC = 140
+number_of Production.OtherOperatorName = 141
+number_of Production.Holder = 142
+number_of Production.DefaultEntity = 143
+number_of Production.DefaultTypeEntity = 144
+number_of Production.SizedFloat = 145
+number_of Production.ArrayType = 146
+number_of Production.TypeInStd = 147
+number_of Production.Tag = 148
+number_of Production.AnyElement = 149
+number_of Production.AnyArgument = 150

@@ -1,6 +1,6 @@
 -- What is printed: a tree in a form and a context, and what must be known of it: heads of types, packs, empty elements.
 use Rattle.std.specs.Prelude.{ℕ, Bool, true, false, ◌&&◌, nat_eq, Option, Some, None}
-use Rattle.cpp_grammar.specs.Term.{Term, parameter, lvalue, rvalue, array, function_type, qualified, expansion, pack, nil, list, absent}
+use Rattle.cpp_grammar.specs.Term.{Term, parameter, lvalue, rvalue, array, bounded, function_type, qualified, expansion, pack, nil, list, absent}
 use Rattle.cpp_grammar.specs.Scope.{element, pack_length}
 
 -- ## Items
@@ -64,6 +64,7 @@ head_with h (qualified q t) = head_with h t
 head_with h (parameter k) = h k
 head_with h (function_type c_linkage noexcept ref returned parameters) = funarr
 head_with h (array digits t) = funarr
+head_with h (bounded bound t) = funarr
 head_with h _ = plain_head
 
 -- the head of a type in which no parameter is free

@@ -3,10 +3,10 @@ use Rattle.std.specs.Prelude.{ℕ}
 
 -- how many kinds there are, and how many productions
 abbrev pub KIND_COUNT : ℕ
-KIND_COUNT = 82
+KIND_COUNT = 92
 
 abbrev pub PRODUCTION_COUNT : ℕ
-PRODUCTION_COUNT = 131
+PRODUCTION_COUNT = 151
 
 abbrev pub SYMBOL : ℕ
 SYMBOL = 0
@@ -253,3 +253,33 @@ TYPE_IN_STD = 80
 
 abbrev pub MAYBE_TAGS : ℕ
 MAYBE_TAGS = 81
+
+abbrev pub ARGUMENT : ℕ
+ARGUMENT = 82
+
+abbrev pub ARGUMENT_AFTER_T : ℕ
+ARGUMENT_AFTER_T = 83
+
+abbrev pub ONE_ARGUMENT : ℕ
+ONE_ARGUMENT = 84
+
+abbrev pub DECLARATION_AFTER_T : ℕ
+DECLARATION_AFTER_T = 85
+
+abbrev pub DECLARATIONS : ℕ
+DECLARATIONS = 86
+
+abbrev pub CONCEPT : ℕ
+CONCEPT = 87
+
+abbrev pub SOLID_BUT_T : ℕ
+SOLID_BUT_T = 88
+
+abbrev pub EXPRESSION_REST : ℕ
+EXPRESSION_REST = 89
+
+abbrev pub ANY_ARRAY : ℕ
+ANY_ARRAY = 90
+
+abbrev pub ARRAY_REST : ℕ
+ARRAY_REST = 91

@@ -1,7 +1,7 @@
 -- What a production stands for, given the values of its parts.
 use Rattle.std.specs.Prelude.{ℕ, List, [], ◌∷◌, Bool, true, false, cond, not, ◌&&◌, nat_eq, Option, Some, None}
 use Rattle.cpp_grammar.specs.declared.production.Production.{Production}
-use Rattle.cpp_grammar.specs.Term.{RefQualifier, any_value, lvalue_only, rvalue_only, non_virtual, by_table, adjusting, covariant, Term, symbol, function, object, special, thunk, of_name, construction, clone, in_std, local, of_default, abbreviation, source, operator, literal_operator, lambda, unnamed, string_literal, conversion, builtin, sized_float, vendor, pointer, lvalue, rvalue, array, member_pointer, function_type, qualified, vector, complex, expansion, integer, boolean, null_pointer, encoding_literal, address_of, nil, list, absent}
+use Rattle.cpp_grammar.specs.Term.{RefQualifier, any_value, lvalue_only, rvalue_only, non_virtual, by_table, adjusting, covariant, Term, symbol, function, object, special, thunk, of_name, construction, clone, in_std, local, of_default, abbreviation, source, operator, literal_operator, lambda, unnamed, string_literal, conversion, builtin, sized_float, vendor, pointer, lvalue, rvalue, array, bounded, member_pointer, function_type, qualified, vector, complex, expansion, integer, boolean, null_pointer, encoding_literal, address_of, nil, list, absent}
 use Rattle.cpp_grammar.specs.Scope.{has_return_type}
 use Rattle.cpp_grammar.specs.Values.{Around, prefix_tree, prefix_listed, Value, nothing_there, letter, text, signed, adjusted, tree, piece, named, signature, unqualified, tree_of, piece_of, is_listed, qualifiers_of, ref_of, letter_of, is_there, mark_of, text_of, signed_of, adjustment_of, normal, signed_digits, local_number, part}
 use Rattle.cpp_grammar.specs.Between.{extended, applied, no_items}
@@ -153,6 +153,11 @@ meaning Production.NoexceptFunction byte around vs = function_of true (part vs 1
 meaning Production.Builtin byte around vs = tree (builtin (byte ∷ [])) true
 meaning Production.Vendor byte around vs = tree (vendor (text_of (part vs 0))) false
 meaning Production.Array byte around vs = tree (array (normal (text_of (part vs 0))) (tree_of (part vs 1))) false
+-- within the wide grammar
+meaning Production.ArrayType byte around vs = part vs 0
+meaning Production.AnyArray byte around vs = part vs 0
+meaning Production.LengthArray byte around vs = tree (array (normal (text_of (part vs 0))) (tree_of (part vs 1))) false
+meaning Production.BoundedArray byte around vs = tree (bounded (tree_of (part vs 0)) (tree_of (part vs 2))) false
 meaning Production.Function byte around vs = function_of false (part vs 0) (part vs 1) (part vs 2)
 meaning Production.Complex byte around vs = tree (complex (tree_of (part vs 0))) false
 meaning Production.Pointer byte around vs = tree (pointer (tree_of (part vs 0))) false
@@ -178,9 +183,27 @@ meaning Production.PackArgument byte around vs = tree (list (tree_of (part vs 0)
 meaning Production.LiteralArgument byte around vs = tree (list (tree_of (part vs 0)) (no_items (part vs 2))) true
 meaning Production.AddressArgument byte around vs = tree (list (tree_of (part vs 2)) (no_items (part vs 3))) true
 meaning Production.TypeArgument byte around vs = tree (list (tree_of (part vs 0)) (no_items (part vs 1))) true
+meaning Production.AnyArgument byte around vs = tree (list (tree_of (part vs 0)) (no_items (part vs 1))) true
 meaning Production.LiteralElement byte around vs = tree (list (tree_of (part vs 0)) (no_items (part vs 2))) true
 meaning Production.AddressElement byte around vs = tree (list (tree_of (part vs 2)) (no_items (part vs 3))) true
 meaning Production.TypeElement byte around vs = tree (list (tree_of (part vs 0)) (no_items (part vs 1))) true
+meaning Production.AnyElement byte around vs = tree (list (tree_of (part vs 0)) (no_items (part vs 1))) true
+-- an argument of the wide grammar; what is declared of it isn't in the tree
+meaning Production.PlainArgument byte around vs = listed_value (part vs 0)
+meaning Production.ArgumentWithT byte around vs = listed_value (part vs 0)
+meaning Production.ParameterArgument byte around vs = tree (applied (tree_of (part vs 0)) (part vs 1)) (not (is_there (part vs 1)))
+meaning Production.DeclaredArgument byte around vs = listed_value (part vs 1)
+meaning Production.OneLiteral byte around vs = part vs 0
+meaning Production.AnyType byte around vs = letter byte
+meaning Production.ValueOf byte around vs = letter byte
+meaning Production.OfConcept byte around vs = letter byte
+meaning Production.TemplateOf byte around vs = letter byte
+meaning Production.PackOf byte around vs = letter byte
+meaning Production.Declarations byte around vs = letter byte
+-- an argument that is an expression
+meaning Production.Expression byte around vs = part vs 0
+meaning Production.AddressExpression byte around vs = part vs 1
+meaning Production.ParameterExpression byte around vs = part vs 0
 -- literals
 meaning Production.Address byte around vs = tree (address_of (tree_of (part vs 2))) true
 meaning Production.EncodingLiteral byte around vs = tree (encoding_literal (tree_of (part vs 1))) true

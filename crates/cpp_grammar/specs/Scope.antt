@@ -1,7 +1,7 @@
 -- What the trees of C++ symbols are like: their arguments, free parameters and packs.
 -- The scope of an encoding is the list of arguments that its own name ends in. It holds for the encoding's types alone.
 use Rattle.std.specs.Prelude.{ℕ, zero, suc, Bool, true, false, not, ◌||◌, Option, Some, None}
-use Rattle.cpp_grammar.specs.Term.{Term, alone, in_std, within, instance, local, holder, tagged, of_default, parameter, constructor, destructor, lambda, conversion, generic_parameter, pointer, lvalue, rvalue, array, member_pointer, function_type, qualified, vector, complex, expansion, integer, pack, list, absent}
+use Rattle.cpp_grammar.specs.Term.{Term, alone, in_std, within, instance, local, holder, tagged, of_default, parameter, constructor, destructor, lambda, conversion, generic_parameter, pointer, lvalue, rvalue, array, bounded, member_pointer, function_type, qualified, vector, complex, expansion, integer, pack, list, absent}
 
 -- the length of a list
 unfoldable pub count : Term → ℕ
@@ -63,6 +63,7 @@ is_open (pointer type) = is_open type
 is_open (lvalue type) = is_open type
 is_open (rvalue type) = is_open type
 is_open (array digits type) = is_open type
+is_open (bounded bound type) = is_open bound || is_open type
 is_open (member_pointer class member) = is_open class || is_open member
 is_open (function_type c_linkage noexcept ref returned parameters) = is_open returned || is_open parameters
 is_open (qualified qualifiers type) = is_open type
@@ -90,6 +91,7 @@ is_generic (pointer type) = is_generic type
 is_generic (lvalue type) = is_generic type
 is_generic (rvalue type) = is_generic type
 is_generic (array digits type) = is_generic type
+is_generic (bounded bound type) = is_generic bound || is_generic type
 is_generic (member_pointer class member) = is_generic class || is_generic member
 is_generic (function_type c_linkage noexcept ref returned parameters) = is_generic returned || is_generic parameters
 is_generic (qualified qualifiers type) = is_generic type
@@ -127,6 +129,7 @@ pack_length scope (pointer type) = pack_length scope type
 pack_length scope (lvalue type) = pack_length scope type
 pack_length scope (rvalue type) = pack_length scope type
 pack_length scope (array digits type) = pack_length scope type
+pack_length scope (bounded bound type) = first_of (pack_length scope bound) (pack_length scope type)
 pack_length scope (member_pointer class member) = first_of (pack_length scope class) (pack_length scope member)
 pack_length scope (function_type c_linkage noexcept ref returned parameters) = first_of (pack_length scope returned) (pack_length scope parameters)
 pack_length scope (qualified qualifiers type) = pack_length scope type

@@ -2,7 +2,10 @@
 -- They differ in a nested name that begins with an abbreviation or a substitution. In the wide grammar it may end behind arguments, so a
 -- rule of its own takes these, and what comes behind them is a part as behind any other piece of a name. And they differ in an operator's
 -- name within a nested one: there the wide grammar has conversions to types, which begin with a c too, so a rule takes the c, and another
--- what comes behind it. In the same way it has clones behind the G of a guard variable. And behind a name of std, as a type, it has tags.
+-- what comes behind it. In the same way it has clones behind the G of a guard variable. Behind a name of std, as a type, it has tags. And
+-- behind the X of an address it has parameters: the address is a part of its own there, of one kind for arguments and for packs. An array
+-- has a rule for its A, and another for what comes behind it, since there its length may be a parameter. A type as an argument has rules of
+-- its own, since behind its T something may be declared of the argument.
 use Rattle.std.specs.Prelude.{List, ℕ, [], ◌∷◌, ◌++◌, ◌&&◌, true, false, cond, nat_eq}
 use Rattle.sym_shape.specs.declared.rule.Rule.{Rule}
 use Rattle.sym_shape.specs.declared.rule.Sym.{Sym}
@@ -52,25 +55,71 @@ type_without_tags taken (grown piece nothing) =
     branch (rule_of Production.TypeInStd) [] (grown (branch (rule_of Production.TaggedStdType) taken (grown piece (grown empty nothing))) nothing)
 type_without_tags taken parts = branch (rule_of Production.StdType) taken parts
 
+-- the address of an encoding as an argument, behind the X: the rule has it as a part, and the rest of the list behind it
+unfoldable pub address_as_expression : (own : Production) → (rule : Rule) → (taken : List ℕ) → Forest → Tree
+address_as_expression own rule taken (grown (fixed a) (grown (fixed d) (grown address (grown rest nothing)))) =
+    branch (rule_of own) []
+    (grown (branch (rule_of Production.Expression) taken
+    (grown (branch (rule_of Production.AddressExpression) (a ∷ []) (grown (fixed d) (grown address nothing))) nothing))
+    (grown rest nothing))
+address_as_expression own rule taken parts = branch rule taken parts
+
+-- an array, behind the A
+unfoldable pub array_behind_letter : (taken : List ℕ) → Forest → Tree
+array_behind_letter taken parts =
+    branch (rule_of Production.ArrayType) []
+    (grown (branch (rule_of Production.AnyArray) taken (grown (branch (rule_of Production.LengthArray) [] parts) nothing)) nothing)
+
+-- what is a type of its own, as an argument: behind a T it is a parameter
+unfoldable pub plain_argument : (before : List ℕ) → Tree → Tree
+plain_argument before (branch rule taken parts) = elim (nat_eq rule.number (number_of Production.Parameter)) [
+  | true ↦ branch (rule_of Production.ArgumentWithT) (before ++ taken) (grown (branch (rule_of Production.ParameterArgument) [] parts) nothing)
+  | false ↦ branch (rule_of Production.PlainArgument) before (grown (branch rule taken parts) nothing)
+]
+plain_argument before tree = branch (rule_of Production.PlainArgument) before (grown tree nothing)
+
+-- a type, or an expansion, as an argument
+unfoldable pub as_argument : Tree → Tree
+as_argument (branch rule taken (grown first nothing)) = elim (nat_eq rule.number (number_of Production.PlainType)) [
+  | true ↦ plain_argument taken first
+  | false ↦ branch rule taken (grown first nothing)
+]
+as_argument tree = tree
+
+unfoldable pub argument_behind : (own : Production) → (rule : Rule) → (taken : List ℕ) → Forest → Tree
+argument_behind own rule taken (grown item (grown rest nothing)) = branch (rule_of own) taken (grown (as_argument item) (grown rest nothing))
+argument_behind own rule taken parts = branch rule taken parts
+
 -- what becomes of a tree of a kind
 pub data Change : Type 0 where
   with_rest : Change
   within_name : Change
   with_g : Change
   with_t : Change
+  with_x : (own : Production) → Change
+  with_a : Change
+  with_item : (own : Production) → Change
   unchanged : Change
 
 unfoldable pub change_of : (kind rule : ℕ) → Change
 change_of kind rule =
     cond (nat_eq rule (number_of Production.NestAbbreviated)) with_rest
     (cond (nat_eq rule (number_of Production.OperatorName) && nat_eq kind COMPONENT) within_name
-    (cond (nat_eq rule (number_of Production.Guard)) with_g (cond (nat_eq rule (number_of Production.StdType)) with_t unchanged)))
+    (cond (nat_eq rule (number_of Production.Guard)) with_g (cond (nat_eq rule (number_of Production.StdType)) with_t
+    (cond (nat_eq rule (number_of Production.AddressArgument)) (with_x Production.AnyArgument)
+    (cond (nat_eq rule (number_of Production.AddressElement)) (with_x Production.AnyElement)
+    (cond (nat_eq rule (number_of Production.Array)) with_a
+    (cond (nat_eq rule (number_of Production.TypeArgument)) (with_item Production.AnyArgument)
+    (cond (nat_eq rule (number_of Production.TypeElement)) (with_item Production.AnyElement) unchanged))))))))
 
 unfoldable pub changed : Change → Rule → (taken : List ℕ) → Forest → Tree
 changed with_rest rule taken parts = branch (rule_of Production.NestTemplate) taken (with_rest_or_end parts)
 changed within_name rule taken parts = operator_component taken parts
 changed with_g rule taken parts = variable_with_g taken parts
 changed with_t rule taken parts = type_without_tags taken parts
+changed (with_x own) rule taken parts = address_as_expression own rule taken parts
+changed with_a rule taken parts = array_behind_letter taken parts
+changed (with_item own) rule taken parts = argument_behind own rule taken parts
 changed unchanged rule taken parts = branch rule taken parts
 
 -- a tree of a kind whose parts are widened

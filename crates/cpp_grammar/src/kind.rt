@@ -88,6 +88,16 @@ pub enum Kind {
     CloneLetter,
     TypeInStd,
     MaybeTags,
+    Argument,
+    ArgumentAfterT,
+    OneArgument,
+    DeclarationAfterT,
+    Declarations,
+    Concept,
+    SolidButT,
+    ExpressionRest,
+    AnyArray,
+    ArrayRest,
 }
 
 /// The kind with a number.
@@ -178,6 +188,16 @@ pub fn kind_of(number: u16) -> Option<Kind>
         79 => Some(Kind::CloneLetter),
         80 => Some(Kind::TypeInStd),
         81 => Some(Kind::MaybeTags),
+        82 => Some(Kind::Argument),
+        83 => Some(Kind::ArgumentAfterT),
+        84 => Some(Kind::OneArgument),
+        85 => Some(Kind::DeclarationAfterT),
+        86 => Some(Kind::Declarations),
+        87 => Some(Kind::Concept),
+        88 => Some(Kind::SolidButT),
+        89 => Some(Kind::ExpressionRest),
+        90 => Some(Kind::AnyArray),
+        91 => Some(Kind::ArrayRest),
         _ => None,
     }
 }
@@ -204,6 +224,7 @@ pub fn may_be_empty(kind: Kind) -> bool
         Kind::ArgumentsAlone => true,
         Kind::ArgumentsFirst => true,
         Kind::MaybeTags => true,
+        Kind::Declarations => true,
         _ => false,
     }
 }

@@ -173,6 +173,26 @@ const TYPE_IN_STD: Sym = Sym::Kind(80);
 
 const MAYBE_TAGS: Sym = Sym::Kind(81);
 
+const ARGUMENT: Sym = Sym::Kind(82);
+
+const ARGUMENT_AFTER_T: Sym = Sym::Kind(83);
+
+const ONE_ARGUMENT: Sym = Sym::Kind(84);
+
+const DECLARATION_AFTER_T: Sym = Sym::Kind(85);
+
+const DECLARATIONS: Sym = Sym::Kind(86);
+
+const CONCEPT: Sym = Sym::Kind(87);
+
+const SOLID_BUT_T: Sym = Sym::Kind(88);
+
+const EXPRESSION_REST: Sym = Sym::Kind(89);
+
+const ANY_ARRAY: Sym = Sym::Kind(90);
+
+const ARRAY_REST: Sym = Sym::Kind(91);
+
 const NAME: Sym = Sym::Name;
 
 const DECIMAL: Sym = Sym::Number(NumberKind::Decimal);
@@ -185,7 +205,7 @@ const DIGITS: Sym = Sym::Number(NumberKind::Digits);
 pub const FIRST_LETTER: u8 = b'!';
 
 // For each kind a row: for each byte from `$` to `z` the letter of the production that the kind takes there.
-static LETTERS: [[u8; 87]; 82] = [
+static LETTERS: [[u8; 87]; 92] = [
     // $%&'()*+,-./0123456789:;<=>?@ABCDEFGHIJKLMNOPQRSTUVWXYZ[\]^_`abcdefghijklmnopqrstuvwxyz
     *b"                                                           *                           ", // Symbol
     *b"          +                                                                            ", // MaybeSuffix
@@ -257,7 +277,7 @@ static LETTERS: [[u8; 87]; 82] = [
     *b"                                     t                                                 ", // ArgumentsAlone
     *b"            EEEEEEEEEE         EE    D  E        E           E EEE E E  EEEEE EE       ", // NestRestAlone
     *b"                                         !                                             ", // HolderMark
-    *b"            $$$$$$$$$$         GH       \"        #           \x9d \x9c\x9d\x9d \x9d \x9d  \x9d\x9d\x9d\x9d\x9d \x9d\x9d       ", // HeldComponent
+    *b"            $$$$$$$$$$         GH       \"        #           \xae \xad\xae\xae \xae \xae  \xae\xae\xae\xae\xae \xae\xae       ", // HeldComponent
     *b"                                                           !  !                     !  ", // FloatEnd
     *b"                                                                        \x93\x93 \x93      \x92    ", // ComponentAfterC
     *b"                                                             \x85  \x84\x8b \x8f \x8e  \x8c\x88\x83\x8a\x86 \x89\x8d       ", // OtherOperator
@@ -265,10 +285,20 @@ static LETTERS: [[u8; 87]; 82] = [
     *b"            $$$$$$$$$$                  \" )      #                                     ", // PlainEntity
     *b"            $$$$$$$$$$                  \" K      #                                     ", // PlainTypeEntity
     *b"                                   !                                                   ", // SpecialMark
-    *b"                                                \x94 \x98                                    ", // SpecialAfterG
+    *b"                                                \x94 \xa9                                    ", // SpecialAfterG
     *b"                                                                          !     !      ", // CloneLetter
     *b"                                                                                \x95      ", // TypeInStd
     *b"                              \x96                                                        ", // MaybeTags
+    *b"            \x99\x99\x99\x99\x99\x99\x99\x99\x99\x99       \x99 \x99Z \x99    T \x99\x99U\x99 U\x99\x98\x99S \x97 \x99      \x99\x99\x99\x99\x99\x99\x99\x99\x99\x99 \x99\x99\x99\x99  R\x99\x99\x99\x99\x99\x99\x99\x99", // Argument
+    *b"            \x9b\x9b\x9b\x9b\x9b\x9b\x9b\x9b\x9b\x9b                                     \x9b           \x9a  \x9a \x9a   \x9a    \x9a ", // ArgumentAfterT
+    *b"            \x99\x99\x99\x99\x99\x99\x99\x99\x99\x99       \x99 \x99Z \x99    T\x9c\x99\x99U\x99 U\x99\x98\x99S \x97 \x99      \x99\x99\x99\x99\x99\x99\x99\x99\x99\x99 \x99\x99\x99\x99  R\x99\x99\x99\x99\x99\x99\x99\x99", // OneArgument
+    *b"                                                                       \x9f  \x9e \xa1   \xa0    \x9d ", // DeclarationAfterT
+    *b"                                                \xa2                                      ", // Declarations
+    *b"            $$$$$$$$$$                    K    c                                       ", // Concept
+    *b"            $$$$$$$$$$       \xb3 i  h      aK `  c #    d      eeeeeeeeee eeee   eefeeeee", // SolidButT
+    *b"                                                \xa4            \xa3                         ", // ExpressionRest
+    *b"                             \xa5                                                         ", // AnyArray
+    *b"            \xa7\xa7\xa7\xa7\xa7\xa7\xa7\xa7\xa7\xa7                          \xa6          \xa7                           ", // ArrayRest
 ];
 
 /// A rule without its number and its symbols.
@@ -298,7 +328,7 @@ macro_rules! chains {
 }
 
 // The rules of the productions, in the order of their numbers.
-pub static HEADS: [Head; 131] = [
+pub static HEADS: [Head; 151] = [
     takes!(0), // ! Mark
     takes!(2), // \" InternalName
     takes!(2), // # LocalTypeName
@@ -417,23 +447,43 @@ pub static HEADS: [Head; 131] = [
     takes!(2), // \x94 Clone
     takes!(2), // \x95 TaggedStdType
     takes!(2), // \x96 TypeTag
-    chains!(2), // \x97 OtherSpecial
-    takes!(1), // \x98 SpecialName
-    takes!(4), // \x99 ConstructionVtable
-    chains!(2), // \x9a NestTemplate
-    takes!(2), // \x9b NestTag
-    takes!(1), // \x9c ComponentWithC
-    chains!(2), // \x9d OtherOperatorName
-    chains!(2), // \x9e Holder
-    takes!(2), // \x9f DefaultEntity
-    takes!(2), // \xa0 DefaultTypeEntity
-    takes!(2), // \xa1 SizedFloat
-    chains!(1), // \xa2 TypeInStd
-    takes!(2), // \xa3 Tag
+    takes!(1), // \x97 Expression
+    takes!(1), // \x98 ArgumentWithT
+    chains!(1), // \x99 PlainArgument
+    chains!(2), // \x9a DeclaredArgument
+    chains!(2), // \x9b ParameterArgument
+    takes!(2), // \x9c OneLiteral
+    takes!(0), // \x9d AnyType
+    takes!(1), // \x9e ValueOf
+    takes!(1), // \x9f OfConcept
+    takes!(2), // \xa0 TemplateOf
+    takes!(2), // \xa1 PackOf
+    takes!(2), // \xa2 Declarations
+    takes!(2), // \xa3 AddressExpression
+    takes!(2), // \xa4 ParameterExpression
+    takes!(1), // \xa5 AnyArray
+    takes!(3), // \xa6 BoundedArray
+    chains!(2), // \xa7 LengthArray
+    chains!(2), // \xa8 OtherSpecial
+    takes!(1), // \xa9 SpecialName
+    takes!(4), // \xaa ConstructionVtable
+    chains!(2), // \xab NestTemplate
+    takes!(2), // \xac NestTag
+    takes!(1), // \xad ComponentWithC
+    chains!(2), // \xae OtherOperatorName
+    chains!(2), // \xaf Holder
+    takes!(2), // \xb0 DefaultEntity
+    takes!(2), // \xb1 DefaultTypeEntity
+    takes!(2), // \xb2 SizedFloat
+    chains!(1), // \xb3 ArrayType
+    chains!(1), // \xb4 TypeInStd
+    takes!(2), // \xb5 Tag
+    chains!(2), // \xb6 AnyElement
+    chains!(2), // \xb7 AnyArgument
 ];
 
 // The symbols of the rules, in the same order.
-pub static SYMBOLS: [Sym; 792] = symbols_listed! {
+pub static SYMBOLS: [Sym; 912] = symbols_listed! {
     [NONE, NONE, NONE, NONE, NONE], // ! Mark
     [NAME, MAYBE_ARGUMENTS, NONE, NONE, NONE], // \" InternalName
     [ANONYMOUS, MAYBE_ARGUMENTS, NONE, NONE, NONE], // # LocalTypeName
@@ -552,26 +602,46 @@ pub static SYMBOLS: [Sym; 792] = symbols_listed! {
     [CLONE_LETTER, ENCODING, NONE, NONE, NONE], // \x94 Clone
     [SOURCE_OR_LOCAL, MAYBE_TAGS, NONE, NONE, NONE], // \x95 TaggedStdType
     [NAME, MAYBE_TAGS, NONE, NONE, NONE], // \x96 TypeTag
-    [SPECIAL_MARK, SPECIAL_AFTER_G, NONE, NONE, NONE], // \x97 OtherSpecial
-    [COMPLETE_NAME, NONE, NONE, NONE, NONE], // \x98 SpecialName
-    [TYPE, DIGITS, Sym::Byte(b'_'), TYPE, NONE], // \x99 ConstructionVtable
-    [ABBREVIATION, NEST_REST_OR_END, NONE, NONE, NONE], // \x9a NestTemplate
-    [NAME, NEST_REST, NONE, NONE, NONE], // \x9b NestTag
-    [COMPONENT_AFTER_C, NONE, NONE, NONE, NONE], // \x9c ComponentWithC
-    [OTHER_OPERATOR, MAYBE_ARGUMENTS, NONE, NONE, NONE], // \x9d OtherOperatorName
-    [HOLDER_MARK, HELD_COMPONENT, NONE, NONE, NONE], // \x9e Holder
-    [DECIMAL, PLAIN_ENTITY, NONE, NONE, NONE], // \x9f DefaultEntity
-    [DECIMAL, PLAIN_TYPE_ENTITY, NONE, NONE, NONE], // \xa0 DefaultTypeEntity
-    [DIGITS, FLOAT_END, NONE, NONE, NONE], // \xa1 SizedFloat
-    [TYPE_IN_STD, NONE, NONE, NONE, NONE], // \xa2 TypeInStd
-    [NAME, MAYBE_ARGUMENTS, NONE, NONE, NONE], // \xa3 Tag
+    [EXPRESSION_REST, NONE, NONE, NONE, NONE], // \x97 Expression
+    [ARGUMENT_AFTER_T, NONE, NONE, NONE, NONE], // \x98 ArgumentWithT
+    [SOLID_BUT_T, NONE, NONE, NONE, NONE], // \x99 PlainArgument
+    [DECLARATION_AFTER_T, ONE_ARGUMENT, NONE, NONE, NONE], // \x9a DeclaredArgument
+    [DECIMAL, ARGUMENTS_ALONE, NONE, NONE, NONE], // \x9b ParameterArgument
+    [LITERAL, Sym::Byte(b'E'), NONE, NONE, NONE], // \x9c OneLiteral
+    [NONE, NONE, NONE, NONE, NONE], // \x9d AnyType
+    [TYPE, NONE, NONE, NONE, NONE], // \x9e ValueOf
+    [CONCEPT, NONE, NONE, NONE, NONE], // \x9f OfConcept
+    [DECLARATIONS, Sym::Byte(b'E'), NONE, NONE, NONE], // \xa0 TemplateOf
+    [Sym::Byte(b'T'), DECLARATION_AFTER_T, NONE, NONE, NONE], // \xa1 PackOf
+    [DECLARATION_AFTER_T, DECLARATIONS, NONE, NONE, NONE], // \xa2 Declarations
+    [Sym::Byte(b'd'), ADDRESS, NONE, NONE, NONE], // \xa3 AddressExpression
+    [DECIMAL, Sym::Byte(b'E'), NONE, NONE, NONE], // \xa4 ParameterExpression
+    [ARRAY_REST, NONE, NONE, NONE, NONE], // \xa5 AnyArray
+    [DECIMAL, Sym::Byte(b'_'), TYPE, NONE, NONE], // \xa6 BoundedArray
+    [DECIMAL, TYPE, NONE, NONE, NONE], // \xa7 LengthArray
+    [SPECIAL_MARK, SPECIAL_AFTER_G, NONE, NONE, NONE], // \xa8 OtherSpecial
+    [COMPLETE_NAME, NONE, NONE, NONE, NONE], // \xa9 SpecialName
+    [TYPE, DIGITS, Sym::Byte(b'_'), TYPE, NONE], // \xaa ConstructionVtable
+    [ABBREVIATION, NEST_REST_OR_END, NONE, NONE, NONE], // \xab NestTemplate
+    [NAME, NEST_REST, NONE, NONE, NONE], // \xac NestTag
+    [COMPONENT_AFTER_C, NONE, NONE, NONE, NONE], // \xad ComponentWithC
+    [OTHER_OPERATOR, MAYBE_ARGUMENTS, NONE, NONE, NONE], // \xae OtherOperatorName
+    [HOLDER_MARK, HELD_COMPONENT, NONE, NONE, NONE], // \xaf Holder
+    [DECIMAL, PLAIN_ENTITY, NONE, NONE, NONE], // \xb0 DefaultEntity
+    [DECIMAL, PLAIN_TYPE_ENTITY, NONE, NONE, NONE], // \xb1 DefaultTypeEntity
+    [DIGITS, FLOAT_END, NONE, NONE, NONE], // \xb2 SizedFloat
+    [ANY_ARRAY, NONE, NONE, NONE, NONE], // \xb3 ArrayType
+    [TYPE_IN_STD, NONE, NONE, NONE, NONE], // \xb4 TypeInStd
+    [NAME, MAYBE_ARGUMENTS, NONE, NONE, NONE], // \xb5 Tag
+    [ARGUMENT, PACK_LIST, NONE, NONE, NONE], // \xb6 AnyElement
+    [ARGUMENT, ARGUMENT_LIST, NONE, NONE, NONE], // \xb7 AnyArgument
 };
 
 /// The number of the rule that a kind takes at a byte, if it takes one.
 #[inline]
 fn number(kind: u16, byte: u8) -> Option<usize>
     requires { kind < abi.kinds }
-    ensures few { IfSome result (λ number. number < 131) }
+    ensures few { IfSome result (λ number. number < 151) }
     ensures rule { (head : Head) → MatchOption result (abi.rule kind byte ≡ None) (λ number. abi.rule kind byte ≡ Some (listed_rule head number)) }
 {
     match letter_in(&LETTERS[kind as usize], byte) {

@@ -8,14 +8,14 @@ use crate::table::{FIRST_LETTER, HEADS, SYMBOLS};
 use sym_shape::{Rule, letter_in, place_of, symbols_from};
 
 // For each kind a row: for each byte from `$` to `z` the letter of the production that the kind takes there.
-static WIDE_LETTERS: [[u8; 87]; 82] = [
+static WIDE_LETTERS: [[u8; 87]; 92] = [
     // $%&'()*+,-./0123456789:;<=>?@ABCDEFGHIJKLMNOPQRSTUVWXYZ[\]^_`abcdefghijklmnopqrstuvwxyz
     *b"                                                           *                           ", // Symbol
     *b"          +                                                                            ", // MaybeSuffix
     *b",         , ,,,,,,,,,,       ,,,,,,,,,,,,,,,,,,,,,,,,,,    , ,,,,,,,,,,,,,,,,,,,,,,,,,,", // SuffixFirst
     *b",         , ,,,,,,,,,,       ,,,,,,,,,,,,,,,,,,,,,,,,,,    , ,,,,,,,,,,,,,,,,,,,,,,,,,,", // SuffixMore
-    *b"            //////////             \x97    / /    /-/    /      / /// / /  ///// //       ", // Encoding
-    *b"                               \x99    \x980         00 0\x98           3    1             2    ", // Special
+    *b"            //////////             \xa8    / /    /-/    /      / /// / /  ///// //       ", // Encoding
+    *b"                               \xaa    \xa90         00 0\xa9           3    1             2    ", // Special
     *b"                                                                    4             5    ", // CallOffset
     *b"            7777777777                                                    6            ", // Integer
     *b"            $$$$$$$$$$                  \" )    8 #    9      % %%% % %  %%%%% %%       ", // CompleteName
@@ -26,15 +26,15 @@ static WIDE_LETTERS: [[u8; 87]; 82] = [
     *b"            ;;;;;;;;;;       ;;;;;;;;;;;;;;;;;;;;;;;;;;    ; ;; ;    ;     ;   ;:      ", // NameAfterS
     *b"            ((((((((((                  &        '           < <<< < <  <<<<< <<       ", // Unqualified
     *b"            AAAAAAAAAA                  ?      =>@                                     ", // Nest
-    *b"            \x9a\x9a\x9a\x9a\x9a\x9a\x9a\x9a\x9a\x9a       \x9a\x9a\x9a\x9a\x9a\x9a\x9a\x9a\x9a\x9a\x9a\x9a\x9a\x9a\x9a\x9a\x9a\x9a\x9a\x9a\x9a\x9a\x9a\x9a\x9a\x9a    \x9a \x9a\x9a \x9a    \x9a     \x9a   \x9aB      ", // NestAfterS
-    *b"            EEEEEEEEEE        \x9bEE    D  EE       E           E EEE E E  EEEEE EE       ", // NestRest
+    *b"            \xab\xab\xab\xab\xab\xab\xab\xab\xab\xab       \xab\xab\xab\xab\xab\xab\xab\xab\xab\xab\xab\xab\xab\xab\xab\xab\xab\xab\xab\xab\xab\xab\xab\xab\xab\xab    \xab \xab\xab \xab    \xab     \xab   \xabB      ", // NestAfterS
+    *b"            EEEEEEEEEE        \xacEE    D  EE       E           E EEE E E  EEEEE EE       ", // NestRest
     *b"            EEEEEEEEEE         EEF      EE       E           E EEE E E  EEEEE EE       ", // NestTail
-    *b"            $$$$$$$$$$         GH       \"\x9e       #           \x9d \x9c\x9d\x9d \x9d \x9d  \x9d\x9d\x9d\x9d\x9d \x9d\x9d       ", // Component
+    *b"            $$$$$$$$$$         GH       \"\xaf       #           \xae \xad\xae\xae \xae \xae  \xae\xae\xae\xae\xae \xae\xae       ", // Component
     *b"             !!!!!                                                                     ", // ConstructorDigit
     *b"            !!! !!                                                                     ", // DestructorDigit
     *b"            JJJJJJJJJJ       JJJJJJJJJJJJJJJJJJJJJJJJJJ    J II I    I     I   I       ", // Abbreviation
-    *b"            $$$$$$$$$$                  \" )      #              \x9f              L       ", // Entity
-    *b"            $$$$$$$$$$                  \" K      #              \xa0                      ", // TypeEntity
+    *b"            $$$$$$$$$$                  \" )      #              \xb0              L       ", // Entity
+    *b"            $$$$$$$$$$                  \" K      #              \xb1                      ", // TypeEntity
     *b"                                                           M                           ", // MaybeDiscriminator
     *b"            NNNNNNNNNN                                     O                           ", // DiscriminatorRest
     *b"                                                                        P       Q      ", // Anonymous
@@ -43,19 +43,19 @@ static WIDE_LETTERS: [[u8; 87]; 82] = [
     *b"            VVVVVVVVVV       V VZ V    T VVUV UVVVS   V      VVVVVVVVVV VVVV  RVVVVVVVV", // Item
     *b"            VVVVVVVVVV       V VZ V    T VV V  VVVS   V      VVVVVVVVVV VVVV  RVVVVVVVV", // ItemButRef
     *b"                                  \\                          \\ \\\\\\\\ \\\\    \\\\[  \\ \\\\    ", // ItemAfterD
-    *b"                                  \xa1                          ] ]]]] ]]    ]_   ] ]^    ", // AfterD
-    *b"            $$$$$$$$$$       g i  h      aK `  cb#    d      eeeeeeeeee eeee   eefeeeee", // Solid
+    *b"                                  \xb2                          ] ]]]] ]]    ]_   ] ]^    ", // AfterD
+    *b"            $$$$$$$$$$       \xb3 i  h      aK `  cb#    d      eeeeeeeeee eeee   eefeeeee", // Solid
     *b"                                                     !                                 ", // MaybeCLinkage
-    *b"            kkkkkkkkkk       kkkkkkkkkkkkkkkkkkkkkkkkkk    k kk k    k     k   k\xa2      ", // TypeAfterS
+    *b"            kkkkkkkkkk       kkkkkkkkkkkkkkkkkkkkkkkkkk    k kk k    k     k   k\xb4      ", // TypeAfterS
     *b"            ((((((((((                  &        '                                     ", // SourceOrLocal
     *b"            oooooooooo       o oolo    o oono moooo   o      oooooooooo oooo  ooooooooo", // FunctionRest
     *b"            qqqqqqqqqq       q qqpq    q qqqq qqqqq   q      qqqqqqqqqq qqqq  qqqqqqqqq", // AfterR
     *b"            rrrrrrrrrr       r rrpr    r rrrr rrrrr   r      rrrrrrrrrr rrrr  rrrrrrrrr", // AfterO
     *b"            ssssssssss       s ss s    s ssss sssss   s      ssssssssss ssss  sssssssss", // Items
-    *b"                              \xa3      t                                                 ", // MaybeArguments
+    *b"                              \xb5      t                                                 ", // MaybeArguments
     *b"                                     t                                                 ", // Arguments
-    *b"            xxxxxxxxxx       x xx x   uxvxxxx xxxxx w x      xxxxxxxxxx xxxx  xxxxxxxxx", // ArgumentList
-    *b"            {{{{{{{{{{       { {{ {    {y{{{{ {{{{{ z {      {{{{{{{{{{ {{{{  {{{{{{{{{", // PackList
+    *b"            \xb7\xb7\xb7\xb7\xb7\xb7\xb7\xb7\xb7\xb7       \xb7 \xb7\xb7 \xb7   u\xb7v\xb7\xb7\xb7\xb7 \xb7\xb7\xb7\xb7\xb7 \xb7 \xb7      \xb7\xb7\xb7\xb7\xb7\xb7\xb7\xb7\xb7\xb7 \xb7\xb7\xb7\xb7  \xb7\xb7\xb7\xb7\xb7\xb7\xb7\xb7\xb7", // ArgumentList
+    *b"            \xb6\xb6\xb6\xb6\xb6\xb6\xb6\xb6\xb6\xb6       \xb6 \xb6\xb6 \xb6    \xb6y\xb6\xb6\xb6\xb6 \xb6\xb6\xb6\xb6\xb6 \xb6 \xb6      \xb6\xb6\xb6\xb6\xb6\xb6\xb6\xb6\xb6\xb6 \xb6\xb6\xb6\xb6  \xb6\xb6\xb6\xb6\xb6\xb6\xb6\xb6\xb6", // PackList
     *b"                                        |                                              ", // Address
     *b"            \x80\x80\x80\x80\x80\x80\x80\x80\x80\x80          \x7f        \x80\x80 \x80  \x80\x80\x80    \x80    } \x80~\x80    \x80\x80\x80 \x80\x80\x80\x80   \x80\x80  \x80\x80\x80 ", // Literal
     *b"            !!                                                                         ", // Bit
@@ -80,25 +80,35 @@ static WIDE_LETTERS: [[u8; 87]; 82] = [
     *b"                                     t                                                 ", // ArgumentsAlone
     *b"            EEEEEEEEEE         EE    D  EE       E           E EEE E E  EEEEE EE       ", // NestRestAlone
     *b"                                         !                                             ", // HolderMark
-    *b"            $$$$$$$$$$         GH       \"        #           \x9d \x9c\x9d\x9d \x9d \x9d  \x9d\x9d\x9d\x9d\x9d \x9d\x9d       ", // HeldComponent
+    *b"            $$$$$$$$$$         GH       \"        #           \xae \xad\xae\xae \xae \xae  \xae\xae\xae\xae\xae \xae\xae       ", // HeldComponent
     *b"                                                           !  !                     !  ", // FloatEnd
     *b"                                                                        \x93\x93 \x93      \x92    ", // ComponentAfterC
     *b"                                                             \x85  \x84\x8b \x8f \x8e  \x8c\x88\x83\x8a\x86 \x89\x8d       ", // OtherOperator
-    *b"            xxxxxxxxxx       x xx x  uuxvxxxx xxxxx w x      xxxxxxxxxx xxxx  xxxxxxxxx", // ArgumentsFirst
+    *b"            \xb7\xb7\xb7\xb7\xb7\xb7\xb7\xb7\xb7\xb7       \xb7 \xb7\xb7 \xb7  uu\xb7v\xb7\xb7\xb7\xb7 \xb7\xb7\xb7\xb7\xb7 \xb7 \xb7      \xb7\xb7\xb7\xb7\xb7\xb7\xb7\xb7\xb7\xb7 \xb7\xb7\xb7\xb7  \xb7\xb7\xb7\xb7\xb7\xb7\xb7\xb7\xb7", // ArgumentsFirst
     *b"            $$$$$$$$$$                  \" )      #                                     ", // PlainEntity
     *b"            $$$$$$$$$$                  \" K      #                                     ", // PlainTypeEntity
     *b"                                   !                                                   ", // SpecialMark
-    *b"                                                \x94 \x98                                    ", // SpecialAfterG
+    *b"                                                \x94 \xa9                                    ", // SpecialAfterG
     *b"                                                                          !     !      ", // CloneLetter
     *b"                                                                                \x95      ", // TypeInStd
     *b"                              \x96                                                        ", // MaybeTags
+    *b"            \x99\x99\x99\x99\x99\x99\x99\x99\x99\x99       \x99 \x99Z \x99    T \x99\x99U\x99 U\x99\x98\x99S \x97 \x99      \x99\x99\x99\x99\x99\x99\x99\x99\x99\x99 \x99\x99\x99\x99  R\x99\x99\x99\x99\x99\x99\x99\x99", // Argument
+    *b"            \x9b\x9b\x9b\x9b\x9b\x9b\x9b\x9b\x9b\x9b                                     \x9b           \x9a  \x9a \x9a   \x9a    \x9a ", // ArgumentAfterT
+    *b"            \x99\x99\x99\x99\x99\x99\x99\x99\x99\x99       \x99 \x99Z \x99    T\x9c\x99\x99U\x99 U\x99\x98\x99S \x97 \x99      \x99\x99\x99\x99\x99\x99\x99\x99\x99\x99 \x99\x99\x99\x99  R\x99\x99\x99\x99\x99\x99\x99\x99", // OneArgument
+    *b"                                                                       \x9f  \x9e \xa1   \xa0    \x9d ", // DeclarationAfterT
+    *b"                                                \xa2                                      ", // Declarations
+    *b"            $$$$$$$$$$                    K    c                                       ", // Concept
+    *b"            $$$$$$$$$$       \xb3 i  h      aK `  c #    d      eeeeeeeeee eeee   eefeeeee", // SolidButT
+    *b"                                                \xa4            \xa3                         ", // ExpressionRest
+    *b"                             \xa5                                                         ", // AnyArray
+    *b"            \xa7\xa7\xa7\xa7\xa7\xa7\xa7\xa7\xa7\xa7                          \xa6          \xa7                           ", // ArrayRest
 ];
 
 /// The number of the rule that a kind takes at a byte, if it takes one.
 #[inline]
 fn number(kind: u16, byte: u8) -> Option<usize>
     requires { kind < wide.kinds }
-    ensures few { IfSome result (λ number. number < 131) }
+    ensures few { IfSome result (λ number. number < 151) }
     ensures rule { (head : Head) → MatchOption result (wide.rule kind byte ≡ None) (λ number. wide.rule kind byte ≡ Some (listed_rule head number)) }
 {
     match letter_in(&WIDE_LETTERS[kind as usize], byte) {

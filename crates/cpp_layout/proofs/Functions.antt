@@ -57,23 +57,24 @@ other-node s us ts c q _ other = refl
 pub qualified-other : (s : List ℕ) (us : List Thunk) (ts : List Term) (c : items.Context) (q : values.Qualifiers) (k : Node) (t : Term) → t ≡ tree_of s us ts k → ((l n : Bool) (m : Mark) (r p : ℕ) → k ≡ Node.FunctionType l n m r p → ⊥) → as_item heads.right c t ∷ [] ≡ qualified_right c q t
 qualified-other s us ts c q k t e other = subst (λ u. as_item heads.right c u ∷ [] ≡ qualified_right c q u) (sym e) (other-node s us ts c q k other)
 
-right-none-of : (s : List ℕ) (us : List Thunk) (ts : List Term) (c : items.Context) (n : Node) → ((t : ℕ) → n ≡ Node.Pointer t → ⊥) → ((t : ℕ) → n ≡ Node.Lvalue t → ⊥) → ((t : ℕ) → n ≡ Node.Rvalue t → ⊥) → ((k : ℕ) (t : ℕ) → n ≡ Node.MemberPointer k t → ⊥) → ((g : Span) (t : ℕ) → n ≡ Node.Array g t → ⊥) → ((q : Qualifiers) (t : ℕ) → n ≡ Node.Qualified q t → ⊥) → ((g : Span) (t : ℕ) → n ≡ Node.Vector g t → ⊥) → ((t : ℕ) → n ≡ Node.Complex t → ⊥) → ((k : ℕ) (a : ℕ) → n ≡ Node.Parameter k a → ⊥) → ((l : Bool) (e : Bool) (m : Mark) (r : ℕ) (p : ℕ) → n ≡ Node.FunctionType l e m r p → ⊥) → ((k : ℕ) → n ≡ Node.GenericParameter k → ⊥) → [] ≡ right_parts c (tree_of s us ts n)
+right-none-of : (s : List ℕ) (us : List Thunk) (ts : List Term) (c : items.Context) (n : Node) → ((t : ℕ) → n ≡ Node.Pointer t → ⊥) → ((t : ℕ) → n ≡ Node.Lvalue t → ⊥) → ((t : ℕ) → n ≡ Node.Rvalue t → ⊥) → ((k : ℕ) (t : ℕ) → n ≡ Node.MemberPointer k t → ⊥) → ((g : Span) (t : ℕ) → n ≡ Node.Array g t → ⊥) → ((q : Qualifiers) (t : ℕ) → n ≡ Node.Qualified q t → ⊥) → ((g : Span) (t : ℕ) → n ≡ Node.Vector g t → ⊥) → ((t : ℕ) → n ≡ Node.Complex t → ⊥) → ((k : ℕ) (a : ℕ) → n ≡ Node.Parameter k a → ⊥) → ((l : Bool) (e : Bool) (m : Mark) (r : ℕ) (p : ℕ) → n ≡ Node.FunctionType l e m r p → ⊥) → ((k : ℕ) → n ≡ Node.GenericParameter k → ⊥) → ((b t : ℕ) → n ≡ Node.Bounded b t → ⊥) → [] ≡ right_parts c (tree_of s us ts n)
 unfolding tree_of right_parts
-right-none-of s us ts c (Node.Pointer t) h0 h1 h2 h3 h4 h5 h6 h7 h8 h9 h10 = absurd (h0 t refl)
-right-none-of s us ts c (Node.Lvalue t) h0 h1 h2 h3 h4 h5 h6 h7 h8 h9 h10 = absurd (h1 t refl)
-right-none-of s us ts c (Node.Rvalue t) h0 h1 h2 h3 h4 h5 h6 h7 h8 h9 h10 = absurd (h2 t refl)
-right-none-of s us ts c (Node.MemberPointer k t) h0 h1 h2 h3 h4 h5 h6 h7 h8 h9 h10 = absurd (h3 k t refl)
-right-none-of s us ts c (Node.Array g t) h0 h1 h2 h3 h4 h5 h6 h7 h8 h9 h10 = absurd (h4 g t refl)
-right-none-of s us ts c (Node.Qualified q t) h0 h1 h2 h3 h4 h5 h6 h7 h8 h9 h10 = absurd (h5 q t refl)
-right-none-of s us ts c (Node.Vector g t) h0 h1 h2 h3 h4 h5 h6 h7 h8 h9 h10 = absurd (h6 g t refl)
-right-none-of s us ts c (Node.Complex t) h0 h1 h2 h3 h4 h5 h6 h7 h8 h9 h10 = absurd (h7 t refl)
-right-none-of s us ts c (Node.Parameter k a) h0 h1 h2 h3 h4 h5 h6 h7 h8 h9 h10 = absurd (h8 k a refl)
-right-none-of s us ts c (Node.FunctionType l e m r p) h0 h1 h2 h3 h4 h5 h6 h7 h8 h9 h10 = absurd (h9 l e m r p refl)
-right-none-of s us ts c (Node.GenericParameter k) h0 h1 h2 h3 h4 h5 h6 h7 h8 h9 h10 = absurd (h10 k refl)
-right-none-of s us ts c _ h0 h1 h2 h3 h4 h5 h6 h7 h8 h9 h10 = refl
+right-none-of s us ts c (Node.Pointer t) h0 h1 h2 h3 h4 h5 h6 h7 h8 h9 h10 h11 = absurd (h0 t refl)
+right-none-of s us ts c (Node.Lvalue t) h0 h1 h2 h3 h4 h5 h6 h7 h8 h9 h10 h11 = absurd (h1 t refl)
+right-none-of s us ts c (Node.Rvalue t) h0 h1 h2 h3 h4 h5 h6 h7 h8 h9 h10 h11 = absurd (h2 t refl)
+right-none-of s us ts c (Node.MemberPointer k t) h0 h1 h2 h3 h4 h5 h6 h7 h8 h9 h10 h11 = absurd (h3 k t refl)
+right-none-of s us ts c (Node.Array g t) h0 h1 h2 h3 h4 h5 h6 h7 h8 h9 h10 h11 = absurd (h4 g t refl)
+right-none-of s us ts c (Node.Qualified q t) h0 h1 h2 h3 h4 h5 h6 h7 h8 h9 h10 h11 = absurd (h5 q t refl)
+right-none-of s us ts c (Node.Vector g t) h0 h1 h2 h3 h4 h5 h6 h7 h8 h9 h10 h11 = absurd (h6 g t refl)
+right-none-of s us ts c (Node.Complex t) h0 h1 h2 h3 h4 h5 h6 h7 h8 h9 h10 h11 = absurd (h7 t refl)
+right-none-of s us ts c (Node.Parameter k a) h0 h1 h2 h3 h4 h5 h6 h7 h8 h9 h10 h11 = absurd (h8 k a refl)
+right-none-of s us ts c (Node.FunctionType l e m r p) h0 h1 h2 h3 h4 h5 h6 h7 h8 h9 h10 h11 = absurd (h9 l e m r p refl)
+right-none-of s us ts c (Node.GenericParameter k) h0 h1 h2 h3 h4 h5 h6 h7 h8 h9 h10 h11 = absurd (h10 k refl)
+right-none-of s us ts c (Node.Bounded b t) h0 h1 h2 h3 h4 h5 h6 h7 h8 h9 h10 h11 = absurd (h11 b t refl)
+right-none-of s us ts c _ h0 h1 h2 h3 h4 h5 h6 h7 h8 h9 h10 h11 = refl
 
-pub right-none : (s : List ℕ) (us : List Thunk) (ts : List Term) (c : items.Context) (n : Node) (t : Term) → t ≡ tree_of s us ts n → ((t : ℕ) → n ≡ Node.Pointer t → ⊥) → ((t : ℕ) → n ≡ Node.Lvalue t → ⊥) → ((t : ℕ) → n ≡ Node.Rvalue t → ⊥) → ((k : ℕ) (t : ℕ) → n ≡ Node.MemberPointer k t → ⊥) → ((g : Span) (t : ℕ) → n ≡ Node.Array g t → ⊥) → ((q : Qualifiers) (t : ℕ) → n ≡ Node.Qualified q t → ⊥) → ((g : Span) (t : ℕ) → n ≡ Node.Vector g t → ⊥) → ((t : ℕ) → n ≡ Node.Complex t → ⊥) → ((k : ℕ) (a : ℕ) → n ≡ Node.Parameter k a → ⊥) → ((l : Bool) (e : Bool) (m : Mark) (r : ℕ) (p : ℕ) → n ≡ Node.FunctionType l e m r p → ⊥) → ((k : ℕ) → n ≡ Node.GenericParameter k → ⊥) → [] ≡ right_parts c t
-right-none s us ts c n t is h0 h1 h2 h3 h4 h5 h6 h7 h8 h9 h10 = right-none-of s us ts c n h0 h1 h2 h3 h4 h5 h6 h7 h8 h9 h10 ∙ ap (λ u. right_parts c u) (sym is)
+pub right-none : (s : List ℕ) (us : List Thunk) (ts : List Term) (c : items.Context) (n : Node) (t : Term) → t ≡ tree_of s us ts n → ((t : ℕ) → n ≡ Node.Pointer t → ⊥) → ((t : ℕ) → n ≡ Node.Lvalue t → ⊥) → ((t : ℕ) → n ≡ Node.Rvalue t → ⊥) → ((k : ℕ) (t : ℕ) → n ≡ Node.MemberPointer k t → ⊥) → ((g : Span) (t : ℕ) → n ≡ Node.Array g t → ⊥) → ((q : Qualifiers) (t : ℕ) → n ≡ Node.Qualified q t → ⊥) → ((g : Span) (t : ℕ) → n ≡ Node.Vector g t → ⊥) → ((t : ℕ) → n ≡ Node.Complex t → ⊥) → ((k : ℕ) (a : ℕ) → n ≡ Node.Parameter k a → ⊥) → ((l : Bool) (e : Bool) (m : Mark) (r : ℕ) (p : ℕ) → n ≡ Node.FunctionType l e m r p → ⊥) → ((k : ℕ) → n ≡ Node.GenericParameter k → ⊥) → ((b t : ℕ) → n ≡ Node.Bounded b t → ⊥) → [] ≡ right_parts c t
+right-none s us ts c n t is h0 h1 h2 h3 h4 h5 h6 h7 h8 h9 h10 h11 = right-none-of s us ts c n h0 h1 h2 h3 h4 h5 h6 h7 h8 h9 h10 h11 ∙ ap (λ u. right_parts c u) (sym is)
 
 -- ## Expansions
 

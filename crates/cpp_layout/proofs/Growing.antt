@@ -161,6 +161,10 @@ module _ (c : items.Context) (t : Term) where
   unfolding right_parts
   array-right digits = refl
 
+  pub bounded-right : (bound : Term) → text (fixed_text LEFT_BRACKET) ∷ as_item heads.left c bound ∷ text (fixed_text RIGHT_BRACKET) ∷ as_item heads.right c t ∷ [] ≡ right_parts c (term.bounded bound t)
+  unfolding right_parts
+  bounded-right bound = refl
+
 -- the text of a float of so many bits
 pub float-brain : (digits : List ℕ) (end : ℕ) → end ≡ 98 → text (fixed_text BRAIN_FLOAT) ∷ [] ≡ float_parts digits end
 unfolding float_parts

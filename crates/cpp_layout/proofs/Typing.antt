@@ -161,31 +161,32 @@ no-name (Node.Parameter k a) h1 h2 h3 h4 h5 h0 h6 h7 h8 = absurd (h7 k a refl)
 no-name _ h1 h2 h3 h4 h5 h0 h6 h7 h8 = tt
 
 pub no-type : (n : Node) → IsNoName n → ((k : ℕ) → n ≡ Node.Builtin k → ⊥) → ((k : ℕ) → n ≡ Node.BuiltinWithD k → ⊥) → ((b : Span) → n ≡ Node.Vendor b → ⊥) → ((t : ℕ) → n ≡ Node.Pointer t → ⊥) → ((t : ℕ) → n ≡ Node.Lvalue t → ⊥) → ((t : ℕ) → n ≡ Node.Rvalue t → ⊥) → ((g : Span) (t : ℕ) → n ≡ Node.Array g t → ⊥)
-    → ((l e : Bool) (m : Mark) (r p : ℕ) → n ≡ Node.FunctionType l e m r p → ⊥) → ((k t : ℕ) → n ≡ Node.MemberPointer k t → ⊥) → ((q : Qualifiers) (t : ℕ) → n ≡ Node.Qualified q t → ⊥) → ((g : Span) (t : ℕ) → n ≡ Node.Vector g t → ⊥) → ((t : ℕ) → n ≡ Node.Complex t → ⊥) → ((g : Span) (k : ℕ) → n ≡ Node.SizedFloat g k → ⊥) → ((k : ℕ) → n ≡ Node.GenericParameter k → ⊥) → IsNoType n
-no-type (Node.Alone p) k h1 h0 h2 h3 h4 h5 h6 h7 h8 h9 h10 h11 h12 h13 = elim k [ ]
-no-type (Node.InStd p) k h1 h0 h2 h3 h4 h5 h6 h7 h8 h9 h10 h11 h12 h13 = elim k [ ]
-no-type (Node.Within a p) k h1 h0 h2 h3 h4 h5 h6 h7 h8 h9 h10 h11 h12 h13 = elim k [ ]
-no-type (Node.Instance a b) k h1 h0 h2 h3 h4 h5 h6 h7 h8 h9 h10 h11 h12 h13 = elim k [ ]
-no-type (Node.Local e a d) k h1 h0 h2 h3 h4 h5 h6 h7 h8 h9 h10 h11 h12 h13 = elim k [ ]
-no-type (Node.Holder a) k h1 h0 h2 h3 h4 h5 h6 h7 h8 h9 h10 h11 h12 h13 = elim k [ ]
-no-type (Node.Tagged s a g) k h1 h0 h2 h3 h4 h5 h6 h7 h8 h9 h10 h11 h12 h13 = elim k [ ]
-no-type (Node.Abbreviation a) k h1 h0 h2 h3 h4 h5 h6 h7 h8 h9 h10 h11 h12 h13 = elim k [ ]
-no-type (Node.Parameter a b) k h1 h0 h2 h3 h4 h5 h6 h7 h8 h9 h10 h11 h12 h13 = elim k [ ]
-no-type (Node.Builtin a) k h1 h0 h2 h3 h4 h5 h6 h7 h8 h9 h10 h11 h12 h13 = absurd (h1 a refl)
-no-type (Node.BuiltinWithD a) k h1 h0 h2 h3 h4 h5 h6 h7 h8 h9 h10 h11 h12 h13 = absurd (h0 a refl)
-no-type (Node.Vendor a) k h1 h0 h2 h3 h4 h5 h6 h7 h8 h9 h10 h11 h12 h13 = absurd (h2 a refl)
-no-type (Node.Pointer a) k h1 h0 h2 h3 h4 h5 h6 h7 h8 h9 h10 h11 h12 h13 = absurd (h3 a refl)
-no-type (Node.Lvalue a) k h1 h0 h2 h3 h4 h5 h6 h7 h8 h9 h10 h11 h12 h13 = absurd (h4 a refl)
-no-type (Node.Rvalue a) k h1 h0 h2 h3 h4 h5 h6 h7 h8 h9 h10 h11 h12 h13 = absurd (h5 a refl)
-no-type (Node.Array a b) k h1 h0 h2 h3 h4 h5 h6 h7 h8 h9 h10 h11 h12 h13 = absurd (h6 a b refl)
-no-type (Node.FunctionType l e m r p) k h1 h0 h2 h3 h4 h5 h6 h7 h8 h9 h10 h11 h12 h13 = absurd (h7 l e m r p refl)
-no-type (Node.MemberPointer a b) k h1 h0 h2 h3 h4 h5 h6 h7 h8 h9 h10 h11 h12 h13 = absurd (h8 a b refl)
-no-type (Node.Qualified a b) k h1 h0 h2 h3 h4 h5 h6 h7 h8 h9 h10 h11 h12 h13 = absurd (h9 a b refl)
-no-type (Node.Vector a b) k h1 h0 h2 h3 h4 h5 h6 h7 h8 h9 h10 h11 h12 h13 = absurd (h10 a b refl)
-no-type (Node.Complex a) k h1 h0 h2 h3 h4 h5 h6 h7 h8 h9 h10 h11 h12 h13 = absurd (h11 a refl)
-no-type (Node.SizedFloat a b) k h1 h0 h2 h3 h4 h5 h6 h7 h8 h9 h10 h11 h12 h13 = absurd (h12 a b refl)
-no-type (Node.GenericParameter a) k h1 h0 h2 h3 h4 h5 h6 h7 h8 h9 h10 h11 h12 h13 = absurd (h13 a refl)
-no-type _ k h1 h0 h2 h3 h4 h5 h6 h7 h8 h9 h10 h11 h12 h13 = tt
+    → ((l e : Bool) (m : Mark) (r p : ℕ) → n ≡ Node.FunctionType l e m r p → ⊥) → ((k t : ℕ) → n ≡ Node.MemberPointer k t → ⊥) → ((q : Qualifiers) (t : ℕ) → n ≡ Node.Qualified q t → ⊥) → ((g : Span) (t : ℕ) → n ≡ Node.Vector g t → ⊥) → ((t : ℕ) → n ≡ Node.Complex t → ⊥) → ((g : Span) (k : ℕ) → n ≡ Node.SizedFloat g k → ⊥) → ((k : ℕ) → n ≡ Node.GenericParameter k → ⊥) → ((b t : ℕ) → n ≡ Node.Bounded b t → ⊥) → IsNoType n
+no-type (Node.Alone p) k h1 h0 h2 h3 h4 h5 h6 h7 h8 h9 h10 h11 h12 h13 h14 = elim k [ ]
+no-type (Node.InStd p) k h1 h0 h2 h3 h4 h5 h6 h7 h8 h9 h10 h11 h12 h13 h14 = elim k [ ]
+no-type (Node.Within a p) k h1 h0 h2 h3 h4 h5 h6 h7 h8 h9 h10 h11 h12 h13 h14 = elim k [ ]
+no-type (Node.Instance a b) k h1 h0 h2 h3 h4 h5 h6 h7 h8 h9 h10 h11 h12 h13 h14 = elim k [ ]
+no-type (Node.Local e a d) k h1 h0 h2 h3 h4 h5 h6 h7 h8 h9 h10 h11 h12 h13 h14 = elim k [ ]
+no-type (Node.Holder a) k h1 h0 h2 h3 h4 h5 h6 h7 h8 h9 h10 h11 h12 h13 h14 = elim k [ ]
+no-type (Node.Tagged s a g) k h1 h0 h2 h3 h4 h5 h6 h7 h8 h9 h10 h11 h12 h13 h14 = elim k [ ]
+no-type (Node.Abbreviation a) k h1 h0 h2 h3 h4 h5 h6 h7 h8 h9 h10 h11 h12 h13 h14 = elim k [ ]
+no-type (Node.Parameter a b) k h1 h0 h2 h3 h4 h5 h6 h7 h8 h9 h10 h11 h12 h13 h14 = elim k [ ]
+no-type (Node.Builtin a) k h1 h0 h2 h3 h4 h5 h6 h7 h8 h9 h10 h11 h12 h13 h14 = absurd (h1 a refl)
+no-type (Node.BuiltinWithD a) k h1 h0 h2 h3 h4 h5 h6 h7 h8 h9 h10 h11 h12 h13 h14 = absurd (h0 a refl)
+no-type (Node.Vendor a) k h1 h0 h2 h3 h4 h5 h6 h7 h8 h9 h10 h11 h12 h13 h14 = absurd (h2 a refl)
+no-type (Node.Pointer a) k h1 h0 h2 h3 h4 h5 h6 h7 h8 h9 h10 h11 h12 h13 h14 = absurd (h3 a refl)
+no-type (Node.Lvalue a) k h1 h0 h2 h3 h4 h5 h6 h7 h8 h9 h10 h11 h12 h13 h14 = absurd (h4 a refl)
+no-type (Node.Rvalue a) k h1 h0 h2 h3 h4 h5 h6 h7 h8 h9 h10 h11 h12 h13 h14 = absurd (h5 a refl)
+no-type (Node.Array a b) k h1 h0 h2 h3 h4 h5 h6 h7 h8 h9 h10 h11 h12 h13 h14 = absurd (h6 a b refl)
+no-type (Node.FunctionType l e m r p) k h1 h0 h2 h3 h4 h5 h6 h7 h8 h9 h10 h11 h12 h13 h14 = absurd (h7 l e m r p refl)
+no-type (Node.MemberPointer a b) k h1 h0 h2 h3 h4 h5 h6 h7 h8 h9 h10 h11 h12 h13 h14 = absurd (h8 a b refl)
+no-type (Node.Qualified a b) k h1 h0 h2 h3 h4 h5 h6 h7 h8 h9 h10 h11 h12 h13 h14 = absurd (h9 a b refl)
+no-type (Node.Vector a b) k h1 h0 h2 h3 h4 h5 h6 h7 h8 h9 h10 h11 h12 h13 h14 = absurd (h10 a b refl)
+no-type (Node.Complex a) k h1 h0 h2 h3 h4 h5 h6 h7 h8 h9 h10 h11 h12 h13 h14 = absurd (h11 a refl)
+no-type (Node.SizedFloat a b) k h1 h0 h2 h3 h4 h5 h6 h7 h8 h9 h10 h11 h12 h13 h14 = absurd (h12 a b refl)
+no-type (Node.GenericParameter a) k h1 h0 h2 h3 h4 h5 h6 h7 h8 h9 h10 h11 h12 h13 h14 = absurd (h13 a refl)
+no-type (Node.Bounded a b) k h1 h0 h2 h3 h4 h5 h6 h7 h8 h9 h10 h11 h12 h13 h14 = absurd (h14 a b refl)
+no-type _ k h1 h0 h2 h3 h4 h5 h6 h7 h8 h9 h10 h11 h12 h13 h14 = tt
 
 pub left-none : (s : List ℕ) (us : List Thunk) (ts : List Term) (d : Detail) (c : items.Context) (n : Node) → IsNoType n → ((t : ℕ) → n ≡ Node.Expansion t → ⊥) → ((t : ℕ) → n ≡ Node.Pack t → ⊥) → ((t : ℕ) (v : Signed) → n ≡ Node.Integer t v → ⊥) → ((b : Bool) → n ≡ Node.Boolean b → ⊥)
     → (n ≡ Node.NullPointer → ⊥) → ((e : ℕ) → n ≡ Node.EncodingLiteral e → ⊥) → ((e : ℕ) → n ≡ Node.AddressOf e → ⊥) → [] ≡ left_parts d c (tree_of s us ts n)
@@ -206,6 +207,7 @@ left-none s us ts d c (Node.Pointer a) k h1 h2 h3 h4 h5 h6 h7 = elim k [ ]
 left-none s us ts d c (Node.Lvalue a) k h1 h2 h3 h4 h5 h6 h7 = elim k [ ]
 left-none s us ts d c (Node.Rvalue a) k h1 h2 h3 h4 h5 h6 h7 = elim k [ ]
 left-none s us ts d c (Node.Array a b) k h1 h2 h3 h4 h5 h6 h7 = elim k [ ]
+left-none s us ts d c (Node.Bounded a b) k h1 h2 h3 h4 h5 h6 h7 = elim k [ ]
 left-none s us ts d c (Node.FunctionType l e m r p) k h1 h2 h3 h4 h5 h6 h7 = elim k [ ]
 left-none s us ts d c (Node.MemberPointer a b) k h1 h2 h3 h4 h5 h6 h7 = elim k [ ]
 left-none s us ts d c (Node.Qualified a b) k h1 h2 h3 h4 h5 h6 h7 = elim k [ ]

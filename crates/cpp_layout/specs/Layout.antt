@@ -156,6 +156,7 @@ IsNoType (Node.Pointer t) = ⊥
 IsNoType (Node.Lvalue t) = ⊥
 IsNoType (Node.Rvalue t) = ⊥
 IsNoType (Node.Array digits t) = ⊥
+IsNoType (Node.Bounded bound t) = ⊥
 IsNoType (Node.FunctionType l e m returned parameters) = ⊥
 IsNoType (Node.MemberPointer class t) = ⊥
 IsNoType (Node.Qualified q t) = ⊥

@@ -107,6 +107,7 @@ impl Symbol {
             Node::Lvalue(ty) => self.fill_lvalue(parts, ty, ctx),
             Node::Rvalue(ty) => self.fill_rvalue(parts, ty, ctx),
             Node::Array { element, .. } => self.fill_array(parts, element, ctx),
+            Node::Bounded { element, .. } => self.fill_array(parts, element, ctx),
             Node::FunctionType { returned, .. } => {
                 self.fill_left_text(parts, returned, texts::BLANK, ctx);
             }

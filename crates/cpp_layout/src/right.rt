@@ -83,6 +83,9 @@ impl Symbol {
             Node::Array { digits, element } => {
                 self.fill_array_right(parts, digits, element, ctx);
             }
+            Node::Bounded { bound, element } => {
+                self.fill_bounded_right(parts, bound, element, ctx);
+            }
             Node::Qualified { qualifiers, ty } => {
                 self.fill_qualified_right(parts, qualifiers, ty, ctx);
             }

@@ -226,6 +226,26 @@ impl Symbol {
         self.push_text(parts, texts::LEFT_BRACKET);
     }
 
+    /// The right parts of an array whose length is a parameter.
+    pub(crate) fn fill_bounded_right<S: PartList<Context>>(
+        &self,
+        parts: &mut S,
+        bound: u32,
+        element: u32,
+        ctx: Context,
+    )
+        requires bound { bound < length self.now.table.nodes }
+        requires element { element < length self.now.table.nodes }
+        requires room { 8 ≤ S.room parts.old }
+        ensures shows { Shows self.now ctx.detail (S.held parts.old) (S.held parts.new) (right_parts (context_of ctx) (term.bounded (tree_at (trees (table_of self.now)) bound) (tree_at (trees (table_of self.now)) element))) }
+        ensures few { S.room parts.old ≤ S.room parts.new + 8 }
+    {
+        self.push_item(parts, element, form::RIGHT, 0, ctx);
+        self.push_text(parts, texts::RIGHT_BRACKET);
+        self.push_item(parts, bound, form::LEFT, 0, ctx);
+        self.push_text(parts, texts::LEFT_BRACKET);
+    }
+
     /// The parts of a parameter in a form: those of its argument, without an index.
     pub(crate) fn fill_parameter<S: PartList<Context>>(
         &self,

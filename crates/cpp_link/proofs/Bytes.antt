@@ -46,6 +46,13 @@ any_byte s Production.RvalueItem b c around place began vs state chain = refl
 any_byte s Production.Items b c around place began vs state chain = refl
 any_byte s Production.TypeArgument b c around place began vs state chain = refl
 any_byte s Production.TypeElement b c around place began vs state chain = refl
+any_byte s Production.AnyArgument b c around place began vs state chain = refl
+any_byte s Production.AnyElement b c around place began vs state chain = refl
+any_byte s Production.PlainArgument b c around place began vs state chain = refl
+any_byte s Production.ParameterArgument b c around place began vs state chain = refl
+any_byte s Production.DeclaredArgument b c around place began vs state chain = refl
+any_byte s Production.ArrayType b c around place began vs state chain = refl
+any_byte s Production.LengthArray b c around place began vs state chain = refl
 any_byte s Production.IntegerLiteral b c around place began vs state chain = refl
 any_byte s _ b c around place began vs state chain = absurd (false≢true chain)
 

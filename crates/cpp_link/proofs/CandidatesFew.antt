@@ -15,7 +15,7 @@ use Rattle.cpp_term.specs.Term.{Term, parameter}
 use Rattle.cpp_term.specs.Scope.{count, element, is_open, length_if_pack, pack_length}
 use Rattle.cpp_term.specs.Values.{State, Around, Candidate, prefix_tree, prefix_listed, Value, nothing_there, tree, named, tree_of, is_listed, is_there}
 use Rattle.cpp_term.specs.References.{appended, is_function_type, with_type, with_unqualified, with_prefix, with_packs, substituted, parameter_named}
-use Rattle.cpp_term.specs.Between.{Going, after, listed_so_far, parameter_so_far, argument_at, between}
+use Rattle.cpp_term.specs.Between.{Going, after, listed_so_far, parameter_so_far, argument_so_far, argument_at, between}
 use Rattle.cpp_term.specs.Unfolding.{close}
 use Rattle.cpp_link.specs.NodeCount.{makes_before, makes_at_end, one_if_there, one_if_arguments}
 
@@ -37,6 +37,7 @@ unfoldable pub becomes_candidate : ℕ → Bool
 becomes_candidate k =
     nat_eq k 15 || nat_eq k 16 || nat_eq k 17 || nat_eq k 18 || nat_eq k 22
     || nat_eq k 32 || nat_eq k 33 || nat_eq k 34 || nat_eq k 36 || nat_eq k 51 || nat_eq k 66 || nat_eq k 68 || nat_eq k 80
+    || nat_eq k 83 || nat_eq k 87 || nat_eq k 88 || nat_eq k 90 || nat_eq k 91
 
 -- what goes on with the name so far, and arguments behind it
 unfoldable pub goes_on : ℕ → Bool
@@ -116,6 +117,12 @@ may_leave Production.AbbreviatedType = true
 may_leave Production.SizedFloat = true
 may_leave Production.TaggedStdType = true
 may_leave Production.TypeInStd = true
+may_leave Production.ArrayType = true
+may_leave Production.AnyArray = true
+may_leave Production.LengthArray = true
+may_leave Production.BoundedArray = true
+may_leave Production.ParameterArgument = true
+may_leave Production.DeclaredArgument = true
 may_leave _ = false
 
 -- what goes on with the name so far
@@ -296,6 +303,16 @@ parameter-one around place k vs state next e = go around.scope e
                 ap length (packs-keep place around.in_expansion (length_if_pack (element arguments k)) state b.value b.is),
               );
             }
+
+-- a parameter that is an argument itself is none
+pub argument-none : (around : Around) (place k : ℕ) (state : State) (next : Next Value State Around) → argument_so_far around place k state ≡ Ok next
+    → length next.state.candidates ≡ length state.candidates
+unfolding argument_so_far
+argument-none around place k state next e =
+    let b = behind_bind (parameter_named around place k state)
+    (λ s. Ok (going (tree (parameter k (argument_at around k)) true ∷ []) around (record s { candidates = state.candidates }))) next e in
+    ap (λ n. length n.state.candidates)
+    (sym (ok_same (going (tree (parameter k (argument_at around k)) true ∷ []) around (record b.value { candidates = state.candidates })) next b.next))
 
 -- ## Steps
 

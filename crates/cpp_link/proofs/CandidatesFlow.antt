@@ -9,18 +9,18 @@ use Rattle.sym_shape.specs.declared.rule.Sym.TheVariants.{Kind as OfKind, Name, 
 use Rattle.sym_link.specs.Reading.{Found, Next}
 use Rattle.sym_link.specs.Unfold.{found}
 use Rattle.cpp_grammar.specs.declared.production.Production.{Production}
-use Rattle.cpp_grammar.specs.KindNumbers.{INTEGER, UNQUALIFIED, NEST, NEST_AFTER_S, NEST_REST, NEST_REST_OR_END, NEST_REST_ALONE, ARGUMENTS_ALONE, NEST_TAIL, COMPONENT, HOLDER_MARK, HELD_COMPONENT, COMPONENT_AFTER_C, OPERATOR_AFTER_C, OTHER_OPERATOR, CONSTRUCTOR_DIGIT, DESTRUCTOR_DIGIT, ABBREVIATION, ANONYMOUS, ITEM_AFTER_D, AFTER_D, SOLID, TYPE_AFTER_S, TYPE_IN_STD, SOURCE_OR_LOCAL, MAYBE_TAGS, MAYBE_ARGUMENTS, ARGUMENTS, ARGUMENTS_FIRST, LITERAL_TYPE, OPERATOR}
+use Rattle.cpp_grammar.specs.KindNumbers.{INTEGER, UNQUALIFIED, NEST, NEST_AFTER_S, NEST_REST, NEST_REST_OR_END, NEST_REST_ALONE, ARGUMENTS_ALONE, NEST_TAIL, COMPONENT, HOLDER_MARK, HELD_COMPONENT, COMPONENT_AFTER_C, OPERATOR_AFTER_C, OTHER_OPERATOR, CONSTRUCTOR_DIGIT, DESTRUCTOR_DIGIT, ABBREVIATION, ANONYMOUS, ITEM_AFTER_D, AFTER_D, SOLID, TYPE_AFTER_S, TYPE_IN_STD, SOURCE_OR_LOCAL, MAYBE_TAGS, ARGUMENT_AFTER_T, SOLID_BUT_T, ANY_ARRAY, ARRAY_REST, MAYBE_ARGUMENTS, ARGUMENTS, ARGUMENTS_FIRST, LITERAL_TYPE, OPERATOR}
 use Rattle.cpp_grammar.specs.Grammar.{parts_of, number_of_kind}
 use Rattle.cpp_grammar.proofs.ClosedStates.{ok_same}
 use Rattle.cpp_term.specs.Term.{Term, source, operator, constructor, destructor, in_std, instance, holder, pack, lvalue, rvalue}
 use Rattle.cpp_term.specs.Values.{State, Around, prefix_tree, prefix_listed, Value, nothing_there, tree, named, tree_of, piece_of, letter_of, text_of, is_listed, is_there, part}
 use Rattle.cpp_term.specs.References.{appended, with_type, with_unqualified, with_prefix}
 use Rattle.cpp_term.specs.Between.{Going, in_name, in_types, in_signature, under_expansion, after, inside, extended, applied, no_items, named_so_far, listed_so_far, piece_so_far, with_tag, tag_so_far, index_of, between}
-use Rattle.cpp_term.specs.Meaning.{meaning, function_of}
+use Rattle.cpp_term.specs.Meaning.{meaning, listed_value, function_of}
 use Rattle.cpp_term.specs.Unfolding.{behind, close}
 use Rattle.cpp_link.specs.Owed.{made_before, made_at_end}
 use Rattle.cpp_link.specs.NodeCount.{makes_before, makes_at_end, one_if_there, one_if_arguments, std_before, name_at_end}
-use Rattle.cpp_link.proofs.CandidatesFew.{unlisted, unlisted_around, is_component, becomes_candidate, goes_on, is_arguments, in_place, behind_name, pending, pending_around, makes_name, may_leave, takes_name, begins_arguments, leaves, starts_with, Onward, Flow, going, appended-one, typed-one, unqualified-one, prefix-one, substituted-none, parameter-one, came, ended, quiet, takes_pending, take_nothing, plain-flow, kept, still, there-or-not, spent-or-not, made-flow, name-flow, value-flow, same-closes, rest-step, nest-flow}
+use Rattle.cpp_link.proofs.CandidatesFew.{unlisted, unlisted_around, is_component, becomes_candidate, goes_on, is_arguments, in_place, behind_name, pending, pending_around, makes_name, may_leave, takes_name, begins_arguments, leaves, starts_with, Onward, Flow, going, appended-one, typed-one, unqualified-one, prefix-one, substituted-none, parameter-one, argument-none, came, ended, quiet, takes_pending, take_nothing, plain-flow, kept, still, there-or-not, spent-or-not, made-flow, name-flow, value-flow, same-closes, rest-step, nest-flow}
 
 -- ## Names
 
@@ -215,6 +215,27 @@ parameter-type around place = λ state next e. came (going [] around state) next
     begun v = λ state next e. (
         let n = parameter-one around place (index_of v) [] state next e in
         subst (Onward (OfKind ARGUMENTS_ALONE) 1 0 state (Flow Production.Parameter around place [])) (sym n.is)
+        (record {
+          over = 0;
+          few = omega (arith, n.one);
+          later = λ w. record { now = behind_name 0 w; few = spent-or-not 0 w; goes = closes (tree n.own true) w };
+        }))
+
+-- the same behind its T
+parameter-behind-t : (around : Around) (place : ℕ) → Flow Production.ParameterArgument around place (Number Decimal ∷ OfKind ARGUMENTS_ALONE ∷ []) [] 0
+unfolding pending pending_around unlisted_around goes_on is_arguments is_component becomes_candidate after prefix_listed between makes_before made_before makes_at_end name_at_end part leaves makes_name may_leave unlisted is_listed meaning one_if_there close behind
+parameter-behind-t around place = λ state next e. came (going [] around state) next e
+    (quiet (going [] around state) (omega arith) (λ v. refl) begun)
+  where
+    closes : (u w : Value) → Flow Production.ParameterArgument around place [] (u ∷ w ∷ []) (behind_name 0 w)
+    closes u w = λ byte began state one e.
+        ended Production.ParameterArgument (one_if_arguments w) (behind_name 0 w) state (found (tree (applied (tree_of u) w) (not (is_there w))) state) one e
+        (omega (arith, spent-behind true w))
+
+    begun : (v : Value) → Flow Production.ParameterArgument around place (OfKind ARGUMENTS_ALONE ∷ []) (v ∷ []) 0
+    begun v = λ state next e. (
+        let n = parameter-one around (place - 1) (index_of v) [] state next e in
+        subst (Onward (OfKind ARGUMENTS_ALONE) 1 0 state (Flow Production.ParameterArgument around place [])) (sym n.is)
         (record {
           over = 0;
           few = omega (arith, n.one);
@@ -474,6 +495,25 @@ pack-keeps around place (v ∷ []) state next e = kept (tree (pack (no_items v))
 pack-keeps around place (v ∷ w ∷ vs) state next e = kept (v ∷ w ∷ vs) around state next
     (makes_before Production.PackArgument (v ∷ w ∷ vs)) e
 
+parameter-keeps : (around : Around) (place : ℕ) → Keeps Production.ParameterExpression around place
+unfolding between makes_before made_before
+parameter-keeps around place [] state next e = kept [] around state next 0 e
+parameter-keeps around place (v ∷ []) state next e = omega (arith, argument-none around place (index_of v) state next e)
+parameter-keeps around place (v ∷ w ∷ vs) state next e = kept (v ∷ w ∷ vs) around state next
+    (makes_before Production.ParameterExpression (v ∷ w ∷ vs)) e
+
+bounded-keeps : (around : Around) (place : ℕ) → Keeps Production.BoundedArray around place
+unfolding between makes_before made_before
+bounded-keeps around place [] state next e = kept [] around state next 0 e
+bounded-keeps around place (v ∷ []) state next e = omega (arith, argument-none around place (index_of v) state next e)
+bounded-keeps around place (v ∷ w ∷ vs) state next e = kept (v ∷ w ∷ vs) around state next
+    (makes_before Production.BoundedArray (v ∷ w ∷ vs)) e
+
+declared-keeps : (around : Around) (place : ℕ) → Keeps Production.DeclaredArgument around place
+unfolding between makes_before made_before
+declared-keeps around place [] state next e = kept [] (in_signature around) state next 0 e
+declared-keeps around place (v ∷ vs) state next e = kept (v ∷ vs) around state next 0 e
+
 lvalue-keeps : (around : Around) (place : ℕ) → Keeps Production.LvalueItem around place
 unfolding between makes_before made_before
 lvalue-keeps around place [] state next e = kept [] around state next 0 e
@@ -522,7 +562,7 @@ plain-closes p around place means same few vs = λ byte began state one e. (
     (omega (arith, ap length (same byte began vs state), few byte vs)))
 
 pub flows : (p : Production) (around : Around) (place : ℕ) → Flow p around place (parts_of p) [] (starts_with p around)
-unfolding parts_of number_of_kind starts_with takes_name begins_arguments take_nothing takes_pending pending pending_around goes_on is_arguments is_component becomes_candidate between makes_before made_before makes_at_end made_at_end close behind leaves makes_name may_leave unlisted is_listed meaning function_of part
+unfolding parts_of number_of_kind starts_with takes_name begins_arguments take_nothing takes_pending pending pending_around goes_on is_arguments is_component becomes_candidate between makes_before made_before makes_at_end made_at_end close behind leaves makes_name may_leave unlisted is_listed listed_value meaning function_of part
 flows Production.InternalName around place = internal-name around place
 flows Production.LocalTypeName around place = local-type-name around place
 flows Production.SourceName around place = source-name around place
@@ -608,6 +648,26 @@ flows Production.LocalType around place = plain-flow Production.LocalType around
 flows Production.PackArgument around place = plain-flow Production.PackArgument around place (pack-keeps around place)
     (plain-closes Production.PackArgument around place (λ byte began vs state. refl) (λ byte began vs state. refl)
     (λ byte vs. omega arith)) (parts_of Production.PackArgument) refl []
+flows Production.ArrayType around place = value-flow Production.ArrayType around place (OfKind ANY_ARRAY) (λ a v. refl) (λ v. refl)
+    (λ state. refl)
+    (λ v. same-closes Production.ArrayType around place (v ∷ []) v (λ u. refl) (λ byte began state. refl))
+flows Production.AnyArray around place = value-flow Production.AnyArray around place (OfKind ARRAY_REST) (λ a v. refl) (λ v. refl)
+    (λ state. refl)
+    (λ v. same-closes Production.AnyArray around place (v ∷ []) v (λ u. refl) (λ byte began state. refl))
+flows Production.BoundedArray around place = plain-flow Production.BoundedArray around place (bounded-keeps around place)
+    (plain-closes Production.BoundedArray around place (λ byte began vs state. refl) (λ byte began vs state. refl)
+    (λ byte vs. omega arith)) (parts_of Production.BoundedArray) refl []
+flows Production.PlainArgument around place = solid-type Production.PlainArgument around place SOLID_BUT_T (λ a v. refl) (λ v. refl) (λ state. refl)
+    (λ v. refl) (λ byte began state v. refl)
+flows Production.ArgumentWithT around place = solid-type Production.ArgumentWithT around place ARGUMENT_AFTER_T (λ a v. refl) (λ v. refl)
+    (λ state. refl) (λ v. refl) (λ byte began state v. refl)
+flows Production.ParameterArgument around place = parameter-behind-t around place
+flows Production.DeclaredArgument around place = plain-flow Production.DeclaredArgument around place (declared-keeps around place)
+    (plain-closes Production.DeclaredArgument around place (λ byte began vs state. refl) (λ byte began vs state. refl)
+    (λ byte vs. omega arith)) (parts_of Production.DeclaredArgument) refl []
+flows Production.ParameterExpression around place = plain-flow Production.ParameterExpression around place (parameter-keeps around place)
+    (plain-closes Production.ParameterExpression around place (λ byte began vs state. refl) (λ byte began vs state. refl)
+    (λ byte vs. omega arith)) (parts_of Production.ParameterExpression) refl []
 flows Production.Expansion around place =
     plain-flow Production.Expansion around place
     (λ vs state next e. same-kept (going vs (under_expansion around) (record state { packs = None })) next state 0 e (omega arith))

@@ -119,6 +119,7 @@ quiet_between Production.Lambda around place vs state less = absurd (never vs le
 quiet_between Production.Expansion around place vs state less = absurd (never vs less)
 quiet_between Production.Conversion around place vs state less = absurd (never vs less)
 quiet_between Production.OtherSpecial around place vs state less = absurd (never vs less)
+quiet_between Production.DeclaredArgument around place vs state less = absurd (never vs less)
 quiet_between Production.LocalName around place [] state less = refl
 quiet_between Production.LocalName around place (v ∷ vs) state less = absurd (not_first vs less)
 quiet_between Production.LocalType around place [] state less = refl
@@ -179,6 +180,12 @@ quiet_between Production.TaggedStdType around place [] state less = refl
 quiet_between Production.TaggedStdType around place (v ∷ vs) state less = absurd (not_first vs less)
 quiet_between Production.TypeTag around place [] state less = refl
 quiet_between Production.TypeTag around place (v ∷ vs) state less = absurd (not_first vs less)
+quiet_between Production.ParameterExpression around place [] state less = refl
+quiet_between Production.ParameterExpression around place (v ∷ vs) state less = absurd (not_first vs less)
+quiet_between Production.BoundedArray around place [] state less = refl
+quiet_between Production.BoundedArray around place (v ∷ vs) state less = absurd (not_first vs less)
+quiet_between Production.ParameterArgument around place [] state less = refl
+quiet_between Production.ParameterArgument around place (v ∷ vs) state less = absurd (not_first vs less)
 quiet_between _ around place vs state less = refl
 
 pub quiet_right : (s : List ℕ) (old : Linked) (frame : Frame Kept) (parts : List Part) (held : ℕ)

@@ -12,15 +12,16 @@ use Rattle.sym_link.specs.Linking.{Puts}
 use Rattle.sym_link.specs.Threads.{IsAt, Goes, GoesOn, ClosesAll}
 use Rattle.sym_link.specs.Unfold.{found}
 use Rattle.cpp_grammar.specs.declared.production.Production.{Production}
+use Rattle.cpp_grammar.specs.Rescoping.{generic_number}
 use Rattle.cpp_grammar.specs.Unfolding.{production_at, byte_of}
-use Rattle.cpp_term.specs.Term.{Term, pointer, lvalue, rvalue, qualified}
+use Rattle.cpp_term.specs.Term.{Term, generic_parameter, pointer, lvalue, rvalue, qualified}
 use Rattle.cpp_term.specs.Values as values
-use Rattle.cpp_term.specs.Values.{State, Value, Around, part, text_of}
+use Rattle.cpp_term.specs.Values.{State, Value, tree, Around, part, text_of}
 use Rattle.sym_core.specs.Value.{counted_value}
 use Rattle.sym_core.specs.declared.NumberKind.TheVariants.{Decimal}
-use Rattle.cpp_term.specs.Between.{Going, parameter_so_far, index_of, between}
+use Rattle.cpp_term.specs.Between.{Going, next, parameter_so_far, argument_so_far, index_of, between}
 use Rattle.cpp_term.specs.Unfolding.{cpp}
-use Rattle.cpp_term.specs.Rescoping.{generic_so_far, parameter_here, number_of_parameter, number_behind_mark, with_parameter, substituted_wide, between_wide, close_wide, cpp_wide}
+use Rattle.cpp_term.specs.Rescoping.{generic_so_far, parameter_here, argument_here, number_of_parameter, number_behind_mark, with_parameter, substituted_wide, between_wide, close_wide, cpp_wide}
 use Rattle.cpp_tree.specs.Nodes.{Stored, tree_at, tree_of, IsBelow}
 use Rattle.cpp_tree.specs.declared.node.Node.{Node}
 use Rattle.cpp_tree.specs.declared.node.Thunk.{Thunk}
@@ -29,7 +30,7 @@ use Rattle.cpp_link.specs.declared.part.Part.{Part}
 use Rattle.cpp_link.specs.declared.part.Kept.{Kept}
 use Rattle.cpp_link.specs.declared.part.Step.{Step}
 use Rattle.cpp_link.specs.LinkReading.{link_close, linked}
-use Rattle.cpp_link.specs.LinkRescoping.{link_close_wide, linked_wide, is_parameter, is_substitution, names_generic, type_behind_mark, named_by, restated_nodes, substituted_nodes, wide_at_end, wide_view}
+use Rattle.cpp_link.specs.LinkRescoping.{link_close_wide, linked_wide, is_parameter, is_parameter_argument, generic_read, is_substitution, names_generic, type_behind_mark, named_by, restated_nodes, substituted_nodes, wide_at_end, wide_view}
 use Rattle.cpp_link.specs.Making.{state_of}
 use Rattle.cpp_link.specs.NodeCount.{makes_before, makes_at_end}
 use Rattle.cpp_link.specs.Parts.{trees_in, value_of, values_of, value_in, values_in, is_lambda, around_of, candidates_of, IsThere, AreCandidatesThere}
@@ -75,7 +76,7 @@ marked_below s held n _ ty e below = absurd cc
 -- where no parameter of a lambda is named it goes as in the other reading
 apart_between : (p : Production) (around : Around) (place : ℕ) (vs : List Value) (state : State) → names_generic p around.in_lambda (length vs) ≡ false
     → between_wide p around place vs state ≡ between p around place vs state
-unfolding between_wide between is_parameter parameter_here
+unfolding between_wide between is_parameter parameter_here argument_here
 apart_between Production.Parameter around place (v ∷ []) state apart = go around.in_lambda apart
   where
     go : (b : Bool) → (b && true && nat_eq (length (v ∷ [])) 1) ≡ false
@@ -86,6 +87,30 @@ apart_between Production.NestParameter around place (v ∷ []) state apart = go 
   where
     go : (b : Bool) → (b && true && nat_eq (length (v ∷ [])) 1) ≡ false
         → elim b [ true ↦ generic_so_far around (index_of v) [] state | false ↦ parameter_so_far around place (index_of v) [] state ] ≡ parameter_so_far around place (index_of v) [] state
+    go true e = absurd (true≢false e)
+    go false e = refl
+apart_between Production.ParameterArgument around place (v ∷ []) state apart = go around.in_lambda apart
+  where
+    go : (b : Bool) → (b && true && nat_eq (length (v ∷ [])) 1) ≡ false
+        → elim b [ true ↦ generic_so_far around (index_of v) [] state | false ↦ parameter_so_far around (place - 1) (index_of v) [] state ] ≡ parameter_so_far around (place - 1) (index_of v) [] state
+    go true e = absurd (true≢false e)
+    go false e = refl
+apart_between Production.ParameterExpression around place (v ∷ []) state apart = go around.in_lambda apart
+  where
+    own : Going
+    own = next (tree (generic_parameter (generic_number (index_of v))) true ∷ []) around state
+
+    go : (b : Bool) → (b && true && nat_eq (length (v ∷ [])) 1) ≡ false
+        → elim b [ true ↦ own | false ↦ argument_so_far around place (index_of v) state ] ≡ argument_so_far around place (index_of v) state
+    go true e = absurd (true≢false e)
+    go false e = refl
+apart_between Production.BoundedArray around place (v ∷ []) state apart = go around.in_lambda apart
+  where
+    own : Going
+    own = next (tree (generic_parameter (generic_number (index_of v))) true ∷ []) around state
+
+    go : (b : Bool) → (b && true && nat_eq (length (v ∷ [])) 1) ≡ false
+        → elim b [ true ↦ own | false ↦ argument_so_far around place (index_of v) state ] ≡ argument_so_far around place (index_of v) state
     go true e = absurd (true≢false e)
     go false e = refl
 apart_between p around place vs state apart = refl
@@ -301,24 +326,30 @@ kept_state s old new packs stays there same =
 -- ## A parameter of a lambda
 
 generic_between : (p : Production) (around : Around) (place : ℕ) (v : Value) (state : State) → is_parameter p ≡ true → around.in_lambda ≡ true
-    → between_wide p around place (v ∷ []) state ≡ generic_so_far around (index_of v) [] state
-unfolding is_parameter between_wide parameter_here
+    → between_wide p around place (v ∷ []) state ≡ generic_read (is_parameter_argument p) around (index_of v) state
+unfolding is_parameter is_parameter_argument generic_read between_wide parameter_here argument_here
 generic_between Production.Parameter around place v state is lambda =
     ap (λ b. elim b as (λ _. Going) [ true ↦ generic_so_far around (index_of v) [] state | false ↦ parameter_so_far around place (index_of v) [] state ]) lambda
 generic_between Production.NestParameter around place v state is lambda =
     ap (λ b. elim b as (λ _. Going) [ true ↦ generic_so_far around (index_of v) [] state | false ↦ parameter_so_far around place (index_of v) [] state ]) lambda
+generic_between Production.ParameterArgument around place v state is lambda =
+    ap (λ b. elim b as (λ _. Going) [ true ↦ generic_so_far around (index_of v) [] state | false ↦ parameter_so_far around (place - 1) (index_of v) [] state ]) lambda
+generic_between Production.ParameterExpression around place v state is lambda =
+    ap (λ b. elim b as (λ _. Going) [ true ↦ next (tree (generic_parameter (generic_number (index_of v))) true ∷ []) around state | false ↦ argument_so_far around place (index_of v) state ]) lambda
+generic_between Production.BoundedArray around place v state is lambda =
+    ap (λ b. elim b as (λ _. Going) [ true ↦ next (tree (generic_parameter (generic_number (index_of v))) true ∷ []) around state | false ↦ argument_so_far around place (index_of v) state ]) lambda
 generic_between _ around place v state is lambda = absurd (false≢true is)
 
 pub generic_is : (s : List ℕ) (y : Stored) (kept : Kept) (p : Production) (place : ℕ) (own : List Part) (digits : List ℕ) (cs : List values.Candidate) (packs : Option ℕ) (step : Step)
     → is_parameter p ≡ true → is_lambda kept.scope ≡ true → length own ≡ 1 → digits ≡ text_of (part (values_in s y own) 0)
-    → ((v : Value) → generic_so_far (around_of (trees_in s y) kept) (counted_value Decimal digits) [] (record { candidates = cs; packs = packs }) ≡ goes_on s y kept (v ∷ []) cs packs step)
+    → ((v : Value) → generic_read (is_parameter_argument p) (around_of (trees_in s y) kept) (counted_value Decimal digits) (record { candidates = cs; packs = packs }) ≡ goes_on s y kept (v ∷ []) cs packs step)
     → between_wide p (around_of (trees_in s y) kept) place (values_in s y own) (record { candidates = cs; packs = packs }) ≡ goes_on s y kept (values_in s y own) cs packs step
 unfolding around_of values_of part index_of
 generic_is s y kept p place [] digits cs packs step is lambda one own_is goes = absurd (omega (arith, one))
 generic_is s y kept p place (x ∷ z ∷ own) digits cs packs step is lambda one own_is goes = absurd (omega (arith, one))
 generic_is s y kept p place (x ∷ []) digits cs packs step is lambda one own_is goes =
     generic_between p (around_of (trees_in s y) kept) place (value_of s (trees_in s y) x) (record { candidates = cs; packs = packs }) is lambda
-    ∙ ap (λ ds. generic_so_far (around_of (trees_in s y) kept) (counted_value Decimal ds) [] (record { candidates = cs; packs = packs })) (sym own_is)
+    ∙ ap (λ ds. generic_read (is_parameter_argument p) (around_of (trees_in s y) kept) (counted_value Decimal ds) (record { candidates = cs; packs = packs })) (sym own_is)
     ∙ goes (value_of s (trees_in s y) x)
 
 pub no_pack : (p : Production) → is_parameter p ≡ true → p ≡ Production.PackArgument → ⊥

@@ -1,5 +1,5 @@
 -- C++'s reading of the wide grammar as the linker follows it, and how many nodes are made of a symbol by it.
-use Rattle.std.specs.Prelude.{◌≡◌, ℕ, ◌+◌, List, slice_get, Option, Some, None, Bool, true, false, ◌&&◌, nat_eq, Result, Ok, Err}
+use Rattle.std.specs.Prelude.{◌≡◌, ℕ, ◌+◌, List, [], ◌∷◌, slice_get, Option, Some, None, Bool, true, false, ◌&&◌, nat_eq, Result, Ok, Err}
 use Rattle.sym_core.specs.declared.refusal.Refusal.{Refusal}
 use Rattle.sym_core.specs.declared.NumberKind.TheVariants.{Seq36}
 use Rattle.sym_core.specs.Value.{counted_value}
@@ -9,11 +9,13 @@ use Rattle.sym_link.specs.Unfold.{found, unfold_tree}
 use Rattle.sym_link.specs.Linking.{View}
 use Rattle.sym_link.specs.Tally.{Tally, tally, Makes, tallied, tallied_view}
 use Rattle.cpp_grammar.specs.declared.production.Production.{Production}
+use Rattle.cpp_grammar.specs.Rescoping.{generic_number}
 use Rattle.cpp_grammar.specs.Unfolding.{production_at, byte_of}
 use Rattle.cpp_term.specs.Term.{Term, generic_parameter, pointer, lvalue, rvalue, qualified}
 use Rattle.cpp_term.specs.Values.{Candidate, State, Around, Value, tree, text_of, part}
 use Rattle.cpp_term.specs.Unfolding.{first_around, first_state}
-use Rattle.cpp_term.specs.Rescoping.{is_foreign, with_parameter, in_scope, close_wide, cpp_wide}
+use Rattle.cpp_term.specs.Between.{Going, next}
+use Rattle.cpp_term.specs.Rescoping.{generic_so_far, is_foreign, with_parameter, in_scope, close_wide, cpp_wide}
 use Rattle.cpp_tree.specs.Nodes.{Stored}
 use Rattle.cpp_tree.specs.declared.node.Node.{Node}
 use Rattle.cpp_link.specs.Parts.{tree_of_node}
@@ -47,7 +49,16 @@ linked_wide s = record {
 unfoldable pub is_parameter : Production → Bool
 is_parameter Production.Parameter = true
 is_parameter Production.NestParameter = true
+is_parameter Production.ParameterArgument = true
+is_parameter Production.ParameterExpression = true
+is_parameter Production.BoundedArray = true
 is_parameter _ = false
+
+-- one that is an argument itself, or the length of an array
+unfoldable pub is_parameter_argument : Production → Bool
+is_parameter_argument Production.ParameterExpression = true
+is_parameter_argument Production.BoundedArray = true
+is_parameter_argument _ = false
 
 unfoldable pub is_substitution : Production → Bool
 is_substitution Production.Substitution = true
@@ -56,6 +67,11 @@ is_substitution _ = false
 -- before the part behind these a parameter of a lambda is named
 abbrev pub names_generic : Production → (in_lambda : Bool) → (held : ℕ) → Bool
 names_generic p in_lambda held = in_lambda && is_parameter p && nat_eq held 1
+
+-- what the lambda's own parameter of this number comes to, which may be an argument itself
+unfoldable pub generic_read : (is_argument : Bool) → Around → ℕ → State → Going
+generic_read true around k state = next (tree (generic_parameter (generic_number k)) true ∷ []) around state
+generic_read false around k state = generic_so_far around k [] state
 
 -- what stands behind the mark of a node
 unfoldable pub type_behind_mark : Node → Option ℕ

@@ -20,11 +20,11 @@ is_list rule = nat_eq rule (number_of Production.Arguments) || nat_eq rule (numb
 
 -- one of some arguments, of which none is a list by itself
 unfoldable pub is_argument : ℕ → Bool
-is_argument rule = nat_le (number_of Production.PackArgument) rule && nat_le rule (number_of Production.TypeArgument)
+is_argument rule = (nat_le (number_of Production.PackArgument) rule && nat_le rule (number_of Production.TypeArgument)) || nat_eq rule (number_of Production.AnyArgument)
 
 -- one of a pack's elements
 unfoldable pub is_element : ℕ → Bool
-is_element rule = nat_le (number_of Production.LiteralElement) rule && nat_le rule (number_of Production.TypeElement)
+is_element rule = (nat_le (number_of Production.LiteralElement) rule && nat_le rule (number_of Production.TypeElement)) || nat_eq rule (number_of Production.AnyElement)
 
 -- r, V, K, and one of R and O: which of the marks of a nested name it is
 unfoldable pub nested_mark : ℕ → ℕ
@@ -54,6 +54,9 @@ behind_bytes Production.Vector held = over 1 held
 behind_bytes Production.LiteralArgument held = over 1 held
 behind_bytes Production.LiteralElement held = over 1 held
 behind_bytes Production.ConstructionVtable held = over 2 held
+behind_bytes Production.PackOf held = at_least 1 held
+behind_bytes Production.AddressExpression held = at_least 1 held
+behind_bytes Production.BoundedArray held = over 1 held
 behind_bytes _ held = held
 
 -- in a rule that begins with a list of arguments

@@ -67,6 +67,7 @@ makes_at_end Production.AbbreviatedName known = name_at_end known
 makes_at_end Production.Constructor known = name_at_end known
 makes_at_end Production.Destructor known = name_at_end known
 makes_at_end Production.Parameter known = name_at_end known
+makes_at_end Production.ParameterArgument known = name_at_end known
 makes_at_end Production.TypeWithS known = name_at_end known
 makes_at_end Production.Tag known = name_at_end known
 makes_at_end Production.TypeTag known = name_at_end known

@@ -69,6 +69,11 @@ unfoldable pub node_read : List Term → List values.Candidate → Result (ℕ �
 node_read ts cs (Ok r) = Ok (found (values.tree (tree_at ts r.0) true) (record { candidates = cs; packs = r.1 }))
 node_read ts cs (Err e) = Err e
 
+-- a parameter that became a candidate, by its node
+unfoldable pub parameter_read : Around → List ℕ → Stored → List values.Candidate → Result (Node × Option ℕ) Refusal → Result State Refusal
+parameter_read around s y cs (Ok r) = Ok (appended around (tree_of_node s y r.0) (record { candidates = cs; packs = r.1 }))
+parameter_read around s y cs (Err e) = Err e
+
 -- a tree more or less among the candidates
 unfoldable pub with_candidate : Around → List Term → Option ℕ → State → State
 with_candidate around ts None state = state

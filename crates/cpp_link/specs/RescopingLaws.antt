@@ -1,5 +1,5 @@
 -- What is linked of a symbol by the wide grammar keeps to what every language does.
-use Rattle.std.proofs.Common.{◌≡◌, refl, ℕ, suc, ◌≤◌, List, [], ◌∷◌, length, Bool, true, false, Result}
+use Rattle.std.proofs.Common.{◌≡◌, refl, ℕ, ◌-◌, suc, ◌≤◌, List, [], ◌∷◌, length, Bool, true, false, Result}
 use Rattle.std.specs.Result.{IfOk}
 use Rattle.sym_core.specs.declared.refusal.Refusal.{Refusal}
 use Rattle.sym_link.specs.Reading.{Next}
@@ -8,14 +8,16 @@ use Rattle.sym_link.specs.Threads.{IsThreading}
 use Rattle.sym_link.proofs.Tally.{tallied_laws, tallied_threads}
 use Rattle.cpp_grammar.specs.declared.production.Production.{Production}
 use Rattle.cpp_grammar.specs.Unfolding.{production_at}
-use Rattle.cpp_term.specs.Values.{State, Value, Around}
-use Rattle.cpp_term.specs.Between.{parameter_so_far, listed_so_far, index_of}
+use Rattle.cpp_grammar.specs.Rescoping.{generic_number}
+use Rattle.cpp_term.specs.Term.{generic_parameter}
+use Rattle.cpp_term.specs.Values.{State, Value, tree, Around}
+use Rattle.cpp_term.specs.Between.{next, parameter_so_far, argument_so_far, listed_so_far, index_of}
 use Rattle.cpp_term.specs.Unfolding.{cpp}
-use Rattle.cpp_term.specs.Rescoping.{generic_so_far, parameter_here, between_wide, cpp_wide}
+use Rattle.cpp_term.specs.Rescoping.{generic_so_far, parameter_here, argument_here, between_wide, cpp_wide}
 use Rattle.cpp_link.specs.declared.linked.Linked.{Linked}
 use Rattle.cpp_link.specs.declared.part.Part.{Part}
 use Rattle.cpp_link.specs.declared.part.Kept.{Kept}
-use Rattle.cpp_link.specs.Counts.{parameter_counts, between_counts}
+use Rattle.cpp_link.specs.Counts.{parameter_counts, argument_counts, between_counts}
 use Rattle.cpp_link.specs.LinkRescoping.{wide_makes, wide_view, within, wide_counted}
 use Rattle.cpp_link.specs.ViewLaws.{cpp_laws, cpp_threads}
 
@@ -29,10 +31,24 @@ here_counts around place k vs state = go around.in_lambda
     go true = refl
     go false = parameter_counts around place k vs state
 
+argument_here_counts : (around : Around) (place k : ℕ) (state : State) → IfOk (argument_here around place k state) (λ next. length next.values ≡ 1)
+unfolding argument_here
+argument_here_counts around place k state = go around.in_lambda
+  where
+    go : (b : Bool) → IfOk {T = Next Value State Around} (elim b [
+      | true ↦ next (tree (generic_parameter (generic_number k)) true ∷ []) around state
+      | false ↦ argument_so_far around place k state
+    ]) (λ next. length next.values ≡ 1)
+    go true = refl
+    go false = argument_counts around place k state
+
 wide_between_counts : (p : Production) (around : Around) (place : ℕ) (vs : List Value) (state : State) → IfOk (between_wide p around place vs state) (λ next. length next.values ≡ length vs)
 unfolding between_wide
 wide_between_counts Production.NestParameter around place (v ∷ []) state = here_counts around place (index_of v) [] state
 wide_between_counts Production.Parameter around place (v ∷ []) state = here_counts around place (index_of v) [] state
+wide_between_counts Production.ParameterArgument around place (v ∷ []) state = here_counts around (place - 1) (index_of v) [] state
+wide_between_counts Production.ParameterExpression around place (v ∷ []) state = argument_here_counts around place (index_of v) state
+wide_between_counts Production.BoundedArray around place (v ∷ []) state = argument_here_counts around place (index_of v) state
 wide_between_counts p around place vs state = between_counts p around place vs state
 
 -- ## The language

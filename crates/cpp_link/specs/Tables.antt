@@ -45,6 +45,10 @@ quiet_parts Production.OtherOperatorName = 1
 quiet_parts Production.OperatorNameWithC = 1
 quiet_parts Production.TaggedStdType = 1
 quiet_parts Production.TypeTag = 1
+quiet_parts Production.ParameterExpression = 1
+quiet_parts Production.BoundedArray = 1
+quiet_parts Production.ParameterArgument = 1
+quiet_parts Production.DeclaredArgument = 0
 quiet_parts _ = 5
 
 -- parts without a row may stand between those with one
@@ -73,4 +77,7 @@ skips_parts Production.NoexceptFunction = true
 skips_parts Production.Function = true
 skips_parts Production.PackArgument = true
 skips_parts Production.ConstructionVtable = true
+skips_parts Production.AddressExpression = true
+skips_parts Production.BoundedArray = true
+skips_parts Production.PackOf = true
 skips_parts _ = false

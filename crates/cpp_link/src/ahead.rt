@@ -53,7 +53,8 @@ fn is_list(rule: u16) -> bool
 fn is_argument(rule: u16) -> bool
     ensures { result ≡ is_argument rule }
 {
-    Production::PackArgument as u16 <= rule && rule <= Production::TypeArgument as u16
+    (Production::PackArgument as u16 <= rule && rule <= Production::TypeArgument as u16)
+        || rule == Production::AnyArgument as u16
 }
 
 /// Whether the rule begins with an element of a pack.
@@ -61,7 +62,8 @@ fn is_argument(rule: u16) -> bool
 fn is_element(rule: u16) -> bool
     ensures { result ≡ is_element rule }
 {
-    Production::LiteralElement as u16 <= rule && rule <= Production::TypeElement as u16
+    (Production::LiteralElement as u16 <= rule && rule <= Production::TypeElement as u16)
+        || rule == Production::AnyElement as u16
 }
 
 /// Which of the marks of a nested name it is: `r`, `V`, `K`, or one of `R` and `O`.
@@ -106,6 +108,9 @@ fn behind_bytes(production: Production, held: usize) -> usize
         Production::LiteralArgument => over(1, held),
         Production::LiteralElement => over(1, held),
         Production::ConstructionVtable => over(2, held),
+        Production::PackOf => at_least(1, held),
+        Production::AddressExpression => at_least(1, held),
+        Production::BoundedArray => over(1, held),
         _ => held,
     }
 }

@@ -93,6 +93,14 @@ impl Linked {
                 candidate: self.type_candidate(symbol, kept, self.given(symbol, parts, 0)),
                 packs: self.packs,
             },
+            Production::PlainArgument => Behind {
+                candidate: self.type_candidate(symbol, kept, self.given(symbol, parts, 0)),
+                packs: self.packs,
+            },
+            Production::ArgumentWithT => Behind {
+                candidate: self.type_candidate(symbol, kept, self.given(symbol, parts, 0)),
+                packs: self.packs,
+            },
             Production::TypeWithD => Behind {
                 candidate: self.type_candidate(symbol, kept, self.given(symbol, parts, 0)),
                 packs: self.packs,

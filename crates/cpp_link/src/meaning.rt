@@ -263,6 +263,26 @@ impl Linked {
             Production::Vendor => made(Node::Vendor(self.text(symbol, parts, 0)), false),
             // <type> ::= C <type>
             Production::Complex => made(Node::Complex(self.tree(symbol, parts, 0)), false),
+            // <array-type> ::= A <number> _ <element type> | A <expression> _ <element type>
+            Production::ArrayType => Meant::Given(self.given(symbol, parts, 0)),
+            // <array-type>, behind the A
+            Production::AnyArray => Meant::Given(self.given(symbol, parts, 0)),
+            // <array-type> ::= A <number> _ <element type>, behind the A
+            Production::LengthArray => made(
+                Node::Array {
+                    digits: normal(symbol, self.text(symbol, parts, 0)),
+                    element: self.tree(symbol, parts, 1),
+                },
+                false,
+            ),
+            // <array-type> ::= A <template-param> _ <element type>, behind the A
+            Production::BoundedArray => made(
+                Node::Bounded {
+                    bound: self.tree(symbol, parts, 0),
+                    element: self.tree(symbol, parts, 2),
+                },
+                false,
+            ),
             // <pointer-to-member-type> ::= M <class type> <member type>
             Production::MemberPointer => made(
                 Node::MemberPointer {
@@ -309,6 +329,14 @@ impl Linked {
                 },
                 true,
             ),
+            // <template-arg> ::= X <expression> E, with an <expression> that is read by itself
+            Production::AnyArgument => made(
+                Node::Cell {
+                    first: self.tree(symbol, parts, 0),
+                    rest: self.list(symbol, parts, 1),
+                },
+                true,
+            ),
             // <template-arg> ::= <expr-primary>, in a pack
             Production::LiteralElement => made(
                 Node::Cell {
@@ -333,6 +361,42 @@ impl Linked {
                 },
                 true,
             ),
+            // <template-arg> ::= X <expression> E, with an <expression> that is read by itself, in a pack
+            Production::AnyElement => made(
+                Node::Cell {
+                    first: self.tree(symbol, parts, 0),
+                    rest: self.list(symbol, parts, 1),
+                },
+                true,
+            ),
+            // <template-arg> ::= <type>, where the type is no parameter
+            Production::PlainArgument => tree(self.tree(symbol, parts, 0), true),
+            // <template-arg> ::= <template-param> [<template-args>] | <template-param-decl> <template-arg>
+            Production::ArgumentWithT => tree(self.tree(symbol, parts, 0), true),
+            // <template-param> ::= T_ | T <parameter number> _, behind the T
+            Production::ParameterArgument => self.applied(symbol, parts, true),
+            // <template-arg> ::= <template-param-decl> <template-arg>, behind the T
+            Production::DeclaredArgument => tree(self.tree(symbol, parts, 1), true),
+            // <template-arg> ::= <expr-primary>
+            Production::OneLiteral => Meant::Given(self.given(symbol, parts, 0)),
+            // <template-param-decl> ::= Ty
+            Production::AnyType => Meant::Given(Part::Letter(byte)),
+            // <template-param-decl> ::= Tn <type>
+            Production::ValueOf => Meant::Given(Part::Letter(byte)),
+            // <template-param-decl> ::= Tk <concept name>
+            Production::OfConcept => Meant::Given(Part::Letter(byte)),
+            // <template-param-decl> ::= Tt <template-param-decl>* E
+            Production::TemplateOf => Meant::Given(Part::Letter(byte)),
+            // <template-param-decl> ::= Tp <non-pack template-param-decl>
+            Production::PackOf => Meant::Given(Part::Letter(byte)),
+            // <template-param-decl>*
+            Production::Declarations => Meant::Given(Part::Letter(byte)),
+            // X <expression> E
+            Production::Expression => Meant::Given(self.given(symbol, parts, 0)),
+            // <expression> ::= ad <expression>, behind the a
+            Production::AddressExpression => Meant::Given(self.given(symbol, parts, 1)),
+            // <expression> ::= <template-param>
+            Production::ParameterExpression => Meant::Given(self.given(symbol, parts, 0)),
             // <type> ::= R <type>, a parameter, and those behind it
             Production::LvalueItem => items(
                 self.tree(symbol, parts, 0),

@@ -6,13 +6,14 @@ ghost use Rattle.sym_core.specs.Value.{counted_value};
 ghost use Rattle.sym_core.specs.declared.NumberKind.TheVariants as kinds;
 ghost use Rattle.sym_core.specs.declared.refusal.Refusal.TheVariants as refusals;
 ghost use Rattle.sym_link.specs.Driving.{Fails};
-ghost use Rattle.cpp_term.specs.Between.{parameter_so_far};
-ghost use Rattle.cpp_term.specs.References.{with_packs, substituted};
+ghost use Rattle.cpp_term.specs.Between.{argument_at, parameter_so_far, argument_so_far};
+ghost use Rattle.cpp_term.specs.References.{with_packs, substituted, parameter_named};
+ghost use Rattle.cpp_term.specs.Term as term;
 ghost use Rattle.cpp_term.specs.Scope.{is_open, pack_length, count, arguments_of, length_if_pack};
-ghost use Rattle.cpp_tree.specs.Nodes.{over, tree_at, bytes_at, IsWithin, arguments_are, IsArgumentsBelow, IsTable};
-ghost use Rattle.cpp_link.specs.Parts.{trees_in, is_lambda, around_of, IsKeptThere, IsStepThere};
+ghost use Rattle.cpp_tree.specs.Nodes.{over, tree_at, bytes_at, IsWithin, IsBelow, arguments_are, IsArgumentsBelow, IsTable};
+ghost use Rattle.cpp_link.specs.Parts.{trees_in, tree_of_node, is_lambda, around_of, IsKeptThere, IsStepThere};
 ghost use Rattle.cpp_link.specs.Stepping.{nodes_of_step};
-ghost use Rattle.cpp_link.specs.Reads.{packs_read, maybe_candidate, node_read, elements_of, goes_on};
+ghost use Rattle.cpp_link.specs.Reads.{packs_read, maybe_candidate, node_read, parameter_read, elements_of, goes_on};
 
 use crate::linked::Linked;
 use crate::part::{Candidate, Kept, Step};
@@ -166,13 +167,51 @@ impl Linked {
         }
     }
 
-    /// What a parameter names by these digits, and the length of the packs behind it.
+    /// The parameter of these digits with the argument that it names, and the length of the packs behind it.
     ///
     /// # Errors
     ///
     /// `BadReference` where it names no argument of the scope, or one that is a pack outside an expansion or of another length than
     /// the earlier ones.
-    #[tactic(auto, unfolding(cpp_term::specs::Between::parameter_so_far, cpp_term::specs::Between::listed_so_far, cpp_term::specs::References::parameter_named, crate::specs::Parts::around_of))]
+    #[tactic(auto, unfolding(cpp_term::specs::References::parameter_named, crate::specs::Parts::around_of, crate::specs::Reads::parameter_read))]
+    #[inline(always)]
+    fn named_parameter(
+        &self,
+        symbol: &[u8],
+        kept: Kept,
+        place: u32,
+        digits: Span,
+    ) -> Result<(Node, Option<u32>), Refusal>
+        requires table { IsTable (over symbol.now self.now.nodes) }
+        requires kept { IsKeptThere (length self.now.nodes.nodes) kept }
+        requires digits { IsWithin digits symbol.now }
+        ensures is { (cs : List values.Candidate) → parameter_named (around_of (trees_in symbol.now self.now.nodes) kept) place (counted_value kinds.Decimal (bytes_at symbol.now digits)) (record { candidates = cs; packs = self.now.packs })
+            ≡ parameter_read (around_of (trees_in symbol.now self.now.nodes) kept) symbol.now self.now.nodes cs result }
+        ensures tree { IfOk result (λ named. tree_of_node symbol.now self.now.nodes named.0 ≡ term.parameter (counted_value kinds.Decimal (bytes_at symbol.now digits)) (argument_at (around_of (trees_in symbol.now self.now.nodes) kept) (counted_value kinds.Decimal (bytes_at symbol.now digits)))) }
+        ensures there { IfOk result (λ named. IsBelow symbol.now (length self.now.nodes.thunks) (length self.now.nodes.nodes) named.0) }
+        ensures bad { IfErr result (λ e. e ≡ refusals.Memory → ⊥) }
+    {
+        let Some(scope) = kept.in_scope() else {
+            return Err(Refusal::BadReference { at: place });
+        };
+        let count = self.count(symbol, scope);
+        let counted = value10(&symbol[digits.from as usize..digits.to as usize]);
+        let Some(number) = below(counted, count) else {
+            return Err(Refusal::BadReference { at: place });
+        };
+        let argument = self.nodes.element(symbol, scope, number);
+        let own = self.length_if_pack(symbol, argument);
+        match with_packs(place, kept.in_expansion, own, self.packs) {
+            Ok(packs) => Ok((Node::Parameter { number, argument }, packs)),
+            Err(e) => Err(e),
+        }
+    }
+
+    /// What a parameter names by these digits, and the length of the packs behind it.
+    ///
+    /// # Errors
+    ///
+    /// Those of `named_parameter`.
     pub fn parameter(
         &self,
         symbol: &[u8],
@@ -190,22 +229,46 @@ impl Linked {
         ensures one { IfOk result (λ step. nodes_of_step step ≡ 1) }
         ensures bad { IfErr result (λ e. e ≡ refusals.Memory → ⊥) }
     {
-        let Some(scope) = kept.in_scope() else {
-            return Err(Refusal::BadReference { at: place });
-        };
-        let count = self.count(symbol, scope);
-        let counted = value10(&symbol[digits.from as usize..digits.to as usize]);
-        let Some(number) = below(counted, count) else {
-            return Err(Refusal::BadReference { at: place });
-        };
-        let argument = self.nodes.element(symbol, scope, number);
-        let own = self.length_if_pack(symbol, argument);
-        match with_packs(place, kept.in_expansion, own, self.packs) {
-            Ok(packs) => Ok(Step::Made {
-                node: Node::Parameter { number, argument },
+        match self.named_parameter(symbol, kept, place, digits) {
+            Ok((node, packs)) => Ok(Step::Made {
+                node,
                 listed: true,
                 is_name: true,
                 is_candidate: true,
+                packs,
+            }),
+            Err(e) => Err(e),
+        }
+    }
+
+    /// The same where the parameter is an argument itself, or the length of an array: it is no name to go on with, and no candidate.
+    ///
+    /// # Errors
+    ///
+    /// Those of `named_parameter`.
+    pub fn parameter_argument(
+        &self,
+        symbol: &[u8],
+        kept: Kept,
+        place: u32,
+        digits: Span,
+    ) -> Result<Step, Refusal>
+        requires table { IsTable (over symbol.now self.now.nodes) }
+        requires kept { IsKeptThere (length self.now.nodes.nodes) kept }
+        requires digits { IsWithin digits symbol.now }
+        ensures is { IfOk result (λ step. (v : values.Value) (cs : List values.Candidate) → argument_so_far (around_of (trees_in symbol.now self.now.nodes) kept) place (counted_value kinds.Decimal (bytes_at symbol.now digits)) (record { candidates = cs; packs = self.now.packs })
+            ≡ goes_on symbol.now self.now.nodes kept (v ∷ []) cs self.now.packs step) }
+        ensures refused { IfErr result (λ e. (cs : List values.Candidate) → Fails e (argument_so_far (around_of (trees_in symbol.now self.now.nodes) kept) place (counted_value kinds.Decimal (bytes_at symbol.now digits)) (record { candidates = cs; packs = self.now.packs }))) }
+        ensures there { IfOk result (λ step. IsStepThere symbol.now (length self.now.nodes.thunks) (length self.now.nodes.nodes) step) }
+        ensures one { IfOk result (λ step. nodes_of_step step ≡ 1) }
+        ensures bad { IfErr result (λ e. e ≡ refusals.Memory → ⊥) }
+    {
+        match self.named_parameter(symbol, kept, place, digits) {
+            Ok((node, packs)) => Ok(Step::Made {
+                node,
+                listed: true,
+                is_name: false,
+                is_candidate: false,
                 packs,
             }),
             Err(e) => Err(e),

@@ -15,13 +15,13 @@ ghost use Rattle.cpp_grammar.specs.Rescoping.{generic_number};
 ghost use Rattle.cpp_grammar.specs.Unfolding.{production_at};
 ghost use Rattle.cpp_term.specs.Term.{Term};
 ghost use Rattle.cpp_term.specs.Values as values;
-ghost use Rattle.cpp_term.specs.Rescoping.{generic_so_far, is_foreign, number_of_parameter, number_behind_mark, with_parameter, restated, substituted_wide};
+ghost use Rattle.cpp_term.specs.Rescoping.{is_foreign, number_of_parameter, number_behind_mark, with_parameter, restated, substituted_wide};
 ghost use Rattle.cpp_term.specs.Scope.{is_generic};
 ghost use Rattle.cpp_tree.specs.Nodes.{over, tree_at, tree_of, bytes_at, IsWithin, IsBelow, IsTable};
 ghost use Rattle.cpp_tree.specs.declared.node.Thunk.{Thunk};
 ghost use Rattle.cpp_link.specs.declared.part.Part.TheVariants as variants;
 ghost use Rattle.cpp_link.specs.Grows.{Grows, HasPlace};
-ghost use Rattle.cpp_link.specs.LinkRescoping.{is_parameter, is_substitution, type_behind_mark, with_meant, meant_read, named_by, restated_nodes, substituted_nodes, wide_view};
+ghost use Rattle.cpp_link.specs.LinkRescoping.{is_parameter, is_parameter_argument, generic_read, is_substitution, type_behind_mark, with_meant, meant_read, named_by, restated_nodes, substituted_nodes, wide_view};
 ghost use Rattle.cpp_link.specs.Making.{state_of};
 ghost use Rattle.cpp_link.specs.NodeCount.{makes_before};
 ghost use Rattle.cpp_link.specs.Parts.{trees_in, tree_of_node, value_in, values_in, is_lambda, around_of, candidate_of, IsThere, AreThere, IsKeptThere, IsStepThere};
@@ -31,6 +31,7 @@ ghost use Rattle.cpp_link.specs.Stepping.{IsStepOf, nodes_of_step};
 ghost use Rattle.cpp_link.specs.View as view;
 ghost use Rattle.cpp_link.specs.View.{IsPaid, IsWhole, Surrounds, cpp_view};
 
+use crate::dispatch::production_of;
 use crate::linked::Linked;
 use crate::part::{Candidate, Kept, Part, Step};
 use crate::references::with_packs;
@@ -64,6 +65,21 @@ pub fn is_parameter(production: Production) -> bool
     match production {
         Production::Parameter => true,
         Production::NestParameter => true,
+        Production::ParameterArgument => true,
+        Production::ParameterExpression => true,
+        Production::BoundedArray => true,
+        _ => false,
+    }
+}
+
+/// Whether a production is a parameter that is an argument itself, or the length of an array.
+#[tactic(auto, unfolding(crate::specs::LinkRescoping::is_parameter_argument))]
+fn is_parameter_argument(production: Production) -> bool
+    ensures { result ≡ is_parameter_argument production }
+{
+    match production {
+        Production::ParameterExpression => true,
+        Production::BoundedArray => true,
         _ => false,
     }
 }
@@ -137,19 +153,29 @@ fn with_type(node: Node, ty: u32) -> Node
 }
 
 impl Linked {
-    /// The parameter of the lambda in whose signature it stands, with these digits (ABI 5.1.8).
-    #[tactic(auto, unfolding(cpp_term::specs::Rescoping::generic_so_far, cpp_term::specs::Between::listed_so_far, crate::specs::Reads::goes_on, crate::specs::Reads::behind_first, crate::specs::Reads::named_if, crate::specs::Reads::appended_if, cpp_tree::specs::Nodes::tree_of))]
-    fn generic(&self, symbol: &[u8], kept: Kept, digits: Span) -> Step
+    /// The parameter of the lambda in whose signature it stands, with these digits (ABI 5.1.8). It may be an argument itself.
+    #[tactic(auto, unfolding(crate::specs::LinkRescoping::generic_read, cpp_term::specs::Rescoping::generic_so_far, cpp_term::specs::Between::listed_so_far, crate::specs::Reads::goes_on, crate::specs::Reads::behind_first, crate::specs::Reads::named_if, crate::specs::Reads::appended_if, cpp_tree::specs::Nodes::tree_of))]
+    fn generic(&self, symbol: &[u8], kept: Kept, digits: Span, is_argument: bool) -> Step
         requires digits { IsWithin digits symbol.now }
-        ensures is { (v : values.Value) (cs : List values.Candidate) → generic_so_far (around_of (trees_in symbol.now self.now.nodes) kept) (counted_value kinds.Decimal (bytes_at symbol.now digits)) [] (record { candidates = cs; packs = self.now.packs })
+        ensures is { (v : values.Value) (cs : List values.Candidate) → generic_read is_argument (around_of (trees_in symbol.now self.now.nodes) kept) (counted_value kinds.Decimal (bytes_at symbol.now digits)) (record { candidates = cs; packs = self.now.packs })
             ≡ goes_on symbol.now self.now.nodes kept (v ∷ []) cs self.now.packs result }
         ensures there { IsStepThere symbol.now (length self.now.nodes.thunks) (length self.now.nodes.nodes) result }
         ensures of { (production : Production-type) → is_parameter production ≡ true → IsStepOf production 1 result }
         ensures makes { (production : Production-type) (known : List values.Value) → is_parameter production ≡ true → length known ≡ 1 → nodes_of_step result ≡ makes_before production known }
     {
         let counted = value10(&symbol[digits.from as usize..digits.to as usize]);
+        let node = Node::GenericParameter(generic_number(counted));
+        if is_argument {
+            return Step::Made {
+                node,
+                listed: true,
+                is_name: false,
+                is_candidate: false,
+                packs: self.packs,
+            };
+        }
         Step::Made {
-            node: Node::GenericParameter(generic_number(counted)),
+            node,
             listed: true,
             is_name: true,
             is_candidate: true,
@@ -366,7 +392,8 @@ impl Linked {
         ensures roomy { IsRoomy self.old self.new parts.old parts.new result }
     {
         let digits = self.text(symbol, &parts[frame.base..], 0);
-        let step = self.generic(symbol, frame.kept, digits);
+        let is_argument = is_parameter_argument(production_of(frame.rule));
+        let step = self.generic(symbol, frame.kept, digits, is_argument);
         let then = self.take_step(symbol, frame.kept, frame.base, step, parts)?;
         Ok(then)
     }

@@ -224,6 +224,7 @@ impl Linked {
             Production::Guard => self.go(self.in_encoding(kept, place, None)),
             Production::OtherSpecial => self.go(self.in_encoding(kept, place, None)),
             Production::Lambda => self.go(self.in_signature(kept)),
+            Production::DeclaredArgument => self.go(self.in_signature(kept)),
             Production::Expansion => Step::Go {
                 candidate: None,
                 then: self.under_expansion(kept),
@@ -377,6 +378,9 @@ impl Linked {
         requires first { IsThere symbol.now (length self.now.nodes.nodes) first }
         requires parameter { production ≡ productions.Parameter → ⊥ }
         requires nest { production ≡ productions.NestParameter → ⊥ }
+        requires argument { production ≡ productions.ParameterArgument → ⊥ }
+        requires expression { production ≡ productions.ParameterExpression → ⊥ }
+        requires length { production ≡ productions.BoundedArray → ⊥ }
         requires pack { production ≡ productions.PackArgument → ⊥ }
         ensures is { (cs : List values.Candidate) → between production (around_of (trees_in symbol.now self.now.nodes) kept) place (value_in symbol.now self.now.nodes first ∷ []) (record { candidates = cs; packs = self.now.packs }) ≡ goes_on symbol.now self.now.nodes kept (value_in symbol.now self.now.nodes first ∷ []) cs self.now.packs result }
         ensures there { IsStepThere symbol.now (length self.now.nodes.thunks) (length self.now.nodes.nodes) result }
@@ -747,6 +751,18 @@ impl Linked {
             Production::NestParameter => {
                 let digits = self.text_in(symbol, first);
                 self.parameter(symbol, kept, place, digits)
+            }
+            Production::ParameterArgument => {
+                let digits = self.text_in(symbol, first);
+                self.parameter(symbol, kept, place.saturating_sub(1), digits)
+            }
+            Production::ParameterExpression => {
+                let digits = self.text_in(symbol, first);
+                self.parameter_argument(symbol, kept, place, digits)
+            }
+            Production::BoundedArray => {
+                let digits = self.text_in(symbol, first);
+                self.parameter_argument(symbol, kept, place, digits)
             }
             Production::PackArgument => Ok(self.pack(symbol, first)),
             _ => Ok(self.step_second(symbol, production, place, kept, first)),

@@ -3,7 +3,7 @@
 use cpp_grammar::production::Production;
 
 /// The productions.
-pub(crate) const PRODUCTIONS: [Production; 131] = [
+pub(crate) const PRODUCTIONS: [Production; 151] = [
     Production::Mark,
     Production::InternalName,
     Production::LocalTypeName,
@@ -122,6 +122,23 @@ pub(crate) const PRODUCTIONS: [Production; 131] = [
     Production::Clone,
     Production::TaggedStdType,
     Production::TypeTag,
+    Production::Expression,
+    Production::ArgumentWithT,
+    Production::PlainArgument,
+    Production::DeclaredArgument,
+    Production::ParameterArgument,
+    Production::OneLiteral,
+    Production::AnyType,
+    Production::ValueOf,
+    Production::OfConcept,
+    Production::TemplateOf,
+    Production::PackOf,
+    Production::Declarations,
+    Production::AddressExpression,
+    Production::ParameterExpression,
+    Production::AnyArray,
+    Production::BoundedArray,
+    Production::LengthArray,
     Production::OtherSpecial,
     Production::SpecialName,
     Production::ConstructionVtable,
@@ -133,12 +150,15 @@ pub(crate) const PRODUCTIONS: [Production; 131] = [
     Production::DefaultEntity,
     Production::DefaultTypeEntity,
     Production::SizedFloat,
+    Production::ArrayType,
     Production::TypeInStd,
     Production::Tag,
+    Production::AnyElement,
+    Production::AnyArgument,
 ];
 
 /// How many parts each has.
-pub(crate) const PART_COUNTS: [u8; 131] = [
+pub(crate) const PART_COUNTS: [u8; 151] = [
     0, // Mark
     2, // InternalName
     2, // LocalTypeName
@@ -257,6 +277,23 @@ pub(crate) const PART_COUNTS: [u8; 131] = [
     2, // Clone
     2, // TaggedStdType
     2, // TypeTag
+    1, // Expression
+    1, // ArgumentWithT
+    1, // PlainArgument
+    2, // DeclaredArgument
+    2, // ParameterArgument
+    2, // OneLiteral
+    0, // AnyType
+    1, // ValueOf
+    1, // OfConcept
+    2, // TemplateOf
+    2, // PackOf
+    2, // Declarations
+    2, // AddressExpression
+    2, // ParameterExpression
+    1, // AnyArray
+    3, // BoundedArray
+    2, // LengthArray
     2, // OtherSpecial
     1, // SpecialName
     4, // ConstructionVtable
@@ -268,12 +305,15 @@ pub(crate) const PART_COUNTS: [u8; 131] = [
     2, // DefaultEntity
     2, // DefaultTypeEntity
     2, // SizedFloat
+    1, // ArrayType
     1, // TypeInStd
     2, // Tag
+    2, // AnyElement
+    2, // AnyArgument
 ];
 
 /// Whether parts without a row may stand between those of each.
-pub(crate) const SKIPS_PARTS: [bool; 131] = [
+pub(crate) const SKIPS_PARTS: [bool; 151] = [
     false, // Mark
     false, // InternalName
     false, // LocalTypeName
@@ -392,6 +432,23 @@ pub(crate) const SKIPS_PARTS: [bool; 131] = [
     false, // Clone
     false, // TaggedStdType
     false, // TypeTag
+    false, // Expression
+    false, // ArgumentWithT
+    false, // PlainArgument
+    false, // DeclaredArgument
+    false, // ParameterArgument
+    false, // OneLiteral
+    false, // AnyType
+    false, // ValueOf
+    false, // OfConcept
+    false, // TemplateOf
+    true, // PackOf
+    false, // Declarations
+    true, // AddressExpression
+    false, // ParameterExpression
+    false, // AnyArray
+    true, // BoundedArray
+    false, // LengthArray
     false, // OtherSpecial
     false, // SpecialName
     true, // ConstructionVtable
@@ -403,12 +460,15 @@ pub(crate) const SKIPS_PARTS: [bool; 131] = [
     false, // DefaultEntity
     false, // DefaultTypeEntity
     false, // SizedFloat
+    false, // ArrayType
     false, // TypeInStd
     false, // Tag
+    false, // AnyElement
+    false, // AnyArgument
 ];
 
 /// Before how many of its parts nothing is done in each: before none, the first, or all, which are five at most.
-pub(crate) const QUIET_PARTS: [u8; 131] = [
+pub(crate) const QUIET_PARTS: [u8; 151] = [
     5, // Mark
     1, // InternalName
     1, // LocalTypeName
@@ -527,6 +587,23 @@ pub(crate) const QUIET_PARTS: [u8; 131] = [
     5, // Clone
     1, // TaggedStdType
     1, // TypeTag
+    5, // Expression
+    5, // ArgumentWithT
+    5, // PlainArgument
+    0, // DeclaredArgument
+    1, // ParameterArgument
+    5, // OneLiteral
+    5, // AnyType
+    5, // ValueOf
+    5, // OfConcept
+    5, // TemplateOf
+    5, // PackOf
+    5, // Declarations
+    5, // AddressExpression
+    1, // ParameterExpression
+    5, // AnyArray
+    1, // BoundedArray
+    5, // LengthArray
     0, // OtherSpecial
     5, // SpecialName
     5, // ConstructionVtable
@@ -538,6 +615,9 @@ pub(crate) const QUIET_PARTS: [u8; 131] = [
     5, // DefaultEntity
     5, // DefaultTypeEntity
     5, // SizedFloat
+    5, // ArrayType
     5, // TypeInStd
     1, // Tag
+    5, // AnyElement
+    5, // AnyArgument
 ];

@@ -1,6 +1,6 @@
 -- No two components that are compared and equal are both spelled out.
 use Rattle.std.specs.Prelude.{◌≡◌, ℕ, List, [], ◌∷◌, ◌++◌, ◌⊎◌, true, false}
-use Rattle.cpp_grammar.specs.Term.{Term, symbol, function, object, special, thunk, of_name, construction, clone, alone, in_std, within, instance, local, holder, tagged, of_default, lambda, conversion, pointer, lvalue, rvalue, array, member_pointer, function_type, qualified, vector, complex, expansion, integer, encoding_literal, address_of, pack, list}
+use Rattle.cpp_grammar.specs.Term.{Term, symbol, function, object, special, thunk, of_name, construction, clone, alone, in_std, within, instance, local, holder, tagged, of_default, lambda, conversion, pointer, lvalue, rvalue, array, bounded, member_pointer, function_type, qualified, vector, complex, expansion, integer, encoding_literal, address_of, pack, list}
 use Rattle.cpp_grammar.specs.Values.{Candidate}
 use Rattle.cpp_press_laws.specs.Texts.{name_letters}
 use Rattle.cpp_press_laws.specs.Components.{is_same}
@@ -47,6 +47,7 @@ IsNeverReferred own (pointer type) = IsNeverReferred own type
 IsNeverReferred own (lvalue type) = IsNeverReferred own type
 IsNeverReferred own (rvalue type) = IsNeverReferred own type
 IsNeverReferred own (array digits type) = IsNeverReferred own type
+IsNeverReferred own (bounded bound type) = IsNeverReferred own bound ⊎ IsNeverReferred own type
 IsNeverReferred own (member_pointer class member) = IsNeverReferred own class ⊎ IsNeverReferred own member
 IsNeverReferred own (function_type c_linkage noexcept ref returned parameters) = IsNeverReferred own returned ⊎ IsNeverReferred own parameters
 IsNeverReferred own (qualified q type) = IsNeverReferred own type

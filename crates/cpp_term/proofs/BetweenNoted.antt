@@ -4,12 +4,12 @@ use Rattle.sym_core.specs.declared.NumberKind.TheVariants.{Decimal, Seq36}
 use Rattle.sym_core.specs.Value.{counted_value}
 use Rattle.sym_link.specs.Reading.{Next}
 use Rattle.cpp_grammar.specs.declared.production.Production.{Production}
-use Rattle.cpp_grammar.specs.Rescoping.{generic_number, generic_so_far, parameter_here, substituted_wide, between_wide, close_wide}
+use Rattle.cpp_grammar.specs.Rescoping.{generic_number, generic_so_far, parameter_here, argument_here, substituted_wide, between_wide, close_wide}
 use Rattle.cpp_grammar.specs.Term.{Term, generic_parameter, in_std, instance, holder, parameter, lvalue, rvalue, source, operator, constructor, destructor}
 use Rattle.cpp_grammar.specs.Values as leaf_
 use Rattle.cpp_grammar.specs.Values.{Around, Prefix, prefix_tree, Value, State, tree_of, piece_of, is_listed, text_of, letter_of, part}
 use Rattle.cpp_grammar.specs.References.{appended, with_type, with_unqualified, with_prefix, substituted, parameter_named}
-use Rattle.cpp_grammar.specs.Between.{in_signature, under_expansion, after, inside, extended, applied, no_items, named_so_far, listed_so_far, piece_so_far, with_tag, tag_so_far, parameter_so_far, index_of, between}
+use Rattle.cpp_grammar.specs.Between.{in_signature, under_expansion, after, inside, extended, applied, no_items, named_so_far, listed_so_far, piece_so_far, with_tag, tag_so_far, next, parameter_so_far, argument_so_far, index_of, between}
 use Rattle.cpp_grammar.specs.Meaning.{meaning}
 use Rattle.cpp_grammar.specs.Unfolding as unfolding_
 use Rattle.cpp_grammar.specs.Unfolding.{close}
@@ -79,6 +79,22 @@ named_parameter : (around : Around) (x : State) (y : value_.State) (place : ℕ)
 named_parameter around x y place v packs =
     subst (λ k. Alike (Goes around x y) (parameter_so_far around place (index_of v) [] x) (between_.parameter_so_far (noted_around around) place k [] y)) (sym (index_noted (noted_scope around.scope) v))
     (parameter_goes around x y place (index_of v) packs)
+
+-- a parameter that is an argument itself leaves the candidates
+argument_goes : (around : Around) (x : State) (y : value_.State) (place k : ℕ) → y.packs ≡ x.packs → Alike (Goes around x y) (argument_so_far around place k x) (between_.argument_so_far (noted_around around) place k y)
+unfolding argument_so_far between_.argument_so_far between_.argument_at annotate argument_in noted_values noted_value noted_around
+argument_goes around x y place k packs =
+    alike_bind (Moves around x y) (Goes around x y) (parameter_named around place k x) (reference_.parameter_named (noted_around around) place k y)
+    (λ s. next (leaf_.tree (parameter k) true ∷ []) around (record s { candidates = x.candidates }))
+    (λ s. between_.next (value_.tree (term_.parameter k (argument_in (noted_scope around.scope) k)) true ∷ []) (noted_around around) (record s { candidates = y.candidates }))
+    (parameter_noted around place k x y packs)
+    (λ a b h m. record { values = refl; context = refl; moves = moves_none around x (record a { candidates = x.candidates }) y (record b { candidates = y.candidates }) refl refl m.packs; scope = inl (refl, refl) })
+
+named_argument : (around : Around) (x : State) (y : value_.State) (place : ℕ) (v : Value) → y.packs ≡ x.packs →
+    Alike (Goes around x y) (argument_so_far around place (index_of v) x) (between_.argument_so_far (noted_around around) place (between_.index_of (noted_value (noted_scope around.scope) v)) y)
+named_argument around x y place v packs =
+    subst (λ k. Alike (Goes around x y) (argument_so_far around place (index_of v) x) (between_.argument_so_far (noted_around around) place k y)) (sym (index_noted (noted_scope around.scope) v))
+    (argument_goes around x y place (index_of v) packs)
 
 inside_goes : (around : Around) (x : State) (y : value_.State) → y.packs ≡ x.packs →
     Goes around x y (record { context = inside around; values = []; state = with_prefix around x }) (record { context = between_.inside (noted_around around); values = []; state = reference_.with_prefix (noted_around around) y })
@@ -182,6 +198,10 @@ between_noted Production.PackArgument around place (v ∷ []) x y stays packs = 
 between_noted Production.Lambda around place vs x y stays packs = signature_goes around x y vs packs
 between_noted Production.Expansion around place vs x y stays packs = expansion_goes around x y vs
 between_noted Production.Parameter around place (v ∷ []) x y stays packs = named_parameter around x y place v packs
+between_noted Production.ParameterArgument around place (v ∷ []) x y stays packs = named_parameter around x y (place - 1) v packs
+between_noted Production.DeclaredArgument around place [] x y stays packs = signature_goes around x y [] packs
+between_noted Production.ParameterExpression around place (v ∷ []) x y stays packs = named_argument around x y place v packs
+between_noted Production.BoundedArray around place (v ∷ []) x y stays packs = named_argument around x y place v packs
 between_noted Production.TypeWithS around place (v ∷ []) x y stays packs = listed_goes around x y v packs
 between_noted Production.LvalueItem around place (v ∷ []) x y stays packs = record {
   values = ap (λ t. value_.tree (term_.lvalue t) true ∷ []) (tree_noted (noted_scope around.scope) v);
@@ -226,6 +246,8 @@ behind_noted Production.VolatileType byte around began first vs x y packs e = ma
 behind_noted Production.ConstType byte around began first vs x y packs e = made_moves Production.ConstType byte around vs x y tt packs
 behind_noted Production.ReferenceType byte around began first vs x y packs e = made_moves Production.ReferenceType byte around vs x y tt packs
 behind_noted Production.PlainType byte around began first vs x y packs e = part_moves around vs x y packs
+behind_noted Production.PlainArgument byte around began first vs x y packs e = part_moves around vs x y packs
+behind_noted Production.ArgumentWithT byte around began first vs x y packs e = part_moves around vs x y packs
 behind_noted Production.TypeWithD byte around began first vs x y packs e = part_moves around vs x y packs
 behind_noted Production.ItemWithD byte around began first vs x y packs e = part_moves around vs x y packs
 behind_noted Production.QualifiedPlain byte around began first vs x y packs e = plain_moves around vs x y packs
@@ -269,6 +291,28 @@ here_goes around x y place v packs = go around.in_lambda
     go true = subst (λ k. Alike (Goes around x y) (generic_so_far around (index_of v) [] x) (wide_.generic_so_far (noted_around around) k [] y)) (sym (index_noted s v)) (generic_goes around x y (index_of v) packs)
     go false = named_parameter around x y place v packs
 
+generic_argument_goes : (around : Around) (x : State) (y : value_.State) (k : ℕ) → y.packs ≡ x.packs →
+    Alike (Goes around x y) (next (leaf_.tree (generic_parameter (generic_number k)) true ∷ []) around x) (between_.next (value_.tree (term_.generic_parameter (generic_number k)) true ∷ []) (noted_around around) y)
+unfolding annotate noted_values noted_value
+generic_argument_goes around x y k packs = record { values = refl; context = refl; moves = moves_none around x x y y refl refl packs; scope = inl (refl, refl) }
+
+argument_here_goes : (around : Around) (x : State) (y : value_.State) (place : ℕ) (v : Value) → y.packs ≡ x.packs →
+    Alike (Goes around x y) (argument_here around place (index_of v) x) (wide_.argument_here (noted_around around) place (between_.index_of (noted_value (noted_scope around.scope) v)) y)
+unfolding argument_here wide_.argument_here noted_around
+argument_here_goes around x y place v packs = go around.in_lambda
+  where
+    s : Option term_.Term
+    s = noted_scope around.scope
+
+    own : ℕ → between_.Going
+    own k = between_.next (value_.tree (term_.generic_parameter (generic_number k)) true ∷ []) (noted_around around) y
+
+    go : (b : Bool) → Alike (Goes around x y)
+        (elim b [ true ↦ next (leaf_.tree (generic_parameter (generic_number (index_of v))) true ∷ []) around x | false ↦ argument_so_far around place (index_of v) x ])
+        (elim b [ true ↦ own (between_.index_of (noted_value s v)) | false ↦ between_.argument_so_far (noted_around around) place (between_.index_of (noted_value s v)) y ])
+    go true = subst (λ k. Alike (Goes around x y) (next (leaf_.tree (generic_parameter (generic_number (index_of v))) true ∷ []) around x) (own k)) (sym (index_noted s v)) (generic_argument_goes around x y (index_of v) packs)
+    go false = named_argument around x y place v packs
+
 pub wide_between_noted : (production : Production) (around : Around) (place : ℕ) (vs : List Value) (x : State) (y : value_.State) → StaysInside production → y.packs ≡ x.packs →
     Alike (Goes around x y) (between_wide production around place vs x) (wide_.between_wide production (noted_around around) place (noted_values (noted_scope around.scope) vs) y)
 unfolding between_wide wide_.between_wide noted_values
@@ -278,6 +322,15 @@ wide_between_noted Production.Parameter around place (v ∷ w ∷ vs) x y stays 
 wide_between_noted Production.NestParameter around place [] x y stays packs = between_noted Production.NestParameter around place [] x y stays packs
 wide_between_noted Production.NestParameter around place (v ∷ []) x y stays packs = here_goes around x y place v packs
 wide_between_noted Production.NestParameter around place (v ∷ w ∷ vs) x y stays packs = between_noted Production.NestParameter around place (v ∷ w ∷ vs) x y stays packs
+wide_between_noted Production.ParameterArgument around place [] x y stays packs = between_noted Production.ParameterArgument around place [] x y stays packs
+wide_between_noted Production.ParameterArgument around place (v ∷ []) x y stays packs = here_goes around x y (place - 1) v packs
+wide_between_noted Production.ParameterArgument around place (v ∷ w ∷ vs) x y stays packs = between_noted Production.ParameterArgument around place (v ∷ w ∷ vs) x y stays packs
+wide_between_noted Production.ParameterExpression around place [] x y stays packs = between_noted Production.ParameterExpression around place [] x y stays packs
+wide_between_noted Production.ParameterExpression around place (v ∷ []) x y stays packs = argument_here_goes around x y place v packs
+wide_between_noted Production.ParameterExpression around place (v ∷ w ∷ vs) x y stays packs = between_noted Production.ParameterExpression around place (v ∷ w ∷ vs) x y stays packs
+wide_between_noted Production.BoundedArray around place [] x y stays packs = between_noted Production.BoundedArray around place [] x y stays packs
+wide_between_noted Production.BoundedArray around place (v ∷ []) x y stays packs = argument_here_goes around x y place v packs
+wide_between_noted Production.BoundedArray around place (v ∷ w ∷ vs) x y stays packs = between_noted Production.BoundedArray around place (v ∷ w ∷ vs) x y stays packs
 wide_between_noted p around place vs x y stays packs = between_noted p around place vs x y stays packs
 
 pub wide_close_noted : (production : Production) (byte : ℕ) (around : Around) (place : ℕ) (began : State) (first : value_.State) (vs : List Value) (x : State) (y : value_.State) → Inside production vs →

@@ -148,6 +148,9 @@ unfolding has_encoding is_encoding parts_of number_of_kind is_reference
 encodings_apart Production.Parameter h = absurd (false≢true h)
 encodings_apart Production.NestParameter h = absurd (false≢true h)
 encodings_apart Production.Substitution h = absurd (false≢true h)
+encodings_apart Production.ParameterArgument h = absurd (false≢true h)
+encodings_apart Production.ParameterExpression h = absurd (false≢true h)
+encodings_apart Production.BoundedArray h = absurd (false≢true h)
 encodings_apart _ h = refl
 
 abbrev Encodings : List Sym → List Value → Type 0

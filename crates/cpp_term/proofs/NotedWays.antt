@@ -64,6 +64,9 @@ plain_between : (p : Production) → is_reference p ≡ false → (around : Arou
 unfolding is_reference between_wide
 plain_between Production.Parameter apart around place vs state = absurd (true≢false apart)
 plain_between Production.NestParameter apart around place vs state = absurd (true≢false apart)
+plain_between Production.ParameterArgument apart around place vs state = absurd (true≢false apart)
+plain_between Production.ParameterExpression apart around place vs state = absurd (true≢false apart)
+plain_between Production.BoundedArray apart around place vs state = absurd (true≢false apart)
 plain_between _ apart around place vs state = refl
 
 plain_close : (p : Production) → is_reference p ≡ false → (byte : ℕ) (around : Around) (place : ℕ) (began : State) (vs : List Value) (state : State) →

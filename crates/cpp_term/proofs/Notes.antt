@@ -1,7 +1,7 @@
 -- What annotating keeps.
 use Rattle.std.proofs.Common.{◌≡◌, refl, ap, ◌∙◌, ℕ, zero, suc, Bool, true, false, ◌||◌, ◌&&◌, Option, Some, None}
 use Rattle.std.proofs.lemmas.Bool.{true≢false}
-use Rattle.cpp_grammar.specs.Term.{Term, alone, in_std, within, instance, local, holder, tagged, of_default, parameter, lambda, conversion, pointer, lvalue, rvalue, array, member_pointer, function_type, qualified, vector, complex, expansion, integer, pack, list, absent}
+use Rattle.cpp_grammar.specs.Term.{Term, alone, in_std, within, instance, local, holder, tagged, of_default, parameter, lambda, conversion, pointer, lvalue, rvalue, array, bounded, member_pointer, function_type, qualified, vector, complex, expansion, integer, pack, list, absent}
 use Rattle.cpp_grammar.specs.Scope.{count, element, arguments_of, is_open, is_generic, first_of, length_if_pack, pack_length}
 use Rattle.cpp_grammar.specs.Items.{Context, indexed, argument, Head, lref, collapsed, head_with, head_closed, head, packs_of, is_none_of, is_empty}
 use Rattle.cpp_grammar.specs.References.{packs_in}
@@ -65,6 +65,7 @@ open_noted s (pointer t) = open_noted s t
 open_noted s (lvalue t) = open_noted s t
 open_noted s (rvalue t) = open_noted s t
 open_noted s (array digits t) = open_noted s t
+open_noted s (bounded bound t) = both (λ x y. x || y) (open_noted s bound) (open_noted s t)
 open_noted s (member_pointer class t) = both (λ x y. x || y) (open_noted s class) (open_noted s t)
 open_noted s (function_type c_linkage noexcept ref returned parameters) = both (λ x y. x || y) (open_noted s returned) (open_noted s parameters)
 open_noted s (qualified q t) = open_noted s t
@@ -92,6 +93,7 @@ generic_noted s (pointer t) = generic_noted s t
 generic_noted s (lvalue t) = generic_noted s t
 generic_noted s (rvalue t) = generic_noted s t
 generic_noted s (array digits t) = generic_noted s t
+generic_noted s (bounded bound t) = both (λ x y. x || y) (generic_noted s bound) (generic_noted s t)
 generic_noted s (member_pointer class t) = both (λ x y. x || y) (generic_noted s class) (generic_noted s t)
 generic_noted s (function_type c_linkage noexcept ref returned parameters) = both (λ x y. x || y) (generic_noted s returned) (generic_noted s parameters)
 generic_noted s (qualified q t) = generic_noted s t
@@ -129,6 +131,7 @@ closed_noted s r (pointer t) e = ap term_.pointer (closed_noted s r t e)
 closed_noted s r (lvalue t) e = ap term_.lvalue (closed_noted s r t e)
 closed_noted s r (rvalue t) e = ap term_.rvalue (closed_noted s r t e)
 closed_noted s r (array digits t) e = ap (term_.array digits) (closed_noted s r t e)
+closed_noted s r (bounded bound t) e = both term_.bounded (closed_noted s r bound (or_left (is_open bound) (is_open t) e)) (closed_noted s r t (or_right (is_open bound) (is_open t) e))
 closed_noted s r (member_pointer class t) e = both term_.member_pointer (closed_noted s r class (or_left (is_open class) (is_open t) e)) (closed_noted s r t (or_right (is_open class) (is_open t) e))
 closed_noted s r (function_type c_linkage noexcept ref returned parameters) e = both (term_.function_type c_linkage noexcept ref) (closed_noted s r returned (or_left (is_open returned) (is_open parameters) e)) (closed_noted s r parameters (or_right (is_open returned) (is_open parameters) e))
 closed_noted s r (qualified q t) e = ap (term_.qualified q) (closed_noted s r t e)
@@ -165,6 +168,7 @@ pack_none (pointer t) = pack_none t
 pack_none (lvalue t) = pack_none t
 pack_none (rvalue t) = pack_none t
 pack_none (array digits t) = pack_none t
+pack_none (bounded bound t) = both first_of (pack_none bound) (pack_none t)
 pack_none (member_pointer class t) = both first_of (pack_none class) (pack_none t)
 pack_none (function_type c_linkage noexcept ref returned parameters) = both first_of (pack_none returned) (pack_none parameters)
 pack_none (qualified q t) = pack_none t
@@ -193,6 +197,7 @@ pack_some all (pointer t) = pack_some all t
 pack_some all (lvalue t) = pack_some all t
 pack_some all (rvalue t) = pack_some all t
 pack_some all (array digits t) = pack_some all t
+pack_some all (bounded bound t) = both first_of (pack_some all bound) (pack_some all t)
 pack_some all (member_pointer class t) = both first_of (pack_some all class) (pack_some all t)
 pack_some all (function_type c_linkage noexcept ref returned parameters) = both first_of (pack_some all returned) (pack_some all parameters)
 pack_some all (qualified q t) = pack_some all t

@@ -4,7 +4,7 @@ use Prim.Native.String.{String}
 use Rattle.sym_print.specs.declared.detail.Detail.{Detail}
 use Rattle.sym_print.specs.Details.{has_arguments, has_parameters}
 use Rattle.sym_print.specs.Unfold.{PartOf, text, sub}
-use Rattle.cpp_grammar.specs.Term.{Qualifiers, RefQualifier, Signed, Term, symbol, function, object, of_name, alone, in_std, within, instance, local, holder, tagged, of_default, abbreviation, parameter, source, operator, constructor, destructor, lambda, builtin, sized_float, pointer, lvalue, rvalue, array, member_pointer, function_type, qualified, expansion, integer, pack, nil, list, absent}
+use Rattle.cpp_grammar.specs.Term.{Qualifiers, RefQualifier, Signed, Term, symbol, function, object, of_name, alone, in_std, within, instance, local, holder, tagged, of_default, abbreviation, parameter, source, operator, constructor, destructor, lambda, builtin, sized_float, pointer, lvalue, rvalue, array, bounded, member_pointer, function_type, qualified, expansion, integer, pack, nil, list, absent}
 use Rattle.cpp_grammar.specs.Scope.{arguments_of, without_tags}
 use Rattle.cpp_grammar.specs.Items.{Form, root, full, bare, left, right, low, base, piece, first, more, expand, Context, Item, closed, argument, head, is_reference, is_funarr, packs_of, is_empty}
 use Rattle.cpp_grammar.specs.Parts as leaf_
@@ -182,6 +182,7 @@ left_noted d c (pointer t) = marked_noted c t "*"
 left_noted d c (lvalue t) = reference_noted c low t "&"
 left_noted d c (rvalue t) = reference_noted c left t "&&"
 left_noted d c (array digits t) = array_noted c t
+left_noted d c (bounded bound t) = array_noted c t
 left_noted d c (member_pointer class t) = member_noted c class t
 left_noted d c (qualified q t) = qualified_noted c q t
 left_noted d c (expansion pattern) = ap (part_.expansion_parts (noted_context c) (annotate (at c) pattern)) (packs_of_noted c pattern) ∙ expansion_noted c pattern (packs_of c pattern)

@@ -1,7 +1,7 @@
 -- What is printed: a tree in a form and a context, and what must be known of it: heads of types, packs, empty elements.
 use Rattle.std.specs.Prelude.{ℕ, Bool, true, false, ◌&&◌, Option, Some, None}
 use Rattle.cpp_grammar.specs.Items.{Form, Head, plain_head, funarr, lref, rref, collapsed, is_none_of}
-use Rattle.cpp_term.specs.Term.{Term, parameter, lvalue, rvalue, array, function_type, qualified, expansion, pack, nil, list}
+use Rattle.cpp_term.specs.Term.{Term, parameter, lvalue, rvalue, array, bounded, function_type, qualified, expansion, pack, nil, list}
 use Rattle.cpp_term.specs.Scope.{element, pack_length}
 
 -- ## Items
@@ -50,6 +50,7 @@ class_of (parameter k (pack elements)) = of_element elements
 class_of (parameter k a) = class_of a
 class_of (function_type c_linkage noexcept ref returned parameters) = known funarr
 class_of (array digits t) = known funarr
+class_of (bounded bound t) = known funarr
 class_of _ = known plain_head
 
 -- without an index a pack has no head

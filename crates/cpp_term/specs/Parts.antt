@@ -5,7 +5,7 @@ use Rattle.sym_print.specs.declared.detail.Detail.{Detail}
 use Rattle.sym_print.specs.Details.{has_arguments, has_parameters}
 use Rattle.sym_print.specs.Unfold.{PartOf, text, sub}
 use Rattle.cpp_grammar.specs.Texts.{same_bytes, look_up, builtin_texts, operator_texts, abbreviation_texts, special_texts, named_special_texts, literal_endings}
-use Rattle.cpp_term.specs.Term.{Term, symbol, function, object, special, thunk, of_name, construction, clone, alone, in_std, within, instance, local, holder, tagged, of_default, abbreviation, parameter, source, operator, literal_operator, constructor, destructor, lambda, unnamed, string_literal, conversion, builtin, sized_float, generic_parameter, vendor, pointer, lvalue, rvalue, array, member_pointer, function_type, qualified, vector, complex, expansion, integer, boolean, null_pointer, encoding_literal, address_of, pack, nil, list, absent}
+use Rattle.cpp_term.specs.Term.{Term, symbol, function, object, special, thunk, of_name, construction, clone, alone, in_std, within, instance, local, holder, tagged, of_default, abbreviation, parameter, source, operator, literal_operator, constructor, destructor, lambda, unnamed, string_literal, conversion, builtin, sized_float, generic_parameter, vendor, pointer, lvalue, rvalue, array, bounded, member_pointer, function_type, qualified, vector, complex, expansion, integer, boolean, null_pointer, encoding_literal, address_of, pack, nil, list, absent}
 use Rattle.cpp_grammar.specs.Term.{Qualifiers, RefQualifier, Signed}
 use Rattle.cpp_term.specs.Scope.{without_tags}
 use Rattle.cpp_term.specs.Items.{Context, Item, closed, argument, head, packs_of, is_empty}
@@ -167,6 +167,7 @@ left_parts d context (pointer t) = marked_parts context t "*"
 left_parts d context (lvalue t) = reference_parts context low t "&"
 left_parts d context (rvalue t) = reference_parts context left t "&&"
 left_parts d context (array digits t) = array_left context t
+left_parts d context (bounded bound t) = array_left context t
 left_parts d context (function_type c_linkage noexcept ref returned parameters) = as_item left context returned ∷ says " " ∷ []
 left_parts d context (member_pointer class t) = member_parts context class t
 left_parts d context (qualified q t) = qualified_left context q t
@@ -211,6 +212,7 @@ right_parts context (lvalue t) = closing_right context t
 right_parts context (rvalue t) = closing_right context t
 right_parts context (member_pointer class t) = closing_right context t
 right_parts context (array digits t) = (says "[" ∷ text_part digits) ++ (says "]" ∷ as_item right context t ∷ [])
+right_parts context (bounded bound t) = says "[" ∷ as_item left context bound ∷ says "]" ∷ as_item right context t ∷ []
 right_parts context (function_type c_linkage noexcept ref returned parameters) = function_right context [] ref noexcept returned parameters
 right_parts context (qualified q t) = qualified_right context q t
 right_parts context (vector digits t) = as_item right context t ∷ []

@@ -1,7 +1,7 @@
 -- A rank of items that falls from each item to its parts, so that printing ends.
 use Rattle.std.specs.Prelude.{ℕ, ◌+◌, ◌-◌}
 use Rattle.cpp_grammar.specs.Ranks.{or_none}
-use Rattle.cpp_term.specs.Term.{Term, symbol, function, object, special, thunk, of_name, construction, clone, alone, in_std, within, instance, local, holder, tagged, of_default, parameter, lambda, conversion, pointer, lvalue, rvalue, array, member_pointer, function_type, qualified, generic_parameter, vector, complex, expansion, integer, encoding_literal, address_of, pack, list}
+use Rattle.cpp_term.specs.Term.{Term, symbol, function, object, special, thunk, of_name, construction, clone, alone, in_std, within, instance, local, holder, tagged, of_default, parameter, lambda, conversion, pointer, lvalue, rvalue, array, bounded, member_pointer, function_type, qualified, generic_parameter, vector, complex, expansion, integer, encoding_literal, address_of, pack, list}
 use Rattle.cpp_term.specs.Scope.{pack_length}
 use Rattle.cpp_grammar.specs.Items.{Form, expand}
 use Rattle.cpp_term.specs.Items.{Context, Item}
@@ -37,6 +37,7 @@ weight (pointer t) = 1 + weight t
 weight (lvalue t) = 1 + weight t
 weight (rvalue t) = 1 + weight t
 weight (array digits t) = 1 + weight t
+weight (bounded bound t) = 1 + weight bound + weight t
 weight (member_pointer class t) = 1 + weight class + weight t
 weight (function_type c_linkage noexcept ref returned parameters) = 1 + weight returned + weight parameters
 weight (qualified q t) = 1 + weight t

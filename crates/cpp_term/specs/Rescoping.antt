@@ -14,7 +14,7 @@ use Rattle.cpp_term.specs.Term.{Term, parameter, generic_parameter, pointer, lva
 use Rattle.cpp_term.specs.Scope.{count, element, is_open, is_generic, length_if_pack}
 use Rattle.cpp_term.specs.Values.{Candidate, State, Around, Value, nothing_there, tree, text, text_of, part}
 use Rattle.cpp_term.specs.References.{appended, with_packs, substituted}
-use Rattle.cpp_term.specs.Between.{Going, listed_so_far, parameter_so_far, index_of, between}
+use Rattle.cpp_term.specs.Between.{Going, next, listed_so_far, parameter_so_far, argument_so_far, index_of, between}
 use Rattle.cpp_term.specs.Unfolding.{opening, close, first_around, first_state, first_tree}
 use Rattle.cpp_grammar.specs.Unfolding.{production_at, byte_of}
 use Rattle.cpp_grammar.specs.Rescoping.{generic_number}
@@ -30,6 +30,13 @@ unfoldable pub parameter_here : Around → (place : ℕ) → ℕ → List Value 
 parameter_here around place k vs state = elim around.in_lambda [
   | true ↦ generic_so_far around k vs state
   | false ↦ parameter_so_far around place k vs state
+]
+
+-- so is a parameter that is an argument itself, or the length of an array, which is no candidate
+unfoldable pub argument_here : Around → (place : ℕ) → ℕ → State → Going
+argument_here around place k state = elim around.in_lambda [
+  | true ↦ next (tree (generic_parameter (generic_number k)) true ∷ []) around state
+  | false ↦ argument_so_far around place k state
 ]
 
 -- ## Substitutions
@@ -94,6 +101,9 @@ substituted_wide around place (Some c) state = elim (is_foreign around c) [
 unfoldable pub between_wide : Production → Around → (place : ℕ) → List Value → State → Going
 between_wide Production.Parameter around place (v ∷ []) state = parameter_here around place (index_of v) [] state
 between_wide Production.NestParameter around place (v ∷ []) state = parameter_here around place (index_of v) [] state
+between_wide Production.ParameterArgument around place (v ∷ []) state = parameter_here around (place - 1) (index_of v) [] state
+between_wide Production.ParameterExpression around place (v ∷ []) state = argument_here around place (index_of v) state
+between_wide Production.BoundedArray around place (v ∷ []) state = argument_here around place (index_of v) state
 between_wide production around place vs state = between production around place vs state
 
 unfoldable pub close_wide : Production → (byte : ℕ) → Around → (place : ℕ) → (began : State) → List Value → State → Result (Found Value State) Refusal

@@ -52,6 +52,8 @@ pub data Term : Type 0 where
   lvalue : Term → Term
   rvalue : Term → Term
   array : (digits : List ℕ) → (element : Term) → Term
+  -- an array whose length is a parameter
+  bounded : (bound element : Term) → Term
   member_pointer : (class member : Term) → Term
   function_type : (c_linkage noexcept : Bool) → RefQualifier → (returned parameters : Term) → Term
   qualified : Qualifiers → Term → Term

@@ -134,6 +134,7 @@ pub record IsOther (n : Node) : Type 0 where
   pub not_lvalue : (i : ℕ) → n ≡ Node.Lvalue i → ⊥
   pub not_rvalue : (i : ℕ) → n ≡ Node.Rvalue i → ⊥
   pub not_array : (d : Span) (i : ℕ) → n ≡ Node.Array d i → ⊥
+  pub not_bounded : (i : ℕ) (j : ℕ) → n ≡ Node.Bounded i j → ⊥
   pub not_memberpointer : (i : ℕ) (j : ℕ) → n ≡ Node.MemberPointer i j → ⊥
   pub not_functiontype : (x : Bool) (y : Bool) (m : Mark) (i : ℕ) (j : ℕ) → n ≡ Node.FunctionType x y m i j → ⊥
   pub not_qualified : (q : Qualifiers) (i : ℕ) → n ≡ Node.Qualified q i → ⊥
@@ -162,6 +163,7 @@ other-node ns (Node.Pointer i) other = absurd (other.not_pointer i refl)
 other-node ns (Node.Lvalue i) other = absurd (other.not_lvalue i refl)
 other-node ns (Node.Rvalue i) other = absurd (other.not_rvalue i refl)
 other-node ns (Node.Array d i) other = absurd (other.not_array d i refl)
+other-node ns (Node.Bounded i j) other = absurd (other.not_bounded i j refl)
 other-node ns (Node.MemberPointer i j) other = absurd (other.not_memberpointer i j refl)
 other-node ns (Node.FunctionType x y m i j) other = absurd (other.not_functiontype x y m i j refl)
 other-node ns (Node.Qualified q i) other = absurd (other.not_qualified q i refl)

@@ -45,6 +45,7 @@ module _ (y : Table) (table : IsTable y) where
   node-open (Node.Lvalue t) b = at t b
   node-open (Node.Rvalue t) b = at t b
   node-open (Node.Array digits t) b = at t b.1
+  node-open (Node.Bounded bound t) b = rw (at bound b.0, at t b.1) refl
   node-open (Node.MemberPointer class t) b = rw (at class b.0, at t b.1) refl
   node-open (Node.FunctionType c n m returned parameters) b = rw (at returned b.0, at parameters b.1) refl
   node-open (Node.Qualified q t) b = at t b
@@ -79,6 +80,7 @@ module _ (y : Table) (table : IsTable y) where
   node-generic (Node.Lvalue t) b = generic-at t b
   node-generic (Node.Rvalue t) b = generic-at t b
   node-generic (Node.Array digits t) b = generic-at t b.1
+  node-generic (Node.Bounded bound t) b = rw (generic-at bound b.0, generic-at t b.1) refl
   node-generic (Node.MemberPointer class t) b = rw (generic-at class b.0, generic-at t b.1) refl
   node-generic (Node.FunctionType c n m returned parameters) b = rw (generic-at returned b.0, generic-at parameters b.1) refl
   node-generic (Node.Qualified q t) b = generic-at t b
@@ -221,6 +223,7 @@ module _ (y : Table) (table : IsTable y) where
   node-pack (Node.Lvalue t) b = pack-at t b
   node-pack (Node.Rvalue t) b = pack-at t b
   node-pack (Node.Array digits t) b = pack-at t b.1
+  node-pack (Node.Bounded bound t) b = rw (pack-at bound b.0, pack-at t b.1) refl
   node-pack (Node.MemberPointer class t) b = rw (pack-at class b.0, pack-at t b.1) refl
   node-pack (Node.FunctionType c n m returned parameters) b = rw (pack-at returned b.0, pack-at parameters b.1) refl
   node-pack (Node.Qualified q t) b = pack-at t b

@@ -1,9 +1,9 @@
 -- What a tree has beside its production: numbers, texts and the trees of its parts. The productions are constants of the code.
 use Rattle.std.specs.Prelude.{ℕ, ◌+◌, ◌*◌, List, [], ◌∷◌, ◌-◌, ◌++◌, Bool, true, false, ◌==◌, ◌||◌, nat_lt, if◌then◌else◌, cond, get_or, Option, Some, None}
-use Rattle.cpp_grammar.specs.Term.{Qualifiers, RefQualifier, any_value, lvalue_only, rvalue_only, Signed, non_virtual, by_table, Thunk, adjusting, covariant, Term, symbol, function, object, special, thunk, of_name, construction, clone, alone, in_std, within, instance, local, holder, tagged, of_default, abbreviation, parameter, source, operator, literal_operator, constructor, destructor, lambda, unnamed, string_literal, conversion, builtin, sized_float, generic_parameter, vendor, pointer, lvalue, rvalue, array, member_pointer, function_type, qualified, vector, complex, expansion, integer, boolean, null_pointer, encoding_literal, address_of, pack, nil, list, absent}
+use Rattle.cpp_grammar.specs.Term.{Qualifiers, RefQualifier, any_value, lvalue_only, rvalue_only, Signed, non_virtual, by_table, Thunk, adjusting, covariant, Term, symbol, function, object, special, thunk, of_name, construction, clone, alone, in_std, within, instance, local, holder, tagged, of_default, abbreviation, parameter, source, operator, literal_operator, constructor, destructor, lambda, unnamed, string_literal, conversion, builtin, sized_float, generic_parameter, vendor, pointer, lvalue, rvalue, array, bounded, member_pointer, function_type, qualified, vector, complex, expansion, integer, boolean, null_pointer, encoding_literal, address_of, pack, nil, list, absent}
 use Rattle.cpp_tree.specs.declared.view.Names.{Names}
 use Rattle.cpp_tree.specs.declared.view.TheConstants.{ALONE, IN_STD, NESTED}
-use Rattle.cpp_tree.specs.declared.tree_production.TheConstants.{ABSENT, NIL, LIST, SYMBOL, FUNCTION, OBJECT, SPECIAL, GUARD, OF_NAME, CONSTRUCTION, CLONE, THUNK, TABLE_THUNK, COVARIANT_THUNK, WIDE_THUNK, INSTANCE, LOCAL, NUMBERED_LOCAL, HOLDER, TAGGED, OF_DEFAULT, ABBREVIATION, PARAMETER, BUILTIN, BUILTIN_WITH_D, SIZED_FLOAT, GENERIC_PARAMETER, VENDOR, POINTER, LVALUE, RVALUE, ARRAY, MEMBER_POINTER, FUNCTION_TYPE, QUALIFIED, VECTOR, COMPLEX, EXPANSION, INTEGER, BOOLEAN, NULL_POINTER, ENCODING_LITERAL, ADDRESS_OF, PACK, NO_NODE}
+use Rattle.cpp_tree.specs.declared.tree_production.TheConstants.{ABSENT, NIL, LIST, SYMBOL, FUNCTION, OBJECT, SPECIAL, GUARD, OF_NAME, CONSTRUCTION, CLONE, THUNK, TABLE_THUNK, COVARIANT_THUNK, WIDE_THUNK, INSTANCE, LOCAL, NUMBERED_LOCAL, HOLDER, TAGGED, OF_DEFAULT, ABBREVIATION, PARAMETER, BUILTIN, BUILTIN_WITH_D, SIZED_FLOAT, GENERIC_PARAMETER, BOUNDED, VENDOR, POINTER, LVALUE, RVALUE, ARRAY, MEMBER_POINTER, FUNCTION_TYPE, QUALIFIED, VECTOR, COMPLEX, EXPANSION, INTEGER, BOOLEAN, NULL_POINTER, ENCODING_LITERAL, ADDRESS_OF, PACK, NO_NODE}
 
 -- a production, its two numbers, the bytes of its two texts, and the trees of its parts
 pub record Fields : Type 0 where
@@ -108,6 +108,7 @@ fields_of (pointer type) = fields POINTER 0 0 [] (type ∷ [])
 fields_of (lvalue type) = fields LVALUE 0 0 [] (type ∷ [])
 fields_of (rvalue type) = fields RVALUE 0 0 [] (type ∷ [])
 fields_of (array digits element) = fields ARRAY 0 0 digits (element ∷ [])
+fields_of (bounded bound element) = fields BOUNDED 0 0 [] (bound ∷ element ∷ [])
 fields_of (member_pointer class member) = fields MEMBER_POINTER 0 0 [] (class ∷ member ∷ [])
 fields_of (function_type c_linkage noexcept mark returned parameters) =
     fields FUNCTION_TYPE (linkage_number c_linkage noexcept) (mark_number mark) [] (returned ∷ parameters ∷ [])
@@ -237,6 +238,7 @@ narrow_tree_from given = tree_at given.production (
     ∷ (LVALUE, lvalue (part_in given 0))
     ∷ (RVALUE, rvalue (part_in given 0))
     ∷ (ARRAY, array (text_in given 0) (part_in given 0))
+    ∷ (BOUNDED, bounded (part_in given 0) (part_in given 1))
     ∷ (MEMBER_POINTER, member_pointer (part_in given 0) (part_in given 1))
     ∷ (FUNCTION_TYPE, function_type (c_linkage_in (number_in given 0)) (noexcept_in (number_in given 0)) (mark_in (number_in given 1)) (part_in given 0) (part_in given 1))
     ∷ (QUALIFIED, qualified (qualifiers_in (number_in given 0)) (part_in given 0))

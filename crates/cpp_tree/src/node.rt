@@ -182,6 +182,11 @@ pub enum Node {
         digits: Span,
         element: u32,
     },
+    /// An array whose length is a parameter.
+    Bounded {
+        bound: u32,
+        element: u32,
+    },
     MemberPointer {
         class: u32,
         member: u32,

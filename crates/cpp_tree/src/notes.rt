@@ -395,6 +395,12 @@ impl Nodes {
             Node::Lvalue(ty) => self.noted_type(node, ty, Words::Lvalue),
             Node::Rvalue(ty) => self.noted_rvalue(node, ty),
             Node::Array { element, .. } => self.noted_type(node, element, Words::FunctionOrArray),
+            Node::Bounded { bound, element } => self.noted_types(
+                node,
+                bound,
+                element,
+                Words::FunctionOrArray,
+            ),
             Node::MemberPointer { class, member } => self.noted_types(
                 node,
                 class,

@@ -241,3 +241,6 @@ pub const OF_DEFAULT: u16 = 73;
 /// A lambda's own parameter, in the lambda's signature. Numbers: its number, counted from 0. Symbols of the wide grammar alone
 /// have it.
 pub const GENERIC_PARAMETER: u16 = 74;
+
+/// An array whose length is a parameter. Parts: the parameter and the type of its elements.
+pub const BOUNDED: u16 = 75;

@@ -10,8 +10,8 @@ ghost use Rattle.cpp_tree.specs.Views.{plain_tree, prefix_trees, seen_of, seen_b
 
 use crate::node::{Adjustment, Mark, Piece, Qualifiers, Signed, Thunk, bit};
 use crate::tree_production::{
-    ABBREVIATION, ABSENT, ADDRESS_OF, ARRAY, BOOLEAN, BUILTIN, BUILTIN_WITH_D, CLONE, COMPLEX,
-    CONSTRUCTION, CONSTRUCTOR, CONVERSION, COVARIANT_THUNK, DESTRUCTOR, ENCODING_LITERAL,
+    ABBREVIATION, ABSENT, ADDRESS_OF, ARRAY, BOOLEAN, BOUNDED, BUILTIN, BUILTIN_WITH_D, CLONE,
+    COMPLEX, CONSTRUCTION, CONSTRUCTOR, CONVERSION, COVARIANT_THUNK, DESTRUCTOR, ENCODING_LITERAL,
     EXPANSION, FUNCTION, FUNCTION_TYPE, GENERIC_PARAMETER, GUARD, HOLDER, INSTANCE, INTEGER,
     LAMBDA, LIST, LITERAL_OPERATOR, LOCAL, LVALUE, MEMBER_POINTER, NESTED_CONSTRUCTOR,
     NESTED_CONVERSION, NESTED_DESTRUCTOR, NESTED_LAMBDA, NESTED_LITERAL_OPERATOR, NESTED_NO_PIECE,
@@ -386,6 +386,7 @@ pub fn view_of(symbol: &[u8], nodes: &Nodes, node: node::Node) -> NodeView
         node::Node::Lvalue(ty) => one(LVALUE, none, NO_TEXT, ty),
         node::Node::Rvalue(ty) => one(RVALUE, none, NO_TEXT, ty),
         node::Node::Array { digits, element } => one(ARRAY, none, digits, element),
+        node::Node::Bounded { bound, element } => two(BOUNDED, none, NO_TEXT, bound, element),
         node::Node::MemberPointer { class, member } => {
             two(MEMBER_POINTER, none, NO_TEXT, class, member)
         }

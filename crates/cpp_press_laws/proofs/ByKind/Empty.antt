@@ -35,6 +35,7 @@ nothing-read Kind.ArgumentsAlone may around state = inl (refl, refl)
 nothing-read Kind.ArgumentList may around state = λ outer. no-arguments around false state
 nothing-read Kind.ArgumentsFirst may around state = λ outer. no-arguments around false state
 nothing-read Kind.MaybeTags may around state = λ outer. tt
+nothing-read Kind.Declarations may around state = λ outer. tt
 nothing-read Kind.PackList may around state = λ outer. no-arguments around true state
 nothing-read Kind.MaybeZero may around state = refl
 nothing-read _ may around state = absurd (false≢true may)

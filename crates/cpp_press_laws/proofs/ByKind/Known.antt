@@ -1,5 +1,5 @@
 -- What is known of what was read as each kind, and how a production's parts come to what is known of the whole.
-use Rattle.std.proofs.Common.{◌≡◌, ℕ, ◌+◌, ◌<◌, ◌≤◌, ◌⊎◌, inl, inr, length, List, [], ◌∷◌, ◌++◌, Bool, true, false, cond, Some, None, Ok, Err, refl, ap, sym, subst, ◌∙◌, arith}
+use Rattle.std.proofs.Common.{◌≡◌, ℕ, ◌+◌, ◌-◌, ◌<◌, ◌≤◌, ◌⊎◌, inl, inr, length, List, [], ◌∷◌, ◌++◌, Bool, true, false, cond, Some, None, Ok, Err, refl, ap, sym, subst, ◌∙◌, arith}
 use Rattle.std.specs.Prelude.{◌&&◌, ◌||◌, nat_lt}
 use Rattle.std.proofs.lemmas.Bool.{true≢false, false≢true, and_parts}
 use Rattle.std.proofs.lemmas.Bool.Decides.{nat_tests}
@@ -19,7 +19,7 @@ use Rattle.cpp_grammar.specs.Table.{abi}
 use Rattle.cpp_grammar.specs.Term.{Term, Thunk, special, thunk, parameter, literal_operator}
 use Rattle.cpp_grammar.specs.Values.{State, outermost, behind, Around, Value, nothing_there, letter, text, tree, piece, tree_of, piece_of, qualifiers_of, ref_of, letter_of, is_there, text_of, signed_of, adjustment_of}
 use Rattle.cpp_grammar.specs.References.{with_prefix, parameter_named}
-use Rattle.cpp_grammar.specs.Between.{in_name, in_types, in_signature, under_expansion, after, inside, Going, named_so_far, listed_so_far, piece_so_far, tag_so_far, parameter_so_far, index_of, between}
+use Rattle.cpp_grammar.specs.Between.{in_name, in_types, in_signature, under_expansion, after, inside, Going, named_so_far, listed_so_far, piece_so_far, tag_so_far, parameter_so_far, argument_so_far, index_of, between}
 use Rattle.cpp_grammar.specs.Meaning.{discriminator_of}
 use Rattle.cpp_grammar.specs.Unfolding.{cpp, opening, close, byte_of}
 use Rattle.cpp_grammar.proofs.ClosedValues.{AllGood, GoodPrefix, held}
@@ -249,6 +249,16 @@ bare-parameter around place k state n bare e =
     let b = behind_bind (parameter_named around place k state) (λ s. listed_so_far around (parameter k) [] s) n e in
     bare-next (after (parameter k) true around) (tree (parameter k) true ∷ []) b.value n bare b.next
 
+abbrev argument-next : (around : Around) (k : ℕ) (old new : State) → Going
+argument-next around k old new = Ok (record { context = around; values = tree (parameter k) true ∷ []; state = record new { candidates = old.candidates } })
+
+bare-argument : (around : Around) (place k : ℕ) (state : State) (n : Next Value State Around) → LambdasAreBare around
+    → argument_so_far around place k state ≡ Ok n → LambdasAreBare n.context
+unfolding argument_so_far
+bare-argument around place k state n bare e =
+    let b = behind_bind (parameter_named around place k state) (argument-next around k state) n e in
+    bare-next around (tree (parameter k) true ∷ []) (record b.value { candidates = state.candidates }) n bare b.next
+
 -- a lambda's signature has no scope, nor has what stands in one
 lambdas-go : (p : Production) (around : Around) (place : ℕ) (vs : List Value) (state : State) (n : Next Value State Around)
     → LambdasAreBare around → between p around place vs state ≡ Ok n → LambdasAreBare n.context
@@ -300,6 +310,10 @@ lambdas-go Production.Lambda around place vs state n bare e = bare-next (in_sign
 lambdas-go Production.Expansion around place vs state n bare e =
     bare-next (under_expansion around) vs (record state { packs = None }) n bare e
 lambdas-go Production.Parameter around place (v ∷ []) state n bare e = bare-parameter around place (index_of v) state n bare e
+lambdas-go Production.ParameterExpression around place (v ∷ []) state n bare e = bare-argument around place (index_of v) state n bare e
+lambdas-go Production.BoundedArray around place (v ∷ []) state n bare e = bare-argument around place (index_of v) state n bare e
+lambdas-go Production.ParameterArgument around place (v ∷ []) state n bare e = bare-parameter around (place - 1) (index_of v) state n bare e
+lambdas-go Production.DeclaredArgument around place [] state n bare e = bare-next (in_signature around) [] state n (λ is. refl) e
 lambdas-go Production.TypeWithS around place (v ∷ []) state n bare e = bare-next _ _ state n bare e
 lambdas-go Production.LvalueItem around place (v ∷ []) state n bare e = bare-next _ _ _ n bare e
 lambdas-go Production.RvalueItem around place (v ∷ []) state n bare e = bare-next _ _ _ n bare e

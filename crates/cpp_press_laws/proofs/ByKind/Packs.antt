@@ -13,7 +13,7 @@ use Rattle.cpp_grammar.specs.Term.{Term, parameter}
 use Rattle.cpp_grammar.specs.Scope.{count, element, length_if_pack, is_open}
 use Rattle.cpp_grammar.specs.Values.{Candidate, State, Around, Value, tree, prefix_tree, prefix_listed, is_listed, text_of, tree_of, part}
 use Rattle.cpp_grammar.specs.References.{appended, is_function_type, with_type, with_unqualified, with_prefix, with_packs, packs_in, substituted, parameter_named}
-use Rattle.cpp_grammar.specs.Between.{in_name, in_types, in_signature, after, inside, Going, named_so_far, listed_so_far, piece_so_far, tag_so_far, parameter_so_far, index_of, between}
+use Rattle.cpp_grammar.specs.Between.{in_name, in_types, in_signature, after, inside, Going, named_so_far, listed_so_far, piece_so_far, tag_so_far, parameter_so_far, argument_so_far, index_of, between}
 use Rattle.cpp_grammar.specs.Unfolding as unfolding_
 use Rattle.cpp_grammar.specs.Unfolding.{opening, close, production_at, byte_of, cpp}
 use Rattle.cpp_grammar.proofs.ClosedStates.{ok_same, behind_bind}
@@ -123,6 +123,16 @@ parameter-goes around place k state next outside e =
     let b = behind_bind (parameter_named around place k state) (λ s. listed_so_far around (parameter k) [] s) next e in
     goes state (after (parameter k) true around) _ b.value next outside (parameter-kept around place k state b.value outside b.is) b.next
 
+abbrev argument-next : (around : Around) (k : ℕ) (old new : State) → Going
+argument-next around k old new = Ok (record { context = around; values = tree (parameter k) true ∷ []; state = record new { candidates = old.candidates } })
+
+argument-goes : (around : Around) (place k : ℕ) (state : State) (next : Next Value State Around) → around.in_expansion ≡ false
+    → argument_so_far around place k state ≡ Ok next → Outside state next
+unfolding argument_so_far
+argument-goes around place k state next outside e =
+    let b = behind_bind (parameter_named around place k state) (argument-next around k state) next e in
+    goes state around _ (record b.value { candidates = state.candidates }) next outside (parameter-kept around place k state b.value outside b.is) b.next
+
 between-outside : (p : Production) (around : Around) (place : ℕ) (vs : List Value) (state : State) (next : Next Value State Around)
     → NoExpansion p → around.in_expansion ≡ false → between p around place vs state ≡ Ok next → Outside state next
 unfolding between named_so_far listed_so_far piece_so_far tag_so_far after inside in_name in_types in_signature appended
@@ -174,6 +184,13 @@ between-outside Production.PackArgument around place (v ∷ []) state next no_ o
 between-outside Production.Lambda around place vs state next no_ outside e = goes state _ _ state next outside refl e
 between-outside Production.Parameter around place (v ∷ []) state next no_ outside e =
     parameter-goes around place (index_of v) state next outside e
+between-outside Production.ParameterExpression around place (v ∷ []) state next no_ outside e =
+    argument-goes around place (index_of v) state next outside e
+between-outside Production.BoundedArray around place (v ∷ []) state next no_ outside e =
+    argument-goes around place (index_of v) state next outside e
+between-outside Production.ParameterArgument around place (v ∷ []) state next no_ outside e =
+    parameter-goes around (place - 1) (index_of v) state next outside e
+between-outside Production.DeclaredArgument around place [] state next no_ outside e = goes state _ _ state next outside refl e
 between-outside Production.TypeWithS around place (v ∷ []) state next no_ outside e = goes state _ _ state next outside refl e
 between-outside Production.LvalueItem around place (v ∷ []) state next no_ outside e = goes state _ _ _ next outside refl e
 between-outside Production.RvalueItem around place (v ∷ []) state next no_ outside e = goes state _ _ _ next outside refl e
@@ -191,6 +208,10 @@ unfolding close unfolding_.behind appended
 close-kept Production.Substitution byte around place began vs state r outside same e =
     substituted-kept around (place - 1) (slice_get state.candidates (counted_value Seq36 (text_of (part vs 0)))) state r outside e ∙ same tt
 close-kept Production.PlainType byte around place began vs state r outside same e =
+    ap (λ x. x.state.packs) (sym (ok_same _ r e)) ∙ type-kept around (part vs 0) state ∙ same tt
+close-kept Production.PlainArgument byte around place began vs state r outside same e =
+    ap (λ x. x.state.packs) (sym (ok_same _ r e)) ∙ type-kept around (part vs 0) state ∙ same tt
+close-kept Production.ArgumentWithT byte around place began vs state r outside same e =
     ap (λ x. x.state.packs) (sym (ok_same _ r e)) ∙ type-kept around (part vs 0) state ∙ same tt
 close-kept Production.TypeWithD byte around place began vs state r outside same e =
     ap (λ x. x.state.packs) (sym (ok_same _ r e)) ∙ type-kept around (part vs 0) state ∙ same tt

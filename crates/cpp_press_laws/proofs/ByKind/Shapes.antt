@@ -178,6 +178,16 @@ kind-branch Kind.TypeInStd = λ rule taken parts all around at old v new front i
 kind-branch Kind.MaybeTags = λ rule taken parts all around at old v new front is e outer. tt
 kind-branch Kind.PlainEntity = λ rule taken parts all around at old v new front is e outer. tt
 kind-branch Kind.PlainTypeEntity = λ rule taken parts all around at old v new front is e outer. tt
+kind-branch Kind.Argument = λ rule taken parts all around at old v new front is e outer. tt
+kind-branch Kind.ArgumentAfterT = λ rule taken parts all around at old v new front is e outer. tt
+kind-branch Kind.OneArgument = λ rule taken parts all around at old v new front is e outer. tt
+kind-branch Kind.DeclarationAfterT = λ rule taken parts all around at old v new front is e outer. tt
+kind-branch Kind.Declarations = λ rule taken parts all around at old v new front is e outer. tt
+kind-branch Kind.Concept = λ rule taken parts all around at old v new front is e outer. tt
+kind-branch Kind.SolidButT = λ rule taken parts all around at old v new front is e outer. tt
+kind-branch Kind.ExpressionRest = λ rule taken parts all around at old v new front is e outer. tt
+kind-branch Kind.AnyArray = λ rule taken parts all around at old v new front is e outer. tt
+kind-branch Kind.ArrayRest = λ rule taken parts all around at old v new front is e outer. tt
 
 branch-read : (rule : Rule) (taken : List ℕ) (parts : Forest) → AllOf ShapeRead parts → ShapeRead (branch rule taken parts)
 branch-read rule taken parts all kind around at old v new front is e = kind-branch kind rule taken parts all around at old v new front is e

@@ -2,7 +2,7 @@
 use Rattle.std.proofs.Common.{◌≡◌, ℕ, ◌<◌, ◌≤◌, ◌⊎◌, inl, inr, length, List, [], ◌∷◌, ◌++◌, Bool, true, false, refl, ap, arith, sym, subst, ◌∙◌, length-append}
 use Rattle.std.specs.Prelude.{◌||◌}
 use Rattle.std.proofs.lemmas.Bool.{true≢false}
-use Rattle.cpp_grammar.specs.Term.{Term, symbol, alone, in_std, within, instance, local, holder, tagged, of_default, lambda, conversion, pointer, lvalue, rvalue, array, member_pointer, function_type, qualified, vector, complex, expansion, integer, pack, list}
+use Rattle.cpp_grammar.specs.Term.{Term, symbol, alone, in_std, within, instance, local, holder, tagged, of_default, lambda, conversion, pointer, lvalue, rvalue, array, bounded, member_pointer, function_type, qualified, vector, complex, expansion, integer, pack, list}
 use Rattle.cpp_grammar.specs.Scope.{is_open}
 use Rattle.cpp_grammar.specs.Values.{Candidate}
 use Rattle.cpp_press_laws.specs.Components.{Spelling}
@@ -57,6 +57,10 @@ inside-shut (pointer type) x closed i = itself-shut type x (Inside type x) close
 inside-shut (lvalue type) x closed i = itself-shut type x (Inside type x) closed (inside-shut type x closed) i
 inside-shut (rvalue type) x closed i = itself-shut type x (Inside type x) closed (inside-shut type x closed) i
 inside-shut (array digits type) x closed i = itself-shut type x (Inside type x) closed (inside-shut type x closed) i
+inside-shut (bounded bound type) x closed (inl i) =
+    itself-shut bound x (Inside bound x) (left-shut (is_open bound) (is_open type) closed) (inside-shut bound x (left-shut (is_open bound) (is_open type) closed)) i
+inside-shut (bounded bound type) x closed (inr i) =
+    itself-shut type x (Inside type x) (right-shut (is_open bound) (is_open type) closed) (inside-shut type x (right-shut (is_open bound) (is_open type) closed)) i
 inside-shut (member_pointer class member) x closed (inl i) =
     itself-shut class x (Inside class x) (left-shut (is_open class) (is_open member) closed) (inside-shut class x (left-shut (is_open class) (is_open member) closed)) i
 inside-shut (member_pointer class member) x closed (inr i) =

@@ -2,7 +2,7 @@
 use Rattle.std.proofs.Common.{◌≡◌, ℕ, ◌+◌, ◌≤◌, ◌⊎◌, inl, inr, length, List, [], ◌∷◌, ◌++◌, Option, None, Bool, true, false, refl, arith, sym, subst, ◌∙◌, length-append}
 use Rattle.std.specs.Prelude.{cond, codes, ◌&&◌}
 use Rattle.sym_spell.specs.Pressing.{◌and◌, text, nothing}
-use Rattle.cpp_grammar.specs.Term.{Thunk, Qualifiers, RefQualifier, Term, symbol, function, object, special, thunk, of_name, construction, clone, alone, in_std, within, instance, local, holder, tagged, of_default, abbreviation, parameter, source, operator, literal_operator, constructor, destructor, lambda, unnamed, string_literal, conversion, builtin, sized_float, generic_parameter, vendor, pointer, lvalue, rvalue, array, member_pointer, function_type, qualified, vector, complex, expansion, integer, boolean, null_pointer, encoding_literal, address_of, pack, nil, list, absent}
+use Rattle.cpp_grammar.specs.Term.{Thunk, Qualifiers, RefQualifier, Term, symbol, function, object, special, thunk, of_name, construction, clone, alone, in_std, within, instance, local, holder, tagged, of_default, abbreviation, parameter, source, operator, literal_operator, constructor, destructor, lambda, unnamed, string_literal, conversion, builtin, sized_float, generic_parameter, vendor, pointer, lvalue, rvalue, array, bounded, member_pointer, function_type, qualified, vector, complex, expansion, integer, boolean, null_pointer, encoding_literal, address_of, pack, nil, list, absent}
 use Rattle.cpp_grammar.specs.Scope.{has_return_type}
 use Rattle.cpp_grammar.specs.Values.{Candidate, outermost, Around}
 use Rattle.cpp_grammar.specs.Between.{in_name, in_types, after, inside}
@@ -707,6 +707,7 @@ counts (pointer type) = few-pointer type (counts type)
 counts (lvalue type) = few-lvalue type (counts type)
 counts (rvalue type) = few-rvalue type (counts type)
 counts (array digits type) = few-array digits type (counts type)
+counts (bounded bound type) = few-nowhere (bounded bound type) _
 counts (member_pointer class member) = few-member-pointer class member (counts class) (counts member)
 counts (function_type c_linkage noexcept ref returned parameters) = few-function-type c_linkage noexcept ref returned parameters (counts returned) (counts parameters)
 counts (qualified q type) = few-qualified q type (counts type)

@@ -4,7 +4,7 @@ use Rattle.std.specs.Prelude.{◌||◌, nat_eq}
 use Rattle.std.proofs.lemmas.Bool.{eqb-true, true≢false}
 use Rattle.sym_core.specs.declared.refusal.Refusal.{Refusal}
 use Rattle.sym_core.specs.declared.refusal.Refusal.TheVariants.{BadReference}
-use Rattle.cpp_grammar.specs.Term.{Term, symbol, alone, in_std, within, instance, local, holder, tagged, of_default, parameter, lambda, conversion, pointer, lvalue, rvalue, array, member_pointer, function_type, qualified, vector, complex, integer, pack, list}
+use Rattle.cpp_grammar.specs.Term.{Term, symbol, alone, in_std, within, instance, local, holder, tagged, of_default, parameter, lambda, conversion, pointer, lvalue, rvalue, array, bounded, member_pointer, function_type, qualified, vector, complex, integer, pack, list}
 use Rattle.cpp_grammar.specs.Scope.{is_open, first_of, pack_length}
 use Rattle.cpp_grammar.specs.Values.{State}
 use Rattle.cpp_grammar.specs.References.{with_packs}
@@ -48,6 +48,9 @@ closed-packs scope (pointer type) closed = closed-packs scope type closed
 closed-packs scope (lvalue type) closed = closed-packs scope type closed
 closed-packs scope (rvalue type) closed = closed-packs scope type closed
 closed-packs scope (array digits type) closed = closed-packs scope type closed
+closed-packs scope (bounded bound type) closed =
+    first-none (pack_length scope bound) (pack_length scope type) (closed-packs scope bound (left-shut (is_open bound) (is_open type) closed))
+    (closed-packs scope type (right-shut (is_open bound) (is_open type) closed))
 closed-packs scope (member_pointer class member) closed =
     first-none (pack_length scope class) (pack_length scope member) (closed-packs scope class (left-shut (is_open class) (is_open member) closed))
     (closed-packs scope member (right-shut (is_open class) (is_open member) closed))

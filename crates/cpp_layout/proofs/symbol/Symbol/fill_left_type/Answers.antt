@@ -35,6 +35,10 @@ pub returns-in-Array-clause-shows : goal.returns-in-Array-clause-shows
 unfolding tree_of left_parts
 returns-in-Array-clause-shows g c = fills c.args.self.now c.args.ctx.detail _ _ _ c.fill_array.ensures.shows (ap (λ n. left_parts c.args.ctx.detail (context_of c.args.ctx) (tree_of c.args.self.now.bytes c.args.self.now.table.thunks (trees (table_of c.args.self.now)) n)) (sym c.in-Array.is))
 
+pub returns-in-Bounded-clause-shows : goal.returns-in-Bounded-clause-shows
+unfolding tree_of left_parts
+returns-in-Bounded-clause-shows g c = fills c.args.self.now c.args.ctx.detail _ _ _ c.fill_array-in-Bounded.ensures.shows (ap (λ n. left_parts c.args.ctx.detail (context_of c.args.ctx) (tree_of c.args.self.now.bytes c.args.self.now.table.thunks (trees (table_of c.args.self.now)) n)) (sym c.in-Bounded.is))
+
 pub returns-in-FunctionType-clause-shows : goal.returns-in-FunctionType-clause-shows
 unfolding tree_of left_parts
 returns-in-FunctionType-clause-shows g c = fills c.args.self.now c.args.ctx.detail _ _ _ c.fill_left_text.ensures.shows (ap (λ n. left_parts c.args.ctx.detail (context_of c.args.ctx) (tree_of c.args.self.now.bytes c.args.self.now.table.thunks (trees (table_of c.args.self.now)) n)) (sym c.in-FunctionType.is))
@@ -64,4 +68,4 @@ unfolding tree_of left_parts
 returns-in-GenericParameter-clause-shows g c = fills c.args.self.now c.args.ctx.detail _ _ _ (c.push_item.ensures.shows _ _ (starts c.args.self.now c.args.ctx.detail _)) (ap (λ n. left_parts c.args.ctx.detail (context_of c.args.ctx) (tree_of c.args.self.now.bytes c.args.self.now.table.thunks (trees (table_of c.args.self.now)) n)) (sym c.in-GenericParameter.is))
 
 pub fill_left_argument-requires-clause-kind : goal.fill_left_argument-requires-clause-kind
-fill_left_argument-requires-clause-kind g c = no-type c.args.node c.requires.kind c.in_default.not-Builtin c.in_default.not-BuiltinWithD c.in_default.not-Vendor c.in_default.not-Pointer c.in_default.not-Lvalue c.in_default.not-Rvalue c.in_default.not-Array c.in_default.not-FunctionType c.in_default.not-MemberPointer c.in_default.not-Qualified c.in_default.not-Vector c.in_default.not-Complex c.in_default.not-SizedFloat c.in_default.not-GenericParameter
+fill_left_argument-requires-clause-kind g c = no-type c.args.node c.requires.kind c.in_default.not-Builtin c.in_default.not-BuiltinWithD c.in_default.not-Vendor c.in_default.not-Pointer c.in_default.not-Lvalue c.in_default.not-Rvalue c.in_default.not-Array c.in_default.not-FunctionType c.in_default.not-MemberPointer c.in_default.not-Qualified c.in_default.not-Vector c.in_default.not-Complex c.in_default.not-SizedFloat c.in_default.not-GenericParameter c.in_default.not-Bounded

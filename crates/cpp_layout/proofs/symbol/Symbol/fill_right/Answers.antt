@@ -27,6 +27,10 @@ pub returns-in-Array-clause-shows : goal.returns-in-Array-clause-shows
 unfolding right_parts tree_of
 returns-in-Array-clause-shows g c = fills c.args.self.now c.args.ctx.detail _ _ _ c.fill_array_right.ensures.shows (ap (λ t. right_parts (context_of c.args.ctx) t) (sym c.in-Array.ensures.tree))
 
+pub returns-in-Bounded-clause-shows : goal.returns-in-Bounded-clause-shows
+unfolding right_parts tree_of
+returns-in-Bounded-clause-shows g c = fills c.args.self.now c.args.ctx.detail _ _ _ c.fill_bounded_right.ensures.shows (ap (λ t. right_parts (context_of c.args.ctx) t) (sym c.in-Bounded.ensures.tree))
+
 pub returns-in-Qualified-clause-shows : goal.returns-in-Qualified-clause-shows
 unfolding right_parts tree_of
 returns-in-Qualified-clause-shows g c = fills c.args.self.now c.args.ctx.detail _ _ _ c.fill_qualified_right.ensures.shows (ap (λ t. right_parts (context_of c.args.ctx) t) (sym c.in-Qualified.ensures.tree))
@@ -52,4 +56,4 @@ unfolding right_parts tree_of
 returns-in-GenericParameter-clause-shows g c = fills c.args.self.now c.args.ctx.detail _ _ _ (c.push_item-in-GenericParameter.ensures.shows _ _ (starts c.args.self.now c.args.ctx.detail _)) (ap (λ t. right_parts (context_of c.args.ctx) t) (sym c.in-GenericParameter.ensures.tree))
 
 pub returns-in_default-clause-shows : goal.returns-in_default-clause-shows
-returns-in_default-clause-shows g c = fills c.args.self.now c.args.ctx.detail _ _ _ (starts c.args.self.now c.args.ctx.detail _) (right-none _ _ _ _ c.stored.result _ c.stored.ensures.tree c.in_default.not-Pointer c.in_default.not-Lvalue c.in_default.not-Rvalue c.in_default.not-MemberPointer c.in_default.not-Array c.in_default.not-Qualified c.in_default.not-Vector c.in_default.not-Complex c.in_default.not-Parameter c.in_default.not-FunctionType c.in_default.not-GenericParameter)
+returns-in_default-clause-shows g c = fills c.args.self.now c.args.ctx.detail _ _ _ (starts c.args.self.now c.args.ctx.detail _) (right-none _ _ _ _ c.stored.result _ c.stored.ensures.tree c.in_default.not-Pointer c.in_default.not-Lvalue c.in_default.not-Rvalue c.in_default.not-MemberPointer c.in_default.not-Array c.in_default.not-Qualified c.in_default.not-Vector c.in_default.not-Complex c.in_default.not-Parameter c.in_default.not-FunctionType c.in_default.not-GenericParameter c.in_default.not-Bounded)

@@ -1,14 +1,17 @@
-use Rattle.std.proofs.Common.{◌≡◌, refl, sym, ◌∙◌, ap, subst, arith, ◌-◌, List, length, take, drop}
+use Rattle.std.proofs.Common.{◌≡◌, refl, sym, ◌∙◌, ap, subst, arith, ◌-◌, Bool, List, [], ◌∷◌, length, take, drop}
 use Rattle.std.proofs.lemmas.List.{length-drop}
 use Rattle.std.proofs.lemmas.Result.{err_from_is_err_and}
 use Rattle.sym_link.proofs.Lists.{rest_all}
+use Rattle.sym_core.specs.Value.{counted_value}
+use Rattle.sym_core.specs.declared.NumberKind.TheVariants.{Decimal}
 use Rattle.cpp_grammar.specs.declared.production.Production.{Production}
 use Rattle.cpp_grammar.specs.Unfolding.{production_at}
-use Rattle.cpp_term.specs.Values.{part, text_of}
+use Rattle.cpp_term.specs.Values.{Candidate, Value, part, text_of}
 use Rattle.cpp_tree.specs.Nodes.{bytes_at}
 use Rattle.cpp_link.specs.declared.part.Part.{Part}
-use Rattle.cpp_link.specs.Parts.{trees_in, values_in}
-use Rattle.cpp_link.specs.LinkRescoping.{is_parameter}
+use Rattle.cpp_link.specs.Parts.{trees_in, values_in, around_of}
+use Rattle.cpp_link.specs.LinkRescoping.{is_parameter, is_parameter_argument, generic_read}
+use Rattle.cpp_link.specs.Reads.{goes_on}
 use Rattle.cpp_link.specs.Stepping.{IsStepOf}
 use Rattle.cpp_link.proofs.GoingOn.{adds_right, steps_few, refused_few}
 use Rattle.cpp_link.proofs.Places.{values_length}
@@ -33,9 +36,13 @@ returns-clause-goes c =
     let one : length own ≡ 1 = omega (arith, length-drop frame.base c.args.parts.now.items, c.requires.second) in
     let same : take (length c.deref.result.now - frame.base) (drop frame.base c.deref.result.now) ≡ own = rest_all c.deref.result.now frame.base ∙ ap (λ ps. drop frame.base ps) c.deref.ensures.value in
     let digits = c.text-digits.ensures.is ∙ ap (λ ps. text_of (part (values_in s c.args.self.now.nodes ps) 0)) same in
+    let kind = c.is_parameter_argument-is_argument.ensures ∙ ap is_parameter_argument c.production_of.ensures in
+    let Reads : Bool → Value → List Candidate → Type 0 = λ b v cs.
+    generic_read b (around_of (trees_in s c.args.self.now.nodes) frame.kept) (counted_value Decimal (bytes_at s c.text-digits.result)) (record { candidates = cs; packs = c.args.self.now.packs })
+    ≡ goes_on s c.args.self.now.nodes frame.kept (v ∷ []) cs c.args.self.now.packs c.generic-step.result in
     wide_goes_right s c.args.self.now c.take_step.new.self frame c.args.parts.now.items c.take_step.new.parts.items c.generic-step.result c.in_ok-then.then
     (λ cs. generic_is s c.args.self.now.nodes frame.kept (production_at frame.rule) frame.place own (bytes_at s c.text-digits.result) cs c.args.self.now.packs c.generic-step.result
-    c.requires.parameter c.requires.signature one digits (λ v. c.generic-step.ensures.is v cs))
+    c.requires.parameter c.requires.signature one digits (λ v. subst (λ b. Reads b v cs) kind (c.generic-step.ensures.is v cs)))
     c.in_ok-then.ensures.takes
 
 pub returns-clause-adds : goal.returns-clause-adds

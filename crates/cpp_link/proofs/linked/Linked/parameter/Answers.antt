@@ -1,67 +1,33 @@
-use Rattle.std.proofs.Common.{◌≡◌, ◌∙◌, sym, ap, subst, ℕ, ◌<◌, ◌≤◌, [], ◌∷◌, refl, arith, Ok, Err, true}
-use Rattle.std.specs.Prelude.{MatchOption}
-use Rattle.std.proofs.lemmas.Bool.{le-ltb, lt-ltb}
+use Rattle.std.proofs.Common.{◌≡◌, ◌∙◌, sym, ap, ℕ, [], ◌∷◌, Ok, true}
 use Rattle.sym_core.specs.Value.{counted_value}
 use Rattle.sym_core.specs.declared.NumberKind.TheVariants.{Decimal}
+use Rattle.sym_link.specs.Reading.{◌>>=◌}
 use Rattle.cpp_term.specs.Term.{Term, parameter}
-use Rattle.cpp_term.specs.Scope.{count, element, length_if_pack}
 use Rattle.cpp_term.specs.Values as values
 use Rattle.cpp_term.specs.Values.{Around, State}
-use Rattle.cpp_term.specs.References.{appended, with_packs}
-use Rattle.cpp_term.specs.Between.{after, listed_so_far, parameter_so_far}
-use Rattle.cpp_tree.specs.Nodes.{tree_at, bytes_at, arguments_are, tree_of}
-use Rattle.cpp_link.specs.Parts.{trees_in, around_of}
-use Rattle.cpp_link.specs.Reads.{packs_read, goes_on, behind_first, named_if, appended_if}
-use Rattle.cpp_link.proofs.Candidates.{fails_is, no_scope, past_scope, in_scope}
+use Rattle.cpp_term.specs.References.{appended}
+use Rattle.cpp_term.specs.Between.{argument_at, after, listed_so_far, parameter_so_far}
+use Rattle.cpp_tree.specs.Nodes.{bytes_at}
+use Rattle.cpp_link.specs.Parts.{trees_in, tree_of_node, around_of}
+use Rattle.cpp_link.specs.Reads.{parameter_read, goes_on, behind_first, named_if, appended_if}
+use Rattle.cpp_link.proofs.Candidates.{fails_is}
 use Rattle.cpp_link.proofs.linked.Linked.parameter.Goals as goal
 
-pub returns-in_default-clause-refused : goal.returns-in_default-clause-refused
-unfolding around_of arguments_are
-returns-in_default-clause-refused c cs =
-    no_scope (around_of (trees_in c.args.symbol.now c.args.self.now.nodes) c.args.kept) c.args.place _ [] _
-    (ap (λ o. arguments_are (trees_in c.args.symbol.now c.args.self.now.nodes) o) (sym c.in_scope.ensures ∙ c.in_default.is))
-
-pub returns-in_default-below-clause-refused : goal.returns-in_default-below-clause-refused
-unfolding around_of arguments_are
-returns-in_default-below-clause-refused c cs =
-    let ts = trees_in c.args.symbol.now c.args.self.now.nodes in
-    let k : ℕ = counted_value Decimal (bytes_at c.args.symbol.now c.args.digits) in
-    let past : c.count-count.result ≤ k = subst (λ o. MatchOption o (c.count-count.result ≤ k) (λ n. (n ≡ k) × (n < c.count-count.result))) c.in_default-below.is (c.below.ensures k c.value10-counted.ensures) in
-    past_scope (around_of ts c.args.kept) c.args.place k [] _ (tree_at ts c.in-Some.scope) (ap (λ o. arguments_are ts o) (sym c.in_scope.ensures ∙ c.in-Some.is))
-    (le-ltb k (count (tree_at ts c.in-Some.scope)) (omega (arith, past, c.count-count.ensures)))
-
 pub returns-in-Ok-clause-is : goal.returns-in-Ok-clause-is
-unfolding around_of arguments_are packs_read goes_on behind_first named_if appended_if tree_of listed_so_far
+unfolding parameter_so_far listed_so_far parameter_read goes_on behind_first named_if appended_if
 returns-in-Ok-clause-is c v cs =
-    let ts = trees_in c.args.symbol.now c.args.self.now.nodes in
-    let a : Term = tree_at ts c.in-Some.scope in
+    let y = c.args.self.now.nodes in
+    let around : Around = around_of (trees_in c.args.symbol.now y) c.args.kept in
     let k : ℕ = counted_value Decimal (bytes_at c.args.symbol.now c.args.digits) in
-    let around : Around = around_of ts c.args.kept in
-    let found : (c.in-Some-below.number ≡ k) × (c.in-Some-below.number < c.count-count.result) =
-    subst (λ o. MatchOption o (c.count-count.result ≤ k) (λ n. (n ≡ k) × (n < c.count-count.result))) c.in-Some-below.is (c.below.ensures k c.value10-counted.ensures) in
-    let argument : tree_at ts c.element-argument.result ≡ element a k = c.element-argument.ensures.tree ∙ ap (λ n. element a n) found.0 in
-    let own : c.length_if_pack-own.result ≡ length_if_pack (element a k) = c.length_if_pack-own.ensures ∙ ap length_if_pack argument in
-    let before : State = record { candidates = cs; packs = c.args.self.now.packs } in
     let then : State = record { candidates = cs; packs = c.in-Ok.packs } in
-    let same : parameter k (element a k) ≡ parameter c.in-Some-below.number (tree_at ts c.element-argument.result) = rw (argument, found.0) refl in
-    in_scope around c.args.place k [] before a (Ok then) (ap (λ o. arguments_are ts o) (sym c.in_scope.ensures ∙ c.in-Some.is))
-    (lt-ltb k (count a) (omega (arith, found.0, found.1, c.count-count.ensures)))
-    (ap (λ o. with_packs c.args.place around.in_expansion o before) (sym own) ∙ c.in-Ok.ensures.is cs)
-    ∙ ap (λ t. Ok (record { values = values.tree t true ∷ []; context = after t true around; state = appended around t then })) same
+    let own : Term = tree_of_node c.args.symbol.now y c.in-Ok.node in
+    ap (λ m. m >>= λ s. listed_so_far around (parameter k (argument_at around k)) [] s) (c.in-Ok.ensures.is cs)
+    ∙ ap (λ t. Ok (record { values = values.tree t true ∷ []; context = after t true around; state = appended around own then })) (sym c.in-Ok.ensures.tree)
 
 pub returns-in-Err-clause-refused : goal.returns-in-Err-clause-refused
-unfolding around_of arguments_are packs_read
+unfolding parameter_so_far parameter_read
 returns-in-Err-clause-refused c cs =
-    let ts = trees_in c.args.symbol.now c.args.self.now.nodes in
-    let a : Term = tree_at ts c.in-Some.scope in
+    let around : Around = around_of (trees_in c.args.symbol.now c.args.self.now.nodes) c.args.kept in
     let k : ℕ = counted_value Decimal (bytes_at c.args.symbol.now c.args.digits) in
-    let around : Around = around_of ts c.args.kept in
-    let found : (c.in-Some-below.number ≡ k) × (c.in-Some-below.number < c.count-count.result) =
-    subst (λ o. MatchOption o (c.count-count.result ≤ k) (λ n. (n ≡ k) × (n < c.count-count.result))) c.in-Some-below.is (c.below.ensures k c.value10-counted.ensures) in
-    let argument : tree_at ts c.element-argument.result ≡ element a k = c.element-argument.ensures.tree ∙ ap (λ n. element a n) found.0 in
-    let own : c.length_if_pack-own.result ≡ length_if_pack (element a k) = c.length_if_pack-own.ensures ∙ ap length_if_pack argument in
     let before : State = record { candidates = cs; packs = c.args.self.now.packs } in
-    fails_is c.in-Err.e (parameter_so_far around c.args.place k [] before)
-    (in_scope around c.args.place k [] before a (Err c.in-Err.e) (ap (λ o. arguments_are ts o) (sym c.in_scope.ensures ∙ c.in-Some.is))
-    (lt-ltb k (count a) (omega (arith, found.0, found.1, c.count-count.ensures)))
-    (ap (λ o. with_packs c.args.place around.in_expansion o before) (sym own) ∙ c.in-Err.ensures.is cs))
+    fails_is c.in-Err.e (parameter_so_far around c.args.place k [] before) (ap (λ m. m >>= λ s. listed_so_far around (parameter k (argument_at around k)) [] s) (c.in-Err.ensures.is cs))

@@ -6,7 +6,7 @@ use Rattle.cpp_link.specs.Parts.{value_in}
 use Rattle.cpp_link.specs.Owed.{made_before}
 use Rattle.cpp_link.specs.NodeCount.{makes_before}
 use Rattle.cpp_link.specs.Stepping.{IsStepOf, nodes_of_step}
-use Rattle.cpp_link.proofs.Stepping.{parameter_steps, nest_parameter_steps}
+use Rattle.cpp_link.proofs.Stepping.{parameter_steps, nest_parameter_steps, argument_steps, expression_steps, length_steps}
 use Rattle.cpp_link.proofs.linked.Linked.step_behind_first.Goals as goal
 
 pub returns-in-Parameter-clause-of : goal.returns-in-Parameter-clause-of
@@ -15,11 +15,29 @@ returns-in-Parameter-clause-of c = subst (λ p. IfOk c.parameter.result (λ step
 pub returns-in-NestParameter-clause-of : goal.returns-in-NestParameter-clause-of
 returns-in-NestParameter-clause-of c = subst (λ p. IfOk c.parameter-in-NestParameter.result (λ step. IsStepOf p 1 step)) (sym c.in-NestParameter.is) (nest_parameter_steps c.parameter-in-NestParameter.result)
 
+pub returns-in-ParameterArgument-clause-of : goal.returns-in-ParameterArgument-clause-of
+returns-in-ParameterArgument-clause-of c = subst (λ p. IfOk c.parameter-in-ParameterArgument.result (λ step. IsStepOf p 1 step)) (sym c.in-ParameterArgument.is) (argument_steps c.parameter-in-ParameterArgument.result)
+
+pub returns-in-ParameterExpression-clause-of : goal.returns-in-ParameterExpression-clause-of
+returns-in-ParameterExpression-clause-of c = subst (λ p. IfOk c.parameter_argument.result (λ step. IsStepOf p 1 step)) (sym c.in-ParameterExpression.is) (expression_steps c.parameter_argument.result)
+
+pub returns-in-BoundedArray-clause-of : goal.returns-in-BoundedArray-clause-of
+returns-in-BoundedArray-clause-of c = subst (λ p. IfOk c.parameter_argument-in-BoundedArray.result (λ step. IsStepOf p 1 step)) (sym c.in-BoundedArray.is) (length_steps c.parameter_argument-in-BoundedArray.result)
+
 parameter_is_no_pack : Production.Parameter ≡ Production.PackArgument → ⊥
 parameter_is_no_pack h = cc
 
 nest_is_no_pack : Production.NestParameter ≡ Production.PackArgument → ⊥
 nest_is_no_pack h = cc
+
+argument_is_no_pack : Production.ParameterArgument ≡ Production.PackArgument → ⊥
+argument_is_no_pack h = cc
+
+expression_is_no_pack : Production.ParameterExpression ≡ Production.PackArgument → ⊥
+expression_is_no_pack h = cc
+
+array_is_no_pack : Production.BoundedArray ≡ Production.PackArgument → ⊥
+array_is_no_pack h = cc
 
 pub returns-in-PackArgument-clause-is : goal.returns-in-PackArgument-clause-is
 unfolding between
@@ -33,6 +51,15 @@ returns-in-Parameter-clause-pack c is = absurd (parameter_is_no_pack (sym c.in-P
 
 pub returns-in-NestParameter-clause-pack : goal.returns-in-NestParameter-clause-pack
 returns-in-NestParameter-clause-pack c is = absurd (nest_is_no_pack (sym c.in-NestParameter.is ∙ is))
+
+pub returns-in-ParameterArgument-clause-pack : goal.returns-in-ParameterArgument-clause-pack
+returns-in-ParameterArgument-clause-pack c is = absurd (argument_is_no_pack (sym c.in-ParameterArgument.is ∙ is))
+
+pub returns-in-ParameterExpression-clause-pack : goal.returns-in-ParameterExpression-clause-pack
+returns-in-ParameterExpression-clause-pack c is = absurd (expression_is_no_pack (sym c.in-ParameterExpression.is ∙ is))
+
+pub returns-in-BoundedArray-clause-pack : goal.returns-in-BoundedArray-clause-pack
+returns-in-BoundedArray-clause-pack c is = absurd (array_is_no_pack (sym c.in-BoundedArray.is ∙ is))
 
 pub returns-in-PackArgument-clause-pack : goal.returns-in-PackArgument-clause-pack
 returns-in-PackArgument-clause-pack c is = c.pack.ensures.made
@@ -50,3 +77,21 @@ unfolding makes_before made_before
 returns-in-NestParameter-clause-makes c =
     subst (λ p. IfOk c.parameter-in-NestParameter.result (λ step. nodes_of_step step ≡ makes_before p (value_in c.args.symbol.now c.args.self.now.nodes c.args.first ∷ []))) (sym c.in-NestParameter.is)
     c.parameter-in-NestParameter.ensures.one
+
+pub returns-in-ParameterArgument-clause-makes : goal.returns-in-ParameterArgument-clause-makes
+unfolding makes_before made_before
+returns-in-ParameterArgument-clause-makes c =
+    subst (λ p. IfOk c.parameter-in-ParameterArgument.result (λ step. nodes_of_step step ≡ makes_before p (value_in c.args.symbol.now c.args.self.now.nodes c.args.first ∷ []))) (sym c.in-ParameterArgument.is)
+    c.parameter-in-ParameterArgument.ensures.one
+
+pub returns-in-ParameterExpression-clause-makes : goal.returns-in-ParameterExpression-clause-makes
+unfolding makes_before made_before
+returns-in-ParameterExpression-clause-makes c =
+    subst (λ p. IfOk c.parameter_argument.result (λ step. nodes_of_step step ≡ makes_before p (value_in c.args.symbol.now c.args.self.now.nodes c.args.first ∷ []))) (sym c.in-ParameterExpression.is)
+    c.parameter_argument.ensures.one
+
+pub returns-in-BoundedArray-clause-makes : goal.returns-in-BoundedArray-clause-makes
+unfolding makes_before made_before
+returns-in-BoundedArray-clause-makes c =
+    subst (λ p. IfOk c.parameter_argument-in-BoundedArray.result (λ step. nodes_of_step step ≡ makes_before p (value_in c.args.symbol.now c.args.self.now.nodes c.args.first ∷ []))) (sym c.in-BoundedArray.is)
+    c.parameter_argument-in-BoundedArray.ensures.one

@@ -21,6 +21,7 @@ returns-in_default c =
       not_lvalue = c.in_default.not-Lvalue;
       not_rvalue = c.in_default.not-Rvalue;
       not_array = c.in_default.not-Array;
+      not_bounded = c.in_default.not-Bounded;
       not_memberpointer = c.in_default.not-MemberPointer;
       not_functiontype = c.in_default.not-FunctionType;
       not_qualified = c.in_default.not-Qualified;

@@ -1,0 +1,32 @@
+use Rattle.std.proofs.Common.{◌≡◌, ◌∙◌, sym, ap, ℕ, [], ◌∷◌, Ok, true}
+use Rattle.sym_core.specs.Value.{counted_value}
+use Rattle.sym_core.specs.declared.NumberKind.TheVariants.{Decimal}
+use Rattle.sym_link.specs.Reading.{◌>>=◌}
+use Rattle.cpp_term.specs.Term.{parameter}
+use Rattle.cpp_term.specs.Values as values
+use Rattle.cpp_term.specs.Values.{Around, State}
+use Rattle.cpp_term.specs.References.{appended}
+use Rattle.cpp_term.specs.Between.{next, argument_at, argument_so_far}
+use Rattle.cpp_tree.specs.Nodes.{bytes_at}
+use Rattle.cpp_link.specs.Parts.{trees_in, around_of}
+use Rattle.cpp_link.specs.Reads.{parameter_read, goes_on, behind_first, named_if, appended_if}
+use Rattle.cpp_link.proofs.Candidates.{fails_is}
+use Rattle.cpp_link.proofs.linked.Linked.parameter_argument.Goals as goal
+
+pub returns-in-Ok-clause-is : goal.returns-in-Ok-clause-is
+unfolding argument_so_far parameter_read goes_on behind_first named_if appended_if appended
+returns-in-Ok-clause-is c v cs =
+    let y = c.args.self.now.nodes in
+    let around : Around = around_of (trees_in c.args.symbol.now y) c.args.kept in
+    let k : ℕ = counted_value Decimal (bytes_at c.args.symbol.now c.args.digits) in
+    let then : State = record { candidates = cs; packs = c.in-Ok.packs } in
+    ap (λ m. m >>= λ s. next (values.tree (parameter k (argument_at around k)) true ∷ []) around (record s { candidates = cs })) (c.in-Ok.ensures.is cs)
+    ∙ ap (λ t. Ok (record { values = values.tree t true ∷ []; context = around; state = then })) (sym c.in-Ok.ensures.tree)
+
+pub returns-in-Err-clause-refused : goal.returns-in-Err-clause-refused
+unfolding argument_so_far parameter_read
+returns-in-Err-clause-refused c cs =
+    let around : Around = around_of (trees_in c.args.symbol.now c.args.self.now.nodes) c.args.kept in
+    let k : ℕ = counted_value Decimal (bytes_at c.args.symbol.now c.args.digits) in
+    let before : State = record { candidates = cs; packs = c.args.self.now.packs } in
+    fails_is c.in-Err.e (argument_so_far around c.args.place k before) (ap (λ m. m >>= λ s. next (values.tree (parameter k (argument_at around k)) true ∷ []) around (record s { candidates = cs })) (c.in-Err.ensures.is cs))
