@@ -3,6 +3,7 @@ pub mod Alone
 pub mod Letters
 pub mod WideLetters
 pub mod Growing
+pub mod WideRules
 pub mod Widening
 pub mod WidenedMeaning
 pub mod WidenedPlaces

@@ -329,7 +329,7 @@ impl Linked {
                 },
                 true,
             ),
-            // <template-arg> ::= X <expression> E, with an <expression> that is read by itself
+            // <template-arg>, of any kind but a literal or a pack, which is read by itself
             Production::AnyArgument => made(
                 Node::Cell {
                     first: self.tree(symbol, parts, 0),
@@ -361,7 +361,7 @@ impl Linked {
                 },
                 true,
             ),
-            // <template-arg> ::= X <expression> E, with an <expression> that is read by itself, in a pack
+            // <template-arg>, of any kind but a literal or a pack, which is read by itself, in a pack
             Production::AnyElement => made(
                 Node::Cell {
                     first: self.tree(symbol, parts, 0),
