@@ -241,7 +241,7 @@ def reargued():
         return applied(tree[0], [f"(reargued c {name})" if sort in SCOPED else name for name, sort in tree[1:]])
     return carried(cases("reargued", ["c"], [], right, "t")[:-1]) + ["reargued c t = t"]
 
-def made_again(function, before, parameter, behind=lambda name: ""):
+def made_again(function, before, parameter, behind=lambda name, subtrees: ""):
     """a law of each tree by those of its subtrees: both sides are the tree, of other subtrees"""
     def right(tree):
         if tree[0] == "parameter": return parameter
@@ -249,7 +249,6 @@ def made_again(function, before, parameter, behind=lambda name: ""):
         if not subtrees: return None
         letters = dict(zip(subtrees, "xy"))
         body = applied(tree[0], [letters.get(name, name) for name, sort in tree[1:]])
-        others = {name: [n for n in subtrees if n != name] for name in subtrees}
         return applied("ap" if len(subtrees) == 1 else "both", [f"(λ {' '.join(letters.values())}. {body})", *[f"({applied(function, [*before, name])}{behind(name, subtrees)})" for name in subtrees]])
     return right
 
@@ -271,9 +270,9 @@ def erase_reargued():
 
 def reargued_laws():
     path = "cpp_term/proofs/Reargued.antt"
-    same = made_again("reargued_none", [], "refl", lambda name, subtrees: "")
+    same = made_again("reargued_none", [], "refl")
     yield path, "reargued_none", carried(cases("reargued_none", [], [], same, "refl"))
-    again = made_again("reargued_twice", ["c", "a"], "refl", lambda name, subtrees: "")
+    again = made_again("reargued_twice", ["c", "a"], "refl")
     yield path, "reargued_twice", carried(cases("reargued_twice", ["c", "a"], [], again, "refl"))
     closed = made_again("reargued_closed", ["c"], "absurd (true≢false closed)", never_open)
     yield path, "reargued_closed", carried(cases("reargued_closed", ["c"], ["closed"], closed, "refl"))
@@ -453,13 +452,13 @@ def both_are(facts):
     noted = [f"({'free_at' if fact.startswith('at ') else 'piece_frees'} y.nodes {fact.split()[1]})" for fact in facts]
     return applied("both-are", [*noted, *[f"({fact})" for fact in facts]])
 def either_open(facts): return facts[0] if len(facts) == 1 else applied("either-open", [*[f"(free_in {fact.split()[-1]})" for fact in facts], *[f"({fact})" for fact in facts]])
-def lent(parts):
+def depending(parts):
     if len(parts) == 2: return applied("joined", [f"({p})" for p in parts])
     return parts[0] if parts[0].startswith("piece") else f"passed ({parts[0]})"
-# what is lent by nodes over which more is known than by the parts that they have
-LENT = {"Nil": "by_none true", "Parameter": "of_parameter", "Expansion": "of_expansion (lent_at es t)", "Pack": "of_pack (lent_at es t)", "Cell": "of_cell (lent_at es first) (lent_at es rest)",
-        "Rvalue": "of_head (collapses_from (lent_at es t).head) (lent_at es t)", "Qualified": "of_head (lent_at es t).head (lent_at es t)", "Again": "lent_at es t"}
-def lent_fact(fact): return fact if fact.startswith("piece") else f"ap passed ({fact})"
+# what depends on another argument, of nodes of which more is told than that of their parts
+BY_ARGUMENT = {"Nil": "by_none true", "Parameter": "of_parameter", "Expansion": "of_expansion (by_argument_at es t)", "Pack": "of_pack (by_argument_at es t)", "Cell": "of_cell (by_argument_at es first) (by_argument_at es rest)",
+        "Rvalue": "of_head (collapses_from (by_argument_at es t).head) (by_argument_at es t)", "Qualified": "of_head (by_argument_at es t).head (by_argument_at es t)", "Again": "by_argument_at es t"}
+def passed_fact(fact): return fact if fact.startswith("piece") else f"ap passed ({fact})"
 def again_fact(fact, law): return f"{fact} t b.0 ∙ sym ({law} (Some (tree_at (trees y) a)) (tree_at (trees y) t))"
 def first_of(parts): return parts[0] if len(parts) == 1 else applied("first_of", [f"({p})" for p in parts])
 
@@ -578,11 +577,11 @@ def declarations():
     yield "cpp_tree/proofs/Compacting.antt", "other-node", other_node()
     yield "cpp_tree/proofs/Pushed.antt", "node-stays", node_stays()
     yield "cpp_tree/specs/Notes.antt", "frees", noted("frees", "free_at es {0}", "piece_frees es {0}", both_free, "Free.None", {"Parameter": "Free.One k", "Again": "free_at es t"})
-    yield "cpp_tree/specs/Notes.antt", "lends", noted("lends", "lent_at es {0}", "piece_lends es {0}", lent, "by_none false", LENT)
-    yield "cpp_tree/proofs/Noting.antt", "node-lends", through("node-lends", "lent-at {0} {1}", "piece-lent {0} {1}", "refl",
-        {"Parameter": "refl", "Expansion": "expansion-lent (lent_at y.nodes pattern) (tree_at (trees y) pattern) (lent-at pattern b)", "Pack": "ap of_pack (lent-at elements b)", "Rvalue": "rvalue-lent (lent_at y.nodes t) (tree_at (trees y) t) (lent-at t b)",
-         "Qualified": "ap (λ l. of_head l.head l) (lent-at t b)", "Again": again_fact("lent-at", "by_argument_reargued")}, one=lent_fact)
-    yield "cpp_tree/specs/Notes.antt", "packing", noted("packing", "packs_at es {0}", "piece_packs es {0}", first_of, "None", {"Parameter": "argument_packs es (shape_at es a)", "Again": "packs_by (lent_at es t).is_bare (argument_packs es (shape_at es a))"}, ["Expansion"])
+    yield "cpp_tree/specs/Notes.antt", "node_by_argument", noted("node_by_argument", "by_argument_at es {0}", "piece_by_argument es {0}", depending, "by_none false", BY_ARGUMENT)
+    yield "cpp_tree/proofs/Noting.antt", "node-by-argument", through("node-by-argument", "by-argument-at {0} {1}", "piece-by-argument {0} {1}", "refl",
+        {"Parameter": "refl", "Expansion": "expansion-by-argument (by_argument_at y.nodes pattern) (tree_at (trees y) pattern) (by-argument-at pattern b)", "Pack": "ap of_pack (by-argument-at elements b)", "Rvalue": "rvalue-by-argument (by_argument_at y.nodes t) (tree_at (trees y) t) (by-argument-at t b)",
+         "Qualified": "ap (λ l. of_head l.head l) (by-argument-at t b)", "Again": again_fact("by-argument-at", "by_argument_reargued")}, one=passed_fact)
+    yield "cpp_tree/specs/Notes.antt", "packing", noted("packing", "packs_at es {0}", "piece_packs es {0}", first_of, "None", {"Parameter": "argument_packs es (shape_at es a)", "Again": "packs_by (by_argument_at es t).is_bare (argument_packs es (shape_at es a))"}, ["Expansion"])
     yield "cpp_tree/proofs/Noting.antt", "node-free", through("node-free", "at {0} {1}", "piece-free {0} {1}", "refl", {"Again": again_fact("at", "free_reargued")}, without=["Parameter"],
         joined=both_are)
     yield "cpp_tree/proofs/FreeParameters.antt", "open-free", carried(fold("open-free", [], either_open, "refl", {}, SCOPED))

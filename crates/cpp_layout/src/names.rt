@@ -136,6 +136,7 @@ impl Symbol {
     }
 
     /// The parts of the name of a lambda whose signature names parameters of its own.
+    // <closure-type-name> ::= Ul <lambda-sig> E [ <nonnegative number> ] _
     fn fill_generic_lambda<S: PartList<Context>>(
         &self,
         parts: &mut S,

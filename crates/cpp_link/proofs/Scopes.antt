@@ -14,20 +14,13 @@ use Rattle.cpp_term.specs.References.{parameter_named}
 use Rattle.cpp_term.specs.Between.{Going, closed_arguments, in_name, in_types, in_signature, under_expansion, after, inside, named_so_far, listed_so_far, piece_so_far, tag_so_far, parameter_so_far, argument_so_far, argument_at, index_of, next, between}
 use Rattle.cpp_term.specs.Rescoping.{parameter_here, argument_here, generic_so_far, between_wide}
 use Rattle.cpp_link.specs.Parts.{IsClosed}
-
-or_first : (a b : Bool) → a || b ≡ false → a ≡ false
-or_first false b is = refl
-or_first true b is = absurd (true≢false is)
-
-or_second : (a b : Bool) → a || b ≡ false → b ≡ false
-or_second false b is = is
-or_second true b is = absurd (true≢false is)
+use Rattle.cpp_term.proofs.Notes.{or_left, or_right}
 
 -- ## Arguments
 
 arguments_closed : (t : Term) → is_open t ≡ false → IfSome (arguments_of t) (λ a. is_open a ≡ false)
 unfolding is_open arguments_of
-arguments_closed (instance template arguments) closed = or_second (is_open template) (is_open arguments) closed
+arguments_closed (instance template arguments) closed = or_right (is_open template) (is_open arguments) closed
 arguments_closed (local encoding entity discriminator) closed = arguments_closed entity closed
 arguments_closed (of_default digits entity) closed = arguments_closed entity closed
 arguments_closed _ closed = tt
@@ -54,8 +47,8 @@ closed_are t = by (is_open t) refl
 
 pub element_closed : (t : Term) (k : ℕ) → is_open t ≡ false → is_open (element t k) ≡ false
 unfolding is_open element
-element_closed (list first rest) zero closed = or_first (is_open first) (is_open rest) closed
-element_closed (list first rest) (suc k) closed = element_closed rest k (or_second (is_open first) (is_open rest) closed)
+element_closed (list first rest) zero closed = or_left (is_open first) (is_open rest) closed
+element_closed (list first rest) (suc k) closed = element_closed rest k (or_right (is_open first) (is_open rest) closed)
 element_closed _ k closed = refl
 
 -- ## What surrounds the next part

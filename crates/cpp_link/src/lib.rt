@@ -18,7 +18,7 @@ pub mod settling;
 pub mod shapes;
 pub mod signatures;
 pub mod steps;
-pub mod surroundings;
+mod surroundings;
 mod tables;
 pub mod values;
 pub mod wide_language;

@@ -329,7 +329,7 @@ impl Linked {
                 },
                 true,
             ),
-            // <template-arg>, of any kind but a literal or a pack, which is read by itself
+            // <template-arg> ::= <type> | X <expression> E | <template-param-decl> <template-arg>, read by itself
             Production::AnyArgument => made(
                 Node::Cell {
                     first: self.tree(symbol, parts, 0),
@@ -361,7 +361,7 @@ impl Linked {
                 },
                 true,
             ),
-            // <template-arg>, of any kind but a literal or a pack, which is read by itself, in a pack
+            // <template-arg> ::= <type> | X <expression> E | <template-param-decl> <template-arg>, read by itself, in a pack
             Production::AnyElement => made(
                 Node::Cell {
                     first: self.tree(symbol, parts, 0),

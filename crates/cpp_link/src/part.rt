@@ -74,7 +74,7 @@ pub enum Prefix {
     Behind { node: u32, listed: bool },
 }
 
-/// What parameters name: nothing, nothing as in the signature of a lambda, or arguments.
+/// What parameters name: nothing, nothing as in the signature of a lambda or in what is declared of an argument, or arguments.
 #[derive(Clone, Copy)]
 pub enum Scope {
     Nothing,

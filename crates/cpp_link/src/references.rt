@@ -101,7 +101,7 @@ impl Linked {
         self.nodes.entry(list).count
     }
 
-    /// The arguments that a name ends in: in the name of an encoding no parameter is free, nor in them.
+    /// The arguments that a name ends in, and none where a parameter is free in it: in the name of an encoding none is.
     pub fn closed_arguments(&self, symbol: &[u8], name: u32) -> Option<u32>
         requires table { IsTable (over symbol.now self.now.nodes) }
         requires below { name < length self.now.nodes.nodes }

@@ -1,7 +1,7 @@
-// What is linked of a symbol by the wide grammar: in a lambda's signature parameters are the lambda's own, and a substitution stands
-// for its tree with the arguments that are meant where it stands.
+// What is linked of a symbol by the wide grammar: in a lambda's signature parameters are the lambda's own, such a lambda is a piece of
+// its own, and a substitution stands for its tree with the arguments that are meant where it stands.
 
-ghost use Rattle.std.specs.Prelude.{◌≡◌, ℕ, ◌+◌, ◌-◌, ◌<◌, ◌≤◌, ◌^◌, ◌∷◌, ◌++◌, [], MatchOption, ◌&&◌, ◌||◌, not, nat_eq, List, length, drop, true, Ok, IfSome, IfOk, IfErr, OnOk, OnErr};
+ghost use Rattle.std.specs.Prelude.{◌≡◌, ℕ, ◌+◌, ◌-◌, ◌<◌, ◌≤◌, ◌^◌, ◌∷◌, ◌++◌, [], MatchOption, ◌&&◌, ◌||◌, List, length, drop, true, Ok, IfOk, IfErr, OnOk};
 ghost use Rattle.sym_core.specs.Value.{counted_value};
 ghost use Rattle.sym_core.specs.declared.NumberKind.TheVariants as kinds;
 ghost use Rattle.sym_core.specs.declared.refusal.Refusal.TheVariants as refusals;
@@ -13,15 +13,13 @@ ghost use Rattle.cpp_grammar.specs.declared.production.Production.TheVariants as
 ghost use Rattle.cpp_grammar.specs.declared.production.Production.{Production as Production-type};
 ghost use Rattle.cpp_grammar.specs.Rescoping.{generic_number};
 ghost use Rattle.cpp_grammar.specs.Unfolding.{production_at};
-ghost use Rattle.cpp_term.specs.Term.{Term};
 ghost use Rattle.cpp_term.specs.Values as values;
 ghost use Rattle.cpp_term.specs.Reargued.{reargued};
 ghost use Rattle.cpp_term.specs.Rescoping.{is_foreign, restated, substituted_wide, with_own};
 ghost use Rattle.cpp_term.specs.Scope.{pack_length};
 ghost use Rattle.cpp_tree.specs.Nodes.{over, tree_at, bytes_at, piece_of, IsPieceBelow, IsWithin, IsTable};
-ghost use Rattle.cpp_tree.specs.declared.node.Thunk.{Thunk};
 ghost use Rattle.cpp_link.specs.declared.part.Part.TheVariants as variants;
-ghost use Rattle.cpp_link.specs.Grows.{Grows, HasPlace};
+ghost use Rattle.cpp_link.specs.Grows.{HasPlace};
 ghost use Rattle.cpp_link.specs.LinkRescoping.{is_parameter, is_parameter_argument, generic_read, is_substitution, is_lambda_production, argument_read, named_by, substituted_nodes, wide_view};
 ghost use Rattle.cpp_link.specs.Making.{state_of};
 ghost use Rattle.cpp_link.specs.NodeCount.{makes_before, makes_at_end};
@@ -159,7 +157,7 @@ impl Linked {
         }
     }
 
-    /// Whether a candidate has parameters that aren't meant here.
+    /// Whether a candidate's free parameters may stand for others here than where it was made.
     #[tactic(auto, unfolding(cpp_term::specs::Rescoping::is_foreign, crate::specs::Parts::around_of))]
     fn is_foreign(&self, symbol: &[u8], kept: Kept, candidate: Candidate) -> bool
         requires table { IsTable (over symbol.now self.now.nodes) }
@@ -185,7 +183,7 @@ impl Linked {
         self.nodes.packs(symbol, tree)
     }
 
-    /// The argument that the free parameters of a tree name here that was made elsewhere, and the length of the packs behind it.
+    /// The argument that the free parameters of a tree which was made elsewhere have here, and the length of the packs behind it.
     ///
     /// # Errors
     ///
@@ -371,7 +369,8 @@ impl Linked {
         Ok(())
     }
 
-    /// A lambda in whose signature parameters are free has parameters of its own.
+    /// The piece itself, but for a lambda in whose signature parameters are free: that has parameters of its own (ABI 5.1.8).
+    // <closure-type-name> ::= Ul <lambda-sig> E [ <nonnegative number> ] _
     #[tactic(auto, unfolding(cpp_tree::specs::Nodes::piece_of))]
     fn own_piece(&self, symbol: &[u8], piece: Piece) -> Piece
         requires table { IsTable (over symbol.now self.now.nodes) }
@@ -390,7 +389,7 @@ impl Linked {
         }
     }
 
-    /// What is closed to, where it may be a lambda with parameters of its own.
+    /// The part, as `own_piece` has it where it is a piece.
     #[tactic(auto, unfolding(crate::specs::Parts::value_of))]
     fn with_own(&self, symbol: &[u8], part: Part) -> Part
         requires table { IsTable (over symbol.now self.now.nodes) }

@@ -119,7 +119,8 @@ pub fn then_piece(
         Piece::Lambda { parameters, number } => then_lambda(
             symbol, parameters, number, encoding, tasks,
         )?,
-        // Where a symbol is read by the ABI's grammar no lambda has parameters of its own.
+        // <closure-type-name> ::= Ul <lambda-sig> E [ <nonnegative number> ] _, with parameters of its own: read by the ABI's
+        // grammar no symbol has one.
         Piece::GenericLambda { .. } => {}
         Piece::Unnamed(number) => {
             then_text(

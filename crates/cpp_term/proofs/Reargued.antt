@@ -7,7 +7,6 @@ use Rattle.cpp_grammar.specs.Term as term_
 use Rattle.cpp_term.specs.Term.{Term, alone, in_std, within, instance, local, holder, tagged, of_default, parameter, constructor, destructor, lambda, conversion, pointer, lvalue, rvalue, array, bounded, member_pointer, function_type, qualified, vector, complex, expansion, integer, pack, list}
 use Rattle.cpp_term.specs.Scope.{count, element, arguments_of, before_arguments, is_structor, without_tags, has_return_type, is_open, free_in, length_if_pack, pack_length}
 use Rattle.cpp_term.specs.Items.{Context, HeadClass, known, of_element, collapsed_of_element, collapsed_class, class_of, packs_of, is_empty}
-use Rattle.cpp_term.specs.Parts.{own_piece}
 use Rattle.cpp_term.specs.Erased.{erase}
 use Rattle.cpp_term.specs.Reargued.{argument_or, reargued, reargued_if_there, bare, HeadFrom, of_its_own, of_argument, collapsed_of_argument, collapsed_from, head_from, class_from, is_empty_with}
 use Rattle.cpp_term.proofs.Notes.{both, or_left, or_right}
@@ -239,13 +238,6 @@ returns_reargued c t = go (arguments_of t) (arguments_of (reargued c t)) (argume
     go (Some x) (Some y) same = ap not (before_reargued c t)
     go None (Some y) same = absurd (cc same)
     go (Some x) None same = absurd (cc same)
-
-pub piece_reargued : (c : Option Term) (t : Term) → own_piece (reargued c t) ≡ reargued c (own_piece t)
-unfolding reargued own_piece argument_or
-piece_reargued c (alone p) = refl
-piece_reargued c (in_std p) = refl
-piece_reargued c (within prefix p) = refl
-piece_reargued c _ = refl
 
 -- ## Packs
 

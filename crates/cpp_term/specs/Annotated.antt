@@ -83,7 +83,7 @@ annotate s nil = term_.nil
 annotate s (list e rest) = term_.list (annotate s e) (annotate s rest)
 annotate s absent = term_.absent
 
--- the arguments of an encoding are closed, so they are annotated by none
+-- the arguments of an encoding are closed, so they are annotated as standing nowhere
 unfoldable pub noted_scope : Option Term → Option term_.Term
 noted_scope None = None
 noted_scope (Some arguments) = Some (annotate nowhere arguments)

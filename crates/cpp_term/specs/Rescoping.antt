@@ -73,7 +73,8 @@ with_free none_free around place t state = Err (BadReference place)
 with_free (one_free k) around place t state = in_scope around place t k state
 with_free several_free around place t state = Err (BadReference place)
 
--- A tree that was made elsewhere is the same tree here, with the arguments that are meant here. Its parameters are the lambda's own in a signature, and outside it has one.
+-- A tree that was made elsewhere is the same tree here, with the arguments that are meant here.
+-- In a signature its parameters are the lambda's own; outside one they have to be one.
 unfoldable pub restated : Around → (place : ℕ) → Term → State → Result (Found Value State) Refusal
 restated around place t state = elim around.in_lambda [
   | true ↦ Ok (found (tree (reargued (Some auto) t) true) state)

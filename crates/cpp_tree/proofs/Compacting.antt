@@ -17,7 +17,7 @@ use Rattle.cpp_tree.specs.declared.node.Entry.{Entry}
 use Rattle.cpp_tree.specs.declared.compact.Words.{Words}
 use Rattle.cpp_tree.specs.declared.compact.Compact.{Compact}
 use Rattle.cpp_tree.specs.Nodes.{entry_at, by_none, under_kept}
-use Rattle.cpp_tree.specs.Notes.{lent_at, passed, joined, of_expansion, of_pack, piece_lends, lends, placed_under, if_own, packs_by, empty_by, pack_class, class_by, collapses, both_free, piece_frees, piece_packs, argument_packs, frees, empties, ends_in, untagging, classes, packing, returning, counting, running, noting, bare_entry}
+use Rattle.cpp_tree.specs.Notes.{by_argument_at, passed, joined, of_expansion, of_pack, piece_by_argument, node_by_argument, placed_under, if_own, packs_by, empty_by, pack_class, class_by, collapses, both_free, piece_frees, piece_packs, argument_packs, frees, empties, ends_in, untagging, classes, packing, returning, counting, running, noting, bare_entry}
 use Rattle.cpp_tree.specs.Compact.{packs_kept, class_kept, arguments_kept, untagged_kept, returns_kept, count_kept, run_kept, free_kept, kept, with_head, restated_entry, entry_of}
 
 -- a length that is kept, and one that isn't
@@ -32,15 +32,15 @@ other-packs m n none = rw none refl
 
 pub over-is : (n : Node) (f : ByArgument → ByArgument) (l : ByArgument) (w : Words) (first second : ℕ) (c part : Compact) (e : Entry) → entry_of part ≡ e → l ≡ f part.by_argument
     → entry_of c ≡ kept n (packs_kept part.packs) (free_kept part.free part.number) false l w first second → entry_of c ≡ kept n e.packs e.free false (f e.by_argument) w first second
-over-is n f l w first second c part e at lent made =
-    made ∙ ap (λ x. kept n (packs_kept part.packs) (free_kept part.free part.number) false x w first second) lent ∙ ap (λ x. kept n x.packs x.free false (f x.by_argument) w first second) at
+over-is n f l w first second c part e at depends made =
+    made ∙ ap (λ x. kept n (packs_kept part.packs) (free_kept part.free part.number) false x w first second) depends ∙ ap (λ x. kept n x.packs x.free false (f x.by_argument) w first second) at
 
 pub over-two-is : (n : Node) (empty : Bool) (f : ByArgument → ByArgument → ByArgument) (l : ByArgument) (w : Words) (first second : ℕ) (c one other : Compact) (e g : Entry) → entry_of one ≡ e → entry_of other ≡ g
     → l ≡ f one.by_argument other.by_argument
     → entry_of c ≡ kept n (first_of (packs_kept one.packs) (packs_kept other.packs)) (both_free (free_kept one.free one.number) (free_kept other.free other.number)) empty l w first second
     → entry_of c ≡ kept n (first_of e.packs g.packs) (both_free e.free g.free) empty (f e.by_argument g.by_argument) w first second
-over-two-is n empty f l w first second c one other e g at there lent made =
-    made ∙ ap (λ x. kept n (first_of (packs_kept one.packs) (packs_kept other.packs)) (both_free (free_kept one.free one.number) (free_kept other.free other.number)) empty x w first second) lent
+over-two-is n empty f l w first second c one other e g at there depends made =
+    made ∙ ap (λ x. kept n (first_of (packs_kept one.packs) (packs_kept other.packs)) (both_free (free_kept one.free one.number) (free_kept other.free other.number)) empty x w first second) depends
     ∙ ap (λ x. kept n (first_of x.packs (packs_kept other.packs)) (both_free x.free (free_kept other.free other.number)) empty (f x.by_argument other.by_argument) w first second) at
     ∙ ap (λ x. kept n (first_of e.packs x.packs) (both_free e.free x.free) empty (f e.by_argument x.by_argument) w first second) there
 
@@ -49,32 +49,32 @@ or-false true = refl
 or-false false = refl
 
 pub lambda-alone : (ns : List Entry) (n : Node) (piece : Piece) (p k : ℕ) → piece ≡ Piece.Lambda p k
-    → kept n (entry_at ns p).packs (entry_at ns p).free false (passed (lent_at ns p)) Words.Plain 0 0
-    ≡ kept n (piece_packs ns piece) (piece_frees ns piece) false (piece_lends ns piece) Words.Plain 0 0
-unfolding piece_packs piece_frees piece_lends
+    → kept n (entry_at ns p).packs (entry_at ns p).free false (passed (by_argument_at ns p)) Words.Plain 0 0
+    ≡ kept n (piece_packs ns piece) (piece_frees ns piece) false (piece_by_argument ns piece) Words.Plain 0 0
+unfolding piece_packs piece_frees piece_by_argument
 lambda-alone ns n piece p k is = rw is refl
 
 pub lambda-within : (ns : List Entry) (n : Node) (e : Entry) (piece : Piece) (p k : ℕ) → piece ≡ Piece.Lambda p k
-    → kept n (first_of e.packs (entry_at ns p).packs) (both_free e.free (entry_at ns p).free) false (joined e.by_argument (lent_at ns p)) Words.Plain 0 0
-    ≡ kept n (first_of e.packs (piece_packs ns piece)) (both_free e.free (piece_frees ns piece)) false (joined e.by_argument (piece_lends ns piece)) Words.Plain 0 0
-unfolding piece_packs piece_frees piece_lends joined passed
+    → kept n (first_of e.packs (entry_at ns p).packs) (both_free e.free (entry_at ns p).free) false (joined e.by_argument (by_argument_at ns p)) Words.Plain 0 0
+    ≡ kept n (first_of e.packs (piece_packs ns piece)) (both_free e.free (piece_frees ns piece)) false (joined e.by_argument (piece_by_argument ns piece)) Words.Plain 0 0
+unfolding piece_packs piece_frees piece_by_argument joined passed
 lambda-within ns n e piece p k is = rw is refl
 
 pub conversion-alone : (ns : List Entry) (n : Node) (piece : Piece) (t : ℕ) → piece ≡ Piece.Conversion t
-    → kept n (entry_at ns t).packs (entry_at ns t).free false (passed (lent_at ns t)) Words.Plain 0 0
-    ≡ kept n (piece_packs ns piece) (piece_frees ns piece) false (piece_lends ns piece) Words.Plain 0 0
-unfolding piece_packs piece_frees piece_lends
+    → kept n (entry_at ns t).packs (entry_at ns t).free false (passed (by_argument_at ns t)) Words.Plain 0 0
+    ≡ kept n (piece_packs ns piece) (piece_frees ns piece) false (piece_by_argument ns piece) Words.Plain 0 0
+unfolding piece_packs piece_frees piece_by_argument
 conversion-alone ns n piece t is = rw is refl
 
 pub conversion-within : (ns : List Entry) (n : Node) (e : Entry) (piece : Piece) (t : ℕ) → piece ≡ Piece.Conversion t
-    → kept n (first_of e.packs (entry_at ns t).packs) (both_free e.free (entry_at ns t).free) false (joined e.by_argument (lent_at ns t)) Words.Plain 0 0
-    ≡ kept n (first_of e.packs (piece_packs ns piece)) (both_free e.free (piece_frees ns piece)) false (joined e.by_argument (piece_lends ns piece)) Words.Plain 0 0
-unfolding piece_packs piece_frees piece_lends joined passed
+    → kept n (first_of e.packs (entry_at ns t).packs) (both_free e.free (entry_at ns t).free) false (joined e.by_argument (by_argument_at ns t)) Words.Plain 0 0
+    ≡ kept n (first_of e.packs (piece_packs ns piece)) (both_free e.free (piece_frees ns piece)) false (joined e.by_argument (piece_by_argument ns piece)) Words.Plain 0 0
+unfolding piece_packs piece_frees piece_by_argument joined passed
 conversion-within ns n e piece t is = rw is refl
 
 pub other-alone : (ns : List Entry) (n : Node) (piece : Piece) → ((p k : ℕ) → piece ≡ Piece.Lambda p k → ⊥) → ((t : ℕ) → piece ≡ Piece.Conversion t → ⊥)
-    → bare_entry n false ≡ kept n (piece_packs ns piece) (piece_frees ns piece) false (piece_lends ns piece) Words.Plain 0 0
-unfolding piece_packs piece_frees piece_lends class_kept arguments_kept untagged_kept returns_kept count_kept run_kept
+    → bare_entry n false ≡ kept n (piece_packs ns piece) (piece_frees ns piece) false (piece_by_argument ns piece) Words.Plain 0 0
+unfolding piece_packs piece_frees piece_by_argument class_kept arguments_kept untagged_kept returns_kept count_kept run_kept
 other-alone ns n (Piece.Lambda p k) other none = absurd (other p k refl)
 other-alone ns n (Piece.Conversion t) other none = absurd (none t refl)
 other-alone ns n _ other none = refl
@@ -103,8 +103,8 @@ within-none n e =
 
 pub other-within : (ns : List Entry) (n : Node) (e : Entry) (piece : Piece) → ((p k : ℕ) → piece ≡ Piece.Lambda p k → ⊥) → ((t : ℕ) → piece ≡ Piece.Conversion t → ⊥)
     → kept n e.packs e.free false (passed e.by_argument) Words.Plain 0 0
-    ≡ kept n (first_of e.packs (piece_packs ns piece)) (both_free e.free (piece_frees ns piece)) false (joined e.by_argument (piece_lends ns piece)) Words.Plain 0 0
-unfolding piece_packs piece_frees piece_lends
+    ≡ kept n (first_of e.packs (piece_packs ns piece)) (both_free e.free (piece_frees ns piece)) false (joined e.by_argument (piece_by_argument ns piece)) Words.Plain 0 0
+unfolding piece_packs piece_frees piece_by_argument
 other-within ns n e (Piece.Lambda p k) other none = absurd (other p k refl)
 other-within ns n e (Piece.Conversion t) other none = absurd (none t refl)
 other-within ns n e _ other none = within-none n e
@@ -158,7 +158,7 @@ pub record IsOther (n : Node) : Type 0 where
 
 -- Generated by tools/trees.py.
 pub other-node : (ns : List Entry) (n : Node) → IsOther n → bare_entry n false ≡ noting ns n
-unfolding frees lends empties ends_in untagging classes packing returning counting running
+unfolding frees node_by_argument empties ends_in untagging classes packing returning counting running
 other-node ns Node.Nil other = absurd (other.not_nil refl)
 other-node ns (Node.Alone p) other = absurd (other.not_alone p refl)
 other-node ns (Node.InStd p) other = absurd (other.not_instd p refl)

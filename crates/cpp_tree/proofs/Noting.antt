@@ -7,7 +7,7 @@ use Rattle.cpp_grammar.specs.Scope as scope
 use Rattle.cpp_term.proofs.Notes.{both}
 use Rattle.cpp_tree.specs.declared.node.Piece.{Piece}
 use Rattle.cpp_tree.specs.declared.node.Node.{Node}
-use Rattle.cpp_tree.specs.Nodes.{Table, tree_at, piece_of, tree_of, trees, entry_at, IsPieceBelow, IsBelow, IsThereBelow, IsPlacedBelow, IsClassBelow, IsArgumentsBelow, IsTable, tree_if_there, placed_tree, class_is, head_of, arguments_are, untagged_is, head_noted, by_argument_of, free_is, is_again, IsFlat, IsNoted}
+use Rattle.cpp_tree.specs.Nodes.{Table, tree_at, piece_of, tree_of, trees, entry_at, IsPieceBelow, IsBelow, IsThereBelow, IsPlacedBelow, IsClassBelow, IsPlacedThere, IsTable, tree_if_there, placed_tree, class_is, head_of, placed_if_there, untagged_is, head_noted, by_argument_of, free_is, is_again, IsFlat, IsNoted}
 use Rattle.cpp_term.specs.Term as term
 use Rattle.cpp_grammar.specs.Items as heads
 use Rattle.cpp_term.specs.Items as items
@@ -21,7 +21,7 @@ use Rattle.cpp_tree.specs.declared.node.ByArgument.{ByArgument}
 use Rattle.cpp_term.specs.Reargued as again
 use Rattle.cpp_term.specs.Reargued.{reargued, reargued_if_there, argument_or, bare, head_from, class_from, is_empty_with}
 use Rattle.cpp_term.proofs.Reargued.{reargued_none, reargued_twice, free_reargued, count_reargued, arguments_reargued, untagged_reargued, structor_reargued, returns_reargued, bare_reargued, length_reargued, head_from_reargued, empty_with_reargued, pack_reargued, class_reargued, empty_reargued}
-use Rattle.cpp_tree.specs.Notes.{free_at, both_free, piece_frees, frees, lent_at, passed, joined, piece_lends, collapses_from, of_expansion, of_pack, of_head, lends, empty_by, place_of, resolved_at, shape_at, placed_under, if_own, packs_by, empties, ends_in, or_itself, untagging, collapses, pack_class, argument_class, class_by, classes, packs_at, argument_packs, piece_packs, packing, is_structor_piece, is_structor_node, returning, counting, running, noting}
+use Rattle.cpp_tree.specs.Notes.{free_at, both_free, piece_frees, frees, by_argument_at, passed, joined, piece_by_argument, collapses_from, of_expansion, of_pack, of_head, node_by_argument, empty_by, place_of, resolved_at, shape_at, placed_under, if_own, packs_by, empties, ends_in, or_itself, untagging, collapses, pack_class, argument_class, class_by, classes, packs_at, argument_packs, piece_packs, packing, is_structor_piece, is_structor_node, returning, counting, running, noting}
 
 one-more : (n : ℕ) → 1 + n ≡ suc n
 one-more n = omega arith
@@ -37,9 +37,9 @@ and-false : (b : Bool) → false ≡ b && false
 and-false true = refl
 and-false false = refl
 
-expansion-lent : (l : ByArgument) (t : Term) → l ≡ by_argument_of t → of_expansion l ≡ by_argument_of (term.expansion t)
+expansion-by-argument : (l : ByArgument) (t : Term) → l ≡ by_argument_of t → of_expansion l ≡ by_argument_of (term.expansion t)
 unfolding by_argument_of bare head_from is_empty_with head_noted
-expansion-lent l t e = ap of_expansion e ∙ (rw (sym (and-true (bare t)), sym (and-false (bare t))) refl)
+expansion-by-argument l t e = ap of_expansion e ∙ (rw (sym (and-true (bare t)), sym (and-false (bare t))) refl)
 
 collapses-noted : (h : again.HeadFrom) → collapses_from (head_noted h) ≡ head_noted (again.collapsed_from h)
 unfolding collapses_from head_noted again.collapsed_from
@@ -47,9 +47,9 @@ collapses-noted again.of_its_own = refl
 collapses-noted again.of_argument = refl
 collapses-noted again.collapsed_of_argument = refl
 
-rvalue-lent : (l : ByArgument) (t : Term) → l ≡ by_argument_of t → of_head (collapses_from l.head) l ≡ by_argument_of (term.rvalue t)
+rvalue-by-argument : (l : ByArgument) (t : Term) → l ≡ by_argument_of t → of_head (collapses_from l.head) l ≡ by_argument_of (term.rvalue t)
 unfolding by_argument_of bare head_from is_empty_with
-rvalue-lent l t e = ap (λ x. of_head (collapses_from x.head) x) e ∙ ap (λ h. of_head h (by_argument_of t)) (collapses-noted (head_from t))
+rvalue-by-argument l t e = ap (λ x. of_head (collapses_from x.head) x) e ∙ ap (λ h. of_head h (by_argument_of t)) (collapses-noted (head_from t))
 
 pub by_argument_reargued : (c : Option Term) (t : Term) → by_argument_of (reargued c t) ≡ by_argument_of t
 unfolding by_argument_of
@@ -141,43 +141,43 @@ module _ (y : Table) (table : IsTable y) where
   node-free (Node.Again t a) b = at t b.0 ∙ sym (free_reargued (Some (tree_at (trees y) a)) (tree_at (trees y) t))
   node-free _ b = refl
 
-  lent-at : (i : ℕ) → i < length y.nodes → lent_at y.nodes i ≡ by_argument_of (tree_at (trees y) i)
-  lent-at i less = (table.each i less).by_argument
+  by-argument-at : (i : ℕ) → i < length y.nodes → by_argument_at y.nodes i ≡ by_argument_of (tree_at (trees y) i)
+  by-argument-at i less = (table.each i less).by_argument
 
-  piece-lent : (p : Piece) → IsPieceBelow y.bytes (length y.nodes) p → piece_lends y.nodes p ≡ passed (by_argument_of (piece_of y.bytes (trees y) p))
-  unfolding piece_lends piece_of by_argument_of bare head_from is_empty_with head_noted passed
-  piece-lent (Piece.Lambda parameters number) b = ap passed (lent-at parameters b)
-  piece-lent (Piece.Conversion t) b = ap passed (lent-at t b)
-  piece-lent _ b = refl
+  piece-by-argument : (p : Piece) → IsPieceBelow y.bytes (length y.nodes) p → piece_by_argument y.nodes p ≡ passed (by_argument_of (piece_of y.bytes (trees y) p))
+  unfolding piece_by_argument piece_of by_argument_of bare head_from is_empty_with head_noted passed
+  piece-by-argument (Piece.Lambda parameters number) b = ap passed (by-argument-at parameters b)
+  piece-by-argument (Piece.Conversion t) b = ap passed (by-argument-at t b)
+  piece-by-argument _ b = refl
 
   -- Generated by tools/trees.py.
-  pub node-lends : (n : Node) → IsBelow y.bytes (length y.thunks) (length y.nodes) n → lends y.nodes n ≡ by_argument_of (tree_of y.bytes y.thunks (trees y) n)
-  unfolding lends tree_of by_argument_of bare head_from is_empty_with head_noted passed joined
-  node-lends (Node.Alone p) b = piece-lent p b
-  node-lends (Node.InStd p) b = piece-lent p b
-  node-lends (Node.Within prefix p) b = rw (lent-at prefix b.0, piece-lent p b.1) refl
-  node-lends (Node.Instance template arguments) b = rw (lent-at template b.0, lent-at arguments b.1) refl
-  node-lends (Node.Local e entity d) b = ap passed (lent-at entity b.1)
-  node-lends (Node.Holder name) b = ap passed (lent-at name b)
-  node-lends (Node.Tagged of_structor name tag) b = ap passed (lent-at name b.0)
-  node-lends (Node.OfDefault digits entity) b = ap passed (lent-at entity b.1)
-  node-lends (Node.Parameter k a) b = refl
-  node-lends (Node.Pointer t) b = ap passed (lent-at t b)
-  node-lends (Node.Lvalue t) b = ap passed (lent-at t b)
-  node-lends (Node.Rvalue t) b = rvalue-lent (lent_at y.nodes t) (tree_at (trees y) t) (lent-at t b)
-  node-lends (Node.Array digits t) b = ap passed (lent-at t b.1)
-  node-lends (Node.Bounded bound t) b = rw (lent-at bound b.0, lent-at t b.1) refl
-  node-lends (Node.MemberPointer class t) b = rw (lent-at class b.0, lent-at t b.1) refl
-  node-lends (Node.FunctionType c n m returned parameters) b = rw (lent-at returned b.0, lent-at parameters b.1) refl
-  node-lends (Node.Qualified q t) b = ap (λ l. of_head l.head l) (lent-at t b)
-  node-lends (Node.Vector digits t) b = ap passed (lent-at t b.1)
-  node-lends (Node.Complex t) b = ap passed (lent-at t b)
-  node-lends (Node.Expansion pattern) b = expansion-lent (lent_at y.nodes pattern) (tree_at (trees y) pattern) (lent-at pattern b)
-  node-lends (Node.Integer t n) b = ap passed (lent-at t b.0)
-  node-lends (Node.Pack elements) b = ap of_pack (lent-at elements b)
-  node-lends (Node.Cell first rest) b = rw (lent-at first b.0, lent-at rest b.1) refl
-  node-lends (Node.Again t a) b = lent-at t b.0 ∙ sym (by_argument_reargued (Some (tree_at (trees y) a)) (tree_at (trees y) t))
-  node-lends _ b = refl
+  pub node-by-argument : (n : Node) → IsBelow y.bytes (length y.thunks) (length y.nodes) n → node_by_argument y.nodes n ≡ by_argument_of (tree_of y.bytes y.thunks (trees y) n)
+  unfolding node_by_argument tree_of by_argument_of bare head_from is_empty_with head_noted passed joined
+  node-by-argument (Node.Alone p) b = piece-by-argument p b
+  node-by-argument (Node.InStd p) b = piece-by-argument p b
+  node-by-argument (Node.Within prefix p) b = rw (by-argument-at prefix b.0, piece-by-argument p b.1) refl
+  node-by-argument (Node.Instance template arguments) b = rw (by-argument-at template b.0, by-argument-at arguments b.1) refl
+  node-by-argument (Node.Local e entity d) b = ap passed (by-argument-at entity b.1)
+  node-by-argument (Node.Holder name) b = ap passed (by-argument-at name b)
+  node-by-argument (Node.Tagged of_structor name tag) b = ap passed (by-argument-at name b.0)
+  node-by-argument (Node.OfDefault digits entity) b = ap passed (by-argument-at entity b.1)
+  node-by-argument (Node.Parameter k a) b = refl
+  node-by-argument (Node.Pointer t) b = ap passed (by-argument-at t b)
+  node-by-argument (Node.Lvalue t) b = ap passed (by-argument-at t b)
+  node-by-argument (Node.Rvalue t) b = rvalue-by-argument (by_argument_at y.nodes t) (tree_at (trees y) t) (by-argument-at t b)
+  node-by-argument (Node.Array digits t) b = ap passed (by-argument-at t b.1)
+  node-by-argument (Node.Bounded bound t) b = rw (by-argument-at bound b.0, by-argument-at t b.1) refl
+  node-by-argument (Node.MemberPointer class t) b = rw (by-argument-at class b.0, by-argument-at t b.1) refl
+  node-by-argument (Node.FunctionType c n m returned parameters) b = rw (by-argument-at returned b.0, by-argument-at parameters b.1) refl
+  node-by-argument (Node.Qualified q t) b = ap (λ l. of_head l.head l) (by-argument-at t b)
+  node-by-argument (Node.Vector digits t) b = ap passed (by-argument-at t b.1)
+  node-by-argument (Node.Complex t) b = ap passed (by-argument-at t b)
+  node-by-argument (Node.Expansion pattern) b = expansion-by-argument (by_argument_at y.nodes pattern) (tree_at (trees y) pattern) (by-argument-at pattern b)
+  node-by-argument (Node.Integer t n) b = ap passed (by-argument-at t b.0)
+  node-by-argument (Node.Pack elements) b = ap of_pack (by-argument-at elements b)
+  node-by-argument (Node.Cell first rest) b = rw (by-argument-at first b.0, by-argument-at rest b.1) refl
+  node-by-argument (Node.Again t a) b = by-argument-at t b.0 ∙ sym (by_argument_reargued (Some (tree_at (trees y) a)) (tree_at (trees y) t))
+  node-by-argument _ b = refl
 
   -- ## What a node stands for
 
@@ -220,39 +220,39 @@ module _ (y : Table) (table : IsTable y) where
   empty-at : (i : ℕ) → i < length y.nodes → (entry_at y.nodes i).is_empty ≡ items.is_empty items.closed (tree_at (trees y) i)
   empty-at i less = (table.each i less).empty
 
-  arguments-again : (a : ℕ) (o : Option Placed) → arguments_are (trees y) (placed_under a o) ≡ reargued_if_there (Some (tree_at (trees y) a)) (arguments_are (trees y) o)
-  unfolding arguments_are placed_under reargued_if_there placed_tree tree_if_there
+  arguments-again : (a : ℕ) (o : Option Placed) → placed_if_there (trees y) (placed_under a o) ≡ reargued_if_there (Some (tree_at (trees y) a)) (placed_if_there (trees y) o)
+  unfolding placed_if_there placed_under reargued_if_there placed_tree tree_if_there
   arguments-again a None = refl
   arguments-again a (Some p) = ap Some (sym (reargued_twice (tree_if_there (trees y) p.under) (tree_at (trees y) a) (tree_at (trees y) p.node)))
 
   -- what a tree that is there again has of its own, by where its head is from
-  head-at : (t : ℕ) → t < length y.nodes → (lent_at y.nodes t).head ≡ head_noted (head_from (tree_at (trees y) t))
+  head-at : (t : ℕ) → t < length y.nodes → (by_argument_at y.nodes t).head ≡ head_noted (head_from (tree_at (trees y) t))
   unfolding by_argument_of
-  head-at t less = ap (λ l. l.head) (lent-at t less)
+  head-at t less = ap (λ l. l.head) (by-argument-at t less)
 
-  plain-at : (t : ℕ) → t < length y.nodes → ((lent_at y.nodes t).head ≡ HeadFrom.Own → ⊥) → IsPlain (tree_at (trees y) t)
+  plain-at : (t : ℕ) → t < length y.nodes → ((by_argument_at y.nodes t).head ≡ HeadFrom.Own → ⊥) → IsPlain (tree_at (trees y) t)
   plain-at t less other = is-plain (tree_at (trees y) t) (λ e. other (head-at t less ∙ e))
 
-  ends-again : (t a : ℕ) (h : HeadFrom) → t < length y.nodes → (lent_at y.nodes t).head ≡ h
-      → arguments_are (trees y) (if_own h (placed_under a (entry_at y.nodes t).arguments) None) ≡ arguments_of (reargued (Some (tree_at (trees y) a)) (tree_at (trees y) t))
-  unfolding if_own arguments_are reargued_if_there
+  ends-again : (t a : ℕ) (h : HeadFrom) → t < length y.nodes → (by_argument_at y.nodes t).head ≡ h
+      → placed_if_there (trees y) (if_own h (placed_under a (entry_at y.nodes t).arguments) None) ≡ arguments_of (reargued (Some (tree_at (trees y) a)) (tree_at (trees y) t))
+  unfolding if_own placed_if_there reargued_if_there
   ends-again t a h less is = which h is ∙ sym (arguments_reargued (Some (tree_at (trees y) a)) (tree_at (trees y) t))
     where
       none : IsPlain (tree_at (trees y) t) → None ≡ reargued_if_there (Some (tree_at (trees y) a)) (arguments_of (tree_at (trees y) t))
       none plain = ap (reargued_if_there (Some (tree_at (trees y) a))) (sym plain.no_arguments)
 
-      which : (h : HeadFrom) → (lent_at y.nodes t).head ≡ h
-          → arguments_are (trees y) (if_own h (placed_under a (entry_at y.nodes t).arguments) None) ≡ reargued_if_there (Some (tree_at (trees y) a)) (arguments_of (tree_at (trees y) t))
+      which : (h : HeadFrom) → (by_argument_at y.nodes t).head ≡ h
+          → placed_if_there (trees y) (if_own h (placed_under a (entry_at y.nodes t).arguments) None) ≡ reargued_if_there (Some (tree_at (trees y) a)) (arguments_of (tree_at (trees y) t))
       which HeadFrom.Own is = arguments-again a (entry_at y.nodes t).arguments ∙ ap (reargued_if_there (Some (tree_at (trees y) a))) (table.each t less).arguments
       which HeadFrom.Argument is = none (plain-at t less (λ o. cc (is, o)))
       which HeadFrom.Collapsed is = none (plain-at t less (λ o. cc (is, o)))
 
-  pub node-ends : (n : Node) → IsBelow y.bytes (length y.thunks) (length y.nodes) n → arguments_are (trees y) (ends_in y.nodes n) ≡ arguments_of (tree_of y.bytes y.thunks (trees y) n)
-  unfolding ends_in tree_of arguments_of arguments_are placed_tree tree_if_there
+  pub node-ends : (n : Node) → IsBelow y.bytes (length y.thunks) (length y.nodes) n → placed_if_there (trees y) (ends_in y.nodes n) ≡ arguments_of (tree_of y.bytes y.thunks (trees y) n)
+  unfolding ends_in tree_of arguments_of placed_if_there placed_tree tree_if_there
   node-ends (Node.Instance template arguments) b = ap Some (reargued_none (tree_at (trees y) arguments))
   node-ends (Node.Local e entity d) b = (table.each entity b.1).arguments
   node-ends (Node.OfDefault digits entity) b = (table.each entity b.1).arguments
-  node-ends (Node.Again t a) b = ends-again t a (lent_at y.nodes t).head b.0 refl
+  node-ends (Node.Again t a) b = ends-again t a (by_argument_at y.nodes t).head b.0 refl
   node-ends _ b = refl
 
   pub placed-below : (i n : ℕ) (p : Placed) → i < n → IsPlacedBelow i p → IsPlacedBelow n p
@@ -262,27 +262,27 @@ module _ (y : Table) (table : IsTable y) where
       go None d = tt
       go (Some k) d = omega (arith, less, d)
 
-  arguments-below : (i n : ℕ) (a : Option Placed) → i < n → IsArgumentsBelow i a → IsArgumentsBelow n a
+  arguments-below : (i n : ℕ) (a : Option Placed) → i < n → IsPlacedThere i a → IsPlacedThere n a
   arguments-below i n None less b = tt
   arguments-below i n (Some p) less b = placed-below i n p less b
 
-  under-below : (n a : ℕ) (o : Option Placed) → a < n → IsArgumentsBelow n o → IsArgumentsBelow n (placed_under a o)
+  under-below : (n a : ℕ) (o : Option Placed) → a < n → IsPlacedThere n o → IsPlacedThere n (placed_under a o)
   unfolding placed_under
   under-below n a None less b = tt
   under-below n a (Some p) less b = (b.0, less)
 
-  own-below : (n : ℕ) (h : HeadFrom) (o : Option Placed) → IsArgumentsBelow n o → IsArgumentsBelow n (if_own h o None)
+  own-below : (n : ℕ) (h : HeadFrom) (o : Option Placed) → IsPlacedThere n o → IsPlacedThere n (if_own h o None)
   unfolding if_own
   own-below n HeadFrom.Own o b = b
   own-below n HeadFrom.Argument o b = tt
   own-below n HeadFrom.Collapsed o b = tt
 
-  pub node-ends-below : (n : Node) → IsBelow y.bytes (length y.thunks) (length y.nodes) n → IsArgumentsBelow (length y.nodes) (ends_in y.nodes n)
+  pub node-ends-below : (n : Node) → IsBelow y.bytes (length y.thunks) (length y.nodes) n → IsPlacedThere (length y.nodes) (ends_in y.nodes n)
   unfolding ends_in
   node-ends-below (Node.Instance template arguments) b = (b.1, tt)
   node-ends-below (Node.Local e entity d) b = arguments-below entity (length y.nodes) (entry_at y.nodes entity).arguments b.1 (table.each entity b.1).arguments_below
   node-ends-below (Node.OfDefault digits entity) b = arguments-below entity (length y.nodes) (entry_at y.nodes entity).arguments b.1 (table.each entity b.1).arguments_below
-  node-ends-below (Node.Again t a) b = own-below (length y.nodes) (lent_at y.nodes t).head (placed_under a (entry_at y.nodes t).arguments)
+  node-ends-below (Node.Again t a) b = own-below (length y.nodes) (by_argument_at y.nodes t).head (placed_under a (entry_at y.nodes t).arguments)
       (under-below (length y.nodes) a (entry_at y.nodes t).arguments b.1 (arguments-below t (length y.nodes) (entry_at y.nodes t).arguments b.0 (table.each t b.0).arguments_below))
   node-ends-below _ b = tt
 
@@ -291,7 +291,7 @@ module _ (y : Table) (table : IsTable y) where
   name-untagged t name None e = reargued_none (tree_at (trees y) name) ∙ e
   name-untagged t name (Some i) e = e
 
-  untagged-again : (t a : ℕ) (h : HeadFrom) → t < length y.nodes → (lent_at y.nodes t).head ≡ h
+  untagged-again : (t a : ℕ) (h : HeadFrom) → t < length y.nodes → (by_argument_at y.nodes t).head ≡ h
       → untagged_is (trees y) (reargued (Some (tree_at (trees y) a)) (tree_at (trees y) t)) (if_own h (placed_under a (entry_at y.nodes t).untagged) None) ≡ without_tags (reargued (Some (tree_at (trees y) a)) (tree_at (trees y) t))
   unfolding if_own untagged_is placed_under placed_tree tree_if_there
   untagged-again t a h less is = which h is ∙ sym (untagged_reargued (Some (tree_at (trees y) a)) (tree_at (trees y) t))
@@ -300,7 +300,7 @@ module _ (y : Table) (table : IsTable y) where
       own None e = ap (reargued (Some (tree_at (trees y) a))) e
       own (Some p) e = sym (reargued_twice (tree_if_there (trees y) p.under) (tree_at (trees y) a) (tree_at (trees y) p.node)) ∙ ap (reargued (Some (tree_at (trees y) a))) e
 
-      which : (h : HeadFrom) → (lent_at y.nodes t).head ≡ h → untagged_is (trees y) (reargued (Some (tree_at (trees y) a)) (tree_at (trees y) t)) (if_own h (placed_under a (entry_at y.nodes t).untagged) None) ≡ reargued (Some (tree_at (trees y) a)) (without_tags (tree_at (trees y) t))
+      which : (h : HeadFrom) → (by_argument_at y.nodes t).head ≡ h → untagged_is (trees y) (reargued (Some (tree_at (trees y) a)) (tree_at (trees y) t)) (if_own h (placed_under a (entry_at y.nodes t).untagged) None) ≡ reargued (Some (tree_at (trees y) a)) (without_tags (tree_at (trees y) t))
       which HeadFrom.Own is = own (entry_at y.nodes t).untagged (table.each t less).untagged
       which HeadFrom.Argument is = ap (reargued (Some (tree_at (trees y) a))) (sym (plain-at t less (λ o. cc (is, o))).no_tags)
       which HeadFrom.Collapsed is = ap (reargued (Some (tree_at (trees y) a))) (sym (plain-at t less (λ o. cc (is, o))).no_tags)
@@ -309,18 +309,18 @@ module _ (y : Table) (table : IsTable y) where
       → untagged_is (trees y) (tree_of y.bytes y.thunks (trees y) n) (untagging y.nodes n) ≡ without_tags (tree_of y.bytes y.thunks (trees y) n)
   unfolding untagging untagged_is tree_of without_tags
   node-untagged (Node.Tagged of_structor name tag) b = name-untagged _ name (entry_at y.nodes name).untagged (table.each name b.0).untagged
-  node-untagged (Node.Again t a) b = untagged-again t a (lent_at y.nodes t).head b.0 refl
+  node-untagged (Node.Again t a) b = untagged-again t a (by_argument_at y.nodes t).head b.0 refl
   node-untagged _ b = refl
 
-  untagged-below : (n name : ℕ) (o : Option Placed) → name < n → IsArgumentsBelow name o → IsPlacedBelow n (or_itself name o)
+  untagged-below : (n name : ℕ) (o : Option Placed) → name < n → IsPlacedThere name o → IsPlacedBelow n (or_itself name o)
   unfolding or_itself
   untagged-below n name None less b = (less, tt)
   untagged-below n name (Some p) less b = placed-below name n p less b
 
-  pub node-untagged-below : (n : Node) → IsBelow y.bytes (length y.thunks) (length y.nodes) n → IsArgumentsBelow (length y.nodes) (untagging y.nodes n)
+  pub node-untagged-below : (n : Node) → IsBelow y.bytes (length y.thunks) (length y.nodes) n → IsPlacedThere (length y.nodes) (untagging y.nodes n)
   unfolding untagging
   node-untagged-below (Node.Tagged of_structor name tag) b = untagged-below (length y.nodes) name (entry_at y.nodes name).untagged b.0 (table.each name b.0).untagged_below
-  node-untagged-below (Node.Again t a) b = own-below (length y.nodes) (lent_at y.nodes t).head (placed_under a (entry_at y.nodes t).untagged)
+  node-untagged-below (Node.Again t a) b = own-below (length y.nodes) (by_argument_at y.nodes t).head (placed_under a (entry_at y.nodes t).untagged)
       (under-below (length y.nodes) a (entry_at y.nodes t).untagged b.1 (arguments-below t (length y.nodes) (entry_at y.nodes t).untagged b.0 (table.each t b.0).untagged_below))
   node-untagged-below _ b = tt
 
@@ -356,7 +356,7 @@ module _ (y : Table) (table : IsTable y) where
   class-chosen again.collapsed_of_argument own given = collapse-is (trees y) given
 
   pub class-again : (t a : ℕ) → t < length y.nodes → a < length y.nodes
-      → class_is (trees y) (class_by (lent_at y.nodes t).head (entry_at y.nodes t).class (argument_class y.nodes a)) ≡ items.class_of (reargued (Some (tree_at (trees y) a)) (tree_at (trees y) t))
+      → class_is (trees y) (class_by (by_argument_at y.nodes t).head (entry_at y.nodes t).class (argument_class y.nodes a)) ≡ items.class_of (reargued (Some (tree_at (trees y) a)) (tree_at (trees y) t))
   class-again t a less few =
       ap (λ h. class_is (trees y) (class_by h (entry_at y.nodes t).class (argument_class y.nodes a))) (head-at t less)
       ∙ class-chosen (head_from (tree_at (trees y) t)) (entry_at y.nodes t).class (argument_class y.nodes a)
@@ -406,7 +406,7 @@ module _ (y : Table) (table : IsTable y) where
   node-class-below (Node.Rvalue t) b = collapse-below (length y.nodes) (entry_at y.nodes t).class (class-later t (length y.nodes) (entry_at y.nodes t).class b (table.each t b).class_below)
   node-class-below (Node.Qualified q t) b = class-later t (length y.nodes) (entry_at y.nodes t).class b (table.each t b).class_below
   node-class-below (Node.Parameter k a) b = argument-below a b
-  node-class-below (Node.Again t a) b = chosen-below (length y.nodes) (lent_at y.nodes t).head (entry_at y.nodes t).class (argument_class y.nodes a)
+  node-class-below (Node.Again t a) b = chosen-below (length y.nodes) (by_argument_at y.nodes t).head (entry_at y.nodes t).class (argument_class y.nodes a)
       (class-later t (length y.nodes) (entry_at y.nodes t).class b.0 (table.each t b.0).class_below) (argument-below a b.1)
   node-class-below _ b = tt
 
@@ -436,11 +436,11 @@ module _ (y : Table) (table : IsTable y) where
       length-is r.node (shape_at y.nodes a) (place-below a less) (shape-flat a less) e.below ∙ ap length_if_pack (sym e.built)
       ∙ sym (length_reargued (tree_if_there (trees y) r.under) (tree_at (trees y) r.node)) ∙ ap length_if_pack (place-is a less)
 
-  pub again-pack : (t a : ℕ) → t < length y.nodes → a < length y.nodes → packs_by (lent_at y.nodes t).is_bare (argument_packs y.nodes (shape_at y.nodes a)) ≡ pack_length (reargued (Some (tree_at (trees y) a)) (tree_at (trees y) t))
+  pub again-pack : (t a : ℕ) → t < length y.nodes → a < length y.nodes → packs_by (by_argument_at y.nodes t).is_bare (argument_packs y.nodes (shape_at y.nodes a)) ≡ pack_length (reargued (Some (tree_at (trees y) a)) (tree_at (trees y) t))
   unfolding by_argument_of
   again-pack t a less few =
-      packs-chosen (lent_at y.nodes t).is_bare (argument_packs y.nodes (shape_at y.nodes a))
-      ∙ ap (λ l. cond l.is_bare (argument_packs y.nodes (shape_at y.nodes a)) None) (lent-at t less)
+      packs-chosen (by_argument_at y.nodes t).is_bare (argument_packs y.nodes (shape_at y.nodes a))
+      ∙ ap (λ l. cond l.is_bare (argument_packs y.nodes (shape_at y.nodes a)) None) (by-argument-at t less)
       ∙ ap (λ o. cond (bare (tree_at (trees y) t)) o None) (argument-pack a few)
       ∙ sym (pack_reargued (tree_at (trees y) a) (tree_at (trees y) t))
 
@@ -473,10 +473,10 @@ module _ (y : Table) (table : IsTable y) where
   node-pack _ b = refl
 
   pub again-empty : (t a : ℕ) → t < length y.nodes → a < length y.nodes
-      → empty_by (heads.is_none_of (argument_packs y.nodes (shape_at y.nodes a))) (lent_at y.nodes t) ≡ items.is_empty items.closed (reargued (Some (tree_at (trees y) a)) (tree_at (trees y) t))
+      → empty_by (heads.is_none_of (argument_packs y.nodes (shape_at y.nodes a))) (by_argument_at y.nodes t) ≡ items.is_empty items.closed (reargued (Some (tree_at (trees y) a)) (tree_at (trees y) t))
   again-empty t a less few =
-      ap (λ o. empty_by (heads.is_none_of o) (lent_at y.nodes t)) (argument-pack a few)
-      ∙ ap (empty_by (heads.is_none_of (length_if_pack (tree_at (trees y) a)))) (lent-at t less)
+      ap (λ o. empty_by (heads.is_none_of o) (by_argument_at y.nodes t)) (argument-pack a few)
+      ∙ ap (empty_by (heads.is_none_of (length_if_pack (tree_at (trees y) a)))) (by-argument-at t less)
       ∙ empty-chosen (heads.is_none_of (length_if_pack (tree_at (trees y) a))) (tree_at (trees y) t)
       ∙ sym (empty_reargued items.closed (tree_at (trees y) a) (tree_at (trees y) t))
 
@@ -507,13 +507,13 @@ module _ (y : Table) (table : IsTable y) where
       structor-node (shape_at y.nodes i) (shape-flat i less) ∙ ap is_structor (sym (table.each r.node (place-below i less)).built)
       ∙ sym (structor_reargued (tree_if_there (trees y) r.under) (tree_at (trees y) r.node)) ∙ ap is_structor (place-is i less)
 
-  returns-again : (t a : ℕ) (h : HeadFrom) → t < length y.nodes → (lent_at y.nodes t).head ≡ h → if_own h (entry_at y.nodes t).returns false ≡ has_return_type (tree_at (trees y) t)
+  returns-again : (t a : ℕ) (h : HeadFrom) → t < length y.nodes → (by_argument_at y.nodes t).head ≡ h → if_own h (entry_at y.nodes t).returns false ≡ has_return_type (tree_at (trees y) t)
   unfolding if_own
   returns-again t a HeadFrom.Own less is = (table.each t less).returns
   returns-again t a HeadFrom.Argument less is = sym (plain-at t less (λ o. cc (is, o))).returns_none
   returns-again t a HeadFrom.Collapsed less is = sym (plain-at t less (λ o. cc (is, o))).returns_none
 
-  count-again : (t a : ℕ) (h : HeadFrom) → t < length y.nodes → (lent_at y.nodes t).head ≡ h → if_own h (entry_at y.nodes t).count 0 ≡ count (tree_at (trees y) t)
+  count-again : (t a : ℕ) (h : HeadFrom) → t < length y.nodes → (by_argument_at y.nodes t).head ≡ h → if_own h (entry_at y.nodes t).count 0 ≡ count (tree_at (trees y) t)
   unfolding if_own
   count-again t a HeadFrom.Own less is = count-at t less
   count-again t a HeadFrom.Argument less is = sym (plain-at t less (λ o. cc (is, o))).no_elements
@@ -524,19 +524,19 @@ module _ (y : Table) (table : IsTable y) where
   node-returns (Node.Instance template arguments) b = ap not (structor-shape template b.0)
   node-returns (Node.Local e entity d) b = (table.each entity b.1).returns
   node-returns (Node.OfDefault digits entity) b = (table.each entity b.1).returns
-  node-returns (Node.Again t a) b = returns-again t a (lent_at y.nodes t).head b.0 refl ∙ sym (returns_reargued (Some (tree_at (trees y) a)) (tree_at (trees y) t))
+  node-returns (Node.Again t a) b = returns-again t a (by_argument_at y.nodes t).head b.0 refl ∙ sym (returns_reargued (Some (tree_at (trees y) a)) (tree_at (trees y) t))
   node-returns _ b = refl
 
   pub node-counted : (n : Node) → IsBelow y.bytes (length y.thunks) (length y.nodes) n → counting y.nodes n ≡ count (tree_of y.bytes y.thunks (trees y) n)
   unfolding counting tree_of count
   node-counted (Node.Cell first rest) b = omega (arith, count-at rest b.1)
-  node-counted (Node.Again t a) b = count-again t a (lent_at y.nodes t).head b.0 refl ∙ sym (count_reargued (Some (tree_at (trees y) a)) (tree_at (trees y) t))
+  node-counted (Node.Again t a) b = count-again t a (by_argument_at y.nodes t).head b.0 refl ∙ sym (count_reargued (Some (tree_at (trees y) a)) (tree_at (trees y) t))
   node-counted _ b = refl
 
   pub node-count-below : (n : Node) → IsBelow y.bytes (length y.thunks) (length y.nodes) n → counting y.nodes n ≤ length y.nodes
   unfolding counting if_own
   node-count-below (Node.Cell first rest) b = omega (arith, (table.each rest b.1).count_below, b.1)
-  node-count-below (Node.Again t a) b = go (lent_at y.nodes t).head
+  node-count-below (Node.Again t a) b = go (by_argument_at y.nodes t).head
     where
       go : (h : HeadFrom) → if_own h (entry_at y.nodes t).count 0 ≤ length y.nodes
       go HeadFrom.Own = omega (arith, (table.each t b.0).count_below, b.0)
@@ -577,7 +577,7 @@ module _ (y : Table) (table : IsTable y) where
     packs = node-pack n b;
     free = node-free n b;
     empty = node-empty n b;
-    by_argument = node-lends n b;
+    by_argument = node-by-argument n b;
     flat = flat;
     class = node-class n b;
     class_below = node-class-below n b;

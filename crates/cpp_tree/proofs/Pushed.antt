@@ -12,7 +12,7 @@ use Rattle.cpp_tree.specs.declared.node.Head.{Head}
 use Rattle.cpp_tree.specs.declared.node.Free.{Free}
 use Rattle.cpp_tree.specs.declared.node.Entry.{Entry}
 use Rattle.cpp_tree.specs.Notes.{bare_entry}
-use Rattle.cpp_tree.specs.Nodes.{Stored, over, head_of, Table, tree_at, piece_of, tree_of, trees_onto, trees, entry_at, IsPieceBelow, IsBelow, IsThereBelow, under_kept, IsPlacedBelow, IsClassBelow, tree_if_there, placed_tree, class_is, arguments_are, IsArgumentsBelow, untagged_is, free_is, head_noted, by_argument_of, by_none, is_again, IsFlat, IsEntry, IsTable, IsNoted, with_entry, with_thunk, IsThunkWithin}
+use Rattle.cpp_tree.specs.Nodes.{Stored, over, head_of, Table, tree_at, piece_of, tree_of, trees_onto, trees, entry_at, IsPieceBelow, IsBelow, IsThereBelow, under_kept, IsPlacedBelow, IsClassBelow, tree_if_there, placed_tree, class_is, placed_if_there, IsPlacedThere, untagged_is, free_is, head_noted, by_argument_of, by_none, is_again, IsFlat, IsEntry, IsTable, IsNoted, with_entry, with_thunk, IsThunkWithin}
 use Rattle.cpp_tree.specs.declared.node.Placed.{Placed}
 use Rattle.cpp_term.specs.Reargued.{bare, head_from, is_empty_with}
 
@@ -112,12 +112,12 @@ module _ (s : List ℕ) (us : List Thunk) (ts : List Term) (t : Term) (i : ℕ) 
   class-stays (HeadClass.OfElement e) b = ap items.of_element (placed-stays e b)
   class-stays (HeadClass.CollapsedOfElement e) b = ap items.collapsed_of_element (placed-stays e b)
 
-  arguments-stay : (a : Option Placed) → IsArgumentsBelow i a → arguments_are (ts ++ t ∷ []) a ≡ arguments_are ts a
-  unfolding arguments_are
+  arguments-stay : (a : Option Placed) → IsPlacedThere i a → placed_if_there (ts ++ t ∷ []) a ≡ placed_if_there ts a
+  unfolding placed_if_there
   arguments-stay None b = refl
   arguments-stay (Some a) b = ap Some (placed-stays a b)
 
-  untagged-stays : (u : Term) (o : Option Placed) → IsArgumentsBelow i o → untagged_is (ts ++ t ∷ []) u o ≡ untagged_is ts u o
+  untagged-stays : (u : Term) (o : Option Placed) → IsPlacedThere i o → untagged_is (ts ++ t ∷ []) u o ≡ untagged_is ts u o
   unfolding untagged_is
   untagged-stays u None b = refl
   untagged-stays u (Some a) b = placed-stays a b
@@ -249,7 +249,7 @@ abbrev first-four : List ℕ → List Thunk → Table
 first-four s us = record { bytes = s; nodes = bare_entry Node.Absent false ∷ bare_entry Node.Nil true ∷ bare_entry (Node.Pack 1) true ∷ bare_entry (Node.BuiltinWithD 97) false ∷ []; thunks = us }
 
 each-begins : (s : List ℕ) (us : List Thunk) (i : ℕ) → i < 4 → IsEntry (first-four s us) (trees (first-four s us)) i (entry_at (first-four s us).nodes i)
-unfolding trees_onto tree_of pack_length free_in free_is by_argument_of bare head_from is_empty_with head_noted arguments_of arguments_are without_tags untagged_is has_return_type count items.is_empty items.class_of class_is head_of
+unfolding trees_onto tree_of pack_length free_in free_is by_argument_of bare head_from is_empty_with head_noted arguments_of placed_if_there without_tags untagged_is has_return_type count items.is_empty items.class_of class_is head_of
 each-begins s us zero less = record { built = refl; below = tt; packs = refl; free = refl; empty = refl; by_argument = refl; flat = tt; class = refl; class_below = tt; arguments = refl; arguments_below = tt; untagged = refl; untagged_below = tt; returns = refl; counted = refl; count_below = omega arith; runs = λ k n most. absurd (omega (arith, most)); run_below = omega arith }
 each-begins s us (suc zero) less = record { built = refl; below = tt; packs = refl; free = refl; empty = refl; by_argument = refl; flat = tt; class = refl; class_below = tt; arguments = refl; arguments_below = tt; untagged = refl; untagged_below = tt; returns = refl; counted = refl; count_below = omega arith; runs = λ k n most. absurd (omega (arith, most)); run_below = omega arith }
 each-begins s us (suc (suc zero)) less = record { built = refl; below = omega arith; packs = refl; free = refl; empty = refl; by_argument = refl; flat = tt; class = refl; class_below = tt; arguments = refl; arguments_below = tt; untagged = refl; untagged_below = tt; returns = refl; counted = refl; count_below = omega arith; runs = λ k n most. absurd (omega (arith, most)); run_below = omega arith }

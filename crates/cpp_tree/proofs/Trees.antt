@@ -25,7 +25,7 @@ use Rattle.cpp_tree.specs.Fields.{fields, fields_of, qualifiers_number, mark_num
 use Rattle.cpp_tree.specs.Views.{AreBelow, plain_tree, seen_of, seen_fields, no_text}
 use Rattle.cpp_term.proofs.Notes.{both}
 use Rattle.cpp_tree.proofs.Noting.{class-later, again-pack, again-empty}
-use Rattle.cpp_tree.specs.Nodes.{Table, tree_at, tree_of, trees, entry_at, IsBelow, IsThereBelow, IsFlat, tree_if_there, under_kept, qualifiers_of, mark_of, placed_tree, is_again, IsClassBelow, IsArgumentsBelow, head_of, class_is, untagged_is, IsTable}
+use Rattle.cpp_tree.specs.Nodes.{Table, tree_at, tree_of, trees, entry_at, IsBelow, IsThereBelow, IsFlat, tree_if_there, under_kept, qualifiers_of, mark_of, placed_tree, is_again, IsClassBelow, IsPlacedThere, head_of, class_is, untagged_is, IsTable}
 
 -- a node's tree is its production over those of its parts, which are earlier
 pub node_is : (y : Table) (i : ℕ) (n : Node) → IsTable y → i < length y.nodes → (entry_at y.nodes i).node ≡ n
@@ -201,10 +201,10 @@ later_parts m n seen most all = λ k d less. omega (arith, all k d less, most)
 
 -- the name that is noted is the one without tags
 pub untagged_at : (y : Table) (i : ℕ) (o : Option Placed) → IsTable y → i < length y.nodes → (entry_at y.nodes i).untagged ≡ o
-    → (untagged_is (trees y) (tree_at (trees y) i) o ≡ without_tags (tree_at (trees y) i)) × IsArgumentsBelow i o
+    → (untagged_is (trees y) (tree_at (trees y) i) o ≡ without_tags (tree_at (trees y) i)) × IsPlacedThere i o
 untagged_at y i o table less is =
     let e = table.each i less in
-    (ap (λ x. untagged_is (trees y) (tree_at (trees y) i) x) (sym is) ∙ e.untagged, subst (λ x. IsArgumentsBelow i x) is e.untagged_below)
+    (ap (λ x. untagged_is (trees y) (tree_at (trees y) i) x) (sym is) ∙ e.untagged, subst (λ x. IsPlacedThere i x) is e.untagged_below)
 
 -- ## Packs
 

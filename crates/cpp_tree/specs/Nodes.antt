@@ -267,13 +267,13 @@ IsClassBelow n (HeadClass.Known h) = Unit {0}
 IsClassBelow n (HeadClass.OfElement elements) = IsPlacedBelow n elements
 IsClassBelow n (HeadClass.CollapsedOfElement elements) = IsPlacedBelow n elements
 
-unfoldable pub arguments_are : List Term → Option Placed → Option Term
-arguments_are ts None = None
-arguments_are ts (Some a) = Some (placed_tree ts a)
+unfoldable pub placed_if_there : List Term → Option Placed → Option Term
+placed_if_there ts None = None
+placed_if_there ts (Some a) = Some (placed_tree ts a)
 
-abbrev pub IsArgumentsBelow : ℕ → Option Placed → Type 0
-IsArgumentsBelow n None = Unit {0}
-IsArgumentsBelow n (Some a) = IsPlacedBelow n a
+abbrev pub IsPlacedThere : ℕ → Option Placed → Type 0
+IsPlacedThere n None = Unit {0}
+IsPlacedThere n (Some a) = IsPlacedBelow n a
 
 -- the tree of a name's tags taken away: its own where none are noted
 unfoldable pub untagged_is : List Term → Term → Option Placed → Term
@@ -297,7 +297,7 @@ unfoldable pub is_again : Node → Bool
 is_again (Node.Again t a) = true
 is_again _ = false
 
--- of a tree that is there again no further one is made
+-- the entry of a node; behind the last one that of the absent tree
 abbrev pub entry_at : List Entry → ℕ → Entry
 entry_at es i = get_or es i (record { node = Node.Absent; packs = None; free = Free.None; is_empty = false; by_argument = by_none false; class = HeadClass.Known Head.Plain; arguments = None; untagged = None; returns = false; count = 0; run = 0 })
 
@@ -318,10 +318,10 @@ pub record IsEntry (y : Table) (ts : List Term) (i : ℕ) (e : Entry) : Type 0 w
   pub flat : IsFlat y.nodes e.node
   pub class : class_is ts e.class ≡ items.class_of (tree_at ts i)
   pub class_below : IsClassBelow i e.class
-  pub arguments : arguments_are ts e.arguments ≡ arguments_of (tree_at ts i)
-  pub arguments_below : IsArgumentsBelow i e.arguments
+  pub arguments : placed_if_there ts e.arguments ≡ arguments_of (tree_at ts i)
+  pub arguments_below : IsPlacedThere i e.arguments
   pub untagged : untagged_is ts (tree_at ts i) e.untagged ≡ without_tags (tree_at ts i)
-  pub untagged_below : IsArgumentsBelow i e.untagged
+  pub untagged_below : IsPlacedThere i e.untagged
   pub returns : e.returns ≡ has_return_type (tree_at ts i)
   pub counted : e.count ≡ count (tree_at ts i)
   pub count_below : e.count ≤ i
@@ -351,10 +351,10 @@ pub record IsNoted (y : Table) (e : Entry) : Type 0 where
   pub flat : IsFlat y.nodes e.node
   pub class : class_is (trees y) e.class ≡ items.class_of (tree_of y.bytes y.thunks (trees y) e.node)
   pub class_below : IsClassBelow (length y.nodes) e.class
-  pub arguments : arguments_are (trees y) e.arguments ≡ arguments_of (tree_of y.bytes y.thunks (trees y) e.node)
-  pub arguments_below : IsArgumentsBelow (length y.nodes) e.arguments
+  pub arguments : placed_if_there (trees y) e.arguments ≡ arguments_of (tree_of y.bytes y.thunks (trees y) e.node)
+  pub arguments_below : IsPlacedThere (length y.nodes) e.arguments
   pub untagged : untagged_is (trees y) (tree_of y.bytes y.thunks (trees y) e.node) e.untagged ≡ without_tags (tree_of y.bytes y.thunks (trees y) e.node)
-  pub untagged_below : IsArgumentsBelow (length y.nodes) e.untagged
+  pub untagged_below : IsPlacedThere (length y.nodes) e.untagged
   pub returns : e.returns ≡ has_return_type (tree_of y.bytes y.thunks (trees y) e.node)
   pub counted : e.count ≡ count (tree_of y.bytes y.thunks (trees y) e.node)
   pub count_below : e.count ≤ length y.nodes

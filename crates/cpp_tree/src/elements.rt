@@ -1,4 +1,4 @@
-// The elements of lists.
+// The elements of lists, and the nodes that stand under an argument.
 #![tactic(auto)]
 
 ghost use Rattle.std.specs.Prelude.{◌≡◌, ◌<◌, length, false};

@@ -1,4 +1,4 @@
-// The heads of types.
+// What a type or a list is under an argument: its head, the length of its packs, whether it prints nothing.
 #![tactic(auto)]
 
 ghost use Rattle.std.specs.Prelude.{◌≡◌, ◌<◌, ◌+◌, ◌^◌, length};
@@ -135,8 +135,9 @@ fn is_none(packs: Option<u32>) -> bool
 }
 
 /// Whether a tree with another argument prints nothing.
+#[inline(always)]
 #[tactic(auto, unfolding(crate::specs::Notes::empty_by))]
-fn empty_by(none: bool, held: ByArgument) -> bool
+pub(crate) fn empty_by(none: bool, held: ByArgument) -> bool
     ensures { result ≡ empty_by none held }
 {
     if none {

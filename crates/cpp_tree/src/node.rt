@@ -358,6 +358,7 @@ pub struct Entry {
     pub free: Free,
     /// Whether it prints nothing.
     pub is_empty: bool,
+    /// What of this depends on another argument of its free parameters.
     pub by_argument: ByArgument,
     pub class: HeadClass,
     /// The arguments that a name ends in.

@@ -5,7 +5,7 @@ ghost use Rattle.std.specs.Prelude.{◌≡◌, ℕ, ◌+◌, ◌<◌, ◌≤◌,
 ghost use Rattle.sym_core.specs.declared.Refusal.{Refusal};
 ghost use Rattle.cpp_term.specs.Scope.{without_tags};
 ghost use Rattle.cpp_tree.specs.Nodes.{over, tree_at, trees, tree_of, entry_at, placed_tree, is_again, IsFlat, IsPlacedBelow, IsBelow, IsThunkWithin, IsTable};
-ghost use Rattle.cpp_tree.specs.Notes.{place_of, resolved_at, noting};
+ghost use Rattle.cpp_tree.specs.Notes.{resolved_at};
 ghost use Rattle.cpp_tree.specs.Compact.{entry_of};
 
 use crate::compact::{Compact, bare};

@@ -1,7 +1,7 @@
 // What is noted of a node.
 #![tactic(auto)]
 
-ghost use Rattle.std.specs.Prelude.{◌≡◌, ℕ, ◌+◌, ◌<◌, ◌^◌, ◌||◌, ◌&&◌, Bool, Some, None, Option, length, true, false, nat_eq, cond, not, if◌then◌else◌};
+ghost use Rattle.std.specs.Prelude.{◌≡◌, ℕ, ◌+◌, ◌<◌, ◌^◌, ◌&&◌, Bool, Some, None, Option, length, true, false, nat_eq, cond, not, if◌then◌else◌};
 ghost use Rattle.cpp_grammar.specs.Items as heads;
 ghost use Rattle.cpp_grammar.specs.Scope.{first_of};
 ghost use Rattle.cpp_tree.specs.declared.node.Node.{Node};
@@ -10,10 +10,11 @@ ghost use Rattle.cpp_tree.specs.declared.node.HeadFrom.{HeadFrom};
 ghost use Rattle.cpp_tree.specs.declared.node.ByArgument.{ByArgument};
 ghost use Rattle.cpp_tree.specs.declared.compact.Words.{Words};
 ghost use Rattle.cpp_tree.specs.Compact.{packs_kept, class_kept, arguments_kept, untagged_kept, returns_kept, placed_kept, free_kept, entry_of, kept, with_head, with_arguments, with_tags, own_entry, restated_entry};
-ghost use Rattle.cpp_tree.specs.Nodes.{over, entry_at, by_none, IsBelow, IsPieceBelow, IsTable};
-ghost use Rattle.cpp_tree.specs.Notes.{itself, or_itself, lent_at, passed, joined, of_parameter, of_expansion, of_pack, of_cell, of_head, collapses_from, piece_lends, both_free, piece_frees, piece_packs, argument_packs, argument_class, shape_at, packs_by, empty_by, collapses, placed_under, is_structor_node, noting};
+ghost use Rattle.cpp_tree.specs.Nodes.{over, entry_at, IsBelow, IsPieceBelow, IsTable};
+ghost use Rattle.cpp_tree.specs.Notes.{itself, or_itself, by_argument_at, passed, joined, of_parameter, of_expansion, of_pack, of_cell, of_head, collapses_from, piece_by_argument, both_free, piece_frees, piece_packs, argument_packs, argument_class, shape_at, packs_by, empty_by, collapses, placed_under, is_structor_node, noting};
 
 use crate::compact::{Compact, HowMany, Words, bare, class, packs};
+use crate::heads::empty_by;
 use crate::node::{ByArgument, HeadClass, HeadFrom, Node, Piece, under_word};
 use crate::nodes::Nodes;
 
@@ -207,7 +208,7 @@ struct Freed {
     number: u32,
 }
 
-/// Several.
+/// More than one is free.
 const SEVERAL: Freed = Freed {
     free: HowMany::Several,
     number: 0,
@@ -307,19 +308,6 @@ fn packs_given(is_bare: bool, given: u32) -> u32
     ensures { packs_kept result ≡ packs_by is_bare (packs_kept given) }
 {
     if is_bare { given } else { 0 }
-}
-
-/// Whether a tree with another argument prints nothing.
-#[inline(always)]
-#[tactic(auto, unfolding(crate::specs::Notes::empty_by))]
-fn empty_given(none: bool, held: ByArgument) -> bool
-    ensures { result ≡ empty_by none held }
-{
-    if none {
-        held.empty_with
-    } else {
-        held.empty_without
-    }
 }
 
 /// The second word of a tree that is there again with this argument, where its head is its own.
@@ -445,7 +433,7 @@ impl Nodes {
     #[inline(always)]
     fn noted_piece(&self, symbol: &[u8], node: Node, piece: Piece) -> Compact
         requires below { IsPieceBelow symbol.now (length self.now.nodes) piece }
-        ensures { entry_of result ≡ kept node (piece_packs self.now.nodes piece) (piece_frees self.now.nodes piece) false (piece_lends self.now.nodes piece) Words.Plain 0 0 }
+        ensures { entry_of result ≡ kept node (piece_packs self.now.nodes piece) (piece_frees self.now.nodes piece) false (piece_by_argument self.now.nodes piece) Words.Plain 0 0 }
     {
         match piece {
             Piece::Lambda { parameters, .. } => self.noted_type(node, parameters, Words::Plain),
@@ -460,7 +448,7 @@ impl Nodes {
         requires prefix { prefix < length self.now.nodes }
         requires below { IsPieceBelow symbol.now (length self.now.nodes) piece }
         ensures { entry_of result ≡ kept node (first_of (entry_at self.now.nodes prefix).packs (piece_packs self.now.nodes piece)) (both_free (entry_at self.now.nodes prefix).free (piece_frees self.now.nodes piece)) false
-            (joined (lent_at self.now.nodes prefix) (piece_lends self.now.nodes piece)) Words.Plain 0 0 }
+            (joined (by_argument_at self.now.nodes prefix) (piece_by_argument self.now.nodes piece)) Words.Plain 0 0 }
     {
         match piece {
             Piece::Lambda { parameters, .. } => {
@@ -505,13 +493,13 @@ impl Nodes {
         requires tree { tree < length self.now.nodes }
         requires argument { argument < length self.now.nodes }
         requires room { length self.now.nodes + 1 < 2 ^ 32 }
-        ensures { entry_of result ≡ restated_entry node (packs_by (lent_at self.now.nodes tree).is_bare (argument_packs self.now.nodes (shape_at self.now.nodes argument)))
-            (empty_by (heads.is_none_of (argument_packs self.now.nodes (shape_at self.now.nodes argument))) (lent_at self.now.nodes tree)) (entry_at self.now.nodes tree) argument (argument_class self.now.nodes argument) }
+        ensures { entry_of result ≡ restated_entry node (packs_by (by_argument_at self.now.nodes tree).is_bare (argument_packs self.now.nodes (shape_at self.now.nodes argument)))
+            (empty_by (heads.is_none_of (argument_packs self.now.nodes (shape_at self.now.nodes argument))) (by_argument_at self.now.nodes tree)) (entry_at self.now.nodes tree) argument (argument_class self.now.nodes argument) }
     {
         let held = self.at(tree);
         let given = self.given(symbol, argument);
         let packs = packs_given(held.by_argument.is_bare, given.packs);
-        let is_empty = empty_given(has_no_elements(given.packs), held.by_argument);
+        let is_empty = empty_by(has_no_elements(given.packs), held.by_argument);
         restated(node, held, packs, is_empty, argument, given)
     }
 
@@ -519,7 +507,7 @@ impl Nodes {
     #[inline(always)]
     fn noted_expansion(&self, node: Node, pattern: u32) -> Compact
         requires pattern { pattern < length self.now.nodes }
-        ensures { entry_of result ≡ kept node None (entry_at self.now.nodes pattern).free (heads.is_none_of (entry_at self.now.nodes pattern).packs) (of_expansion (lent_at self.now.nodes pattern)) Words.Plain 0 0 }
+        ensures { entry_of result ≡ kept node None (entry_at self.now.nodes pattern).free (heads.is_none_of (entry_at self.now.nodes pattern).packs) (of_expansion (by_argument_at self.now.nodes pattern)) Words.Plain 0 0 }
     {
         let held = self.at(pattern);
         Compact {
@@ -544,7 +532,7 @@ impl Nodes {
     #[inline(always)]
     fn noted_pack(&self, node: Node, elements: u32) -> Compact
         requires elements { elements < length self.now.nodes }
-        ensures { entry_of result ≡ kept node (entry_at self.now.nodes elements).packs (entry_at self.now.nodes elements).free (entry_at self.now.nodes elements).is_empty (of_pack (lent_at self.now.nodes elements)) Words.Plain 0 0 }
+        ensures { entry_of result ≡ kept node (entry_at self.now.nodes elements).packs (entry_at self.now.nodes elements).free (entry_at self.now.nodes elements).is_empty (of_pack (by_argument_at self.now.nodes elements)) Words.Plain 0 0 }
     {
         let held = self.at(elements);
         Compact {
@@ -588,7 +576,7 @@ impl Nodes {
         requires rest { rest < length self.now.nodes }
         requires room { length self.now.nodes + 1 < 2 ^ 32 }
         ensures { entry_of result ≡ kept node (first_of (entry_at self.now.nodes first).packs (entry_at self.now.nodes rest).packs) (both_free (entry_at self.now.nodes first).free (entry_at self.now.nodes rest).free)
-            ((entry_at self.now.nodes first).is_empty && (entry_at self.now.nodes rest).is_empty) (of_cell (lent_at self.now.nodes first) (lent_at self.now.nodes rest)) Words.Elements ((entry_at self.now.nodes rest).count + 1) (cond (nat_eq (rest + 1) (length self.now.nodes)) ((entry_at self.now.nodes rest).run + 1) 0) }
+            ((entry_at self.now.nodes first).is_empty && (entry_at self.now.nodes rest).is_empty) (of_cell (by_argument_at self.now.nodes first) (by_argument_at self.now.nodes rest)) Words.Elements ((entry_at self.now.nodes rest).count + 1) (cond (nat_eq (rest + 1) (length self.now.nodes)) ((entry_at self.now.nodes rest).run + 1) 0) }
     {
         let one = self.at(first);
         let other = self.at(rest);
@@ -610,7 +598,7 @@ impl Nodes {
     #[inline(always)]
     fn noted_type(&self, node: Node, ty: u32, words: Words) -> Compact
         requires { ty < length self.now.nodes }
-        ensures { entry_of result ≡ kept node (entry_at self.now.nodes ty).packs (entry_at self.now.nodes ty).free false (passed (lent_at self.now.nodes ty)) words 0 0 }
+        ensures { entry_of result ≡ kept node (entry_at self.now.nodes ty).packs (entry_at self.now.nodes ty).free false (passed (by_argument_at self.now.nodes ty)) words 0 0 }
     {
         let held = self.at(ty);
         noted_over(node, held, passed(held.by_argument), words, 0, 0)
@@ -621,7 +609,7 @@ impl Nodes {
     fn noted_types(&self, node: Node, one: u32, other: u32, words: Words) -> Compact
         requires one { one < length self.now.nodes }
         requires other { other < length self.now.nodes }
-        ensures { entry_of result ≡ kept node (first_of (entry_at self.now.nodes one).packs (entry_at self.now.nodes other).packs) (both_free (entry_at self.now.nodes one).free (entry_at self.now.nodes other).free) false (joined (lent_at self.now.nodes one) (lent_at self.now.nodes other)) words 0 0 }
+        ensures { entry_of result ≡ kept node (first_of (entry_at self.now.nodes one).packs (entry_at self.now.nodes other).packs) (both_free (entry_at self.now.nodes one).free (entry_at self.now.nodes other).free) false (joined (by_argument_at self.now.nodes one) (by_argument_at self.now.nodes other)) words 0 0 }
     {
         let first = self.at(one);
         let second = self.at(other);
@@ -641,7 +629,7 @@ impl Nodes {
     #[inline(always)]
     fn noted_rvalue(&self, node: Node, ty: u32) -> Compact
         requires { ty < length self.now.nodes }
-        ensures { entry_of result ≡ with_head node (entry_at self.now.nodes ty).packs (entry_at self.now.nodes ty).free false (of_head (collapses_from (lent_at self.now.nodes ty).head) (lent_at self.now.nodes ty)) (collapses (entry_at self.now.nodes ty).class) }
+        ensures { entry_of result ≡ with_head node (entry_at self.now.nodes ty).packs (entry_at self.now.nodes ty).free false (of_head (collapses_from (by_argument_at self.now.nodes ty).head) (by_argument_at self.now.nodes ty)) (collapses (entry_at self.now.nodes ty).class) }
     {
         let held = self.at(ty);
         let by_argument = of_head(collapsed_from(held.by_argument.head), held.by_argument);
@@ -659,7 +647,7 @@ impl Nodes {
     #[inline(always)]
     fn noted_qualified(&self, node: Node, ty: u32) -> Compact
         requires { ty < length self.now.nodes }
-        ensures { entry_of result ≡ with_head node (entry_at self.now.nodes ty).packs (entry_at self.now.nodes ty).free false (of_head (lent_at self.now.nodes ty).head (lent_at self.now.nodes ty)) (entry_at self.now.nodes ty).class }
+        ensures { entry_of result ≡ with_head node (entry_at self.now.nodes ty).packs (entry_at self.now.nodes ty).free false (of_head (by_argument_at self.now.nodes ty).head (by_argument_at self.now.nodes ty)) (entry_at self.now.nodes ty).class }
     {
         let held = self.at(ty);
         let by_argument = of_head(held.by_argument.head, held.by_argument);
@@ -677,7 +665,7 @@ impl Nodes {
     #[inline(always)]
     fn noted_local(&self, node: Node, entity: u32) -> Compact
         requires { entity < length self.now.nodes }
-        ensures { entry_of result ≡ with_arguments node (entry_at self.now.nodes entity).packs (entry_at self.now.nodes entity).free (passed (lent_at self.now.nodes entity)) (entry_at self.now.nodes entity).arguments (entry_at self.now.nodes entity).returns }
+        ensures { entry_of result ≡ with_arguments node (entry_at self.now.nodes entity).packs (entry_at self.now.nodes entity).free (passed (by_argument_at self.now.nodes entity)) (entry_at self.now.nodes entity).arguments (entry_at self.now.nodes entity).returns }
     {
         let held = self.at(entity);
         noted_over(
@@ -694,7 +682,7 @@ impl Nodes {
     #[inline(always)]
     fn noted_tagged(&self, node: Node, name: u32) -> Compact
         requires { name < length self.now.nodes }
-        ensures { entry_of result ≡ with_tags node (entry_at self.now.nodes name).packs (entry_at self.now.nodes name).free (passed (lent_at self.now.nodes name)) (or_itself name (entry_at self.now.nodes name).untagged) }
+        ensures { entry_of result ≡ with_tags node (entry_at self.now.nodes name).packs (entry_at self.now.nodes name).free (passed (by_argument_at self.now.nodes name)) (or_itself name (entry_at self.now.nodes name).untagged) }
     {
         let held = self.at(name);
         let under = under_tags(held, name);
@@ -715,7 +703,7 @@ impl Nodes {
         requires template { template < length self.now.nodes }
         requires arguments { arguments < length self.now.nodes }
         ensures { entry_of result ≡ with_arguments node (first_of (entry_at self.now.nodes template).packs (entry_at self.now.nodes arguments).packs) (both_free (entry_at self.now.nodes template).free (entry_at self.now.nodes arguments).free)
-            (joined (lent_at self.now.nodes template) (lent_at self.now.nodes arguments)) (Some (itself arguments)) (not (is_structor_node (shape_at self.now.nodes template))) }
+            (joined (by_argument_at self.now.nodes template) (by_argument_at self.now.nodes arguments)) (Some (itself arguments)) (not (is_structor_node (shape_at self.now.nodes template))) }
     {
         let held = self.at(template);
         let other = self.at(arguments);
@@ -734,7 +722,7 @@ impl Nodes {
 
     /// A node with what is noted of it.
     #[inline(always)]
-    #[tactic(auto, unfolding(crate::specs::Compact::packs_kept, crate::specs::Compact::class_kept, crate::specs::Compact::arguments_kept, crate::specs::Compact::untagged_kept, crate::specs::Compact::returns_kept, crate::specs::Compact::count_kept, crate::specs::Compact::run_kept, crate::specs::Notes::frees, crate::specs::Notes::lends, crate::specs::Notes::if_own, crate::specs::Notes::class_by, crate::specs::Notes::empties, crate::specs::Notes::ends_in, crate::specs::Notes::untagging, crate::specs::Notes::classes, crate::specs::Notes::packing, crate::specs::Notes::returning, crate::specs::Notes::counting, crate::specs::Notes::running))]
+    #[tactic(auto, unfolding(crate::specs::Compact::packs_kept, crate::specs::Compact::class_kept, crate::specs::Compact::arguments_kept, crate::specs::Compact::untagged_kept, crate::specs::Compact::returns_kept, crate::specs::Compact::count_kept, crate::specs::Compact::run_kept, crate::specs::Notes::frees, crate::specs::Notes::node_by_argument, crate::specs::Notes::if_own, crate::specs::Notes::class_by, crate::specs::Notes::empties, crate::specs::Notes::ends_in, crate::specs::Notes::untagging, crate::specs::Notes::classes, crate::specs::Notes::packing, crate::specs::Notes::returning, crate::specs::Notes::counting, crate::specs::Notes::running))]
     pub(crate) fn noted(&self, symbol: &[u8], node: Node) -> Compact
         requires table { IsTable (over symbol.now self.now) }
         requires below { IsBelow symbol.now (length self.now.thunks) (length self.now.nodes) node }

@@ -5,7 +5,7 @@ ghost use Rattle.std.specs.Prelude.{◌≡◌, ℕ, ◌≤◌, ◌<◌, [], ◌�
 ghost use Rattle.cpp_term.specs.Erased.{erase};
 ghost use Rattle.cpp_grammar.specs.Term.{Term};
 ghost use Rattle.cpp_tree.specs.Nodes.{over, trees, tree_of, piece_of, qualifiers_of, mark_of, thunk_of, discriminator_of, is_again, IsSpan, IsBelow, IsPieceBelow, IsTable};
-ghost use Rattle.cpp_tree.specs.Fields.{bit, mark_number, qualifiers_number, linkage_number, name_fields, named_fields, local_fields, thunk_fields, fields_of, offsets_of};
+ghost use Rattle.cpp_tree.specs.Fields.{bit, linkage_number, name_fields, named_fields, local_fields, thunk_fields, fields_of, offsets_of};
 ghost use Rattle.cpp_tree.specs.Views.{plain_tree, prefix_trees, seen_of, seen_behind, seen_fields, no_text, offsets_in, AreBelow, IsSlotBelow, AreWithin, IsKnownThunk};
 
 use crate::node::{Adjustment, Mark, Piece, Qualifiers, Signed, Thunk, bit};
@@ -459,6 +459,7 @@ fn view_of_own(symbol: &[u8], nodes: &Nodes, node: node::Node) -> NodeView
         node::Node::Pack(elements) => one(PACK, none, NO_TEXT, elements),
         node::Node::Cell { first, rest } => two(LIST, none, NO_TEXT, first, rest),
         node::Node::Whole { encoding, suffix } => one(SYMBOL, none, suffix, encoding),
+        // No node here: the tree that is there again is shown in its place.
         node::Node::Again { .. } => leaf(ABSENT, 0),
     }
 }

@@ -13,9 +13,9 @@ returns c =
     let f = entry_at c.args.self.now.nodes c.args.rest in
     let packs = first_of e.packs f.packs in
     let free = both_free e.free f.free in
-    let lent = of_cell e.by_argument f.by_argument in
+    let depends = of_cell e.by_argument f.by_argument in
     over-two-is c.args.node (c.at-one.result.is_empty && c.at-other.result.is_empty) (λ l m. of_cell l m) c.of_cell.result Words.Elements (c.entry-count.result.count + 1) c.run_to.result c.noted_over_two.result c.at-one.result c.at-other.result e f c.at-one.ensures c.at-other.ensures c.of_cell.ensures c.noted_over_two.ensures
-    ∙ ap (λ x. kept c.args.node packs free (x.is_empty && c.at-other.result.is_empty) lent Words.Elements (c.entry-count.result.count + 1) c.run_to.result) c.at-one.ensures
-    ∙ ap (λ x. kept c.args.node packs free (e.is_empty && x.is_empty) lent Words.Elements (c.entry-count.result.count + 1) c.run_to.result) c.at-other.ensures
-    ∙ ap (λ n. kept c.args.node packs free (e.is_empty && f.is_empty) lent Words.Elements (n + 1) c.run_to.result) (ap (λ x. x.count) (c.entry-count.ensures ∙ c.at-other.ensures))
-    ∙ ap (λ n. kept c.args.node packs free (e.is_empty && f.is_empty) lent Words.Elements (f.count + 1) n) c.run_to.ensures
+    ∙ ap (λ x. kept c.args.node packs free (x.is_empty && c.at-other.result.is_empty) depends Words.Elements (c.entry-count.result.count + 1) c.run_to.result) c.at-one.ensures
+    ∙ ap (λ x. kept c.args.node packs free (e.is_empty && x.is_empty) depends Words.Elements (c.entry-count.result.count + 1) c.run_to.result) c.at-other.ensures
+    ∙ ap (λ n. kept c.args.node packs free (e.is_empty && f.is_empty) depends Words.Elements (n + 1) c.run_to.result) (ap (λ x. x.count) (c.entry-count.ensures ∙ c.at-other.ensures))
+    ∙ ap (λ n. kept c.args.node packs free (e.is_empty && f.is_empty) depends Words.Elements (f.count + 1) n) c.run_to.ensures
