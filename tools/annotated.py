@@ -8,7 +8,7 @@ import re, sys
 # what stays in cpp_grammar alone, by module
 SHARED = {
     "Term": "Qualifiers RefQualifier Signed Adjustment Thunk",
-    "Scope": "first_of",
+    "Scope": "first_of Free both_free",
     "Values": "unqualified normal is_zero signed_digits local_number",
     "Unfolding": "last_token production_at byte_of",
     "Rescoping": "generic_number",
@@ -20,25 +20,36 @@ BY_HAND = ("Items", "Ranks")
 CHANGED = {
     "Term": [("  parameter : (number : ℕ) → Term\n", "  -- a parameter by its number, and the argument that it names\n  parameter : (number : ℕ) → (argument : Term) → Term\n")],
     "Scope": [("is_open (parameter number) =", "is_open (parameter number argument) ="),
+              ("free_in (parameter number) =", "free_in (parameter number argument) ="),
               ("pack_length : (scope : Term) → Term →", "pack_length : Term →"),
               ("pack_length scope (parameter number) = length_if_pack (element scope number)", "pack_length (parameter number argument) = length_if_pack argument")],
     "References": [("packs_in (Some scope) t = pack_length scope t", "packs_in (Some scope) t = pack_length t"),
                    ("(packs_in around.scope c.tree)", "(pack_length c.tree)"),
                    ("appended around (parameter k)", "appended around (parameter k (element arguments k))")],
-    "Rescoping": [("number_of_parameter (parameter k) = Some k", "number_of_parameter (parameter k argument) = Some k"),
-                  ("with_parameter t (parameter k)", "with_parameter t (parameter k (element arguments k))")],
-    "Between": [("-- a parameter is tested, and becomes", "-- the argument that a parameter names\nunfoldable pub argument_at : Around → ℕ → Term\n"
+    "Rescoping": [("listed_so_far around (parameter (generic_number k)) vs (appended around (parameter (generic_number k)) state)",
+                   "listed_so_far around (parameter (generic_number k) auto) vs (appended around (parameter (generic_number k) auto) state)"),
+                  ("next (tree (parameter (generic_number k)) true ∷ [])", "next (tree (parameter (generic_number k) auto) true ∷ [])"),
+                  ("(pack_length arguments t) state >>= λ s. Ok (found (tree t true) s)",
+                   "(pack_length (reargued (Some (element arguments k)) t)) state >>= λ s. Ok (found (tree (reargued (Some (element arguments k)) t) true) s)"),
+                  ("true ↦ Ok (found (tree t true) state)", "true ↦ Ok (found (tree (reargued (Some auto) t) true) state)"),
+                  ("A tree that was made elsewhere is the same tree here.", "A tree that was made elsewhere is the same tree here, with the arguments that are meant here.")],
+    "Between": [("-- in the types of", "-- The arguments that a name ends in. No parameter is free in the name of an encoding.\nunfoldable pub closed_arguments : Term → Option Term\n"
+                 "closed_arguments name = elim (is_open name) [ true ↦ None | false ↦ arguments_of name ]\n\n-- in the types of"),
+                ("in_types place name = record { scope = arguments_of name;", "in_types place name = record { scope = closed_arguments name;"),
+                ("-- a parameter is tested, and becomes", "-- the argument that a parameter names\nunfoldable pub argument_at : Around → ℕ → Term\n"
                  "argument_at around k = elim around.scope [ None ↦ absent | Some arguments ↦ element arguments k ]\n\n-- a parameter is tested, and becomes"),
                 ("listed_so_far around (parameter k) vs s", "listed_so_far around (parameter k (argument_at around k)) vs s"),
                 ("next (tree (parameter k) true ∷ [])", "next (tree (parameter k (argument_at around k)) true ∷ [])")],
     "Parts": [(f"{form}_parts {d}context (parameter k) = as_item {form} closed (argument context k) ∷ []",
                f"{form}_parts {d}context (parameter k a) = as_item {form} closed (argument context a) ∷ []")
               for form, d in (("left", "d "), ("low", "d "), ("right", ""), ("base", "d "))]
-             + [("types_of name = record { scope = arguments_of name; index = None }", "types_of name = closed"),
-                ("at_index i context = record { scope = context.scope; index = Some i }", "at_index i context = record { index = Some i }")],
+             + [("types_of name = record { scope = arguments_of name; index = None; in_signature = false }", "types_of name = closed"),
+                ("list_part first (signature_in context) parameters", "list_part first context parameters"),
+                ("at_index i context = record { scope = context.scope; index = Some i; in_signature = context.in_signature }", "at_index i context = record { index = Some i }")],
 }
 # names that the changes bring in
-BROUGHT = {"Between": {"Prelude": ["Some"], "Scope": ["element"], "Term": ["absent"]}}
+BROUGHT = {"Rescoping": {"Scope": ["element"], "Items": ["auto"], "Reargued": ["reargued"]},
+           "Between": {"Prelude": ["Option", "Some"], "Scope": ["element", "is_open"], "Term": ["absent"]}}
 MODULES = ("Term", "Scope", "Values", "References", "Between", "Meaning", "Unfolding", "Rescoping", "Parts")
 
 def names_of(block):

@@ -189,7 +189,7 @@ QUIET = {
     "NestInternal": 1, "NestSource": 1, "NestLocalType": 1, "PackArgument": 1, "Parameter": 1, "TypeWithS": 1, "LvalueItem": 1,
     "RvalueItem": 1, "IntegerLiteral": 1, "Holder": 1, "NestTag": 1, "Tag": 1, "OtherOperatorName": 1, "OperatorNameWithC": 1,
     "TaggedStdType": 1, "TypeTag": 1, "ParameterExpression": 1, "BoundedArray": 1,
-    "ParameterArgument": 1, "DeclaredArgument": 0,
+    "ParameterArgument": 1, "ValueOf": 0, "OfConcept": 0,
 }
 
 # the productions in which parts without a row may stand between those with one
@@ -249,9 +249,9 @@ LEAVES = """NestWithS NestParameter NestInternal NestLocalType NestSource NestSt
 # ## The trees
 
 # The trees: each constructor with its arguments, a name and what it is. OWN is a tree under a scope of its own, of an encoding or its name;
-# OUTSIDE one that is under none, the encoding around a local entity; INSIDE one under the scope of the encoding's own name; TREE one under the
-# scope of the whole, as is a PIECE of a name. What goes through a tree by its arguments alone is written from here (trees.py).
-OWN, OUTSIDE, INSIDE, TREE, PIECE = "own", "outside", "inside", "tree", "piece"
+# OUTSIDE one that is under none, the encoding around a local entity; INSIDE one under the scope of the encoding's own name; SIGNATURE
+# one whose parameters are a lambda's own; TREE one under the scope of the whole, as is a PIECE of a name. What goes through a tree by its arguments alone is written from here (trees.py).
+OWN, OUTSIDE, INSIDE, SIGNATURE, TREE, PIECE = "own", "outside", "inside", "signature", "tree", "piece"
 BYTES, NUMBER, TRUTH, QUALIFIERS, MARK, SIGNED, THUNK, DISCRIMINATOR = "bytes", "number", "truth", "qualifiers", "mark", "signed", "thunk", "discriminator"
 TREES = [
     ("symbol", ("e", OWN), ("suffix", BYTES)),
@@ -278,12 +278,12 @@ TREES = [
     ("constructor", ("digit", NUMBER)),
     ("destructor", ("digit", NUMBER)),
     ("lambda", ("parameters", TREE), ("number", NUMBER)),
+    ("generic_lambda", ("parameters", SIGNATURE), ("number", NUMBER)),
     ("unnamed", ("number", NUMBER)),
     ("string_literal",),
     ("conversion", ("t", TREE)),
     ("builtin", ("code", BYTES)),
     ("sized_float", ("digits", BYTES), ("end", NUMBER)),
-    ("generic_parameter", ("number", NUMBER)),
     ("vendor", ("bytes", BYTES)),
     ("pointer", ("t", TREE)),
     ("lvalue", ("t", TREE)),

@@ -12,7 +12,7 @@ use Rattle.cpp_direct.specs.declared.open.Open.{Open}
 use Rattle.cpp_direct.specs.declared.open.Open.TheVariants as opens
 use Rattle.cpp_direct.specs.declared.open.Step.TheVariants as steps
 use Rattle.cpp_direct.specs.declared.direct.Direct.{Direct}
-use Rattle.cpp_direct.specs.Holes.{Opened, StandsAt, Comes, Expects, IsReferable, with_candidate}
+use Rattle.cpp_direct.specs.Holes.{Opened, StandsAt, Comes, Expects, IsReferable, candidate, with_candidate}
 use Rattle.cpp_direct.specs.HolesOfArrays.{IsSizeAt, access_letters, accessed, array_opening, is_marked, with_accessed}
 use Rattle.cpp_direct.specs.HolesOfTypes.{NoReference, IsQualifiable}
 use Rattle.cpp_direct.specs.Stands.{IsScoped, AreCandidates, TakesFunction, Stands, IsWriting}
@@ -63,7 +63,7 @@ array-begins s old new access digits from to p letters takes is ordered inside s
             inl f.awaits,
             subst (λ l. Stands s l f.inner new.text.list.items) (sym (ap reverse waits ∙ reverse-last old.waiting.list.items entry))
                 (subst (λ v. Stands s (entry ∷ reverse old.waiting.list.items) f.inner v.list.items) (sym text)
-                (os, around.encoding, digits, ordered, inside, size, f.onward, takes, p.is_before.4)),
+                (os, around, digits, ordered, inside, size, f.onward, takes, p.is_before.4)),
             subst (λ l. IsScoped around l) (sym (ap reverse waits ∙ reverse-last old.waiting.list.items entry))
                 (none-scoped around (entry ∷ reverse old.waiting.list.items) refl),
           );
@@ -91,7 +91,7 @@ value-array s w is_reference access from to p found =
       rest = last.0;
       open_is = last.1;
       outer = waits.0;
-      encoding = waits.1;
+      made_in = waits.1;
       digits = waits.2;
       ordered = waits.3;
       inside = waits.4;
@@ -113,15 +113,15 @@ hidden_behind true ks = (ks ++ hidden ∷ []) ++ hidden ∷ []
 hidden_behind false ks = ks ++ hidden ∷ []
 
 -- it becomes a candidate, and so does what points or refers to it
-hidden-accessed : (access : Access) (ks : List Candidate) (text : List ℕ) (e : ℕ) (t : Term) (st : State) → AreCandidates text ks st.candidates
-    → AreCandidates text (hidden_behind (is_marked access) ks) (with_accessed access e t st).candidates
-hidden-accessed accesses.Plain ks text e t st p = one-hidden text ks st.candidates (record { tree = t; encoding = e }) p
-hidden-accessed accesses.Pointer ks text e t st p =
-    one-hidden text (ks ++ hidden ∷ []) (with_candidate e t st).candidates (record { tree = pointer t; encoding = e })
-    (one-hidden text ks st.candidates (record { tree = t; encoding = e }) p)
-hidden-accessed accesses.Lvalue ks text e t st p =
-    one-hidden text (ks ++ hidden ∷ []) (with_candidate e t st).candidates (record { tree = lvalue t; encoding = e })
-    (one-hidden text ks st.candidates (record { tree = t; encoding = e }) p)
+hidden-accessed : (access : Access) (ks : List Candidate) (text : List ℕ) (made_in : Around) (t : Term) (st : State) → AreCandidates text ks st.candidates
+    → AreCandidates text (hidden_behind (is_marked access) ks) (with_accessed access made_in t st).candidates
+hidden-accessed accesses.Plain ks text made_in t st p = one-hidden text ks st.candidates (candidate made_in t) p
+hidden-accessed accesses.Pointer ks text made_in t st p =
+    one-hidden text (ks ++ hidden ∷ []) (with_candidate made_in t st).candidates (candidate made_in (pointer t))
+    (one-hidden text ks st.candidates (candidate made_in t) p)
+hidden-accessed accesses.Lvalue ks text made_in t st p =
+    one-hidden text (ks ++ hidden ∷ []) (with_candidate made_in t st).candidates (candidate made_in (lvalue t))
+    (one-hidden text ks st.candidates (candidate made_in t) p)
 
 with-hidden : (w : Direct) (b : Bool) → with_hidden w b ≡ hidden_behind b w.candidates.list.items
 with-hidden w true = refl
@@ -139,7 +139,7 @@ array-written s w begun first second third last access from to p size text candi
     let own = array digits p.own in
     let whole = accessed access own in
     let bytes = p.bytes ++ opening ++ digits ++ codes "]" in
-    let then_ = with_accessed access p.encoding own p.state in
+    let then_ = with_accessed access p.made_in own p.state in
     let is : size ≡ digits = size_is ∙ ap (λ l. values.normal l) p.size in
     let known : AreCandidates begun.text.list.items begun.candidates.list.items p.state.candidates =
     subst (λ v. AreCandidates v.list.items begun.candidates.list.items p.state.candidates) (sym text)
@@ -157,7 +157,7 @@ array-written s w begun first second third last access from to p size text candi
       state = then_;
       candidates = subst (λ v. AreCandidates v.list.items last.candidates.list.items then_.candidates) (sym same_text)
           (subst (λ ks. AreCandidates third.text.list.items ks then_.candidates) (sym (more ∙ with-hidden third (is_marked access)))
-          (hidden-accessed access third.candidates.list.items third.text.list.items p.encoding own p.state there));
+          (hidden-accessed access third.candidates.list.items third.text.list.items p.made_in own p.state there));
       os = p.outer;
       own = whole;
       front = p.front;

@@ -8,7 +8,7 @@ use Rattle.cpp_direct.proofs.Moves.{stands-join, stands-split, expects-number, e
 use Rattle.cpp_direct.proofs.MovesOfTypes.{open-substitution-opens, solid-opens}
 use Rattle.cpp_direct.proofs.PrintedTypes.{parameter-prints, type-element-in}
 use Rattle.cpp_direct.specs.declared.open.Mark.{Mark}
-use Rattle.cpp_direct.specs.Holes.{Opened, StandsAt, Comes, with_candidate, opened, Expects, IsTyped}
+use Rattle.cpp_direct.specs.Holes.{Opened, StandsAt, Comes, candidate, with_candidate, opened, Expects, IsTyped}
 use Rattle.cpp_direct.specs.Prints.{NamesArgument, Prints, PrintsIn, PrintsBehind}
 use Rattle.cpp_direct.specs.Stands.{AreCandidates, HasArguments, IsArgument, IsKnown, PrintsOrNames, IsPlaced, IsPlain, IsWriting, Marks, Stands, argument_of, IsScope, place_of}
 use Rattle.cpp_direct.specs.Ways.{AwaitsType, AwaitsNamedType, AwaitsDependentMark, IsFrontRead, IsNamedAgain, IsParameterEnded, parameter_digits}
@@ -75,31 +75,31 @@ digits-count (suc (suc (suc zero))) few = refl
 digits-count (suc (suc (suc (suc k)))) few = absurd (omega (arith, few))
 
 parameter-found : (around : Around) (k at : ℕ) (st : State) (all : Term) → around.scope ≡ Some all → k < count all → length_if_pack (element all k) ≡ None
-    → parameter_named around at k st ≡ Ok (with_candidate around.encoding (parameter k) st)
+    → parameter_named around at k st ≡ Ok (with_candidate around (parameter k) st)
 unfolding parameter_named with_packs appended
 parameter-found around k at st all scope below none = rw (scope, lt-ltb k (count all) below, none, parameter_named) refl
 
 -- in its scope it is a candidate
 parameter-tested : (around : Around) (k at : ℕ) (st : State) → k ≤ 3 → IsScope k false around
     → ◌≡◌ {A = Going} (between Production.Parameter around at (values.text (parameter_digits k) ∷ []) st)
-    (Ok (record { context = after (parameter k) true around; values = tree (parameter k) true ∷ []; state = with_candidate around.encoding (parameter k) st }))
+    (Ok (record { context = after (parameter k) true around; values = tree (parameter k) true ∷ []; state = with_candidate around (parameter k) st }))
 unfolding between parameter_so_far listed_so_far
 parameter-tested around k at st few scope =
     subst (λ n. ◌≡◌ {A = Going} (parameter_so_far around at n [] st)
-    (Ok (record { context = after (parameter k) true around; values = tree (parameter k) true ∷ []; state = with_candidate around.encoding (parameter k) st })))
+    (Ok (record { context = after (parameter k) true around; values = tree (parameter k) true ∷ []; state = with_candidate around (parameter k) st })))
     (sym (digits-count k few))
     (rw (parameter-found around k at st scope.all scope.scope_is (scope.there refl).1 (ap length_if_pack (scope.there refl).0 ∙ scope.no_pack)) refl)
 
 -- a parameter comes, and is a candidate
 pub parameter-comes : (s : Symbol) (kind : Kind) (around : Around) (os : List Opened) (k at : ℕ) (st : State) → IsTyped kind → k ≤ 3
     → IsScope k false around → Expects s kind around os at st → StandsAt s.bytes at (84 ∷ (parameter_digits k ++ 95 ∷ []))
-    → Comes s os (tree (parameter k) true) (at + 1 + length (parameter_digits k ++ 95 ∷ [])) (with_candidate around.encoding (parameter k) st)
+    → Comes s os (tree (parameter k) true) (at + 1 + length (parameter_digits k ++ 95 ∷ [])) (with_candidate around (parameter k) st)
 unfolding choose alternatives pick is_in in_ranges among is_chain parts_of number_of_kind between opening close unfolding_.behind meaning byte_of tree_of is_there part applied may_be_empty is_function_type
 parameter-comes s kind around os k at st typed few scope expects stands =
     let p = Production.Parameter in
     let t = parameter k in
     let v = tree t true in
-    let later = with_candidate around.encoding t st in
+    let later = with_candidate around t st in
     let digits = parameter_digits k in
     let end = at + 1 + length (digits ++ 95 ∷ []) in
     let both = stands-split s.bytes at (84 ∷ []) (digits ++ 95 ∷ []) stands in
@@ -188,12 +188,12 @@ argument-within s w all k p a found is known =
     subst (λ (j : Argument). j.to ≤ length w.text.list.items) (sym is) inside
 
 -- a type that names an argument becomes a candidate, with the text behind the argument's
-dependent-candidate : (text : List ℕ) (w : Direct) (st : State) (front marks : List ℕ) (begins k e place : ℕ) (r : Bool) (t : Term) → w.text.list.items ≡ text
-    → AreCandidates text w.candidates.list.items st.candidates → text ≡ front ++ marks → begins ≡ length front → NamesArgument k t marks r → (place ≢ 0 → e ≡ place)
-    → AreCandidates text (with_dependent w begins r k place) (with_candidate e t st).candidates
-dependent-candidate text w st front marks begins k e place r t same known written begins_is names encoding_is =
+dependent-candidate : (text : List ℕ) (w : Direct) (st : State) (front marks : List ℕ) (begins k : ℕ) (made_in : Around) (place : ℕ) (r : Bool) (t : Term) → w.text.list.items ≡ text
+    → AreCandidates text w.candidates.list.items st.candidates → text ≡ front ++ marks → begins ≡ length front → NamesArgument k t marks r → (place ≢ 0 → made_in.encoding ≡ place)
+    → AreCandidates text (with_dependent w begins r k place) (with_candidate made_in t st).candidates
+dependent-candidate text w st front marks begins k made_in place r t same known written begins_is names encoding_is =
     candidates-more text w.candidates.list.items st.candidates
-    (record { from = begins; to = length w.text.list.items; is_reference = r; is_dependent = true; number = k; encoding = place }) (record { tree = t; encoding = e }) known
+    (record { from = begins; to = length w.text.list.items; is_reference = r; is_dependent = true; number = k; encoding = place }) (candidate made_in t) known
     (λ ordered. record {
       front = front;
       bytes = marks;
@@ -225,13 +225,13 @@ parameter-done s old mid new all k p a few letter line found is plain_ text cand
     let written : new.text.list.items ≡ old.text.list.items ++ h.0 = ap (λ v. v.list.items) same_text ∙ grown in
     let begins_at : begins ≡ length (old.text.list.items ++ h.0) = begins_is ∙ ap length grown in
     let scope = a.scoped all found k plain.0 in
-    let later = with_candidate a.around.encoding (parameter k) a.state in
+    let later = with_candidate a.around (parameter k) a.state in
     let open_is : new.waiting ≡ old.waiting = same_waits ∙ waits in
     record {
       state = later;
       candidates = subst (λ l. AreCandidates l new.candidates.list.items later.candidates) (sym written)
           (subst (λ ks. AreCandidates (old.text.list.items ++ h.0) ks later.candidates) (sym more)
-          (dependent-candidate (old.text.list.items ++ h.0) mid a.state (old.text.list.items ++ h.0) [] begins k a.around.encoding all.encoding false (parameter k) grown
+          (dependent-candidate (old.text.list.items ++ h.0) mid a.state (old.text.list.items ++ h.0) [] begins k a.around all.encoding false (parameter k) grown
           (subst (λ v. AreCandidates (old.text.list.items ++ h.0) v.list.items a.state.candidates) (sym candidates)
           (candidates-stay old.text.list.items h.0 old.candidates.list.items a.state.candidates a.candidates))
           (sym (append-nil (old.text.list.items ++ h.0))) begins_at (parameter-prints k) (λ real. (scope.1 real).0)));
@@ -345,7 +345,7 @@ dependent-marked s w is_reference marked_reference begins number place entry fro
       rest = last.0;
       open_is = last.1;
       outer = marks.0;
-      encoding = marks.1;
+      made_in = marks.1;
       made = made b.1;
       comes = marks.3 b.1 w.at p.state b.12;
       front = b.2;
@@ -370,7 +370,7 @@ pub dependent-mark-done : (s : Symbol) (old mid new : Direct) (mark : List ℕ) 
     → new.candidates.list.items ≡ with_dependent mid begins r number place → new.text ≡ mid.text → new.waiting ≡ mid.waiting → new.at ≡ mid.at
     → IsWriting s new (steps.Dependent r begins number place)
 dependent-mark-done s old mid new mark r begins number place a waits text candidates at more same_text same_waits same_at =
-    let later = with_candidate a.encoding a.made a.state in
+    let later = with_candidate a.made_in a.made a.state in
     let written : new.text.list.items ≡ old.text.list.items ++ mark = ap (λ v. v.list.items) same_text ∙ text in
     let open_is : reverse new.waiting.list.items ≡ a.rest = ap (λ v. reverse v.list.items) same_waits ∙ waits in
     let marked : old.text.list.items ++ mark ≡ a.front ++ a.bytes ++ (a.marks ++ mark) =
@@ -379,7 +379,7 @@ dependent-mark-done s old mid new mark r begins number place a waits text candid
       state = later;
       candidates = subst (λ l. AreCandidates l new.candidates.list.items later.candidates) (sym written)
           (subst (λ ks. AreCandidates (old.text.list.items ++ mark) ks later.candidates) (sym more)
-          (dependent-candidate (old.text.list.items ++ mark) mid a.state (a.front ++ a.bytes) (a.marks ++ mark) begins number a.encoding place r a.made text
+          (dependent-candidate (old.text.list.items ++ mark) mid a.state (a.front ++ a.bytes) (a.marks ++ mark) begins number a.made_in place r a.made text
           (subst (λ v. AreCandidates (old.text.list.items ++ mark) v.list.items a.state.candidates) (sym candidates)
           (candidates-stay old.text.list.items mark old.candidates.list.items a.state.candidates a.candidates))
           marked a.begins_is a.prints a.encoding_is));

@@ -89,7 +89,7 @@ name-opens s w a letter =
         awaits = items.awaits;
         onward = λ l there then_ last. (
           a.os,
-          a.around.encoding,
+          a.around,
           λ ends.
               let e = encoding_of v (no_items l) in
               let entity = here.onward e there then_ (items.onward l there then_ last) ends in

@@ -12,7 +12,7 @@ use Rattle.cpp_direct.specs.declared.open.Mark.{Mark}
 use Rattle.cpp_direct.specs.declared.direct.Direct.{Direct}
 use Rattle.cpp_direct.specs.declared.open.Arguments.{Arguments}
 use Rattle.cpp_direct.specs.declared.open.Candidate.{Candidate}
-use Rattle.cpp_direct.specs.Holes.{StandsAt}
+use Rattle.cpp_direct.specs.Holes.{StandsAt, candidate}
 use Rattle.cpp_direct.specs.Prints.{forwarded, PrintAllBy, list_of}
 use Rattle.cpp_direct.specs.Stands.{AreCandidates, EncodedBehind, HasArguments, IsScope, ParametersGoOn, in_front_of_next, IsAmong, IsKnown, place_of}
 use Rattle.cpp_direct.specs.Ways.{AwaitsNextParameter, IsParameterEnded, AreForwarded, IsPackOf, PrintsForwarded, comma_text}
@@ -225,9 +225,9 @@ expansion-read s old begun last new mark start argument a pack_ ordered few stan
     let front = a.aside ++ a.lead ++ a.name ++ codes "(" in
     let bytes = fw.bytes in
     let t = expansion (rvalue (parameter 0)) in
-    let e = a.goes.around.encoding in
+    let around = a.goes.around in
     let scope = subst (λ k. IsScope 0 k a.goes.around) pack_ (a.goes.scoped 0 ordered).0 in
-    let later = with_expansion (count (list_of scope.elements)) e a.state in
+    let later = with_expansion (count (list_of scope.elements)) around a.state in
     let element = element-awaits s Kind.Items a.goes.inner a.goes.around old.at a.state tt a.goes.awaits in
     let comes = expansion-comes s a.goes.around element.inner old.at a.state scope element.awaits stands in
     let goes = parameter-goes_on s argument (λ x there then_. EncodedBehind s a.lead x there) a.make a.ts old.at a.state a.goes t (old.at + 5) later
@@ -240,11 +240,11 @@ expansion-read s old begun last new mark start argument a pack_ ordered few stan
     ap (λ v. v.list.items) text ∙ fw.writes.text ∙ ap (λ v. v.list.items ++ bytes) same_text in
     let known : AreCandidates (old.text.list.items ++ bytes) (with_three old.candidates.list.items) later.candidates =
     one-hidden (old.text.list.items ++ bytes) ((old.candidates.list.items ++ hidden ∷ []) ++ hidden ∷ [])
-    ((a.state.candidates ++ record { tree = parameter 0; encoding = e } ∷ []) ++ record { tree = rvalue (parameter 0); encoding = e } ∷ [])
-    (record { tree = t; encoding = e })
+    ((a.state.candidates ++ candidate around (parameter 0) ∷ []) ++ candidate around (rvalue (parameter 0)) ∷ [])
+    (candidate around t)
     (one-hidden (old.text.list.items ++ bytes) (old.candidates.list.items ++ hidden ∷ [])
-    (a.state.candidates ++ record { tree = parameter 0; encoding = e } ∷ []) (record { tree = rvalue (parameter 0); encoding = e })
-    (one-hidden (old.text.list.items ++ bytes) old.candidates.list.items a.state.candidates (record { tree = parameter 0; encoding = e })
+    (a.state.candidates ++ candidate around (parameter 0) ∷ []) (candidate around (rvalue (parameter 0)))
+    (one-hidden (old.text.list.items ++ bytes) old.candidates.list.items a.state.candidates (candidate around (parameter 0))
     (candidates-stay old.text.list.items bytes old.candidates.list.items a.state.candidates a.candidates))) in
     record {
       state = later;

@@ -50,7 +50,7 @@ function-begins s old new is_pointer p letters takes waits at text candidates = 
             subst (λ l. Stands s l f.inner new.text.list.items)
                 (sym (ap reverse waits ∙ reverse-last old.waiting.list.items (opens.Returned is_pointer)))
                 (subst (λ v. Stands s (opens.Returned is_pointer ∷ reverse old.waiting.list.items) f.inner v.list.items) (sym text)
-                (os, around.encoding, f.onward, takes, p.is_before.4)),
+                (os, around, f.onward, takes, p.is_before.4)),
             subst (λ l. IsScoped around l) (sym (ap reverse waits ∙ reverse-last old.waiting.list.items (opens.Returned is_pointer)))
                 (none-scoped around (opens.Returned is_pointer ∷ reverse old.waiting.list.items) refl),
           );

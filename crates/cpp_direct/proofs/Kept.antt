@@ -5,14 +5,14 @@ use Rattle.std.proofs.lemmas.List.{length-append, reverse-append, reverse-revers
 use Rattle.std.proofs.Math.Seq.{drop-append_seam, take-append_seam}
 use Rattle.cpp_grammar.specs.Term.{Term}
 use Rattle.cpp_grammar.specs.Values as values
-use Rattle.cpp_grammar.specs.Values.{State}
+use Rattle.cpp_grammar.specs.Values.{State, Around}
 use Rattle.cpp_direct.specs.Symbol.{Symbol}
 use Rattle.cpp_direct.specs.declared.open.Candidate.{Candidate}
 use Rattle.cpp_direct.specs.declared.open.Nest.{Nest}
 use Rattle.cpp_direct.specs.declared.open.Open.{Open}
 use Rattle.cpp_direct.specs.declared.open.Open.TheVariants as opens
 use Rattle.cpp_direct.specs.declared.direct.Direct.{Direct}
-use Rattle.cpp_direct.specs.Holes.{with_candidate, unless_listed}
+use Rattle.cpp_direct.specs.Holes.{candidate, with_candidate, unless_listed}
 use Rattle.cpp_direct.specs.Prints.{Prints}
 use Rattle.cpp_direct.specs.declared.open.Step.TheVariants as steps
 use Rattle.cpp_direct.specs.Stands.{IsCandidate, PrintsAs, PrintsOrNames, AreCandidates, IsBefore, IsNest, IsTemplate, ArgumentsGoOn, Stands, of_template}
@@ -70,11 +70,11 @@ candidates-more text [] (y ∷ cs) k c p is = absurd p
 candidates-more text (x ∷ ks) [] k c p is = absurd p
 
 -- what is written from a place on becomes a candidate
-pub candidates-added : (text : List ℕ) (ks : List Candidate) (cs : List values.Candidate) (front bytes : List ℕ) (from : ℕ) (t : Term) (e : ℕ) (r : Bool)
+pub candidates-added : (text : List ℕ) (ks : List Candidate) (cs : List values.Candidate) (front bytes : List ℕ) (from : ℕ) (t : Term) (around : Around) (r : Bool)
     → AreCandidates text ks cs → text ≡ front ++ bytes → from ≡ length front → Prints t bytes r
-    → AreCandidates text (ks ++ record { from = from; to = length text; is_reference = r; is_dependent = false; number = 0; encoding = 0 } ∷ []) (cs ++ record { tree = t; encoding = e } ∷ [])
-candidates-added text ks cs front bytes from t e r p written from_is prints =
-    candidates-more text ks cs (record { from = from; to = length text; is_reference = r; is_dependent = false; number = 0; encoding = 0 }) (record { tree = t; encoding = e }) p (λ ordered. record {
+    → AreCandidates text (ks ++ record { from = from; to = length text; is_reference = r; is_dependent = false; number = 0; encoding = 0 } ∷ []) (cs ++ candidate around t ∷ [])
+candidates-added text ks cs front bytes from t around r p written from_is prints =
+    candidates-more text ks cs (record { from = from; to = length text; is_reference = r; is_dependent = false; number = 0; encoding = 0 }) (candidate around t) p (λ ordered. record {
       front = front;
       bytes = bytes;
       back = [];
@@ -85,18 +85,18 @@ candidates-added text ks cs front bytes from t e r p written from_is prints =
     })
 
 -- the same of a writer and a state
-pub candidates-with : (w : Direct) (st : State) (front bytes : List ℕ) (from : ℕ) (t : Term) (e : ℕ) (r : Bool)
+pub candidates-with : (w : Direct) (st : State) (front bytes : List ℕ) (from : ℕ) (t : Term) (around : Around) (r : Bool)
     → AreCandidates w.text.list.items w.candidates.list.items st.candidates → w.text.list.items ≡ front ++ bytes → from ≡ length front → Prints t bytes r
-    → AreCandidates w.text.list.items (added w from r) (with_candidate e t st).candidates
-candidates-with w st front bytes from t e r p written from_is prints =
-    candidates-added w.text.list.items w.candidates.list.items st.candidates front bytes from t e r p written from_is prints
+    → AreCandidates w.text.list.items (added w from r) (with_candidate around t st).candidates
+candidates-with w st front bytes from t around r p written from_is prints =
+    candidates-added w.text.list.items w.candidates.list.items st.candidates front bytes from t around r p written from_is prints
 
 -- the same unless it is one already
-pub candidates-unless : (w : Direct) (st : State) (listed : Bool) (front bytes : List ℕ) (from : ℕ) (t : Term) (e : ℕ)
+pub candidates-unless : (w : Direct) (st : State) (listed : Bool) (front bytes : List ℕ) (from : ℕ) (t : Term) (around : Around)
     → AreCandidates w.text.list.items w.candidates.list.items st.candidates → w.text.list.items ≡ front ++ bytes → from ≡ length front → Prints t bytes false
-    → AreCandidates w.text.list.items (added_unless w listed from) (unless_listed listed e t st).candidates
-candidates-unless w st true front bytes from t e p written from_is prints = p
-candidates-unless w st false front bytes from t e p written from_is prints = candidates-with w st front bytes from t e false p written from_is prints
+    → AreCandidates w.text.list.items (added_unless w listed from) (unless_listed listed around t st).candidates
+candidates-unless w st true front bytes from t around p written from_is prints = p
+candidates-unless w st false front bytes from t around p written from_is prints = candidates-with w st front bytes from t around false p written from_is prints
 
 -- a text was written
 pub candidates-written : (old new : Direct) (bytes : List ℕ) (cs : List values.Candidate) → Writes old new bytes

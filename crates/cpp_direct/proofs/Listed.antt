@@ -289,7 +289,7 @@ first-closed s w new nest p candidates text waiting at =
     let bytes = p.name ++ codes "<" ++ p.arguments ++ codes ">" in
     let around = p.owns.0 in
     let outer = p.owns.1 in
-    let state = with_candidate around.encoding t p.state in
+    let state = with_candidate around t p.state in
     let is_nest : IsNest p.front bytes w.text.list.items nest t
     = instance-nest p.front p.name w.text.list.items nest nest.is_listed nest.is_instance p.template p.ts p.tail p.arguments p.is_tail p.is_template
     p.elements p.written in
@@ -297,7 +297,7 @@ first-closed s w new nest p candidates text waiting at =
       state = state;
       candidates = subst (λ v. AreCandidates v.list.items new.candidates.list.items state.candidates) (sym text)
           (subst (λ ks. AreCandidates w.text.list.items ks state.candidates) (sym candidates)
-          (candidates-with w p.state p.front bytes nest.from t around.encoding false p.candidates p.written p.is_template.from_is is_nest.prints));
+          (candidates-with w p.state p.front bytes nest.from t around false p.candidates p.written p.is_template.from_is is_nest.prints));
       is_before = (
         t,
         p.front,

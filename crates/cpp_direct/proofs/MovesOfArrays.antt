@@ -71,7 +71,7 @@ array-opens s accesses.Pointer kind os around at st digits end whole referable e
     record {
       inner = f.inner;
       awaits = f.awaits;
-      onward = λ u here now comes. o.passes (array (values.normal digits) u) here (with_candidate around.encoding (array (values.normal digits) u) now)
+      onward = λ u here now comes. o.passes (array (values.normal digits) u) here (with_candidate around (array (values.normal digits) u) now)
           (f.onward u here now comes);
     }
 array-opens s accesses.Lvalue kind os around at st digits end whole referable expects stands is =
@@ -82,6 +82,6 @@ array-opens s accesses.Lvalue kind os around at st digits end whole referable ex
     record {
       inner = f.inner;
       awaits = f.awaits;
-      onward = λ u here now comes. o.passes (array (values.normal digits) u) here (with_candidate around.encoding (array (values.normal digits) u) now)
+      onward = λ u here now comes. o.passes (array (values.normal digits) u) here (with_candidate around (array (values.normal digits) u) now)
           (f.onward u here now comes);
     }

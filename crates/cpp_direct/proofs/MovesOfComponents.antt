@@ -36,7 +36,7 @@ rest-chooses Kind.NestTail is = refl
 rest-chooses _ is = absurd is
 
 prefix-appended : (around : Around) (t : Term) (listed : Bool) (st : State)
-    → with_prefix (after t listed around) st ≡ unless_listed listed around.encoding t st
+    → with_prefix (after t listed around) st ≡ unless_listed listed around t st
 unfolding with_prefix appended after prefix_tree prefix_listed
 prefix-appended around t true st = refl
 prefix-appended around t false st = refl
@@ -44,7 +44,7 @@ prefix-appended around t false st = refl
 -- a component follows, in front of which the name so far is a candidate
 pub component-awaits : (s : Symbol) (kind : Kind) (os : List Opened) (around : Around) (t : Term) (listed : Bool) (at : ℕ) (st : State)
     → IsRest kind → Expects s kind (after t listed around) os at st
-    → AwaitsComponent s os around t at (unless_listed listed around.encoding t st)
+    → AwaitsComponent s os around t at (unless_listed listed around t st)
 unfolding choose alternatives pick is_in in_ranges among is_chain parts_of number_of_kind between opening close unfolding_.behind meaning after prefix_tree prefix_listed tree_of part
 component-awaits s kind os around t listed at st is expects =
     let p : Production = Production.NestNext in
@@ -52,7 +52,7 @@ component-awaits s kind os around t listed at st is expects =
     record {
       inner = opened (standing (rule_of p) [] at here st) [] (OfKind NEST_TAIL ∷ []) ∷ os;
       awaits = first-of-chain s kind p 48 here os at st (OfKind COMPONENT) (OfKind NEST_TAIL ∷ []) (after t true around) []
-          (unless_listed listed around.encoding t st) (rest-chooses kind is) (omega arith) refl (λ f. refl) refl
+          (unless_listed listed around t st) (rest-chooses kind is) (omega arith) refl (λ f. refl) refl
           (rw (prefix-appended around t listed st) refl) expects;
       onward = λ u to later comes. record {
         inner = opened (standing (rule_of p) [] at here st) (tree u false ∷ []) [] ∷ os;
@@ -72,16 +72,16 @@ first-arguments s os around t listed at st expects stands =
     record {
       inner = opened (standing (rule_of p) (73 ∷ []) at here st) [] (Byte 69 ∷ OfKind COMPONENT ∷ OfKind NEST_TAIL ∷ []) ∷ os;
       awaits = any-list s (inside around) (opened (standing (rule_of p) (73 ∷ []) at here st) [] (Byte 69 ∷ OfKind COMPONENT ∷ OfKind NEST_TAIL ∷ []) ∷ os) (at + 1)
-          (unless_listed listed around.encoding t st)
+          (unless_listed listed around t st)
           (first-of s Kind.NestRestAlone p 73 here os at st (OfKind ARGUMENTS_FIRST) (Byte 69 ∷ OfKind COMPONENT ∷ OfKind NEST_TAIL ∷ []) (inside around) []
-          (unless_listed listed around.encoding t st) refl (omega arith) refl (λ f. refl) refl
+          (unless_listed listed around t st) refl (omega arith) refl (λ f. refl) refl
           (rw (prefix-appended around t listed st) refl) expects stands);
       onward = λ l to later comes ended.
           let u : Term = instance t (no_items l) in
           record {
             inner = opened (standing (rule_of p) (73 ∷ []) at here st) (tree u true ∷ nothing_there ∷ []) (OfKind NEST_TAIL ∷ []) ∷ os;
             awaits = next-of s p (73 ∷ []) at here st (l ∷ []) nothing_there (OfKind COMPONENT) (OfKind NEST_TAIL ∷ []) os (to + 1) later (after u true around)
-                (tree u true ∷ nothing_there ∷ []) (with_candidate around.encoding u later) refl
+                (tree u true ∷ nothing_there ∷ []) (with_candidate around u later) refl
                 (expects-byte s 69 here (opened (standing (rule_of p) (73 ∷ []) at here st) (l ∷ []) (OfKind COMPONENT ∷ OfKind NEST_TAIL ∷ []) ∷ os) to later
                 (next-of s p (73 ∷ []) at here st [] l (Byte 69) (OfKind COMPONENT ∷ OfKind NEST_TAIL ∷ []) os to later here (l ∷ []) later refl comes)
                 ended);
@@ -105,9 +105,9 @@ instance-arguments s os around t listed at st expects stands =
     record {
       inner = opened (standing (rule_of p) (73 ∷ []) at here st) [] (Byte 69 ∷ OfKind NEST_TAIL ∷ []) ∷ os;
       awaits = any-list s (inside around) (opened (standing (rule_of p) (73 ∷ []) at here st) [] (Byte 69 ∷ OfKind NEST_TAIL ∷ []) ∷ os) (at + 1)
-          (unless_listed listed around.encoding t st)
+          (unless_listed listed around t st)
           (first-of s Kind.NestRestOrEnd p 73 here os at st (OfKind ARGUMENTS_FIRST) (Byte 69 ∷ OfKind NEST_TAIL ∷ []) (inside around) []
-          (unless_listed listed around.encoding t st) refl (omega arith) refl (λ f. refl) refl
+          (unless_listed listed around t st) refl (omega arith) refl (λ f. refl) refl
           (rw (prefix-appended around t listed st) refl) expects stands);
       onward = λ l to later comes ended.
           let u : Term = instance t (no_items l) in

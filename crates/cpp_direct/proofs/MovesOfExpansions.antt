@@ -39,7 +39,7 @@ pack-tested : (around : Around) (at : ℕ) (st : State) (scope : IsScope 0 true 
     (Ok (record {
       context = after (parameter 0) true (under_expansion around);
       values = tree (parameter 0) true ∷ [];
-      state = with_candidate around.encoding (parameter 0) (named_many (count (list_of scope.elements)) st);
+      state = with_candidate around (parameter 0) (named_many (count (list_of scope.elements)) st);
     }))
 unfolding between parameter_so_far parameter_named listed_so_far index_of text_of count element length_if_pack with_packs appended under_expansion after
 pack-tested around at st scope = rw (scope.scope_is ∙ ap (λ l. Some l) (scope.alone refl)) refl
@@ -47,14 +47,14 @@ pack-tested around at st scope = rw (scope.scope_is ∙ ap (λ l. Some l) (scope
 -- the parameter comes
 pack-comes : (s : Symbol) (around : Around) (os : List Opened) (at : ℕ) (st : State) (scope : IsScope 0 true around)
     → Expects s Kind.Type (under_expansion around) os at (begun st) → StandsAt s.bytes at (84 ∷ 95 ∷ [])
-    → Comes s os (tree (parameter 0) true) (at + 2) (with_candidate around.encoding (parameter 0) (named_many (count (list_of scope.elements)) st))
+    → Comes s os (tree (parameter 0) true) (at + 2) (with_candidate around (parameter 0) (named_many (count (list_of scope.elements)) st))
 unfolding choose alternatives pick is_in in_ranges among is_chain parts_of number_of_kind between opening close unfolding_.behind meaning byte_of tree_of is_there part applied may_be_empty is_function_type
 pack-comes s around os at st scope expects stands =
     let p = Production.Parameter in
     let t = parameter 0 in
     let v = tree t true in
     let here = under_expansion around in
-    let later = with_candidate around.encoding t (named_many (count (list_of scope.elements)) st) in
+    let later = with_candidate around t (named_many (count (list_of scope.elements)) st) in
     let both = stands-split s.bytes at (84 ∷ []) (95 ∷ []) stands in
     let solid = solid-opens s Kind.Type here os at (begun st) tt expects in
     let rule = standing (rule_of p) (84 ∷ []) at here (begun st) in
@@ -69,21 +69,20 @@ pack-comes s around os at st scope expects stands =
     (expects-empty s Kind.ArgumentsAlone (after t true here) (opened rule (v ∷ []) [] ∷ solid.inner) (at + 1 + 1) later behind refl)))
 
 -- the candidates behind it
-abbrev pub with_expansion : (size encoding : ℕ) → State → State
-with_expansion size e st =
+abbrev pub with_expansion : (size : ℕ) → Around → State → State
+with_expansion size around st =
     let each = rvalue (parameter 0) in
-    with_candidate e (expansion each) (record (with_candidate e each (with_candidate e (parameter 0) (named_many size st))) { packs = st.packs })
+    with_candidate around (expansion each) (record (with_candidate around each (with_candidate around (parameter 0) (named_many size st))) { packs = st.packs })
 
 -- a reference to each type of the pack comes, where a parameter is expected
 pub expansion-comes : (s : Symbol) (around : Around) (os : List Opened) (at : ℕ) (st : State) (scope : IsScope 0 true around)
     → Expects s Kind.Item around os at st → StandsAt s.bytes at (68 ∷ 112 ∷ 79 ∷ 84 ∷ 95 ∷ [])
-    → Comes s os (tree (expansion (rvalue (parameter 0))) true) (at + 5) (with_expansion (count (list_of scope.elements)) around.encoding st)
+    → Comes s os (tree (expansion (rvalue (parameter 0))) true) (at + 5) (with_expansion (count (list_of scope.elements)) around st)
 unfolding choose alternatives pick is_in in_ranges among is_chain parts_of number_of_kind between opening close unfolding_.behind meaning listed_value with_type byte_of tree_of is_there is_listed part appended under_expansion
 expansion-comes s around os at st scope expects stands =
     let p = Production.ItemWithD in
     let q = Production.Expansion in
     let each = rvalue (parameter 0) in
-    let e = around.encoding in
     let here = under_expansion around in
     let first = stands-split s.bytes at (68 ∷ []) (112 ∷ 79 ∷ 84 ∷ 95 ∷ []) stands in
     let second = stands-split s.bytes (at + 1) (112 ∷ []) (79 ∷ 84 ∷ 95 ∷ []) first.1 in
@@ -95,12 +94,12 @@ expansion-comes s around os at st scope expects stands =
     item second.0 in
     let reference = rvalue-opens s Kind.Type here inner (at + 1 + 1) (begun st) tt pattern third.0 in
     let named = pack-comes s around reference.inner (at + 1 + 1 + 1) st scope reference.awaits third.1 in
-    let named_state = with_candidate e (parameter 0) (named_many (count (list_of scope.elements)) st) in
-    let whole = with_candidate e each named_state in
+    let named_state = with_candidate around (parameter 0) (named_many (count (list_of scope.elements)) st) in
+    let whole = with_candidate around each named_state in
     let at_end = at + 1 + 1 + 1 + 2 in
     let refers = reference.passes (parameter 0) at_end named_state named in
-    subst (λ k. Comes s os (tree (expansion each) true) k (with_expansion (count (list_of scope.elements)) e st)) (omega arith)
+    subst (λ k. Comes s os (tree (expansion each) true) k (with_expansion (count (list_of scope.elements)) around st)) (omega arith)
     (last-of s p (68 ∷ []) at around st [] (tree (expansion each) false) os at_end (record whole { packs = st.packs }) (tree (expansion each) true)
-    (with_expansion (count (list_of scope.elements)) e st) refl
+    (with_expansion (count (list_of scope.elements)) around st) refl
     (last-of s q (112 ∷ []) (at + 1) around st [] (tree each true) outer at_end whole (tree (expansion each) false) (record whole { packs = st.packs }) refl
     refers))

@@ -67,7 +67,7 @@ pointed-function-opens s kind os around at st whole outside expects stands =
         outside = g.outside;
         inner = g.inner;
         awaits = g.awaits;
-        passes = λ l there then_ last. o.passes (plain_function r l) there (with_candidate around.encoding (plain_function r l) then_)
+        passes = λ l there then_ last. o.passes (plain_function r l) there (with_candidate around (plain_function r l) then_)
             (g.passes l there then_ last);
       };
     }
@@ -79,10 +79,10 @@ pointed-function-opens s kind os around at st whole outside expects stands =
     typed _ is = absurd is
 
 -- a parameter is expected
-pub parameter-opens : (s : Symbol) (outer : List Opened) (encoding : ℕ) (is_pointer : Bool) (made : Term → Term) (at : ℕ) (st : State)
-    → SignatureGoesOn s outer encoding is_pointer made at st → ParameterOpened s outer encoding is_pointer made at st
+pub parameter-opens : (s : Symbol) (outer : List Opened) (made_in : Around) (is_pointer : Bool) (made : Term → Term) (at : ℕ) (st : State)
+    → SignatureGoesOn s outer made_in is_pointer made at st → ParameterOpened s outer made_in is_pointer made at st
 unfolding choose alternatives pick is_in in_ranges among is_chain parts_of number_of_kind between opening close unfolding_.behind meaning with_item part tree_of ref_of
-parameter-opens s outer encoding is_pointer made at st g =
+parameter-opens s outer made_in is_pointer made at st g =
     let p = Production.RestItem in
     let rule = standing (rule_of p) [] at g.around st in
     let rest = OfKind (number_of_kind Kind.FunctionRest) in
@@ -103,10 +103,10 @@ parameter-opens s outer encoding is_pointer made at st g =
     }
 
 -- an E ends a function type
-pub signature-ends : (s : Symbol) (outer : List Opened) (encoding : ℕ) (is_pointer : Bool) (made : Term → Term) (at : ℕ) (st : State)
-    → (g : SignatureGoesOn s outer encoding is_pointer made at st) → StandsAt s.bytes at (69 ∷ []) → Comes s g.inner (signature nil any_value) (at + 1) st
+pub signature-ends : (s : Symbol) (outer : List Opened) (made_in : Around) (is_pointer : Bool) (made : Term → Term) (at : ℕ) (st : State)
+    → (g : SignatureGoesOn s outer made_in is_pointer made at st) → StandsAt s.bytes at (69 ∷ []) → Comes s g.inner (signature nil any_value) (at + 1) st
 unfolding choose alternatives pick is_in in_ranges among is_chain parts_of number_of_kind between opening close unfolding_.behind meaning
-signature-ends s outer encoding is_pointer made at st g stands =
+signature-ends s outer made_in is_pointer made at st g stands =
     ends s Production.RestEnd (69 ∷ []) at g.around st [] g.inner (at + 1) st _ st
     (opens s Kind.FunctionRest Production.RestEnd 69 (69 ∷ []) g.around g.inner at st refl (omega arith) refl (λ f. refl) g.awaits stands) refl
 
@@ -153,11 +153,11 @@ alike s item made around at0 before os x t at st then_ goes same closes comes by
     ∙ sym (ap (λ q. close q 0 around at0 before vs inner) (at_number Production.RestItem)) ∙ closed)
 
 -- a parameter that is a reference is expected behind its letter
-pub reference-opens : (s : Symbol) (outer : List Opened) (encoding : ℕ) (is_pointer is_lvalue : Bool) (made : Term → Term) (at : ℕ) (st : State)
-    → SignatureGoesOn s outer encoding is_pointer made at st → StandsAt s.bytes at (reference_letter is_lvalue ∷ [])
-    → ReferenceOpened s outer encoding is_pointer is_lvalue made at st
+pub reference-opens : (s : Symbol) (outer : List Opened) (made_in : Around) (is_pointer is_lvalue : Bool) (made : Term → Term) (at : ℕ) (st : State)
+    → SignatureGoesOn s outer made_in is_pointer made at st → StandsAt s.bytes at (reference_letter is_lvalue ∷ [])
+    → ReferenceOpened s outer made_in is_pointer is_lvalue made at st
 unfolding choose alternatives pick is_in in_ranges among is_chain parts_of number_of_kind between opening close unfolding_.behind meaning with_item part tree_of ref_of signature_or byte_of appended
-reference-opens s outer encoding is_pointer true made at st g stands =
+reference-opens s outer made_in is_pointer true made at st g stands =
     let type = OfKind (number_of_kind Kind.Type) in
     let rest = OfKind (number_of_kind Kind.FunctionRest) in
     let mark = standing (rule_of Production.RestLvalue) (82 ∷ []) at g.around st in
@@ -174,7 +174,7 @@ reference-opens s outer encoding is_pointer true made at st g stands =
           (first-of s Kind.FunctionRest Production.RestLvalue 82 g.around g.inner at st (OfKind (number_of_kind Kind.AfterR)) [] g.around [] st refl
           (omega arith) refl (λ f. refl) refl refl g.awaits stands);
       passes = λ t here now comes. alike s Production.LvalueItem lvalue g.around (at + 1) st os rest t here now
-          (with_candidate g.around.encoding (lvalue t) now) refl refl (λ vs inner. refl) comes;
+          (with_candidate g.around (lvalue t) now) refl refl (λ vs inner. refl) comes;
       onward = λ u here now comes. record {
         around = g.around;
         outside = g.outside;
@@ -185,7 +185,7 @@ reference-opens s outer encoding is_pointer true made at st g stands =
             (ends s Production.RestItem [] (at + 1) g.around st (tree u true ∷ signature l any_value ∷ []) os there then_ _ then_ last refl));
       };
     }
-reference-opens s outer encoding is_pointer false made at st g stands =
+reference-opens s outer made_in is_pointer false made at st g stands =
     let type = OfKind (number_of_kind Kind.Type) in
     let rest = OfKind (number_of_kind Kind.FunctionRest) in
     let mark = standing (rule_of Production.RestRvalue) (79 ∷ []) at g.around st in
@@ -202,7 +202,7 @@ reference-opens s outer encoding is_pointer false made at st g stands =
           (first-of s Kind.FunctionRest Production.RestRvalue 79 g.around g.inner at st (OfKind (number_of_kind Kind.AfterO)) [] g.around [] st refl
           (omega arith) refl (λ f. refl) refl refl g.awaits stands);
       passes = λ t here now comes. alike s Production.RvalueItem rvalue g.around (at + 1) st os rest t here now
-          (with_candidate g.around.encoding (rvalue t) now) refl refl (λ vs inner. refl) comes;
+          (with_candidate g.around (rvalue t) now) refl refl (λ vs inner. refl) comes;
       onward = λ u here now comes. record {
         around = g.around;
         outside = g.outside;

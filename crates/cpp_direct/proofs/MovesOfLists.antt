@@ -42,7 +42,7 @@ mark-comes s os kind byte around at st chosen small expects stands =
 
 prefix-listed : (t : Term) (listed : Bool) (around : Around) (at : ℕ) (st : State)
     → ◌≡◌ {A = Going} (between Production.Arguments (after t listed around) at [] st)
-    (Ok (record { context = inside around; values = []; state = unless_listed listed around.encoding t st }))
+    (Ok (record { context = inside around; values = []; state = unless_listed listed around t st }))
 unfolding between after inside with_prefix appended prefix_tree prefix_listed
 prefix-listed t true around at st = refl
 prefix-listed t false around at st = refl
@@ -50,12 +50,12 @@ prefix-listed t false around at st = refl
 -- arguments behind a name begin with an I, and end with an E
 pub arguments-open : (s : Symbol) (os : List Opened) (around : Around) (t : Term) (listed : Bool) (at : ℕ) (st : State)
     → Expects s Kind.ArgumentsAlone (after t listed around) os at st → StandsAt s.bytes at (73 ∷ [])
-    → ArgumentsOpened s os around (at + 1) (unless_listed listed around.encoding t st)
+    → ArgumentsOpened s os around (at + 1) (unless_listed listed around t st)
 unfolding choose alternatives pick is_in in_ranges among is_chain parts_of between opening close unfolding_.behind meaning part
 arguments-open s os around t listed at st expects stands =
     let named_ = after t listed around in
     let rule = standing (rule_of Production.Arguments) (73 ∷ []) at named_ st in
-    let state = unless_listed listed around.encoding t st in
+    let state = unless_listed listed around t st in
     let needs = opens s Kind.ArgumentsAlone Production.Arguments 73 (73 ∷ []) named_ os at st refl (omega arith) refl (λ f. refl) expects stands in
     record {
       inner = opened rule [] (Byte 69 ∷ []) ∷ os;
@@ -318,7 +318,7 @@ enumeration-passes : (s : Symbol) (os : List Opened) (around : Around) (place : 
     → Comes s (opened (standing (rule_of Production.IntegerLiteral) [] place around before) [] (OfKind (number_of_kind Kind.Integer) ∷ []) ∷ os)
     (tree t listed) at st
     → Comes s (opened (standing (rule_of Production.IntegerLiteral) [] place around before) [] (OfKind (number_of_kind Kind.Integer) ∷ []) ∷ os)
-    (tree t true) at (unless_listed listed around.encoding t st)
+    (tree t true) at (unless_listed listed around t st)
 unfolding cpp rule_of number_of productions unfolding_.production_at between close unfolding_.behind meaning part tree_of signed_of with_type is_listed appended
 enumeration-passes s os around place before t true at st comes bytes vs inner w later rest there closes = comes bytes vs inner w later rest there closes
 enumeration-passes s os around place before t false at st comes bytes vs inner w later rest there closes = go rest.forest rest.shaped rest.spelled rest.unfolds
@@ -327,7 +327,7 @@ enumeration-passes s os around place before t false at st comes bytes vs inner w
     rule = standing (rule_of Production.IntegerLiteral) [] place around before
 
     behind : State
-    behind = with_candidate around.encoding t st
+    behind = with_candidate around t st
 
     closed : (y : Found (List Value) State) → found (tree t true ∷ y.value) y.state ≡ found vs inner
         → cpp.close rule (tree t false ∷ y.value) y.state ≡ Ok (found w later)

@@ -34,14 +34,14 @@ use Rattle.cpp_direct.proofs.Moves.{stands-split, expects-name, expects-seq, fir
 
 plain-closes : (around : Around) (at : ℕ) (before : State) (t : Term) (listed : Bool) (st : State)
     → close Production.PlainType 0 around at before (tree t listed ∷ []) st
-    ≡ Ok (found (tree t true) (unless_listed listed around.encoding t st))
+    ≡ Ok (found (tree t true) (unless_listed listed around t st))
 unfolding close unfolding_.behind meaning listed_value with_type tree_of is_listed part appended
 plain-closes around at before t true st = refl
 plain-closes around at before t false st = refl
 
 qualified-closes : (around : Around) (at : ℕ) (before : State) (t : Term) (listed : Bool) (st : State) → is_function_type t ≡ false
     → close Production.QualifiedPlain 0 around at before (tree t listed ∷ []) st
-    ≡ Ok (found (tree t true) (unless_listed listed around.encoding t st))
+    ≡ Ok (found (tree t true) (unless_listed listed around t st))
 unfolding close unfolding_.behind meaning listed_value with_type with_unqualified tree_of is_listed part appended is_function_type
 qualified-closes around at before t true st other = rw other refl
 qualified-closes around at before t false st other = rw other refl
@@ -55,28 +55,28 @@ solid-opens s Kind.Type around os at st typed expects = record {
   awaits = first-of-chain s Kind.Type Production.PlainType 80 around os at st (OfKind SOLID) [] around [] st refl (omega arith) refl (λ f. refl) refl
       refl expects;
   passes = λ t listed end now other comes. last-of s Production.PlainType [] at around st [] (tree t listed) os end now (tree t true)
-      (unless_listed listed around.encoding t now) (plain-closes around at st t listed now) comes;
+      (unless_listed listed around t now) (plain-closes around at st t listed now) comes;
 }
 solid-opens s Kind.Item around os at st typed expects = record {
   inner = opened (standing (rule_of Production.PlainType) [] at around st) [] [] ∷ os;
   awaits = first-of-chain s Kind.Item Production.PlainType 80 around os at st (OfKind SOLID) [] around [] st refl (omega arith) refl (λ f. refl) refl
       refl expects;
   passes = λ t listed end now other comes. last-of s Production.PlainType [] at around st [] (tree t listed) os end now (tree t true)
-      (unless_listed listed around.encoding t now) (plain-closes around at st t listed now) comes;
+      (unless_listed listed around t now) (plain-closes around at st t listed now) comes;
 }
 solid-opens s Kind.ItemButRef around os at st typed expects = record {
   inner = opened (standing (rule_of Production.PlainType) [] at around st) [] [] ∷ os;
   awaits = first-of-chain s Kind.ItemButRef Production.PlainType 80 around os at st (OfKind SOLID) [] around [] st refl (omega arith) refl (λ f. refl) refl
       refl expects;
   passes = λ t listed end now other comes. last-of s Production.PlainType [] at around st [] (tree t listed) os end now (tree t true)
-      (unless_listed listed around.encoding t now) (plain-closes around at st t listed now) comes;
+      (unless_listed listed around t now) (plain-closes around at st t listed now) comes;
 }
 solid-opens s Kind.Plain around os at st typed expects = record {
   inner = opened (standing (rule_of Production.QualifiedPlain) [] at around st) [] [] ∷ os;
   awaits = first-of-chain s Kind.Plain Production.QualifiedPlain 80 around os at st (OfKind SOLID) [] around [] st refl (omega arith) refl (λ f. refl)
       refl refl expects;
   passes = λ t listed end now other comes. last-of s Production.QualifiedPlain [] at around st [] (tree t listed) os end now (tree t true)
-      (unless_listed listed around.encoding t now) (qualified-closes around at st t listed now other) comes;
+      (unless_listed listed around t now) (qualified-closes around at st t listed now other) comes;
 }
 solid-opens s _ around os at st typed expects = absurd typed
 
@@ -85,7 +85,7 @@ pub record WholeOpens (s : Symbol) (outer : List Opened) (around : Around) (at :
   pub inner : List Opened
   pub awaits : Expects s Kind.Solid around inner at st
   pub passes : (t : Term) (listed : Bool) (end : ℕ) (now : State) → Comes s inner (tree t listed) end now
-      → Comes s outer (tree t true) end (unless_listed listed around.encoding t now)
+      → Comes s outer (tree t true) end (unless_listed listed around t now)
 
 pub whole-opens : (s : Symbol) (kind : Kind) (around : Around) (os : List Opened) (at : ℕ) (st : State) → IsQualifiable kind
     → Expects s kind around os at st → WholeOpens s os around at st
@@ -95,21 +95,21 @@ whole-opens s Kind.Type around os at st whole expects = record {
   awaits = first-of-chain s Kind.Type Production.PlainType 80 around os at st (OfKind SOLID) [] around [] st refl (omega arith) refl (λ f. refl) refl
       refl expects;
   passes = λ t listed end now comes. last-of s Production.PlainType [] at around st [] (tree t listed) os end now (tree t true)
-      (unless_listed listed around.encoding t now) (plain-closes around at st t listed now) comes;
+      (unless_listed listed around t now) (plain-closes around at st t listed now) comes;
 }
 whole-opens s Kind.Item around os at st whole expects = record {
   inner = opened (standing (rule_of Production.PlainType) [] at around st) [] [] ∷ os;
   awaits = first-of-chain s Kind.Item Production.PlainType 80 around os at st (OfKind SOLID) [] around [] st refl (omega arith) refl (λ f. refl) refl
       refl expects;
   passes = λ t listed end now comes. last-of s Production.PlainType [] at around st [] (tree t listed) os end now (tree t true)
-      (unless_listed listed around.encoding t now) (plain-closes around at st t listed now) comes;
+      (unless_listed listed around t now) (plain-closes around at st t listed now) comes;
 }
 whole-opens s Kind.ItemButRef around os at st whole expects = record {
   inner = opened (standing (rule_of Production.PlainType) [] at around st) [] [] ∷ os;
   awaits = first-of-chain s Kind.ItemButRef Production.PlainType 80 around os at st (OfKind SOLID) [] around [] st refl (omega arith) refl (λ f. refl)
       refl refl expects;
   passes = λ t listed end now comes. last-of s Production.PlainType [] at around st [] (tree t listed) os end now (tree t true)
-      (unless_listed listed around.encoding t now) (plain-closes around at st t listed now) comes;
+      (unless_listed listed around t now) (plain-closes around at st t listed now) comes;
 }
 whole-opens s _ around os at st whole expects = absurd whole
 
@@ -227,7 +227,7 @@ reference-opens s kind around os at st byte made typed chosen small makes expect
   awaits = first-of s kind Production.ReferenceType byte around os at st (OfKind TYPE) [] around [] st (chosen kind typed) small refl (λ f. refl)
       refl refl expects stands;
   passes = λ t end now comes. last-of s Production.ReferenceType (byte ∷ []) at around st [] (tree t true) os end now (tree (made t) true)
-      (with_candidate around.encoding (made t) now) (rw (makes t) refl) comes;
+      (with_candidate around (made t) now) (rw (makes t) refl) comes;
 }
 
 lvalue-taken : (k : Kind) → IsReferable k → choose k 82 ≡ Some Production.ReferenceType
@@ -267,21 +267,21 @@ const-opens s Kind.Type around os at st typed expects stands = record {
   awaits = first-of s Kind.Type Production.ConstType 75 around os at st (OfKind PLAIN) [] around [] st refl (omega arith) refl (λ f. refl) refl refl
       expects stands;
   passes = λ t end now comes. last-of s Production.ConstType (75 ∷ []) at around st [] (tree t true) os end now (tree (as_const t) true)
-      (with_candidate around.encoding (as_const t) now) refl comes;
+      (with_candidate around (as_const t) now) refl comes;
 }
 const-opens s Kind.Item around os at st typed expects stands = record {
   inner = opened (standing (rule_of Production.ConstType) (75 ∷ []) at around st) [] [] ∷ os;
   awaits = first-of s Kind.Item Production.ConstType 75 around os at st (OfKind PLAIN) [] around [] st refl (omega arith) refl (λ f. refl) refl refl
       expects stands;
   passes = λ t end now comes. last-of s Production.ConstType (75 ∷ []) at around st [] (tree t true) os end now (tree (as_const t) true)
-      (with_candidate around.encoding (as_const t) now) refl comes;
+      (with_candidate around (as_const t) now) refl comes;
 }
 const-opens s Kind.ItemButRef around os at st typed expects stands = record {
   inner = opened (standing (rule_of Production.ConstType) (75 ∷ []) at around st) [] [] ∷ os;
   awaits = first-of s Kind.ItemButRef Production.ConstType 75 around os at st (OfKind PLAIN) [] around [] st refl (omega arith) refl (λ f. refl) refl refl
       expects stands;
   passes = λ t end now comes. last-of s Production.ConstType (75 ∷ []) at around st [] (tree t true) os end now (tree (as_const t) true)
-      (with_candidate around.encoding (as_const t) now) refl comes;
+      (with_candidate around (as_const t) now) refl comes;
 }
 const-opens s _ around os at st typed expects stands = absurd typed
 
@@ -289,7 +289,7 @@ const-opens s _ around os at st typed expects stands = absurd typed
 
 -- a name of a type was read, by a production whose last part is its arguments
 named-so : (s : Symbol) (around : Around) (os inner : List Opened) (t : Term) (listed : Bool) (at : ℕ) (st : State) (solid : List Opened)
-    → TreePasses s solid os around.encoding → Expects s Kind.ArgumentsAlone (after t listed around) inner at st
+    → TreePasses s solid os around → Expects s Kind.ArgumentsAlone (after t listed around) inner at st
     → ((end : ℕ) (now : State) → Comes s inner nothing_there end now → Comes s solid (tree t listed) end now)
     → ((a : Term) (end : ℕ) (now : State) → Comes s inner (tree a true) end now → Comes s solid (tree (instance t a) false) end now)
     → TypeNamed s os around t listed at st

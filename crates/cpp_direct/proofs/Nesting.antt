@@ -171,12 +171,12 @@ pub named-opens : (s : Symbol) (old mid new : Direct) → IsNestNamed s old → 
     → Keeps old mid (added old old.nest.from false) → OpensArguments mid new (opens.NestArguments mid.nest) → IsWriting s new (steps.List true)
 unfolding inside
 named-opens s old mid new n here keeps opening_ =
-    let e = n.around.encoding in
+    let around = n.around in
     let begun = arguments-open s n.named.inner n.around n.own false old.at n.state
     (alone-arguments s (after n.own false n.around) n.named.inner old.at n.state n.named.awaits) here in
-    list-begins s old mid new (added old old.nest.from false) (with_candidate e n.own n.state) (opens.NestArguments old.nest) n.front n.bytes n.own
+    list-begins s old mid new (added old old.nest.from false) (with_candidate around n.own n.state) (opens.NestArguments old.nest) n.front n.bytes n.own
     keeps (subst (λ x. OpensArguments mid new (opens.NestArguments x)) keeps.nest opening_)
-    (candidates-with old n.state n.front n.bytes old.nest.from n.own e false n.candidates n.written n.is_nest.from_is n.is_nest.prints)
+    (candidates-with old n.state n.front n.bytes old.nest.from n.own around false n.candidates n.written n.is_nest.from_is n.is_nest.prints)
     (nest-stays n.front n.bytes old.text.list.items (codes "<") old.nest n.own n.is_nest, (λ own. n.structor), n.no_structor) n.written (
       inside n.around,
       begun.inner,
@@ -257,16 +257,16 @@ pub component-next : (s : Symbol) (kind : Kind) (old new : Direct) (st : State) 
     → AreCandidates old.text.list.items old.candidates.list.items st.candidates → IsNesting s kind old t st
     → Keeps old new (added_unless old old.nest.is_listed old.nest.from) → IsWriting s new steps.Component
 component-next s kind old new st t rest candidates n keeps =
-    let e = n.around.encoding in
+    let around = n.around in
     let listed = old.nest.is_listed in
     let text_is : new.text.list.items ≡ old.text.list.items = cc (keeps.text) in
     let waiting_is : new.waiting.list.items ≡ old.waiting.list.items = cc (keeps.waiting) in
-    let later = unless_listed listed e t st in
+    let later = unless_listed listed around t st in
     record {
       state = later;
       candidates = subst (λ l. AreCandidates l new.candidates.list.items later.candidates) (sym text_is)
           (subst (λ l. AreCandidates old.text.list.items l later.candidates) (sym keeps.candidates)
-          (candidates-unless old st listed n.front n.bytes old.nest.from t e candidates n.written n.is_nest.from_is n.is_nest.prints));
+          (candidates-unless old st listed n.front n.bytes old.nest.from t around candidates n.written n.is_nest.from_is n.is_nest.prints));
       is_before = (
         t,
         n.front,
@@ -291,12 +291,12 @@ pub first-opens : (s : Symbol) (old mid new : Direct) (st : State) (t : Term)
     → IsWriting s new (steps.List true)
 unfolding inside
 first-opens s old mid new st t candidates n here keeps opening_ =
-    let e = n.around.encoding in
+    let around = n.around in
     let listed = old.nest.is_listed in
     let begun = first-arguments s n.goes.inner n.around t listed old.at st n.goes.awaits here in
-    list-begins s old mid new (added_unless old listed old.nest.from) (unless_listed listed e t st) (opens.FirstArguments old.nest) n.front n.bytes t
+    list-begins s old mid new (added_unless old listed old.nest.from) (unless_listed listed around t st) (opens.FirstArguments old.nest) n.front n.bytes t
     keeps (subst (λ x. OpensArguments mid new (opens.FirstArguments x)) keeps.nest opening_)
-    (candidates-unless old st listed n.front n.bytes old.nest.from t e candidates n.written n.is_nest.from_is n.is_nest.prints)
+    (candidates-unless old st listed n.front n.bytes old.nest.from t around candidates n.written n.is_nest.from_is n.is_nest.prints)
     (nest-stays n.front n.bytes old.text.list.items (codes "<") old.nest t n.is_nest) n.written (
       inside n.around,
       begun.inner,
@@ -306,7 +306,7 @@ first-opens s old mid new st t candidates n here keeps opening_ =
         n.around,
         n.outer,
         component-outside s n.goes.inner n.outer n.around (instance t (no_items l)) (at + 1)
-            (with_candidate e (instance t (no_items l)) later) n.goes.passes (begun.onward l at later comes ended),
+            (with_candidate around (instance t (no_items l)) later) n.goes.passes (begun.onward l at later comes ended),
         n.serves,
       )),
     )

@@ -15,7 +15,7 @@ use Rattle.cpp_direct.proofs.PrintedTypes.{parameter-in, rvalue-in, rvalue-again
 
 -- where the arguments are a pack of these types
 abbrev packed_in : List Term → Context
-packed_in ts = record { scope = Some (list (pack (list_of ts)) nil); index = None }
+packed_in ts = record { scope = Some (list (pack (list_of ts)) nil); index = None; in_signature = false }
 
 -- an rvalue reference to each type of the pack
 abbrev each : Term
@@ -165,7 +165,7 @@ expanded t rest b texts one others =
 
 types-are : (name : Term) (ts : List Term) → arguments_of name ≡ Some (list (pack (list_of ts)) nil) → packed_in ts ≡ types_of name
 unfolding types_of
-types-are name ts e = ap {A = Option Term} {B = Context} (λ o. record { scope = o; index = None }) (sym e)
+types-are name ts e = ap {A = Option Term} {B = Context} (λ o. record { scope = o; index = None; in_signature = false }) (sym e)
 
 -- The types of a name whose one argument is a pack: an rvalue reference to each type of the pack prints such references.
 pub expansion-element : (name : Term) (ts : List Term) (bytes : List ℕ) → ts ≢ [] → arguments_of name ≡ Some (list (pack (list_of ts)) nil)

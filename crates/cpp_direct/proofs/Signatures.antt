@@ -18,7 +18,7 @@ use Rattle.cpp_direct.specs.declared.open.Step.{Step}
 use Rattle.cpp_direct.specs.declared.open.Step.TheVariants as steps
 use Rattle.cpp_direct.specs.declared.direct.Direct.{Direct}
 use Rattle.cpp_direct.specs.Bytes.{is_builtin}
-use Rattle.cpp_direct.specs.Holes.{Opened, StandsAt, Comes, Expects, with_candidate}
+use Rattle.cpp_direct.specs.Holes.{Opened, StandsAt, Comes, Expects, candidate, with_candidate}
 use Rattle.cpp_direct.specs.HolesOfFunctions.{SignatureGoesOn, plain_function, pointed, with_pointed, reference, reference_letter}
 use Rattle.cpp_direct.specs.HolesOfTypes.{NoReference}
 use Rattle.cpp_direct.specs.Prints.{PrintEach, PrintAll, joined}
@@ -57,7 +57,7 @@ signature-begins s old new is_pointer p text candidates waits at =
       rest = p.rest;
       open_is = waits;
       outer = p.outer;
-      encoding = p.encoding;
+      made_in = p.made_in;
       front = p.front;
       returned = p.returned;
       bytes = p.bytes;
@@ -69,7 +69,7 @@ signature-begins s old new is_pointer p text candidates waits at =
       texts = [];
       elements = none-print 0;
       written = text ∙ ap (λ l. l ++ opening) p.written ∙ append_assoc p.front p.bytes opening ∙ sym (append-nil (p.front ++ (p.bytes ++ opening)));
-      goes = subst (λ n. SignatureGoesOn s p.outer p.encoding is_pointer (λ l. plain_function p.returned l) n p.state) (sym at) p.goes;
+      goes = subst (λ n. SignatureGoesOn s p.outer p.made_in is_pointer (λ l. plain_function p.returned l) n p.state) (sym at) p.goes;
       takes = p.takes;
       stands = p.stands;
     }
@@ -84,7 +84,7 @@ first-next s w is_pointer a = record {
   rest = a.rest;
   open_is = a.open_is;
   outer = a.outer;
-  encoding = a.encoding;
+  made_in = a.made_in;
   front = a.front;
   returned = a.returned;
   bytes = a.bytes;
@@ -114,7 +114,7 @@ another-next s old new is_pointer a one =
       rest = a.rest;
       open_is = ap (λ v. reverse v.list.items) one.waiting ∙ a.open_is;
       outer = a.outer;
-      encoding = a.encoding;
+      made_in = a.made_in;
       front = a.front;
       returned = a.returned;
       bytes = a.bytes;
@@ -125,35 +125,35 @@ another-next s old new is_pointer a one =
       elements = a.elements;
       written = one.text ∙ ap (λ l. l ++ codes ", ") a.written ∙ append_assoc led a.texts (codes ", ")
           ∙ ap (λ l. led ++ l) (sym (next-written a.ts a.texts (a.some refl)));
-      goes = subst (λ n. SignatureGoesOn s a.outer a.encoding is_pointer (λ l. plain_function a.returned (list_with a.ts l)) n a.state) (sym one.at)
+      goes = subst (λ n. SignatureGoesOn s a.outer a.made_in is_pointer (λ l. plain_function a.returned (list_with a.ts l)) n a.state) (sym one.at)
           a.goes;
       takes = a.takes;
       stands = a.stands;
     }
 
 -- a signature goes on behind one more
-one-more : (s : Symbol) (outer : List Opened) (encoding : ℕ) (is_pointer : Bool) (returned : Term) (ts : List Term) (t : Term) (at : ℕ) (st : State)
-    → SignatureGoesOn s outer encoding is_pointer (λ l. plain_function returned (list_with ts (list t l))) at st
-    → SignatureGoesOn s outer encoding is_pointer (λ l. plain_function returned (list_with (ts ++ t ∷ []) l)) at st
-one-more s outer encoding is_pointer returned ts t at st g = record {
+one-more : (s : Symbol) (outer : List Opened) (made_in : Around) (is_pointer : Bool) (returned : Term) (ts : List Term) (t : Term) (at : ℕ) (st : State)
+    → SignatureGoesOn s outer made_in is_pointer (λ l. plain_function returned (list_with ts (list t l))) at st
+    → SignatureGoesOn s outer made_in is_pointer (λ l. plain_function returned (list_with (ts ++ t ∷ []) l)) at st
+one-more s outer made_in is_pointer returned ts t at st g = record {
   around = g.around;
   outside = g.outside;
   inner = g.inner;
   awaits = g.awaits;
   passes = λ l there then_ comes.
       subst (λ u. Comes s outer (tree (pointed is_pointer (plain_function returned u)) true) there
-      (with_pointed is_pointer encoding (plain_function returned u) then_))
+      (with_pointed is_pointer made_in (plain_function returned u) then_))
       (sym (list-more ts t l)) (g.passes l there then_ comes);
 }
 
 -- where a parameter comes, it is the signature's
 signature-stands : (s : Symbol) (w : Direct) (is_pointer : Bool) (a : AwaitsParameter s w is_pointer) (os : List Opened)
     → ((t : Term) (at : ℕ) (st : State) → Comes s os (tree t true) at st
-    → SignatureGoesOn s a.outer a.encoding is_pointer (λ l. plain_function a.returned (list_with a.ts (list t l))) at st)
+    → SignatureGoesOn s a.outer a.made_in is_pointer (λ l. plain_function a.returned (list_with a.ts (list t l))) at st)
     → Stands s (opens.Signature is_pointer ∷ a.rest) os w.text.list.items
 signature-stands s w is_pointer a os onward = (
   a.outer,
-  a.encoding,
+  a.made_in,
   a.front,
   a.returned,
   a.bytes,
@@ -163,7 +163,7 @@ signature-stands s w is_pointer a os onward = (
   a.prints,
   a.elements,
   a.written,
-  λ t at st comes. one-more s a.outer a.encoding is_pointer a.returned a.ts t at st (onward t at st comes),
+  λ t at st comes. one-more s a.outer a.made_in is_pointer a.returned a.ts t at st (onward t at st comes),
   a.takes,
   a.stands,
 )
@@ -171,7 +171,7 @@ signature-stands s w is_pointer a os onward = (
 -- a parameter comes that is no reference
 pub parameter-comes : (s : Symbol) (w : Direct) (is_pointer : Bool) → AwaitsParameter s w is_pointer → NoReference s.bytes w.at → IsWriting s w steps.Type
 parameter-comes s w is_pointer a none =
-    let p = parameter-opens s a.outer a.encoding is_pointer (λ l. plain_function a.returned (list_with a.ts l)) w.at a.state a.goes in
+    let p = parameter-opens s a.outer a.made_in is_pointer (λ l. plain_function a.returned (list_with a.ts l)) w.at a.state a.goes in
     record {
       state = a.state;
       candidates = a.candidates;
@@ -220,7 +220,7 @@ reference-comes s old new o is_pointer is_lvalue from a begins stands is waits a
   where
     go : new.waiting.list.items ≡ old.waiting.list.items ++ reference_entry is_lvalue from ∷ [] → new.at ≡ old.at + 1 → IsWriting s new steps.Type
     go waits at =
-        let p = reference-opens s a.outer a.encoding is_pointer is_lvalue (λ l. plain_function a.returned (list_with a.ts l)) old.at a.state a.goes stands in
+        let p = reference-opens s a.outer a.made_in is_pointer is_lvalue (λ l. plain_function a.returned (list_with a.ts l)) old.at a.state a.goes stands in
         let entry = reference_entry is_lvalue from in
         let turned : reverse new.waiting.list.items ≡ entry ∷ opens.Signature is_pointer ∷ a.rest =
         ap reverse waits ∙ reverse-last old.waiting.list.items entry ∙ ap (λ ws. entry ∷ ws) a.open_is in
@@ -237,7 +237,7 @@ reference-comes s old new o is_pointer is_lvalue from a begins stands is waits a
             subst (λ v. Stands s (reverse new.waiting.list.items) p.inner v.list.items) (sym text)
                 (subst (λ ws. Stands s ws p.inner old.text.list.items) (sym turned)
                 (reference-stands s is_lvalue (opens.Signature is_pointer ∷ a.rest) p.inner old.text.list.items from
-                (p.whole, p.around.encoding, begins, p.passes, whole, λ q k found known. cc found))),
+                (p.whole, p.around, begins, p.passes, whole, λ q k found known. cc found))),
             subst (λ ws. IsScoped p.around ws) (sym turned) (reference-scoped p.around is_lvalue from is_pointer a.rest),
           );
         }
@@ -258,15 +258,15 @@ signature-closed s old new is_pointer is_first a ends apart text candidates wait
       rest = a.rest;
       open_is = ap (λ v. reverse v.list.items) waits ∙ a.open_is;
       outer = a.outer;
-      encoding = a.encoding;
+      made_in = a.made_in;
       made = made;
       front = a.front;
       bytes = (a.bytes ++ opening) ++ a.texts;
       written = ap (λ v. v.list.items) text ∙ a.written ∙ append_assoc a.front (a.bytes ++ opening) a.texts;
       element = λ extra. function-element extra is_pointer a.returned a.bytes a.is_reference a.ts a.texts a.prints a.elements (kept-apart is_pointer refl);
-      comes = subst (λ n. Comes s a.outer (tree (pointed is_pointer made) true) n (with_pointed is_pointer a.encoding made a.state)) (sym at)
+      comes = subst (λ n. Comes s a.outer (tree (pointed is_pointer made) true) n (with_pointed is_pointer a.made_in made a.state)) (sym at)
           (a.goes.passes nil (old.at + 1) a.state
-          (signature-ends s a.outer a.encoding is_pointer (λ l. plain_function a.returned (list_with a.ts l)) old.at a.state a.goes ends));
+          (signature-ends s a.outer a.made_in is_pointer (λ l. plain_function a.returned (list_with a.ts l)) old.at a.state a.goes ends));
       takes = a.takes;
       stands = a.stands;
     }
@@ -299,8 +299,8 @@ void-closed s old new is_pointer a stands text candidates waits at =
     let none = a.none refl in
     let both = stands-split s.bytes old.at (118 ∷ []) (69 ∷ []) stands in
     let made = plain_function a.returned (list v nil) in
-    let start = subst (λ ts. SignatureGoesOn s a.outer a.encoding is_pointer (λ l. plain_function a.returned (list_with ts l)) old.at a.state) none a.goes in
-    let p = parameter-opens s a.outer a.encoding is_pointer (λ l. plain_function a.returned l) old.at a.state start in
+    let start = subst (λ ts. SignatureGoesOn s a.outer a.made_in is_pointer (λ l. plain_function a.returned (list_with ts l)) old.at a.state) none a.goes in
+    let p = parameter-opens s a.outer a.made_in is_pointer (λ l. plain_function a.returned l) old.at a.state start in
     let g = p.onward v (old.at + 1) a.state
     (builtin-comes s Kind.ItemButRef p.around p.inner old.at a.state 118 tt refl p.awaits both.0) in
     record {
@@ -310,7 +310,7 @@ void-closed s old new is_pointer a stands text candidates waits at =
       rest = a.rest;
       open_is = ap (λ x. reverse x.list.items) waits ∙ a.open_is;
       outer = a.outer;
-      encoding = a.encoding;
+      made_in = a.made_in;
       made = made;
       front = a.front;
       bytes = a.bytes ++ opening;
@@ -318,9 +318,9 @@ void-closed s old new is_pointer a stands text candidates waits at =
           ∙ ap (λ l. a.front ++ (a.bytes ++ opening) ++ l) (none-written a.texts (subst (λ ts. PrintAll 0 ts a.texts) none a.elements))
           ∙ append-nil (a.front ++ (a.bytes ++ opening));
       element = λ extra. void-function-element extra is_pointer a.returned a.bytes a.is_reference a.prints;
-      comes = subst (λ n. Comes s a.outer (tree (pointed is_pointer made) true) n (with_pointed is_pointer a.encoding made a.state)) (omega (arith, at))
+      comes = subst (λ n. Comes s a.outer (tree (pointed is_pointer made) true) n (with_pointed is_pointer a.made_in made a.state)) (omega (arith, at))
           (g.passes nil (old.at + 1 + 1) a.state
-          (signature-ends s a.outer a.encoding is_pointer (λ l. plain_function a.returned (list v l)) (old.at + 1) a.state g both.1));
+          (signature-ends s a.outer a.made_in is_pointer (λ l. plain_function a.returned (list v l)) (old.at + 1) a.state g both.1));
       takes = a.takes;
       stands = a.stands;
     }
@@ -332,12 +332,12 @@ pub one-hidden : (text : List ℕ) (ks : List Candidate) (cs : List values.Candi
     → AreCandidates text (ks ++ hidden ∷ []) (cs ++ c ∷ [])
 one-hidden text ks cs c p = candidates-more text ks cs hidden c p (λ ordered. absurd (omega (arith, ordered)))
 
-pub hidden-candidates : (w : Direct) (is_pointer : Bool) (text : List ℕ) (e : ℕ) (t : Term) (st : State) → AreCandidates text w.candidates.list.items st.candidates
-    → AreCandidates text (with_hidden w is_pointer) (with_pointed is_pointer e t st).candidates
-hidden-candidates w true text e t st p =
-    one-hidden text (w.candidates.list.items ++ hidden ∷ []) (with_candidate e t st).candidates (record { tree = pointer t; encoding = e })
-    (one-hidden text w.candidates.list.items st.candidates (record { tree = t; encoding = e }) p)
-hidden-candidates w false text e t st p = one-hidden text w.candidates.list.items st.candidates (record { tree = t; encoding = e }) p
+pub hidden-candidates : (w : Direct) (is_pointer : Bool) (text : List ℕ) (made_in : Around) (t : Term) (st : State) → AreCandidates text w.candidates.list.items st.candidates
+    → AreCandidates text (with_hidden w is_pointer) (with_pointed is_pointer made_in t st).candidates
+hidden-candidates w true text made_in t st p =
+    one-hidden text (w.candidates.list.items ++ hidden ∷ []) (with_candidate made_in t st).candidates (candidate made_in (pointer t))
+    (one-hidden text w.candidates.list.items st.candidates (candidate made_in t) p)
+hidden-candidates w false text made_in t st p = one-hidden text w.candidates.list.items st.candidates (candidate made_in t) p
 
 -- they are added to the candidates as they were
 pub hidden-behind : (old new : Direct) (is_pointer : Bool) → new.candidates ≡ old.candidates → with_hidden new is_pointer ≡ with_hidden old is_pointer
@@ -357,12 +357,12 @@ pub function-handed : (s : Symbol) (old new : Direct) (is_pointer : Bool) (p : I
     → new.at ≡ old.at → IsElementPassed s new
 function-handed s old new is_pointer p text candidates waits at =
     let own = pointed is_pointer p.made in
-    let then_ = with_pointed is_pointer p.encoding p.made p.state in
+    let then_ = with_pointed is_pointer p.made_in p.made p.state in
     record {
       state = then_;
       candidates = subst (λ l. AreCandidates l new.candidates.list.items then_.candidates) (sym text)
           (subst (λ l. AreCandidates (old.text.list.items ++ codes ")") l then_.candidates) (sym candidates)
-          (hidden-candidates old is_pointer (old.text.list.items ++ codes ")") p.encoding p.made p.state
+          (hidden-candidates old is_pointer (old.text.list.items ++ codes ")") p.made_in p.made p.state
           (candidates-stay old.text.list.items (codes ")") old.candidates.list.items p.state.candidates p.candidates)));
       os = p.outer;
       own = own;

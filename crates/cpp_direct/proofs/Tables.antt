@@ -22,7 +22,7 @@ use Rattle.cpp_grammar.specs.Unfolding.{unfold_cpp}
 use Rattle.cpp_grammar.specs.Widened.{widened}
 use Rattle.cpp_grammar.proofs.Alone.{arguments_maybe, rest_any, list_first}
 use Rattle.cpp_grammar.proofs.Choosing.{rule_at_kind, empty_at_kind, either_rule_at, either_empty_at}
-use Rattle.cpp_grammar.proofs.Growing.{same_choice, each_below, below, kept, or_parts}
+use Rattle.cpp_grammar.proofs.Growing.{wide_either, same_choice, each_below, below, kept, or_parts}
 use Rattle.cpp_grammar.proofs.Staying.{meaning_stays}
 use Rattle.cpp_grammar.proofs.Widening.{widened_tree, spell_widened, either_start}
 use Rattle.cpp_grammar.proofs.WidenedMeaning.{meaning_widened}
@@ -138,10 +138,8 @@ lists-by false t is = list_first t is
 -- what a whole tree says, the symbol stands for
 pub stands-by : (wide : Bool) (s : List ℕ) (shape : Tree) (t : Term) → IsTree (table_by wide) (OfKind SYMBOL) shape → spell shape ≡ s
     → unfold_cpp shape ≡ Ok t → StandsFor (mangled_by wide) s (Ok t)
-stands-by true s shape t shaped spelled is = (
-  widened shape,
-  widened_tree (OfKind SYMBOL) shape either_start shaped,
-  spell_widened shape ∙ spelled,
-  sym (meaning_stays (widened shape) t (meaning_widened shape shaped ∙ is)),
-)
+stands-by true s shape t shaped spelled is =
+    let tree = widened_tree (OfKind SYMBOL) shape either_start shaped in
+    let means = meaning_stays (widened shape) t (wide_either (OfKind SYMBOL) (widened shape) tree) (meaning_widened shape shaped ∙ is) in
+    (widened shape, tree, spell_widened shape ∙ spelled, sym means)
 stands-by false s shape t shaped spelled is = (shape, shaped, spelled, sym is)

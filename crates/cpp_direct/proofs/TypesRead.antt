@@ -75,11 +75,11 @@ pub mark-done : (s : Symbol) (old new : Direct) (mark : List ℕ) (from : ℕ) (
 mark-done s old new mark from r a waits text candidates at =
     let written : new.text.list.items ≡ a.front ++ (a.bytes ++ mark)
     = text ∙ ap (λ l. l ++ mark) a.written ∙ append_assoc a.front a.bytes mark in
-    let state : State = with_candidate a.encoding a.made a.state in
+    let state : State = with_candidate a.made_in a.made a.state in
     record {
       state = state;
       candidates = subst (λ l. AreCandidates new.text.list.items l state.candidates) (sym candidates)
-          (candidates-added new.text.list.items old.candidates.list.items a.state.candidates a.front (a.bytes ++ mark) from a.made a.encoding r
+          (candidates-added new.text.list.items old.candidates.list.items a.state.candidates a.front (a.bytes ++ mark) from a.made a.made_in r
           (subst (λ l. AreCandidates l old.candidates.list.items a.state.candidates) (sym text)
           (candidates-stay old.text.list.items mark old.candidates.list.items a.state.candidates a.candidates)) written a.from_is a.prints);
       is_before = (
@@ -108,13 +108,13 @@ mark-answer s old mid new mark from r a waits text candidates at more same_text 
 
 named-candidates : (s : Symbol) (old new : Direct) (from : ℕ) (listed r : Bool) (a : IsTypeNamed s old from listed r)
     → new.candidates.list.items ≡ added_unless old listed from
-    → AreCandidates old.text.list.items new.candidates.list.items (unless_listed listed a.around.encoding a.own a.state).candidates
+    → AreCandidates old.text.list.items new.candidates.list.items (unless_listed listed a.around a.own a.state).candidates
 named-candidates s old new from true r a candidates =
     subst (λ l. AreCandidates old.text.list.items l a.state.candidates) (sym candidates) a.candidates
 named-candidates s old new from false r a candidates =
-    let state : State = with_candidate a.around.encoding a.own a.state in
+    let state : State = with_candidate a.around a.own a.state in
     subst (λ l. AreCandidates old.text.list.items l state.candidates) (sym candidates)
-    (candidates-added old.text.list.items old.candidates.list.items a.state.candidates a.front a.bytes from a.own a.around.encoding false a.candidates a.written
+    (candidates-added old.text.list.items old.candidates.list.items a.state.candidates a.front a.bytes from a.own a.around false a.candidates a.written
     a.from_is (subst (λ b. Prints a.own a.bytes b) (a.no_reference refl) a.prints))
 
 -- nothing stands behind the name of a type
@@ -123,7 +123,7 @@ pub bare-done : (s : Symbol) (old new : Direct) (from : ℕ) (listed r : Bool) �
     → new.at ≡ old.at → IsWriting s new (steps.Value r)
 unfolding may_be_empty
 bare-done s old new from listed r a waits text candidates at =
-    let state : State = unless_listed listed a.around.encoding a.own a.state in
+    let state : State = unless_listed listed a.around a.own a.state in
     record {
       state = state;
       candidates = subst (λ l. AreCandidates l new.candidates.list.items state.candidates) (sym text)
@@ -147,7 +147,7 @@ pub argued-done : (s : Symbol) (old new : Direct) (from : ℕ) (listed : Bool) �
     → new.candidates.list.items ≡ added_unless old listed from → new.at ≡ old.at + 1 → IsWriting s new (steps.List true)
 unfolding inside
 argued-done s old new from listed a stands waits text candidates at =
-    let state : State = unless_listed listed a.around.encoding a.own a.state in
+    let state : State = unless_listed listed a.around a.own a.state in
     let o = arguments-open s a.named.inner a.around a.own listed old.at a.state a.named.awaits stands in
     record {
       state = state;
@@ -163,7 +163,7 @@ argued-done s old new from listed a stands waits text candidates at =
             subst (λ k. Expects s Kind.ArgumentList (inside a.around) o.inner k state) (sym at) o.awaits,
             λ l here now comes ended. (
               a.outer,
-              a.around.encoding,
+              a.around,
               a.named.argued (no_items l) (here + 1) now (o.onward l here now comes ended),
               a.stands,
             ),
@@ -537,7 +537,7 @@ type-opened s old new o entry from made a t begins stands scoped is waits at tex
         subst (λ l. Stands s l t.inner new.text.list.items)
             (sym (ap reverse (given _ o steps.Type e waits) ∙ reverse-last old.waiting.list.items entry))
             (subst (λ v. Stands s (entry ∷ reverse old.waiting.list.items) t.inner v.list.items) (sym text)
-            (stands (a.os, a.around.encoding, begins, t.passes, a.stands, scoped-encoding a.around (reverse old.waiting.list.items) a.scoped))),
+            (stands (a.os, a.around, begins, t.passes, a.stands, scoped-encoding a.around (reverse old.waiting.list.items) a.scoped))),
         subst (λ l. IsScoped a.around l) (sym (ap reverse (given _ o steps.Type e waits) ∙ reverse-last old.waiting.list.items entry)) scoped,
       );
     })
@@ -597,7 +597,7 @@ plain-opened s old new o from a may begins stands is waits at text candidates =
         subst (λ l. Stands s l t.inner new.text.list.items)
             (sym (ap reverse (given _ o steps.Plain e waits) ∙ reverse-last old.waiting.list.items (opens.Const from)))
             (subst (λ v. Stands s (opens.Const from ∷ reverse old.waiting.list.items) t.inner v.list.items) (sym text)
-            (a.os, a.around.encoding, begins, t.passes, a.stands, scoped-encoding a.around (reverse old.waiting.list.items) a.scoped)),
+            (a.os, a.around, begins, t.passes, a.stands, scoped-encoding a.around (reverse old.waiting.list.items) a.scoped)),
         subst (λ l. IsScoped a.around l) (sym (ap reverse (given _ o steps.Plain e waits) ∙ reverse-last old.waiting.list.items (opens.Const from)))
             a.scoped,
       );
@@ -665,5 +665,5 @@ nest-awaited s old n a at stands =
       outside = a.outside;
       outer = t.inner;
       awaits = subst (λ k. Expects s Kind.Nest a.around t.inner k a.state) (sym at) t.awaits;
-      serves = (a.os, a.around.encoding, t.passes, a.stands);
+      serves = (a.os, a.around, t.passes, a.stands);
     }

@@ -229,13 +229,13 @@ list-stands s read new from takes p some there candidates_are text_is waiting_is
     let list = arguments-open s has.inner (in_name place) own false read.at st
     (alone-arguments s (after own false (in_name place)) has.inner read.at st has.awaits) there in
     let prints = p.prints some in
-    let state = with_candidate place own st in
+    let state = with_candidate (in_name place) own st in
     record {
       state = state;
       candidates = subst (λ l. AreCandidates l new.candidates.list.items state.candidates) (sym text_is)
           (subst (λ ks. AreCandidates (read.text.list.items ++ codes "<") ks state.candidates) (sym candidates_are)
           (candidates-stay read.text.list.items (codes "<") (added read from false) state.candidates
-          (candidates-with read st p.front p.bytes from own place false p.candidates p.written p.from_is prints)));
+          (candidates-with read st p.front p.bytes from own (in_name place) false p.candidates p.written p.from_is prints)));
       is_before = arguments-begun s new state (opens.NameArguments from) (reverse read.waiting.list.items) p.front p.bytes own
           (ap reverse waiting_is ∙ reverse-last read.waiting.list.items (opens.NameArguments from)) (p.from_is, prints, p.no_structor)
           (text_is ∙ ap (λ l. l ++ codes "<") p.written) (

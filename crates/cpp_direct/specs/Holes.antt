@@ -12,7 +12,7 @@ use Rattle.sym_direct.specs.Holes.{Language}
 use Rattle.cpp_grammar.specs.declared.kind.Kind.{Kind}
 use Rattle.cpp_grammar.specs.Grammar.{number_of_kind}
 use Rattle.cpp_grammar.specs.Term.{Term, any_value, instance, list}
-use Rattle.cpp_grammar.specs.Values.{State, Around, Value, nothing_there, tree, named, unqualified}
+use Rattle.cpp_grammar.specs.Values.{Candidate, State, Around, Value, nothing_there, tree, named, unqualified}
 use Rattle.cpp_grammar.specs.References.{is_function_type}
 use Rattle.cpp_grammar.specs.Between.{after, no_items}
 use Rattle.cpp_grammar.specs.Unfolding.{cpp, first_around, first_state}
@@ -51,14 +51,18 @@ Expects s kind around os at state = ExpectsSym s (OfKind (number_of_kind kind)) 
 
 -- ## States
 
--- one more candidate, made in the encoding that begins at this place
-abbrev pub with_candidate : (encoding : ℕ) → Term → State → State
-with_candidate encoding t state = record state { candidates = state.candidates ++ record { tree = t; encoding = encoding } ∷ [] }
+-- a tree as a candidate that is made here
+abbrev pub candidate : Around → Term → Candidate
+candidate around t = record { tree = t; encoding = around.encoding; in_lambda = around.in_lambda }
+
+-- one more candidate, made here
+abbrev pub with_candidate : Around → Term → State → State
+with_candidate around t state = record state { candidates = state.candidates ++ candidate around t ∷ [] }
 
 -- one more unless it is a candidate already or never is one
-abbrev pub unless_listed : (listed : Bool) → (encoding : ℕ) → Term → State → State
-unless_listed true encoding t state = state
-unless_listed false encoding t state = with_candidate encoding t state
+abbrev pub unless_listed : (listed : Bool) → Around → Term → State → State
+unless_listed true around t state = state
+unless_listed false around t state = with_candidate around t state
 
 -- ## What is read
 
@@ -109,18 +113,18 @@ abbrev pub SamePasses : (s : Symbol) → (inner outer : List Opened) → Type 0
 SamePasses s inner outer = (v : Value) (at : ℕ) (st : State) → Comes s inner v at st → Comes s outer v at st
 
 -- a type that comes inside makes the one that comes outside, which is a candidate
-abbrev pub TypePasses : (s : Symbol) → (inner outer : List Opened) → (encoding : ℕ) → (made : Term → Term) → Type 0
-TypePasses s inner outer e made =
-    (t : Term) (at : ℕ) (st : State) → Comes s inner (tree t true) at st → Comes s outer (tree (made t) true) at (with_candidate e (made t) st)
+abbrev pub TypePasses : (s : Symbol) → (inner outer : List Opened) → Around → (made : Term → Term) → Type 0
+TypePasses s inner outer around made =
+    (t : Term) (at : ℕ) (st : State) → Comes s inner (tree t true) at st → Comes s outer (tree (made t) true) at (with_candidate around (made t) st)
 
 -- A name was read that is a type, with or without arguments behind it.
 pub record TypeNamed (s : Symbol) (outer : List Opened) (around : Around) (t : Term) (listed : Bool) (at : ℕ) (st : State) : Type 0 where
   pub inner : List Opened
   pub awaits : Expects s Kind.ArgumentsAlone (after t listed around) inner at st
   pub bare : (at : ℕ) (st : State) → is_function_type t ≡ false → Comes s inner nothing_there at st
-      → Comes s outer (tree t true) at (unless_listed listed around.encoding t st)
+      → Comes s outer (tree t true) at (unless_listed listed around t st)
   pub argued : (a : Term) (at : ℕ) (st : State) → Comes s inner (tree a true) at st
-      → Comes s outer (tree (instance t a) true) at (with_candidate around.encoding (instance t a) st)
+      → Comes s outer (tree (instance t a) true) at (with_candidate around (instance t a) st)
 
 -- a name with its tags
 abbrev pub bare_name : Term → Value

@@ -37,10 +37,10 @@ is_marked accesses.Plain = false
 is_marked _ = true
 
 -- each of them is a candidate
-abbrev pub with_accessed : Access → (encoding : ℕ) → Term → State → State
-with_accessed accesses.Plain e t st = with_candidate e t st
-with_accessed accesses.Pointer e t st = with_candidate e (pointer t) (with_candidate e t st)
-with_accessed accesses.Lvalue e t st = with_candidate e (lvalue t) (with_candidate e t st)
+abbrev pub with_accessed : Access → Around → Term → State → State
+with_accessed accesses.Plain around t st = with_candidate around t st
+with_accessed accesses.Pointer around t st = with_candidate around (pointer t) (with_candidate around t st)
+with_accessed accesses.Lvalue around t st = with_candidate around (lvalue t) (with_candidate around t st)
 
 -- what stands between the text of the elements' type and the size
 abbrev pub array_opening : Access → List ℕ
@@ -53,4 +53,4 @@ pub record ArrayOpened (s : Symbol) (outer : List Opened) (around : Around) (acc
   pub inner : List Opened
   pub awaits : Expects s Kind.Type around inner at st
   pub onward : (t : Term) (at : ℕ) (st : State) → Comes s inner (tree t true) at st
-      → Comes s outer (tree (accessed access (array (values.normal digits) t)) true) at (with_accessed access around.encoding (array (values.normal digits) t) st)
+      → Comes s outer (tree (accessed access (array (values.normal digits) t)) true) at (with_accessed access around (array (values.normal digits) t) st)

@@ -17,34 +17,34 @@ pointed true t = pointer t
 pointed false t = t
 
 -- each of them is a candidate
-abbrev pub with_pointed : (is_pointer : Bool) → (encoding : ℕ) → Term → State → State
-with_pointed true e t st = with_candidate e (pointer t) (with_candidate e t st)
-with_pointed false e t st = with_candidate e t st
+abbrev pub with_pointed : (is_pointer : Bool) → Around → Term → State → State
+with_pointed true around t st = with_candidate around (pointer t) (with_candidate around t st)
+with_pointed false around t st = with_candidate around t st
 
 -- Of a function type, or of one that is pointed to, this much is read, and parameters go on.
-pub record SignatureGoesOn (s : Symbol) (outer : List Opened) (encoding : ℕ) (is_pointer : Bool) (made : Term → Term) (at : ℕ) (st : State) : Type 0 where
+pub record SignatureGoesOn (s : Symbol) (outer : List Opened) (made_in : Around) (is_pointer : Bool) (made : Term → Term) (at : ℕ) (st : State) : Type 0 where
   pub around : Around
   pub outside : around.prefix ≡ outermost
   pub inner : List Opened
   pub awaits : Expects s Kind.FunctionRest around inner at st
   pub passes : (l : Term) (at : ℕ) (st : State) → Comes s inner (signature l any_value) at st
-      → Comes s outer (tree (pointed is_pointer (made l)) true) at (with_pointed is_pointer encoding (made l) st)
+      → Comes s outer (tree (pointed is_pointer (made l)) true) at (with_pointed is_pointer made_in (made l) st)
 
 -- Behind an F the return type is expected.
 pub record FunctionOpened (s : Symbol) (outer : List Opened) (around : Around) (is_pointer : Bool) (at : ℕ) (st : State) : Type 0 where
   pub inner : List Opened
   pub awaits : Expects s Kind.Type around inner at st
   pub onward : (r : Term) (at : ℕ) (st : State) → Comes s inner (tree r true) at st
-      → SignatureGoesOn s outer around.encoding is_pointer (λ l. plain_function r l) at st
+      → SignatureGoesOn s outer around is_pointer (λ l. plain_function r l) at st
 
 -- A parameter is expected that is no reference.
-pub record ParameterOpened (s : Symbol) (outer : List Opened) (encoding : ℕ) (is_pointer : Bool) (made : Term → Term) (at : ℕ) (st : State) : Type 0 where
+pub record ParameterOpened (s : Symbol) (outer : List Opened) (made_in : Around) (is_pointer : Bool) (made : Term → Term) (at : ℕ) (st : State) : Type 0 where
   pub around : Around
   pub outside : around.prefix ≡ outermost
   pub inner : List Opened
   pub awaits : Expects s Kind.ItemButRef around inner at st
   pub onward : (t : Term) (at : ℕ) (st : State) → Comes s inner (tree t true) at st
-      → SignatureGoesOn s outer encoding is_pointer (λ l. made (list t l)) at st
+      → SignatureGoesOn s outer made_in is_pointer (λ l. made (list t l)) at st
 
 -- a reference to this
 abbrev pub reference : (is_lvalue : Bool) → Term → Term
@@ -57,12 +57,12 @@ reference_letter true = 82
 reference_letter false = 79
 
 -- A parameter is expected that is a reference, behind its letter: what it is a reference to comes first.
-pub record ReferenceOpened (s : Symbol) (outer : List Opened) (encoding : ℕ) (is_pointer is_lvalue : Bool) (made : Term → Term) (at : ℕ) (st : State) : Type 0 where
+pub record ReferenceOpened (s : Symbol) (outer : List Opened) (made_in : Around) (is_pointer is_lvalue : Bool) (made : Term → Term) (at : ℕ) (st : State) : Type 0 where
   pub around : Around
   pub outside : around.prefix ≡ outermost
   pub whole : List Opened
   pub inner : List Opened
   pub awaits : Expects s Kind.Type around inner (at + 1) st
-  pub passes : TypePasses s inner whole around.encoding (reference is_lvalue)
+  pub passes : TypePasses s inner whole around (reference is_lvalue)
   pub onward : (t : Term) (at : ℕ) (st : State) → Comes s whole (tree t true) at st
-      → SignatureGoesOn s outer encoding is_pointer (λ l. made (list t l)) at st
+      → SignatureGoesOn s outer made_in is_pointer (λ l. made (list t l)) at st

@@ -16,14 +16,14 @@ IsRest _ = ⊥
 -- Arguments of the name so far are expected behind an I, and behind their E a component.
 pub record AwaitsArguments (s : Symbol) (outer : List Opened) (around : Around) (t : Term) (listed : Bool) (at : ℕ) (st : State) : Type 0 where
   pub inner : List Opened
-  pub awaits : Expects s Kind.ArgumentList (inside around) inner (at + 1) (unless_listed listed around.encoding t st)
+  pub awaits : Expects s Kind.ArgumentList (inside around) inner (at + 1) (unless_listed listed around t st)
   pub onward : (l : Value) (at : ℕ) (st : State) → Comes s inner l at st → StandsAt s.bytes at (69 ∷ [])
-      → AwaitsComponent s outer around (instance t (no_items l)) (at + 1) (with_candidate around.encoding (instance t (no_items l)) st)
+      → AwaitsComponent s outer around (instance t (no_items l)) (at + 1) (with_candidate around (instance t (no_items l)) st)
 
 -- The same by the wide grammar, where behind the E a component follows, or the name ends.
 pub record AwaitsInstance (s : Symbol) (outer : List Opened) (around : Around) (t : Term) (listed : Bool) (at : ℕ) (st : State) : Type 0 where
   pub inner : List Opened
-  pub awaits : Expects s Kind.ArgumentList (inside around) inner (at + 1) (unless_listed listed around.encoding t st)
+  pub awaits : Expects s Kind.ArgumentList (inside around) inner (at + 1) (unless_listed listed around t st)
   pub onward : (l : Value) (at : ℕ) (st : State) → Comes s inner l at st → StandsAt s.bytes at (69 ∷ [])
       → NestGoesOn s Kind.NestTail outer around (instance t (no_items l)) false (at + 1) st
 

@@ -32,19 +32,19 @@ IsNamedKind _ = ⊥
 pub record TypeOpens (s : Symbol) (kind : Kind) (outer : List Opened) (around : Around) (made : Term → Term) (at : ℕ) (st : State) : Type 0 where
   pub inner : List Opened
   pub awaits : Expects s kind around inner at st
-  pub passes : TypePasses s inner outer around.encoding made
+  pub passes : TypePasses s inner outer around made
 
 -- a tree of this kind, which is no function type, becomes a candidate unless it is one already or never is one
-abbrev pub TreePasses : (s : Symbol) → (inner outer : List Opened) → (encoding : ℕ) → Type 0
-TreePasses s inner outer e =
+abbrev pub TreePasses : (s : Symbol) → (inner outer : List Opened) → Around → Type 0
+TreePasses s inner outer around =
     (t : Term) (listed : Bool) (at : ℕ) (st : State) → is_function_type t ≡ false → Comes s inner (tree t listed) at st
-    → Comes s outer (tree t true) at (unless_listed listed e t st)
+    → Comes s outer (tree t true) at (unless_listed listed around t st)
 
 -- A part of this kind is expected, which is the whole type.
 pub record TreeOpens (s : Symbol) (kind : Kind) (outer : List Opened) (around : Around) (at : ℕ) (st : State) : Type 0 where
   pub inner : List Opened
   pub awaits : Expects s kind around inner at st
-  pub passes : TreePasses s inner outer around.encoding
+  pub passes : TreePasses s inner outer around
 
 -- A name of a type is expected behind an S.
 pub record NameOpens (s : Symbol) (kind : Kind) (outer : List Opened) (around : Around) (at : ℕ) (st : State) : Type 0 where

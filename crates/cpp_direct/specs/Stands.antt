@@ -294,30 +294,30 @@ IsEncodingOf scope e = (a : Arguments) (number : ℕ) → scope ≡ Some a → I
 -- A type that comes is marked.
 abbrev pub Marks : (s : Symbol) → Below → (scope : Option Arguments) → List Opened → (text : List ℕ) → (from : ℕ) → (made : Term → Term) → Type 0
 Marks s below scope os text from made =
-    (outer : List Opened) × (e : ℕ) × (from ≡ length text) × TypePasses s os outer e made × below outer text × IsEncodingOf scope e
+    (outer : List Opened) × (around : Around) × (from ≡ length text) × TypePasses s os outer around made × below outer text × IsEncodingOf scope around.encoding
 
 -- An encoding with this tree ends at the place, and a type that stands in it comes for what is open below, behind this text.
 abbrev pub TypeWithin : (s : Symbol) → Below → (front : List ℕ) → (e : Term) → (at : ℕ) → State → Type 0
 TypeWithin s below front e at st =
-    (outer : List Opened) × (encoding : ℕ)
-    × (StandsAt s.bytes at (69 ∷ []) → EntityOpened s (λ t end now. Comes s outer (tree t true) end (with_candidate encoding t now)) e (at + 1) st)
+    (outer : List Opened) × (around : Around)
+    × (StandsAt s.bytes at (69 ∷ []) → EntityOpened s (λ t end now. Comes s outer (tree t true) end (with_candidate around t now)) e (at + 1) st)
     × below outer front
 
 -- The same of the parameters of a lambda, which is such a type, in front of the E behind them.
 abbrev pub LambdaWithin : (s : Symbol) → Below → (front : List ℕ) → (e : Term) → (items : Term) → (at : ℕ) → State → Type 0
 LambdaWithin s below front e items at st =
-    (outer : List Opened) × (encoding : ℕ)
+    (outer : List Opened) × (around : Around)
     × ((number : Option ℕ) (middle : ℕ) (digit : Discriminator) (end : ℕ) → IsLambdaDigit number → StandsAt s.bytes at (lambda_ending number)
     → middle ≡ at + length (lambda_ending number) → IsDiscriminatorAt s.bytes middle digit end
-    → Comes s outer (tree (local_in e (lambda_with items number) digit) true) end (with_candidate encoding (local_in e (lambda_with items number) digit) st))
+    → Comes s outer (tree (local_in e (lambda_with items number) digit) true) end (with_candidate around (local_in e (lambda_with items number) digit) st))
     × below outer front
 
 -- A nested name that comes is what it is read as.
 abbrev pub Serves : (s : Symbol) → Purpose → Below → List Opened → (front : List ℕ) → Type 0
 Serves s purposes.Type below os front =
-    (outer : List Opened) × (e : ℕ)
+    (outer : List Opened) × (around : Around)
     × ((t : Term) (listed : Bool) (at : ℕ) (st : State) → is_function_type t ≡ false → Comes s os (tree t listed) at st
-    → Comes s outer (tree t true) at (unless_listed listed e t st))
+    → Comes s outer (tree t true) at (unless_listed listed around t st))
     × below outer front
 Serves s (purposes.Name mark) below os front =
     (t : Term) (listed : Bool) (at : ℕ) (st : State) → Comes s os (tree t listed) at st → AwaitsItems s front (named t (qualifiers (has_const mark)) (called_on mark)) at st
@@ -329,11 +329,11 @@ Serves s (purposes.Enclosing mark) below os front =
 -- An instance is read, behind this text: what becomes of it.
 abbrev pub Owns : (s : Symbol) → Open → Below → (front : List ℕ) → Term → (at : ℕ) → State → Type 0
 Owns s (opens.TypeArguments from) below front u at st =
-    (outer : List Opened) × (e : ℕ) × Comes s outer (tree u true) at (with_candidate e u st) × below outer front
+    (outer : List Opened) × (around : Around) × Comes s outer (tree u true) at (with_candidate around u st) × below outer front
 Owns s (opens.NestArguments nest) below front u at st =
     (around : Around) × (outer : List Opened) × NestGoesOn s Kind.NestTail outer around u false at st × Serves s nest.purpose below outer front
 Owns s (opens.FirstArguments nest) below front u at st =
-    (around : Around) × (outer : List Opened) × AwaitsComponent s outer around u at (with_candidate around.encoding u st)
+    (around : Around) × (outer : List Opened) × AwaitsComponent s outer around u at (with_candidate around u st)
     × Serves s nest.purpose below outer front
 Owns s (opens.NameArguments from) below front u at st = AwaitsItems s front (tree u false) at st
 Owns s _ below front u at st = ⊥
@@ -499,20 +499,20 @@ Stands s (opens.Lambda from ∷ rest) os text =
     × ((t : Term) (at : ℕ) (st : State) → Comes s os (tree t true) at st
     → ItemsGoOn s nowhere (LambdaWithin s (Stands s rest) front e) (λ l. l) (ts ++ t ∷ []) at st)
 Stands s (opens.Returned is_pointer ∷ rest) os text =
-    (outer : List Opened) × (e : ℕ)
-    × ((r : Term) (at : ℕ) (st : State) → Comes s os (tree r true) at st → SignatureGoesOn s outer e is_pointer (λ l. plain_function r l) at st)
+    (outer : List Opened) × (around : Around)
+    × ((r : Term) (at : ℕ) (st : State) → Comes s os (tree r true) at st → SignatureGoesOn s outer around is_pointer (λ l. plain_function r l) at st)
     × TakesFunction rest × Stands s rest outer text
 Stands s (opens.Signature is_pointer ∷ rest) os text =
-    (outer : List Opened) × (e : ℕ) × (front : List ℕ) × (r : Term) × (bytes : List ℕ) × (is_reference : Bool) × (ts : List Term) × (texts : List ℕ)
+    (outer : List Opened) × (around : Around) × (front : List ℕ) × (r : Term) × (bytes : List ℕ) × (is_reference : Bool) × (ts : List Term) × (texts : List ℕ)
     × Prints r bytes is_reference × PrintAll 0 ts texts
     × (text ≡ front ++ (bytes ++ opening_text is_pointer) ++ in_front_of_next ts texts)
     × ((t : Term) (at : ℕ) (st : State) → Comes s os (tree t true) at st
-    → SignatureGoesOn s outer e is_pointer (λ l. plain_function r (list_with (ts ++ t ∷ []) l)) at st)
+    → SignatureGoesOn s outer around is_pointer (λ l. plain_function r (list_with (ts ++ t ∷ []) l)) at st)
     × TakesFunction rest × Stands s rest outer front
 Stands s (opens.Array access from to ∷ rest) os text =
-    (outer : List Opened) × (e : ℕ) × (digits : List ℕ) × (from ≤ to) × (to ≤ length s.bytes) × (take (to - from) (drop from s.bytes) ≡ digits)
+    (outer : List Opened) × (around : Around) × (digits : List ℕ) × (from ≤ to) × (to ≤ length s.bytes) × (take (to - from) (drop from s.bytes) ≡ digits)
     × ((t : Term) (at : ℕ) (st : State) → Comes s os (tree t true) at st
-    → Comes s outer (tree (accessed access (array (values.normal digits) t)) true) at (with_accessed access e (array (values.normal digits) t) st))
+    → Comes s outer (tree (accessed access (array (values.normal digits) t)) true) at (with_accessed access around (array (values.normal digits) t) st))
     × TakesFunction rest × Stands s rest outer text
 Stands s (opens.Special ∷ rest) os text =
     (letter : ℕ) × (text ≡ look_up (letter ∷ []) special_texts) × (text ≢ [])

@@ -154,9 +154,9 @@ pub record AwaitsMark (s : Symbol) (w : Direct) (mark : List ℕ) (from : ℕ) (
   pub rest : List Open
   pub open_is : reverse w.waiting.list.items ≡ entry ∷ rest
   pub outer : List Opened
-  pub encoding : ℕ
+  pub made_in : Around
   pub made : Term
-  pub comes : Comes s outer (tree made true) w.at (with_candidate encoding made state)
+  pub comes : Comes s outer (tree made true) w.at (with_candidate made_in made state)
   pub front : List ℕ
   pub bytes : List ℕ
   pub written : w.text.list.items ≡ front ++ bytes
@@ -172,9 +172,9 @@ pub record AwaitsDependentMark (s : Symbol) (w : Direct) (mark : List ℕ) (is_r
   pub rest : List Open
   pub open_is : reverse w.waiting.list.items ≡ entry ∷ rest
   pub outer : List Opened
-  pub encoding : ℕ
+  pub made_in : Around
   pub made : Term
-  pub comes : Comes s outer (tree made true) w.at (with_candidate encoding made state)
+  pub comes : Comes s outer (tree made true) w.at (with_candidate made_in made state)
   pub front : List ℕ
   pub bytes : List ℕ
   pub marks : List ℕ
@@ -182,7 +182,7 @@ pub record AwaitsDependentMark (s : Symbol) (w : Direct) (mark : List ℕ) (is_r
   pub written : w.text.list.items ≡ front ++ bytes ++ marks
   pub begins_is : begins ≡ length (front ++ bytes)
   pub prints : NamesArgument number made (marks ++ mark) is_reference
-  pub encoding_is : place ≢ 0 → encoding ≡ place
+  pub encoding_is : place ≢ 0 → made_in.encoding ≡ place
   pub place_is : place ≡ argument.encoding
   pub found : argument_of rest ≡ Some argument
   pub plain : IsPlain (place_of argument number)
@@ -584,7 +584,7 @@ pub record IsArrayRead (s : Symbol) (w : Direct) (access : Access) (from to : �
   pub rest : List Open
   pub open_is : reverse w.waiting.list.items ≡ opens.Array access from to ∷ rest
   pub outer : List Opened
-  pub encoding : ℕ
+  pub made_in : Around
   pub digits : List ℕ
   pub ordered : from ≤ to
   pub inside : to ≤ length s.bytes
@@ -596,7 +596,7 @@ pub record IsArrayRead (s : Symbol) (w : Direct) (access : Access) (from to : �
   pub prints : Prints own bytes is_reference
   pub written : w.text.list.items ≡ front ++ bytes
   pub comes : Comes s outer (tree (accessed access (array (values.normal digits) own)) true) w.at
-      (with_accessed access encoding (array (values.normal digits) own) state)
+      (with_accessed access made_in (array (values.normal digits) own) state)
   pub takes : TakesFunction rest
   pub stands : Stands s rest outer front
 
@@ -607,7 +607,7 @@ pub record AwaitsSignature (s : Symbol) (w : Direct) (is_pointer is_first : Bool
   pub rest : List Open
   pub open_is : reverse w.waiting.list.items ≡ opens.Signature is_pointer ∷ rest
   pub outer : List Opened
-  pub encoding : ℕ
+  pub made_in : Around
   pub front : List ℕ
   pub returned : Term
   pub bytes : List ℕ
@@ -619,7 +619,7 @@ pub record AwaitsSignature (s : Symbol) (w : Direct) (is_pointer is_first : Bool
   pub texts : List ℕ
   pub elements : PrintAll 0 ts texts
   pub written : w.text.list.items ≡ front ++ (bytes ++ opening_text is_pointer) ++ texts
-  pub goes : SignatureGoesOn s outer encoding is_pointer (λ l. plain_function returned (list_with ts l)) w.at state
+  pub goes : SignatureGoesOn s outer made_in is_pointer (λ l. plain_function returned (list_with ts l)) w.at state
   pub takes : TakesFunction rest
   pub stands : Stands s rest outer front
 
@@ -630,7 +630,7 @@ pub record AwaitsParameter (s : Symbol) (w : Direct) (is_pointer : Bool) : Type 
   pub rest : List Open
   pub open_is : reverse w.waiting.list.items ≡ opens.Signature is_pointer ∷ rest
   pub outer : List Opened
-  pub encoding : ℕ
+  pub made_in : Around
   pub front : List ℕ
   pub returned : Term
   pub bytes : List ℕ
@@ -640,7 +640,7 @@ pub record AwaitsParameter (s : Symbol) (w : Direct) (is_pointer : Bool) : Type 
   pub texts : List ℕ
   pub elements : PrintAll 0 ts texts
   pub written : w.text.list.items ≡ front ++ (bytes ++ opening_text is_pointer) ++ in_front_of_next ts texts
-  pub goes : SignatureGoesOn s outer encoding is_pointer (λ l. plain_function returned (list_with ts l)) w.at state
+  pub goes : SignatureGoesOn s outer made_in is_pointer (λ l. plain_function returned (list_with ts l)) w.at state
   pub takes : TakesFunction rest
   pub stands : Stands s rest outer front
 
@@ -651,14 +651,14 @@ pub record IsReturned (s : Symbol) (w : Direct) (is_pointer : Bool) : Type 0 whe
   pub rest : List Open
   pub open_is : reverse w.waiting.list.items ≡ opens.Returned is_pointer ∷ rest
   pub outer : List Opened
-  pub encoding : ℕ
+  pub made_in : Around
   pub front : List ℕ
   pub returned : Term
   pub bytes : List ℕ
   pub is_reference : Bool
   pub prints : Prints returned bytes is_reference
   pub written : w.text.list.items ≡ front ++ bytes
-  pub goes : SignatureGoesOn s outer encoding is_pointer (λ l. plain_function returned l) w.at state
+  pub goes : SignatureGoesOn s outer made_in is_pointer (λ l. plain_function returned l) w.at state
   pub takes : TakesFunction rest
   pub stands : Stands s rest outer front
 
@@ -669,13 +669,13 @@ pub record IsFunctionRead (s : Symbol) (w : Direct) (is_pointer : Bool) : Type 0
   pub rest : List Open
   pub open_is : reverse w.waiting.list.items ≡ opens.Signature is_pointer ∷ rest
   pub outer : List Opened
-  pub encoding : ℕ
+  pub made_in : Around
   pub made : Term
   pub front : List ℕ
   pub bytes : List ℕ
   pub written : w.text.list.items ≡ front ++ bytes
   pub element : (extra : ℕ) → IsElement extra (pointed is_pointer made) (bytes ++ codes ")")
-  pub comes : Comes s outer (tree (pointed is_pointer made) true) w.at (with_pointed is_pointer encoding made state)
+  pub comes : Comes s outer (tree (pointed is_pointer made) true) w.at (with_pointed is_pointer made_in made state)
   pub takes : TakesFunction rest
   pub stands : Stands s rest outer front
 

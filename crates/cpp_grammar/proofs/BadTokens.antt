@@ -10,12 +10,12 @@ use Rattle.sym_link.specs.Reading.{Found, Next, Open, ◌>>=◌}
 use Rattle.sym_link.specs.Unfold.{found, alone, standing, unfold_tree, unfold_forest}
 use Rattle.sym_demangle.specs.Mangled.{IsBadToken}
 use Rattle.cpp_grammar.specs.declared.production.Production.{Production}
-use Rattle.cpp_grammar.specs.Term.{Term, parameter, generic_parameter}
-use Rattle.cpp_grammar.specs.Scope.{count, element, length_if_pack, is_open}
+use Rattle.cpp_grammar.specs.Term.{Term, parameter}
+use Rattle.cpp_grammar.specs.Scope.{count, element, length_if_pack, is_open, pack_length, Free, none_free, one_free, several_free, free_in}
 use Rattle.cpp_grammar.specs.Values.{Candidate, State, Around, Value, tree, text_of, part, local_number}
 use Rattle.cpp_grammar.specs.References.{appended, with_packs, packs_in, substituted, parameter_named}
 use Rattle.cpp_grammar.specs.Between.{named_so_far, listed_so_far, piece_so_far, tag_so_far, parameter_so_far, index_of, between, next, argument_so_far}
-use Rattle.cpp_grammar.specs.Rescoping.{generic_so_far, parameter_here, is_foreign, number_behind_mark, with_parameter, in_scope, restated, substituted_wide, between_wide, close_wide, cpp_wide, unfold_wide, argument_here, generic_number}
+use Rattle.cpp_grammar.specs.Rescoping.{generic_so_far, parameter_here, is_foreign, in_scope, with_free, restated, substituted_wide, between_wide, close_wide, cpp_wide, unfold_wide, argument_here, generic_number}
 use Rattle.cpp_grammar.proofs.Ways.{Way, reading_by, abi_way, wide_way}
 use Rattle.cpp_grammar.specs.Unfolding.{last_token, number_tested, opening, close, production_at, byte_of, cpp, first_around, first_state, first_tree, unfold_cpp}
 
@@ -134,7 +134,7 @@ argument_here_bad : (around : Around) (place k : ℕ) (state : State) → IsBad 
 unfolding argument_here
 argument_here_bad around place k state = go around.in_lambda
   where
-    go : (b : Bool) → IsBad {A = Next Value State Around} (elim b [ true ↦ next (tree (generic_parameter (generic_number k)) true ∷ []) around state | false ↦ argument_so_far around place k state ])
+    go : (b : Bool) → IsBad {A = Next Value State Around} (elim b [ true ↦ next (tree (parameter (generic_number k)) true ∷ []) around state | false ↦ argument_so_far around place k state ])
     go true = tt
     go false = argument_bad around place k state
 
@@ -143,45 +143,38 @@ unfolding in_scope
 scope_bad around place t k state = go around.scope
   where
     packs : Term → Result State Refusal
-    packs arguments = with_packs place around.in_expansion (length_if_pack (element arguments k)) state
+    packs arguments = with_packs place around.in_expansion (pack_length arguments t) state
 
     tested : (arguments : Term) (b : Bool) → IsBad {A = Found Value State} (elim b [
       | false ↦ Err (BadReference place)
-      | true ↦ packs arguments >>= λ s. Ok (found (tree (with_parameter t (parameter k)) true) s)
+      | true ↦ packs arguments >>= λ s. Ok (found (tree t true) s)
     ])
     tested arguments false = tt
-    tested arguments true = bad_bind (packs arguments) (λ s. Ok (found (tree (with_parameter t (parameter k)) true) s)) (packs_bad place around.in_expansion (length_if_pack (element arguments k)) state) (λ s. tt)
+    tested arguments true = bad_bind (packs arguments) (λ s. Ok (found (tree t true) s)) (packs_bad place around.in_expansion (pack_length arguments t) state) (λ s. tt)
 
     go : (o : Option Term) → IsBad {A = Found Value State} (elim o [
       | None ↦ Err (BadReference place)
       | Some arguments ↦ elim (nat_lt k (count arguments)) [
         | false ↦ Err (BadReference place)
-        | true ↦ packs arguments >>= λ s. Ok (found (tree (with_parameter t (parameter k)) true) s)
+        | true ↦ packs arguments >>= λ s. Ok (found (tree t true) s)
       ]
     ])
     go None = tt
     go (Some arguments) = tested arguments (nat_lt k (count arguments))
 
+free_bad : (free : Free) (around : Around) (place : ℕ) (t : Term) (state : State) → IsBad (with_free free around place t state)
+unfolding with_free
+free_bad none_free around place t state = tt
+free_bad (one_free k) around place t state = scope_bad around place t k state
+free_bad several_free around place t state = tt
+
 restated_bad : (around : Around) (place : ℕ) (t : Term) (state : State) → IsBad (restated around place t state)
 unfolding restated
-restated_bad around place t state = go (number_behind_mark t)
+restated_bad around place t state = go around.in_lambda
   where
-    tested : (k : ℕ) (b : Bool) → IsBad {A = Found Value State} (elim b [
-      | true ↦ Ok (found (tree (with_parameter t (generic_parameter k)) true) state)
-      | false ↦ in_scope around place t k state
-    ])
-    tested k true = tt
-    tested k false = scope_bad around place t k state
-
-    go : (o : Option ℕ) → IsBad {A = Found Value State} (elim o [
-      | None ↦ Err (BadReference place)
-      | Some k ↦ elim around.in_lambda [
-        | true ↦ Ok (found (tree (with_parameter t (generic_parameter k)) true) state)
-        | false ↦ in_scope around place t k state
-      ]
-    ])
-    go None = tt
-    go (Some k) = tested k around.in_lambda
+    go : (b : Bool) → IsBad {A = Found Value State} (elim b [ true ↦ Ok (found (tree t true) state) | false ↦ with_free (free_in t) around place t state ])
+    go true = tt
+    go false = free_bad (free_in t) around place t state
 
 wide_substituted_bad : (around : Around) (place : ℕ) (o : Option Candidate) (state : State) → IsBad (substituted_wide around place o state)
 unfolding substituted_wide
@@ -204,6 +197,7 @@ wide_between_bad p around place vs state = between_bad p around place vs state
 wide_close_bad : (p : Production) (byte : ℕ) (around : Around) (place : ℕ) (began : State) (vs : List Value) (state : State) → IsBad (close_wide p byte around place began vs state)
 unfolding close_wide
 wide_close_bad Production.Substitution byte around place began vs state = wide_substituted_bad around (place - 1) (slice_get state.candidates (counted_value Seq36 (text_of (part vs 0)))) state
+wide_close_bad Production.Lambda byte around place began vs state = tt
 wide_close_bad p byte around place began vs state = close_bad p byte around place began vs state
 
 -- ## Either reading

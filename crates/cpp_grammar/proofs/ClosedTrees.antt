@@ -30,10 +30,10 @@ use Rattle.cpp_grammar.specs.Meaning.{meaning}
 use Rattle.cpp_grammar.specs.Unfolding as unfolding_
 use Rattle.cpp_grammar.specs.Unfolding.{last_token, number_tested, opening, close, production_at, byte_of, cpp, first_around, first_state, first_tree, unfold_cpp}
 use Rattle.cpp_grammar.proofs.Choosing.{kinds_numbered, number_at, either_rule_at, is_either_kind}
-use Rattle.cpp_grammar.proofs.ClosedValues.{Good, AllGood, GoodPrefix, HasClosedName, held, good_tree, good_encoding, good_no_items}
-use Rattle.cpp_grammar.proofs.ClosedStates.{Bare, AllOld, AllNew, Grows, old_later, grows_same, grows_then, old_grows, ok_same, behind_bind, Comes, close_good, wide_close_good}
-use Rattle.cpp_grammar.proofs.ClosedParts.{Fits, Goes, StaysInside, between_goes, wide_goes}
-use Rattle.cpp_grammar.proofs.Ways.{Way, reading_by, abi_way, wide_way, is_reference, IsPlain, abi_plain, wide_plain}
+use Rattle.cpp_grammar.proofs.ClosedValues.{good_where, Good, AllGood, GoodPrefix, HasClosedName, held, good_tree, good_encoding, good_no_items}
+use Rattle.cpp_grammar.proofs.ClosedStates.{Bare, Within, AllOld, AllNew, Grows, old_later, grows_same, grows_then, old_grows, ok_same, behind_bind, Comes, close_good, wide_close_good}
+use Rattle.cpp_grammar.proofs.ClosedParts.{Fits, Goes, StaysInside, goes_within, wide_goes}
+use Rattle.cpp_grammar.proofs.Ways.{Way, reading_by, abi_way, wide_way, differs, IsPlain, abi_plain, wide_plain}
 use Rattle.cpp_grammar.specs.Rescoping.{cpp_wide, unfold_wide}
 
 -- ## Productions and their rules
@@ -142,15 +142,15 @@ taken_rule k rule taken lt takes = go (slice_get kinds k) refl
 
 -- ## What a part comes to
 
-pub record TreeComes (around : Around) (end : ℕ) (old : State) (r : Found (List Value) State) : Type 0 where
+pub record TreeComes (own : Bool) (around : Around) (end : ℕ) (old : State) (r : Found (List Value) State) : Type 0 where
   pub value : Value
   pub is : r.value ≡ value ∷ []
-  pub good : Good (Bare around) (held value)
-  pub grows : Grows around end old r.state
+  pub good : Good (Bare own around) (held value)
+  pub grows : Grows own around end old r.state
 
-pub record ForestComes (around : Around) (end : ℕ) (old : State) (r : Found (List Value) State) : Type 0 where
-  pub good : AllGood (Bare around) r.value
-  pub grows : Grows around end old r.state
+pub record ForestComes (own : Bool) (s : Type 0) (around : Around) (end : ℕ) (old : State) (r : Found (List Value) State) : Type 0 where
+  pub good : AllGood s r.value
+  pub grows : Grows own around end old r.state
 
 tested_keeps : (b : Bool) (place : ℕ) (state new : State) → ◌≡◌ {A = Result State Refusal} (elim b [ true ↦ Ok state | false ↦ Err (BadValue place) ]) (Ok new) → new ≡ state
 tested_keeps true place state new e = sym (ok_same state new e)
@@ -166,53 +166,50 @@ pub all_append : (s : Type 0) (vs ws : List Value) → AllGood s vs → AllGood 
 all_append s [] ws f g = g
 all_append s (v ∷ vs) ws f g = (f.0, all_append s vs ws f.1 g)
 
-pub good_fits : (around inner : Around) (t : Term) → Fits around inner → Good (Bare inner) t → Good (Bare around) t
-good_fits around inner t fits good = record { closed = λ bare. good.closed (fits.bare bare); scopes = good.scopes }
-
-pub old_fits : (around inner : Around) (at : ℕ) (cs : List Candidate) → Fits around inner → AllOld around at cs → AllOld inner at cs
-old_fits around inner at [] fits all = tt
-old_fits around inner at (c ∷ cs) fits all = (
+pub old_fits : (own : Bool) (around inner : Around) (at : ℕ) (cs : List Candidate) → Fits own around inner → AllOld own around at cs → AllOld own inner at cs
+old_fits own around inner at [] fits all = tt
+old_fits own around inner at (c ∷ cs) fits all = (
   record {
     scopes = all.0.scopes;
-    closed = λ bare free same. all.0.closed (fits.back bare free).0 (fits.back bare free).1 (same ∙ fits.encoding);
+    closed = λ bare free outside same. all.0.closed (fits.back bare free).0 (fits.back bare free).1 outside (same ∙ fits.encoding);
     place = elim all.0.place [ inl same ↦ inl (same ∙ sym fits.encoding) | inr less ↦ inr less ];
   },
-  old_fits around inner at cs fits all.1,
+  old_fits own around inner at cs fits all.1,
 )
 
-pub new_fits : (around inner : Around) (end : ℕ) (cs : List Candidate) → Fits around inner → AllNew inner end cs → AllNew around end cs
-new_fits around inner end [] fits all = tt
-new_fits around inner end (c ∷ cs) fits all = (
+pub new_fits : (own : Bool) (around inner : Around) (end : ℕ) (cs : List Candidate) → Fits own around inner → AllNew own inner end cs → AllNew own around end cs
+new_fits own around inner end [] fits all = tt
+new_fits own around inner end (c ∷ cs) fits all = (
   record {
     scopes = all.0.scopes;
     place = elim all.0.place [
-      | inl here ↦ inl (here.0 ∙ fits.encoding, λ bare. here.1 (fits.bare bare))
+      | inl here ↦ inl (here.0 ∙ fits.encoding, λ none outside. here.1 (fits.scope none) outside)
       | inr deep ↦ inr (omega (arith, fits.encoding, deep.0), deep.1)
     ];
   },
-  new_fits around inner end cs fits all.1,
+  new_fits own around inner end cs fits all.1,
 )
 
-pub grows_fits : (around inner : Around) (end : ℕ) (old new : State) → Fits around inner → Grows inner end old new → Grows around end old new
-grows_fits around inner end old new fits g = record { more = g.more; is = g.is; each = new_fits around inner end g.more fits g.each }
+pub grows_fits : (own : Bool) (around inner : Around) (end : ℕ) (old new : State) → Fits own around inner → Grows own inner end old new → Grows own around end old new
+grows_fits own around inner end old new fits g = record { more = g.more; is = g.is; each = new_fits own around inner end g.more fits g.each }
 
 -- ## Inside an encoding that begins at a place
 
-pub old_inner : (around : Around) (at : ℕ) (cs : List Candidate) → around.encoding < at → AllOld around at cs → AllOld (in_name at) at cs
+pub old_inner : (own : Bool) (around : Around) (at : ℕ) (cs : List Candidate) → around.encoding < at → AllOld own around at cs → AllOld own (in_name at) at cs
 unfolding in_name
-old_inner around at [] lt all = tt
-old_inner around at (c ∷ cs) lt all =
+old_inner own around at [] lt all = tt
+old_inner own around at (c ∷ cs) lt all =
     let less : c.encoding < at = elim all.0.place [ inl same ↦ omega (arith, same, lt) | inr before ↦ before ] in
-    (record { scopes = all.0.scopes; closed = λ bare free same. absurd (omega (arith, same, less)); place = inr less }, old_inner around at cs lt all.1)
+    (record { scopes = all.0.scopes; closed = λ bare free outside same. absurd (omega (arith, same, less)); place = inr less }, old_inner own around at cs lt all.1)
 
-pub old_types : (at b : ℕ) (name : Term) (cs : List Candidate) → AllOld (in_name at) b cs → AllOld (in_types at name) b cs
+pub old_types : (own : Bool) (at b : ℕ) (name : Term) (cs : List Candidate) → AllOld own (in_name at) b cs → AllOld own (in_types at name) b cs
 unfolding in_name in_types
-old_types at b name [] all = tt
-old_types at b name (c ∷ cs) all = (record { scopes = all.0.scopes; closed = λ bare free same. all.0.closed refl refl same; place = all.0.place }, old_types at b name cs all.1)
+old_types own at b name [] all = tt
+old_types own at b name (c ∷ cs) all = (record { scopes = all.0.scopes; closed = λ bare free outside same. all.0.closed (refl, λ o. refl) refl outside same; place = all.0.place }, old_types own at b name cs all.1)
 
-new_inner : (around inner : Around) (at end : ℕ) (cs : List Candidate) → inner.encoding ≡ at → around.encoding < at → at < end → AllNew inner end cs → AllNew around end cs
-new_inner around inner at end [] is lt more all = tt
-new_inner around inner at end (c ∷ cs) is lt more all = (
+new_inner : (own : Bool) (around inner : Around) (at end : ℕ) (cs : List Candidate) → inner.encoding ≡ at → around.encoding < at → at < end → AllNew own inner end cs → AllNew own around end cs
+new_inner own around inner at end [] is lt more all = tt
+new_inner own around inner at end (c ∷ cs) is lt more all = (
   record {
     scopes = all.0.scopes;
     place = inr (elim all.0.place [
@@ -220,11 +217,11 @@ new_inner around inner at end (c ∷ cs) is lt more all = (
       | inr deep ↦ (omega (arith, deep.0, is, lt), deep.1)
     ]);
   },
-  new_inner around inner at end cs is lt more all.1,
+  new_inner own around inner at end cs is lt more all.1,
 )
 
-pub grows_inner : (around inner : Around) (at end : ℕ) (old new : State) → inner.encoding ≡ at → around.encoding < at → at < end → Grows inner end old new → Grows around end old new
-grows_inner around inner at end old new is lt more g = record { more = g.more; is = g.is; each = new_inner around inner at end g.more is lt more g.each }
+pub grows_inner : (own : Bool) (around inner : Around) (at end : ℕ) (old new : State) → inner.encoding ≡ at → around.encoding < at → at < end → Grows own inner end old new → Grows own around end old new
+grows_inner own around inner at end old new is lt more g = record { more = g.more; is = g.is; each = new_inner own around inner at end g.more is lt more g.each }
 
 pub one_good : (s : Type 0) (v : Value) (vs : List Value) → vs ≡ v ∷ [] → Good s (held v) → AllGood s vs
 one_good s v vs is good = subst (λ ws. AllGood s ws) (sym is) (good, tt)
@@ -233,35 +230,37 @@ one_good s v vs is good = subst (λ ws. AllGood s ws) (sym is) (good, tt)
 
 abbrev pub TreeGood : Way → Tree → Type 0
 TreeGood w t = (x : Sym) (around : Around) (at : ℕ) (state : State) (r : Found (List Value) State) → IsSymbol either x → IsTree either x t → around.encoding ≤ at →
-    (is_encoding x ≡ true → around.encoding < at) → GoodPrefix (Bare around) around.prefix → AllOld around at state.candidates → unfold_tree (reading_by w) around at t state ≡ Ok r →
-    TreeComes around (at + length (spell t)) state r
+    (is_encoding x ≡ true → around.encoding < at) → GoodPrefix (Bare w.own around) around.prefix → AllOld w.own around at state.candidates → unfold_tree (reading_by w) around at t state ≡ Ok r →
+    TreeComes w.own around (at + length (spell t)) state r
 
 abbrev pub AllTreesGood : Way → Forest → Type 0
 AllTreesGood w nothing = Unit {0}
 AllTreesGood w (grown t f) = TreeGood w t × AllTreesGood w f
 
-leaf_comes : (around : Around) (end : ℕ) (state : State) (v : Value) (r : Found (List Value) State) → Good (Bare around) (held v) → ◌≡◌ {A = Result (Found (List Value) State) Refusal} (Ok (found (v ∷ []) state)) (Ok r) →
-    TreeComes around end state r
-leaf_comes around end state v r good e =
-    subst (λ x. TreeComes around end state x) (ok_same (found (v ∷ []) state) r e) (record { value = v; is = refl; good = good; grows = grows_same around end state state refl })
+leaf_comes : (own : Bool) (around : Around) (end : ℕ) (state : State) (v : Value) (r : Found (List Value) State) → Good (Bare own around) (held v) → ◌≡◌ {A = Result (Found (List Value) State) Refusal} (Ok (found (v ∷ []) state)) (Ok r) →
+    TreeComes own around end state r
+leaf_comes own around end state v r good e =
+    subst (λ x. TreeComes own around end state x) (ok_same (found (v ∷ []) state) r e) (record { value = v; is = refl; good = good; grows = grows_same own around end state state refl })
 
-pub grows_on : (around : Around) (a b : ℕ) (old new : State) → a ≤ b → Grows around a old new → Grows around b old new
-grows_on around a b old new le g = grows_then around a b old new new le g (grows_same around b new new refl)
+pub grows_on : (own : Bool) (around : Around) (a b : ℕ) (old new : State) → a ≤ b → Grows own around a old new → Grows own around b old new
+grows_on own around a b old new le g = grows_then own around a b old new new le g (grows_same own around b new new refl)
 
 -- what is closed stays so between the parts of a production, and behind them
 pub record KeepsClosed (w : Way) : Type 0 where
   pub plain : IsPlain w
   pub goes : (production : Production) (around : Around) (place : ℕ) (vs : List Value) (state : State) (n : Next Value State Around) (at : ℕ) → StaysInside production →
-      GoodPrefix (Bare around) around.prefix → AllGood (Bare around) vs → w.between production around place vs state ≡ Ok n → Goes around at state n
+      GoodPrefix (Bare w.own around) around.prefix → AllGood (Within w.own production around) vs → w.between production around place vs state ≡ Ok n →
+      Goes w.own (Within w.own production around) around at state n
   pub comes : (production : Production) (byte : ℕ) (around : Around) (place : ℕ) (began : State) (vs : List Value) (state : State) (r : Found Value State) (end : ℕ) →
-      AllOld around end state.candidates → GoodPrefix (Bare around) around.prefix → AllGood (Bare around) vs → HasClosedName production vs →
-      w.close production byte around place began vs state ≡ Ok r → Comes around end state r
+      AllOld w.own around end state.candidates → GoodPrefix (Bare w.own around) around.prefix → AllGood (Within w.own production around) vs → HasClosedName production vs →
+      w.close production byte around place began vs state ≡ Ok r → Comes w.own around end state r
 
-pub opens_apart : (p : Production) → opens p ≡ true → is_reference p ≡ false
-unfolding opens is_reference
+pub opens_apart : (p : Production) → opens p ≡ true → differs p ≡ false
+unfolding opens differs
 opens_apart Production.Parameter o = absurd (false≢true o)
 opens_apart Production.NestParameter o = absurd (false≢true o)
 opens_apart Production.Substitution o = absurd (false≢true o)
+opens_apart Production.Lambda o = absurd (false≢true o)
 opens_apart Production.ParameterArgument o = absurd (false≢true o)
 opens_apart Production.ParameterExpression o = absurd (false≢true o)
 opens_apart Production.BoundedArray o = absurd (false≢true o)
@@ -270,9 +269,9 @@ opens_apart _ o = refl
 -- ## Encodings
 
 -- what the parts of an encoding come to
-pub record InnerComes (production : Production) (around : Around) (end : ℕ) (old : State) (r : Found (List Value) State) : Type 0 where
-  pub means : (byte : ℕ) → Good (Bare around) (held (meaning production byte around r.value))
-  pub grows : Grows around end old r.state
+pub record InnerComes (own : Bool) (production : Production) (around : Around) (end : ℕ) (old : State) (r : Found (List Value) State) : Type 0 where
+  pub means : (byte : ℕ) → Good (Bare own around) (held (meaning production byte around r.value))
+  pub grows : Grows own around end old r.state
 
 kind_count : either.kinds ≡ KIND_COUNT
 unfolding either either_sheet kinds
@@ -295,9 +294,9 @@ pub record Stepped (w : Way) (rule : Open State Around) (n : Next Value State Ar
 pub nameless : (at : ℕ) → List Value → State → Next Value State Around
 nameless at vs state = record { context = in_name at; values = vs; state = state }
 
-pub always : (s : Type 0) (at : ℕ) (t : Term) → Good (Bare (in_name at)) t → Good s t
+pub always : (own : Bool) (s : Type 0) (at : ℕ) (t : Term) → Good (Bare own (in_name at)) t → Good s t
 unfolding in_name
-always s at t good = record { closed = λ h. good.closed refl; scopes = good.scopes }
+always own s at t good = record { closed = λ h. good.closed (refl, λ o. refl); scopes = good.scopes }
 
 -- ## Branches
 
@@ -332,13 +331,13 @@ takes_byte p rule k taken is takes has = go (is_chain p) refl (behind_a_byte p)
 abbrev pub Whole : Rule → List ℕ → ℕ → Around → State → Open State Around
 Whole rule taken at around state = standing rule taken at around state
 
-nothing_good : (around : Around) → Good (Bare around) (held nothing_there)
+nothing_good : (own : Bool) (around : Around) → Good (Bare own around) (held nothing_there)
 unfolding held is_open
-nothing_good around = record { closed = λ h. refl; scopes = tt }
+nothing_good own around = record { closed = λ h. refl; scopes = tt }
 
-text_good : (around : Around) (bytes : List ℕ) → Good (Bare around) (held (text bytes))
+text_good : (own : Bool) (around : Around) (bytes : List ℕ) → Good (Bare own around) (held (text bytes))
 unfolding held is_open
-text_good around bytes = record { closed = λ h. refl; scopes = tt }
+text_good own around bytes = record { closed = λ h. refl; scopes = tt }
 
 first_good : (v : Value) (vs : List Value) → vs ≡ v ∷ [] → ScopesAreClosed (tree_of v) → ScopesAreClosed (first_tree vs)
 unfolding first_tree
@@ -349,15 +348,16 @@ first_good v vs is good = subst (λ ws. ScopesAreClosed (first_tree ws)) (sym is
 module _ (w : Way) (keeps : KeepsClosed w) where
   pub forest_good : (f : Forest) → AllTreesGood w f → (rule : Open State Around) (xs : List Sym) (vs : List Value) (at : ℕ) (state : State) (r : Found (List Value) State) →
       StaysInside (production_at rule.rule.number) → AreSymbols either xs → AreTrees either xs f → rule.context.encoding ≤ at → (has_encoding xs ≡ true → rule.context.encoding < at) →
-      GoodPrefix (Bare rule.context) rule.context.prefix → AllGood (Bare rule.context) vs → AllOld rule.context at state.candidates → unfold_forest (reading_by w) rule vs at f state ≡ Ok r →
-      ForestComes rule.context (at + length (spell_all f)) state r
+      GoodPrefix (Bare w.own rule.context) rule.context.prefix → AllGood (Within w.own (production_at rule.rule.number) rule.context) vs → AllOld w.own rule.context at state.candidates → unfold_forest (reading_by w) rule vs at f state ≡ Ok r →
+      ForestComes w.own (Within w.own (production_at rule.rule.number) rule.context) rule.context (at + length (spell_all f)) state r
   unfolding reading_by has_encoding
   forest_good nothing all rule xs vs at state r stays known trees le inside pre good old e =
-      subst (λ x. ForestComes rule.context (at + length (spell_all nothing)) state x) (ok_same (found vs state) r e)
-      (record { good = good; grows = grows_same rule.context (at + length (spell_all nothing)) state state refl })
+      subst (λ x. ForestComes w.own (Within w.own (production_at rule.rule.number) rule.context) rule.context (at + length (spell_all nothing)) state x) (ok_same (found vs state) r e)
+      (record { good = good; grows = grows_same w.own rule.context (at + length (spell_all nothing)) state state refl })
   forest_good (grown t f) all rule [] vs at state r stays known trees le inside pre good old e = absurd trees
   forest_good (grown t f) all rule (x ∷ xs) vs at state r stays known trees le inside pre good old e =
       let around = rule.context in
+      let s = Within w.own (production_at rule.rule.number) around in
       let later = at + length (spell t) in
       let end = at + length (spell t ++ spell_all f) in
       let b = behind_bind (w.between (production_at rule.rule.number) around rule.place vs state)
@@ -366,27 +366,27 @@ module _ (w : Way) (keeps : KeepsClosed w) where
       let g = keeps.goes (production_at rule.rule.number) around rule.place vs state n at stays pre good b.is in
       let c = behind_bind (unfold_tree (reading_by w) n.context at t n.state) (λ part. unfold_forest (reading_by w) rule (n.values ++ part.value) (at + length (spell t)) f part.state) r b.next in
       let part = c.value in
-      let old1 = old_grows around at at state n.state (omega arith) old g.grows in
+      let old1 = old_grows w.own around at at state n.state (omega arith) old g.grows in
       let tree = all.0 x n.context at n.state part known.0 trees.0 (omega (arith, g.fits.encoding, le)) (λ opening. omega (arith, g.fits.encoding, inside (or_first (is_encoding x) (has_encoding xs) opening)))
-      g.fits.prefix (old_fits around n.context at n.state.candidates g.fits old1) c.is in
-      let grown1 = grows_fits around n.context later n.state part.state g.fits tree.grows in
-      let old2 = old_grows around at later n.state part.state (omega arith) old1 grown1 in
-      let good1 = one_good (Bare around) tree.value part.value tree.is (good_fits around n.context (held tree.value) g.fits tree.good) in
+      g.fits.prefix (old_fits w.own around n.context at n.state.candidates g.fits old1) c.is in
+      let grown1 = grows_fits w.own around n.context later n.state part.state g.fits tree.grows in
+      let old2 = old_grows w.own around at later n.state part.state (omega arith) old1 grown1 in
+      let good1 = one_good s tree.value part.value tree.is (good_where (Bare w.own n.context) s (held tree.value) g.bare tree.good) in
       let rest = forest_good f all.1 rule xs (n.values ++ part.value) later part.state r stays known.1 trees.1 (omega (arith, le))
-      (λ opening. omega (arith, inside (or_true (is_encoding x) (has_encoding xs) opening))) pre (all_append (Bare around) n.values part.value g.values good1) old2 c.next in
+      (λ opening. omega (arith, inside (or_true (is_encoding x) (has_encoding xs) opening))) pre (all_append s n.values part.value g.values good1) old2 c.next in
       record {
         good = rest.good;
-        grows = grows_then around later end state part.state r.state (omega (arith, length-append (spell t) (spell_all f)))
-            (grows_then around at later state n.state part.state (omega arith) g.grows grown1)
-            (grows_on around (later + length (spell_all f)) end part.state r.state (omega (arith, length-append (spell t) (spell_all f))) rest.grows);
+        grows = grows_then w.own around later end state part.state r.state (omega (arith, length-append (spell t) (spell_all f)))
+            (grows_then w.own around at later state n.state part.state (omega arith) g.grows grown1)
+            (grows_on w.own around (later + length (spell_all f)) end part.state r.state (omega (arith, length-append (spell t) (spell_all f))) rest.grows);
       }
     where
       or_first : (a b : Bool) → a ≡ true → a || b ≡ true
       or_first a b h = ap (λ c. c || b) h
 
   -- one part of an encoding, in which nothing is named
-  pub name_comes : (t : Tree) → TreeGood w t → (x : Sym) (at from : ℕ) (state : State) (part : Found (List Value) State) → IsSymbol either x → IsTree either x t → is_encoding x ≡ false → at ≤ from → AllOld (in_name at) from state.candidates →
-      unfold_tree (reading_by w) (in_name at) from t state ≡ Ok part → TreeComes (in_name at) (from + length (spell t)) state part
+  pub name_comes : (t : Tree) → TreeGood w t → (x : Sym) (at from : ℕ) (state : State) (part : Found (List Value) State) → IsSymbol either x → IsTree either x t → is_encoding x ≡ false → at ≤ from → AllOld w.own (in_name at) from state.candidates →
+      unfold_tree (reading_by w) (in_name at) from t state ≡ Ok part → TreeComes w.own (in_name at) (from + length (spell t)) state part
   unfolding in_name
   name_comes t good x at from state part known is other le old e =
       good x (in_name at) from state part known is le (λ opening. absurd (true≢false (sym opening ∙ other))) tt old e
@@ -402,21 +402,21 @@ module _ (w : Way) (keeps : KeepsClosed w) where
       record { part = c.value; is = c.is; rest = c.next }
 
   special_comes : (f : Forest) → AllTreesGood w f → (rule : Open State Around) (from : ℕ) (state : State) (r : Found (List Value) State) → production_at rule.rule.number ≡ Production.Special →
-      AreTrees either (parts_of Production.Special) f → rule.context.encoding < rule.place → rule.place ≤ from → rule.place < from + length (spell_all f) → AllOld rule.context rule.place state.candidates →
-      unfold_forest (reading_by w) rule [] from f state ≡ Ok r → InnerComes Production.Special rule.context (from + length (spell_all f)) state r
-  unfolding is_reference reading_by parts_of number_of_kind between meaning held is_encoding nameless part in_name
+      AreTrees either (parts_of Production.Special) f → rule.context.encoding < rule.place → rule.place ≤ from → rule.place < from + length (spell_all f) → AllOld w.own rule.context rule.place state.candidates →
+      unfold_forest (reading_by w) rule [] from f state ≡ Ok r → InnerComes w.own Production.Special rule.context (from + length (spell_all f)) state r
+  unfolding differs reading_by parts_of number_of_kind between meaning held is_encoding nameless part in_name
   special_comes (grown t nothing) all rule from state r is trees lt le more old e =
       let around = rule.context in
       let at = rule.place in
       let s = stepped rule [] from state t nothing r (nameless at [] state) (ap (λ p. w.between p around at [] state) is ∙ keeps.plain.between Production.Special refl around at [] state) e in
-      let c = name_comes t all.0 (OfKind SPECIAL) at from state s.part (known 5 (lit≤ tt)) trees.0 refl le (old_later (in_name at) at from state.candidates le (old_inner around at state.candidates lt old)) s.is in
+      let c = name_comes t all.0 (OfKind SPECIAL) at from state s.part (known 5 (lit≤ tt)) trees.0 refl le (old_later w.own (in_name at) at from state.candidates le (old_inner w.own around at state.candidates lt old)) s.is in
       let same : found (c.value ∷ []) s.part.state ≡ r = same_found [] s.part.value (c.value ∷ []) s.part.state r c.is s.rest in
       let end = from + length (spell t ++ []) in
-      subst (λ x. InnerComes Production.Special around end state x) same
+      subst (λ x. InnerComes w.own Production.Special around end state x) same
       (record {
-        means = λ byte. always (Bare around) at (held c.value) c.good;
-        grows = grows_inner around (in_name at) at end state s.part.state refl lt more
-            (grows_on (in_name at) (from + length (spell t)) end state s.part.state (omega (arith, length-append (spell t) [])) c.grows);
+        means = λ byte. always w.own (Bare w.own around) at (held c.value) c.good;
+        grows = grows_inner w.own around (in_name at) at end state s.part.state refl lt more
+            (grows_on w.own (in_name at) (from + length (spell t)) end state s.part.state (omega (arith, length-append (spell t) [])) c.grows);
       })
   special_comes nothing all rule from state r is trees lt le more old e = absurd trees
   special_comes (grown t (grown u f)) all rule from state r is trees lt le more old e = absurd trees.1
@@ -424,90 +424,90 @@ module _ (w : Way) (keeps : KeepsClosed w) where
   -- a production that begins an encoding, and has two parts in which nothing is named
   two_come : (p : Production) (x y : Sym) → IsSymbol either x → IsSymbol either y → is_encoding x ≡ false → is_encoding y ≡ false →
       ((around : Around) (at : ℕ) (vs : List Value) (state : State) → w.between p around at vs state ≡ Ok (nameless at vs state)) →
-      ((byte at : ℕ) (around : Around) (v w : Value) → Good (Bare (in_name at)) (held w) → Good (Bare around) (held (meaning p byte around (v ∷ w ∷ [])))) →
+      ((byte at : ℕ) (around : Around) (u v : Value) → Good (Bare w.own (in_name at)) (held v) → Good (Bare w.own around) (held (meaning p byte around (u ∷ v ∷ [])))) →
       (f : Forest) → AllTreesGood w f → (rule : Open State Around) (from : ℕ) (state : State) (r : Found (List Value) State) → production_at rule.rule.number ≡ p →
-      AreTrees either (x ∷ y ∷ []) f → rule.context.encoding < rule.place → rule.place ≤ from → rule.place < from + length (spell_all f) → AllOld rule.context rule.place state.candidates →
-      unfold_forest (reading_by w) rule [] from f state ≡ Ok r → InnerComes p rule.context (from + length (spell_all f)) state r
+      AreTrees either (x ∷ y ∷ []) f → rule.context.encoding < rule.place → rule.place ≤ from → rule.place < from + length (spell_all f) → AllOld w.own rule.context rule.place state.candidates →
+      unfold_forest (reading_by w) rule [] from f state ≡ Ok r → InnerComes w.own p rule.context (from + length (spell_all f)) state r
   unfolding reading_by nameless in_name
   two_come p x y known_x known_y apart_x apart_y goes means (grown t (grown u nothing)) all rule from state r is trees lt le more old e =
       let around = rule.context in
       let at = rule.place in
       let first = stepped rule [] from state t (grown u nothing) r (nameless at [] state) (ap (λ p. w.between p around at [] state) is ∙ goes around at [] state) e in
-      let old0 = old_later (in_name at) at from state.candidates le (old_inner around at state.candidates lt old) in
+      let old0 = old_later w.own (in_name at) at from state.candidates le (old_inner w.own around at state.candidates lt old) in
       let c = name_comes t all.0 x at from state first.part known_x trees.0 apart_x le old0 first.is in
       let next = from + length (spell t) in
       let vs = c.value ∷ [] in
       let onward = subst (λ ws. unfold_forest (reading_by w) rule ws next (grown u nothing) first.part.state ≡ Ok r) c.is first.rest in
       let second = stepped rule vs next first.part.state u nothing r (nameless at vs first.part.state) (ap (λ p. w.between p around at vs first.part.state) is ∙ goes around at vs first.part.state) onward in
-      let old1 = old_grows (in_name at) from next state first.part.state (omega arith) old0 c.grows in
+      let old1 = old_grows w.own (in_name at) from next state first.part.state (omega arith) old0 c.grows in
       let d = name_comes u all.1.0 y at next first.part.state second.part known_y trees.1.0 apart_y (omega (arith, le)) old1 second.is in
       let same : found (c.value ∷ d.value ∷ []) second.part.state ≡ r = same_found vs second.part.value (d.value ∷ []) second.part.state r d.is second.rest in
       let end = from + length (spell t ++ (spell u ++ [])) in
-      subst (λ x. InnerComes p around end state x) same
+      subst (λ x. InnerComes w.own p around end state x) same
       (record {
         means = λ byte. means byte at around c.value d.value d.good;
-        grows = grows_inner around (in_name at) at end state second.part.state refl lt more
-            (grows_then (in_name at) next end state first.part.state second.part.state (omega (arith, length-append (spell t) (spell u ++ []))) c.grows
-            (grows_on (in_name at) (next + length (spell u)) end first.part.state second.part.state (omega (arith, length-append (spell t) (spell u ++ []), length-append (spell u) [])) d.grows));
+        grows = grows_inner w.own around (in_name at) at end state second.part.state refl lt more
+            (grows_then w.own (in_name at) next end state first.part.state second.part.state (omega (arith, length-append (spell t) (spell u ++ []))) c.grows
+            (grows_on w.own (in_name at) (next + length (spell u)) end first.part.state second.part.state (omega (arith, length-append (spell t) (spell u ++ []), length-append (spell u) [])) d.grows));
       })
   two_come p x y known_x known_y apart_x apart_y goes means nothing all rule from state r is trees lt le more old e = absurd trees
   two_come p x y known_x known_y apart_x apart_y goes means (grown t nothing) all rule from state r is trees lt le more old e = absurd trees.1
   two_come p x y known_x known_y apart_x apart_y goes means (grown t (grown u (grown v f))) all rule from state r is trees lt le more old e = absurd trees.1.1
 
   guard_comes : (f : Forest) → AllTreesGood w f → (rule : Open State Around) (from : ℕ) (state : State) (r : Found (List Value) State) → production_at rule.rule.number ≡ Production.Guard →
-      AreTrees either (parts_of Production.Guard) f → rule.context.encoding < rule.place → rule.place ≤ from → rule.place < from + length (spell_all f) → AllOld rule.context rule.place state.candidates →
-      unfold_forest (reading_by w) rule [] from f state ≡ Ok r → InnerComes Production.Guard rule.context (from + length (spell_all f)) state r
-  unfolding is_reference parts_of number_of_kind between meaning held is_encoding nameless part is_open
+      AreTrees either (parts_of Production.Guard) f → rule.context.encoding < rule.place → rule.place ≤ from → rule.place < from + length (spell_all f) → AllOld w.own rule.context rule.place state.candidates →
+      unfold_forest (reading_by w) rule [] from f state ≡ Ok r → InnerComes w.own Production.Guard rule.context (from + length (spell_all f)) state r
+  unfolding differs parts_of number_of_kind between meaning held is_encoding nameless part is_open
   guard_comes = two_come Production.Guard (Byte 86) (OfKind COMPLETE_NAME) (lit≤ tt) (known 8 (lit≤ tt)) refl refl (keeps.plain.between Production.Guard refl)
-      (λ byte at around v w good.
-      let named = always (Bare around) at (tree_of w) (good_tree (Bare (in_name at)) w good) in
+      (λ byte at around u v good.
+      let named = always w.own (Bare w.own around) at (tree_of v) (good_tree (Bare w.own (in_name at)) v good) in
       record { closed = λ h. refl; scopes = named.scopes })
 
   other_special_comes : (f : Forest) → AllTreesGood w f → (rule : Open State Around) (from : ℕ) (state : State) (r : Found (List Value) State) → production_at rule.rule.number ≡ Production.OtherSpecial →
-      AreTrees either (parts_of Production.OtherSpecial) f → rule.context.encoding < rule.place → rule.place ≤ from → rule.place < from + length (spell_all f) → AllOld rule.context rule.place state.candidates →
-      unfold_forest (reading_by w) rule [] from f state ≡ Ok r → InnerComes Production.OtherSpecial rule.context (from + length (spell_all f)) state r
-  unfolding is_reference parts_of number_of_kind between meaning is_encoding nameless part
+      AreTrees either (parts_of Production.OtherSpecial) f → rule.context.encoding < rule.place → rule.place ≤ from → rule.place < from + length (spell_all f) → AllOld w.own rule.context rule.place state.candidates →
+      unfold_forest (reading_by w) rule [] from f state ≡ Ok r → InnerComes w.own Production.OtherSpecial rule.context (from + length (spell_all f)) state r
+  unfolding differs parts_of number_of_kind between meaning is_encoding nameless part
   other_special_comes = two_come Production.OtherSpecial (OfKind SPECIAL_MARK) (OfKind SPECIAL_AFTER_G) (known SPECIAL_MARK (lit≤ tt)) (known SPECIAL_AFTER_G (lit≤ tt)) refl refl (keeps.plain.between Production.OtherSpecial refl)
-      (λ byte at around v w good. always (Bare around) at (held w) good)
+      (λ byte at around u v good. always w.own (Bare w.own around) at (held v) good)
 
   encoding_comes : (f : Forest) → AllTreesGood w f → (rule : Open State Around) (from : ℕ) (state : State) (r : Found (List Value) State) → production_at rule.rule.number ≡ Production.Encoding →
-      AreTrees either (parts_of Production.Encoding) f → rule.context.encoding < rule.place → rule.place ≤ from → rule.place < from + length (spell_all f) → AllOld rule.context rule.place state.candidates →
-      unfold_forest (reading_by w) rule [] from f state ≡ Ok r → InnerComes Production.Encoding rule.context (from + length (spell_all f)) state r
-  unfolding is_reference reading_by parts_of number_of_kind between meaning held is_encoding nameless part in_name in_types
+      AreTrees either (parts_of Production.Encoding) f → rule.context.encoding < rule.place → rule.place ≤ from → rule.place < from + length (spell_all f) → AllOld w.own rule.context rule.place state.candidates →
+      unfold_forest (reading_by w) rule [] from f state ≡ Ok r → InnerComes w.own Production.Encoding rule.context (from + length (spell_all f)) state r
+  unfolding differs reading_by parts_of number_of_kind between meaning held is_encoding nameless part in_name in_types
   encoding_comes (grown t (grown u nothing)) all rule from state r is trees lt le more old e =
       let around = rule.context in
       let at = rule.place in
       let first = stepped rule [] from state t (grown u nothing) r (nameless at [] state) (ap (λ p. w.between p around at [] state) is ∙ keeps.plain.between Production.Encoding refl around at [] state) e in
-      let old0 = old_later (in_name at) at from state.candidates le (old_inner around at state.candidates lt old) in
+      let old0 = old_later w.own (in_name at) at from state.candidates le (old_inner w.own around at state.candidates lt old) in
       let c = name_comes t all.0 (OfKind COMPLETE_NAME) at from state first.part (known 8 (lit≤ tt)) trees.0 refl le old0 first.is in
       let next = from + length (spell t) in
       let name = tree_of c.value in
-      let named = good_tree (Bare (in_name at)) c.value c.good in
+      let named = good_tree (Bare w.own (in_name at)) c.value c.good in
       let vs = c.value ∷ [] in
       let onward = subst (λ ws. unfold_forest (reading_by w) rule ws next (grown u nothing) first.part.state ≡ Ok r) c.is first.rest in
       let types : Next Value State Around = record { context = in_types at name; values = vs; state = first.part.state } in
       let second = stepped rule vs next first.part.state u nothing r types (ap (λ p. w.between p around at vs first.part.state) is ∙ keeps.plain.between Production.Encoding refl around at vs first.part.state) onward in
-      let old1 = old_types at next name first.part.state.candidates (old_grows (in_name at) from next state first.part.state (omega arith) old0 c.grows) in
+      let old1 = old_types w.own at next name first.part.state.candidates (old_grows w.own (in_name at) from next state first.part.state (omega arith) old0 c.grows) in
       let d = all.1.0 (OfKind ITEMS) (in_types at name) next first.part.state second.part (known 41 (lit≤ tt)) trees.1.0 (omega (arith, le)) (λ opening. absurd (false≢true opening)) tt old1 second.is in
       let same : found (c.value ∷ d.value ∷ []) second.part.state ≡ r = same_found vs second.part.value (d.value ∷ []) second.part.state r d.is second.rest in
       let end = from + length (spell t ++ (spell u ++ [])) in
-      subst (λ x. InnerComes Production.Encoding around end state x) same
+      subst (λ x. InnerComes w.own Production.Encoding around end state x) same
       (record {
-        means = λ byte. good_encoding (Bare around) c.value (no_items d.value) (named.closed refl) named.scopes
-            (good_no_items (Bare (in_types at name)) d.value (good_tree (Bare (in_types at name)) d.value d.good)).scopes;
-        grows = grows_then around end end state first.part.state second.part.state (omega arith)
-            (grows_inner around (in_name at) at end state first.part.state refl lt more
-            (grows_on (in_name at) next end state first.part.state (omega (arith, length-append (spell t) (spell u ++ []))) c.grows))
-            (grows_inner around (in_types at name) at end first.part.state second.part.state refl lt more
-            (grows_on (in_types at name) (next + length (spell u)) end first.part.state second.part.state (omega (arith, length-append (spell t) (spell u ++ []), length-append (spell u) [])) d.grows));
+        means = λ byte. good_encoding (Bare w.own around) c.value (no_items d.value) (named.closed (refl, λ o. refl)) named.scopes
+            (good_no_items (Bare w.own (in_types at name)) d.value (good_tree (Bare w.own (in_types at name)) d.value d.good)).scopes;
+        grows = grows_then w.own around end end state first.part.state second.part.state (omega arith)
+            (grows_inner w.own around (in_name at) at end state first.part.state refl lt more
+            (grows_on w.own (in_name at) next end state first.part.state (omega (arith, length-append (spell t) (spell u ++ []))) c.grows))
+            (grows_inner w.own around (in_types at name) at end first.part.state second.part.state refl lt more
+            (grows_on w.own (in_types at name) (next + length (spell u)) end first.part.state second.part.state (omega (arith, length-append (spell t) (spell u ++ []), length-append (spell u) [])) d.grows));
       })
   encoding_comes nothing all rule from state r is trees lt le more old e = absurd trees
   encoding_comes (grown t nothing) all rule from state r is trees lt le more old e = absurd trees.1
   encoding_comes (grown t (grown u (grown v f))) all rule from state r is trees lt le more old e = absurd trees.1.1
 
   pub inner_comes : (p : Production) → opens p ≡ true → (f : Forest) → AllTreesGood w f → (rule : Open State Around) (from : ℕ) (state : State) (r : Found (List Value) State) → production_at rule.rule.number ≡ p →
-      AreTrees either (parts_of p) f → rule.context.encoding < rule.place → rule.place ≤ from → rule.place < from + length (spell_all f) → AllOld rule.context rule.place state.candidates →
-      unfold_forest (reading_by w) rule [] from f state ≡ Ok r → InnerComes p rule.context (from + length (spell_all f)) state r
+      AreTrees either (parts_of p) f → rule.context.encoding < rule.place → rule.place ≤ from → rule.place < from + length (spell_all f) → AllOld w.own rule.context rule.place state.candidates →
+      unfold_forest (reading_by w) rule [] from f state ≡ Ok r → InnerComes w.own p rule.context (from + length (spell_all f)) state r
   unfolding opens
   inner_comes Production.Encoding o = encoding_comes
   inner_comes Production.Special o = special_comes
@@ -517,9 +517,9 @@ module _ (w : Way) (keeps : KeepsClosed w) where
   inner_comes _ o = absurd (false≢true o)
 
   pub plain_comes : (k : ℕ) (rule : Rule) (taken : List ℕ) (parts : Forest) → AllTreesGood w parts → (p : Production) → rule ≡ rule_of p → opens p ≡ false → (around : Around) (at : ℕ) (state : State)
-      (inner : Found (List Value) State) (one : Found Value State) → k < either.kinds → IsTree either (OfKind k) (branch rule taken parts) → around.encoding ≤ at → GoodPrefix (Bare around) around.prefix →
-      AllOld around at state.candidates → unfold_forest (reading_by w) (Whole rule taken at around state) [] (at + length taken) parts state ≡ Ok inner →
-      w.close (production_at rule.number) (byte_of taken) around at state inner.value inner.state ≡ Ok one → TreeComes around (at + length (taken ++ spell_all parts)) state (found (one.value ∷ []) one.state)
+      (inner : Found (List Value) State) (one : Found Value State) → k < either.kinds → IsTree either (OfKind k) (branch rule taken parts) → around.encoding ≤ at → GoodPrefix (Bare w.own around) around.prefix →
+      AllOld w.own around at state.candidates → unfold_forest (reading_by w) (Whole rule taken at around state) [] (at + length taken) parts state ≡ Ok inner →
+      w.close (production_at rule.number) (byte_of taken) around at state inner.value inner.state ≡ Ok one → TreeComes w.own around (at + length (taken ++ spell_all parts)) state (found (one.value ∷ []) one.state)
   plain_comes k rule taken parts all p is plain around at state inner one lt tree le pre old e f =
       let number : production_at rule.number ≡ p = ap (λ x. production_at x.number) is ∙ at_number p in
       let inside_ : StaysInside (production_at rule.number) = subst (λ q. StaysInside q) (sym number) (stays p plain) in
@@ -527,16 +527,16 @@ module _ (w : Way) (keeps : KeepsClosed w) where
       let end = at + length (taken ++ spell_all parts) in
       let symbols = either_sound.symbols k tree.0.byte rule lt tree.0.is_byte tree.0.found in
       let forest = forest_good parts all (Whole rule taken at around state) (symbols_of rule) [] from state inner inside_ symbols tree.1 (omega (arith, le))
-      (λ has. omega (arith, le, takes_byte p rule k taken is tree.0 has)) pre tt (old_later around at from state.candidates (omega arith) old) e in
-      let grown1 = grows_on around (from + length (spell_all parts)) end state inner.state (omega (arith, length-append taken (spell_all parts))) forest.grows in
-      let comes = keeps.comes (production_at rule.number) (byte_of taken) around at state inner.value inner.state one end (old_grows around at end state inner.state (omega arith) old grown1) pre forest.good
+      (λ has. omega (arith, le, takes_byte p rule k taken is tree.0 has)) pre tt (old_later w.own around at from state.candidates (omega arith) old) e in
+      let grown1 = grows_on w.own around (from + length (spell_all parts)) end state inner.state (omega (arith, length-append taken (spell_all parts))) forest.grows in
+      let comes = keeps.comes (production_at rule.number) (byte_of taken) around at state inner.value inner.state one end (old_grows w.own around at end state inner.state (omega arith) old grown1) pre forest.good
       (needs_no_name (production_at rule.number) inner.value inside_) f in
-      record { value = one.value; is = refl; good = comes.good; grows = grows_then around end end state inner.state one.state (omega arith) grown1 comes.grows }
+      record { value = one.value; is = refl; good = comes.good; grows = grows_then w.own around end end state inner.state one.state (omega arith) grown1 comes.grows }
 
   pub encoded_comes : (k : ℕ) (rule : Rule) (taken : List ℕ) (parts : Forest) → AllTreesGood w parts → (p : Production) → rule ≡ rule_of p → opens p ≡ true → (around : Around) (at : ℕ) (state : State)
       (inner : Found (List Value) State) (one : Found Value State) → k < either.kinds → IsTree either (OfKind k) (branch rule taken parts) → around.encoding < at →
-      AllOld around at state.candidates → unfold_forest (reading_by w) (Whole rule taken at around state) [] (at + length taken) parts state ≡ Ok inner →
-      w.close (production_at rule.number) (byte_of taken) around at state inner.value inner.state ≡ Ok one → TreeComes around (at + length (taken ++ spell_all parts)) state (found (one.value ∷ []) one.state)
+      AllOld w.own around at state.candidates → unfold_forest (reading_by w) (Whole rule taken at around state) [] (at + length taken) parts state ≡ Ok inner →
+      w.close (production_at rule.number) (byte_of taken) around at state inner.value inner.state ≡ Ok one → TreeComes w.own around (at + length (taken ++ spell_all parts)) state (found (one.value ∷ []) one.state)
   encoded_comes k rule taken parts all p is opening around at state inner one lt tree less old e f =
       let number : production_at rule.number ≡ p = ap (λ x. production_at x.number) is ∙ at_number p in
       let from = at + length taken in
@@ -548,8 +548,8 @@ module _ (w : Way) (keeps : KeepsClosed w) where
       let closed : close p (byte_of taken) around at state inner.value inner.state ≡ Ok one =
       sym (ap (λ q. w.close q (byte_of taken) around at state inner.value inner.state) number ∙ keeps.plain.close p (opens_apart p opening) (byte_of taken) around at state inner.value inner.state) ∙ f in
       let same = inner_closes p opening (byte_of taken) around at state inner.value inner.state one closed in
-      let grown1 = grows_on around (from + length (spell_all parts)) end state inner.state (omega (arith, length-append taken (spell_all parts))) comes.grows in
-      subst (λ x. TreeComes around end state (found (x.value ∷ []) x.state)) same
+      let grown1 = grows_on w.own around (from + length (spell_all parts)) end state inner.state (omega (arith, length-append taken (spell_all parts))) comes.grows in
+      subst (λ x. TreeComes w.own around end state (found (x.value ∷ []) x.state)) same
       (record { value = meaning p (byte_of taken) around inner.value; is = refl; good = comes.means (byte_of taken); grows = grown1 })
 
   pub branch_good : (rule : Rule) (taken : List ℕ) (parts : Forest) → AllTreesGood w parts → TreeGood w (branch rule taken parts)
@@ -567,7 +567,7 @@ module _ (w : Way) (keeps : KeepsClosed w) where
       let one = ended.value in
       let same : found (one.value ∷ []) one.state ≡ r = ok_same (found (one.value ∷ []) one.state) r ended.next in
       let end = at + length (taken ++ spell_all parts) in
-      subst (λ x. TreeComes around end state x) same (elim (cases_Bool (opens t.production)) [
+      subst (λ x. TreeComes w.own around end state x) same (elim (cases_Bool (opens t.production)) [
         | inl opening ↦ encoded_comes k rule taken parts all t.production t.is opening around at state inner.value one lt is (inside (t.encoding opening)) old inner.is ended.is
         | inr plain ↦ plain_comes k rule taken parts all t.production t.is plain around at state inner.value one lt is le pre old inner.is ended.is
       ])
@@ -578,9 +578,9 @@ module _ (w : Way) (keeps : KeepsClosed w) where
 
     pub tree_good_by : (t : Tree) → TreeGood w t
     tree_good_by (branch rule taken parts) = branch_good rule taken parts (trees_good_by parts)
-    tree_good_by empty = λ x around at state r lt is le inside pre old e. leaf_comes around (at + length (spell empty)) state nothing_there r (nothing_good around) e
-    tree_good_by (token t) = λ x around at state r lt is le inside pre old e. leaf_comes around (at + length (spell (token t))) state (text t.own) r (text_good around t.own) e
-    tree_good_by (fixed byte) = λ x around at state r lt is le inside pre old e. leaf_comes around (at + length (spell (fixed byte))) state nothing_there r (nothing_good around) e
+    tree_good_by empty = λ x around at state r lt is le inside pre old e. leaf_comes w.own around (at + length (spell empty)) state nothing_there r (nothing_good w.own around) e
+    tree_good_by (token t) = λ x around at state r lt is le inside pre old e. leaf_comes w.own around (at + length (spell (token t))) state (text t.own) r (text_good w.own around t.own) e
+    tree_good_by (fixed byte) = λ x around at state r lt is le inside pre old e. leaf_comes w.own around (at + length (spell (fixed byte))) state nothing_there r (nothing_good w.own around) e
 
     pub trees_good_by : (f : Forest) → AllTreesGood w f
     trees_good_by nothing = tt
@@ -593,17 +593,17 @@ module _ (w : Way) (keeps : KeepsClosed w) where
       let whole = behind_bind (unfold_tree (reading_by w) first_around 0 shape first_state) (λ whole. Ok (first_tree whole.value)) t e in
       let comes = tree_good_by shape (OfKind SYMBOL) first_around 0 first_state whole.value (known 0 (lit≤ tt)) is (omega arith) (λ opening. absurd (false≢true opening)) tt tt whole.is in
       let same : first_tree whole.value.value ≡ t = ok_same (first_tree whole.value.value) t whole.next in
-      subst (λ x. ScopesAreClosed x) same (first_good comes.value whole.value.value comes.is (good_tree (Bare first_around) comes.value comes.good).scopes)
+      subst (λ x. ScopesAreClosed x) same (first_good comes.value whole.value.value comes.is (good_tree (Bare w.own first_around) comes.value comes.good).scopes)
 
 -- ## Each reading
 
 pub abi_keeps : KeepsClosed abi_way
 unfolding abi_way
-abi_keeps = record { plain = abi_plain; goes = between_goes; comes = close_good }
+abi_keeps = record { plain = abi_plain; goes = goes_within false; comes = close_good }
 
 pub tree_good : (t : Tree) (x : Sym) (around : Around) (at : ℕ) (state : State) (r : Found (List Value) State) → IsSymbol either x → IsTree either x t → around.encoding ≤ at →
-    (is_encoding x ≡ true → around.encoding < at) → GoodPrefix (Bare around) around.prefix → AllOld around at state.candidates → unfold_tree cpp around at t state ≡ Ok r →
-    TreeComes around (at + length (spell t)) state r
+    (is_encoding x ≡ true → around.encoding < at) → GoodPrefix (Bare false around) around.prefix → AllOld false around at state.candidates → unfold_tree cpp around at t state ≡ Ok r →
+    TreeComes false around (at + length (spell t)) state r
 unfolding cpp reading_by abi_way
 tree_good t = tree_good_by abi_way abi_keeps t
 

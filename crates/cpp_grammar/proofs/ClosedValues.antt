@@ -26,6 +26,14 @@ abbrev pub AllGood : Type 0 → List Value → Type 0
 AllGood s [] = Unit {0}
 AllGood s (v ∷ vs) = Good s (held v) × AllGood s vs
 
+-- what is good where something holds is good where more holds
+pub good_where : (s u : Type 0) (t : Term) → (u → s) → Good s t → Good u t
+good_where s u t less good = record { closed = λ h. good.closed (less h); scopes = good.scopes }
+
+pub all_where : (s u : Type 0) (vs : List Value) → (u → s) → AllGood s vs → AllGood u vs
+all_where s u [] less all = tt
+all_where s u (v ∷ vs) less all = (good_where s u (held v) less all.0, all_where s u vs less all.1)
+
 pub or_no : (a b : Bool) → a ≡ false → b ≡ false → (a || b) ≡ false
 or_no false b e f = f
 or_no true b e f = absurd (true≢false e)
@@ -114,6 +122,10 @@ good_parameters s t g = g
 abbrev pub GoodPrefix : Type 0 → Prefix → Type 0
 GoodPrefix s outermost = Unit {0}
 GoodPrefix s (behind t listed) = Good s t
+
+pub prefix_where : (s u : Type 0) (prefix : Prefix) → (u → s) → GoodPrefix s prefix → GoodPrefix u prefix
+prefix_where s u outermost less good = tt
+prefix_where s u (behind t listed) less good = good_where s u t less good
 
 pub good_extended : (s : Type 0) (prefix : Prefix) (p : Term) → GoodPrefix s prefix → Good s p → Good s (extended prefix p)
 unfolding extended is_open

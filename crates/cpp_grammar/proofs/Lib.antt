@@ -3,6 +3,7 @@ pub mod Alone
 pub mod Letters
 pub mod WideLetters
 pub mod Growing
+pub mod WideRules
 pub mod Widening
 pub mod WidenedMeaning
 pub mod WidenedPlaces
@@ -18,7 +19,7 @@ pub mod ClosedValues
 pub mod ClosedStates
 pub mod ClosedParts
 pub mod ClosedTrees
-pub mod NoGeneric
+pub mod NoneFree
 pub mod Staying
 pub mod RanksFall
 pub mod FewParts

@@ -6,9 +6,9 @@ use Rattle.std.proofs.lemmas.Bool.{false≢true, ltb-true}
 use Rattle.sym_print.specs.declared.detail.Detail.{Detail}
 use Rattle.sym_print.specs.Details.{has_arguments, has_parameters}
 use Rattle.sym_print.specs.Unfold.{PartOf, text, sub, RanksBelow}
-use Rattle.cpp_grammar.specs.Term.{Qualifiers, RefQualifier, Signed, Term, symbol, function, object, special, thunk, of_name, construction, clone, alone, in_std, within, instance, local, holder, tagged, of_default, abbreviation, parameter, source, constructor, destructor, lambda, conversion, sized_float, generic_parameter, pointer, lvalue, rvalue, array, bounded, member_pointer, function_type, qualified, vector, complex, expansion, integer, pack, nil, list, absent}
+use Rattle.cpp_grammar.specs.Term.{Qualifiers, RefQualifier, Signed, Term, symbol, function, object, special, thunk, of_name, construction, clone, alone, in_std, within, instance, local, holder, tagged, of_default, abbreviation, parameter, source, constructor, destructor, lambda, generic_lambda, conversion, sized_float, pointer, lvalue, rvalue, array, bounded, member_pointer, function_type, qualified, vector, complex, expansion, integer, pack, nil, list, absent}
 use Rattle.cpp_grammar.specs.Scope.{element, arguments_of, pack_length, without_tags}
-use Rattle.cpp_grammar.specs.Items.{Form, root, full, bare, left, right, low, base, piece, first, more, expand, Context, Item, indexed, argument, head, is_reference, is_funarr, packs_of, is_empty}
+use Rattle.cpp_grammar.specs.Items.{Form, root, full, bare, left, right, low, base, piece, first, more, expand, Context, Item, indexed, auto, signature_in, argument, head, is_reference, is_funarr, packs_of, is_empty}
 use Rattle.cpp_grammar.specs.Parts.{as_item, says, text_part, list_part, piece_parts, prefix_item, within_parts, instance_parts, marked_parts, reference_parts, qualified_left, blank_last, qualifier_text, expansion_parts, sign_part, is_plain_integer, integer_parts, builtin_code, member_parts, array_left, entity_of, float_parts, left_parts, low_parts, function_right, ref_text, closing_right, qualified_right, right_parts, base_within, base_tagged, base_parts, types_of, encoding_text, function_bare, function_full, full_parts, bare_parts, root_parts, first_parts, more_parts, at_index, is_below, comma_before, expand_rest, expand_parts, parts_in, not_empty, parts, own_piece}
 use Rattle.cpp_grammar.specs.Ranks.{or_none, pack_count, weight, scope_weight, weight_in, rank_in, rank}
 use Rattle.cpp_grammar.specs.Texts.{look_up, literal_endings}
@@ -93,10 +93,18 @@ unfolding weight indexed
 indexed_weight (Some i) (pack elements) = omega (arith, element_weight elements i)
 indexed_weight index t = omega arith
 
-argument_weight : (scope : Option Term) (index : Option ℕ) (k : ℕ) → weight 0 None (argument (record { scope = scope; index = index }) k) < 2 + scope_weight scope
+argument_weight : (c : Context) (k : ℕ) → weight 0 None (argument c k) < 2 + scope_weight c.scope
 unfolding argument scope_weight weight
-argument_weight None index k = omega arith
-argument_weight (Some arguments) index k = omega (arith, indexed_weight index (element arguments k), element_weight arguments k)
+argument_weight c k = scoped c.scope
+  where
+    alone_ : (b : Bool) → weight 0 None (elim b [ true ↦ auto | false ↦ absent ]) < 2
+    alone_ true = omega arith
+    alone_ false = omega arith
+
+    scoped : (scope : Option Term) →
+        weight 0 None (elim scope [ None ↦ elim c.in_signature [ true ↦ auto | false ↦ absent ] | Some arguments ↦ indexed c.index (element arguments k) ]) < 2 + scope_weight scope
+    scoped None = alone_ c.in_signature
+    scoped (Some arguments) = omega (arith, indexed_weight c.index (element arguments k), element_weight arguments k)
 
 arguments_weight : (name : Term) → scope_weight (arguments_of name) ≤ weight 0 None name
 unfolding arguments_of scope_weight weight
@@ -111,9 +119,10 @@ abbrev Below : ℕ → Context → Term → Type 0
 Below r c t = weight_in c t < r
 
 piece_falls : (r : ℕ) (c : Context) (p : Term) → weight_in c p ≤ r → RanksBelow rank r (piece_parts c p)
-unfolding piece_parts rank rank_in weight_in weight
+unfolding piece_parts rank rank_in weight_in scope_weight weight
 piece_falls r c (source internal name) h = tt
 piece_falls r c (lambda parameters number) h = falls_append r (list_part first c parameters) _ (falls_first r c parameters (omega arith)) tt
+piece_falls r c (generic_lambda parameters number) h = falls_append r (list_part first (signature_in c) parameters) _ (falls_first r (signature_in c) parameters (let less : weight 0 None parameters < r = omega (arith, h) in less)) tt
 piece_falls r c (conversion t) h = (omega (arith, h), (omega (arith, h), tt))
 piece_falls r c _ h = tt
 
@@ -194,14 +203,13 @@ left_falls d c (alone p) = piece_falls _ c p (omega arith)
 left_falls d c (within prefix p) = within_falls _ c prefix p (omega arith) (omega arith)
 left_falls d c (instance t arguments) = instance_falls _ (has_arguments d) c t arguments (omega arith) (omega arith)
 left_falls d c (sized_float digits end) = float_falls _ digits end
-left_falls d c (parameter k) = (argument_weight c.scope c.index k, tt)
+left_falls d c (parameter k) = (argument_weight c k, tt)
 left_falls d c (pointer t) = marked_falls _ c t "*" (omega arith)
 left_falls d c (lvalue t) = low_reference_falls _ c t "&" (omega arith)
 left_falls d c (rvalue t) = left_reference_falls _ c t "&&" (omega arith)
 left_falls d c (array digits t) = array_falls _ c t (omega arith)
 left_falls d c (bounded bound t) = array_falls _ c t (omega arith)
 left_falls d c (member_pointer class t) = member_falls _ c class t (omega arith) (omega arith)
-left_falls d c (generic_parameter number) = (omega arith, tt)
 left_falls d c (qualified q t) = qualified_falls _ c q t (omega arith)
 left_falls d c (expansion t) = expansion_falls c t (packs_of c t)
 left_falls d c (pack elements) = falls_first _ c elements (omega arith)
@@ -214,7 +222,7 @@ unfolding low_parts rank rank_in weight_in weight scope_weight
 low_falls d c (lvalue t) = low_reference_falls _ c t "&" (omega arith)
 low_falls d c (rvalue t) = low_reference_falls _ c t "&" (omega arith)
 low_falls d c (qualified q t) = (omega arith, tt)
-low_falls d c (parameter k) = (argument_weight c.scope c.index k, tt)
+low_falls d c (parameter k) = (argument_weight c k, tt)
 low_falls d c t = left_falls d c t
 
 function_right_falls : (r : ℕ) (c : Context) (q : List ℕ) (ref : RefQualifier) (noexcept : Bool) (returned parameters : Term) → Below r c returned → Below r c parameters →
@@ -244,9 +252,8 @@ right_falls c (member_pointer class t) = closing_falls _ c t (omega arith)
 right_falls c (array digits t) = falls_append _ (says "[" ∷ text_part digits) _ (falls_text _ digits) (omega arith, tt)
 right_falls c (bounded bound t) = (omega arith, (omega arith, tt))
 right_falls c (function_type c_linkage noexcept ref returned parameters) = function_right_falls _ c [] ref noexcept returned parameters (omega arith) (omega arith)
-right_falls c (generic_parameter number) = (omega arith, tt)
 right_falls c (qualified q t) = qualified_right_falls c q t
-right_falls c (parameter k) = (argument_weight c.scope c.index k, tt)
+right_falls c (parameter k) = (argument_weight c k, tt)
 right_falls c _ = first_of (assumption tt, grind arith)
 
 base_within_falls : (r : ℕ) (c : Context) (prefix p : Term) → Below r c prefix → Below r c p → RanksBelow rank r (base_within c prefix p)
@@ -282,7 +289,7 @@ base_falls d c (local encoding entity discriminator) = (omega (arith, entity_wei
 base_falls d c (holder name) = (omega arith, tt)
 base_falls d c (tagged of_structor name tag) = base_tagged_falls _ c of_structor name (omega arith)
 base_falls d c (abbreviation letter) = tt
-base_falls d c (parameter k) = (argument_weight c.scope c.index k, tt)
+base_falls d c (parameter k) = (argument_weight c k, tt)
 base_falls d c t = left_falls d c t
 
 -- the types of an encoding weigh less than it
@@ -353,10 +360,10 @@ below_some i None e = absurd (false≢true e)
 below_some i (Some m) e = ltb-true i m e
 
 -- an index that is below the length of the packs
-below_count : (scope : Option Term) (index : Option ℕ) (t : Term) (i : ℕ) → is_below i (packs_of (record { scope = scope; index = index }) t) ≡ true → i < pack_count scope t
+below_count : (scope : Option Term) (index : Option ℕ) (in_signature : Bool) (t : Term) (i : ℕ) → is_below i (packs_of (record { scope = scope; index = index; in_signature = in_signature }) t) ≡ true → i < pack_count scope t
 unfolding packs_of pack_count is_below
-below_count None index t i e = absurd (false≢true e)
-below_count (Some arguments) index t i e = below_some i (pack_length arguments t) e
+below_count None index in_signature t i e = absurd (false≢true e)
+below_count (Some arguments) index in_signature t i e = below_some i (pack_length arguments t) e
 
 rest_falls : (c : Context) (t : Term) (i : ℕ) → RanksBelow rank (rank_in c (expand i) t) (expand_rest c t (i + 1))
 unfolding rank_in expand_rest rank
@@ -364,7 +371,7 @@ rest_falls c t i = go (is_below (i + 1) (packs_of c t)) refl
   where
     go : (b : Bool) → is_below (i + 1) (packs_of c t) ≡ b →
         RanksBelow rank (1 + weight_in c t + (pack_count c.scope t - i)) (elim b [ true ↦ as_item (expand (i + 1)) c t ∷ [] | false ↦ [] ])
-    go true e = (omega (arith, below_count c.scope c.index t (i + 1) e), tt)
+    go true e = (omega (arith, below_count c.scope c.index c.in_signature t (i + 1) e), tt)
     go false e = tt
 
 expand_falls : (c : Context) (t : Term) (i : ℕ) → RanksBelow rank (rank_in c (expand i) t) (expand_parts c t i)

@@ -7,16 +7,16 @@ use Rattle.cpp_grammar.proofs.Row.{Row, prints, refers_badly}
 use Rattle.cpp_grammar.specs.Grammar.{in_ranges, among, is_in, pick, number_of_kind, alternatives, choose, parts_of, is_chain, may_be_empty, kinds, productions, number_of}
 use Rattle.cpp_grammar.specs.Table.{padded, rule_of}
 use Rattle.cpp_grammar.specs.Values.{prefix_tree, prefix_listed, tree_of, piece_of, is_listed, qualifiers_of, ref_of, letter_of, is_there, mark_of, text_of, signed_of, adjustment_of, normal, is_zero, signed_digits, local_number, part}
-use Rattle.cpp_grammar.specs.Scope.{count, element, is_generic, arguments_of, before_arguments, is_structor, has_return_type, is_open, first_of, length_if_pack, pack_length}
+use Rattle.cpp_grammar.specs.Scope.{both_free, free_in, count, element, arguments_of, before_arguments, is_structor, has_return_type, is_open, first_of, length_if_pack, pack_length}
 use Rattle.cpp_grammar.specs.References.{appended, is_function_type, with_type, with_unqualified, with_prefix, with_packs, packs_in, substituted, parameter_named}
 use Rattle.cpp_grammar.specs.Between.{in_name, in_types, in_signature, under_expansion, after, inside, extended, applied, no_items, named_so_far, listed_so_far, piece_so_far, parameter_so_far, index_of, between}
 use Rattle.cpp_grammar.specs.Meaning.{is_void, is_nil, parameters, encoding_of, qualified_by, listed_value, discriminator_of, function_of, with_item, reference_to, signature_or, operator_or_literal, meaning}
-use Rattle.cpp_grammar.specs.Unfolding.{last_token, number_tested, opening, behind, close, production_at, byte_of, cpp, first_around, first_state, first_tree}
+use Rattle.cpp_grammar.specs.Unfolding.{last_token, number_tested, opening, behind, close, production_at, byte_of, first_around, first_state, first_tree}
 use Rattle.cpp_grammar.specs.Texts.{same_bytes, look_up, builtin_texts, operator_texts, abbreviation_texts, special_texts, named_special_texts, literal_endings}
 use Rattle.cpp_grammar.specs.Items.{indexed, argument, collapsed, head_with, head_closed, head, is_reference, is_funarr, packs_of, is_none_of, is_empty}
 use Rattle.cpp_grammar.specs.Parts.{text_part, list_part, qualifier_text, ref_text, blank_last, begins_with, source_text, piece_parts, prefix_item, within_parts, last_piece, opening_text, instance_parts, marked_parts, reference_parts, qualified_left, expansion_parts, sign_part, is_plain_integer, builtin_code, integer_parts, member_parts, array_left, entity_of, left_parts, low_parts, function_right, closing_right, qualified_right, right_parts, base_within, base_parts, types_of, encoding_text, function_bare, function_full, thunk_text, full_parts, bare_parts, root_parts, first_parts, more_parts, at_index, is_below, comma_before, expand_rest, expand_parts, parts_in, not_empty, parts}
 use Rattle.cpp_grammar.specs.Ranks.{or_none, pack_count, weight, scope_weight, weight_in, rank_in, rank}
-use Rattle.cpp_grammar.specs.Rescoping.{generic_number, generic_so_far, parameter_here, is_foreign, number_of_parameter, number_behind_mark, with_parameter, in_scope, restated, substituted_wide, between_wide, close_wide, cpp_wide, unfold_wide}
+use Rattle.cpp_grammar.specs.Rescoping.{generic_number, generic_so_far, parameter_here, is_foreign, lambda_with, with_own, in_scope, with_free, restated, substituted_wide, between_wide, close_wide, cpp_wide, unfold_wide}
 use Rattle.cpp_grammar.proofs.Reader.{Seen, no_shape, front_digits, is_length_form, number_at, are_name_bytes, is_own, name_at, seen_tree, shape_of, read_kind, read_symbol, read_all}
 use Rattle.cpp_grammar.proofs.Row.{same_refusal, same_seen}
 
@@ -48,8 +48,63 @@ rows_0 =
     refers_badly "_Z1gZ1fIcEvPT_EUliE_S1_" 20 ∷
     prints "_Z1fIiEvT_" "void f<int>(int)" 30 ∷
     refers_badly "_Z1fS_" 4 ∷
+    prints "_Z5outerI1WIZ5innerIcEvPT_EUliE_EEvOS2_i" "void outer<W<inner<char>(char*)::{lambda(int)#1}>>(W<inner<char>(char*)::{lambda(int)#1}>&&, int)" 160 ∷
+    prints "_Z1gIZ1fIcEv1AIPT_EEUliE_EvS1_" "void g<f<char>(A<char*>)::{lambda(int)#1}>(A)" 79 ∷
+    prints "_Z1gIZ1fIcEv1AIT_T_EEUliE_EvOS1_" "void g<f<char>(A<char, char>)::{lambda(int)#1}>(A&&)" 91 ∷
+    prints "_Z1gIZ1fIicEv1AIT_T0_EEUliE_EvS1_" "void g<f<int, char>(A<int, char>)::{lambda(int)#1}>(A)" 94 ∷
+    prints "_Z1gIZ1fIicEv1AIT_T0_EEUliE_EvUlS1_E_" "void g<f<int, char>(A<int, char>)::{lambda(int)#1}>({lambda(A)#1})" 109 ∷
+    refers_badly "_Z1fIiEvUlPFT_T0_EE_S1_" 20 ∷
+    prints "_Z1fIicEvUlPFT0_T0_EE_S1_" "void f<int, char>({lambda(auto (*)(auto))#1}, char)" 85 ∷
+    prints "_Z1fIiEvFT_PT_EUlS1_E_" "void f<int>(int (int*), {lambda(auto)#1})" 72 ∷
+    prints "_Z1fIiEvUlUlT_E_T_E_S1_" "void f<int>({lambda({lambda(auto)#1}, auto)#1}, {lambda(auto)#1})" 98 ∷
+    prints "_Z1gIJZ1fIJicEEv1AIDpT_EEUlvE_EEvS1_" "void g<f<int, char>(A<int, char>)::{lambda()#1}>(A)" 97 ∷
+    prints "_Z1gIZ1fIJicEEvDpPT_EUlvE_EvDpS1_" "void g<f<int, char>(int*, char*)::{lambda()#1}>(f<int, char>(int*, char*)::{lambda()#1}...)" 169 ∷
+    prints "_Z1gIRZ1fIOcEvOT_EUliE_EvOS1_" "void g<f<char&&>(char&&)::{lambda(int)#1}&>(char&&)" 91 ∷
+    prints "_Z1gIA3_Z1fIcEvPT_EUliE_EvPS1_" "void g<f<char>(char*)::{lambda(int)#1} [3]>(f<char>(char*)::{lambda(int)#1} (*)[3])" 139 ∷
+    prints "_Z1gIZ1fIcEv1AIPT_EEUliE_EvS2_" "void g<f<char>(A<char*>)::{lambda(int)#1}>(f<char>(A<char*>)::{lambda(int)#1})" 136 ∷
+    prints "_Z1gIZ1fIcEv1AIT_T_EEUliE_EvOS2_" "void g<f<char>(A<char, char>)::{lambda(int)#1}>(f<char>(A<char, char>)::{lambda(int)#1}&&)" 156 ∷
+    prints "_Z1gIZ1fIicEv1AIT_T0_EEUliE_EvS2_" "void g<f<int, char>(A<int, char>)::{lambda(int)#1}>(f<int, char>(A<int, char>)::{lambda(int)#1})" 166 ∷
+    prints "_Z1gIZ1fIicEv1AIT_T0_EEUliE_EvUlS2_E_" "void g<f<int, char>(A<int, char>)::{lambda(int)#1}>({lambda(auto)#1})" 114 ∷
+    refers_badly "_Z1fIiEvUlPFT_T0_EE_S2_" 20 ∷
+    prints "_Z1fIicEvUlPFT0_T0_EE_S2_" "void f<int, char>({lambda(auto (*)(auto))#1}, char (char))" 99 ∷
+    prints "_Z1fIiEvFT_PT_EUlS2_E_" "void f<int>(int (int*), {lambda(auto*)#1})" 75 ∷
+    prints "_Z1fIiEvUlUlT_E_T_E_S2_" "void f<int>({lambda({lambda(auto)#1}, auto)#1}, int)" 82 ∷
+    refers_badly "_Z1gIJZ1fIJicEEv1AIDpT_EEUlvE_EEvS2_" 33 ∷
+    prints "_Z1gIZ1fIJicEEvDpPT_EUlvE_EvDpS2_" "void g<f<int, char>(int*, char*)::{lambda()#1}>(f<int, char>(int*, char*)::{lambda()#1}*...)" 172 ∷
+    prints "_Z1gIRZ1fIOcEvOT_EUliE_EvOS2_" "void g<f<char&&>(char&&)::{lambda(int)#1}&>(f<char&&>(char&&)::{lambda(int)#1}&)" 144 ∷
+    prints "_Z1gIA3_Z1fIcEvPT_EUliE_EvPS2_" "void g<f<char>(char*)::{lambda(int)#1} [3]>(f<char>(char*)::{lambda(int)#1} (**)[3])" 142 ∷
+    prints "_Z1gIZ1fIcEv1AIPT_EEUliE_EvS3_" "void g<f<char>(A<char*>)::{lambda(int)#1}>(f<char>(A<char*>)::{lambda(int)#1}*)" 139 ∷
+    prints "_Z1gIZ1fIcEv1AIT_T_EEUliE_EvOS3_" "void g<f<char>(A<char, char>)::{lambda(int)#1}>(f<char>(A<char, char>)::{lambda(int)#1}&&)" 156 ∷
+    refers_badly "_Z1gIZ1fIicEv1AIT_T0_EEUliE_EvS3_" 30 ∷
+    prints "_Z1gIZ1fIicEv1AIT_T0_EEUliE_EvUlS3_E_" "void g<f<int, char>(A<int, char>)::{lambda(int)#1}>({lambda(auto)#1})" 114 ∷
+    refers_badly "_Z1fIiEvUlPFT_T0_EE_S3_" 20 ∷
+    prints "_Z1fIicEvUlPFT0_T0_EE_S3_" "void f<int, char>({lambda(auto (*)(auto))#1}, char (*)(char))" 104 ∷
+    prints "_Z1fIiEvFT_PT_EUlS3_E_" "void f<int>(int (int*), {lambda(auto (auto*))#1})" 89 ∷
+    prints "_Z1fIiEvUlUlT_E_T_E_S3_" "void f<int>({lambda({lambda(auto)#1}, auto)#1}, {lambda({lambda(auto)#1}, auto)#1})" 124 ∷
+    prints "_Z1gIJZ1fIJicEEv1AIDpT_EEUlvE_EEvS3_" "void g<f<int, char>(A<int, char>)::{lambda()#1}>(f<int, char>(A<int, char>)::{lambda()#1})" 172 ∷
+    prints "_Z1gIZ1fIJicEEvDpPT_EUlvE_EvDpS3_" "void g<f<int, char>(int*, char*)::{lambda()#1}>(f<int, char>(int*, char*)::{lambda()#1}*......)" 177 ∷
+    prints "_Z1gIRZ1fIOcEvOT_EUliE_EvOS3_" "void g<f<char&&>(char&&)::{lambda(int)#1}&>(f<char&&>(char&&)::{lambda(int)#1}&)" 146 ∷
+    prints "_Z1gIA3_Z1fIcEvPT_EUliE_EvPS3_" "void g<f<char>(char*)::{lambda(int)#1} [3]>(f<char>(char*)::{lambda(int)#1}*)" 129 ∷
+    prints "_Z1gIZ1fIcEv1AIPT_EEUliE_EvS4_" "void g<f<char>(A<char*>)::{lambda(int)#1}>(A<f<char>(A<char*>)::{lambda(int)#1}*>)" 146 ∷
+    prints "_Z1gIZ1fIcEv1AIT_T_EEUliE_EvOS4_" "void g<f<char>(A<char, char>)::{lambda(int)#1}>(A<f<char>(A<char, char>)::{lambda(int)#1}, f<char>(A<char, char>)::{lambda(int)#1}>&&)" 234 ∷
+    refers_badly "_Z1gIZ1fIicEv1AIT_T0_EEUliE_EvS4_" 30 ∷
+    prints "_Z1gIZ1fIicEv1AIT_T0_EEUliE_EvUlS4_E_" "void g<f<int, char>(A<int, char>)::{lambda(int)#1}>({lambda(A<auto, auto>)#1})" 132 ∷
+    prints "_Z1fIiEvUlPFT_T0_EE_S4_" "void f<int>({lambda(auto (*)(auto))#1}, {lambda(auto (*)(auto))#1})" 110 ∷
+    prints "_Z1fIicEvUlPFT0_T0_EE_S4_" "void f<int, char>({lambda(auto (*)(auto))#1}, {lambda(auto (*)(auto))#1})" 119 ∷
+    refers_badly "_Z1fIiEvFT_PT_EUlS4_E_" 17 ∷
+    refers_badly "_Z1fIiEvUlUlT_E_T_E_S4_" 20 ∷
+    prints "_Z1gIJZ1fIJicEEv1AIDpT_EEUlvE_EEvS4_" "void g<f<int, char>(A<int, char>)::{lambda()#1}>(A<f<int, char>(A<int, char>)::{lambda()#1}>)" 179 ∷
+    prints "_Z1gIZ1fIJicEEvDpPT_EUlvE_EvDpS4_" "void g<f<int, char>(int*, char*)::{lambda()#1}>(f<int, char>(int*, char*)::{lambda()#1}...)" 167 ∷
+    prints "_Z1gIRZ1fIOcEvOT_EUliE_EvOS4_" "void g<f<char&&>(char&&)::{lambda(int)#1}&>(f<char&&>(char&&)::{lambda(int)#1}&&)" 141 ∷
+    prints "_Z1gIA3_Z1fIcEvPT_EUliE_EvPS4_" "void g<f<char>(char*)::{lambda(int)#1} [3]>(f<char>(char*)::{lambda(int)#1} (*)[3])" 137 ∷
+    prints "_Z1gIZ1fIcEv1AIPT_EEUliE_EvS5_" "void g<f<char>(A<char*>)::{lambda(int)#1}>(f<char>(A<char*>)::{lambda(int)#1})" 134 ∷
+    prints "_Z1gIZ1fIcEv1AIT_T_EEUliE_EvOS5_" "void g<f<char>(A<char, char>)::{lambda(int)#1}>(f<char>(A<char, char>)::{lambda(int)#1}&&)" 154 ∷
+    prints "_Z1gIZ1fIicEv1AIT_T0_EEUliE_EvS5_" "void g<f<int, char>(A<int, char>)::{lambda(int)#1}>(f<int, char>(A<int, char>)::{lambda(int)#1})" 164 ∷
+    prints "_Z1gIZ1fIicEv1AIT_T0_EEUliE_EvUlS5_E_" "void g<f<int, char>(A<int, char>)::{lambda(int)#1}>({lambda(f<int, char>(A<int, char>)::{lambda(int)#1})#1})" 179 ∷
+    prints "_Z1gIJZ1fIJicEEv1AIDpT_EEUlvE_EEvS5_" "void g<f<int, char>(A<int, char>)::{lambda()#1}>(f<int, char>(A<int, char>)::{lambda()#1})" 167 ∷
+    prints "_Z1gIRZ1fIOcEvOT_EUliE_EvOS5_" "void g<f<char&&>(char&&)::{lambda(int)#1}&>(f<char&&>(char&&)::{lambda(int)#1}&)" 142 ∷
     []
 
 right_0 : are_right_wide rows_0 ≡ true
-unfolding digits printed_to printed in_ranges among is_in pick number_of_kind alternatives choose parts_of is_chain may_be_empty kinds productions number_of padded rule_of prefix_tree prefix_listed tree_of piece_of is_listed qualifiers_of ref_of letter_of is_there mark_of text_of signed_of adjustment_of normal is_zero signed_digits local_number part count element arguments_of before_arguments is_structor has_return_type is_open first_of length_if_pack pack_length appended is_function_type with_type with_unqualified with_prefix with_packs packs_in substituted parameter_named in_name in_types in_signature under_expansion after inside extended applied no_items named_so_far listed_so_far piece_so_far parameter_so_far index_of between is_void is_nil parameters encoding_of qualified_by listed_value discriminator_of function_of with_item reference_to signature_or operator_or_literal meaning last_token number_tested opening behind close production_at byte_of first_around first_state first_tree same_bytes look_up builtin_texts operator_texts abbreviation_texts special_texts named_special_texts literal_endings indexed argument collapsed head_with head_closed head is_reference is_funarr packs_of is_none_of is_empty text_part list_part qualifier_text ref_text blank_last begins_with source_text piece_parts prefix_item within_parts last_piece opening_text instance_parts marked_parts reference_parts qualified_left expansion_parts sign_part is_plain_integer builtin_code integer_parts member_parts array_left entity_of left_parts low_parts function_right closing_right qualified_right right_parts base_within base_parts types_of encoding_text function_bare function_full thunk_text full_parts bare_parts root_parts first_parts more_parts at_index is_below comma_before expand_rest expand_parts parts_in not_empty parts or_none pack_count weight scope_weight weight_in rank_in rank front_digits is_length_form number_at are_name_bytes is_own name_at seen_tree shape_of read_kind read_symbol read_all same_refusal same_seen is_generic generic_number generic_so_far parameter_here is_foreign number_of_parameter number_behind_mark with_parameter in_scope restated substituted_wide between_wide close_wide cpp_wide unfold_wide see_wide are_right_wide
+unfolding digits printed_to printed in_ranges among is_in pick number_of_kind alternatives choose parts_of is_chain may_be_empty kinds productions number_of padded rule_of prefix_tree prefix_listed tree_of piece_of is_listed qualifiers_of ref_of letter_of is_there mark_of text_of signed_of adjustment_of normal is_zero signed_digits local_number part count element arguments_of before_arguments is_structor has_return_type is_open first_of length_if_pack pack_length appended is_function_type with_type with_unqualified with_prefix with_packs packs_in substituted parameter_named in_name in_types in_signature under_expansion after inside extended applied no_items named_so_far listed_so_far piece_so_far parameter_so_far index_of between is_void is_nil parameters encoding_of qualified_by listed_value discriminator_of function_of with_item reference_to signature_or operator_or_literal meaning last_token number_tested opening behind close production_at byte_of first_around first_state first_tree same_bytes look_up builtin_texts operator_texts abbreviation_texts special_texts named_special_texts literal_endings indexed argument collapsed head_with head_closed head is_reference is_funarr packs_of is_none_of is_empty text_part list_part qualifier_text ref_text blank_last begins_with source_text piece_parts prefix_item within_parts last_piece opening_text instance_parts marked_parts reference_parts qualified_left expansion_parts sign_part is_plain_integer builtin_code integer_parts member_parts array_left entity_of left_parts low_parts function_right closing_right qualified_right right_parts base_within base_parts types_of encoding_text function_bare function_full thunk_text full_parts bare_parts root_parts first_parts more_parts at_index is_below comma_before expand_rest expand_parts parts_in not_empty parts or_none pack_count weight scope_weight weight_in rank_in rank front_digits is_length_form number_at are_name_bytes is_own name_at seen_tree shape_of read_kind read_symbol read_all same_refusal same_seen both_free free_in generic_number generic_so_far parameter_here is_foreign lambda_with with_own in_scope with_free restated substituted_wide between_wide close_wide cpp_wide unfold_wide see_wide are_right_wide
 right_0 = refl

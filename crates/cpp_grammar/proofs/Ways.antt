@@ -10,7 +10,9 @@ use Rattle.cpp_grammar.specs.Between.{Going, between}
 use Rattle.cpp_grammar.specs.Unfolding.{opening, close, production_at, byte_of}
 use Rattle.cpp_grammar.specs.Rescoping.{between_wide, close_wide}
 
+-- `own` says whether the parameters in a lambda's signature are the lambda's own
 pub record Way : Type 0 where
+  pub own : Bool
   pub between : Production → Around → (place : ℕ) → List Value → State → Going
   pub close : Production → (byte : ℕ) → Around → (place : ℕ) → (began : State) → List Value → State → Result (Found Value State) Refusal
 
@@ -24,33 +26,41 @@ reading_by w = record {
 }
 
 unfoldable pub abi_way : Way
-abi_way = record { between = between; close = close }
+abi_way = record { own = false; between = between; close = close }
 
 unfoldable pub wide_way : Way
-wide_way = record { between = between_wide; close = close_wide }
+wide_way = record { own = true; between = between_wide; close = close_wide }
 
--- the productions of references, in which alone they differ
-unfoldable pub is_reference : Production → Bool
-is_reference Production.Parameter = true
-is_reference Production.NestParameter = true
-is_reference Production.Substitution = true
-is_reference Production.ParameterArgument = true
-is_reference Production.ParameterExpression = true
-is_reference Production.BoundedArray = true
-is_reference _ = false
+-- the productions in which alone they differ: those of references, and lambdas
+unfoldable pub differs : Production → Bool
+differs Production.Lambda = true
+differs Production.Parameter = true
+differs Production.NestParameter = true
+differs Production.Substitution = true
+differs Production.ParameterArgument = true
+differs Production.ParameterExpression = true
+differs Production.BoundedArray = true
+differs _ = false
+
+-- the productions whose parts stand in a signature: lambdas, and what is declared of an argument
+unfoldable pub has_signature : Production → Bool
+has_signature Production.Lambda = true
+has_signature Production.ValueOf = true
+has_signature Production.OfConcept = true
+has_signature _ = false
 
 -- all others go as in the reading of the ABI's grammar
 pub record IsPlain (w : Way) : Type 0 where
-  pub between : (p : Production) → is_reference p ≡ false → (around : Around) (place : ℕ) (vs : List Value) (state : State) → w.between p around place vs state ≡ between p around place vs state
-  pub close : (p : Production) → is_reference p ≡ false → (byte : ℕ) (around : Around) (place : ℕ) (began : State) (vs : List Value) (state : State) →
+  pub between : (p : Production) → differs p ≡ false → (around : Around) (place : ℕ) (vs : List Value) (state : State) → w.between p around place vs state ≡ between p around place vs state
+  pub close : (p : Production) → differs p ≡ false → (byte : ℕ) (around : Around) (place : ℕ) (began : State) (vs : List Value) (state : State) →
       w.close p byte around place began vs state ≡ close p byte around place began vs state
 
 pub abi_plain : IsPlain abi_way
 unfolding abi_way
 abi_plain = record { between = λ p apart around place vs state. refl; close = λ p apart byte around place began vs state. refl }
 
-plain_between : (p : Production) → is_reference p ≡ false → (around : Around) (place : ℕ) (vs : List Value) (state : State) → between_wide p around place vs state ≡ between p around place vs state
-unfolding is_reference between_wide
+plain_between : (p : Production) → differs p ≡ false → (around : Around) (place : ℕ) (vs : List Value) (state : State) → between_wide p around place vs state ≡ between p around place vs state
+unfolding differs between_wide
 plain_between Production.Parameter apart around place vs state = absurd (true≢false apart)
 plain_between Production.NestParameter apart around place vs state = absurd (true≢false apart)
 plain_between Production.ParameterArgument apart around place vs state = absurd (true≢false apart)
@@ -58,10 +68,11 @@ plain_between Production.ParameterExpression apart around place vs state = absur
 plain_between Production.BoundedArray apart around place vs state = absurd (true≢false apart)
 plain_between _ apart around place vs state = refl
 
-plain_close : (p : Production) → is_reference p ≡ false → (byte : ℕ) (around : Around) (place : ℕ) (began : State) (vs : List Value) (state : State) →
+plain_close : (p : Production) → differs p ≡ false → (byte : ℕ) (around : Around) (place : ℕ) (began : State) (vs : List Value) (state : State) →
     close_wide p byte around place began vs state ≡ close p byte around place began vs state
-unfolding is_reference close_wide
+unfolding differs close_wide
 plain_close Production.Substitution apart byte around place began vs state = absurd (true≢false apart)
+plain_close Production.Lambda apart byte around place began vs state = absurd (true≢false apart)
 plain_close _ apart byte around place began vs state = refl
 
 pub wide_plain : IsPlain wide_way

@@ -25,7 +25,8 @@ use Rattle.cpp_grammar.specs.Meaning.{meaning}
 use Rattle.cpp_grammar.specs.Unfolding as unfolding_
 use Rattle.cpp_grammar.specs.Unfolding.{last_token, number_tested, opening, close, production_at, byte_of, cpp, first_around, first_state, first_tree, unfold_cpp}
 use Rattle.cpp_grammar.specs.Widened.{Change, with_rest, within_name, with_g, with_t, with_x, with_a, with_item, unchanged, rest_or_end, with_rest_or_end, letters_component, operator_component, variable_with_g, type_without_tags, address_as_expression, array_behind_letter, plain_argument, as_argument, argument_behind, change_of, changed, widened_branch, widened_as, widened_all, widened}
-use Rattle.cpp_grammar.proofs.Widening.{arguments_rule, next_rule, rest_rule, takes_its, as_wide, aside, behind_s, of_operator, of_variable, in_std_, of_array, of_item, IsItem, item_argument, item_element, item_parts, Typed, plain_item, other_item, typed, spell_argument, Solid, of_parameter, of_other, solid, no_empty_solid, of_address, IsAddress, in_arguments, in_packs, address_parts, chosen_rule, with_c, without_c, operator_rule, without_c_letters, same_branch, spell_as, widened_trees, either_symbols, either_start}
+use Rattle.cpp_grammar.proofs.WideRules.{rest_rule, takes_its, as_wide, aside, behind_s, of_operator, of_variable, in_std_, of_array, of_item, IsItem, item_argument, item_element, of_address, IsAddress, in_arguments, in_packs, chosen_rule, operator_rule, without_c_letters, either_symbols, arguments_rule, next_rule, with_c, without_c}
+use Rattle.cpp_grammar.proofs.Widening.{item_parts, plain_item, other_item, typed, spell_argument, of_parameter, of_other, solid, no_empty_solid, address_parts, same_branch, spell_as, widened_trees, either_start}
 
 -- ## A tree has one value
 

@@ -141,9 +141,11 @@ between Production.Lambda around place vs state = next vs (in_signature around) 
 -- types
 between Production.Expansion around place vs state = next vs (under_expansion around) (record state { packs = None })
 between Production.Parameter around place (v ∷ []) state = parameter_so_far around place (index_of v) [] state
--- a parameter behind the T, and what is declared of an argument, in which parameters are those of no encoding, as in a lambda's signature
+-- a parameter behind the T
 between Production.ParameterArgument around place (v ∷ []) state = parameter_so_far around (place - 1) (index_of v) [] state
-between Production.DeclaredArgument around place [] state = next [] (in_signature around) state
+-- in what is declared of an argument parameters are those of no encoding, as in a lambda's signature
+between Production.ValueOf around place vs state = next vs (in_signature around) state
+between Production.OfConcept around place vs state = next vs (in_signature around) state
 between Production.ParameterExpression around place (v ∷ []) state = argument_so_far around place (index_of v) state
 between Production.BoundedArray around place (v ∷ []) state = argument_so_far around place (index_of v) state
 between Production.TaggedStdType around place (v ∷ []) state = named_so_far around (in_std (piece_of v)) [] state

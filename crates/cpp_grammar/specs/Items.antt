@@ -1,6 +1,6 @@
 -- What is printed: a tree in a form and a context, and what must be known of it: heads of types, packs, empty elements.
-use Rattle.std.specs.Prelude.{ℕ, Bool, true, false, ◌&&◌, nat_eq, Option, Some, None}
-use Rattle.cpp_grammar.specs.Term.{Term, parameter, lvalue, rvalue, array, bounded, function_type, qualified, expansion, pack, nil, list, absent}
+use Rattle.std.specs.Prelude.{ℕ, List, [], ◌∷◌, Bool, true, false, ◌&&◌, nat_eq, Option, Some, None}
+use Rattle.cpp_grammar.specs.Term.{Term, parameter, builtin, lvalue, rvalue, array, bounded, function_type, qualified, expansion, pack, nil, list, absent}
 use Rattle.cpp_grammar.specs.Scope.{element, pack_length}
 
 -- ## Items
@@ -21,10 +21,12 @@ pub data Form : Type 0 where
   more : Form
   expand : ℕ → Form
 
--- where a tree is printed: the arguments that its parameters name, and the index into their packs
+-- where a tree is printed: the arguments that its parameters name, the index into their packs, and whether it stands in the
+-- signature of a lambda that has parameters of its own
 pub record Context : Type 0 where
   pub scope : Option Term
   pub index : Option ℕ
+  pub in_signature : Bool
 
 -- a tree in a form; of a list the elements from here on
 pub record Item : Type 0 where
@@ -35,16 +37,27 @@ pub record Item : Type 0 where
 -- ## Contexts and heads
 
 abbrev pub closed : Context
-closed = record { scope = None; index = None }
+closed = record { scope = None; index = None; in_signature = false }
+
+-- in the signature of a lambda that has parameters of its own, which stands in this context
+abbrev pub signature_in : Context → Context
+signature_in context = record { scope = None; index = context.index; in_signature = true }
 
 -- of a pack its element at the index
 unfoldable pub indexed : Option ℕ → Term → Term
 indexed (Some i) (pack elements) = element elements i
 indexed index t = t
 
+-- what a lambda's own parameter is printed as: the builtin type auto
+abbrev pub auto : Term
+auto = builtin (68 ∷ 97 ∷ [])
+
 -- the argument that a parameter stands for; in a tree of a symbol each parameter has one
 unfoldable pub argument : Context → ℕ → Term
-argument context k = elim context.scope [ None ↦ absent | Some arguments ↦ indexed context.index (element arguments k) ]
+argument context k = elim context.scope [
+  | None ↦ elim context.in_signature [ true ↦ auto | false ↦ absent ]
+  | Some arguments ↦ indexed context.index (element arguments k)
+]
 
 pub data Head : Type 0 where
   plain_head : Head

@@ -1,6 +1,6 @@
 -- The reading of the wide grammar (ABI 5.1.8, 5.1.10). It differs from that of the ABI's grammar in the parameters of a lambda's
--- signature, which are the lambda's own, and in substitutions of trees whose parameter isn't the one that is meant where they are
--- named.
+-- signature, which are the lambda's own, and in substitutions of trees that were made where their parameters mean others than those
+-- that are meant where they are named.
 use Rattle.std.specs.Prelude.{ℕ, ◌-◌, ◌^◌, List, [], ◌∷◌, Bool, true, false, not, ◌||◌, ◌&&◌, nat_eq, nat_lt, cond, slice_get, Option, Some, None, Result, Ok, Err}
 use Rattle.sym_core.specs.declared.refusal.Refusal.{Refusal}
 use Rattle.sym_core.specs.declared.refusal.Refusal.TheVariants.{BadReference}
@@ -10,11 +10,12 @@ use Rattle.sym_shape.specs.Tree.{Tree}
 use Rattle.sym_link.specs.Reading.{Found, Reading, ◌>>=◌}
 use Rattle.sym_link.specs.Unfold.{found, unfold_tree}
 use Rattle.cpp_grammar.specs.declared.production.Production.{Production}
-use Rattle.cpp_grammar.specs.Term.{Term, parameter, generic_parameter, pointer, lvalue, rvalue, qualified}
-use Rattle.cpp_grammar.specs.Scope.{count, element, is_open, is_generic, length_if_pack}
-use Rattle.cpp_grammar.specs.Values.{Candidate, State, Around, Value, nothing_there, tree, text, text_of, part}
+use Rattle.cpp_grammar.specs.Term.{Term, parameter, lambda, generic_lambda}
+use Rattle.cpp_grammar.specs.Scope.{count, is_open, Free, none_free, one_free, several_free, free_in, pack_length}
+use Rattle.cpp_grammar.specs.Values.{Candidate, State, Around, Value, nothing_there, tree, piece, text, text_of, part}
 use Rattle.cpp_grammar.specs.References.{appended, with_packs, substituted}
 use Rattle.cpp_grammar.specs.Between.{Going, next, listed_so_far, parameter_so_far, argument_so_far, index_of, between}
+use Rattle.cpp_grammar.specs.Meaning.{meaning}
 use Rattle.cpp_grammar.specs.Unfolding.{opening, close, production_at, byte_of, first_around, first_state, first_tree}
 
 -- ## Parameters
@@ -25,7 +26,7 @@ generic_number k = cond (nat_lt k (2 ^ 32)) k (2 ^ 32 - 1)
 
 -- a parameter of the lambda in whose signature it stands is good whatever its number, and a candidate
 unfoldable pub generic_so_far : Around → ℕ → List Value → State → Going
-generic_so_far around k vs state = listed_so_far around (generic_parameter (generic_number k)) vs (appended around (generic_parameter (generic_number k)) state)
+generic_so_far around k vs state = listed_so_far around (parameter (generic_number k)) vs (appended around (parameter (generic_number k)) state)
 
 -- in a signature a parameter is the lambda's own, and elsewhere one of the encoding around it
 unfoldable pub parameter_here : Around → (place : ℕ) → ℕ → List Value → State → Going
@@ -37,57 +38,46 @@ parameter_here around place k vs state = elim around.in_lambda [
 -- so is a parameter that is an argument itself, or the length of an array, which is no candidate
 unfoldable pub argument_here : Around → (place : ℕ) → ℕ → State → Going
 argument_here around place k state = elim around.in_lambda [
-  | true ↦ next (tree (generic_parameter (generic_number k)) true ∷ []) around state
+  | true ↦ next (tree (parameter (generic_number k)) true ∷ []) around state
   | false ↦ argument_so_far around place k state
 ]
 
+-- a lambda with these parameters: one in whose signature parameters are free has parameters of its own
+unfoldable pub lambda_with : (parameters : Term) → (number : ℕ) → Term
+lambda_with parameters number = elim (is_open parameters) [ true ↦ generic_lambda parameters number | false ↦ lambda parameters number ]
+
+unfoldable pub with_own : Value → Value
+with_own (piece (lambda parameters number)) = piece (lambda_with parameters number)
+with_own v = v
+
 -- ## Substitutions
 
--- A candidate has parameters that aren't meant here: those of an encoding, made in another or named in a signature, or a
--- lambda's own, named outside a signature.
+-- A candidate's free parameters may stand for others here than where it was made: in another encoding, or in a lambda's signature.
 unfoldable pub is_foreign : Around → Candidate → Bool
-is_foreign around c = (is_open c.tree && (around.in_lambda || not (nat_eq c.encoding around.encoding))) || (is_generic c.tree && not around.in_lambda)
+is_foreign around c = is_open c.tree && (around.in_lambda || (c.in_lambda || not (nat_eq c.encoding around.encoding)))
 
-unfoldable pub number_of_parameter : Term → Option ℕ
-number_of_parameter (parameter k) = Some k
-number_of_parameter (generic_parameter k) = Some k
-number_of_parameter _ = None
-
--- the number of a parameter, also of one behind a mark
-unfoldable pub number_behind_mark : Term → Option ℕ
-number_behind_mark (pointer t) = number_of_parameter t
-number_behind_mark (lvalue t) = number_of_parameter t
-number_behind_mark (rvalue t) = number_of_parameter t
-number_behind_mark (qualified q t) = number_of_parameter t
-number_behind_mark t = number_of_parameter t
-
--- a parameter, or one behind a mark, with another parameter in its place
-unfoldable pub with_parameter : (named other : Term) → Term
-with_parameter (pointer t) other = pointer other
-with_parameter (lvalue t) other = lvalue other
-with_parameter (rvalue t) other = rvalue other
-with_parameter (qualified q t) other = qualified q other
-with_parameter t other = other
-
--- the same with the argument of the scope here, where there is one
-unfoldable pub in_scope : Around → (place : ℕ) → Term → ℕ → State → Result (Found Value State) Refusal
+-- A tree whose one free parameter has this number, in the scope here, where there is such an argument.
+unfoldable pub in_scope : Around → (place : ℕ) → Term → (number : ℕ) → State → Result (Found Value State) Refusal
 in_scope around place t k state = elim around.scope [
   | None ↦ Err (BadReference place)
   | Some arguments ↦ elim (nat_lt k (count arguments)) [
     | false ↦ Err (BadReference place)
-    | true ↦ with_packs place around.in_expansion (length_if_pack (element arguments k)) state >>= λ s. Ok (found (tree (with_parameter t (parameter k)) true) s)
+    | true ↦ with_packs place around.in_expansion (pack_length arguments t) state >>= λ s. Ok (found (tree t true) s)
   ]
 ]
 
--- A tree whose parameter isn't meant here stands for the same with the parameter that is. It is one parameter, or one behind a
--- mark: any other is refused.
+-- outside a signature
+unfoldable pub with_free : Free → Around → (place : ℕ) → Term → State → Result (Found Value State) Refusal
+with_free none_free around place t state = Err (BadReference place)
+with_free (one_free k) around place t state = in_scope around place t k state
+with_free several_free around place t state = Err (BadReference place)
+
+-- A tree that was made elsewhere is the same tree here.
+-- In a signature its parameters are the lambda's own; outside one they have to be one.
 unfoldable pub restated : Around → (place : ℕ) → Term → State → Result (Found Value State) Refusal
-restated around place t state = elim (number_behind_mark t) [
-  | None ↦ Err (BadReference place)
-  | Some k ↦ elim around.in_lambda [
-    | true ↦ Ok (found (tree (with_parameter t (generic_parameter k)) true) state)
-    | false ↦ in_scope around place t k state
-  ]
+restated around place t state = elim around.in_lambda [
+  | true ↦ Ok (found (tree t true) state)
+  | false ↦ with_free (free_in t) around place t state
 ]
 
 -- a substitution names a candidate
@@ -111,6 +101,7 @@ between_wide production around place vs state = between production around place 
 unfoldable pub close_wide : Production → (byte : ℕ) → Around → (place : ℕ) → (began : State) → List Value → State → Result (Found Value State) Refusal
 close_wide Production.Substitution byte around place began vs state =
     substituted_wide around (place - 1) (slice_get state.candidates (counted_value Seq36 (text_of (part vs 0)))) state
+close_wide Production.Lambda byte around place began vs state = Ok (found (with_own (meaning Production.Lambda byte around vs)) state)
 close_wide production byte around place began vs state = close production byte around place began vs state
 
 -- C++ by the wide grammar as a language

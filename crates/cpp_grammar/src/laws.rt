@@ -92,10 +92,10 @@ pub fn joined_symbols_stay()
 {}
 
 /// The reading of the wide grammar differs from that of the ABI's grammar in what that refuses alone: a lambda's signature may name
-/// the lambda's own parameters, and a substitution a tree whose parameter isn't meant where it stands. What a shape stands for by
-/// the one it stands for by the other.
+/// the lambda's own parameters, and a substitution a tree that was made where its parameters mean others than here. What a shape of
+/// either grammar stands for by the one reading it stands for by the other.
 pub fn abi_meanings_stay()
-    ensures { (shape : Tree) (t : Term) → unfold_cpp shape ≡ Ok t → unfold_wide shape ≡ Ok t }
+    ensures { (shape : Tree) (t : Term) → IsTree either (Kind 0) shape → unfold_cpp shape ≡ Ok t → unfold_wide shape ≡ Ok t }
 {}
 
 /// The tree that a symbol stands for in [`Abi`](crate::Abi) it stands for in [`Wide`](crate::Wide) too, and its answer is the same

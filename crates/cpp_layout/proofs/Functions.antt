@@ -10,7 +10,9 @@ use Rattle.cpp_term.specs.Parts.{as_item, list_part, text_part, function_bare, f
 use Rattle.cpp_term.specs.Term as term
 use Rattle.cpp_grammar.specs.Term as values
 use Rattle.cpp_term.specs.Term.{Term}
-use Rattle.cpp_tree.specs.Nodes.{tree_of}
+use Rattle.cpp_term.specs.Reargued.{reargued}
+use Rattle.std.proofs.lemmas.Bool.{true≢false}
+use Rattle.cpp_tree.specs.Nodes.{tree_of, is_again}
 use Rattle.cpp_tree.specs.declared.node.Node.{Node}
 use Rattle.cpp_tree.specs.declared.node.Mark.{Mark}
 use Rattle.cpp_tree.specs.declared.node.Qualifiers.{Qualifiers}
@@ -49,32 +51,33 @@ pub qualified-function : (c : items.Context) (q : values.Qualifiers) (t : Term) 
 unfolding qualified_right
 qualified-function c q t l n m r p e = rw e refl
 
-other-node : (s : List ℕ) (us : List Thunk) (ts : List Term) (c : items.Context) (q : values.Qualifiers) (k : Node) → ((l n : Bool) (m : Mark) (r p : ℕ) → k ≡ Node.FunctionType l n m r p → ⊥) → as_item heads.right c (tree_of s us ts k) ∷ [] ≡ qualified_right c q (tree_of s us ts k)
-unfolding tree_of qualified_right
-other-node s us ts c q (Node.FunctionType l n m r p) other = absurd (other l n m r p refl)
-other-node s us ts c q _ other = refl
+other-node : (s : List ℕ) (us : List Thunk) (ts : List Term) (given : Option Term) (c : items.Context) (q : values.Qualifiers) (k : Node) (flat : is_again k ≡ false) → ((l n : Bool) (m : Mark) (r p : ℕ) → k ≡ Node.FunctionType l n m r p → ⊥) → as_item heads.right c (reargued given (tree_of s us ts k)) ∷ [] ≡ qualified_right c q (reargued given (tree_of s us ts k))
+unfolding tree_of qualified_right reargued is_again
+other-node s us ts given c q (Node.FunctionType l n m r p) flat other = absurd (other l n m r p refl)
+other-node s us ts given c q (Node.Again x z) flat other = absurd (true≢false flat)
+other-node s us ts given c q _ flat other = refl
 
-pub qualified-other : (s : List ℕ) (us : List Thunk) (ts : List Term) (c : items.Context) (q : values.Qualifiers) (k : Node) (t : Term) → t ≡ tree_of s us ts k → ((l n : Bool) (m : Mark) (r p : ℕ) → k ≡ Node.FunctionType l n m r p → ⊥) → as_item heads.right c t ∷ [] ≡ qualified_right c q t
-qualified-other s us ts c q k t e other = subst (λ u. as_item heads.right c u ∷ [] ≡ qualified_right c q u) (sym e) (other-node s us ts c q k other)
+pub qualified-other : (s : List ℕ) (us : List Thunk) (ts : List Term) (given : Option Term) (c : items.Context) (q : values.Qualifiers) (k : Node) (flat : is_again k ≡ false) (t : Term) → t ≡ reargued given (tree_of s us ts k) → ((l n : Bool) (m : Mark) (r p : ℕ) → k ≡ Node.FunctionType l n m r p → ⊥) → as_item heads.right c t ∷ [] ≡ qualified_right c q t
+qualified-other s us ts given c q k flat t e other = subst (λ u. as_item heads.right c u ∷ [] ≡ qualified_right c q u) (sym e) (other-node s us ts given c q k flat other)
 
-right-none-of : (s : List ℕ) (us : List Thunk) (ts : List Term) (c : items.Context) (n : Node) → ((t : ℕ) → n ≡ Node.Pointer t → ⊥) → ((t : ℕ) → n ≡ Node.Lvalue t → ⊥) → ((t : ℕ) → n ≡ Node.Rvalue t → ⊥) → ((k : ℕ) (t : ℕ) → n ≡ Node.MemberPointer k t → ⊥) → ((g : Span) (t : ℕ) → n ≡ Node.Array g t → ⊥) → ((q : Qualifiers) (t : ℕ) → n ≡ Node.Qualified q t → ⊥) → ((g : Span) (t : ℕ) → n ≡ Node.Vector g t → ⊥) → ((t : ℕ) → n ≡ Node.Complex t → ⊥) → ((k : ℕ) (a : ℕ) → n ≡ Node.Parameter k a → ⊥) → ((l : Bool) (e : Bool) (m : Mark) (r : ℕ) (p : ℕ) → n ≡ Node.FunctionType l e m r p → ⊥) → ((k : ℕ) → n ≡ Node.GenericParameter k → ⊥) → ((b t : ℕ) → n ≡ Node.Bounded b t → ⊥) → [] ≡ right_parts c (tree_of s us ts n)
-unfolding tree_of right_parts
-right-none-of s us ts c (Node.Pointer t) h0 h1 h2 h3 h4 h5 h6 h7 h8 h9 h10 h11 = absurd (h0 t refl)
-right-none-of s us ts c (Node.Lvalue t) h0 h1 h2 h3 h4 h5 h6 h7 h8 h9 h10 h11 = absurd (h1 t refl)
-right-none-of s us ts c (Node.Rvalue t) h0 h1 h2 h3 h4 h5 h6 h7 h8 h9 h10 h11 = absurd (h2 t refl)
-right-none-of s us ts c (Node.MemberPointer k t) h0 h1 h2 h3 h4 h5 h6 h7 h8 h9 h10 h11 = absurd (h3 k t refl)
-right-none-of s us ts c (Node.Array g t) h0 h1 h2 h3 h4 h5 h6 h7 h8 h9 h10 h11 = absurd (h4 g t refl)
-right-none-of s us ts c (Node.Qualified q t) h0 h1 h2 h3 h4 h5 h6 h7 h8 h9 h10 h11 = absurd (h5 q t refl)
-right-none-of s us ts c (Node.Vector g t) h0 h1 h2 h3 h4 h5 h6 h7 h8 h9 h10 h11 = absurd (h6 g t refl)
-right-none-of s us ts c (Node.Complex t) h0 h1 h2 h3 h4 h5 h6 h7 h8 h9 h10 h11 = absurd (h7 t refl)
-right-none-of s us ts c (Node.Parameter k a) h0 h1 h2 h3 h4 h5 h6 h7 h8 h9 h10 h11 = absurd (h8 k a refl)
-right-none-of s us ts c (Node.FunctionType l e m r p) h0 h1 h2 h3 h4 h5 h6 h7 h8 h9 h10 h11 = absurd (h9 l e m r p refl)
-right-none-of s us ts c (Node.GenericParameter k) h0 h1 h2 h3 h4 h5 h6 h7 h8 h9 h10 h11 = absurd (h10 k refl)
-right-none-of s us ts c (Node.Bounded b t) h0 h1 h2 h3 h4 h5 h6 h7 h8 h9 h10 h11 = absurd (h11 b t refl)
-right-none-of s us ts c _ h0 h1 h2 h3 h4 h5 h6 h7 h8 h9 h10 h11 = refl
+right-none-of : (s : List ℕ) (us : List Thunk) (ts : List Term) (given : Option Term) (c : items.Context) (n : Node) (flat : is_again n ≡ false) → ((t : ℕ) → n ≡ Node.Pointer t → ⊥) → ((t : ℕ) → n ≡ Node.Lvalue t → ⊥) → ((t : ℕ) → n ≡ Node.Rvalue t → ⊥) → ((k : ℕ) (t : ℕ) → n ≡ Node.MemberPointer k t → ⊥) → ((g : Span) (t : ℕ) → n ≡ Node.Array g t → ⊥) → ((q : Qualifiers) (t : ℕ) → n ≡ Node.Qualified q t → ⊥) → ((g : Span) (t : ℕ) → n ≡ Node.Vector g t → ⊥) → ((t : ℕ) → n ≡ Node.Complex t → ⊥) → ((k : ℕ) (a : ℕ) → n ≡ Node.Parameter k a → ⊥) → ((l : Bool) (e : Bool) (m : Mark) (r : ℕ) (p : ℕ) → n ≡ Node.FunctionType l e m r p → ⊥) → ((b : ℕ) (t : ℕ) → n ≡ Node.Bounded b t → ⊥) → [] ≡ right_parts c (reargued given (tree_of s us ts n))
+unfolding tree_of right_parts reargued is_again
+right-none-of s us ts given c (Node.Pointer t) flat h0 h1 h2 h3 h4 h5 h6 h7 h8 h9 h10 = absurd (h0 t refl)
+right-none-of s us ts given c (Node.Lvalue t) flat h0 h1 h2 h3 h4 h5 h6 h7 h8 h9 h10 = absurd (h1 t refl)
+right-none-of s us ts given c (Node.Rvalue t) flat h0 h1 h2 h3 h4 h5 h6 h7 h8 h9 h10 = absurd (h2 t refl)
+right-none-of s us ts given c (Node.MemberPointer k t) flat h0 h1 h2 h3 h4 h5 h6 h7 h8 h9 h10 = absurd (h3 k t refl)
+right-none-of s us ts given c (Node.Array g t) flat h0 h1 h2 h3 h4 h5 h6 h7 h8 h9 h10 = absurd (h4 g t refl)
+right-none-of s us ts given c (Node.Qualified q t) flat h0 h1 h2 h3 h4 h5 h6 h7 h8 h9 h10 = absurd (h5 q t refl)
+right-none-of s us ts given c (Node.Vector g t) flat h0 h1 h2 h3 h4 h5 h6 h7 h8 h9 h10 = absurd (h6 g t refl)
+right-none-of s us ts given c (Node.Complex t) flat h0 h1 h2 h3 h4 h5 h6 h7 h8 h9 h10 = absurd (h7 t refl)
+right-none-of s us ts given c (Node.Parameter k a) flat h0 h1 h2 h3 h4 h5 h6 h7 h8 h9 h10 = absurd (h8 k a refl)
+right-none-of s us ts given c (Node.FunctionType l e m r p) flat h0 h1 h2 h3 h4 h5 h6 h7 h8 h9 h10 = absurd (h9 l e m r p refl)
+right-none-of s us ts given c (Node.Again x z) flat h0 h1 h2 h3 h4 h5 h6 h7 h8 h9 h10 = absurd (true≢false flat)
+right-none-of s us ts given c (Node.Bounded b t) flat h0 h1 h2 h3 h4 h5 h6 h7 h8 h9 h10 = absurd (h10 b t refl)
+right-none-of s us ts given c _ flat h0 h1 h2 h3 h4 h5 h6 h7 h8 h9 h10 = refl
 
-pub right-none : (s : List ℕ) (us : List Thunk) (ts : List Term) (c : items.Context) (n : Node) (t : Term) → t ≡ tree_of s us ts n → ((t : ℕ) → n ≡ Node.Pointer t → ⊥) → ((t : ℕ) → n ≡ Node.Lvalue t → ⊥) → ((t : ℕ) → n ≡ Node.Rvalue t → ⊥) → ((k : ℕ) (t : ℕ) → n ≡ Node.MemberPointer k t → ⊥) → ((g : Span) (t : ℕ) → n ≡ Node.Array g t → ⊥) → ((q : Qualifiers) (t : ℕ) → n ≡ Node.Qualified q t → ⊥) → ((g : Span) (t : ℕ) → n ≡ Node.Vector g t → ⊥) → ((t : ℕ) → n ≡ Node.Complex t → ⊥) → ((k : ℕ) (a : ℕ) → n ≡ Node.Parameter k a → ⊥) → ((l : Bool) (e : Bool) (m : Mark) (r : ℕ) (p : ℕ) → n ≡ Node.FunctionType l e m r p → ⊥) → ((k : ℕ) → n ≡ Node.GenericParameter k → ⊥) → ((b t : ℕ) → n ≡ Node.Bounded b t → ⊥) → [] ≡ right_parts c t
-right-none s us ts c n t is h0 h1 h2 h3 h4 h5 h6 h7 h8 h9 h10 h11 = right-none-of s us ts c n h0 h1 h2 h3 h4 h5 h6 h7 h8 h9 h10 h11 ∙ ap (λ u. right_parts c u) (sym is)
+pub right-none : (s : List ℕ) (us : List Thunk) (ts : List Term) (given : Option Term) (c : items.Context) (n : Node) (flat : is_again n ≡ false) (t : Term) → t ≡ reargued given (tree_of s us ts n) → ((t : ℕ) → n ≡ Node.Pointer t → ⊥) → ((t : ℕ) → n ≡ Node.Lvalue t → ⊥) → ((t : ℕ) → n ≡ Node.Rvalue t → ⊥) → ((k : ℕ) (t : ℕ) → n ≡ Node.MemberPointer k t → ⊥) → ((g : Span) (t : ℕ) → n ≡ Node.Array g t → ⊥) → ((q : Qualifiers) (t : ℕ) → n ≡ Node.Qualified q t → ⊥) → ((g : Span) (t : ℕ) → n ≡ Node.Vector g t → ⊥) → ((t : ℕ) → n ≡ Node.Complex t → ⊥) → ((k : ℕ) (a : ℕ) → n ≡ Node.Parameter k a → ⊥) → ((l : Bool) (e : Bool) (m : Mark) (r : ℕ) (p : ℕ) → n ≡ Node.FunctionType l e m r p → ⊥) → ((b : ℕ) (t : ℕ) → n ≡ Node.Bounded b t → ⊥) → [] ≡ right_parts c t
+right-none s us ts given c n flat t is h0 h1 h2 h3 h4 h5 h6 h7 h8 h9 h10 = right-none-of s us ts given c n flat h0 h1 h2 h3 h4 h5 h6 h7 h8 h9 h10 ∙ ap (λ u. right_parts c u) (sym is)
 
 -- ## Expansions
 
@@ -94,21 +97,23 @@ module _ (c : items.Context) (p : Term) (o : Option ℕ) where
 
 -- ## No lists
 
-first-other-of : (s : List ℕ) (us : List Thunk) (ts : List Term) (c : items.Context) (n : Node) → ((e r : ℕ) → n ≡ Node.Cell e r → ⊥) → [] ≡ first_parts c (tree_of s us ts n)
-unfolding tree_of first_parts
-first-other-of s us ts c (Node.Cell e r) other = absurd (other e r refl)
-first-other-of s us ts c _ other = refl
+first-other-of : (s : List ℕ) (us : List Thunk) (ts : List Term) (given : Option Term) (c : items.Context) (n : Node) (flat : is_again n ≡ false) → ((e r : ℕ) → n ≡ Node.Cell e r → ⊥) → [] ≡ first_parts c (reargued given (tree_of s us ts n))
+unfolding tree_of first_parts reargued is_again
+first-other-of s us ts given c (Node.Cell e r) flat other = absurd (other e r refl)
+first-other-of s us ts given c (Node.Again x z) flat other = absurd (true≢false flat)
+first-other-of s us ts given c _ flat other = refl
 
-pub first-other : (s : List ℕ) (us : List Thunk) (ts : List Term) (c : items.Context) (n : Node) (t : Term) → t ≡ tree_of s us ts n → ((e r : ℕ) → n ≡ Node.Cell e r → ⊥) → [] ≡ first_parts c t
-first-other s us ts c n t is other = first-other-of s us ts c n other ∙ ap (λ u. first_parts c u) (sym is)
+pub first-other : (s : List ℕ) (us : List Thunk) (ts : List Term) (given : Option Term) (c : items.Context) (n : Node) (flat : is_again n ≡ false) (t : Term) → t ≡ reargued given (tree_of s us ts n) → ((e r : ℕ) → n ≡ Node.Cell e r → ⊥) → [] ≡ first_parts c t
+first-other s us ts given c n flat t is other = first-other-of s us ts given c n flat other ∙ ap (λ u. first_parts c u) (sym is)
 
-more-other-of : (s : List ℕ) (us : List Thunk) (ts : List Term) (c : items.Context) (n : Node) → ((e r : ℕ) → n ≡ Node.Cell e r → ⊥) → [] ≡ more_parts c (tree_of s us ts n)
-unfolding tree_of more_parts
-more-other-of s us ts c (Node.Cell e r) other = absurd (other e r refl)
-more-other-of s us ts c _ other = refl
+more-other-of : (s : List ℕ) (us : List Thunk) (ts : List Term) (given : Option Term) (c : items.Context) (n : Node) (flat : is_again n ≡ false) → ((e r : ℕ) → n ≡ Node.Cell e r → ⊥) → [] ≡ more_parts c (reargued given (tree_of s us ts n))
+unfolding tree_of more_parts reargued is_again
+more-other-of s us ts given c (Node.Cell e r) flat other = absurd (other e r refl)
+more-other-of s us ts given c (Node.Again x z) flat other = absurd (true≢false flat)
+more-other-of s us ts given c _ flat other = refl
 
-pub more-other : (s : List ℕ) (us : List Thunk) (ts : List Term) (c : items.Context) (n : Node) (t : Term) → t ≡ tree_of s us ts n → ((e r : ℕ) → n ≡ Node.Cell e r → ⊥) → [] ≡ more_parts c t
-more-other s us ts c n t is other = more-other-of s us ts c n other ∙ ap (λ u. more_parts c u) (sym is)
+pub more-other : (s : List ℕ) (us : List Thunk) (ts : List Term) (given : Option Term) (c : items.Context) (n : Node) (flat : is_again n ≡ false) (t : Term) → t ≡ reargued given (tree_of s us ts n) → ((e r : ℕ) → n ≡ Node.Cell e r → ⊥) → [] ≡ more_parts c t
+more-other s us ts given c n flat t is other = more-other-of s us ts given c n flat other ∙ ap (λ u. more_parts c u) (sym is)
 
 -- ## Encodings
 
@@ -124,13 +129,23 @@ pub function-absent : (name : Term) (q : values.Qualifiers) (m : values.RefQuali
 unfolding function_full
 function-absent name q m t parameters is = append-nil (function_bare true name q m parameters) ∙ rw is refl
 
-not-absent-node : (s : List ℕ) (us : List Thunk) (ts : List Term) (n : Node) → (n ≡ Node.Absent → ⊥) → tree_of s us ts n ≡ term.absent → ⊥
-unfolding tree_of
-not-absent-node s us ts Node.Absent other e = other refl
-not-absent-node s us ts _ other e = cc e
+not-absent-node : (s : List ℕ) (us : List Thunk) (ts : List Term) (given : Option Term) (n : Node) (flat : is_again n ≡ false) → (n ≡ Node.Absent → ⊥) → reargued given (tree_of s us ts n) ≡ term.absent → ⊥
+unfolding tree_of reargued is_again
+not-absent-node s us ts given Node.Absent flat other e = other refl
+not-absent-node s us ts given (Node.Again x z) flat other e = true≢false flat
+not-absent-node s us ts given _ flat other e = cc e
 
-pub not-absent : (s : List ℕ) (us : List Thunk) (ts : List Term) (n : Node) (t : Term) → t ≡ tree_of s us ts n → (n ≡ Node.Absent → ⊥) → t ≡ term.absent → ⊥
-not-absent s us ts n t is other e = not-absent-node s us ts n other (sym is ∙ e)
+pub not-absent : (s : List ℕ) (us : List Thunk) (ts : List Term) (given : Option Term) (n : Node) (flat : is_again n ≡ false) (t : Term) → t ≡ reargued given (tree_of s us ts n) → (n ≡ Node.Absent → ⊥) → t ≡ term.absent → ⊥
+not-absent s us ts given n flat t is other e = not-absent-node s us ts given n flat other (sym is ∙ e)
+
+not-nil-node : (s : List ℕ) (us : List Thunk) (ts : List Term) (given : Option Term) (n : Node) (flat : is_again n ≡ false) → (n ≡ Node.Nil → ⊥) → reargued given (tree_of s us ts n) ≡ term.nil → ⊥
+unfolding tree_of reargued is_again
+not-nil-node s us ts given Node.Nil flat other e = other refl
+not-nil-node s us ts given (Node.Again x z) flat other e = true≢false flat
+not-nil-node s us ts given _ flat other e = cc e
+
+pub not-nil : (s : List ℕ) (us : List Thunk) (ts : List Term) (given : Option Term) (n : Node) (flat : is_again n ≡ false) (t : Term) → t ≡ reargued given (tree_of s us ts n) → (n ≡ Node.Nil → ⊥) → t ≡ term.nil → ⊥
+not-nil s us ts given n flat t is other e = not-nil-node s us ts given n flat other (sym is ∙ e)
 
 pub clone-whole : (letter : ℕ) (i : PartOf items.Item) → ◌≡◌ {A = List (PartOf items.Item)} (text (fixed_text (if nat_eq letter 116 then CLONE else OTHER_CLONE)) ∷ i ∷ []) (text (clone_text letter) ∷ i ∷ [])
 unfolding clone_text
@@ -141,29 +156,31 @@ clone-whole letter i = by (nat_eq letter 116)
     by true = refl
     by false = refl
 
-pub full-none : (d : Detail) (s : List ℕ) (us : List Thunk) (ts : List Term) (n : Node) (t : Term) → t ≡ tree_of s us ts n → ((a : ℕ) (q : Qualifiers) (m : Mark) (r p : ℕ) → n ≡ Node.Function a q m r p → ⊥) → ((a : ℕ) (q : Qualifiers) (m : Mark) → n ≡ Node.Object a q m → ⊥) → ((k a : ℕ) → n ≡ Node.Special k a → ⊥)
+pub full-none : (d : Detail) (s : List ℕ) (us : List Thunk) (ts : List Term) (given : Option Term) (n : Node) (flat : is_again n ≡ false) (t : Term) → t ≡ reargued given (tree_of s us ts n) → ((a : ℕ) (q : Qualifiers) (m : Mark) (r p u : ℕ) → n ≡ Node.Function a q m r p u → ⊥) → ((a : ℕ) (q : Qualifiers) (m : Mark) → n ≡ Node.Object a q m → ⊥) → ((k a : ℕ) → n ≡ Node.Special k a → ⊥)
     → ((k a : ℕ) → n ≡ Node.Thunk k a → ⊥) → ((k a : ℕ) (q : Qualifiers) (m : Mark) → n ≡ Node.OfName k a q m → ⊥) → ((a : ℕ) (g : Span) (b : ℕ) → n ≡ Node.Construction a g b → ⊥) → ((k a : ℕ) → n ≡ Node.CloneOf k a → ⊥) → [] ≡ full_parts d t
-unfolding tree_of full_parts
-full-none d s us ts n t is h1 h2 h3 h4 h5 h6 h7 = by n h1 h2 h3 h4 h5 h6 h7 ∙ ap (full_parts d) (sym is)
+unfolding tree_of full_parts reargued is_again
+full-none d s us ts given n flat t is h1 h2 h3 h4 h5 h6 h7 = by n flat h1 h2 h3 h4 h5 h6 h7 ∙ ap (full_parts d) (sym is)
   where
-    by : (n : Node) → ((a : ℕ) (q : Qualifiers) (m : Mark) (r p : ℕ) → n ≡ Node.Function a q m r p → ⊥) → ((a : ℕ) (q : Qualifiers) (m : Mark) → n ≡ Node.Object a q m → ⊥) → ((k a : ℕ) → n ≡ Node.Special k a → ⊥)
-        → ((k a : ℕ) → n ≡ Node.Thunk k a → ⊥) → ((k a : ℕ) (q : Qualifiers) (m : Mark) → n ≡ Node.OfName k a q m → ⊥) → ((a : ℕ) (g : Span) (b : ℕ) → n ≡ Node.Construction a g b → ⊥) → ((k a : ℕ) → n ≡ Node.CloneOf k a → ⊥) → [] ≡ full_parts d (tree_of s us ts n)
-    by (Node.Function a q m r p) h1 h2 h3 h4 h5 h6 h7 = absurd (h1 a q m r p refl)
-    by (Node.Object a q m) h1 h2 h3 h4 h5 h6 h7 = absurd (h2 a q m refl)
-    by (Node.Special k a) h1 h2 h3 h4 h5 h6 h7 = absurd (h3 k a refl)
-    by (Node.Thunk k a) h1 h2 h3 h4 h5 h6 h7 = absurd (h4 k a refl)
-    by (Node.OfName k a q m) h1 h2 h3 h4 h5 h6 h7 = absurd (h5 k a q m refl)
-    by (Node.Construction a g b) h1 h2 h3 h4 h5 h6 h7 = absurd (h6 a g b refl)
-    by (Node.CloneOf k a) h1 h2 h3 h4 h5 h6 h7 = absurd (h7 k a refl)
-    by _ h1 h2 h3 h4 h5 h6 h7 = refl
+    by : (n : Node) → is_again n ≡ false → ((a : ℕ) (q : Qualifiers) (m : Mark) (r p u : ℕ) → n ≡ Node.Function a q m r p u → ⊥) → ((a : ℕ) (q : Qualifiers) (m : Mark) → n ≡ Node.Object a q m → ⊥) → ((k a : ℕ) → n ≡ Node.Special k a → ⊥)
+        → ((k a : ℕ) → n ≡ Node.Thunk k a → ⊥) → ((k a : ℕ) (q : Qualifiers) (m : Mark) → n ≡ Node.OfName k a q m → ⊥) → ((a : ℕ) (g : Span) (b : ℕ) → n ≡ Node.Construction a g b → ⊥) → ((k a : ℕ) → n ≡ Node.CloneOf k a → ⊥) → [] ≡ full_parts d (reargued given (tree_of s us ts n))
+    by (Node.Function a q m r p u) flat h1 h2 h3 h4 h5 h6 h7 = absurd (h1 a q m r p u refl)
+    by (Node.Object a q m) flat h1 h2 h3 h4 h5 h6 h7 = absurd (h2 a q m refl)
+    by (Node.Special k a) flat h1 h2 h3 h4 h5 h6 h7 = absurd (h3 k a refl)
+    by (Node.Thunk k a) flat h1 h2 h3 h4 h5 h6 h7 = absurd (h4 k a refl)
+    by (Node.OfName k a q m) flat h1 h2 h3 h4 h5 h6 h7 = absurd (h5 k a q m refl)
+    by (Node.Construction a g b) flat h1 h2 h3 h4 h5 h6 h7 = absurd (h6 a g b refl)
+    by (Node.CloneOf k a) flat h1 h2 h3 h4 h5 h6 h7 = absurd (h7 k a refl)
+    by (Node.Again x z) flat h1 h2 h3 h4 h5 h6 h7 = absurd (true≢false flat)
+    by _ flat h1 h2 h3 h4 h5 h6 h7 = refl
 
-pub bare-other : (d : Detail) (s : List ℕ) (us : List Thunk) (ts : List Term) (n : Node) (t : Term) → t ≡ tree_of s us ts n → ((a : ℕ) (q : Qualifiers) (m : Mark) (r p : ℕ) → n ≡ Node.Function a q m r p → ⊥) → full_parts d t ≡ bare_parts d t
-unfolding tree_of bare_parts
-bare-other d s us ts n t is other = ap (full_parts d) is ∙ by n other ∙ ap (bare_parts d) (sym is)
+pub bare-other : (d : Detail) (s : List ℕ) (us : List Thunk) (ts : List Term) (given : Option Term) (n : Node) (flat : is_again n ≡ false) (t : Term) → t ≡ reargued given (tree_of s us ts n) → ((a : ℕ) (q : Qualifiers) (m : Mark) (r p u : ℕ) → n ≡ Node.Function a q m r p u → ⊥) → full_parts d t ≡ bare_parts d t
+unfolding tree_of bare_parts reargued is_again
+bare-other d s us ts given n flat t is other = ap (full_parts d) is ∙ by n flat other ∙ ap (bare_parts d) (sym is)
   where
-    by : (n : Node) → ((a : ℕ) (q : Qualifiers) (m : Mark) (r p : ℕ) → n ≡ Node.Function a q m r p → ⊥) → full_parts d (tree_of s us ts n) ≡ bare_parts d (tree_of s us ts n)
-    by (Node.Function a q m r p) h = absurd (h a q m r p refl)
-    by _ h = refl
+    by : (n : Node) → is_again n ≡ false → ((a : ℕ) (q : Qualifiers) (m : Mark) (r p u : ℕ) → n ≡ Node.Function a q m r p u → ⊥) → full_parts d (reargued given (tree_of s us ts n)) ≡ bare_parts d (reargued given (tree_of s us ts n))
+    by (Node.Function a q m r p u) flat h = absurd (h a q m r p u refl)
+    by (Node.Again x z) flat h = absurd (true≢false flat)
+    by _ flat h = refl
 
 pub root-whole : (e : Term) (suffix : List ℕ) → as_item heads.full items.closed e ∷ (clone_suffix suffix ++ []) ≡ root_parts (term.symbol e suffix)
 unfolding root_parts
@@ -177,13 +194,14 @@ pub some-clone : (suffix : List ℕ) (others : List (PartOf items.Item)) → 0 <
 some-clone [] others some = absurd (omega (arith, some))
 some-clone (b ∷ bs) others some = refl
 
-pub root-none : (s : List ℕ) (us : List Thunk) (ts : List Term) (n : Node) (t : Term) → t ≡ tree_of s us ts n → ((e : ℕ) (b : Span) → n ≡ Node.Whole e b → ⊥) → [] ≡ root_parts t
-unfolding tree_of root_parts
-root-none s us ts n t is other = by n other ∙ ap root_parts (sym is)
+pub root-none : (s : List ℕ) (us : List Thunk) (ts : List Term) (given : Option Term) (n : Node) (flat : is_again n ≡ false) (t : Term) → t ≡ reargued given (tree_of s us ts n) → ((e : ℕ) (b : Span) → n ≡ Node.Whole e b → ⊥) → [] ≡ root_parts t
+unfolding tree_of root_parts reargued is_again
+root-none s us ts given n flat t is other = by n flat other ∙ ap root_parts (sym is)
   where
-    by : (n : Node) → ((e : ℕ) (b : Span) → n ≡ Node.Whole e b → ⊥) → [] ≡ root_parts (tree_of s us ts n)
-    by (Node.Whole e b) h = absurd (h e b refl)
-    by _ h = refl
+    by : (n : Node) → is_again n ≡ false → ((e : ℕ) (b : Span) → n ≡ Node.Whole e b → ⊥) → [] ≡ root_parts (reargued given (tree_of s us ts n))
+    by (Node.Whole e b) flat h = absurd (h e b refl)
+    by (Node.Again x z) flat h = absurd (true≢false flat)
+    by _ flat h = refl
 
 -- ## Elements of an expansion
 

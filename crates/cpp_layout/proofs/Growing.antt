@@ -1,5 +1,5 @@
 -- Lists of parts that grow.
-use Rattle.std.proofs.Common.{Bool, true, false, not, if◌then◌else◌, nat_eq, Option, None, ◌≡◌, ℕ, ◌-◌, ◌<◌, ◌≤◌, List, [], ◌∷◌, ◌++◌, length, take, drop, refl, ap, subst, ◌∙◌, arith, append-nil}
+use Rattle.std.proofs.Common.{Bool, true, false, not, if◌then◌else◌, nat_eq, None, ◌≡◌, ℕ, ◌-◌, ◌<◌, ◌≤◌, List, [], ◌∷◌, ◌++◌, length, take, drop, refl, ap, subst, ◌∙◌, arith, append-nil}
 use Rattle.std.proofs.lemmas.Bool.{eq-eqb, ne_eqb}
 use Rattle.std.proofs.lemmas.List.{length-take, length-drop}
 use Rattle.sym_core.specs.declared.Span.{Span}
@@ -19,10 +19,11 @@ use Rattle.cpp_term.specs.Parts.{not_empty, list_part, text_part, as_item, membe
 use Rattle.cpp_term.specs.Term as term
 use Rattle.cpp_term.specs.Term.{Term}
 use Rattle.cpp_layout.specs.declared.context.Context.{Context}
-use Rattle.cpp_tree.specs.Nodes.{trees, tree_at, bytes_at, IsWithin}
+use Rattle.cpp_term.proofs.Reargued.{reargued_none}
+use Rattle.cpp_tree.specs.Nodes.{trees, tree_at, tree_if_there, bytes_at, IsWithin, IsThereBelow}
 use Rattle.cpp_layout.specs.Texts.{fixed_text}
 use Rattle.cpp_layout.specs.declared.texts.TheConstants.{BLANK, BRAIN_FLOAT, COLONS_STAR, COMMA, FLOAT, LEFT, LEFT_BRACKET, RIGHT, RIGHT_BRACKET, VECTOR, WIDER, TAG}
-use Rattle.cpp_layout.specs.Layout.{ReadSymbol, table_of, tree_in, form_of, context_of, text_if, marked, referred, item_in, MayCome, IsOwn, unshared_of, bytes_of_part, shown, Shows}
+use Rattle.cpp_layout.specs.Layout.{ReadSymbol, table_of, tree_in, form_of, context_of, text_if, marked, referred, shown_in, tree_shown, item_in, MayCome, IsOwn, unshared_of, bytes_of_part, shown, Shows}
 
 abbrev Others : Type 0
 Others = List (PartOf items.Item)
@@ -36,13 +37,13 @@ pub fills : {below : Held Context} (y : ReadSymbol) (d : Detail) (held : Held Co
 fills {below} y d held others whole shows e = subst (Shows y d below held) e shows
 
 pub item-pushed : {below : Held Context} (y : ReadSymbol) (old new : Held Context) (node form at : ℕ) (c : Context) (others : Others)
-    → new ≡ with_part old (part.Sub (record { node = node; form = form; at = at; ctx = c })) → Shows y c.detail below old others → node < length y.table.nodes
+    → new ≡ with_part old (part.Sub (record { node = node; form = form; at = at; ctx = c })) → Shows y c.detail below old others → node < length y.table.nodes → IsThereBelow (length y.table.nodes) c.argument
     → Shows y c.detail below new (sub (item_in (trees (table_of y)) node form at c) ∷ others)
 unfolding not_empty
-item-pushed {below} y old new node form at c others e shows less =
+item-pushed {below} y old new node form at c others e shows less there =
     let i : Item Context = record { node = node; form = form; at = at; ctx = c } in
     record {
-      stacked = stacked-item (unshared_of y) (bytes_of_part y) (MayCome (table_of y)) below.items old.items new.items i (shown c.detail others) (ap (λ (h : Held Context). h.items) e) shows.stacked less;
+      stacked = stacked-item (unshared_of y) (bytes_of_part y) (MayCome (table_of y)) below.items old.items new.items i (shown c.detail others) (ap (λ (h : Held Context). h.items) e) shows.stacked (less, there);
       capacity = ap (λ (h : Held Context). h.capacity) e ∙ shows.capacity;
     }
 
@@ -101,12 +102,12 @@ list-some form c _ rest other = refl
 
 -- a form below 6 is of the tree itself
 tree-in : (form : ℕ) (t : Term) → form < 6 → tree_in form t ≡ t
-tree-in form t less = rw (ne_eqb form 6 (omega (arith, less)), ne_eqb form 10 (omega (arith, less)), ne_eqb form 11 (omega (arith, less))) refl
+tree-in form t less = rw (ne_eqb form 6 (omega (arith, less))) refl
 
-pub list-here : (ts : List Term) (node form : ℕ) (c : Context) (rest : Others) → form < 6 → (tree_at ts node ≡ term.nil → ⊥)
-    → sub (item_in ts node form 0 c) ∷ rest ≡ list_part (form_of form 0) (context_of c) (tree_at ts node) ++ rest
+pub list-here : (ts : List Term) (node form : ℕ) (c : Context) (rest : Others) → form < 6 → (shown_in ts c (tree_at ts node) ≡ term.nil → ⊥)
+    → sub (item_in ts node form 0 c) ∷ rest ≡ list_part (form_of form 0) (context_of c) (shown_in ts c (tree_at ts node)) ++ rest
 list-here ts node form c rest less other =
-    ap (λ t. as_item (form_of form 0) (context_of c) t ∷ rest) (tree-in form (tree_at ts node) less) ∙ list-some (form_of form 0) (context_of c) (tree_at ts node) rest other
+    ap (λ t. as_item (form_of form 0) (context_of c) t ∷ rest) (tree-in form (shown_in ts c (tree_at ts node)) less) ∙ list-some (form_of form 0) (context_of c) (shown_in ts c (tree_at ts node)) rest other
 
 -- ## By tests
 
@@ -178,10 +179,39 @@ float-sized digits end other = go (nat_eq end 120) refl
     go true is = rw (float_parts, ne_eqb end 98 other, is) refl
     go false is = rw (float_parts, ne_eqb end 98 other, is) refl
 
-pub parameter-same : (ts : List Term) (form node : ℕ) (d : Detail) (index : Option ℕ) (a : Term) → form < 6 → tree_at ts node ≡ items.indexed index a
-    → sub (item_in ts node form 0 (record { index = None; detail = d })) ∷ [] ≡ as_item (form_of form 0) items.closed (items.argument (record { index = index }) a) ∷ []
-unfolding items.argument
-parameter-same ts form node d index a less e = ap (λ t. sub (record { tree = t; form = form_of form 0; context = record { index = None } }) ∷ []) (tree-in form (tree_at ts node) less ∙ e)
+pub parameter-same : (ts : List Term) (form node : ℕ) (inner : Context) (t : Term) → form < 6 → shown_in ts inner (tree_at ts node) ≡ t → context_of inner ≡ items.closed
+    → sub (item_in ts node form 0 inner) ∷ [] ≡ as_item (form_of form 0) items.closed t ∷ []
+parameter-same ts form node inner t less e closed =
+    ap (λ u. sub (record { tree = u; form = form_of form 0; context = context_of inner }) ∷ []) (tree-in form (shown_in ts inner (tree_at ts node)) less ∙ e)
+    ∙ ap (λ x. sub (record { tree = t; form = form_of form 0; context = x }) ∷ []) closed
+
+-- what is told of an item may be told by another context that says the same
+pub told-so : {below : Held Context} (y : ReadSymbol) (d e : Detail) (held : Held Context) (others : Others) → d ≡ e → Shows y d below held others → Shows y e below held others
+told-so {below} y d e held others is shows = subst (λ x. Shows y x below held others) is shows
+
+-- ## Contexts that are the same
+
+module _ (y : ReadSymbol) (c told : Context) (is : c ≡ told) (old new : Held Context) (form node : ℕ) where
+  pub told-item : ((below : Held Context) (others : Others) → Shows y c.detail below old others → Shows y c.detail below new (sub (item_in (trees (table_of y)) node form 0 c) ∷ others))
+      → (below : Held Context) (others : Others) → Shows y told.detail below old others → Shows y told.detail below new (sub (item_in (trees (table_of y)) node form 0 told) ∷ others)
+  told-item pushed =
+      subst (λ (x : Context). (below : Held Context) (others : Others) → Shows y x.detail below old others → Shows y x.detail below new (sub (item_in (trees (table_of y)) node form 0 x) ∷ others)) is pushed
+
+  pub told-list : ((below : Held Context) (others : Others) → Shows y c.detail below old others → Shows y c.detail below new (list_part (form_of form 0) (context_of c) (tree_shown y c node) ++ others))
+      → (below : Held Context) (others : Others) → Shows y told.detail below old others → Shows y told.detail below new (list_part (form_of form 0) (context_of told) (tree_shown y told node) ++ others)
+  told-list pushed =
+      subst (λ (x : Context). (below : Held Context) (others : Others) → Shows y x.detail below old others → Shows y x.detail below new (list_part (form_of form 0) (context_of x) (tree_shown y x node) ++ others)) is pushed
+
+pub told-parts : {below held : Held Context} (y : ReadSymbol) (c told : Context) (parts_of : Context → Others) → c ≡ told → Shows y c.detail below held (parts_of c) → Shows y told.detail below held (parts_of told)
+told-parts {below} {held} y c told parts_of is shows = subst (λ (x : Context). Shows y x.detail below held (parts_of x)) is shows
+
+-- told nothing, an item is that of the tree
+module _ (y : ReadSymbol) (d : Detail) (form node : ℕ) where
+  pub closed-item : item_in (trees (table_of y)) node form 0 (record { index = None; detail = d; argument = None }) ≡ record { tree = tree_in form (tree_at (trees (table_of y)) node); form = form_of form 0; context = items.closed }
+  unfolding tree_if_there
+  closed-item =
+      let item : Term → items.Item = λ t. record { tree = tree_in form t; form = form_of form 0; context = items.closed } in
+      ap item (reargued_none (tree_at (trees (table_of y)) node))
 
 -- ## Cells
 
@@ -232,7 +262,7 @@ own-pushed y d old new p b others e is some few shows =
 
 -- ## Forms
 
-pub form-expand : (form at : ℕ) (t : Term) (d : Detail) (c : items.Context) → 12 ≤ form → expand_parts c t at ≡ parts_in d c (form_of form at) (tree_in form t)
+pub form-expand : (form at : ℕ) (t : Term) (d : Detail) (c : items.Context) → 10 ≤ form → expand_parts c t at ≡ parts_in d c (form_of form at) (tree_in form t)
 unfolding parts_in
 form-expand form at t d c more = rw (
   ne_eqb form 0 (omega (arith, more)),
@@ -245,6 +275,4 @@ form-expand form at t d c more = rw (
   ne_eqb form 7 (omega (arith, more)),
   ne_eqb form 8 (omega (arith, more)),
   ne_eqb form 9 (omega (arith, more)),
-  ne_eqb form 10 (omega (arith, more)),
-  ne_eqb form 11 (omega (arith, more)),
 ) refl

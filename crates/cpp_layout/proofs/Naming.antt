@@ -1,5 +1,5 @@
 -- The parts of names.
-use Rattle.std.proofs.Common.{◌≡◌, ◌≢◌, ◌<◌, refl, sym, ◌∙◌, ap, subst, arith, slice_index, length, ℕ, List, [], ◌∷◌, ◌++◌, Bool, true, false, nat_eq, ◌&&◌, ◌||◌, cond, codes, decimal, if◌then◌else◌, Option}
+use Rattle.std.proofs.Common.{zero, suc, ◌≡◌, ◌≢◌, ◌<◌, refl, sym, ◌∙◌, ap, subst, arith, slice_index, length, ℕ, List, [], ◌∷◌, ◌++◌, Bool, true, false, nat_eq, ◌&&◌, ◌||◌, cond, codes, decimal, if◌then◌else◌, Option, None}
 use Rattle.std.proofs.lemmas.Bool.{eqb-true}
 use Rattle.std.specs.List.{starts_with}
 use Rattle.sym_core.specs.declared.Span.{Span}
@@ -14,7 +14,10 @@ use Rattle.cpp_term.specs.Parts.{as_item, list_part, piece_parts, prefix_item, w
 use Rattle.cpp_tree.specs.declared.node.Piece.{Piece}
 use Rattle.cpp_tree.specs.declared.node.Node.{Node}
 use Rattle.cpp_tree.specs.declared.node.Thunk.{Thunk}
-use Rattle.cpp_tree.specs.Nodes.{tree_at, tree_of, piece_of}
+use Rattle.cpp_term.specs.Reargued.{reargued}
+use Rattle.cpp_term.proofs.Reargued.{reargued_none}
+use Rattle.std.proofs.lemmas.Bool.{true≢false}
+use Rattle.cpp_tree.specs.Nodes.{tree_at, tree_of, piece_of, is_again}
 use Rattle.cpp_layout.specs.Texts.{fixed_text}
 use Rattle.cpp_layout.specs.declared.texts.TheConstants.{ANONYMOUS, BLANK_LESS, BRACE, COLONS, CONVERSION, GREATER, LAMBDA, LESS, LITERAL, RIGHT_NUMBER, UNNAMED}
 use Rattle.cpp_tree.specs.Nodes.{is_encoding}
@@ -78,11 +81,21 @@ unfolding piece_of opening_text
 no-angle s ts (Piece.Operator a b) other = absurd (other a b refl)
 no-angle s ts _ other = refl
 
+pub opening-shown : (given : Option Term) (t : Term) → opening_text t ≡ opening_text (reargued given t)
+unfolding opening_text reargued
+opening-shown given (term.operator a b) = refl
+opening-shown given _ = refl
+
 -- ## Pieces
 
 pub lambda-whole : (c : items.Context) (parameters : Term) (number : ℕ) → text (fixed_text LAMBDA) ∷ (list_part heads.first c parameters ++ (text (fixed_text RIGHT_NUMBER) ∷ text (decimal number) ∷ text (fixed_text BRACE) ∷ [])) ≡ piece_parts c (term.lambda parameters number)
 unfolding piece_parts
 lambda-whole c parameters number = refl
+
+-- parameters of its own have their own arguments
+pub generic_lambda-whole : (c : items.Context) (parameters : Term) (number : ℕ) → piece_parts c (term.lambda (reargued None parameters) number) ≡ piece_parts c (term.generic_lambda parameters number)
+unfolding piece_parts
+generic_lambda-whole c parameters number = ap (λ t. piece_parts c (term.lambda t number)) (reargued_none parameters)
 
 pub unnamed-whole : (c : items.Context) (number : ℕ) → text (fixed_text UNNAMED) ∷ text (decimal number) ∷ text (fixed_text BRACE) ∷ [] ≡ piece_parts c (term.unnamed number)
 unfolding piece_parts
@@ -104,97 +117,109 @@ pub other-source : (p : Piece) → ((i : Bool) (b : Span) → p ≡ Piece.Source
 other-source (Piece.Source i b) other = other i b refl
 other-source _ other = tt
 
-pub piece-none : (s : List ℕ) (ts : List Term) (c : items.Context) (p : Piece) → ((i : Bool) (b : Span) → p ≡ Piece.Source i b → ⊥) → ((a b : ℕ) → p ≡ Piece.Operator a b → ⊥) → ((b : Span) → p ≡ Piece.LiteralOperator b → ⊥)
-    → ((a n : ℕ) → p ≡ Piece.Lambda a n → ⊥) → ((n : ℕ) → p ≡ Piece.Unnamed n → ⊥) → (p ≡ Piece.StringLiteral → ⊥) → ((t : ℕ) → p ≡ Piece.Conversion t → ⊥) → [] ≡ piece_parts c (piece_of s ts p)
-unfolding piece_of piece_parts
-piece-none s ts c (Piece.Source i b) h1 h2 h3 h4 h5 h6 h7 = absurd (h1 i b refl)
-piece-none s ts c (Piece.Operator a b) h1 h2 h3 h4 h5 h6 h7 = absurd (h2 a b refl)
-piece-none s ts c (Piece.LiteralOperator b) h1 h2 h3 h4 h5 h6 h7 = absurd (h3 b refl)
-piece-none s ts c (Piece.Lambda a n) h1 h2 h3 h4 h5 h6 h7 = absurd (h4 a n refl)
-piece-none s ts c (Piece.Unnamed n) h1 h2 h3 h4 h5 h6 h7 = absurd (h5 n refl)
-piece-none s ts c Piece.StringLiteral h1 h2 h3 h4 h5 h6 h7 = absurd (h6 refl)
-piece-none s ts c (Piece.Conversion t) h1 h2 h3 h4 h5 h6 h7 = absurd (h7 t refl)
-piece-none s ts c _ h1 h2 h3 h4 h5 h6 h7 = refl
+pub piece-none : (s : List ℕ) (ts : List Term) (given : Option Term) (c : items.Context) (p : Piece) → ((i : Bool) (b : Span) → p ≡ Piece.Source i b → ⊥) → ((a b : ℕ) → p ≡ Piece.Operator a b → ⊥) → ((b : Span) → p ≡ Piece.LiteralOperator b → ⊥)
+    → ((a n : ℕ) → p ≡ Piece.Lambda a n → ⊥) → ((a n : ℕ) → p ≡ Piece.GenericLambda a n → ⊥) → ((n : ℕ) → p ≡ Piece.Unnamed n → ⊥) → (p ≡ Piece.StringLiteral → ⊥) → ((t : ℕ) → p ≡ Piece.Conversion t → ⊥) → [] ≡ piece_parts c (reargued given (piece_of s ts p))
+unfolding piece_of piece_parts reargued
+piece-none s ts given c (Piece.Source i b) h1 h2 h3 h4 h8 h5 h6 h7 = absurd (h1 i b refl)
+piece-none s ts given c (Piece.Operator a b) h1 h2 h3 h4 h8 h5 h6 h7 = absurd (h2 a b refl)
+piece-none s ts given c (Piece.LiteralOperator b) h1 h2 h3 h4 h8 h5 h6 h7 = absurd (h3 b refl)
+piece-none s ts given c (Piece.Lambda a n) h1 h2 h3 h4 h8 h5 h6 h7 = absurd (h4 a n refl)
+piece-none s ts given c (Piece.GenericLambda a n) h1 h2 h3 h4 h8 h5 h6 h7 = absurd (h8 a n refl)
+piece-none s ts given c (Piece.Unnamed n) h1 h2 h3 h4 h8 h5 h6 h7 = absurd (h5 n refl)
+piece-none s ts given c Piece.StringLiteral h1 h2 h3 h4 h8 h5 h6 h7 = absurd (h6 refl)
+piece-none s ts given c (Piece.Conversion t) h1 h2 h3 h4 h8 h5 h6 h7 = absurd (h7 t refl)
+piece-none s ts given c _ h1 h2 h3 h4 h8 h5 h6 h7 = refl
 
-pub base-other : (s : List ℕ) (ts : List Term) (c : items.Context) (prefix : Term) (p : Piece) → ((d : ℕ) → p ≡ Piece.Constructor d → ⊥) → ((d : ℕ) → p ≡ Piece.Destructor d → ⊥) → piece_parts c (piece_of s ts p) ≡ base_within c prefix (piece_of s ts p)
-unfolding piece_of base_within
-base-other s ts c prefix (Piece.Constructor d) h1 h2 = absurd (h1 d refl)
-base-other s ts c prefix (Piece.Destructor d) h1 h2 = absurd (h2 d refl)
-base-other s ts c prefix _ h1 h2 = refl
+pub base-other : (s : List ℕ) (ts : List Term) (given : Option Term) (c : items.Context) (prefix : Term) (p : Piece) → ((d : ℕ) → p ≡ Piece.Constructor d → ⊥) → ((d : ℕ) → p ≡ Piece.Destructor d → ⊥) → piece_parts c (reargued given (piece_of s ts p)) ≡ base_within c prefix (reargued given (piece_of s ts p))
+unfolding piece_of base_within reargued
+base-other s ts given c prefix (Piece.Constructor d) h1 h2 = absurd (h1 d refl)
+base-other s ts given c prefix (Piece.Destructor d) h1 h2 = absurd (h2 d refl)
+base-other s ts given c prefix _ h1 h2 = refl
 
 -- ## Prefixes
 
-pub prefix-encoding : (s : List ℕ) (us : List Thunk) (ts : List Term) (c : items.Context) (n : Node) (t : Term) → t ≡ tree_of s us ts n → is_encoding n ≡ true → as_item heads.bare items.closed t ≡ prefix_item c t
-unfolding tree_of prefix_item is_encoding
-prefix-encoding s us ts c n t is e = subst (λ u. as_item heads.bare items.closed u ≡ prefix_item c u) (sym is) (by n e)
+pub prefix-encoding : (s : List ℕ) (us : List Thunk) (ts : List Term) (given : Option Term) (c : items.Context) (n : Node) (flat : is_again n ≡ false) (own t : Term) → own ≡ tree_of s us ts n → t ≡ reargued given (tree_of s us ts n) → is_encoding n ≡ true → as_item heads.bare items.closed own ≡ prefix_item c t
+unfolding tree_of prefix_item is_encoding reargued is_again
+prefix-encoding s us ts given c n flat own t plain is e = ap (λ u. as_item heads.bare items.closed u) plain ∙ by n flat e ∙ ap (λ u. prefix_item c u) (sym is)
   where
-    by : (n : Node) → is_encoding n ≡ true → as_item heads.bare items.closed (tree_of s us ts n) ≡ prefix_item c (tree_of s us ts n)
-    by (Node.Function a q m b d) e = refl
-    by (Node.Object a q m) e = refl
-    by (Node.Special k a) e = refl
-    by (Node.Thunk k a) e = refl
-    by (Node.OfName k a q m) e = refl
-    by (Node.Construction a g b) e = refl
-    by (Node.CloneOf k a) e = refl
-    by _ e = cc e
+    by : (n : Node) → is_again n ≡ false → is_encoding n ≡ true → as_item heads.bare items.closed (tree_of s us ts n) ≡ prefix_item c (reargued given (tree_of s us ts n))
+    by (Node.Function a q m b d u) flat e = refl
+    by (Node.Object a q m) flat e = refl
+    by (Node.Special k a) flat e = refl
+    by (Node.Thunk k a) flat e = refl
+    by (Node.OfName k a q m) flat e = refl
+    by (Node.Construction a g b) flat e = refl
+    by (Node.CloneOf k a) flat e = refl
+    by (Node.Again x z) flat e = absurd (true≢false flat)
+    by _ flat e = cc e
 
-pub prefix-other : (s : List ℕ) (us : List Thunk) (ts : List Term) (c : items.Context) (n : Node) (t : Term) → t ≡ tree_of s us ts n → is_encoding n ≡ false → ((a : ℕ) → n ≡ Node.Holder a → ⊥) → as_item heads.left c t ≡ prefix_item c t
-unfolding tree_of prefix_item is_encoding
-prefix-other s us ts c n t is e other = subst (λ u. as_item heads.left c u ≡ prefix_item c u) (sym is) (by n e other)
+pub prefix-other : (s : List ℕ) (us : List Thunk) (ts : List Term) (given : Option Term) (c : items.Context) (n : Node) (flat : is_again n ≡ false) (t : Term) → t ≡ reargued given (tree_of s us ts n) → is_encoding n ≡ false → ((a : ℕ) → n ≡ Node.Holder a → ⊥) → as_item heads.left c t ≡ prefix_item c t
+unfolding tree_of prefix_item is_encoding reargued is_again
+prefix-other s us ts given c n flat t is e other = subst (λ u. as_item heads.left c u ≡ prefix_item c u) (sym is) (by n flat e other)
   where
-    by : (n : Node) → is_encoding n ≡ false → ((a : ℕ) → n ≡ Node.Holder a → ⊥) → as_item heads.left c (tree_of s us ts n) ≡ prefix_item c (tree_of s us ts n)
-    by (Node.Function a q m b d) e other = cc e
-    by (Node.Object a q m) e other = cc e
-    by (Node.Special k a) e other = cc e
-    by (Node.Thunk k a) e other = cc e
-    by (Node.OfName k a q m) e other = cc e
-    by (Node.Construction a g b) e other = cc e
-    by (Node.CloneOf k a) e other = cc e
-    by (Node.Holder a) e other = absurd (other a refl)
-    by _ e other = refl
+    by : (n : Node) → is_again n ≡ false → is_encoding n ≡ false → ((a : ℕ) → n ≡ Node.Holder a → ⊥) → as_item heads.left c (reargued given (tree_of s us ts n)) ≡ prefix_item c (reargued given (tree_of s us ts n))
+    by (Node.Function a q m b d u) flat e other = cc e
+    by (Node.Object a q m) flat e other = cc e
+    by (Node.Special k a) flat e other = cc e
+    by (Node.Thunk k a) flat e other = cc e
+    by (Node.OfName k a q m) flat e other = cc e
+    by (Node.Construction a g b) flat e other = cc e
+    by (Node.CloneOf k a) flat e other = cc e
+    by (Node.Holder a) flat e other = absurd (other a refl)
+    by (Node.Again x z) flat e other = absurd (true≢false flat)
+    by _ flat e other = refl
 
-pub prefix-held : (s : List ℕ) (us : List Thunk) (ts : List Term) (c : items.Context) (n : Node) (t : Term) (a : ℕ) → t ≡ tree_of s us ts n → n ≡ Node.Holder a → as_item heads.left c (tree_at ts a) ≡ prefix_item c t
-unfolding tree_of prefix_item
-prefix-held s us ts c n t a is held = ap (λ m. prefix_item c (tree_of s us ts m)) (sym held) ∙ ap (λ u. prefix_item c u) (sym is)
+pub prefix-held : (s : List ℕ) (us : List Thunk) (ts : List Term) (given : Option Term) (c : items.Context) (n : Node) (flat : is_again n ≡ false) (t : Term) (a : ℕ) → t ≡ reargued given (tree_of s us ts n) → n ≡ Node.Holder a → as_item heads.left c (reargued given (tree_at ts a)) ≡ prefix_item c t
+unfolding tree_of prefix_item reargued is_again
+prefix-held s us ts given c n flat t a is held = ap (λ m. prefix_item c (reargued given (tree_of s us ts m))) (sym held) ∙ ap (λ u. prefix_item c u) (sym is)
 
-pub within-other : (s : List ℕ) (ts : List Term) (c : items.Context) (prefix t : Term) (p : Piece) → t ≡ piece_of s ts p → ((d : ℕ) → p ≡ Piece.Constructor d → ⊥) → ((d : ℕ) → p ≡ Piece.Destructor d → ⊥)
-    → prefix_item c prefix ∷ text (fixed_text COLONS) ∷ as_item heads.piece c t ∷ [] ≡ within_parts c prefix (piece_of s ts p)
-unfolding piece_of within_parts
-within-other s ts c prefix t (Piece.Constructor d) is h1 h2 = absurd (h1 d refl)
-within-other s ts c prefix t (Piece.Destructor d) is h1 h2 = absurd (h2 d refl)
-within-other s ts c prefix t (Piece.Source i b) is h1 h2 = rw is refl
-within-other s ts c prefix t (Piece.Operator a b) is h1 h2 = rw is refl
-within-other s ts c prefix t (Piece.LiteralOperator b) is h1 h2 = rw is refl
-within-other s ts c prefix t (Piece.Lambda a n) is h1 h2 = rw is refl
-within-other s ts c prefix t (Piece.Unnamed n) is h1 h2 = rw is refl
-within-other s ts c prefix t (Piece.Conversion a) is h1 h2 = rw is refl
-within-other s ts c prefix t Piece.StringLiteral is h1 h2 = rw is refl
-within-other s ts c prefix t Piece.Absent is h1 h2 = rw is refl
+pub within-other : (s : List ℕ) (ts : List Term) (given : Option Term) (c : items.Context) (prefix t : Term) (p : Piece) → t ≡ reargued given (piece_of s ts p) → ((d : ℕ) → p ≡ Piece.Constructor d → ⊥) → ((d : ℕ) → p ≡ Piece.Destructor d → ⊥)
+    → prefix_item c prefix ∷ text (fixed_text COLONS) ∷ as_item heads.piece c t ∷ [] ≡ within_parts c prefix (reargued given (piece_of s ts p))
+unfolding piece_of within_parts reargued
+within-other s ts given c prefix t (Piece.Constructor d) is h1 h2 = absurd (h1 d refl)
+within-other s ts given c prefix t (Piece.Destructor d) is h1 h2 = absurd (h2 d refl)
+within-other s ts given c prefix t (Piece.Source i b) is h1 h2 = rw is refl
+within-other s ts given c prefix t (Piece.Operator a b) is h1 h2 = rw is refl
+within-other s ts given c prefix t (Piece.LiteralOperator b) is h1 h2 = rw is refl
+within-other s ts given c prefix t (Piece.Lambda a n) is h1 h2 = rw is refl
+within-other s ts given c prefix t (Piece.GenericLambda a n) is h1 h2 = rw is refl
+within-other s ts given c prefix t (Piece.Unnamed n) is h1 h2 = rw is refl
+within-other s ts given c prefix t (Piece.Conversion a) is h1 h2 = rw is refl
+within-other s ts given c prefix t Piece.StringLiteral is h1 h2 = rw is refl
+within-other s ts given c prefix t Piece.Absent is h1 h2 = rw is refl
 
 -- ## The entity of a local name
 
-pub entity-other : (s : List ℕ) (us : List Thunk) (ts : List Term) (n : Node) (t : Term) → t ≡ tree_of s us ts n → ((g : Span) (a : ℕ) → n ≡ Node.OfDefault g a → ⊥) → t ≡ entity_of t
-unfolding tree_of entity_of
-entity-other s us ts n t is other = subst (λ u. u ≡ entity_of u) (sym is) (by n other)
+pub entity-other : (s : List ℕ) (us : List Thunk) (ts : List Term) (given : Option Term) (n : Node) (flat : is_again n ≡ false) (t : Term) → t ≡ reargued given (tree_of s us ts n) → ((g : Span) (a : ℕ) → n ≡ Node.OfDefault g a → ⊥) → t ≡ entity_of t
+unfolding tree_of entity_of reargued is_again
+entity-other s us ts given n flat t is other = subst (λ u. u ≡ entity_of u) (sym is) (by n flat other)
   where
-    by : (n : Node) → ((g : Span) (a : ℕ) → n ≡ Node.OfDefault g a → ⊥) → tree_of s us ts n ≡ entity_of (tree_of s us ts n)
-    by (Node.OfDefault g a) other = absurd (other g a refl)
-    by _ other = refl
+    by : (n : Node) → is_again n ≡ false → ((g : Span) (a : ℕ) → n ≡ Node.OfDefault g a → ⊥) → reargued given (tree_of s us ts n) ≡ entity_of (reargued given (tree_of s us ts n))
+    by (Node.OfDefault g a) flat other = absurd (other g a refl)
+    by (Node.Again x z) flat other = absurd (true≢false flat)
+    by _ flat other = refl
 
 -- ## The last piece
 
-pub last-none : (s : List ℕ) (us : List Thunk) (ts : List Term) (n : Node) (t : Term) → t ≡ tree_of s us ts n
+-- how many entities a name stands under
+unfoldable pub layers : Term → ℕ
+layers (term.local encoding entity discriminator) = suc (layers entity)
+layers (term.of_default digits entity) = suc (layers entity)
+layers _ = zero
+
+pub last-none : (s : List ℕ) (us : List Thunk) (ts : List Term) (given : Option Term) (n : Node) (flat : is_again n ≡ false) (t : Term) → t ≡ reargued given (tree_of s us ts n)
     → ((p : Piece) → n ≡ Node.Alone p → ⊥) → ((p : Piece) → n ≡ Node.InStd p → ⊥) → ((a : ℕ) (p : Piece) → n ≡ Node.Within a p → ⊥) → ((e a : ℕ) (d : Option Span) → n ≡ Node.Local e a d → ⊥) → ((g : Span) (a : ℕ) → n ≡ Node.OfDefault g a → ⊥) → fixed_text LESS ≡ opening_text (last_piece t)
-unfolding tree_of last_piece opening_text
-last-none s us ts n t is h1 h2 h3 h4 h5 = other n h1 h2 h3 h4 h5 ∙ ap (λ u. opening_text (last_piece u)) (sym is)
+unfolding tree_of last_piece opening_text reargued is_again
+last-none s us ts given n flat t is h1 h2 h3 h4 h5 = other n flat h1 h2 h3 h4 h5 ∙ ap (λ u. opening_text (last_piece u)) (sym is)
   where
-    other : (n : Node) → ((p : Piece) → n ≡ Node.Alone p → ⊥) → ((p : Piece) → n ≡ Node.InStd p → ⊥) → ((a : ℕ) (p : Piece) → n ≡ Node.Within a p → ⊥) → ((e a : ℕ) (d : Option Span) → n ≡ Node.Local e a d → ⊥) → ((g : Span) (a : ℕ) → n ≡ Node.OfDefault g a → ⊥) → fixed_text LESS ≡ opening_text (last_piece (tree_of s us ts n))
-    other (Node.Alone p) h1 h2 h3 h4 h5 = absurd (h1 p refl)
-    other (Node.InStd p) h1 h2 h3 h4 h5 = absurd (h2 p refl)
-    other (Node.Within a p) h1 h2 h3 h4 h5 = absurd (h3 a p refl)
-    other (Node.Local e a d) h1 h2 h3 h4 h5 = absurd (h4 e a d refl)
-    other (Node.OfDefault g a) h1 h2 h3 h4 h5 = absurd (h5 g a refl)
-    other _ h1 h2 h3 h4 h5 = refl
+    other : (n : Node) → is_again n ≡ false → ((p : Piece) → n ≡ Node.Alone p → ⊥) → ((p : Piece) → n ≡ Node.InStd p → ⊥) → ((a : ℕ) (p : Piece) → n ≡ Node.Within a p → ⊥) → ((e a : ℕ) (d : Option Span) → n ≡ Node.Local e a d → ⊥) → ((g : Span) (a : ℕ) → n ≡ Node.OfDefault g a → ⊥) → fixed_text LESS ≡ opening_text (last_piece (reargued given (tree_of s us ts n)))
+    other (Node.Alone p) flat h1 h2 h3 h4 h5 = absurd (h1 p refl)
+    other (Node.InStd p) flat h1 h2 h3 h4 h5 = absurd (h2 p refl)
+    other (Node.Within a p) flat h1 h2 h3 h4 h5 = absurd (h3 a p refl)
+    other (Node.Local e a d) flat h1 h2 h3 h4 h5 = absurd (h4 e a d refl)
+    other (Node.OfDefault g a) flat h1 h2 h3 h4 h5 = absurd (h5 g a refl)
+    other (Node.Again x z) flat h1 h2 h3 h4 h5 = absurd (true≢false flat)
+    other _ flat h1 h2 h3 h4 h5 = refl
 
 pub instance-whole : (c : items.Context) (t a : Term) (n : ℕ) → fixed_text n ≡ opening_text (last_piece t) → as_item heads.left c t ∷ text (fixed_text n) ∷ (list_part heads.first c a ++ (text (fixed_text GREATER) ∷ [])) ≡ instance_parts true c t a
 unfolding instance_parts

@@ -1,5 +1,5 @@
 -- What a symbol's items print.
-use Rattle.std.proofs.Common.{◌≡◌, List, [], ◌++◌, length, take, reverse, sym, ap, subst, ◌∙◌, append-nil, arith}
+use Rattle.std.proofs.Common.{◌≡◌, ℕ, None, List, [], ◌++◌, length, take, reverse, sym, ap, subst, ◌∙◌, append-nil, arith}
 use Rattle.std.specs.List.{refill}
 use Rattle.std.proofs.lemmas.List.{length-reverse, reverse-reverse, drop_all, take_all}
 use Rattle.sym_print.specs.declared.layout.Item.{Item}
@@ -8,11 +8,15 @@ use Rattle.sym_print.specs.declared.layout.Part.{Part}
 use Rattle.sym_print.specs.Unshared.{Unshared}
 use Rattle.sym_print.specs.Joined.{joined}
 use Rattle.sym_print.specs.Stacked.{Stacked}
+use Rattle.sym_print.specs.declared.detail.Detail.{Detail}
+use Rattle.sym_print.specs.Unfold.{printed}
 use Rattle.sym_print.proofs.Unfolding.{printed-parts}
+use Rattle.cpp_term.specs.Answer.{noted_shown}
 use Rattle.cpp_term.specs.Parts.{parts, parts_in}
 use Rattle.cpp_term.specs.Ranks.{rank}
 use Rattle.cpp_term.proofs.RanksNoted.{ranks_fall}
-use Rattle.cpp_tree.specs.Nodes.{IsTable}
+use Rattle.cpp_tree.specs.Nodes.{tree_at, trees, IsTable}
+use Rattle.cpp_layout.proofs.Growing.{closed-item}
 use Rattle.cpp_layout.specs.declared.context.Context.{Context}
 use Rattle.cpp_layout.specs.Layout.{ReadSymbol, table_of, item_of, bytes_of_part, unshared_of, MayCome, MayBeAsked, Shows}
 
@@ -36,3 +40,9 @@ pub filled : (y : ReadSymbol) (below held new : List (Part Context)) (s : Unshar
     → s ≡ joined (unshared_of y) (bytes_of_part y) (refill (length held) held new)
 filled y below held new s stacked empty r =
     stacked.joined ∙ sym (ap (joined (unshared_of y) (bytes_of_part y)) (turned held new r ∙ ap reverse (stacked.is ∙ ap (λ l. l ++ reverse stacked.added) empty) ∙ reverse-reverse stacked.added))
+
+-- the root, which is told nothing
+pub closed-root : (y : ReadSymbol) (d : Detail) (c : Context) (node : ℕ) → c ≡ record { index = None; detail = d; argument = None }
+    → unshared_of y (record { node = node; form = 9; at = 0; ctx = c }) ≡ noted_shown d (tree_at (trees (table_of y)) node)
+closed-root y d c node is =
+    ap (λ (x : Context). printed (parts x.detail) rank (item_of (table_of y) (record { node = node; form = 9; at = 0; ctx = x }))) is ∙ ap (printed (parts d) rank) (closed-item y d 9 node)

@@ -17,13 +17,14 @@ use Rattle.cpp_term.specs.Items as items
 use Rattle.cpp_grammar.specs.Term as plain
 use Rattle.cpp_grammar.specs.Term.{Qualifiers}
 use Rattle.cpp_grammar.specs.Parts.{blank_last, qualifier_text}
-use Rattle.cpp_term.specs.Parts.{not_empty, own_piece, placeholder, text_part, says, parts}
+use Rattle.cpp_term.specs.Parts.{not_empty, own_piece, text_part, says, parts}
 use Rattle.cpp_term.specs.Ranks.{rank}
 use Rattle.cpp_term.specs.Erased.{erase, CarriesArguments}
 use Rattle.cpp_tree.specs.declared.node.Node.{Node}
 use Rattle.cpp_tree.specs.declared.node.Piece.{Piece}
 use Rattle.cpp_layout.specs.declared.context.Context.{Context}
-use Rattle.cpp_tree.specs.Nodes.{Stored, Table, over, trees, tree_at, bytes_at, IsWithin, IsTable}
+use Rattle.cpp_tree.specs.Nodes.{Stored, Table, over, trees, tree_at, tree_of, piece_of, tree_if_there, under_kept, bytes_at, IsWithin, IsThereBelow, IsTable}
+use Rattle.cpp_term.specs.Reargued.{reargued}
 use Rattle.cpp_layout.specs.Texts.{fixed_text}
 
 -- a symbol that was read: its bytes, its nodes, the node of the whole, the rows of its shape and the steps
@@ -57,18 +58,34 @@ abbrev pub form_of : (form at : ℕ) → heads.Form
 form_of form at =
     cond (nat_eq form 0) heads.left (cond (nat_eq form 1) heads.right (cond (nat_eq form 2) heads.first (cond (nat_eq form 3) heads.more
     (cond (nat_eq form 4) heads.low (cond (nat_eq form 5) heads.base (cond (nat_eq form 6) heads.piece (cond (nat_eq form 7) heads.full
-    (cond (nat_eq form 8) heads.bare (cond (nat_eq form 9) heads.root (cond (nat_eq form 10) heads.left (cond (nat_eq form 11) heads.right (heads.expand at))))))))))))
+    (cond (nat_eq form 8) heads.bare (cond (nat_eq form 9) heads.root (heads.expand at))))))))))
 
--- the tree that a node is in a form: the type auto has no node, and is shown in forms of its own
 abbrev pub tree_in : (form : ℕ) → Term → Term
-tree_in form t = cond (nat_eq form 6) (own_piece t) (cond (nat_eq form 10) placeholder (cond (nat_eq form 11) placeholder t))
+tree_in form t = cond (nat_eq form 6) (own_piece t) t
 
 abbrev pub context_of : Context → items.Context
 context_of c = record { index = c.index }
 
+-- a tree as it is shown: with the argument in each of its free parameters, if there is one
+abbrev pub shown_in : List Term → Context → Term → Term
+shown_in ts c t = reargued (tree_if_there ts c.argument) t
+
+abbrev pub tree_shown : ReadSymbol → Context → (node : ℕ) → Term
+tree_shown y c node = shown_in (trees (table_of y)) c (tree_at (trees (table_of y)) node)
+
+-- a type of an encoding, which stands under an argument, if the word says one
+abbrev pub type_shown : ReadSymbol → (under node : ℕ) → Term
+type_shown y under node = reargued (tree_if_there (trees (table_of y)) (under_kept under)) (tree_at (trees (table_of y)) node)
+
+abbrev pub node_shown : ReadSymbol → Context → Node → Term
+node_shown y c n = shown_in (trees (table_of y)) c (tree_of y.bytes y.table.thunks (trees (table_of y)) n)
+
+abbrev pub piece_shown : ReadSymbol → Context → Piece → Term
+piece_shown y c p = shown_in (trees (table_of y)) c (piece_of y.bytes (trees (table_of y)) p)
+
 -- the item of a tree that an item of code is
 abbrev pub item_in : List Term → (node form at : ℕ) → Context → items.Item
-item_in ts node form at c = record { tree = tree_in form (tree_at ts node); form = form_of form at; context = context_of c }
+item_in ts node form at c = record { tree = tree_in form (shown_in ts c (tree_at ts node)); form = form_of form at; context = context_of c }
 
 abbrev pub item_of : Table → Item Context → items.Item
 item_of y i = item_in (trees y) i.node i.form i.at i.ctx
@@ -81,7 +98,7 @@ bytes_of y (part.Fixed number) = fixed_text number
 bytes_of y (part.Own bytes count) = take count bytes
 
 abbrev pub MayCome : Table → Part Context → Type 0
-MayCome y (part.Sub i) = i.node < length y.nodes
+MayCome y (part.Sub i) = (i.node < length y.nodes) × IsThereBelow (length y.nodes) i.ctx.argument
 MayCome y (part.Symbol span) = IsWithin span y.bytes × (span.from < span.to)
 MayCome y (part.List span) = ⊥
 MayCome y (part.Fixed number) = 0 < length (fixed_text number)
@@ -136,6 +153,7 @@ IsNoName (Node.Holder a) = ⊥
 IsNoName (Node.Tagged s name tag) = ⊥
 IsNoName (Node.Abbreviation code) = ⊥
 IsNoName (Node.Parameter k a) = ⊥
+IsNoName (Node.Again t a) = ⊥
 IsNoName _ = Unit {0}
 
 -- nor a type
@@ -163,7 +181,7 @@ IsNoType (Node.Qualified q t) = ⊥
 IsNoType (Node.Vector digits t) = ⊥
 IsNoType (Node.Complex t) = ⊥
 IsNoType (Node.SizedFloat digits end) = ⊥
-IsNoType (Node.GenericParameter number) = ⊥
+IsNoType (Node.Again t a) = ⊥
 IsNoType _ = Unit {0}
 
 -- ## A symbol as a layout

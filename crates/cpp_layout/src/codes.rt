@@ -2,7 +2,7 @@
 #![tactic(auto)]
 
 ghost use Rattle.std.specs.Prelude.{◌≡◌, ◌<◌, ◌∷◌, ◌++◌, [], codes, ◌||◌};
-ghost use Rattle.cpp_grammar.specs.Texts.{look_up, same_bytes, builtin_texts, operator_texts, abbreviation_texts, special_texts, named_special_texts, literal_endings};
+ghost use Rattle.cpp_grammar.specs.Texts.{look_up, same_bytes, builtin_texts, operator_texts, abbreviation_texts, special_texts, literal_endings};
 ghost use Rattle.cpp_term.specs.Term.{builtin};
 ghost use Rattle.cpp_term.specs.Parts.{is_plain_integer};
 ghost use Rattle.cpp_layout.specs.Texts.{fixed_text};

@@ -1,7 +1,7 @@
 // The parts of encodings.
 #![tactic(auto)]
 
-ghost use Rattle.std.specs.Prelude.{◌≡◌, true, ℕ, ◌+◌, ◌<◌, ◌≤◌, ◌++◌, ◌∷◌, [], List, length, slice_get};
+ghost use Rattle.std.specs.Prelude.{◌≡◌, true, ℕ, ◌+◌, ◌<◌, ◌≤◌, ◌++◌, ◌∷◌, [], List, length, slice_get, false};
 ghost use Rattle.sym_print.specs.Held.{Held};
 ghost use Rattle.sym_print.specs.Unfold.{PartOf, text};
 ghost use Rattle.sym_print.specs.declared.detail.Detail.{Detail};
@@ -12,10 +12,10 @@ ghost use Rattle.cpp_grammar.specs.Items as heads;
 ghost use Rattle.cpp_grammar.specs.Parts.{encoding_text, thunk_text, clone_text};
 ghost use Rattle.cpp_grammar.specs.Texts.{look_up, special_texts, named_special_texts};
 ghost use Rattle.cpp_term.specs.Parts.{as_item, construction_parts, function_bare, function_full, full_parts, bare_parts, root_parts, text_part};
-ghost use Rattle.cpp_tree.specs.Nodes.{tree_at, trees, IsTable, IsWithin, bytes_at, thunk_of, qualifiers_of, mark_of};
+ghost use Rattle.cpp_tree.specs.Nodes.{is_again, entry_at, tree_at, trees, under_kept, IsTable, IsThereBelow, IsWithin, bytes_at, thunk_of, qualifiers_of, mark_of};
 ghost use Rattle.cpp_layout.specs.Texts.{fixed_text, suffix_of};
 ghost use Rattle.cpp_layout.specs.declared.texts.TheConstants.{SUFFIX};
-ghost use Rattle.cpp_layout.specs.Layout.{table_of, clone_suffix, Shows};
+ghost use Rattle.cpp_layout.specs.Layout.{table_of, tree_shown, type_shown, clone_suffix, Shows};
 
 use crate::context::Context;
 use crate::numbered::{named_special, special};
@@ -81,25 +81,23 @@ impl Symbol {
         qualifiers: Qualifiers,
         mark: Mark,
         parameters: u32,
+        under: u32,
         detail: Detail,
     )
         requires table { IsTable (table_of self.now) }
         requires name { name < length self.now.table.nodes }
         requires parameters { parameters < length self.now.table.nodes }
+        requires under { IsThereBelow (length self.now.table.nodes) (under_kept under) }
         requires room { 5 ≤ S.room parts.old }
         ensures shows { (below : Held Context) (others : List (PartOf items.Item)) → Shows self.now detail below (S.held parts.old) others
-            → Shows self.now detail below (S.held parts.new) (function_bare true (tree_at (trees (table_of self.now)) name) (qualifiers_of qualifiers) (mark_of mark) (tree_at (trees (table_of self.now)) parameters) ++ others) }
+            → Shows self.now detail below (S.held parts.new) (function_bare true (tree_at (trees (table_of self.now)) name) (qualifiers_of qualifiers) (mark_of mark) (type_shown self.now under parameters) ++ others) }
         ensures room { S.room parts.old ≤ S.room parts.new + 5 }
     {
-        let ctx = Context {
-            index: None,
-            detail,
-        };
         self.push_suffix(parts, qualifiers, mark, false);
         self.push_text(parts, texts::RIGHT);
-        self.push_list(parts, parameters, form::FIRST, ctx);
+        self.push_typed_list(parts, parameters, form::FIRST, under, detail);
         self.push_text(parts, texts::LEFT);
-        self.push_item(parts, name, form::LEFT, 0, ctx);
+        self.push_closed(parts, name, form::LEFT, detail);
     }
 
     /// The parts of a function with its return type.
@@ -111,25 +109,23 @@ impl Symbol {
         mark: Mark,
         returned: u32,
         parameters: u32,
+        under: u32,
         detail: Detail,
     )
         requires table { IsTable (table_of self.now) }
         requires name { name < length self.now.table.nodes }
         requires returned { returned < length self.now.table.nodes }
         requires parameters { parameters < length self.now.table.nodes }
-        requires there { tree_at (trees (table_of self.now)) returned ≡ term.absent → ⊥ }
+        requires under { IsThereBelow (length self.now.table.nodes) (under_kept under) }
+        requires there { type_shown self.now under returned ≡ term.absent → ⊥ }
         requires room { 8 ≤ S.room parts.old }
-        ensures shows { Shows self.now detail (S.held parts.old) (S.held parts.new) (function_full true (tree_at (trees (table_of self.now)) name) (qualifiers_of qualifiers) (mark_of mark) (tree_at (trees (table_of self.now)) returned) (tree_at (trees (table_of self.now)) parameters)) }
+        ensures shows { Shows self.now detail (S.held parts.old) (S.held parts.new) (function_full true (tree_at (trees (table_of self.now)) name) (qualifiers_of qualifiers) (mark_of mark) (type_shown self.now under returned) (type_shown self.now under parameters)) }
         ensures few { S.room parts.old ≤ S.room parts.new + 8 }
     {
-        let ctx = Context {
-            index: None,
-            detail,
-        };
-        self.push_item(parts, returned, form::RIGHT, 0, ctx);
-        self.push_bare(parts, name, qualifiers, mark, parameters, detail);
+        self.push_typed(parts, returned, form::RIGHT, under, detail);
+        self.push_bare(parts, name, qualifiers, mark, parameters, under, detail);
         self.push_text(parts, texts::BLANK);
-        self.push_item(parts, returned, form::LEFT, 0, ctx);
+        self.push_typed(parts, returned, form::LEFT, under, detail);
     }
 
     /// The parts of an object's name.
@@ -147,12 +143,8 @@ impl Symbol {
         ensures shows { Shows self.now detail (S.held parts.old) (S.held parts.new) (as_item heads.left items.closed (tree_at (trees (table_of self.now)) name) ∷ text_part (encoding_text (qualifiers_of qualifiers) (mark_of mark))) }
         ensures few { S.room parts.old ≤ S.room parts.new + 8 }
     {
-        let closed = Context {
-            index: None,
-            detail,
-        };
         self.push_suffix(parts, qualifiers, mark, false);
-        self.push_item(parts, name, form::LEFT, 0, closed);
+        self.push_closed(parts, name, form::LEFT, detail);
     }
 
     /// The parts of a special name of a name.
@@ -172,12 +164,8 @@ impl Symbol {
             ∷ as_item heads.left items.closed (tree_at (trees (table_of self.now)) name) ∷ text_part (encoding_text (qualifiers_of qualifiers) (mark_of mark))) }
         ensures few { S.room parts.old ≤ S.room parts.new + 8 }
     {
-        let closed = Context {
-            index: None,
-            detail,
-        };
         self.push_suffix(parts, qualifiers, mark, false);
-        self.push_item(parts, name, form::LEFT, 0, closed);
+        self.push_closed(parts, name, form::LEFT, detail);
         self.push_some(parts, named_special(letter));
     }
 
@@ -190,12 +178,8 @@ impl Symbol {
             ∷ as_item heads.left items.closed (tree_at (trees (table_of self.now)) ty) ∷ as_item heads.right items.closed (tree_at (trees (table_of self.now)) ty) ∷ []) }
         ensures few { S.room parts.old ≤ S.room parts.new + 8 }
     {
-        let ctx = Context {
-            index: None,
-            detail,
-        };
-        self.push_item(parts, ty, form::RIGHT, 0, ctx);
-        self.push_item(parts, ty, form::LEFT, 0, ctx);
+        self.push_closed(parts, ty, form::RIGHT, detail);
+        self.push_closed(parts, ty, form::LEFT, detail);
         self.push_some(parts, special(letter));
     }
 
@@ -214,15 +198,11 @@ impl Symbol {
         ensures shows { Shows self.now detail (S.held parts.old) (S.held parts.new) (construction_parts (tree_at (trees (table_of self.now)) derived) (tree_at (trees (table_of self.now)) parent)) }
         ensures few { S.room parts.old ≤ S.room parts.new + 8 }
     {
-        let closed = Context {
-            index: None,
-            detail,
-        };
-        self.push_item(parts, derived, form::RIGHT, 0, closed);
-        self.push_item(parts, derived, form::LEFT, 0, closed);
+        self.push_closed(parts, derived, form::RIGHT, detail);
+        self.push_closed(parts, derived, form::LEFT, detail);
         self.push_text(parts, texts::IN);
-        self.push_item(parts, parent, form::RIGHT, 0, closed);
-        self.push_item(parts, parent, form::LEFT, 0, closed);
+        self.push_closed(parts, parent, form::RIGHT, detail);
+        self.push_closed(parts, parent, form::LEFT, detail);
         self.push_text(parts, texts::CONSTRUCTION);
     }
 
@@ -240,11 +220,7 @@ impl Symbol {
         ensures shows { Shows self.now detail (S.held parts.old) (S.held parts.new) (text (thunk_text (thunk_of self.now.bytes (slice_get self.now.table.thunks thunk))) ∷ as_item heads.full items.closed (tree_at (trees (table_of self.now)) encoding) ∷ []) }
         ensures few { S.room parts.old ≤ S.room parts.new + 8 }
     {
-        let closed = Context {
-            index: None,
-            detail,
-        };
-        self.push_item(parts, encoding, form::FULL, 0, closed);
+        self.push_closed(parts, encoding, form::FULL, detail);
         self.push_text(parts, thunk_number(self.thunk(thunk)));
     }
 
@@ -262,11 +238,7 @@ impl Symbol {
         ensures shows { Shows self.now detail (S.held parts.old) (S.held parts.new) (text (clone_text letter) ∷ as_item heads.full items.closed (tree_at (trees (table_of self.now)) encoding) ∷ []) }
         ensures few { S.room parts.old ≤ S.room parts.new + 8 }
     {
-        let closed = Context {
-            index: None,
-            detail,
-        };
-        self.push_item(parts, encoding, form::FULL, 0, closed);
+        self.push_closed(parts, encoding, form::FULL, detail);
         self.push_either(parts, letter == b't', texts::CLONE, texts::OTHER_CLONE);
     }
 
@@ -279,19 +251,26 @@ impl Symbol {
         mark: Mark,
         returned: u32,
         parameters: u32,
+        under: u32,
         detail: Detail,
     )
         requires table { IsTable (table_of self.now) }
         requires name { name < length self.now.table.nodes }
         requires returned { returned < length self.now.table.nodes }
         requires parameters { parameters < length self.now.table.nodes }
+        requires under { IsThereBelow (length self.now.table.nodes) (under_kept under) }
         requires room { 8 ≤ S.room parts.old }
-        ensures shows { Shows self.now detail (S.held parts.old) (S.held parts.new) (function_full true (tree_at (trees (table_of self.now)) name) (qualifiers_of qualifiers) (mark_of mark) (tree_at (trees (table_of self.now)) returned) (tree_at (trees (table_of self.now)) parameters)) }
+        ensures shows { Shows self.now detail (S.held parts.old) (S.held parts.new) (function_full true (tree_at (trees (table_of self.now)) name) (qualifiers_of qualifiers) (mark_of mark) (type_shown self.now under returned) (type_shown self.now under parameters)) }
         ensures few { S.room parts.old ≤ S.room parts.new + 8 }
     {
-        match self.stored(returned) {
-            Node::Absent => self.push_bare(parts, name, qualifiers, mark, parameters, detail),
-            _ => self.fill_returning(parts, name, qualifiers, mark, returned, parameters, detail),
+        let place = self.place(returned, Context::of_types(detail, under));
+        match self.stored(place.node, place.ctx) {
+            Node::Absent => {
+                self.push_bare(parts, name, qualifiers, mark, parameters, under, detail);
+            }
+            _ => self.fill_returning(
+                parts, name, qualifiers, mark, returned, parameters, under, detail,
+            ),
         }
     }
 
@@ -305,24 +284,24 @@ impl Symbol {
         mark: Mark,
         returned: u32,
         parameters: u32,
+        under: u32,
         detail: Detail,
     )
         requires table { IsTable (table_of self.now) }
         requires name { name < length self.now.table.nodes }
         requires returned { returned < length self.now.table.nodes }
         requires parameters { parameters < length self.now.table.nodes }
+        requires under { IsThereBelow (length self.now.table.nodes) (under_kept under) }
         requires room { 8 ≤ S.room parts.old }
-        ensures shows { Shows self.now detail (S.held parts.old) (S.held parts.new) (function_full (has_parameters detail) (tree_at (trees (table_of self.now)) name) (qualifiers_of qualifiers) (mark_of mark) (tree_at (trees (table_of self.now)) returned) (tree_at (trees (table_of self.now)) parameters)) }
+        ensures shows { Shows self.now detail (S.held parts.old) (S.held parts.new) (function_full (has_parameters detail) (tree_at (trees (table_of self.now)) name) (qualifiers_of qualifiers) (mark_of mark) (type_shown self.now under returned) (type_shown self.now under parameters)) }
         ensures few { S.room parts.old ≤ S.room parts.new + 8 }
     {
         if detail.has_parameters() {
-            self.fill_signature(parts, name, qualifiers, mark, returned, parameters, detail);
+            self.fill_signature(
+                parts, name, qualifiers, mark, returned, parameters, under, detail,
+            );
         } else {
-            let closed = Context {
-                index: None,
-                detail,
-            };
-            self.push_item(parts, name, form::LEFT, 0, closed);
+            self.push_closed(parts, name, form::LEFT, detail);
         }
     }
 
@@ -334,87 +313,88 @@ impl Symbol {
         qualifiers: Qualifiers,
         mark: Mark,
         parameters: u32,
+        under: u32,
         detail: Detail,
     )
         requires table { IsTable (table_of self.now) }
         requires name { name < length self.now.table.nodes }
         requires parameters { parameters < length self.now.table.nodes }
+        requires under { IsThereBelow (length self.now.table.nodes) (under_kept under) }
         requires room { 8 ≤ S.room parts.old }
-        ensures shows { Shows self.now detail (S.held parts.old) (S.held parts.new) (function_bare (has_parameters detail) (tree_at (trees (table_of self.now)) name) (qualifiers_of qualifiers) (mark_of mark) (tree_at (trees (table_of self.now)) parameters)) }
+        ensures shows { Shows self.now detail (S.held parts.old) (S.held parts.new) (function_bare (has_parameters detail) (tree_at (trees (table_of self.now)) name) (qualifiers_of qualifiers) (mark_of mark) (type_shown self.now under parameters)) }
         ensures few { S.room parts.old ≤ S.room parts.new + 8 }
     {
         if detail.has_parameters() {
-            self.push_bare(parts, name, qualifiers, mark, parameters, detail);
+            self.push_bare(parts, name, qualifiers, mark, parameters, under, detail);
         } else {
-            let closed = Context {
-                index: None,
-                detail,
-            };
-            self.push_item(parts, name, form::LEFT, 0, closed);
+            self.push_closed(parts, name, form::LEFT, detail);
         }
     }
 
     /// The parts of an encoding.
-    pub(crate) fn fill_full<S: PartList<Context>>(&self, parts: &mut S, node: u32, detail: Detail)
+    pub(crate) fn fill_full<S: PartList<Context>>(&self, parts: &mut S, node: u32, ctx: Context)
+        requires own { is_again (entry_at self.now.table.nodes node).node ≡ false }
         requires table { IsTable (table_of self.now) }
         requires node { node < length self.now.table.nodes }
         requires room { 8 ≤ S.room parts.old }
-        ensures shows { Shows self.now detail (S.held parts.old) (S.held parts.new) (full_parts detail (tree_at (trees (table_of self.now)) node)) }
+        ensures shows { Shows self.now ctx.detail (S.held parts.old) (S.held parts.new) (full_parts ctx.detail (tree_shown self.now ctx node)) }
         ensures few { S.room parts.old ≤ S.room parts.new + 8 }
     {
-        match self.stored(node) {
+        match self.stored(node, ctx) {
             Node::Function {
                 name,
                 qualifiers,
                 mark,
                 returned,
                 parameters,
-            } => self.fill_function(parts, name, qualifiers, mark, returned, parameters, detail),
+                under,
+            } => self.fill_function(
+                parts, name, qualifiers, mark, returned, parameters, under, ctx.detail,
+            ),
             Node::Object {
                 name,
                 qualifiers,
                 mark,
-            } => self.fill_object(parts, name, qualifiers, mark, detail),
-            Node::Special { letter, ty } => self.fill_special(parts, letter, ty, detail),
-            Node::Thunk { thunk, encoding } => self.fill_thunk(parts, thunk, encoding, detail),
+            } => self.fill_object(parts, name, qualifiers, mark, ctx.detail),
+            Node::Special { letter, ty } => self.fill_special(parts, letter, ty, ctx.detail),
+            Node::Thunk { thunk, encoding } => self.fill_thunk(parts, thunk, encoding, ctx.detail),
             Node::OfName {
                 letter,
                 name,
                 qualifiers,
                 mark,
-            } => self.fill_special_name(parts, letter, name, qualifiers, mark, detail),
+            } => self.fill_special_name(parts, letter, name, qualifiers, mark, ctx.detail),
             Node::Construction {
                 derived,
                 parent,
                 ..
-            } => { self.fill_construction(parts, derived, parent, detail) }
-            Node::CloneOf { letter, encoding } => self.fill_clone(parts, letter, encoding, detail),
+            } => { self.fill_construction(parts, derived, parent, ctx.detail) }
+            Node::CloneOf { letter, encoding } => self.fill_clone(
+                parts, letter, encoding, ctx.detail,
+            ),
             _ => {}
         }
     }
 
     /// The parts of an encoding without its return type.
-    pub(crate) fn fill_bare_of<S: PartList<Context>>(
-        &self,
-        parts: &mut S,
-        node: u32,
-        detail: Detail,
-    )
+    pub(crate) fn fill_bare_of<S: PartList<Context>>(&self, parts: &mut S, node: u32, ctx: Context)
+        requires own { is_again (entry_at self.now.table.nodes node).node ≡ false }
         requires table { IsTable (table_of self.now) }
         requires node { node < length self.now.table.nodes }
         requires room { 8 ≤ S.room parts.old }
-        ensures shows { Shows self.now detail (S.held parts.old) (S.held parts.new) (bare_parts detail (tree_at (trees (table_of self.now)) node)) }
+        ensures shows { Shows self.now ctx.detail (S.held parts.old) (S.held parts.new) (bare_parts ctx.detail (tree_shown self.now ctx node)) }
         ensures few { S.room parts.old ≤ S.room parts.new + 8 }
     {
-        match self.stored(node) {
+        match self.stored(node, ctx) {
             Node::Function {
                 name,
                 qualifiers,
                 mark,
                 parameters,
+                under,
                 ..
-            } => self.fill_bare(parts, name, qualifiers, mark, parameters, detail),
-            _ => self.fill_full(parts, node, detail),
+            } => self.fill_bare(parts, name, qualifiers, mark, parameters, under, ctx.detail),
+            _ => self.fill_full(parts, node, ctx),
         }
     }
 
@@ -448,24 +428,23 @@ impl Symbol {
         ensures shows { Shows self.now detail (S.held parts.old) (S.held parts.new) (root_parts (term.symbol (tree_at (trees (table_of self.now)) encoding) (bytes_at self.now.bytes suffix))) }
         ensures few { S.room parts.old ≤ S.room parts.new + 8 }
     {
-        let closed = Context {
-            index: None,
-            detail,
-        };
         self.push_clone_suffix(parts, suffix);
-        self.push_item(parts, encoding, form::FULL, 0, closed);
+        self.push_closed(parts, encoding, form::FULL, detail);
     }
 
     /// The parts of the node of a whole symbol.
-    pub(crate) fn fill_root<S: PartList<Context>>(&self, parts: &mut S, node: u32, detail: Detail)
+    pub(crate) fn fill_root<S: PartList<Context>>(&self, parts: &mut S, node: u32, ctx: Context)
+        requires own { is_again (entry_at self.now.table.nodes node).node ≡ false }
         requires table { IsTable (table_of self.now) }
         requires node { node < length self.now.table.nodes }
         requires room { 8 ≤ S.room parts.old }
-        ensures shows { Shows self.now detail (S.held parts.old) (S.held parts.new) (root_parts (tree_at (trees (table_of self.now)) node)) }
+        ensures shows { Shows self.now ctx.detail (S.held parts.old) (S.held parts.new) (root_parts (tree_shown self.now ctx node)) }
         ensures few { S.room parts.old ≤ S.room parts.new + 8 }
     {
-        match self.stored(node) {
-            Node::Whole { encoding, suffix } => self.fill_whole(parts, encoding, suffix, detail),
+        match self.stored(node, ctx) {
+            Node::Whole { encoding, suffix } => self.fill_whole(
+                parts, encoding, suffix, ctx.detail,
+            ),
             _ => {}
         }
     }

@@ -20,9 +20,4 @@ pub const BARE: u32 = 8;
 
 pub const ROOT: u32 = 9;
 
-// of a lambda's own parameter: what is left and right of the type auto, which has no node
-pub const AUTO: u32 = 10;
-
-pub const AUTO_RIGHT: u32 = 11;
-
-pub const EXPAND: u32 = 12;
+pub const EXPAND: u32 = 10;

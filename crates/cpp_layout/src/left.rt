@@ -1,14 +1,14 @@
 // The parts of names and types, left of a declared name.
 #![tactic(auto)]
 
-ghost use Rattle.std.specs.Prelude.{◌+◌, ◌<◌, ◌≤◌, ◌∷◌, [], length};
+ghost use Rattle.std.specs.Prelude.{◌≡◌, ◌+◌, ◌<◌, ◌≤◌, ◌∷◌, [], length, false};
 ghost use Rattle.sym_print.specs.Unfold.{text};
 ghost use Rattle.cpp_grammar.specs.Items as heads;
 ghost use Rattle.cpp_term.specs.Parts.{as_item, own_piece, piece_parts, left_parts, low_parts, base_parts};
-ghost use Rattle.cpp_tree.specs.Nodes.{tree_at, trees, tree_of, IsTable, IsBelow};
+ghost use Rattle.cpp_tree.specs.Nodes.{IsTable, IsBelow, IsThereBelow, is_again, entry_at};
 ghost use Rattle.cpp_layout.specs.Texts.{fixed_text};
 ghost use Rattle.cpp_layout.specs.declared.texts.TheConstants.{STD};
-ghost use Rattle.cpp_layout.specs.Layout.{table_of, context_of, Shows, IsNoName, IsNoType};
+ghost use Rattle.cpp_layout.specs.Layout.{table_of, context_of, Shows, IsNoName, IsNoType, tree_shown, node_shown};
 
 use crate::context::Context;
 use crate::numbered::{abbreviation, builtin, builtin_with_d, last_of_abbreviation};
@@ -21,9 +21,11 @@ impl Symbol {
     /// The parts of a name in std.
     // <unscoped-name> ::= St <unqualified-name>
     fn fill_in_std<S: PartList<Context>>(&self, parts: &mut S, node: u32, ctx: Context)
+        requires context { IsThereBelow (length self.now.table.nodes) ctx.argument }
+        requires own { is_again (entry_at self.now.table.nodes node).node ≡ false }
         requires node { node < length self.now.table.nodes }
         requires room { 8 ≤ S.room parts.old }
-        ensures shows { Shows self.now ctx.detail (S.held parts.old) (S.held parts.new) (text (fixed_text STD) ∷ as_item heads.piece (context_of ctx) (own_piece (tree_at (trees (table_of self.now)) node)) ∷ []) }
+        ensures shows { Shows self.now ctx.detail (S.held parts.old) (S.held parts.new) (text (fixed_text STD) ∷ as_item heads.piece (context_of ctx) (own_piece (tree_shown self.now ctx node)) ∷ []) }
         ensures few { S.room parts.old ≤ S.room parts.new + 8 }
     {
         self.push_item(parts, node, form::PIECE, 0, ctx);
@@ -37,13 +39,15 @@ impl Symbol {
         node: u32,
         ctx: Context,
     )
+        requires context { IsThereBelow (length self.now.table.nodes) ctx.argument }
+        requires own { is_again (entry_at self.now.table.nodes node).node ≡ false }
         requires table { IsTable (table_of self.now) }
         requires node { node < length self.now.table.nodes }
         requires room { 8 ≤ S.room parts.old }
-        ensures shows { Shows self.now ctx.detail (S.held parts.old) (S.held parts.new) (piece_parts (context_of ctx) (own_piece (tree_at (trees (table_of self.now)) node))) }
+        ensures shows { Shows self.now ctx.detail (S.held parts.old) (S.held parts.new) (piece_parts (context_of ctx) (own_piece (tree_shown self.now ctx node))) }
         ensures few { S.room parts.old ≤ S.room parts.new + 8 }
     {
-        match self.stored(node) {
+        match self.stored(node, ctx) {
             Node::Alone(piece) => self.fill_piece(parts, piece, ctx),
             Node::InStd(piece) => self.fill_piece(parts, piece, ctx),
             Node::Within { piece, .. } => self.fill_piece(parts, piece, ctx),
@@ -60,12 +64,13 @@ impl Symbol {
         node: Node,
         ctx: Context,
     )
+        requires context { IsThereBelow (length self.now.table.nodes) ctx.argument }
         requires table { IsTable (table_of self.now) }
         requires number { number < length self.now.table.nodes }
         requires below { IsBelow self.now.bytes (length self.now.table.thunks) number node }
         requires kind { IsNoType node }
         requires room { 8 ≤ S.room parts.old }
-        ensures shows { Shows self.now ctx.detail (S.held parts.old) (S.held parts.new) (left_parts ctx.detail (context_of ctx) (tree_of self.now.bytes self.now.table.thunks (trees (table_of self.now)) node)) }
+        ensures shows { Shows self.now ctx.detail (S.held parts.old) (S.held parts.new) (left_parts ctx.detail (context_of ctx) (node_shown self.now ctx node)) }
         ensures few { S.room parts.old ≤ S.room parts.new + 8 }
     {
         match node {
@@ -91,12 +96,13 @@ impl Symbol {
         node: Node,
         ctx: Context,
     )
+        requires context { IsThereBelow (length self.now.table.nodes) ctx.argument }
         requires table { IsTable (table_of self.now) }
         requires number { number < length self.now.table.nodes }
         requires below { IsBelow self.now.bytes (length self.now.table.thunks) number node }
         requires kind { IsNoName node }
         requires room { 8 ≤ S.room parts.old }
-        ensures shows { Shows self.now ctx.detail (S.held parts.old) (S.held parts.new) (left_parts ctx.detail (context_of ctx) (tree_of self.now.bytes self.now.table.thunks (trees (table_of self.now)) node)) }
+        ensures shows { Shows self.now ctx.detail (S.held parts.old) (S.held parts.new) (left_parts ctx.detail (context_of ctx) (node_shown self.now ctx node)) }
         ensures few { S.room parts.old ≤ S.room parts.new + 8 }
     {
         match node {
@@ -118,7 +124,6 @@ impl Symbol {
             Node::Vector { digits, element } => self.fill_vector(parts, digits, element, ctx),
             Node::Complex(ty) => self.fill_left_text(parts, ty, texts::COMPLEX, ctx),
             Node::SizedFloat { digits, end } => self.fill_float(parts, digits, end, ctx),
-            Node::GenericParameter(_) => self.push_item(parts, number, form::AUTO, 0, ctx),
             _ => self.fill_left_argument(parts, number, node, ctx),
         }
     }
@@ -126,13 +131,15 @@ impl Symbol {
     /// The left parts of a node.
     #[inline(always)]
     pub(crate) fn fill_left<S: PartList<Context>>(&self, parts: &mut S, node: u32, ctx: Context)
+        requires context { IsThereBelow (length self.now.table.nodes) ctx.argument }
+        requires own { is_again (entry_at self.now.table.nodes node).node ≡ false }
         requires table { IsTable (table_of self.now) }
         requires node { node < length self.now.table.nodes }
         requires room { 8 ≤ S.room parts.old }
-        ensures shows { Shows self.now ctx.detail (S.held parts.old) (S.held parts.new) (left_parts ctx.detail (context_of ctx) (tree_at (trees (table_of self.now)) node)) }
+        ensures shows { Shows self.now ctx.detail (S.held parts.old) (S.held parts.new) (left_parts ctx.detail (context_of ctx) (tree_shown self.now ctx node)) }
         ensures few { S.room parts.old ≤ S.room parts.new + 8 }
     {
-        let stored = self.stored(node);
+        let stored = self.stored(node, ctx);
         match stored {
             Node::Alone(piece) => self.fill_piece(parts, piece, ctx),
             Node::InStd(_) => self.fill_in_std(parts, node, ctx),
@@ -142,7 +149,8 @@ impl Symbol {
                 arguments,
             } => self.fill_instance(parts, template, arguments, ctx),
             Node::Local { entity, .. } => {
-                self.push_item(parts, self.own_entity(entity), form::LEFT, 0, ctx);
+                let own = self.own_entity(entity, ctx);
+                self.push_item(parts, own.node, form::LEFT, 0, own.ctx);
             }
             Node::Holder(name) => self.push_item(parts, name, form::LEFT, 0, ctx),
             Node::Tagged { name, tag, .. } => self.fill_tagged(parts, name, tag, ctx),
@@ -156,10 +164,12 @@ impl Symbol {
 
     /// The left parts of a node in a form in which it has no others.
     fn fill_as_left<S: PartList<Context>>(&self, parts: &mut S, node: u32, ctx: Context)
+        requires context { IsThereBelow (length self.now.table.nodes) ctx.argument }
+        requires own { is_again (entry_at self.now.table.nodes node).node ≡ false }
         requires table { IsTable (table_of self.now) }
         requires node { node < length self.now.table.nodes }
         requires room { 8 ≤ S.room parts.old }
-        ensures shows { Shows self.now ctx.detail (S.held parts.old) (S.held parts.new) (left_parts ctx.detail (context_of ctx) (tree_at (trees (table_of self.now)) node)) }
+        ensures shows { Shows self.now ctx.detail (S.held parts.old) (S.held parts.new) (left_parts ctx.detail (context_of ctx) (tree_shown self.now ctx node)) }
         ensures few { S.room parts.old ≤ S.room parts.new + 8 }
     {
         self.fill_left(parts, node, ctx);
@@ -167,13 +177,15 @@ impl Symbol {
 
     /// The left parts of a node under a reference to it: a reference is shown as one to an lvalue.
     pub(crate) fn fill_low<S: PartList<Context>>(&self, parts: &mut S, node: u32, ctx: Context)
+        requires context { IsThereBelow (length self.now.table.nodes) ctx.argument }
+        requires own { is_again (entry_at self.now.table.nodes node).node ≡ false }
         requires table { IsTable (table_of self.now) }
         requires node { node < length self.now.table.nodes }
         requires room { 8 ≤ S.room parts.old }
-        ensures shows { Shows self.now ctx.detail (S.held parts.old) (S.held parts.new) (low_parts ctx.detail (context_of ctx) (tree_at (trees (table_of self.now)) node)) }
+        ensures shows { Shows self.now ctx.detail (S.held parts.old) (S.held parts.new) (low_parts ctx.detail (context_of ctx) (tree_shown self.now ctx node)) }
         ensures few { S.room parts.old ≤ S.room parts.new + 8 }
     {
-        match self.stored(node) {
+        match self.stored(node, ctx) {
             Node::Lvalue(ty) => self.fill_lvalue(parts, ty, ctx),
             Node::Rvalue(ty) => self.fill_lvalue(parts, ty, ctx),
             Node::Qualified { ty, .. } => self.push_item(parts, ty, form::LOW, 0, ctx),
@@ -186,19 +198,22 @@ impl Symbol {
 
     /// The name of a constructor's class.
     pub(crate) fn fill_base<S: PartList<Context>>(&self, parts: &mut S, node: u32, ctx: Context)
+        requires context { IsThereBelow (length self.now.table.nodes) ctx.argument }
+        requires own { is_again (entry_at self.now.table.nodes node).node ≡ false }
         requires table { IsTable (table_of self.now) }
         requires node { node < length self.now.table.nodes }
         requires room { 8 ≤ S.room parts.old }
-        ensures shows { Shows self.now ctx.detail (S.held parts.old) (S.held parts.new) (base_parts ctx.detail (context_of ctx) (tree_at (trees (table_of self.now)) node)) }
+        ensures shows { Shows self.now ctx.detail (S.held parts.old) (S.held parts.new) (base_parts ctx.detail (context_of ctx) (tree_shown self.now ctx node)) }
         ensures few { S.room parts.old ≤ S.room parts.new + 8 }
     {
-        match self.stored(node) {
+        match self.stored(node, ctx) {
             Node::Alone(piece) => self.fill_piece(parts, piece, ctx),
             Node::InStd(piece) => self.fill_piece(parts, piece, ctx),
             Node::Within { prefix, piece } => self.fill_base_within(parts, prefix, piece, ctx),
             Node::Instance { template, .. } => self.push_item(parts, template, form::BASE, 0, ctx),
             Node::Local { entity, .. } => {
-                self.push_item(parts, self.own_entity(entity), form::BASE, 0, ctx);
+                let own = self.own_entity(entity, ctx);
+                self.push_item(parts, own.node, form::BASE, 0, own.ctx);
             }
             Node::Holder(name) => self.push_item(parts, name, form::BASE, 0, ctx),
             Node::Tagged {

@@ -1,12 +1,12 @@
 // The parts of lists, from an element on.
 #![tactic(auto)]
 
-ghost use Rattle.std.specs.Prelude.{◌≡◌, ◌+◌, ◌<◌, ◌≤◌, length};
+ghost use Rattle.std.specs.Prelude.{◌≡◌, ◌+◌, ◌<◌, ◌≤◌, length, false};
 ghost use Rattle.cpp_term.specs.Items as items;
 ghost use Rattle.cpp_term.specs.Term as term;
 ghost use Rattle.cpp_term.specs.Parts.{first_parts, more_parts, expansion_parts};
-ghost use Rattle.cpp_tree.specs.Nodes.{tree_at, trees, IsTable};
-ghost use Rattle.cpp_layout.specs.Layout.{table_of, context_of, Shows};
+ghost use Rattle.cpp_tree.specs.Nodes.{IsTable, IsThereBelow, is_again, entry_at};
+ghost use Rattle.cpp_layout.specs.Layout.{table_of, context_of, Shows, tree_shown};
 
 use crate::context::Context;
 use crate::symbol::Symbol;
@@ -15,15 +15,6 @@ use cpp_tree::node::Node;
 use sym_print::PartList;
 
 impl Symbol {
-    /// Whether a node prints nothing: an expansion over packs of no elements, or a list of such.
-    pub(crate) fn prints_nothing(&self, node: u32, ctx: Context) -> bool
-        requires table { IsTable (table_of self.now) }
-        requires node { node < length self.now.table.nodes }
-        ensures { result ≡ items.is_empty (context_of ctx) (tree_at (trees (table_of self.now)) node) }
-    {
-        self.entry(node).is_empty
-    }
-
     /// The parts of a list's elements from the first one on: one that prints nothing is passed over.
     pub(crate) fn fill_first<S: PartList<Context>>(
         &self,
@@ -32,11 +23,12 @@ impl Symbol {
         rest: u32,
         ctx: Context,
     )
+        requires context { IsThereBelow (length self.now.table.nodes) ctx.argument }
         requires table { IsTable (table_of self.now) }
         requires first { first < length self.now.table.nodes }
         requires rest { rest < length self.now.table.nodes }
         requires room { 8 ≤ S.room parts.old }
-        ensures shows { Shows self.now ctx.detail (S.held parts.old) (S.held parts.new) (first_parts (context_of ctx) (term.list (tree_at (trees (table_of self.now)) first) (tree_at (trees (table_of self.now)) rest))) }
+        ensures shows { Shows self.now ctx.detail (S.held parts.old) (S.held parts.new) (first_parts (context_of ctx) (term.list (tree_shown self.now ctx first) (tree_shown self.now ctx rest))) }
         ensures few { S.room parts.old ≤ S.room parts.new + 8 }
     {
         if self.prints_nothing(first, ctx) {
@@ -56,11 +48,12 @@ impl Symbol {
         rest: u32,
         ctx: Context,
     )
+        requires context { IsThereBelow (length self.now.table.nodes) ctx.argument }
         requires table { IsTable (table_of self.now) }
         requires first { first < length self.now.table.nodes }
         requires rest { rest < length self.now.table.nodes }
         requires room { 8 ≤ S.room parts.old }
-        ensures shows { Shows self.now ctx.detail (S.held parts.old) (S.held parts.new) (more_parts (context_of ctx) (term.list (tree_at (trees (table_of self.now)) first) (tree_at (trees (table_of self.now)) rest))) }
+        ensures shows { Shows self.now ctx.detail (S.held parts.old) (S.held parts.new) (more_parts (context_of ctx) (term.list (tree_shown self.now ctx first) (tree_shown self.now ctx rest))) }
         ensures few { S.room parts.old ≤ S.room parts.new + 8 }
     {
         if self.prints_nothing(first, ctx) {
@@ -73,15 +66,6 @@ impl Symbol {
         }
     }
 
-    /// The length of the packs that a tree holds, if it holds any.
-    pub(crate) fn packs(&self, node: u32, ctx: Context) -> Option<u32>
-        requires table { IsTable (table_of self.now) }
-        requires node { node < length self.now.table.nodes }
-        ensures { result ≡ items.packs_of (context_of ctx) (tree_at (trees (table_of self.now)) node) }
-    {
-        self.entry(node).packs
-    }
-
     /// The parts of an expansion: the pattern with dots where it holds no pack, nothing where its packs are empty, and else
     /// its elements from the first on.
     pub(crate) fn fill_expansion<S: PartList<Context>>(
@@ -90,10 +74,11 @@ impl Symbol {
         pattern: u32,
         ctx: Context,
     )
+        requires context { IsThereBelow (length self.now.table.nodes) ctx.argument }
         requires table { IsTable (table_of self.now) }
         requires pattern { pattern < length self.now.table.nodes }
         requires room { 8 ≤ S.room parts.old }
-        ensures shows { Shows self.now ctx.detail (S.held parts.old) (S.held parts.new) (expansion_parts (context_of ctx) (tree_at (trees (table_of self.now)) pattern) (items.packs_of (context_of ctx) (tree_at (trees (table_of self.now)) pattern))) }
+        ensures shows { Shows self.now ctx.detail (S.held parts.old) (S.held parts.new) (expansion_parts (context_of ctx) (tree_shown self.now ctx pattern) (items.packs_of (context_of ctx) (tree_shown self.now ctx pattern))) }
         ensures few { S.room parts.old ≤ S.room parts.new + 8 }
     {
         match self.packs(pattern, ctx) {
@@ -112,13 +97,15 @@ impl Symbol {
 
     /// The parts of a node in the form of a list's elements.
     pub(crate) fn fill_first_of<S: PartList<Context>>(&self, parts: &mut S, node: u32, ctx: Context)
+        requires context { IsThereBelow (length self.now.table.nodes) ctx.argument }
+        requires own { is_again (entry_at self.now.table.nodes node).node ≡ false }
         requires table { IsTable (table_of self.now) }
         requires node { node < length self.now.table.nodes }
         requires room { 8 ≤ S.room parts.old }
-        ensures shows { Shows self.now ctx.detail (S.held parts.old) (S.held parts.new) (first_parts (context_of ctx) (tree_at (trees (table_of self.now)) node)) }
+        ensures shows { Shows self.now ctx.detail (S.held parts.old) (S.held parts.new) (first_parts (context_of ctx) (tree_shown self.now ctx node)) }
         ensures few { S.room parts.old ≤ S.room parts.new + 8 }
     {
-        match self.stored(node) {
+        match self.stored(node, ctx) {
             Node::Cell { first, rest } => self.fill_first(parts, first, rest, ctx),
             _ => {}
         }
@@ -126,13 +113,15 @@ impl Symbol {
 
     /// The parts of a node in the form of elements behind others.
     pub(crate) fn fill_more_of<S: PartList<Context>>(&self, parts: &mut S, node: u32, ctx: Context)
+        requires context { IsThereBelow (length self.now.table.nodes) ctx.argument }
+        requires own { is_again (entry_at self.now.table.nodes node).node ≡ false }
         requires table { IsTable (table_of self.now) }
         requires node { node < length self.now.table.nodes }
         requires room { 8 ≤ S.room parts.old }
-        ensures shows { Shows self.now ctx.detail (S.held parts.old) (S.held parts.new) (more_parts (context_of ctx) (tree_at (trees (table_of self.now)) node)) }
+        ensures shows { Shows self.now ctx.detail (S.held parts.old) (S.held parts.new) (more_parts (context_of ctx) (tree_shown self.now ctx node)) }
         ensures few { S.room parts.old ≤ S.room parts.new + 8 }
     {
-        match self.stored(node) {
+        match self.stored(node, ctx) {
             Node::Cell { first, rest } => self.fill_more(parts, first, rest, ctx),
             _ => {}
         }

@@ -7,10 +7,10 @@ ghost use Rattle.cpp_grammar.specs.Items as heads;
 ghost use Rattle.cpp_grammar.specs.Texts.{look_up, literal_endings};
 ghost use Rattle.cpp_term.specs.Items as items;
 ghost use Rattle.cpp_term.specs.Parts.{as_item, says, sign_part, text_part, integer_parts};
-ghost use Rattle.cpp_tree.specs.Nodes.{tree_at, trees, IsTable, IsWithin, bytes_at, signed_of};
+ghost use Rattle.cpp_tree.specs.Nodes.{tree_at, trees, IsTable, IsWithin, bytes_at, signed_of, IsThereBelow};
 ghost use Rattle.cpp_layout.specs.Texts.{fixed_text};
 ghost use Rattle.cpp_layout.specs.declared.texts.TheConstants.{AND};
-ghost use Rattle.cpp_layout.specs.Layout.{table_of, context_of, Shows, text_if};
+ghost use Rattle.cpp_layout.specs.Layout.{table_of, context_of, Shows, text_if, tree_shown};
 
 use crate::codes::is_plain;
 use crate::context::Context;
@@ -30,6 +30,7 @@ impl Symbol {
         value: Signed,
         ctx: Context,
     )
+        requires context { IsThereBelow (length self.now.table.nodes) ctx.argument }
         requires digits { IsWithin value.digits self.now.bytes }
         requires room { 8 ≤ S.room parts.old }
         ensures shows { Shows self.now ctx.detail (S.held parts.old) (S.held parts.new) (sign_part (signed_of self.now.bytes value) ++ (text (bytes_at self.now.bytes value.digits) ∷ text_part (look_up (letter ∷ []) literal_endings))) }
@@ -48,10 +49,11 @@ impl Symbol {
         value: Signed,
         ctx: Context,
     )
+        requires context { IsThereBelow (length self.now.table.nodes) ctx.argument }
         requires ty { ty < length self.now.table.nodes }
         requires digits { IsWithin value.digits self.now.bytes }
         requires room { 8 ≤ S.room parts.old }
-        ensures shows { Shows self.now ctx.detail (S.held parts.old) (S.held parts.new) ((says "(" ∷ as_item heads.left (context_of ctx) (tree_at (trees (table_of self.now)) ty) ∷ as_item heads.right (context_of ctx) (tree_at (trees (table_of self.now)) ty) ∷ says ")" ∷ [])
+        ensures shows { Shows self.now ctx.detail (S.held parts.old) (S.held parts.new) ((says "(" ∷ as_item heads.left (context_of ctx) (tree_shown self.now ctx ty) ∷ as_item heads.right (context_of ctx) (tree_shown self.now ctx ty) ∷ says ")" ∷ [])
             ++ sign_part (signed_of self.now.bytes value) ++ (text (bytes_at self.now.bytes value.digits) ∷ [])) }
         ensures few { S.room parts.old ≤ S.room parts.new + 8 }
     {
@@ -71,14 +73,16 @@ impl Symbol {
         value: Signed,
         ctx: Context,
     )
+        requires context { IsThereBelow (length self.now.table.nodes) ctx.argument }
         requires table { IsTable (table_of self.now) }
         requires ty { ty < length self.now.table.nodes }
         requires digits { IsWithin value.digits self.now.bytes }
         requires room { 8 ≤ S.room parts.old }
-        ensures shows { Shows self.now ctx.detail (S.held parts.old) (S.held parts.new) (integer_parts (context_of ctx) (tree_at (trees (table_of self.now)) ty) (signed_of self.now.bytes value)) }
+        ensures shows { Shows self.now ctx.detail (S.held parts.old) (S.held parts.new) (integer_parts (context_of ctx) (tree_shown self.now ctx ty) (signed_of self.now.bytes value)) }
         ensures few { S.room parts.old ≤ S.room parts.new + 8 }
     {
-        match self.stored(ty) {
+        let place = self.place(ty, ctx);
+        match self.stored(place.node, place.ctx) {
             Node::Builtin(letter) => {
                 if is_plain(letter) {
                     self.fill_plain_integer(parts, letter, value, ctx);
@@ -99,16 +103,13 @@ impl Symbol {
         address: bool,
         ctx: Context,
     )
+        requires context { IsThereBelow (length self.now.table.nodes) ctx.argument }
         requires encoding { encoding < length self.now.table.nodes }
         requires room { 8 ≤ S.room parts.old }
         ensures shows { Shows self.now ctx.detail (S.held parts.old) (S.held parts.new) (text_if address (fixed_text AND) (as_item heads.bare items.closed (tree_at (trees (table_of self.now)) encoding) ∷ [])) }
         ensures few { S.room parts.old ≤ S.room parts.new + 8 }
     {
-        let closed = Context {
-            index: None,
-            detail: ctx.detail,
-        };
-        self.push_item(parts, encoding, form::BARE, 0, closed);
+        self.push_closed(parts, encoding, form::BARE, ctx.detail);
         self.push_text_if(parts, address, texts::AND);
     }
 }

@@ -11,13 +11,13 @@ ghost use Rattle.cpp_grammar.specs.Parts.{begins_with, source_text};
 ghost use Rattle.cpp_term.specs.Term as term;
 ghost use Rattle.cpp_term.specs.Items as items;
 ghost use Rattle.cpp_term.specs.Parts.{as_item, piece_parts, prefix_item, within_parts, base_within, base_tagged, own_piece, entity_of, opening_text, last_piece, instance_parts};
-ghost use Rattle.cpp_tree.specs.Nodes.{tree_at, trees, piece_of, bytes_at, IsTable, IsWithin, IsPieceBelow};
+ghost use Rattle.cpp_tree.specs.Nodes.{piece_of, tree_at, trees, bytes_at, IsTable, IsWithin, IsPieceBelow, IsThereBelow};
 ghost use Rattle.cpp_layout.specs.Texts.{fixed_text};
 ghost use Rattle.cpp_layout.specs.declared.texts.TheConstants.{BLANK_LESS, COLONS, COUNT, LESS, RIGHT_BRACKET, TAG};
-ghost use Rattle.cpp_layout.specs.Layout.{table_of, context_of, Shows, IsOwn, IsNoSource};
+ghost use Rattle.cpp_layout.specs.Layout.{table_of, context_of, Shows, IsOwn, IsNoSource, tree_shown, piece_shown};
 
 use crate::codes::{is_angle_code, operator};
-use crate::context::Context;
+use crate::context::{Context, Place};
 use crate::symbol::Symbol;
 use crate::{form, texts};
 use cpp_tree::node::{Node, Piece};
@@ -121,10 +121,11 @@ impl Symbol {
         number: u64,
         ctx: Context,
     )
+        requires context { IsThereBelow (length self.now.table.nodes) ctx.argument }
         requires table { IsTable (table_of self.now) }
         requires parameters { parameters < length self.now.table.nodes }
         requires room { 8 ≤ S.room parts.old }
-        ensures shows { Shows self.now ctx.detail (S.held parts.old) (S.held parts.new) (piece_parts (context_of ctx) (term.lambda (tree_at (trees (table_of self.now)) parameters) number)) }
+        ensures shows { Shows self.now ctx.detail (S.held parts.old) (S.held parts.new) (piece_parts (context_of ctx) (term.lambda (tree_shown self.now ctx parameters) number)) }
         ensures few { S.room parts.old ≤ S.room parts.new + 8 }
     {
         self.push_text(parts, texts::BRACE);
@@ -134,9 +135,28 @@ impl Symbol {
         self.push_text(parts, texts::LAMBDA);
     }
 
+    /// The parts of the name of a lambda whose signature names parameters of its own.
+    // <closure-type-name> ::= Ul <lambda-sig> E [ <nonnegative number> ] _
+    fn fill_generic_lambda<S: PartList<Context>>(
+        &self,
+        parts: &mut S,
+        parameters: u32,
+        number: u64,
+        ctx: Context,
+    )
+        requires table { IsTable (table_of self.now) }
+        requires parameters { parameters < length self.now.table.nodes }
+        requires room { 8 ≤ S.room parts.old }
+        ensures shows { Shows self.now ctx.detail (S.held parts.old) (S.held parts.new) (piece_parts (context_of ctx) (term.generic_lambda (tree_at (trees (table_of self.now)) parameters) number)) }
+        ensures few { S.room parts.old ≤ S.room parts.new + 8 }
+    {
+        self.fill_lambda(parts, parameters, number, ctx.of_its_own());
+    }
+
     /// The parts of an unnamed type's name.
     // <unnamed-type-name> ::= Ut [ <nonnegative number> ] _
     fn fill_unnamed<S: PartList<Context>>(&self, parts: &mut S, number: u64, ctx: Context)
+        requires context { IsThereBelow (length self.now.table.nodes) ctx.argument }
         requires room { 8 ≤ S.room parts.old }
         ensures shows { Shows self.now ctx.detail (S.held parts.old) (S.held parts.new) (piece_parts (context_of ctx) (term.unnamed number)) }
         ensures few { S.room parts.old ≤ S.room parts.new + 8 }
@@ -149,6 +169,7 @@ impl Symbol {
     /// The parts of a literal operator's name.
     // <operator-name> ::= li <source-name>
     fn fill_literal_operator<S: PartList<Context>>(&self, parts: &mut S, name: Span, ctx: Context)
+        requires context { IsThereBelow (length self.now.table.nodes) ctx.argument }
         requires name { IsWithin name self.now.bytes }
         requires room { 8 ≤ S.room parts.old }
         ensures shows { Shows self.now ctx.detail (S.held parts.old) (S.held parts.new) (piece_parts (context_of ctx) (term.literal_operator (bytes_at self.now.bytes name))) }
@@ -161,9 +182,10 @@ impl Symbol {
     /// The parts of the name of a conversion to a type.
     // <operator-name> ::= cv <type>
     fn fill_conversion<S: PartList<Context>>(&self, parts: &mut S, ty: u32, ctx: Context)
+        requires context { IsThereBelow (length self.now.table.nodes) ctx.argument }
         requires ty { ty < length self.now.table.nodes }
         requires room { 8 ≤ S.room parts.old }
-        ensures shows { Shows self.now ctx.detail (S.held parts.old) (S.held parts.new) (piece_parts (context_of ctx) (term.conversion (tree_at (trees (table_of self.now)) ty))) }
+        ensures shows { Shows self.now ctx.detail (S.held parts.old) (S.held parts.new) (piece_parts (context_of ctx) (term.conversion (tree_shown self.now ctx ty))) }
         ensures few { S.room parts.old ≤ S.room parts.new + 8 }
     {
         self.push_item(parts, ty, form::RIGHT, 0, ctx);
@@ -173,11 +195,12 @@ impl Symbol {
 
     /// The parts of a piece that is no source name.
     fn fill_rare_piece<S: PartList<Context>>(&self, parts: &mut S, piece: Piece, ctx: Context)
+        requires context { IsThereBelow (length self.now.table.nodes) ctx.argument }
         requires table { IsTable (table_of self.now) }
         requires piece { IsPieceBelow self.now.bytes (length self.now.table.nodes) piece }
         requires kind { IsNoSource piece }
         requires room { 8 ≤ S.room parts.old }
-        ensures shows { Shows self.now ctx.detail (S.held parts.old) (S.held parts.new) (piece_parts (context_of ctx) (piece_of self.now.bytes (trees (table_of self.now)) piece)) }
+        ensures shows { Shows self.now ctx.detail (S.held parts.old) (S.held parts.new) (piece_parts (context_of ctx) (piece_shown self.now ctx piece)) }
         ensures few { S.room parts.old ≤ S.room parts.new + 8 }
     {
         match piece {
@@ -185,6 +208,9 @@ impl Symbol {
             Piece::LiteralOperator(name) => self.fill_literal_operator(parts, name, ctx),
             Piece::Lambda { parameters, number } => {
                 self.fill_lambda(parts, parameters, number, ctx);
+            }
+            Piece::GenericLambda { parameters, number } => {
+                self.fill_generic_lambda(parts, parameters, number, ctx);
             }
             Piece::Unnamed(number) => self.fill_unnamed(parts, number, ctx),
             Piece::StringLiteral => self.push_text(parts, texts::STRING),
@@ -196,10 +222,11 @@ impl Symbol {
     /// The parts of a piece of a name.
     #[inline(always)]
     pub(crate) fn fill_piece<S: PartList<Context>>(&self, parts: &mut S, piece: Piece, ctx: Context)
+        requires context { IsThereBelow (length self.now.table.nodes) ctx.argument }
         requires table { IsTable (table_of self.now) }
         requires piece { IsPieceBelow self.now.bytes (length self.now.table.nodes) piece }
         requires room { 8 ≤ S.room parts.old }
-        ensures shows { Shows self.now ctx.detail (S.held parts.old) (S.held parts.new) (piece_parts (context_of ctx) (piece_of self.now.bytes (trees (table_of self.now)) piece)) }
+        ensures shows { Shows self.now ctx.detail (S.held parts.old) (S.held parts.new) (piece_parts (context_of ctx) (piece_shown self.now ctx piece)) }
         ensures few { S.room parts.old ≤ S.room parts.new + 8 }
     {
         match piece {
@@ -212,24 +239,22 @@ impl Symbol {
     /// entity, which is shown without its return type.
     #[inline(always)]
     fn push_prefix<S: PartList<Context>>(&self, parts: &mut S, prefix: u32, ctx: Context)
+        requires context { IsThereBelow (length self.now.table.nodes) ctx.argument }
         requires room { 0 < S.room parts.old }
         requires table { IsTable (table_of self.now) }
         requires prefix { prefix < length self.now.table.nodes }
         ensures shows { (below : Held Context) (others : List (PartOf items.Item)) → Shows self.now ctx.detail below (S.held parts.old) others
-            → Shows self.now ctx.detail below (S.held parts.new) (prefix_item (context_of ctx) (tree_at (trees (table_of self.now)) prefix) ∷ others) }
+            → Shows self.now ctx.detail below (S.held parts.new) (prefix_item (context_of ctx) (tree_shown self.now ctx prefix) ∷ others) }
         ensures room { S.room parts.new + 1 ≡ S.room parts.old }
     {
-        let stored = self.stored(prefix);
+        let place = self.place(prefix, ctx);
+        let stored = self.stored(place.node, place.ctx);
         if stored.is_encoding() {
-            let closed = Context {
-                index: None,
-                detail: ctx.detail,
-            };
-            self.push_item(parts, prefix, form::BARE, 0, closed);
+            self.push_closed(parts, place.node, form::BARE, ctx.detail);
             return;
         }
         match stored {
-            Node::Holder(name) => self.push_item(parts, name, form::LEFT, 0, ctx),
+            Node::Holder(name) => self.push_item(parts, name, form::LEFT, 0, place.ctx),
             _ => self.push_item(parts, prefix, form::LEFT, 0, ctx),
         }
     }
@@ -243,10 +268,11 @@ impl Symbol {
         number: u16,
         ctx: Context,
     )
+        requires context { IsThereBelow (length self.now.table.nodes) ctx.argument }
         requires prefix { prefix < length self.now.table.nodes }
         requires number { 0 < length (fixed_text number) }
         requires room { 8 ≤ S.room parts.old }
-        ensures shows { Shows self.now ctx.detail (S.held parts.old) (S.held parts.new) (as_item left (context_of ctx) (tree_at (trees (table_of self.now)) prefix) ∷ text (fixed_text number) ∷ as_item base (context_of ctx) (tree_at (trees (table_of self.now)) prefix) ∷ []) }
+        ensures shows { Shows self.now ctx.detail (S.held parts.old) (S.held parts.new) (as_item left (context_of ctx) (tree_shown self.now ctx prefix) ∷ text (fixed_text number) ∷ as_item base (context_of ctx) (tree_shown self.now ctx prefix) ∷ []) }
         ensures few { S.room parts.old ≤ S.room parts.new + 8 }
     {
         self.push_item(parts, prefix, form::BASE, 0, ctx);
@@ -256,12 +282,13 @@ impl Symbol {
 
     /// The parts of a piece behind its prefix.
     fn fill_nested<S: PartList<Context>>(&self, parts: &mut S, node: u32, prefix: u32, ctx: Context)
+        requires context { IsThereBelow (length self.now.table.nodes) ctx.argument }
         requires table { IsTable (table_of self.now) }
         requires node { node < length self.now.table.nodes }
         requires prefix { prefix < length self.now.table.nodes }
         requires room { 8 ≤ S.room parts.old }
-        ensures shows { Shows self.now ctx.detail (S.held parts.old) (S.held parts.new) (prefix_item (context_of ctx) (tree_at (trees (table_of self.now)) prefix)
-            ∷ text (fixed_text COLONS) ∷ as_item piece (context_of ctx) (own_piece (tree_at (trees (table_of self.now)) node)) ∷ []) }
+        ensures shows { Shows self.now ctx.detail (S.held parts.old) (S.held parts.new) (prefix_item (context_of ctx) (tree_shown self.now ctx prefix)
+            ∷ text (fixed_text COLONS) ∷ as_item piece (context_of ctx) (own_piece (tree_shown self.now ctx node)) ∷ []) }
         ensures few { S.room parts.old ≤ S.room parts.new + 8 }
     {
         self.push_item(parts, node, form::PIECE, 0, ctx);
@@ -279,12 +306,13 @@ impl Symbol {
         piece: Piece,
         ctx: Context,
     )
+        requires context { IsThereBelow (length self.now.table.nodes) ctx.argument }
         requires table { IsTable (table_of self.now) }
         requires node { node < length self.now.table.nodes }
         requires prefix { prefix < length self.now.table.nodes }
-        requires own { own_piece (tree_at (trees (table_of self.now)) node) ≡ piece_of self.now.bytes (trees (table_of self.now)) piece }
+        requires own { own_piece (tree_shown self.now ctx node) ≡ piece_shown self.now ctx piece }
         requires room { 8 ≤ S.room parts.old }
-        ensures shows { Shows self.now ctx.detail (S.held parts.old) (S.held parts.new) (within_parts (context_of ctx) (tree_at (trees (table_of self.now)) prefix) (piece_of self.now.bytes (trees (table_of self.now)) piece)) }
+        ensures shows { Shows self.now ctx.detail (S.held parts.old) (S.held parts.new) (within_parts (context_of ctx) (tree_shown self.now ctx prefix) (piece_shown self.now ctx piece)) }
         ensures few { S.room parts.old ≤ S.room parts.new + 8 }
     {
         match piece {
@@ -296,29 +324,38 @@ impl Symbol {
 
     /// The entity of a local name. In which default argument it stands isn't shown.
     #[inline(always)]
-    pub(crate) fn own_entity(&self, entity: u32) -> u32
+    pub(crate) fn own_entity(&self, entity: u32, ctx: Context) -> Place
         requires table { IsTable (table_of self.now) }
         requires entity { entity < length self.now.table.nodes }
-        ensures tree { tree_at (trees (table_of self.now)) result ≡ entity_of (tree_at (trees (table_of self.now)) entity) }
-        ensures below { result < length self.now.table.nodes }
+        requires context { IsThereBelow (length self.now.table.nodes) ctx.argument }
+        ensures tree { tree_shown self.now result.ctx result.node ≡ entity_of (tree_shown self.now ctx entity) }
+        ensures index { context_of result.ctx ≡ context_of ctx }
+        ensures detail { result.ctx.detail ≡ ctx.detail }
+        ensures below { result.node < length self.now.table.nodes }
+        ensures context { IsThereBelow (length self.now.table.nodes) result.ctx.argument }
     {
-        match self.stored(entity) {
-            Node::OfDefault { entity, .. } => entity,
-            _ => entity,
+        let place = self.place(entity, ctx);
+        match self.stored(place.node, place.ctx) {
+            Node::OfDefault { entity, .. } => Place {
+                node: entity,
+                ctx: place.ctx,
+            },
+            _ => place,
         }
     }
 
     /// Whether a name's last piece is the operator << or <.
-    fn ends_in_angle(&self, template: u32) -> bool
+    fn ends_in_angle(&self, template: u32, ctx: Context) -> bool
         requires table { IsTable (table_of self.now) }
         requires template { template < length self.now.table.nodes }
-        ensures { fixed_text (if result then BLANK_LESS else LESS) ≡ opening_text (last_piece (tree_at (trees (table_of self.now)) template)) }
+        requires context { IsThereBelow (length self.now.table.nodes) ctx.argument }
+        ensures { fixed_text (if result then BLANK_LESS else LESS) ≡ opening_text (last_piece (tree_shown self.now ctx template)) }
     {
-        let mut name = template;
+        let mut place = self.place(template, ctx);
         'entities: loop {
-            match self.stored(name) {
-                Node::Local { entity, .. } => name = entity,
-                Node::OfDefault { entity, .. } => name = entity,
+            match self.stored(place.node, place.ctx) {
+                Node::Local { entity, .. } => place = self.place(entity, place.ctx),
+                Node::OfDefault { entity, .. } => place = self.place(entity, place.ctx),
                 Node::Alone(piece) => return is_angle(piece),
                 Node::InStd(piece) => return is_angle(piece),
                 Node::Within { piece, .. } => return is_angle(piece),
@@ -336,15 +373,16 @@ impl Symbol {
         arguments: u32,
         ctx: Context,
     )
+        requires context { IsThereBelow (length self.now.table.nodes) ctx.argument }
         requires table { IsTable (table_of self.now) }
         requires template { template < length self.now.table.nodes }
         requires arguments { arguments < length self.now.table.nodes }
         requires room { 8 ≤ S.room parts.old }
-        ensures shows { Shows self.now ctx.detail (S.held parts.old) (S.held parts.new) (instance_parts (has_arguments ctx.detail) (context_of ctx) (tree_at (trees (table_of self.now)) template) (tree_at (trees (table_of self.now)) arguments)) }
+        ensures shows { Shows self.now ctx.detail (S.held parts.old) (S.held parts.new) (instance_parts (has_arguments ctx.detail) (context_of ctx) (tree_shown self.now ctx template) (tree_shown self.now ctx arguments)) }
         ensures few { S.room parts.old ≤ S.room parts.new + 8 }
     {
         if ctx.detail.has_arguments() {
-            let blank = self.ends_in_angle(template);
+            let blank = self.ends_in_angle(template, ctx);
             self.push_text(parts, texts::GREATER);
             self.push_list(parts, arguments, form::FIRST, ctx);
             self.push_either(parts, blank, texts::BLANK_LESS, texts::LESS);
@@ -362,11 +400,12 @@ impl Symbol {
         piece: Piece,
         ctx: Context,
     )
+        requires context { IsThereBelow (length self.now.table.nodes) ctx.argument }
         requires table { IsTable (table_of self.now) }
         requires prefix { prefix < length self.now.table.nodes }
         requires piece { IsPieceBelow self.now.bytes (length self.now.table.nodes) piece }
         requires room { 8 ≤ S.room parts.old }
-        ensures shows { Shows self.now ctx.detail (S.held parts.old) (S.held parts.new) (base_within (context_of ctx) (tree_at (trees (table_of self.now)) prefix) (piece_of self.now.bytes (trees (table_of self.now)) piece)) }
+        ensures shows { Shows self.now ctx.detail (S.held parts.old) (S.held parts.new) (base_within (context_of ctx) (tree_shown self.now ctx prefix) (piece_shown self.now ctx piece)) }
         ensures few { S.room parts.old ≤ S.room parts.new + 8 }
     {
         match piece {
@@ -385,10 +424,11 @@ impl Symbol {
         tag: Span,
         ctx: Context,
     )
+        requires context { IsThereBelow (length self.now.table.nodes) ctx.argument }
         requires name { name < length self.now.table.nodes }
         requires tag { IsWithin tag self.now.bytes }
         requires room { 8 ≤ S.room parts.old }
-        ensures shows { Shows self.now ctx.detail (S.held parts.old) (S.held parts.new) (as_item left (context_of ctx) (tree_at (trees (table_of self.now)) name) ∷ text (fixed_text TAG) ∷ text (bytes_at self.now.bytes tag) ∷ text (fixed_text RIGHT_BRACKET) ∷ []) }
+        ensures shows { Shows self.now ctx.detail (S.held parts.old) (S.held parts.new) (as_item left (context_of ctx) (tree_shown self.now ctx name) ∷ text (fixed_text TAG) ∷ text (bytes_at self.now.bytes tag) ∷ text (fixed_text RIGHT_BRACKET) ∷ []) }
         ensures few { S.room parts.old ≤ S.room parts.new + 8 }
     {
         self.push_text(parts, texts::RIGHT_BRACKET);
@@ -405,16 +445,18 @@ impl Symbol {
         name: u32,
         ctx: Context,
     )
+        requires context { IsThereBelow (length self.now.table.nodes) ctx.argument }
         requires table { IsTable (table_of self.now) }
         requires name { name < length self.now.table.nodes }
         requires room { 8 ≤ S.room parts.old }
-        ensures shows { Shows self.now ctx.detail (S.held parts.old) (S.held parts.new) (base_tagged (context_of ctx) of_structor (tree_at (trees (table_of self.now)) name)) }
+        ensures shows { Shows self.now ctx.detail (S.held parts.old) (S.held parts.new) (base_tagged (context_of ctx) of_structor (tree_shown self.now ctx name)) }
         ensures few { S.room parts.old ≤ S.room parts.new + 8 }
     {
         if of_structor {
             self.push_item(parts, name, form::BASE, 0, ctx);
         } else {
-            self.fill_own_piece(parts, self.untagged(name), ctx);
+            let inner = self.untagged(name, ctx);
+            self.fill_own_piece(parts, inner.node, inner.ctx);
         }
     }
 }

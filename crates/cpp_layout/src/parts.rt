@@ -7,15 +7,15 @@ ghost use Rattle.sym_print.specs.Unfold.{PartOf, text, sub};
 ghost use Rattle.sym_print.specs.declared.detail.Detail.{Detail};
 ghost use Rattle.cpp_term.specs.Items as items;
 ghost use Rattle.cpp_term.specs.Parts.{list_part};
-ghost use Rattle.cpp_tree.specs.Nodes.{tree_at, trees, IsTable, bytes_at, IsWithin};
+ghost use Rattle.cpp_tree.specs.Nodes.{tree_at, trees, under_kept, IsTable, bytes_at, IsWithin, IsThereBelow};
 ghost use Rattle.cpp_layout.specs.Texts.{fixed_text};
-ghost use Rattle.cpp_layout.specs.Layout.{table_of, item_in, form_of, context_of, text_if, Shows};
+ghost use Rattle.cpp_layout.specs.Layout.{table_of, item_in, form_of, tree_in, context_of, text_if, Shows, tree_shown, type_shown};
 
 use crate::context::Context;
 use crate::symbol::Symbol;
 use cpp_tree::node::Node;
 use sym_core::Span;
-use sym_print::{Item, Part, PartList};
+use sym_print::{Detail, Item, Part, PartList};
 
 impl Symbol {
     /// Adds an item.
@@ -28,6 +28,7 @@ impl Symbol {
         at: u32,
         ctx: Context,
     )
+        requires context { IsThereBelow (length self.now.table.nodes) ctx.argument }
         requires room { 0 < S.room parts.old }
         requires node { node < length self.now.table.nodes }
         ensures shows { (below : Held Context) (others : List (PartOf items.Item)) → Shows self.now ctx.detail below (S.held parts.old) others
@@ -114,17 +115,79 @@ impl Symbol {
         form: u32,
         ctx: Context,
     )
+        requires context { IsThereBelow (length self.now.table.nodes) ctx.argument }
         requires room { 0 < S.room parts.old }
         requires table { IsTable (table_of self.now) }
         requires list { list < length self.now.table.nodes }
         requires plain { form < 6 }
         ensures shows { (below : Held Context) (others : List (PartOf items.Item)) → Shows self.now ctx.detail below (S.held parts.old) others
-            → Shows self.now ctx.detail below (S.held parts.new) (list_part (form_of form 0) (context_of ctx) (tree_at (trees (table_of self.now)) list) ++ others) }
+            → Shows self.now ctx.detail below (S.held parts.new) (list_part (form_of form 0) (context_of ctx) (tree_shown self.now ctx list) ++ others) }
         ensures room { S.room parts.old ≤ S.room parts.new + 1 }
     {
-        match self.entry(list).node {
+        let place = self.place(list, ctx);
+        match self.stored(place.node, place.ctx) {
             Node::Nil => {}
             _ => self.push_item(parts, list, form, 0, ctx),
         }
+    }
+
+    /// Adds an item of an encoding, which is told nothing.
+    #[inline(always)]
+    pub(crate) fn push_closed<S: PartList<Context>>(
+        &self,
+        parts: &mut S,
+        node: u32,
+        form: u32,
+        detail: Detail,
+    )
+        requires room { 0 < S.room parts.old }
+        requires node { node < length self.now.table.nodes }
+        ensures shows { (below : Held Context) (others : List (PartOf items.Item)) → Shows self.now detail below (S.held parts.old) others
+            → Shows self.now detail below (S.held parts.new) (sub (record { tree = tree_in form (tree_at (trees (table_of self.now)) node); form = form_of form 0; context = items.closed }) ∷ others) }
+        ensures room { S.room parts.new + 1 ≡ S.room parts.old }
+    {
+        self.push_item(parts, node, form, 0, Context::closed(detail));
+    }
+
+    /// Adds an item of an encoding's types, which stand under the argument that this word says, if it says one.
+    #[inline(always)]
+    pub(crate) fn push_typed<S: PartList<Context>>(
+        &self,
+        parts: &mut S,
+        node: u32,
+        form: u32,
+        under: u32,
+        detail: Detail,
+    )
+        requires under { IsThereBelow (length self.now.table.nodes) (under_kept under) }
+        requires room { 0 < S.room parts.old }
+        requires node { node < length self.now.table.nodes }
+        ensures shows { (below : Held Context) (others : List (PartOf items.Item)) → Shows self.now detail below (S.held parts.old) others
+            → Shows self.now detail below (S.held parts.new) (sub (record { tree = tree_in form (type_shown self.now under node); form = form_of form 0; context = items.closed }) ∷ others) }
+        ensures room { S.room parts.new + 1 ≡ S.room parts.old }
+    {
+        self.push_item(parts, node, form, 0, Context::of_types(detail, under));
+    }
+
+    /// Adds a list of an encoding's types, unless it is that of no elements.
+    #[inline(always)]
+    pub(crate) fn push_typed_list<S: PartList<Context>>(
+        &self,
+        parts: &mut S,
+        list: u32,
+        form: u32,
+        under: u32,
+        detail: Detail,
+    )
+        requires under { IsThereBelow (length self.now.table.nodes) (under_kept under) }
+        requires room { 0 < S.room parts.old }
+        requires table { IsTable (table_of self.now) }
+        requires list { list < length self.now.table.nodes }
+        requires plain { form < 6 }
+        ensures shows { (below : Held Context) (others : List (PartOf items.Item)) → Shows self.now detail below (S.held parts.old) others
+            → Shows self.now detail below (S.held parts.new) (list_part (form_of form 0) items.closed (type_shown self.now under list) ++ others) }
+        ensures room { S.room parts.old ≤ S.room parts.new + 1 }
+    {
+        self.push_list(parts, list, form, Context::of_types(detail, under));
     }
 }

@@ -1,7 +1,7 @@
 // A symbol as a layout, and its text.
 #![tactic(auto)]
 
-ghost use Rattle.std.specs.Prelude.{◌≡◌, ◌+◌, ◌<◌, ◌≤◌, ◌^◌, ◌++◌, [], List, length, vec_len, vec_capacity, true, IfOk, IfErr, OnOk, ◌⊎◌, Err};
+ghost use Rattle.std.specs.Prelude.{◌≡◌, ◌+◌, ◌<◌, ◌≤◌, ◌^◌, ◌++◌, [], List, length, vec_len, vec_capacity, true, IfOk, IfErr, OnOk, ◌⊎◌, Err, false};
 ghost use Rattle.std.specs.List.{All};
 ghost use Rattle.sym_core.specs.declared.Refusal.{Refusal};
 ghost use Rattle.sym_print.specs.declared.layout.Part.{Part};
@@ -14,11 +14,10 @@ ghost use Rattle.sym_print.specs.Unfold.{PartOf};
 ghost use Rattle.cpp_term.specs.Items as items;
 ghost use Rattle.cpp_grammar.specs.Parts.{is_below};
 ghost use Rattle.cpp_term.specs.Parts.{parts_in, expand_parts, expand_rest};
-ghost use Rattle.cpp_tree.specs.Nodes.{tree_at, trees, IsTable};
-ghost use Rattle.cpp_layout.specs.Layout.{table_of, context_of, form_of, tree_in, Shows, unshared_of, bytes_of_part, MayBeAsked, shown_symbol};
+ghost use Rattle.cpp_tree.specs.Nodes.{is_again, entry_at, IsTable, IsThereBelow};
+ghost use Rattle.cpp_layout.specs.Layout.{table_of, context_of, form_of, tree_in, Shows, unshared_of, bytes_of_part, MayBeAsked, shown_symbol, tree_shown};
 
 use crate::context::Context;
-use crate::numbered::builtin_with_d;
 use crate::symbol::Symbol;
 use crate::{form, texts};
 use arrayvec::ArrayVec;
@@ -41,11 +40,12 @@ fn has_next(packs: Option<u32>, at: u32) -> bool
 impl Symbol {
     /// Adds an expansion's elements behind one.
     fn push_next<S: PartList<Context>>(&self, parts: &mut S, pattern: u32, at: u32, ctx: Context)
+        requires context { IsThereBelow (length self.now.table.nodes) ctx.argument }
         requires table { IsTable (table_of self.now) }
         requires pattern { pattern < length self.now.table.nodes }
         requires room { 0 < S.room parts.old }
         ensures shows { (below : Held Context) (others : List (PartOf items.Item)) → Shows self.now ctx.detail below (S.held parts.old) others
-            → Shows self.now ctx.detail below (S.held parts.new) (expand_rest (context_of ctx) (tree_at (trees (table_of self.now)) pattern) (at + 1) ++ others) }
+            → Shows self.now ctx.detail below (S.held parts.new) (expand_rest (context_of ctx) (tree_shown self.now ctx pattern) (at + 1) ++ others) }
         ensures room { S.room parts.old ≤ S.room parts.new + 1 }
     {
         if has_next(self.packs(pattern, ctx), at) {
@@ -55,15 +55,16 @@ impl Symbol {
 
     /// The parts of an expansion's elements from one on.
     fn fill_expand<S: PartList<Context>>(&self, parts: &mut S, pattern: u32, at: u32, ctx: Context)
+        requires context { IsThereBelow (length self.now.table.nodes) ctx.argument }
         requires table { IsTable (table_of self.now) }
         requires pattern { pattern < length self.now.table.nodes }
         requires room { 8 ≤ S.room parts.old }
-        ensures shows { Shows self.now ctx.detail (S.held parts.old) (S.held parts.new) (expand_parts (context_of ctx) (tree_at (trees (table_of self.now)) pattern) at) }
+        ensures shows { Shows self.now ctx.detail (S.held parts.old) (S.held parts.new) (expand_parts (context_of ctx) (tree_shown self.now ctx pattern) at) }
         ensures few { S.room parts.old ≤ S.room parts.new + 8 }
     {
         let inner = Context {
             index: Some(at),
-            detail: ctx.detail,
+            ..ctx
         };
         self.push_next(parts, pattern, at, ctx);
         self.push_item(parts, pattern, form::RIGHT, 0, inner);
@@ -81,10 +82,33 @@ impl Symbol {
         at: u32,
         ctx: Context,
     )
+        requires context { IsThereBelow (length self.now.table.nodes) ctx.argument }
         requires table { IsTable (table_of self.now) }
         requires node { node < length self.now.table.nodes }
         requires room { 8 ≤ S.room parts.old }
-        ensures shows { Shows self.now ctx.detail (S.held parts.old) (S.held parts.new) (parts_in ctx.detail (context_of ctx) (form_of form at) (tree_in form (tree_at (trees (table_of self.now)) node))) }
+        ensures shows { Shows self.now ctx.detail (S.held parts.old) (S.held parts.new) (parts_in ctx.detail (context_of ctx) (form_of form at) (tree_in form (tree_shown self.now ctx node))) }
+        ensures few { S.room parts.old ≤ S.room parts.new + 8 }
+    {
+        let place = self.place(node, ctx);
+        self.fill_own(parts, place.node, form, at, place.ctx);
+    }
+
+    /// The same of a node whose tree isn't there again.
+    #[inline(always)]
+    fn fill_own<S: PartList<Context>>(
+        &self,
+        parts: &mut S,
+        node: u32,
+        form: u32,
+        at: u32,
+        ctx: Context,
+    )
+        requires context { IsThereBelow (length self.now.table.nodes) ctx.argument }
+        requires own { is_again (entry_at self.now.table.nodes node).node ≡ false }
+        requires table { IsTable (table_of self.now) }
+        requires node { node < length self.now.table.nodes }
+        requires room { 8 ≤ S.room parts.old }
+        ensures shows { Shows self.now ctx.detail (S.held parts.old) (S.held parts.new) (parts_in ctx.detail (context_of ctx) (form_of form at) (tree_in form (tree_shown self.now ctx node))) }
         ensures few { S.room parts.old ≤ S.room parts.new + 8 }
     {
         match form {
@@ -95,11 +119,9 @@ impl Symbol {
             form::LOW => self.fill_low(parts, node, ctx),
             form::BASE => self.fill_base(parts, node, ctx),
             form::PIECE => self.fill_own_piece(parts, node, ctx),
-            form::FULL => self.fill_full(parts, node, ctx.detail),
-            form::BARE => self.fill_bare_of(parts, node, ctx.detail),
-            form::ROOT => self.fill_root(parts, node, ctx.detail),
-            form::AUTO => self.push_some(parts, builtin_with_d(b'a')),
-            form::AUTO_RIGHT => {}
+            form::FULL => self.fill_full(parts, node, ctx),
+            form::BARE => self.fill_bare_of(parts, node, ctx),
+            form::ROOT => self.fill_root(parts, node, ctx),
             _ => self.fill_expand(parts, node, at, ctx),
         }
     }
@@ -170,10 +192,7 @@ impl Symbol {
             node: self.root_node(),
             form: form::ROOT,
             at: 0,
-            ctx: Context {
-                index: None,
-                detail,
-            },
+            ctx: Context::closed(detail),
         }
     }
 

@@ -1,11 +1,11 @@
 // The parts of types, right of a name.
 #![tactic(auto)]
 
-ghost use Rattle.std.specs.Prelude.{◌+◌, ◌<◌, ◌≤◌, length};
+ghost use Rattle.std.specs.Prelude.{◌≡◌, ◌+◌, ◌<◌, ◌≤◌, length, false};
 ghost use Rattle.cpp_grammar.specs.Parts.{qualifier_text};
 ghost use Rattle.cpp_term.specs.Parts.{right_parts, function_right, qualified_right};
-ghost use Rattle.cpp_tree.specs.Nodes.{tree_at, trees, IsTable, qualifiers_of, mark_of};
-ghost use Rattle.cpp_layout.specs.Layout.{table_of, context_of, Shows};
+ghost use Rattle.cpp_tree.specs.Nodes.{IsTable, qualifiers_of, mark_of, IsThereBelow, is_again, entry_at};
+ghost use Rattle.cpp_layout.specs.Layout.{table_of, context_of, Shows, tree_shown};
 
 use crate::context::Context;
 use crate::symbol::Symbol;
@@ -25,11 +25,12 @@ impl Symbol {
         parameters: u32,
         ctx: Context,
     )
+        requires context { IsThereBelow (length self.now.table.nodes) ctx.argument }
         requires table { IsTable (table_of self.now) }
         requires returned { returned < length self.now.table.nodes }
         requires parameters { parameters < length self.now.table.nodes }
         requires room { 8 ≤ S.room parts.old }
-        ensures shows { Shows self.now ctx.detail (S.held parts.old) (S.held parts.new) (function_right (context_of ctx) (qualifier_text (qualifiers_of qualifiers)) (mark_of mark) noexcept (tree_at (trees (table_of self.now)) returned) (tree_at (trees (table_of self.now)) parameters)) }
+        ensures shows { Shows self.now ctx.detail (S.held parts.old) (S.held parts.new) (function_right (context_of ctx) (qualifier_text (qualifiers_of qualifiers)) (mark_of mark) noexcept (tree_shown self.now ctx returned) (tree_shown self.now ctx parameters)) }
         ensures few { S.room parts.old ≤ S.room parts.new + 8 }
     {
         self.push_item(parts, returned, form::RIGHT, 0, ctx);
@@ -47,13 +48,15 @@ impl Symbol {
         ty: u32,
         ctx: Context,
     )
+        requires context { IsThereBelow (length self.now.table.nodes) ctx.argument }
         requires table { IsTable (table_of self.now) }
         requires ty { ty < length self.now.table.nodes }
         requires room { 8 ≤ S.room parts.old }
-        ensures shows { Shows self.now ctx.detail (S.held parts.old) (S.held parts.new) (qualified_right (context_of ctx) (qualifiers_of qualifiers) (tree_at (trees (table_of self.now)) ty)) }
+        ensures shows { Shows self.now ctx.detail (S.held parts.old) (S.held parts.new) (qualified_right (context_of ctx) (qualifiers_of qualifiers) (tree_shown self.now ctx ty)) }
         ensures few { S.room parts.old ≤ S.room parts.new + 8 }
     {
-        match self.stored(ty) {
+        let place = self.place(ty, ctx);
+        match self.stored(place.node, place.ctx) {
             Node::FunctionType {
                 noexcept,
                 mark,
@@ -61,7 +64,7 @@ impl Symbol {
                 parameters,
                 ..
             } => self.fill_function_right(
-                parts, qualifiers, mark, noexcept, returned, parameters, ctx,
+                parts, qualifiers, mark, noexcept, returned, parameters, place.ctx,
             ),
             _ => self.push_item(parts, ty, form::RIGHT, 0, ctx),
         }
@@ -69,13 +72,15 @@ impl Symbol {
 
     /// The right parts of a type.
     pub(crate) fn fill_right<S: PartList<Context>>(&self, parts: &mut S, node: u32, ctx: Context)
+        requires context { IsThereBelow (length self.now.table.nodes) ctx.argument }
+        requires own { is_again (entry_at self.now.table.nodes node).node ≡ false }
         requires table { IsTable (table_of self.now) }
         requires node { node < length self.now.table.nodes }
         requires room { 8 ≤ S.room parts.old }
-        ensures shows { Shows self.now ctx.detail (S.held parts.old) (S.held parts.new) (right_parts (context_of ctx) (tree_at (trees (table_of self.now)) node)) }
+        ensures shows { Shows self.now ctx.detail (S.held parts.old) (S.held parts.new) (right_parts (context_of ctx) (tree_shown self.now ctx node)) }
         ensures few { S.room parts.old ≤ S.room parts.new + 8 }
     {
-        match self.stored(node) {
+        match self.stored(node, ctx) {
             Node::Pointer(ty) => self.fill_closing(parts, ty, ctx),
             Node::Lvalue(ty) => self.fill_closing(parts, ty, ctx),
             Node::Rvalue(ty) => self.fill_closing(parts, ty, ctx),
@@ -108,7 +113,6 @@ impl Symbol {
                 };
                 self.fill_function_right(parts, none, mark, noexcept, returned, parameters, ctx);
             }
-            Node::GenericParameter(_) => self.push_item(parts, node, form::AUTO_RIGHT, 0, ctx),
             _ => {}
         }
     }

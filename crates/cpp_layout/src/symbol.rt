@@ -1,19 +1,20 @@
 // A symbol that was read.
 #![tactic(auto)]
 
-ghost use Rattle.std.specs.Prelude.{◌≡◌, ◌+◌, ◌<◌, ◌≤◌, ◌*◌, length, slice_get, Some};
+ghost use Rattle.std.specs.Prelude.{◌≡◌, ℕ, ◌+◌, ◌<◌, ◌≤◌, ◌*◌, List, length, slice_get, Some, false};
 ghost use Rattle.std.specs.List.{All};
 ghost use Rattle.cpp_grammar.specs.Items as heads;
 ghost use Rattle.cpp_term.specs.Items as items;
-ghost use Rattle.cpp_term.specs.Items.{indexed};
+ghost use Rattle.cpp_term.specs.Reargued.{argument_or};
 ghost use Rattle.cpp_term.specs.Scope.{without_tags};
-ghost use Rattle.cpp_tree.specs.Nodes.{tree_at, trees, tree_of, bytes_at, IsBelow, IsTable, IsWithin, entry_at};
-ghost use Rattle.cpp_layout.specs.Layout.{table_of, context_of, IsRead};
+ghost use Rattle.cpp_term.specs.Term.{Term};
+ghost use Rattle.cpp_tree.specs.Nodes.{tree_at, trees, tree_of, tree_if_there, is_again, bytes_at, IsBelow, IsThereBelow, IsTable, IsWithin, entry_at};
+ghost use Rattle.cpp_layout.specs.Layout.{table_of, context_of, tree_shown, node_shown, IsRead};
 ghost use Rattle.cpp_tree.specs.Fields.{offsets_of, tree_from};
 ghost use Rattle.cpp_tree.specs.Views.{plain_tree, fields_at, seen_fields, offsets_in, IsView, AreBelow, AreWithin, IsKnownThunk};
 
-use crate::context::Context;
-use cpp_tree::node::{Entry, Node, Thunk};
+use crate::context::{Context, Place};
+use cpp_tree::node::{Entry, Node, Placed, Thunk};
 use cpp_tree::view::{NodeView, offsets_of, view_of};
 use cpp_tree::{Node as View, Nodes};
 use std::alloc::Global;
@@ -38,6 +39,18 @@ impl Model for Symbol {
     ghost view = { λ s. record { bytes = s.bytes.items; table = s.nodes; root = s.root; rows = s.rows; steps = s.steps } };
 
     ghost invariant = { λ s. IsRead (record { bytes = s.bytes.items; table = s.nodes; root = s.root; rows = s.rows; steps = s.steps }) };
+}
+
+/// The argument that is given, if one is, or else its own.
+#[tactic(auto, unfolding(cpp_term::specs::Reargued::argument_or, cpp_tree::specs::Nodes::tree_if_there))]
+fn given_or(given: Option<u32>, own: u32) -> u32
+    ensures tree { (ts : List Term) → tree_at ts result ≡ argument_or (tree_if_there ts given) (tree_at ts own) }
+    ensures below { (n : ℕ) → own < n → IsThereBelow n given → result < n }
+{
+    match given {
+        None => own,
+        Some(argument) => argument,
+    }
 }
 
 impl Symbol {
@@ -101,12 +114,45 @@ impl Symbol {
         self.nodes.entry(node)
     }
 
-    /// A node as it is stored, which is made of earlier ones.
+    /// The node that a node stands for, and what it is told: a tree that is there again is that tree, told the argument, unless one
+    /// is told already.
     #[inline(always)]
-    pub fn stored(&self, node: u32) -> Node
+    pub(crate) fn place(&self, node: u32, ctx: Context) -> Place
         requires table { IsTable (table_of self.now) }
         requires node { node < length self.now.table.nodes }
-        ensures tree { tree_at (trees (table_of self.now)) node ≡ tree_of self.now.bytes self.now.table.thunks (trees (table_of self.now)) result }
+        requires context { IsThereBelow (length self.now.table.nodes) ctx.argument }
+        ensures tree { tree_shown self.now result.ctx result.node ≡ tree_shown self.now ctx node }
+        ensures index { context_of result.ctx ≡ context_of ctx }
+        ensures detail { result.ctx.detail ≡ ctx.detail }
+        ensures own { is_again (entry_at self.now.table.nodes result.node).node ≡ false }
+        ensures node { result.node < length self.now.table.nodes }
+        ensures context { IsThereBelow (length self.now.table.nodes) result.ctx.argument }
+    {
+        let placed = self.nodes.settled(
+            &self.bytes,
+            Placed {
+                node,
+                under: ctx.argument,
+            },
+        );
+        Place {
+            node: placed.node,
+            ctx: Context {
+                argument: placed.under,
+                ..ctx
+            },
+        }
+    }
+
+    /// A node as it is stored, which is made of earlier ones.
+    #[inline(always)]
+    pub(crate) fn stored(&self, node: u32, ctx: Context) -> Node
+        requires table { IsTable (table_of self.now) }
+        requires node { node < length self.now.table.nodes }
+        requires own { is_again (entry_at self.now.table.nodes node).node ≡ false }
+        ensures tree { tree_shown self.now ctx node ≡ node_shown self.now ctx result }
+        ensures plain { tree_at (trees (table_of self.now)) node ≡ tree_of self.now.bytes self.now.table.thunks (trees (table_of self.now)) result }
+        ensures own { is_again result ≡ false }
         ensures below { IsBelow self.now.bytes (length self.now.table.thunks) node result }
     {
         self.nodes.node(&self.bytes, node)
@@ -114,13 +160,32 @@ impl Symbol {
 
     /// A name without its tags.
     #[inline(always)]
-    pub(crate) fn untagged(&self, name: u32) -> u32
+    pub(crate) fn untagged(&self, name: u32, ctx: Context) -> Place
         requires table { IsTable (table_of self.now) }
         requires name { name < length self.now.table.nodes }
-        ensures tree { tree_at (trees (table_of self.now)) result ≡ without_tags (tree_at (trees (table_of self.now)) name) }
-        ensures below { result < length self.now.table.nodes }
+        requires context { IsThereBelow (length self.now.table.nodes) ctx.argument }
+        ensures tree { tree_shown self.now result.ctx result.node ≡ without_tags (tree_shown self.now ctx name) }
+        ensures index { context_of result.ctx ≡ context_of ctx }
+        ensures detail { result.ctx.detail ≡ ctx.detail }
+        ensures own { is_again (entry_at self.now.table.nodes result.node).node ≡ false }
+        ensures node { result.node < length self.now.table.nodes }
+        ensures context { IsThereBelow (length self.now.table.nodes) result.ctx.argument }
     {
-        self.nodes.untagged(&self.bytes, name)
+        let inner = self.nodes.untagged(
+            &self.bytes,
+            Placed {
+                node: name,
+                under: ctx.argument,
+            },
+        );
+        let placed = self.nodes.settled(&self.bytes, inner);
+        Place {
+            node: placed.node,
+            ctx: Context {
+                argument: placed.under,
+                ..ctx
+            },
+        }
     }
 
     /// A node's view, and at once its parts, which are earlier nodes. The node is below `counts().nodes`. It takes no memory.
@@ -194,27 +259,93 @@ impl Symbol {
     pub(crate) fn is_function(&self, node: u32, ctx: Context) -> bool
         requires table { IsTable (table_of self.now) }
         requires node { node < length self.now.table.nodes }
-        ensures { result ≡ heads.is_funarr (items.head (context_of ctx) (tree_at (trees (table_of self.now)) node)) }
+        requires context { IsThereBelow (length self.now.table.nodes) ctx.argument }
+        ensures { result ≡ heads.is_funarr (items.head (context_of ctx) (tree_shown self.now ctx node)) }
     {
-        self.nodes.is_function(&self.bytes, node, ctx.index)
+        self.nodes.is_function(
+            &self.bytes,
+            Placed {
+                node,
+                under: ctx.argument,
+            },
+            ctx.index,
+        )
     }
 
     /// Whether a type is a reference.
     pub(crate) fn is_reference(&self, node: u32, ctx: Context) -> bool
         requires table { IsTable (table_of self.now) }
         requires node { node < length self.now.table.nodes }
-        ensures { result ≡ heads.is_reference (items.head (context_of ctx) (tree_at (trees (table_of self.now)) node)) }
+        requires context { IsThereBelow (length self.now.table.nodes) ctx.argument }
+        ensures { result ≡ heads.is_reference (items.head (context_of ctx) (tree_shown self.now ctx node)) }
     {
-        self.nodes.is_reference(&self.bytes, node, ctx.index)
+        self.nodes.is_reference(
+            &self.bytes,
+            Placed {
+                node,
+                under: ctx.argument,
+            },
+            ctx.index,
+        )
     }
 
-    /// Of a pack its element at the index.
-    pub(crate) fn indexed(&self, index: Option<u32>, argument: u32) -> u32
+    /// Whether a node prints nothing: an expansion over packs of no elements, or a list of such.
+    pub(crate) fn prints_nothing(&self, node: u32, ctx: Context) -> bool
         requires table { IsTable (table_of self.now) }
-        requires argument { argument < length self.now.table.nodes }
-        ensures tree { tree_at (trees (table_of self.now)) result ≡ indexed index (tree_at (trees (table_of self.now)) argument) }
-        ensures below { result < length self.now.table.nodes }
+        requires node { node < length self.now.table.nodes }
+        requires context { IsThereBelow (length self.now.table.nodes) ctx.argument }
+        ensures { result ≡ items.is_empty (context_of ctx) (tree_shown self.now ctx node) }
     {
-        self.nodes.indexed(&self.bytes, index, argument)
+        self.nodes.prints_nothing(
+            &self.bytes,
+            Placed {
+                node,
+                under: ctx.argument,
+            },
+        )
+    }
+
+    /// The length of the packs that a tree holds, if it holds any.
+    pub(crate) fn packs(&self, node: u32, ctx: Context) -> Option<u32>
+        requires table { IsTable (table_of self.now) }
+        requires node { node < length self.now.table.nodes }
+        requires context { IsThereBelow (length self.now.table.nodes) ctx.argument }
+        ensures { result ≡ items.packs_of (context_of ctx) (tree_shown self.now ctx node) }
+    {
+        self.nodes.packs(
+            &self.bytes,
+            Placed {
+                node,
+                under: ctx.argument,
+            },
+        )
+    }
+
+    /// What a parameter with this argument stands for at an index: the argument, or its element. It has the context's argument, if
+    /// there is one, in place of its own.
+    pub(crate) fn argument_of(&self, own: u32, ctx: Context) -> Place
+        requires table { IsTable (table_of self.now) }
+        requires own { own < length self.now.table.nodes }
+        requires context { IsThereBelow (length self.now.table.nodes) ctx.argument }
+        ensures tree { tree_shown self.now result.ctx result.node ≡ items.argument (context_of ctx) (argument_or (tree_if_there (trees (table_of self.now)) ctx.argument) (tree_at (trees (table_of self.now)) own)) }
+        ensures closed { context_of result.ctx ≡ items.closed }
+        ensures detail { result.ctx.detail ≡ ctx.detail }
+        ensures node { result.node < length self.now.table.nodes }
+        ensures context { IsThereBelow (length self.now.table.nodes) result.ctx.argument }
+    {
+        let argument = given_or(ctx.argument, own);
+        let alone = Placed {
+            node: argument,
+            under: None,
+        };
+        let placed = self.nodes.indexed(&self.bytes, ctx.index, alone);
+        Place {
+            node: placed.node,
+            ctx: Context {
+                index: None,
+                detail: ctx.detail,
+                argument: placed.under,
+            },
+        }
     }
 }

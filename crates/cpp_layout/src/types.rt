@@ -7,9 +7,10 @@ ghost use Rattle.cpp_grammar.specs.Items as heads;
 ghost use Rattle.cpp_term.specs.Items as items;
 ghost use Rattle.cpp_term.specs.Parts.{as_item, reference_parts, array_left, float_parts, member_parts, closing_right, left_parts, right_parts};
 ghost use Rattle.cpp_term.specs.Term as term;
-ghost use Rattle.cpp_tree.specs.Nodes.{tree_at, trees, IsTable, bytes_at, IsWithin};
+ghost use Rattle.cpp_term.specs.Reargued.{argument_or};
+ghost use Rattle.cpp_tree.specs.Nodes.{tree_if_there, tree_at, trees, IsTable, bytes_at, IsWithin, IsThereBelow};
 ghost use Rattle.cpp_layout.specs.Texts.{fixed_text};
-ghost use Rattle.cpp_layout.specs.Layout.{table_of, item_in, form_of, context_of, marked, referred, Shows};
+ghost use Rattle.cpp_layout.specs.Layout.{table_of, item_in, form_of, context_of, marked, referred, Shows, tree_shown};
 
 use crate::context::Context;
 use crate::symbol::Symbol;
@@ -27,12 +28,13 @@ impl Symbol {
         plain: u16,
         ctx: Context,
     )
+        requires context { IsThereBelow (length self.now.table.nodes) ctx.argument }
         requires table { IsTable (table_of self.now) }
         requires ty { ty < length self.now.table.nodes }
         requires behind { 0 < length (fixed_text behind) }
         requires plain { 0 < length (fixed_text plain) }
         requires room { 8 ≤ S.room parts.old }
-        ensures shows { Shows self.now ctx.detail (S.held parts.old) (S.held parts.new) (marked (heads.is_funarr (items.head (context_of ctx) (tree_at (trees (table_of self.now)) ty))) (as_item heads.left (context_of ctx) (tree_at (trees (table_of self.now)) ty)) (fixed_text behind) (fixed_text plain)) }
+        ensures shows { Shows self.now ctx.detail (S.held parts.old) (S.held parts.new) (marked (heads.is_funarr (items.head (context_of ctx) (tree_shown self.now ctx ty))) (as_item heads.left (context_of ctx) (tree_shown self.now ctx ty)) (fixed_text behind) (fixed_text plain)) }
         ensures few { S.room parts.old ≤ S.room parts.new + 8 }
     {
         let is_function = self.is_function(ty, ctx);
@@ -50,13 +52,14 @@ impl Symbol {
         plain: u16,
         ctx: Context,
     )
+        requires context { IsThereBelow (length self.now.table.nodes) ctx.argument }
         requires table { IsTable (table_of self.now) }
         requires ty { ty < length self.now.table.nodes }
         requires behind { 0 < length (fixed_text behind) }
         requires plain { 0 < length (fixed_text plain) }
         requires room { 8 ≤ S.room parts.old }
-        ensures shows { Shows self.now ctx.detail (S.held parts.old) (S.held parts.new) (referred (heads.is_reference (items.head (context_of ctx) (tree_at (trees (table_of self.now)) ty))) (sub (item_in (trees (table_of self.now)) ty form 0 ctx))
-            (marked (heads.is_funarr (items.head (context_of ctx) (tree_at (trees (table_of self.now)) ty))) (as_item heads.left (context_of ctx) (tree_at (trees (table_of self.now)) ty)) (fixed_text behind) (fixed_text plain))) }
+        ensures shows { Shows self.now ctx.detail (S.held parts.old) (S.held parts.new) (referred (heads.is_reference (items.head (context_of ctx) (tree_shown self.now ctx ty))) (sub (item_in (trees (table_of self.now)) ty form 0 ctx))
+            (marked (heads.is_funarr (items.head (context_of ctx) (tree_shown self.now ctx ty))) (as_item heads.left (context_of ctx) (tree_shown self.now ctx ty)) (fixed_text behind) (fixed_text plain))) }
         ensures few { S.room parts.old ≤ S.room parts.new + 8 }
     {
         if self.is_reference(ty, ctx) {
@@ -69,10 +72,11 @@ impl Symbol {
     /// The left parts of a reference to an lvalue.
     // <type> ::= R <type>
     pub(crate) fn fill_lvalue<S: PartList<Context>>(&self, parts: &mut S, ty: u32, ctx: Context)
+        requires context { IsThereBelow (length self.now.table.nodes) ctx.argument }
         requires table { IsTable (table_of self.now) }
         requires ty { ty < length self.now.table.nodes }
         requires room { 8 ≤ S.room parts.old }
-        ensures shows { Shows self.now ctx.detail (S.held parts.old) (S.held parts.new) (reference_parts (context_of ctx) heads.low (tree_at (trees (table_of self.now)) ty) "&") }
+        ensures shows { Shows self.now ctx.detail (S.held parts.old) (S.held parts.new) (reference_parts (context_of ctx) heads.low (tree_shown self.now ctx ty) "&") }
         ensures few { S.room parts.old ≤ S.room parts.new + 8 }
     {
         self.fill_reference(parts, ty, form::LOW, texts::LEFT_AND, texts::AND, ctx);
@@ -81,10 +85,11 @@ impl Symbol {
     /// The left parts of a reference to an rvalue.
     // <type> ::= O <type>
     pub(crate) fn fill_rvalue<S: PartList<Context>>(&self, parts: &mut S, ty: u32, ctx: Context)
+        requires context { IsThereBelow (length self.now.table.nodes) ctx.argument }
         requires table { IsTable (table_of self.now) }
         requires ty { ty < length self.now.table.nodes }
         requires room { 8 ≤ S.room parts.old }
-        ensures shows { Shows self.now ctx.detail (S.held parts.old) (S.held parts.new) (reference_parts (context_of ctx) heads.left (tree_at (trees (table_of self.now)) ty) "&&") }
+        ensures shows { Shows self.now ctx.detail (S.held parts.old) (S.held parts.new) (reference_parts (context_of ctx) heads.left (tree_shown self.now ctx ty) "&&") }
         ensures few { S.room parts.old ≤ S.room parts.new + 8 }
     {
         self.fill_reference(
@@ -105,11 +110,12 @@ impl Symbol {
         member: u32,
         ctx: Context,
     )
+        requires context { IsThereBelow (length self.now.table.nodes) ctx.argument }
         requires table { IsTable (table_of self.now) }
         requires class { class < length self.now.table.nodes }
         requires member { member < length self.now.table.nodes }
         requires room { 8 ≤ S.room parts.old }
-        ensures shows { Shows self.now ctx.detail (S.held parts.old) (S.held parts.new) (member_parts (context_of ctx) (tree_at (trees (table_of self.now)) class) (tree_at (trees (table_of self.now)) member)) }
+        ensures shows { Shows self.now ctx.detail (S.held parts.old) (S.held parts.new) (member_parts (context_of ctx) (tree_shown self.now ctx class) (tree_shown self.now ctx member)) }
         ensures few { S.room parts.old ≤ S.room parts.new + 8 }
     {
         let is_function = self.is_function(member, ctx);
@@ -121,10 +127,11 @@ impl Symbol {
 
     /// The left parts of an array.
     pub(crate) fn fill_array<S: PartList<Context>>(&self, parts: &mut S, element: u32, ctx: Context)
+        requires context { IsThereBelow (length self.now.table.nodes) ctx.argument }
         requires table { IsTable (table_of self.now) }
         requires element { element < length self.now.table.nodes }
         requires room { 8 ≤ S.room parts.old }
-        ensures shows { Shows self.now ctx.detail (S.held parts.old) (S.held parts.new) (array_left (context_of ctx) (tree_at (trees (table_of self.now)) element)) }
+        ensures shows { Shows self.now ctx.detail (S.held parts.old) (S.held parts.new) (array_left (context_of ctx) (tree_shown self.now ctx element)) }
         ensures few { S.room parts.old ≤ S.room parts.new + 8 }
     {
         let is_function = self.is_function(element, ctx);
@@ -140,6 +147,7 @@ impl Symbol {
         number: u16,
         ctx: Context,
     )
+        requires context { IsThereBelow (length self.now.table.nodes) ctx.argument }
         requires ty { ty < length self.now.table.nodes }
         requires number { 0 < length (fixed_text number) }
         requires room { 8 ≤ S.room parts.old }
@@ -158,10 +166,11 @@ impl Symbol {
         element: u32,
         ctx: Context,
     )
+        requires context { IsThereBelow (length self.now.table.nodes) ctx.argument }
         requires element { element < length self.now.table.nodes }
         requires digits { IsWithin digits self.now.bytes }
         requires room { 8 ≤ S.room parts.old }
-        ensures shows { Shows self.now ctx.detail (S.held parts.old) (S.held parts.new) (left_parts ctx.detail (context_of ctx) (term.vector (bytes_at self.now.bytes digits) (tree_at (trees (table_of self.now)) element))) }
+        ensures shows { Shows self.now ctx.detail (S.held parts.old) (S.held parts.new) (left_parts ctx.detail (context_of ctx) (term.vector (bytes_at self.now.bytes digits) (tree_shown self.now ctx element))) }
         ensures few { S.room parts.old ≤ S.room parts.new + 8 }
     {
         self.push_text(parts, texts::RIGHT);
@@ -179,6 +188,7 @@ impl Symbol {
         end: u8,
         ctx: Context,
     )
+        requires context { IsThereBelow (length self.now.table.nodes) ctx.argument }
         requires digits { IsWithin digits self.now.bytes }
         requires room { 8 ≤ S.room parts.old }
         ensures shows { Shows self.now ctx.detail (S.held parts.old) (S.held parts.new) (float_parts (bytes_at self.now.bytes digits) end) }
@@ -195,10 +205,11 @@ impl Symbol {
 
     /// The right parts of a pointer or a reference, whose left ones opened a bracket before a function or an array.
     pub(crate) fn fill_closing<S: PartList<Context>>(&self, parts: &mut S, ty: u32, ctx: Context)
+        requires context { IsThereBelow (length self.now.table.nodes) ctx.argument }
         requires table { IsTable (table_of self.now) }
         requires ty { ty < length self.now.table.nodes }
         requires room { 8 ≤ S.room parts.old }
-        ensures shows { Shows self.now ctx.detail (S.held parts.old) (S.held parts.new) (closing_right (context_of ctx) (tree_at (trees (table_of self.now)) ty)) }
+        ensures shows { Shows self.now ctx.detail (S.held parts.old) (S.held parts.new) (closing_right (context_of ctx) (tree_shown self.now ctx ty)) }
         ensures few { S.room parts.old ≤ S.room parts.new + 8 }
     {
         let is_function = self.is_function(ty, ctx);
@@ -214,10 +225,11 @@ impl Symbol {
         element: u32,
         ctx: Context,
     )
+        requires context { IsThereBelow (length self.now.table.nodes) ctx.argument }
         requires element { element < length self.now.table.nodes }
         requires digits { IsWithin digits self.now.bytes }
         requires room { 8 ≤ S.room parts.old }
-        ensures shows { Shows self.now ctx.detail (S.held parts.old) (S.held parts.new) (right_parts (context_of ctx) (term.array (bytes_at self.now.bytes digits) (tree_at (trees (table_of self.now)) element))) }
+        ensures shows { Shows self.now ctx.detail (S.held parts.old) (S.held parts.new) (right_parts (context_of ctx) (term.array (bytes_at self.now.bytes digits) (tree_shown self.now ctx element))) }
         ensures few { S.room parts.old ≤ S.room parts.new + 8 }
     {
         self.push_item(parts, element, form::RIGHT, 0, ctx);
@@ -234,10 +246,11 @@ impl Symbol {
         element: u32,
         ctx: Context,
     )
+        requires context { IsThereBelow (length self.now.table.nodes) ctx.argument }
         requires bound { bound < length self.now.table.nodes }
         requires element { element < length self.now.table.nodes }
         requires room { 8 ≤ S.room parts.old }
-        ensures shows { Shows self.now ctx.detail (S.held parts.old) (S.held parts.new) (right_parts (context_of ctx) (term.bounded (tree_at (trees (table_of self.now)) bound) (tree_at (trees (table_of self.now)) element))) }
+        ensures shows { Shows self.now ctx.detail (S.held parts.old) (S.held parts.new) (right_parts (context_of ctx) (term.bounded (tree_shown self.now ctx bound) (tree_shown self.now ctx element))) }
         ensures few { S.room parts.old ≤ S.room parts.new + 8 }
     {
         self.push_item(parts, element, form::RIGHT, 0, ctx);
@@ -254,18 +267,15 @@ impl Symbol {
         form: u32,
         ctx: Context,
     )
+        requires context { IsThereBelow (length self.now.table.nodes) ctx.argument }
         requires table { IsTable (table_of self.now) }
         requires argument { argument < length self.now.table.nodes }
         requires plain { form < 6 }
         requires room { 8 ≤ S.room parts.old }
-        ensures shows { Shows self.now ctx.detail (S.held parts.old) (S.held parts.new) (as_item (form_of form 0) items.closed (items.argument (context_of ctx) (tree_at (trees (table_of self.now)) argument)) ∷ []) }
+        ensures shows { Shows self.now ctx.detail (S.held parts.old) (S.held parts.new) (as_item (form_of form 0) items.closed (items.argument (context_of ctx) (argument_or (tree_if_there (trees (table_of self.now)) ctx.argument) (tree_at (trees (table_of self.now)) argument))) ∷ []) }
         ensures few { S.room parts.old ≤ S.room parts.new + 8 }
     {
-        let node = self.indexed(ctx.index, argument);
-        let ctx = Context {
-            index: None,
-            detail: ctx.detail,
-        };
-        self.push_item(parts, node, form, 0, ctx);
+        let place = self.argument_of(argument, ctx);
+        self.push_item(parts, place.node, form, 0, place.ctx);
     }
 }

@@ -511,8 +511,7 @@ bounded-keeps around place (v ∷ w ∷ vs) state next e = kept (v ∷ w ∷ vs)
 
 declared-keeps : (around : Around) (place : ℕ) → Keeps Production.DeclaredArgument around place
 unfolding between makes_before made_before
-declared-keeps around place [] state next e = kept [] (in_signature around) state next 0 e
-declared-keeps around place (v ∷ vs) state next e = kept (v ∷ vs) around state next 0 e
+declared-keeps around place vs state next e = kept vs around state next 0 e
 
 lvalue-keeps : (around : Around) (place : ℕ) → Keeps Production.LvalueItem around place
 unfolding between makes_before made_before
@@ -662,6 +661,14 @@ flows Production.PlainArgument around place = solid-type Production.PlainArgumen
 flows Production.ArgumentWithT around place = solid-type Production.ArgumentWithT around place ARGUMENT_AFTER_T (λ a v. refl) (λ v. refl)
     (λ state. refl) (λ v. refl) (λ byte began state v. refl)
 flows Production.ParameterArgument around place = parameter-behind-t around place
+flows Production.ValueOf around place = plain-flow Production.ValueOf around place
+    (λ vs state next e. kept vs (in_signature around) state next 0 e)
+    (plain-closes Production.ValueOf around place (λ byte began vs state. refl) (λ byte began vs state. refl) (λ byte vs. omega arith))
+    (parts_of Production.ValueOf) refl []
+flows Production.OfConcept around place = plain-flow Production.OfConcept around place
+    (λ vs state next e. kept vs (in_signature around) state next 0 e)
+    (plain-closes Production.OfConcept around place (λ byte began vs state. refl) (λ byte began vs state. refl) (λ byte vs. omega arith))
+    (parts_of Production.OfConcept) refl []
 flows Production.DeclaredArgument around place = plain-flow Production.DeclaredArgument around place (declared-keeps around place)
     (plain-closes Production.DeclaredArgument around place (λ byte began vs state. refl) (λ byte began vs state. refl)
     (λ byte vs. omega arith)) (parts_of Production.DeclaredArgument) refl []

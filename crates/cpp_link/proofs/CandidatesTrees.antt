@@ -380,7 +380,7 @@ mutual
 
 noted-few : (shape : Tree) → IsTree either (OfKind SYMBOL) shape → (read : Found (List Value) State)
     → unfold_tree cpp first_around 0 shape first_state ≡ Ok read
-    → 3 + length read.state.candidates ≤ nodes_of_shape shape
+    → 4 + length read.state.candidates ≤ nodes_of_shape shape
 unfolding first_state pending_around goes_on is_arguments
 noted-few shape is read e =
     let a = behind_bind (unfold_tree counted first_around 0 shape (tally first_state 0)) plain read
@@ -395,7 +395,7 @@ noted-few shape is read e =
 
 pub candidates-few : (shape : Tree) → IsTree either (OfKind SYMBOL) shape → (read : Found (List leaf_.Value) leaf_.State)
     → unfold_tree unfolding_.cpp unfolding_.first_around 0 shape unfolding_.first_state ≡ Ok read
-    → 3 + length read.state.candidates ≤ nodes_of_shape shape
+    → 4 + length read.state.candidates ≤ nodes_of_shape shape
 candidates-few shape is read e =
     let same = read_with_arguments shape read is e in
     omega (arith, noted-few shape is same.other same.is, same.candidates)

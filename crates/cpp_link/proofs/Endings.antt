@@ -235,6 +235,6 @@ pub begins_kept : (s : List ℕ) (l : Linked) (context kept : Kept) (around : Ar
     → ((ts : List Term) → around_of ts kept ≡ around_of ts context) → ((n : ℕ) → IsKeptThere n context → IsKeptThere n kept) → packs_of kept ≡ l.packs
     → Surrounds s l context around → Holds s l state → IsKept s l kept (standing rule taken place around state)
 begins_kept s l context kept around state rule taken place same there packs surrounds holds = record {
-  surrounds = record { there = there _ surrounds.there; is = same _ ∙ surrounds.is };
+  surrounds = record { there = there _ surrounds.there; is = same _ ∙ surrounds.is; closed = surrounds.closed };
   packs = packs ∙ holds.packs;
 }

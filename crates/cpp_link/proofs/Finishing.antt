@@ -80,7 +80,7 @@ refused_right s old frame own given p e rule known state is production same refu
 -- ## How many nodes are made
 
 -- they are no more than the rule may add behind its parts
-pub ends_few : (s : List ℕ) (old new : Linked) (frame : Frame Kept) (parts own : List Part) (p : Production) → p ≡ production_at frame.rule → own ≡ drop frame.base parts → 3 ≤ length old.nodes.nodes
+pub ends_few : (s : List ℕ) (old new : Linked) (frame : Frame Kept) (parts own : List Part) (p : Production) → p ≡ production_at frame.rule → own ≡ drop frame.base parts → 4 ≤ length old.nodes.nodes
     → length new.nodes.nodes ≤ length old.nodes.nodes + ends_of p own → AddsFew (cpp_view s) old new frame parts
 unfolding closes
 ends_few s old new frame parts own p numbered same begun few =
@@ -88,11 +88,11 @@ ends_few s old new frame parts own p numbered same begun few =
     rw (← numbered, ← same) (ends_closes p own) in
     sizes (length old.nodes.nodes) (length new.nodes.nodes) (ends_of p own) (closes_of (production_at frame.rule) (drop frame.base parts)) begun few ends
   where
-    sizes : (m n ends closes : ℕ) → 3 ≤ m → n ≤ m + ends → ends ≤ closes → n - 3 ≤ m - 3 + closes
+    sizes : (m n ends closes : ℕ) → 4 ≤ m → n ≤ m + ends → ends ≤ closes → n - 4 ≤ m - 4 + closes
     sizes m n ends closes begun few le = omega (arith, begun, few, le)
 
 pub few_adds : (s : List ℕ) (old new : Linked) (frame : Frame Kept) (parts : List Part) → AddsFew (cpp_view s) old new frame parts
-    → length new.nodes.nodes - 3 + 0 ≤ length old.nodes.nodes - 3 + owed_behind (cpp_view s) frame parts
+    → length new.nodes.nodes - 4 + 0 ≤ length old.nodes.nodes - 4 + owed_behind (cpp_view s) frame parts
 few_adds s old new frame parts few =
     let held : owes frame.rule (length (drop frame.base parts)) ≡ owes frame.rule (length parts - frame.base) = ap (λ n. owes frame.rule n) (length-drop frame.base parts) in
     omega (arith, few, (cpp_laws s).closing frame.rule (drop frame.base parts), held)

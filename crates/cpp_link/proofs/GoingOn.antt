@@ -1,5 +1,5 @@
 -- The next part of a rule is gone on to as the reading says.
-use Rattle.std.proofs.Common.{◌≡◌, refl, sym, ◌∙◌, ap, arith, ℕ, suc, ◌+◌, ◌-◌, ◌<◌, ◌≤◌, List, [], ◌∷◌, ◌++◌, length, drop, Option, Result, Ok, Err}
+use Rattle.std.proofs.Common.{subst, ◌≡◌, refl, sym, ◌∙◌, ap, arith, ℕ, suc, ◌+◌, ◌-◌, ◌<◌, ◌≤◌, List, [], ◌∷◌, ◌++◌, length, drop, Option, Result, Ok, Err}
 use Rattle.std.proofs.lemmas.List.{length-drop, take-append-drop}
 use Rattle.sym_core.specs.declared.refusal.Refusal.{Refusal}
 use Rattle.sym_link.specs.declared.language.Frame.{Frame}
@@ -19,7 +19,8 @@ use Rattle.cpp_link.specs.declared.part.Part.{Part}
 use Rattle.cpp_link.specs.declared.part.Step.{Step}
 use Rattle.cpp_link.specs.Making.{state_of}
 use Rattle.cpp_link.specs.Owed.{owes}
-use Rattle.cpp_link.specs.Parts.{trees_in, values_in, around_of}
+use Rattle.cpp_link.specs.Parts.{trees_in, values_in, around_of, IsClosed}
+use Rattle.cpp_link.proofs.Scopes.{between_closed}
 use Rattle.cpp_link.specs.Reads.{goes_on}
 use Rattle.cpp_link.specs.Closes.{closes_of, closes}
 use Rattle.cpp_link.specs.ClosesLaws.{quiet_owed, closes_pushed}
@@ -53,7 +54,12 @@ pub goes_right : (s : List ℕ) (old new : Linked) (frame : Frame Kept) (parts n
 goes_right s old new frame parts new_parts own production step then same numbered step_is takes rule known state is = (
   record { values = values_in s new.nodes (drop frame.base new_parts); context = around_of (trees_in s new.nodes) then; state = state_of s new },
   read_is s old frame (drop frame.base parts) rule known state is ∙ stepped own production same numbered step_is ∙ takes.is,
-  record { there = takes.around; is = refl },
+  record {
+    there = takes.around;
+    is = refl;
+    closed = between_closed (production_at frame.rule) (around_of (trees_in s old.nodes) frame.kept) frame.place (values_in s old.nodes (drop frame.base parts)) (state_of s old) _
+        (stepped own production same numbered step_is ∙ takes.is) (subst (λ around. IsClosed around) (sym is.kept.surrounds.is) is.kept.surrounds.closed);
+  },
   record { table = takes.grows.table; there = takes.candidates; candidates = refl; packs = refl },
   drop frame.base new_parts,
   sym (take-append-drop frame.base new_parts) ∙ ap (λ ps. ps ++ drop frame.base new_parts) takes.lower,
@@ -93,7 +99,7 @@ adds_right s old new frame parts new_parts own production step then same numbere
           (rw held at (next_owes frame.rule (length own) (length new_parts - frame.base) step (rw (← numbered) of) (ap (λ n. n - frame.base) takes.count ∙ sym held))),
     )
   where
-    sizes : (m n made behind before : ℕ) → 3 ≤ m → n ≤ m + made → made + behind ≤ before → n - 3 + behind ≤ m - 3 + before
+    sizes : (m n made behind before : ℕ) → 4 ≤ m → n ≤ m + made → made + behind ≤ before → n - 4 + behind ≤ m - 4 + before
     sizes m n made behind before begun few owed = omega (arith, begun, few, owed)
 
 -- ## Where nothing is done
@@ -119,7 +125,8 @@ quiet_between Production.Lambda around place vs state less = absurd (never vs le
 quiet_between Production.Expansion around place vs state less = absurd (never vs less)
 quiet_between Production.Conversion around place vs state less = absurd (never vs less)
 quiet_between Production.OtherSpecial around place vs state less = absurd (never vs less)
-quiet_between Production.DeclaredArgument around place vs state less = absurd (never vs less)
+quiet_between Production.ValueOf around place vs state less = absurd (never vs less)
+quiet_between Production.OfConcept around place vs state less = absurd (never vs less)
 quiet_between Production.LocalName around place [] state less = refl
 quiet_between Production.LocalName around place (v ∷ vs) state less = absurd (not_first vs less)
 quiet_between Production.LocalType around place [] state less = refl
@@ -196,7 +203,7 @@ quiet_right s old frame parts held counted less rule known state is = (
   read_is s old frame (drop frame.base parts) rule known state is
       ∙ quiet_between (production_at frame.rule) (around_of (trees_in s old.nodes) frame.kept) frame.place (values_in s old.nodes (drop frame.base parts)) (state_of s old)
       (omega (arith, values_length s (trees_in s old.nodes) (drop frame.base parts), length-drop frame.base parts, counted, less)),
-  record { there = is.kept.surrounds.there; is = refl },
+  record { there = is.kept.surrounds.there; is = refl; closed = subst (λ around. IsClosed around) (sym is.kept.surrounds.is) is.kept.surrounds.closed },
   record { table = is.holds.table; there = is.holds.there; candidates = refl; packs = refl },
   drop frame.base parts,
   sym (take-append-drop frame.base parts),
@@ -231,7 +238,7 @@ unfolding closes
 steps_few s old new frame parts new_parts then paid least counts =
     sizes (length old.nodes.nodes) (length new.nodes.nodes) (closes_of (production_at frame.rule) (drop frame.base new_parts ++ Part.Nothing ∷ [])) (closes_of (production_at frame.rule) (drop frame.base parts)) paid.begun least counts
   where
-    sizes : (m n behind before : ℕ) → 3 ≤ m → m ≤ n → n + behind ≤ m + before → n - 3 + behind ≤ m - 3 + before
+    sizes : (m n behind before : ℕ) → 4 ≤ m → m ≤ n → n + behind ≤ m + before → n - 4 + behind ≤ m - 4 + before
     sizes m n behind before begun least few = omega (arith, begun, least, few)
 
 -- those of a step that was refused
@@ -240,5 +247,5 @@ pub refused_few : (s : List ℕ) (old new : Linked) (frame : Frame Kept) (parts 
 unfolding closes
 refused_few s old new frame parts paid few = sizes (length old.nodes.nodes) (length new.nodes.nodes) (closes_of (production_at frame.rule) (drop frame.base parts)) paid.begun few
   where
-    sizes : (m n before : ℕ) → 3 ≤ m → n ≤ m + before → n - 3 ≤ m - 3 + before
+    sizes : (m n before : ℕ) → 4 ≤ m → n ≤ m + before → n - 4 ≤ m - 4 + before
     sizes m n before begun few = omega (arith, begun, few)

@@ -32,8 +32,8 @@ use Rattle.cpp_term.specs.Between.{between, in_signature, no_items}
 use Rattle.cpp_term.specs.Meaning.{parameters, meaning}
 use Rattle.cpp_term.specs.Unfolding.{number_tested, opening, behind, close, cpp, first_around, first_state}
 use Rattle.cpp_link.specs.Numbered.{is_numbered}
-use Rattle.cpp_grammar.proofs.Ways.{is_reference}
-use Rattle.cpp_term.specs.Rescoping.{close_wide, cpp_wide}
+use Rattle.cpp_grammar.proofs.Ways.{differs}
+use Rattle.cpp_term.specs.Rescoping.{with_own, between_wide, close_wide, cpp_wide}
 use Rattle.cpp_term.proofs.NotedWays.{NotedWay, reading_noted_by, IsPlainNoted, abi_noted, wide_noted, abi_is_noted, wide_is_noted}
 use Rattle.cpp_link.specs.LinkRescoping.{link_close_wide, linked_wide}
 use Rattle.cpp_link.specs.LinkReading.{in_64_bits, link_meaning, link_close, link_begin, linked}
@@ -159,17 +159,22 @@ ClosesRule way s p =
 
 -- ## The four productions, by either reading
 
-module _ (way : NotedWay) (plain_way : IsPlainNoted way) where
-  -- before a part of a production of no reference the same is done
-  plain_step : (rule : Open State Around) (p : Production) → production_at rule.rule.number ≡ p → is_reference p ≡ false → (known : List Value) (at : ℕ) (first : Tree) (rest : Forest) (state : State)
+-- before the parts of a lambda the same is done
+abbrev IsPlainLambda : NotedWay → Type 0
+IsPlainLambda way = (around : Around) (place : ℕ) (vs : List Value) (state : State) → way.between Production.Lambda around place vs state ≡ between Production.Lambda around place vs state
+
+module _ (way : NotedWay) (plain_way : IsPlainNoted way) (plain_lambda : IsPlainLambda way) where
+  -- before a part of a production that goes as in the ABI's grammar the same is done
+  plain_step : (rule : Open State Around) (p : Production) → production_at rule.rule.number ≡ p
+      → ((around : Around) (place : ℕ) (vs : List Value) (state : State) → way.between p around place vs state ≡ between p around place vs state) → (known : List Value) (at : ℕ) (first : Tree) (rest : Forest) (state : State)
       → unfold_forest (reading_noted_by way) rule known at (grown first rest) state
       ≡ (between p rule.context rule.place known state >>= λ next. unfold_tree (reading_noted_by way) next.context at first next.state
       >>= λ one. unfold_forest (reading_noted_by way) rule (next.values ++ one.value) (at + length (spell first)) rest one.state)
   unfolding cpp reading_noted_by
-  plain_step rule p number apart known at first rest state =
+  plain_step rule p number goes known at first rest state =
       ap (λ m. m >>= λ next. unfold_tree (reading_noted_by way) next.context at first next.state
       >>= λ one. unfold_forest (reading_noted_by way) rule (next.values ++ one.value) (at + length (spell first)) rest one.state)
-      (ap (λ q. way.between q rule.context rule.place known state) number ∙ plain_way.between p apart rule.context rule.place known state)
+      (ap (λ q. way.between q rule.context rule.place known state) number ∙ goes rule.context rule.place known state)
 
   -- the bytes of a suffix, in one value
   record SuffixRead (around : Around) (place : ℕ) (tree : Tree) (state : State) : Type 0 where
@@ -179,10 +184,10 @@ module _ (way : NotedWay) (plain_way : IsPlainNoted way) where
 
   byte_read : (byte place : ℕ) (around : Around) (inner : Tree) (state : State) (v : Value) → unfold_tree (reading_noted_by way) around (place + 1) inner state ≡ Ok (found (v ∷ []) state)
       → unfold_tree (reading_noted_by way) around place (branch (rule_of Production.SuffixByte) (byte ∷ []) (grown inner nothing)) state ≡ Ok (found (text (byte ∷ text_of v) ∷ []) state)
-  unfolding is_reference cpp reading_noted_by opening between close behind meaning production_at productions rule_of number_of byte_of part text_of
+  unfolding differs cpp reading_noted_by opening between close behind meaning production_at productions rule_of number_of byte_of part text_of
   byte_read byte place around inner state v is =
       let closes : Found (List Value) State → Result (Found (List Value) State) Refusal = λ all. way.close Production.SuffixByte byte around place state all.value all.state >>= alone in
-      ap (λ m. m >>= closes) (plain_step (standing (rule_of Production.SuffixByte) (byte ∷ []) place around state) Production.SuffixByte refl refl [] (place + 1) inner nothing state)
+      ap (λ m. m >>= closes) (plain_step (standing (rule_of Production.SuffixByte) (byte ∷ []) place around state) Production.SuffixByte refl (plain_way.between Production.SuffixByte refl) [] (place + 1) inner nothing state)
       ∙ ap (λ m. (m >>= λ one. Ok (found one.value one.state)) >>= closes) is
       ∙ ap (λ m. m >>= alone) (plain_way.close Production.SuffixByte refl byte around place state (v ∷ []) state)
 
@@ -210,11 +215,11 @@ module _ (way : NotedWay) (plain_way : IsPlainNoted way) where
       → p ≡ Production.Suffix ⊎ p ≡ Production.SuffixByte
       → unfold_tree (reading_noted_by way) context at tree begun ≡ Ok (found (v ∷ []) begun)
       → unfold_forest (reading_noted_by way) (standing (rule_of p) taken place context before) [] at (grown tree nothing) begun ≡ Ok inner → inner.value ≡ v ∷ []
-  unfolding is_reference cpp reading_noted_by between production_at productions rule_of number_of
+  unfolding differs cpp reading_noted_by between production_at productions rule_of number_of
   suffix_forest Production.Suffix taken place at context before begun inner v tree one read is =
-      values_same (found (v ∷ []) begun) inner (sym (plain_step (standing (rule_of Production.Suffix) taken place context before) Production.Suffix refl refl [] at tree nothing begun ∙ ap (λ m. m >>= λ one. Ok (found one.value one.state)) read) ∙ is)
+      values_same (found (v ∷ []) begun) inner (sym (plain_step (standing (rule_of Production.Suffix) taken place context before) Production.Suffix refl (plain_way.between Production.Suffix refl) [] at tree nothing begun ∙ ap (λ m. m >>= λ one. Ok (found one.value one.state)) read) ∙ is)
   suffix_forest Production.SuffixByte taken place at context before begun inner v tree one read is =
-      values_same (found (v ∷ []) begun) inner (sym (plain_step (standing (rule_of Production.SuffixByte) taken place context before) Production.SuffixByte refl refl [] at tree nothing begun ∙ ap (λ m. m >>= λ one. Ok (found one.value one.state)) read) ∙ is)
+      values_same (found (v ∷ []) begun) inner (sym (plain_step (standing (rule_of Production.SuffixByte) taken place context before) Production.SuffixByte refl (plain_way.between Production.SuffixByte refl) [] at tree nothing begun ∙ ap (λ m. m >>= λ one. Ok (found one.value one.state)) read) ∙ is)
   suffix_forest p taken place at context before begun inner v tree (inl same) read is = absurd cc
   suffix_forest p taken place at context before begun inner v tree (inr same) read is = absurd cc
 
@@ -246,11 +251,11 @@ module _ (way : NotedWay) (plain_way : IsPlainNoted way) where
 
   -- an unnamed type
   unnamed_closes : (s : List ℕ) → ClosesRule way s Production.Unnamed
-  unfolding is_reference cpp reading_noted_by opening between link_close link_meaning close behind meaning production_at productions rule_of number_of last_token part text_of parts_of
+  unfolding differs cpp reading_noted_by opening between link_close link_meaning close behind meaning production_at productions rule_of number_of last_token part text_of parts_of
   unnamed_closes s kind taken (grown (token t) nothing) place context before begun inner rest takes trees at is_begun is_inner =
       let less : nat_lt (local_number t.own) (2 ^ 64) ≡ true = number_less (place - 1) t.own before begun is_begun in
       let values : inner.value ≡ text t.own ∷ [] = values_same (found (text t.own ∷ []) begun) inner
-      (sym (plain_step (standing (rule_of Production.Unnamed) taken place context before) Production.Unnamed refl refl [] (place + length taken) (token t) nothing begun) ∙ is_inner) in
+      (sym (plain_step (standing (rule_of Production.Unnamed) taken place context before) Production.Unnamed refl (plain_way.between Production.Unnamed refl) [] (place + length taken) (token t) nothing begun) ∙ is_inner) in
       rw values (ap (λ n. Ok (found (piece (unnamed n)) inner.state)) (within_64 (local_number t.own) less))
   unnamed_closes s kind taken (grown (branch r x i) nothing) place context before begun inner rest takes trees at is_begun is_inner = absurd trees.0
   unnamed_closes s kind taken (grown empty nothing) place context before begun inner rest takes trees at is_begun is_inner = absurd trees.0
@@ -276,24 +281,24 @@ module _ (way : NotedWay) (plain_way : IsPlainNoted way) where
   lambda_part : (taken : List ℕ) (place : ℕ) (context : Around) (before : State) (known : List Value) (at : ℕ) (first : Tree) (rest : Forest) (state : State) (inner : Found (List Value) State)
       → unfold_forest (reading_noted_by way) (lambda_open taken place context before) known at (grown first rest) state ≡ Ok inner
       → (v : Value) × (after : State) × (unfold_forest (reading_noted_by way) (lambda_open taken place context before) (known ++ v ∷ []) (at + length (spell first)) rest after ≡ Ok inner)
-  unfolding is_reference cpp reading_noted_by between production_at productions rule_of number_of
+  unfolding differs cpp reading_noted_by between production_at productions rule_of number_of
   lambda_part taken place context before known at first rest state inner is =
       let o = lambda_open taken place context before in
       let part_is = both_ok (unfold_tree (reading_noted_by way) (in_signature context) at first state) (λ one. unfold_forest (reading_noted_by way) o (known ++ one.value) (at + length (spell first)) rest one.state) inner
-      (sym (plain_step o Production.Lambda refl refl known at first rest state) ∙ is) in
+      (sym (plain_step o Production.Lambda refl plain_lambda known at first rest state) ∙ is) in
       let one = one_value first (in_signature context) at state part_is.0 part_is.1 in
       (one.0, part_is.0.state, ap (λ vs. unfold_forest (reading_noted_by way) o (known ++ vs) (at + length (spell first)) rest part_is.0.state) (sym one.1) ∙ part_is.2)
 
   lambda_values : (taken : List ℕ) (place : ℕ) (context : Around) (before begun : State) (at : ℕ) (a b c : Tree) (t : Token) (inner : Found (List Value) State)
       → unfold_forest (reading_noted_by way) (lambda_open taken place context before) [] at (grown a (grown b (grown c (grown (token t) nothing)))) begun ≡ Ok inner
       → text_of (part inner.value 3) ≡ t.own
-  unfolding is_reference cpp reading_noted_by between production_at productions rule_of number_of
+  unfolding differs cpp reading_noted_by between production_at productions rule_of number_of
   lambda_values taken place context before begun at a b c t inner is =
       let x = lambda_part taken place context before [] at a (grown b (grown c (grown (token t) nothing))) begun inner is in
       let y = lambda_part taken place context before (x.0 ∷ []) (at + length (spell a)) b (grown c (grown (token t) nothing)) x.1 inner x.2 in
       let z = lambda_part taken place context before (x.0 ∷ y.0 ∷ []) (at + length (spell a) + length (spell b)) c (grown (token t) nothing) y.1 inner y.2 in
       let values : inner.value ≡ x.0 ∷ y.0 ∷ z.0 ∷ text t.own ∷ [] = values_same (found (x.0 ∷ y.0 ∷ z.0 ∷ text t.own ∷ []) z.1) inner
-      (sym (plain_step (lambda_open taken place context before) Production.Lambda refl refl (x.0 ∷ y.0 ∷ z.0 ∷ []) (at + length (spell a) + length (spell b) + length (spell c)) (token t) nothing z.1) ∙ z.2) in
+      (sym (plain_step (lambda_open taken place context before) Production.Lambda refl plain_lambda (x.0 ∷ y.0 ∷ z.0 ∷ []) (at + length (spell a) + length (spell b) + length (spell c)) (token t) nothing z.1) ∙ z.2) in
       fourth inner.value x.0 y.0 z.0 t.own values
 
   lambda_closes : (s : List ℕ) → ClosesRule way s Production.Lambda
@@ -330,7 +335,7 @@ closes_same s kind rule taken parts place context before begun inner rest known 
     elim (cases_Bool (is_plain t.production)) [
       | inl plain ↦ plain_closes s (production_at rule.number) (byte_of taken) context place before inner.value inner.state (ap is_plain number ∙ plain)
       | inr other ↦ subst (λ r. Equal r) (sym t.is)
-          (numbered_plain abi_noted abi_is_noted.plain t.production other s kind taken parts place context before begun inner rest
+          (numbered_plain abi_noted abi_is_noted.plain (λ around place vs state. refl) t.production other s kind taken parts place context before begun inner rest
           (subst (λ r. TakesRule either kind r taken) t.is is.0) (subst (λ ss. AreTrees either ss parts) (ap symbols_of t.is ∙ its_symbols t.production) is.1) at
           (subst (λ r. cpp.begin (standing r taken place context before) parts ≡ Ok begun) t.is is_begun)
           (subst (λ r. unfold_forest cpp (standing r taken place context before) [] (place + length taken) parts begun ≡ Ok inner) t.is is_inner))
@@ -342,16 +347,22 @@ closes_same s kind rule taken parts place context before begun inner rest known 
 -- and so it is by the wide grammar
 wide_plain_closes : (s : List ℕ) (p : Production) (byte : ℕ) (around : Around) (place : ℕ) (began : State) (vs : List Value) (state : State) → is_plain p ≡ true
     → link_close_wide s p byte around place began vs state ≡ close_wide p byte around place began vs state
-unfolding link_close_wide close_wide
+unfolding link_close_wide close_wide is_plain
 wide_plain_closes s Production.Substitution byte around place began vs state plain = refl
+wide_plain_closes s Production.Lambda byte around place began vs state plain = absurd (false≢true plain)
 wide_plain_closes s p byte around place began vs state plain = plain_closes s p byte around place began vs state plain
 
 other_closes : (s : List ℕ) (p : Production) → is_plain p ≡ false → (byte : ℕ) (around : Around) (place : ℕ) (began : State) (vs : List Value) (state : State)
     → link_close s p byte around place began vs state ≡ close p byte around place began vs state
     → link_close_wide s p byte around place began vs state ≡ close_wide p byte around place began vs state
-unfolding is_plain link_close_wide close_wide
+unfolding is_plain link_close_wide close_wide link_close close behind
 other_closes s Production.Substitution other byte around place began vs state same = absurd (true≢false other)
+other_closes s Production.Lambda other byte around place began vs state same = ap (λ r. r >>= λ made. Ok (found (with_own made.value) made.state)) same
 other_closes s p other byte around place began vs state same = same
+
+wide_lambda : IsPlainLambda wide_noted
+unfolding wide_noted between_wide
+wide_lambda around place vs state = refl
 
 pub wide_closes_same : (s : List ℕ) → ClosesSame either s cpp_wide (linked_wide s).close
 unfolding cpp cpp_wide reading_noted_by wide_noted
@@ -362,7 +373,7 @@ wide_closes_same s kind rule taken parts place context before begun inner rest k
       | inl plain ↦ wide_plain_closes s (production_at rule.number) (byte_of taken) context place before inner.value inner.state (ap is_plain number ∙ plain)
       | inr other ↦ other_closes s (production_at rule.number) (ap is_plain number ∙ other) (byte_of taken) context place before inner.value inner.state
           (subst (λ r. Equal r) (sym t.is)
-          (numbered_plain wide_noted wide_is_noted.plain t.production other s kind taken parts place context before begun inner rest
+          (numbered_plain wide_noted wide_is_noted.plain wide_lambda t.production other s kind taken parts place context before begun inner rest
           (subst (λ r. TakesRule either kind r taken) t.is is.0) (subst (λ ss. AreTrees either ss parts) (ap symbols_of t.is ∙ its_symbols t.production) is.1) at
           (subst (λ r. cpp.begin (standing r taken place context before) parts ≡ Ok begun) t.is is_begun)
           (subst (λ r. unfold_forest cpp_wide (standing r taken place context before) [] (place + length taken) parts begun ≡ Ok inner) t.is is_inner)))

@@ -123,10 +123,10 @@ pack_made s ts _ some = refl
 
 -- ## In terms of the rule that stands open
 
-pub before_read : (s : List ℕ) (old new : Linked) (frame : Frame Kept) (parts : List Part) (result : Result Kept Refusal) → 3 ≤ length old.nodes.nodes
+pub before_read : (s : List ℕ) (old new : Linked) (frame : Frame Kept) (parts : List Part) (result : Result Kept Refusal) → 4 ≤ length old.nodes.nodes
     → OnOk result (length new.nodes.nodes ≡ length old.nodes.nodes + makes_before (production_at frame.rule) (values_in s old.nodes (drop frame.base parts)))
     → (rule : Open State Around) (known : List Value) (state : State) → IsAt (cpp_view s) s old frame (drop frame.base parts) rule known state
-    → OnOk result (length new.nodes.nodes - 3 ≡ length old.nodes.nodes - 3 + makes_before (production_at rule.rule.number) known)
+    → OnOk result (length new.nodes.nodes - 4 ≡ length old.nodes.nodes - 4 + makes_before (production_at rule.rule.number) known)
 before_read s old new frame parts (Err e) begun made rule known state is = tt
 before_read s old new frame parts (Ok kept) begun made rule known state is =
     let same : makes_before (production_at frame.rule) (values_in s old.nodes (drop frame.base parts)) ≡ makes_before (production_at rule.rule.number) known =
@@ -134,10 +134,10 @@ before_read s old new frame parts (Ok kept) begun made rule known state is =
     ∙ ap (λ vs. makes_before (production_at rule.rule.number) vs) (parts_are s old (drop frame.base parts) known is.parts).1 in
     omega (arith, begun, made, same)
 
-pub end_read : (s : List ℕ) (old new : Linked) (frame : Frame Kept) (parts : List Part) (result : Result (Unit {0}) Refusal) → 3 ≤ length old.nodes.nodes
+pub end_read : (s : List ℕ) (old new : Linked) (frame : Frame Kept) (parts : List Part) (result : Result (Unit {0}) Refusal) → 4 ≤ length old.nodes.nodes
     → OnOk result (length new.nodes.nodes ≡ length old.nodes.nodes + makes_at_end (production_at frame.rule) (values_in s old.nodes (drop frame.base parts)))
     → (rule : Open State Around) (known : List Value) (state : State) → IsAt (cpp_view s) s old frame (drop frame.base parts) rule known state
-    → OnOk result (length new.nodes.nodes - 3 ≡ length old.nodes.nodes - 3 + makes_at_end (production_at rule.rule.number) known)
+    → OnOk result (length new.nodes.nodes - 4 ≡ length old.nodes.nodes - 4 + makes_at_end (production_at rule.rule.number) known)
 end_read s old new frame parts (Err e) begun made rule known state is = tt
 end_read s old new frame parts (Ok done) begun made rule known state is =
     let same : makes_at_end (production_at frame.rule) (values_in s old.nodes (drop frame.base parts)) ≡ makes_at_end (production_at rule.rule.number) known =
@@ -145,6 +145,6 @@ end_read s old new frame parts (Ok done) begun made rule known state is =
     ∙ ap (λ vs. makes_at_end (production_at rule.rule.number) vs) (parts_are s old (drop frame.base parts) known is.parts).1 in
     omega (arith, begun, made, same)
 
-pub none_begun : (l : Linked) (result : Result Kept Refusal) → OnOk result (length l.nodes.nodes - 3 ≡ length l.nodes.nodes - 3)
+pub none_begun : (l : Linked) (result : Result Kept Refusal) → OnOk result (length l.nodes.nodes - 4 ≡ length l.nodes.nodes - 4)
 none_begun l (Ok kept) = refl
 none_begun l (Err e) = tt

@@ -1,5 +1,5 @@
 -- What is read of nodes.
-use Rattle.std.proofs.Common.{◌≡◌, refl, sym, ◌∙◌, ap, arith, ℕ, zero, suc, ◌<◌, List, [], ◌∷◌, map, get_or, slice_get, true, false, Option, Some, None}
+use Rattle.std.proofs.Common.{◌≡◌, refl, sym, ◌∙◌, ap, arith, ℕ, zero, suc, ◌<◌, List, [], ◌∷◌, map, get_or, slice_get, Bool, true, false, ◌&&◌, Option, Some, None}
 use Rattle.std.specs.Prelude.{IfSome}
 use Rattle.cpp_grammar.specs.declared.production.Production.{Production}
 use Rattle.cpp_grammar.specs.Grammar.{productions}
@@ -7,17 +7,22 @@ use Rattle.cpp_grammar.specs.Unfolding.{production_at}
 use Rattle.cpp_grammar.specs.Term.{Qualifiers, RefQualifier}
 use Rattle.cpp_term.specs.Term as term
 use Rattle.cpp_term.specs.Term.{Term, absent}
-use Rattle.cpp_term.specs.Scope.{has_return_type, is_structor, length_if_pack, count}
+use Rattle.cpp_term.specs.Scope.{has_return_type, is_structor}
 use Rattle.cpp_term.specs.Meaning.{is_void, is_nil, parameters, encoding_of}
 use Rattle.cpp_term.specs.References.{is_function_type}
 use Rattle.cpp_term.specs.Values.{Value, tree_of, qualifiers_of, ref_of}
 use Rattle.cpp_tree.specs.Nodes as nodes
-use Rattle.cpp_tree.specs.Nodes.{tree_at, IsBelow}
+use Rattle.cpp_tree.specs.Nodes.{tree_at, tree_if_there, is_again, IsBelow, IsThereBelow}
+use Rattle.cpp_link.specs.declared.signatures.Split.{Split}
+use Rattle.cpp_term.specs.Reargued.{reargued}
+use Rattle.cpp_term.proofs.Notes.{both}
+use Rattle.cpp_term.proofs.Reargued.{reargued_none}
+use Rattle.std.proofs.lemmas.Bool.{true≢false}
 use Rattle.cpp_tree.specs.declared.node.Node.{Node}
 use Rattle.cpp_tree.specs.declared.node.Piece.{Piece}
 use Rattle.cpp_tree.specs.Notes.{is_structor_node, is_structor_piece}
 use Rattle.cpp_tree.specs.declared.node.Thunk.{Thunk}
-use Rattle.cpp_link.specs.Reads.{void_node, nil_node, function_node, cell_of, elements_of, parameters_by, encoding_by}
+use Rattle.cpp_link.specs.Reads.{void_node, nil_node, function_node, cell_under, parameters_by, encoding_by, IsSplitThere}
 
 -- ## Productions by their numbers
 
@@ -42,61 +47,86 @@ count_got f k = go productions k
 
 -- ## Lists
 
-pub void_is : (s : List ℕ) (us : List Thunk) (ts : List Term) (node : Node) → is_void (nodes.tree_of s us ts node) ≡ void_node node
-unfolding is_void nodes.tree_of void_node
-void_is s us ts Node.Absent = refl
-void_is s us ts _ = refl
+-- a node that isn't there again says what its tree is, whatever the argument under which its parts stand
+pub void_is : (s : List ℕ) (us : List Thunk) (ts : List Term) (given : Option Term) (node : Node) → is_again node ≡ false → is_void (reargued given (nodes.tree_of s us ts node)) ≡ void_node node
+unfolding is_void nodes.tree_of void_node reargued is_again
+void_is s us ts given (Node.Again t a) own = absurd (true≢false own)
+void_is s us ts given Node.Absent own = refl
+void_is s us ts given _ own = refl
 
-pub nil_is : (s : List ℕ) (us : List Thunk) (ts : List Term) (node : Node) → is_nil (nodes.tree_of s us ts node) ≡ nil_node node
-unfolding is_nil nodes.tree_of nil_node
-nil_is s us ts Node.Absent = refl
-nil_is s us ts _ = refl
+pub nil_is : (s : List ℕ) (us : List Thunk) (ts : List Term) (given : Option Term) (node : Node) → is_again node ≡ false → is_nil (reargued given (nodes.tree_of s us ts node)) ≡ nil_node node
+unfolding is_nil nodes.tree_of nil_node reargued is_again
+nil_is s us ts given (Node.Again t a) own = absurd (true≢false own)
+nil_is s us ts given Node.Absent own = refl
+nil_is s us ts given _ own = refl
 
-pub parameters_are : (s : List ℕ) (us : List Thunk) (ts : List Term) (node : Node) (t : Term) → t ≡ nodes.tree_of s us ts node → parameters t ≡ parameters_by ts (cell_of node) t
-unfolding parameters nodes.tree_of cell_of parameters_by
-parameters_are s us ts (Node.Cell first rest) t is = rw is refl
-parameters_are s us ts _ t is = rw is refl
+void_again : (given : Option Term) (t : Term) → is_void (reargued given t) ≡ is_void t
+unfolding is_void reargued
+void_again given term.absent = refl
+void_again given _ = refl
 
-pub encoding_is : (s : List ℕ) (us : List Thunk) (ts : List Term) (node : Node) (name : Value) (t : Term) → t ≡ nodes.tree_of s us ts node → encoding_of name t ≡ encoding_by ts name (cell_of node) t
-unfolding encoding_of nodes.tree_of cell_of encoding_by
-encoding_is s us ts (Node.Cell first rest) name t is = rw is refl
-encoding_is s us ts _ name t is = rw is refl
+nil_again : (given : Option Term) (t : Term) → is_nil (reargued given t) ≡ is_nil t
+unfolding is_nil reargued
+nil_again given term.absent = refl
+nil_again given _ = refl
 
-pub cell_there : (s : List ℕ) (held i n : ℕ) (node : Node) → i < n → IsBelow s held i node → IfSome (cell_of node) (λ cell. (cell.0 < n) × (cell.1 < n))
-unfolding cell_of
-cell_there s held i n (Node.Cell first rest) less below = (omega (arith, less, below.0), omega (arith, less, below.1))
-cell_there s held i n _ less below = tt
-
-pub function_is : (s : List ℕ) (us : List Thunk) (ts : List Term) (node : Node) → is_function_type (nodes.tree_of s us ts node) ≡ function_node node
-unfolding is_function_type nodes.tree_of function_node
-function_is s us ts Node.Absent = refl
-function_is s us ts _ = refl
-
-structor_piece : (s : List ℕ) (ts : List Term) (t : Term) (p : Piece) → is_structor (term.within t (nodes.piece_of s ts p)) ≡ is_structor_piece p
-unfolding is_structor nodes.piece_of is_structor_piece
-structor_piece s ts t (Piece.Constructor digit) = refl
-structor_piece s ts t (Piece.Destructor digit) = refl
-structor_piece s ts t _ = refl
-
-pub structor_is : (s : List ℕ) (us : List Thunk) (ts : List Term) (node : Node) → is_structor (nodes.tree_of s us ts node) ≡ is_structor_node node
-unfolding is_structor nodes.tree_of is_structor_node
-structor_is s us ts (Node.Within prefix p) = structor_piece s ts (tree_at ts prefix) p
-structor_is s us ts _ = refl
-
--- ## Packs
-
-pub pack_is : (s : List ℕ) (us : List Thunk) (ts : List Term) (node : Node) (t : Term) (o : Option ℕ) → t ≡ nodes.tree_of s us ts node → o ≡ elements_of node → length_if_pack t ≡ elim o [ None ↦ None | Some elements ↦ Some (count (tree_at ts elements)) ]
-unfolding length_if_pack nodes.tree_of elements_of
-pack_is s us ts (Node.Pack elements) t o is found = rw (is, found) refl
-pack_is s us ts _ t o is found = rw (is, found) refl
-
-pub pack_below : (s : List ℕ) (held i n elements : ℕ) (node : Node) → i < n → IsBelow s held i node → elements_of node ≡ Some elements → elements < n
-unfolding elements_of
-pack_below s held i n elements (Node.Pack e) less below found = omega (arith, less, below, some_same e elements found)
+-- the parameters that a list says under an argument
+parameters_again : (given : Option Term) (t : Term) → parameters (reargued given t) ≡ reargued given (parameters t)
+unfolding parameters reargued
+parameters_again given (term.list first rest) =
+    both (λ a b. elim (a && b) as (λ _. Term) [ true ↦ term.nil | false ↦ term.list (reargued given first) (reargued given rest) ]) (void_again given first) (nil_again given rest) ∙ by (is_void first && is_nil rest)
   where
-    some_same : (a b : ℕ) → Some a ≡ Some b → a ≡ b
-    some_same a b is = cc
-pack_below s held i n elements _ less below found = cc
+    by : (b : Bool) → elim b as (λ _. Term) [ true ↦ term.nil | false ↦ term.list (reargued given first) (reargued given rest) ] ≡ reargued given (elim b [ true ↦ term.nil | false ↦ term.list first rest ])
+    by true = refl
+    by false = refl
+parameters_again given term.absent = refl
+parameters_again given _ = refl
+
+pub parameters_are : (s : List ℕ) (us : List Thunk) (ts : List Term) (node : Node) (under : Option ℕ) (t : Term) → is_again node ≡ false → t ≡ reargued (tree_if_there ts under) (nodes.tree_of s us ts node) → parameters t ≡ parameters_by ts (cell_under node under) t
+unfolding parameters nodes.tree_of cell_under parameters_by reargued is_again
+parameters_are s us ts (Node.Again x a) under t own is = absurd (true≢false own)
+parameters_are s us ts (Node.Cell first rest) under t own is =
+    rw is (both (λ a b. elim (a && b) as (λ _. Term) [ true ↦ term.nil | false ↦ term.list (reargued (tree_if_there ts under) (tree_at ts first)) (reargued (tree_if_there ts under) (tree_at ts rest)) ])
+    (void_again (tree_if_there ts under) (tree_at ts first)) (nil_again (tree_if_there ts under) (tree_at ts rest)))
+parameters_are s us ts _ under t own is = rw is refl
+
+pub encoding_is : (s : List ℕ) (us : List Thunk) (ts : List Term) (node : Node) (under : Option ℕ) (name : Value) (t : Term) → is_again node ≡ false → t ≡ reargued (tree_if_there ts under) (nodes.tree_of s us ts node) → encoding_of name t ≡ encoding_by ts name (cell_under node under) t
+unfolding encoding_of nodes.tree_of cell_under encoding_by reargued is_again
+encoding_is s us ts (Node.Again x a) under name t own is = absurd (true≢false own)
+encoding_is s us ts (Node.Cell first rest) under name t own is =
+    rw is (ap (λ x. elim (has_return_type (tree_of name)) as (λ _. Term) [
+      | true ↦ term.function (tree_of name) (qualifiers_of name) (ref_of name) (reargued (tree_if_there ts under) (tree_at ts first)) x
+      | false ↦ term.function (tree_of name) (qualifiers_of name) (ref_of name) absent (parameters (term.list (reargued (tree_if_there ts under) (tree_at ts first)) (reargued (tree_if_there ts under) (tree_at ts rest))))
+    ]) (parameters_again (tree_if_there ts under) (tree_at ts rest)))
+encoding_is s us ts _ under name t own is = rw is refl
+
+pub no_cell : (node : Node) (under : Option ℕ) → ((first rest : ℕ) → node ≡ Node.Cell first rest → ⊥) → None ≡ cell_under node under
+unfolding cell_under
+no_cell (Node.Cell first rest) under other = absurd (other first rest refl)
+no_cell _ under other = refl
+
+pub split_there : (s : List ℕ) (held n : ℕ) (node : Node) (under : Option ℕ) → IsBelow s held n node → IsThereBelow n under → IfSome (cell_under node under) (IsSplitThere n)
+unfolding cell_under
+split_there s held n (Node.Cell first rest) under below there = (below.0, (below.1, there))
+split_there s held n _ under below there = tt
+
+pub function_is : (s : List ℕ) (us : List Thunk) (ts : List Term) (given : Option Term) (node : Node) → is_again node ≡ false → is_function_type (reargued given (nodes.tree_of s us ts node)) ≡ function_node node
+unfolding is_function_type nodes.tree_of function_node reargued is_again
+function_is s us ts given (Node.Again t a) own = absurd (true≢false own)
+function_is s us ts given Node.Absent own = refl
+function_is s us ts given _ own = refl
+
+structor_piece : (s : List ℕ) (ts : List Term) (given : Option Term) (t : Term) (p : Piece) → is_structor (term.within t (reargued given (nodes.piece_of s ts p))) ≡ is_structor_piece p
+unfolding is_structor nodes.piece_of is_structor_piece reargued
+structor_piece s ts given t (Piece.Constructor digit) = refl
+structor_piece s ts given t (Piece.Destructor digit) = refl
+structor_piece s ts given t _ = refl
+
+pub structor_is : (s : List ℕ) (us : List Thunk) (ts : List Term) (given : Option Term) (node : Node) → is_again node ≡ false → is_structor (reargued given (nodes.tree_of s us ts node)) ≡ is_structor_node node
+unfolding is_structor nodes.tree_of is_structor_node reargued is_again
+structor_is s us ts given (Node.Again t a) own = absurd (true≢false own)
+structor_is s us ts given (Node.Within prefix p) own = structor_piece s ts given (reargued given (tree_at ts prefix)) p
+structor_is s us ts given _ own = refl
 
 -- ## Encodings
 
@@ -105,23 +135,23 @@ pub made_object : (ts : List Term) (v : Value) (items x : Term) (q : Qualifiers)
 unfolding encoding_by
 made_object ts v items x q m tree marks mark enc = rw (tree, marks, mark) (sym enc)
 
-pub made_function : (ts : List Term) (v : Value) (items x z : Term) (q : Qualifiers) (m : RefQualifier) (cell : ℕ × ℕ) → x ≡ tree_of v → q ≡ qualifiers_of v → m ≡ ref_of v
-    → encoding_of v items ≡ encoding_by ts v (Some cell) items → has_return_type (tree_of v) ≡ true → z ≡ parameters (tree_at ts cell.1)
-    → term.function x q m (tree_at ts cell.0) z ≡ encoding_of v items
+pub made_function : (ts : List Term) (v : Value) (items x z : Term) (q : Qualifiers) (m : RefQualifier) (l : Split) (word : ℕ) → x ≡ tree_of v → q ≡ qualifiers_of v → m ≡ ref_of v
+    → encoding_of v items ≡ encoding_by ts v (Some l) items → has_return_type (tree_of v) ≡ true → z ≡ parameters (tree_at ts l.rest) → nodes.under_kept word ≡ l.under
+    → term.function x q m (reargued (tree_if_there ts (nodes.under_kept word)) (tree_at ts l.first)) (reargued (tree_if_there ts (nodes.under_kept word)) z) ≡ encoding_of v items
 unfolding encoding_by
-made_function ts v items x z q m cell tree marks mark enc returns rest =
-    let name : Term = tree_of v in
-    rw (tree, marks, mark, rest) (sym (enc ∙ ap (λ b. elim b [
-      | true ↦ term.function (tree_of v) (qualifiers_of v) (ref_of v) (tree_at ts cell.0) (parameters (tree_at ts cell.1))
+made_function ts v items x z q m l word tree marks mark enc returns rest under =
+    rw (tree, marks, mark, rest, under) (sym (enc ∙ ap (λ b. elim b as (λ _. Term) [
+      | true ↦ term.function (tree_of v) (qualifiers_of v) (ref_of v) (reargued (tree_if_there ts l.under) (tree_at ts l.first)) (reargued (tree_if_there ts l.under) (parameters (tree_at ts l.rest)))
       | false ↦ term.function (tree_of v) (qualifiers_of v) (ref_of v) absent (parameters items)
     ]) returns))
 
-pub made_procedure : (ts : List Term) (v : Value) (items x z : Term) (q : Qualifiers) (m : RefQualifier) (cell : ℕ × ℕ) → x ≡ tree_of v → q ≡ qualifiers_of v → m ≡ ref_of v
-    → encoding_of v items ≡ encoding_by ts v (Some cell) items → has_return_type (tree_of v) ≡ false → z ≡ parameters items
-    → term.function x q m absent z ≡ encoding_of v items
-unfolding encoding_by
-made_procedure ts v items x z q m cell tree marks mark enc returns rest =
-    rw (tree, marks, mark, rest) (sym (enc ∙ ap (λ b. elim b [
-      | true ↦ term.function (tree_of v) (qualifiers_of v) (ref_of v) (tree_at ts cell.0) (parameters (tree_at ts cell.1))
+pub made_procedure : (ts : List Term) (v : Value) (items x z w : Term) (q : Qualifiers) (m : RefQualifier) (l : Split) (word : ℕ) → x ≡ tree_of v → q ≡ qualifiers_of v → m ≡ ref_of v
+    → encoding_of v items ≡ encoding_by ts v (Some l) items → has_return_type (tree_of v) ≡ false → z ≡ parameters items → w ≡ absent → nodes.under_kept word ≡ None
+    → term.function x q m (reargued (tree_if_there ts (nodes.under_kept word)) w) (reargued (tree_if_there ts (nodes.under_kept word)) z) ≡ encoding_of v items
+unfolding encoding_by tree_if_there
+made_procedure ts v items x z w q m l word tree marks mark enc returns rest none under =
+    rw (tree, marks, mark, rest, none, under) (both (λ a b. term.function (tree_of v) (qualifiers_of v) (ref_of v) a b) (reargued_none absent) (reargued_none (parameters items))
+    ∙ sym (enc ∙ ap (λ b. elim b as (λ _. Term) [
+      | true ↦ term.function (tree_of v) (qualifiers_of v) (ref_of v) (reargued (tree_if_there ts l.under) (tree_at ts l.first)) (reargued (tree_if_there ts l.under) (parameters (tree_at ts l.rest)))
       | false ↦ term.function (tree_of v) (qualifiers_of v) (ref_of v) absent (parameters items)
     ]) returns))

@@ -10,30 +10,35 @@ use Rattle.sym_link.specs.Reading.{Open}
 use Rattle.sym_link.specs.Driving.{Fails}
 use Rattle.sym_link.specs.Linking.{Puts}
 use Rattle.sym_link.specs.Threads.{IsAt, Goes, GoesOn, ClosesAll}
+use Rattle.sym_link.specs.Reading.{Found}
 use Rattle.sym_link.specs.Unfold.{found}
 use Rattle.cpp_grammar.specs.declared.production.Production.{Production}
 use Rattle.cpp_grammar.specs.Rescoping.{generic_number}
 use Rattle.cpp_grammar.specs.Unfolding.{production_at, byte_of}
-use Rattle.cpp_term.specs.Term.{Term, generic_parameter, pointer, lvalue, rvalue, qualified}
+use Rattle.cpp_term.specs.Term as term
+use Rattle.cpp_term.specs.Term.{Term}
+use Rattle.cpp_term.specs.Items.{auto}
+use Rattle.cpp_term.specs.Scope.{is_open}
 use Rattle.cpp_term.specs.Values as values
 use Rattle.cpp_term.specs.Values.{State, Value, tree, Around, part, text_of}
 use Rattle.sym_core.specs.Value.{counted_value}
 use Rattle.sym_core.specs.declared.NumberKind.TheVariants.{Decimal}
 use Rattle.cpp_term.specs.Between.{Going, next, parameter_so_far, argument_so_far, index_of, between}
-use Rattle.cpp_term.specs.Unfolding.{cpp}
-use Rattle.cpp_term.specs.Rescoping.{generic_so_far, parameter_here, argument_here, number_of_parameter, number_behind_mark, with_parameter, substituted_wide, between_wide, close_wide, cpp_wide}
-use Rattle.cpp_tree.specs.Nodes.{Stored, tree_at, tree_of, IsBelow}
-use Rattle.cpp_tree.specs.declared.node.Node.{Node}
-use Rattle.cpp_tree.specs.declared.node.Thunk.{Thunk}
+use Rattle.cpp_term.specs.Unfolding.{cpp, behind}
+use Rattle.cpp_term.specs.Rescoping.{generic_so_far, parameter_here, argument_here, substituted_wide, lambda_with, with_own, between_wide, close_wide, cpp_wide}
+use Rattle.cpp_term.proofs.Notes.{both}
+use Rattle.cpp_link.proofs.Scopes.{wide_between_closed}
+use Rattle.cpp_tree.specs.Nodes.{Stored, tree_at, piece_of}
+use Rattle.cpp_tree.specs.declared.node.Piece.{Piece}
 use Rattle.cpp_link.specs.declared.linked.Linked.{Linked}
 use Rattle.cpp_link.specs.declared.part.Part.{Part}
 use Rattle.cpp_link.specs.declared.part.Kept.{Kept}
 use Rattle.cpp_link.specs.declared.part.Step.{Step}
-use Rattle.cpp_link.specs.LinkReading.{link_close, linked}
-use Rattle.cpp_link.specs.LinkRescoping.{link_close_wide, linked_wide, is_parameter, is_parameter_argument, generic_read, is_substitution, names_generic, type_behind_mark, named_by, restated_nodes, substituted_nodes, wide_at_end, wide_view}
+use Rattle.cpp_link.specs.LinkReading.{link_close, link_meaning, linked}
+use Rattle.cpp_link.specs.LinkRescoping.{link_close_wide, linked_wide, is_parameter, is_parameter_argument, generic_read, is_substitution, is_lambda_production, names_generic, named_by, substituted_nodes, wide_at_end, wide_view}
 use Rattle.cpp_link.specs.Making.{state_of}
 use Rattle.cpp_link.specs.NodeCount.{makes_before, makes_at_end}
-use Rattle.cpp_link.specs.Parts.{trees_in, value_of, values_of, value_in, values_in, is_lambda, around_of, candidates_of, IsThere, AreCandidatesThere}
+use Rattle.cpp_link.specs.Parts.{trees_in, value_of, values_of, value_in, values_in, is_lambda, around_of, candidates_of, packs_of, IsClosed, IsThere, AreCandidatesThere}
 use Rattle.cpp_link.specs.Reads.{goes_on}
 use Rattle.cpp_link.specs.Staying.{candidates_stay}
 use Rattle.cpp_link.specs.Stepping.{Takes}
@@ -42,34 +47,6 @@ use Rattle.cpp_link.proofs.NodeCount.{before_read, end_read}
 use Rattle.cpp_link.proofs.Places.{values_length}
 use Rattle.cpp_link.proofs.Viewing.{parts_are, parts_all}
 use Rattle.cpp_link.proofs.Within.{at_plain}
-
--- ## Nodes behind marks
-
-pub marked_number : (s : List ℕ) (us : List Thunk) (ts : List Term) (node : Node) (ty : ℕ) → type_behind_mark node ≡ Some ty
-    → number_behind_mark (tree_of s us ts node) ≡ number_of_parameter (tree_at ts ty)
-unfolding type_behind_mark tree_of number_behind_mark
-marked_number s us ts (Node.Pointer t) ty e = let same : t ≡ ty = cc in ap (λ n. number_of_parameter (tree_at ts n)) same
-marked_number s us ts (Node.Lvalue t) ty e = let same : t ≡ ty = cc in ap (λ n. number_of_parameter (tree_at ts n)) same
-marked_number s us ts (Node.Rvalue t) ty e = let same : t ≡ ty = cc in ap (λ n. number_of_parameter (tree_at ts n)) same
-marked_number s us ts (Node.Qualified q t) ty e = let same : t ≡ ty = cc in ap (λ n. number_of_parameter (tree_at ts n)) same
-marked_number s us ts _ ty e = absurd cc
-
-pub unmarked_number : (s : List ℕ) (us : List Thunk) (ts : List Term) (node : Node) → type_behind_mark node ≡ None
-    → number_behind_mark (tree_of s us ts node) ≡ number_of_parameter (tree_of s us ts node)
-unfolding type_behind_mark tree_of number_behind_mark
-unmarked_number s us ts (Node.Pointer t) e = absurd cc
-unmarked_number s us ts (Node.Lvalue t) e = absurd cc
-unmarked_number s us ts (Node.Rvalue t) e = absurd cc
-unmarked_number s us ts (Node.Qualified q t) e = absurd cc
-unmarked_number s us ts _ e = refl
-
-pub marked_below : (s : List ℕ) (held n : ℕ) (node : Node) (ty : ℕ) → type_behind_mark node ≡ Some ty → IsBelow s held n node → ty < n
-unfolding type_behind_mark
-marked_below s held n (Node.Pointer t) ty e below = let same : t ≡ ty = cc in subst (λ k. k < n) same below
-marked_below s held n (Node.Lvalue t) ty e below = let same : t ≡ ty = cc in subst (λ k. k < n) same below
-marked_below s held n (Node.Rvalue t) ty e below = let same : t ≡ ty = cc in subst (λ k. k < n) same below
-marked_below s held n (Node.Qualified q t) ty e below = let same : t ≡ ty = cc in subst (λ k. k < n) same below
-marked_below s held n _ ty e below = absurd cc
 
 -- ## Before a part
 
@@ -98,7 +75,7 @@ apart_between Production.ParameterArgument around place (v ∷ []) state apart =
 apart_between Production.ParameterExpression around place (v ∷ []) state apart = go around.in_lambda apart
   where
     own : Going
-    own = next (tree (generic_parameter (generic_number (index_of v))) true ∷ []) around state
+    own = next (tree (term.parameter (generic_number (index_of v)) auto) true ∷ []) around state
 
     go : (b : Bool) → (b && true && nat_eq (length (v ∷ [])) 1) ≡ false
         → elim b [ true ↦ own | false ↦ argument_so_far around place (index_of v) state ] ≡ argument_so_far around place (index_of v) state
@@ -107,7 +84,7 @@ apart_between Production.ParameterExpression around place (v ∷ []) state apart
 apart_between Production.BoundedArray around place (v ∷ []) state apart = go around.in_lambda apart
   where
     own : Going
-    own = next (tree (generic_parameter (generic_number (index_of v))) true ∷ []) around state
+    own = next (tree (term.parameter (generic_number (index_of v)) auto) true ∷ []) around state
 
     go : (b : Bool) → (b && true && nat_eq (length (v ∷ [])) 1) ≡ false
         → elim b [ true ↦ own | false ↦ argument_so_far around place (index_of v) state ] ≡ argument_so_far around place (index_of v) state
@@ -156,7 +133,12 @@ pub wide_goes_right : (s : List ℕ) (old new : Linked) (frame : Frame Kept) (pa
 wide_goes_right s old new frame parts new_parts step then step_is takes rule known state is = (
   record { values = values_in s new.nodes (drop frame.base new_parts); context = around_of (trees_in s new.nodes) then; state = state_of s new },
   wide_read_is s old frame (drop frame.base parts) rule known state (at_plain s old frame (drop frame.base parts) rule known state is) ∙ step_is (state_of s old).candidates ∙ takes.is,
-  record { there = takes.around; is = refl },
+  record {
+    there = takes.around;
+    is = refl;
+    closed = wide_between_closed (production_at frame.rule) (around_of (trees_in s old.nodes) frame.kept) frame.place (values_in s old.nodes (drop frame.base parts)) (state_of s old) _
+        (step_is (state_of s old).candidates ∙ takes.is) (subst (λ around. IsClosed around) (sym is.kept.surrounds.is) is.kept.surrounds.closed);
+  },
   record { table = takes.grows.table; there = takes.candidates; candidates = refl; packs = refl },
   drop frame.base new_parts,
   sym (take-append-drop frame.base new_parts) ∙ ap (λ ps. ps ++ drop frame.base new_parts) takes.lower,
@@ -170,18 +152,20 @@ wide_refused_right s old new frame parts new_parts e memory rule known state is 
 
 -- ## Where a rule closes
 
-apart_close : (s : List ℕ) (p : Production) (byte : ℕ) (around : Around) (place : ℕ) (began : State) (vs : List Value) (state : State) → (p ≡ Production.Substitution → ⊥)
+apart_close : (s : List ℕ) (p : Production) (byte : ℕ) (around : Around) (place : ℕ) (began : State) (vs : List Value) (state : State) → (p ≡ Production.Substitution → ⊥) → (p ≡ Production.Lambda → ⊥)
     → link_close_wide s p byte around place began vs state ≡ link_close s p byte around place began vs state
 unfolding link_close_wide
-apart_close s Production.Substitution byte around place began vs state apart = absurd (apart refl)
-apart_close s _ byte around place began vs state apart = refl
+apart_close s Production.Substitution byte around place began vs state apart other = absurd (apart refl)
+apart_close s Production.Lambda byte around place began vs state apart other = absurd (other refl)
+apart_close s _ byte around place began vs state apart other = refl
 
--- a rule that is no substitution closes as in the other reading
+-- a rule that is no substitution and no lambda closes as in the other reading
 pub apart_closes : (s : List ℕ) (old new : Linked) (frame : Frame Kept) (parts new_parts : List Part) (result : Result (Unit {0}) Refusal) → (production_at frame.rule ≡ Production.Substitution → ⊥)
+    → (production_at frame.rule ≡ Production.Lambda → ⊥)
     → ClosesAll (cpp_view s) s old new frame parts new_parts result → ClosesAll (wide_view s) s old new frame parts new_parts result
-apart_closes s old new frame parts new_parts result apart closes rule known state is =
+apart_closes s old new frame parts new_parts result apart other closes rule known state is =
     subst (λ read. Puts (cpp_view s) new (take frame.base parts) new_parts result read)
-    (sym (apart_close s (production_at rule.rule.number) (byte_of rule.taken) rule.context rule.place rule.before known state (λ substitution. apart (ap production_at is.number ∙ substitution))))
+    (sym (apart_close s (production_at rule.rule.number) (byte_of rule.taken) rule.context rule.place rule.before known state (λ substitution. apart (ap production_at is.number ∙ substitution)) (λ lambda. other (ap production_at is.number ∙ lambda))))
     (closes rule known state (at_plain s old frame (drop frame.base parts) rule known state is))
 
 -- what comes of a substitution by the wide reading, in terms of the frame
@@ -231,12 +215,61 @@ wide_closing_refused s old new frame parts new_parts own e same substitution ref
     ∙ ap (λ ps. substituted_wide (around_of (trees_in s old.nodes) frame.kept) (frame.place - 1) (named_by (state_of s old) (values_in s old.nodes ps)) (state_of s old)) (sym same)))
     refused
 
+-- what comes of a lambda by the wide reading, in terms of the frame
+lambda_is : (s : List ℕ) (old : Linked) (frame : Frame Kept) (own : List Part) (rule : Open State Around) (known : List Value) (state : State) → IsAt (wide_view s) s old frame own rule known state
+    → production_at frame.rule ≡ Production.Lambda → (byte : ℕ)
+    → (linked_wide s).close rule known state ≡ Ok (found (with_own (link_meaning s Production.Lambda byte frame.place (around_of (trees_in s old.nodes) frame.kept) (values_in s old.nodes own))) (state_of s old))
+unfolding link_close_wide link_meaning
+lambda_is s old frame own rule known state is lambda byte =
+    ap (λ p. link_close_wide s p (byte_of rule.taken) rule.context rule.place rule.before known state) (ap production_at (sym is.number) ∙ lambda)
+    ∙ same (values_in s old.nodes own) known _ old.packs state (parts_are s old own known is.parts).1 is.holds.candidates is.holds.packs
+  where
+    same : (us vs : List Value) (cs : List values.Candidate) (packs : Option ℕ) (state : State) → us ≡ vs → cs ≡ state.candidates → packs ≡ state.packs
+        → ◌≡◌ {A = Result (Found Value State) Refusal} (Ok (found (with_own (link_meaning s Production.Lambda (byte_of rule.taken) rule.place rule.context vs)) state))
+        (Ok (found (with_own (link_meaning s Production.Lambda byte frame.place (around_of (trees_in s old.nodes) frame.kept) us)) (record { candidates = cs; packs = packs })))
+    same us vs cs packs state known candidates packed = rw (known, candidates, packed) refl
+
+-- a part was put that stands for what a lambda is
+pub lambda_put_right : (s : List ℕ) (old new : Linked) (frame : Frame Kept) (parts new_parts own : List Part) (made owned : Part) (byte : ℕ) (done : Unit {0}) → own ≡ drop frame.base parts
+    → production_at frame.rule ≡ Production.Lambda
+    → ((began : State) → began.packs ≡ packs_of frame.kept → link_close s Production.Lambda byte (around_of (trees_in s old.nodes) frame.kept) frame.place began (values_in s old.nodes own) (state_of s old) ≡ Ok (found (value_in s new.nodes made) (state_of s new)))
+    → value_in s new.nodes owned ≡ with_own (value_in s new.nodes made)
+    → IsThere s (length new.nodes.nodes) owned → IsWhole s new → new_parts ≡ take frame.base parts ++ owned ∷ []
+    → ClosesAll (wide_view s) s old new frame parts new_parts (Ok done)
+unfolding link_close behind
+lambda_put_right s old new frame parts new_parts own made owned byte done same lambda closes value there whole items rule known state is =
+    let read = closes rule.before (sym is.kept.packs) in
+    let same_found = ok_same _ _ read in (
+      owned,
+      items,
+      (
+        value_in s new.nodes owned,
+        state_of s new,
+        lambda_is s old frame (drop frame.base parts) rule known state is lambda byte
+            ∙ ap (λ ps. Ok (found (with_own (link_meaning s Production.Lambda byte frame.place (around_of (trees_in s old.nodes) frame.kept) (values_in s old.nodes ps))) (state_of s old))) (sym same)
+            ∙ both (λ v x. Ok (found v x)) (ap (λ f. with_own f.value) same_found ∙ sym value) (ap (λ f. f.state) same_found),
+        record { there = there; is = refl },
+        record { table = whole.table; there = whole.there; candidates = refl; packs = refl },
+      ),
+    )
+  where
+    ok_same : (f g : Found Value State) → ◌≡◌ {A = Result (Found Value State) Refusal} (Ok f) (Ok g) → f ≡ g
+    ok_same f g e = cc
+
+-- a lambda is refused as in the other reading: never but for want of memory
+pub lambda_refused_as : (s : List ℕ) (old new : Linked) (frame : Frame Kept) (parts new_parts own : List Part) (e : Refusal) (byte : ℕ) → own ≡ drop frame.base parts → production_at frame.rule ≡ Production.Lambda
+    → ((began : State) → Fails e (link_close s Production.Lambda byte (around_of (trees_in s old.nodes) frame.kept) frame.place began (values_in s old.nodes own) (state_of s old)))
+    → ClosesAll (wide_view s) s old new frame parts new_parts (Err e)
+unfolding link_close
+lambda_refused_as s old new frame parts new_parts own Memory byte same lambda refused rule known state is = tt
+lambda_refused_as s old new frame parts new_parts own e byte same lambda refused rule known state is = let clash = refused rule.before in absurd cc
+
 -- ## How many nodes are made
 
-pub wide_before_read : (s : List ℕ) (old new : Linked) (frame : Frame Kept) (parts : List Part) (result : Result Kept Refusal) → 3 ≤ length old.nodes.nodes
+pub wide_before_read : (s : List ℕ) (old new : Linked) (frame : Frame Kept) (parts : List Part) (result : Result Kept Refusal) → 4 ≤ length old.nodes.nodes
     → OnOk result (length new.nodes.nodes ≡ length old.nodes.nodes + makes_before (production_at frame.rule) (values_in s old.nodes (drop frame.base parts)))
     → (rule : Open State Around) (known : List Value) (state : State) → IsAt (wide_view s) s old frame (drop frame.base parts) rule known state
-    → OnOk result (length new.nodes.nodes - 3 ≡ length old.nodes.nodes - 3 + makes_before (production_at rule.rule.number) known)
+    → OnOk result (length new.nodes.nodes - 4 ≡ length old.nodes.nodes - 4 + makes_before (production_at rule.rule.number) known)
 wide_before_read s old new frame parts result begun made rule known state is =
     before_read s old new frame parts result begun made rule known state (at_plain s old frame (drop frame.base parts) rule known state is)
 
@@ -245,21 +278,21 @@ unfolding wide_at_end
 apart_end Production.Substitution around known state apart = absurd (apart refl)
 apart_end _ around known state apart = refl
 
-pub apart_end_read : (s : List ℕ) (old new : Linked) (frame : Frame Kept) (parts : List Part) (result : Result (Unit {0}) Refusal) → 3 ≤ length old.nodes.nodes
+pub apart_end_read : (s : List ℕ) (old new : Linked) (frame : Frame Kept) (parts : List Part) (result : Result (Unit {0}) Refusal) → 4 ≤ length old.nodes.nodes
     → (production_at frame.rule ≡ Production.Substitution → ⊥)
     → OnOk result (length new.nodes.nodes ≡ length old.nodes.nodes + makes_at_end (production_at frame.rule) (values_in s old.nodes (drop frame.base parts)))
     → (rule : Open State Around) (known : List Value) (state : State) → IsAt (wide_view s) s old frame (drop frame.base parts) rule known state
-    → OnOk result (length new.nodes.nodes - 3 ≡ length old.nodes.nodes - 3 + wide_at_end (production_at rule.rule.number) rule.context known state)
+    → OnOk result (length new.nodes.nodes - 4 ≡ length old.nodes.nodes - 4 + wide_at_end (production_at rule.rule.number) rule.context known state)
 apart_end_read s old new frame parts result begun apart made rule known state is =
-    subst (λ n. OnOk result (length new.nodes.nodes - 3 ≡ length old.nodes.nodes - 3 + n))
+    subst (λ n. OnOk result (length new.nodes.nodes - 4 ≡ length old.nodes.nodes - 4 + n))
     (apart_end (production_at rule.rule.number) rule.context known state (λ substitution. apart (ap production_at is.number ∙ substitution)))
     (end_read s old new frame parts result begun made rule known state (at_plain s old frame (drop frame.base parts) rule known state is))
 
-pub substitution_end_read : (s : List ℕ) (old new : Linked) (frame : Frame Kept) (parts : List Part) (result : Result (Unit {0}) Refusal) → 3 ≤ length old.nodes.nodes
+pub substitution_end_read : (s : List ℕ) (old new : Linked) (frame : Frame Kept) (parts : List Part) (result : Result (Unit {0}) Refusal) → 4 ≤ length old.nodes.nodes
     → production_at frame.rule ≡ Production.Substitution
     → OnOk result (length new.nodes.nodes ≡ length old.nodes.nodes + substituted_nodes (around_of (trees_in s old.nodes) frame.kept) (named_by (state_of s old) (values_in s old.nodes (drop frame.base parts))))
     → (rule : Open State Around) (known : List Value) (state : State) → IsAt (wide_view s) s old frame (drop frame.base parts) rule known state
-    → OnOk result (length new.nodes.nodes - 3 ≡ length old.nodes.nodes - 3 + wide_at_end (production_at rule.rule.number) rule.context known state)
+    → OnOk result (length new.nodes.nodes - 4 ≡ length old.nodes.nodes - 4 + wide_at_end (production_at rule.rule.number) rule.context known state)
 unfolding wide_at_end
 substitution_end_read s old new frame parts (Err e) begun substitution made rule known state is = tt
 substitution_end_read s old new frame parts (Ok done) begun substitution made rule known state is =
@@ -277,44 +310,9 @@ substitution_end_read s old new frame parts (Ok done) begun substitution made ru
         → substituted_nodes around (named_by state vs) ≡ substituted_nodes code (named_by (record { candidates = cs; packs = packs }) us)
     same code around us vs cs packs state context known candidates packed = rw (context, known, candidates) refl
 
--- ## A parameter, and the mark before it
+-- ## A tree that is there again
 
-pub marked_nodes : (s : List ℕ) (us : List Thunk) (ts : List Term) (node : Node) (ty : ℕ) → type_behind_mark node ≡ Some ty → restated_nodes (tree_of s us ts node) ≡ 2
-unfolding type_behind_mark tree_of restated_nodes
-marked_nodes s us ts (Node.Pointer t) ty e = refl
-marked_nodes s us ts (Node.Lvalue t) ty e = refl
-marked_nodes s us ts (Node.Rvalue t) ty e = refl
-marked_nodes s us ts (Node.Qualified q t) ty e = refl
-marked_nodes s us ts _ ty e = absurd cc
-
-pub unmarked_nodes : (s : List ℕ) (us : List Thunk) (ts : List Term) (node : Node) → type_behind_mark node ≡ None → restated_nodes (tree_of s us ts node) ≡ 1
-unfolding type_behind_mark tree_of restated_nodes
-unmarked_nodes s us ts (Node.Pointer t) e = absurd cc
-unmarked_nodes s us ts (Node.Lvalue t) e = absurd cc
-unmarked_nodes s us ts (Node.Rvalue t) e = absurd cc
-unmarked_nodes s us ts (Node.Qualified q t) e = absurd cc
-unmarked_nodes s us ts _ e = refl
-
-pub unmarked_with : (s : List ℕ) (us : List Thunk) (ts : List Term) (node : Node) (other : Term) → type_behind_mark node ≡ None → with_parameter (tree_of s us ts node) other ≡ other
-unfolding type_behind_mark tree_of with_parameter
-unmarked_with s us ts (Node.Pointer t) other e = absurd cc
-unmarked_with s us ts (Node.Lvalue t) other e = absurd cc
-unmarked_with s us ts (Node.Rvalue t) other e = absurd cc
-unmarked_with s us ts (Node.Qualified q t) other e = absurd cc
-unmarked_with s us ts _ other e = refl
-
-pub restated_two : (t : Term) → restated_nodes t ≤ 2
-unfolding restated_nodes
-restated_two (pointer t) = omega arith
-restated_two (lvalue t) = omega arith
-restated_two (rvalue t) = omega arith
-restated_two (qualified q t) = omega arith
-restated_two _ = omega arith
-
-pub some_of : (P : ℕ → Type 0) (o : Option ℕ) (x : ℕ) → Some x ≡ o → IfSome o P → P x
-some_of P o x e h = subst (λ p. IfSome p P) (sym e) h
-
--- the state in which a parameter was added
+-- the state in which its node was added
 pub kept_state : (s : List ℕ) (old new : Linked) (packs : Option ℕ) → ((i : ℕ) → i < length old.nodes.nodes → tree_at (trees_in s new.nodes) i ≡ tree_at (trees_in s old.nodes) i)
     → AreCandidatesThere (length old.nodes.nodes) old.candidates.items → new.candidates ≡ old.candidates
     → ◌≡◌ {A = State} (record { candidates = candidates_of (trees_in s old.nodes) old.candidates.items; packs = packs }) (record { candidates = candidates_of (trees_in s new.nodes) new.candidates.items; packs = packs })
@@ -335,9 +333,9 @@ generic_between Production.NestParameter around place v state is lambda =
 generic_between Production.ParameterArgument around place v state is lambda =
     ap (λ b. elim b as (λ _. Going) [ true ↦ generic_so_far around (index_of v) [] state | false ↦ parameter_so_far around (place - 1) (index_of v) [] state ]) lambda
 generic_between Production.ParameterExpression around place v state is lambda =
-    ap (λ b. elim b as (λ _. Going) [ true ↦ next (tree (generic_parameter (generic_number (index_of v))) true ∷ []) around state | false ↦ argument_so_far around place (index_of v) state ]) lambda
+    ap (λ b. elim b as (λ _. Going) [ true ↦ next (tree (term.parameter (generic_number (index_of v)) auto) true ∷ []) around state | false ↦ argument_so_far around place (index_of v) state ]) lambda
 generic_between Production.BoundedArray around place v state is lambda =
-    ap (λ b. elim b as (λ _. Going) [ true ↦ next (tree (generic_parameter (generic_number (index_of v))) true ∷ []) around state | false ↦ argument_so_far around place (index_of v) state ]) lambda
+    ap (λ b. elim b as (λ _. Going) [ true ↦ next (tree (term.parameter (generic_number (index_of v)) auto) true ∷ []) around state | false ↦ argument_so_far around place (index_of v) state ]) lambda
 generic_between _ around place v state is lambda = absurd (false≢true is)
 
 pub generic_is : (s : List ℕ) (y : Stored) (kept : Kept) (p : Production) (place : ℕ) (own : List Part) (digits : List ℕ) (cs : List values.Candidate) (packs : Option ℕ) (step : Step)
@@ -361,6 +359,35 @@ unfolding is_substitution
 substitution_alone Production.Substitution is = refl
 substitution_alone _ is = absurd (false≢true is)
 
+pub lambda_alone : (p : Production) → is_lambda_production p ≡ true → p ≡ Production.Lambda
+unfolding is_lambda_production
+lambda_alone Production.Lambda is = refl
+lambda_alone _ is = absurd (false≢true is)
+
+pub no_lambda : (p : Production) → is_lambda_production p ≡ false → p ≡ Production.Lambda → ⊥
+unfolding is_lambda_production
+no_lambda p is lambda = absurd (true≢false (ap is_lambda_production (sym lambda) ∙ is))
+
 pub no_substitution : (p : Production) → is_substitution p ≡ false → p ≡ Production.Substitution → ⊥
 unfolding is_substitution
 no_substitution p is substitution = absurd (true≢false (ap is_substitution (sym substitution) ∙ is))
+
+-- ## Lambdas
+
+pub own_lambda : (t : Term) (number : ℕ) → is_open t ≡ true → with_own (values.piece (term.lambda t number)) ≡ values.piece (term.generic_lambda t number)
+unfolding with_own lambda_with
+own_lambda t number is = ap (λ b. values.piece (elim b as (λ _. Term) [ true ↦ term.generic_lambda t number | false ↦ term.lambda t number ])) is
+
+pub plain_lambda : (t : Term) (number : ℕ) → is_open t ≡ false → with_own (values.piece (term.lambda t number)) ≡ values.piece (term.lambda t number)
+unfolding with_own lambda_with
+plain_lambda t number is = ap (λ b. values.piece (elim b as (λ _. Term) [ true ↦ term.generic_lambda t number | false ↦ term.lambda t number ])) is
+
+pub no_own : (s : List ℕ) (ts : List Term) (p : Piece) → ((parameters number : ℕ) → p ≡ Piece.Lambda parameters number → ⊥) → with_own (values.piece (piece_of s ts p)) ≡ values.piece (piece_of s ts p)
+unfolding with_own piece_of
+no_own s ts (Piece.Lambda parameters number) other = absurd (other parameters number refl)
+no_own s ts _ other = refl
+
+pub no_piece : (s : List ℕ) (ts : List Term) (part : Part) → ((p : Piece) → part ≡ Part.Piece p → ⊥) → with_own (value_of s ts part) ≡ value_of s ts part
+unfolding with_own value_of
+no_piece s ts (Part.Piece p) other = absurd (other p refl)
+no_piece s ts _ other = refl

@@ -3,12 +3,12 @@ use Rattle.std.proofs.Common.{◌≡◌, refl, sym, subst, ℕ, List, [], ◌∷
 use Rattle.sym_link.specs.declared.language.Frame.{Frame}
 use Rattle.sym_link.specs.Driving.{AreAll}
 use Rattle.sym_link.specs.Threads.{IsOpenAt}
-use Rattle.cpp_term.specs.Values.{Value}
+use Rattle.cpp_term.specs.Values.{Value, Around}
 use Rattle.cpp_link.specs.declared.part.Kept.{Kept}
 use Rattle.cpp_link.specs.declared.part.Part.{Part}
 use Rattle.cpp_link.specs.declared.linked.Linked.{Linked}
-use Rattle.cpp_link.specs.Parts.{values_of, values_in, AreThere}
-use Rattle.cpp_link.specs.View.{IsPart, cpp_view}
+use Rattle.cpp_link.specs.Parts.{trees_in, values_of, values_in, around_of, IsClosed, AreThere}
+use Rattle.cpp_link.specs.View.{IsPart, Surrounds, cpp_view}
 
 pub parts_are : (s : List ℕ) (l : Linked) (own : List Part) (known : List Value) → AreAll (IsPart s l) own known
     → AreThere s (length l.nodes.nodes) own × (values_in s l.nodes own ≡ known)
@@ -28,3 +28,7 @@ pub parts_all : (s : List ℕ) (l : Linked) (own : List Part) → AreThere s (le
 unfolding values_of
 parts_all s l [] there = tt
 parts_all s l (p ∷ ps) there = (record { there = there.0; is = refl }, parts_all s l ps there.1)
+
+-- no parameter is free in the arguments that are named where a rule stands open
+pub kept_closed : (s : List ℕ) (l : Linked) (kept : Kept) (around : Around) → Surrounds s l kept around → IsClosed (around_of (trees_in s l.nodes) kept)
+kept_closed s l kept around surrounds = subst (λ a. IsClosed a) (sym surrounds.is) surrounds.closed

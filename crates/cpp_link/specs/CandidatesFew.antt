@@ -9,9 +9,9 @@ use Rattle.cpp_grammar.specs.Values.{State, Value}
 use Rattle.cpp_grammar.specs.Unfolding.{cpp, first_around, first_state}
 use Rattle.cpp_link.specs.NodeCount.{nodes_of_shape}
 
--- Each candidate of a symbol that is read was made as a node, beside the three with which a table begins.
+-- Each candidate of a symbol that is read was made as a node, beside the four with which a table begins.
 abbrev pub CandidatesAreFew : Type 0
 CandidatesAreFew =
     (shape : Tree) → IsTree either (Kind 0) shape → (read : Found (List Value) State)
     → unfold_tree cpp first_around 0 shape first_state ≡ Ok read
-    → 3 + length read.state.candidates ≤ nodes_of_shape shape
+    → 4 + length read.state.candidates ≤ nodes_of_shape shape

@@ -11,19 +11,19 @@ use Rattle.sym_link.specs.Tally.{Tally, tally, Makes, tallied, tallied_view}
 use Rattle.cpp_grammar.specs.declared.production.Production.{Production}
 use Rattle.cpp_grammar.specs.Rescoping.{generic_number}
 use Rattle.cpp_grammar.specs.Unfolding.{production_at, byte_of}
-use Rattle.cpp_term.specs.Term.{Term, generic_parameter, pointer, lvalue, rvalue, qualified}
+use Rattle.cpp_term.specs.Reargued.{reargued}
+use Rattle.cpp_term.specs.Term.{Term, parameter}
+use Rattle.cpp_term.specs.Items.{auto}
 use Rattle.cpp_term.specs.Values.{Candidate, State, Around, Value, tree, text_of, part}
 use Rattle.cpp_term.specs.Unfolding.{first_around, first_state}
+use Rattle.cpp_term.specs.Rescoping.{generic_so_far, is_foreign, with_own, close_wide, cpp_wide}
+use Rattle.cpp_tree.specs.Nodes.{tree_at}
 use Rattle.cpp_term.specs.Between.{Going, next}
-use Rattle.cpp_term.specs.Rescoping.{generic_so_far, is_foreign, with_parameter, in_scope, close_wide, cpp_wide}
-use Rattle.cpp_tree.specs.Nodes.{Stored}
-use Rattle.cpp_tree.specs.declared.node.Node.{Node}
-use Rattle.cpp_link.specs.Parts.{tree_of_node}
 use Rattle.cpp_link.specs.declared.linked.Linked.{Linked}
 use Rattle.cpp_link.specs.declared.rescoping.Rescoping.{Rescoping}
 use Rattle.cpp_link.specs.declared.part.Part.{Part}
 use Rattle.cpp_link.specs.declared.part.Kept.{Kept}
-use Rattle.cpp_link.specs.LinkReading.{link_begin, link_close}
+use Rattle.cpp_link.specs.LinkReading.{link_begin, link_close, link_meaning}
 use Rattle.cpp_link.specs.NodeCount.{makes_before, makes_at_end, counted_nodes}
 use Rattle.cpp_link.specs.View.{cpp_view}
 
@@ -32,6 +32,7 @@ use Rattle.cpp_link.specs.View.{cpp_view}
 unfoldable pub link_close_wide : List ℕ → Production → (byte : ℕ) → Around → (place : ℕ) → (began : State) → List Value → State
     → Result (Found Value State) Refusal
 link_close_wide s Production.Substitution byte around place began vs state = close_wide Production.Substitution byte around place began vs state
+link_close_wide s Production.Lambda byte around place began vs state = Ok (found (with_own (link_meaning s Production.Lambda byte place around vs)) state)
 link_close_wide s production byte around place began vs state = link_close s production byte around place began vs state
 
 abbrev pub linked_wide : List ℕ → Reading Value State Around
@@ -70,28 +71,17 @@ names_generic p in_lambda held = in_lambda && is_parameter p && nat_eq held 1
 
 -- what the lambda's own parameter of this number comes to, which may be an argument itself
 unfoldable pub generic_read : (is_argument : Bool) → Around → ℕ → State → Going
-generic_read true around k state = next (tree (generic_parameter (generic_number k)) true ∷ []) around state
+generic_read true around k state = next (tree (parameter (generic_number k) auto) true ∷ []) around state
 generic_read false around k state = generic_so_far around k [] state
 
--- what stands behind the mark of a node
-unfoldable pub type_behind_mark : Node → Option ℕ
-type_behind_mark (Node.Pointer t) = Some t
-type_behind_mark (Node.Lvalue t) = Some t
-type_behind_mark (Node.Rvalue t) = Some t
-type_behind_mark (Node.Qualified q t) = Some t
-type_behind_mark _ = None
+unfoldable pub is_lambda_production : Production → Bool
+is_lambda_production Production.Lambda = true
+is_lambda_production _ = false
 
--- a tree with the parameter of this number that is meant here
-abbrev pub with_meant : Around → (place : ℕ) → Term → ℕ → State → Result (Found Value State) Refusal
-with_meant around place t k state = elim around.in_lambda [
-  | true ↦ Ok (found (tree (with_parameter t (generic_parameter k)) true) state)
-  | false ↦ in_scope around place t k state
-]
-
--- the same, where that parameter is this node
-unfoldable pub meant_read : List ℕ → Stored → Term → List Candidate → Result (Node × Option ℕ) Refusal → Result (Found Value State) Refusal
-meant_read s y t cs (Ok r) = Ok (found (tree (with_parameter t (tree_of_node s y r.0)) true) (record { candidates = cs; packs = r.1 }))
-meant_read s y t cs (Err e) = Err e
+-- a tree with the argument that is meant here, where that is this node
+unfoldable pub argument_read : List Term → Term → List Candidate → Result (ℕ × Option ℕ) Refusal → Result (Found Value State) Refusal
+argument_read ts t cs (Ok r) = Ok (found (tree (reargued (Some (tree_at ts r.0)) t) true) (record { candidates = cs; packs = r.1 }))
+argument_read ts t cs (Err e) = Err e
 
 -- the candidate that a substitution with these parts names
 abbrev pub named_by : State → List Value → Option Candidate
@@ -99,17 +89,10 @@ named_by state known = slice_get state.candidates (counted_value Seq36 (text_of 
 
 -- ## What a symbol makes
 
--- a parameter, and the mark before it
-unfoldable pub restated_nodes : Term → ℕ
-restated_nodes (pointer t) = 2
-restated_nodes (lvalue t) = 2
-restated_nodes (rvalue t) = 2
-restated_nodes (qualified q t) = 2
-restated_nodes t = 1
-
+-- a tree that was made elsewhere is there again with an argument
 unfoldable pub substituted_nodes : Around → Option Candidate → ℕ
 substituted_nodes around None = 0
-substituted_nodes around (Some c) = elim (is_foreign around c) [ true ↦ restated_nodes c.tree | false ↦ 0 ]
+substituted_nodes around (Some c) = elim (is_foreign around c) [ true ↦ 1 | false ↦ 0 ]
 
 unfoldable pub wide_at_end : Production → Around → List Value → State → ℕ
 wide_at_end Production.Substitution around known state = substituted_nodes around (named_by state known)
@@ -123,7 +106,7 @@ wide_makes = record {
 
 -- the nodes of a symbol of this shape
 abbrev pub wide_nodes_of_shape : Tree → ℕ
-wide_nodes_of_shape shape = 3 + counted_nodes (unfold_tree (tallied cpp_wide wide_makes) first_around 0 shape (tally first_state 0))
+wide_nodes_of_shape shape = 4 + counted_nodes (unfold_tree (tallied cpp_wide wide_makes) first_around 0 shape (tally first_state 0))
 
 abbrev pub are_wide_nodes : Tree → ℕ → Type 0
 are_wide_nodes shape nodes = nodes ≡ wide_nodes_of_shape shape

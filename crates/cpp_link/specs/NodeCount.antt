@@ -89,9 +89,9 @@ abbrev pub counted_nodes : {V S : Type 0} → Result (Found (List V) (Tally S)) 
 counted_nodes (Ok read) = read.state.nodes
 counted_nodes (Err refusal) = 0
 
--- the nodes of a symbol of this shape: the three with which each table begins, and those that its productions make
+-- the nodes of a symbol of this shape: the four with which each table begins, and those that its productions make
 abbrev pub nodes_of_shape : Tree → ℕ
-nodes_of_shape shape = 3 + counted_nodes (unfold_tree (tallied cpp cpp_makes) first_around 0 shape (tally first_state 0))
+nodes_of_shape shape = 4 + counted_nodes (unfold_tree (tallied cpp cpp_makes) first_around 0 shape (tally first_state 0))
 
 -- a symbol of this shape has so many nodes
 abbrev pub are_nodes : Tree → ℕ → Type 0

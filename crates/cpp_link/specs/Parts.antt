@@ -1,7 +1,8 @@
 -- The values that parts stand for: functions of the nodes.
-use Rattle.std.specs.Prelude.{ℕ, ◌<◌, List, [], ◌∷◌, map, Bool, true, false, Option, None, Some}
+use Rattle.std.specs.Prelude.{◌≡◌, ℕ, ◌<◌, List, [], ◌∷◌, map, Bool, true, false, Option, None, Some, IfSome}
 use Rattle.cpp_term.specs.Term as term
 use Rattle.cpp_term.specs.Term.{Term}
+use Rattle.cpp_term.specs.Scope.{is_open}
 use Rattle.cpp_term.specs.Values as values
 use Rattle.cpp_term.specs.Values.{State, Value, Around}
 use Rattle.cpp_tree.specs.Nodes as nodes
@@ -83,10 +84,14 @@ abbrev pub packs_of : Kept → Option ℕ
 packs_of kept = packs_in kept.has_packs kept.pack_length
 
 unfoldable pub around_of : List Term → Kept → Around
-around_of ts kept = record { scope = nodes.arguments_are ts (scope_of kept); encoding = kept.encoding; in_lambda = is_lambda kept.scope; in_expansion = kept.in_expansion; prefix = prefix_of ts (name_of kept) }
+around_of ts kept = record { scope = nodes.tree_if_there ts (scope_of kept); encoding = kept.encoding; in_lambda = is_lambda kept.scope; in_expansion = kept.in_expansion; prefix = prefix_of ts (name_of kept) }
+
+-- no parameter is free in the arguments that are named
+abbrev pub IsClosed : Around → Type 0
+IsClosed around = IfSome around.scope (λ a. is_open a ≡ false)
 
 abbrev pub candidate_of : List Term → Candidate → values.Candidate
-candidate_of ts c = record { tree = tree_at ts c.node; encoding = c.encoding }
+candidate_of ts c = record { tree = tree_at ts c.node; encoding = c.encoding; in_lambda = c.in_lambda }
 
 abbrev pub candidates_of : List Term → List Candidate → List values.Candidate
 candidates_of ts cs = map (candidate_of ts) cs
@@ -137,9 +142,9 @@ AreCandidatesThere n [] = Unit {0}
 AreCandidatesThere n (c ∷ cs) = (c.node < n) × AreCandidatesThere n cs
 
 abbrev pub IsKeptThere : ℕ → Kept → Type 0
-IsKeptThere n kept = nodes.IsArgumentsBelow n (scope_of kept) × IsPrefixThere n (name_of kept)
+IsKeptThere n kept = nodes.IsThereBelow n (scope_of kept) × IsPrefixThere n (name_of kept)
 
 abbrev pub IsStepThere : List ℕ → (held n : ℕ) → Step → Type 0
-IsStepThere s held n (Step.Go candidate then packs) = nodes.IsArgumentsBelow n candidate × IsKeptThere n then
+IsStepThere s held n (Step.Go candidate then packs) = nodes.IsThereBelow n candidate × IsKeptThere n then
 IsStepThere s held n (Step.Named node listed is_name) = node < n
 IsStepThere s held n (Step.Made node listed is_name is_candidate packs) = IsBelow s held n node

@@ -1,5 +1,5 @@
 -- What is read of nodes and of references.
-use Rattle.std.specs.Prelude.{ℕ, List, [], ◌∷◌, Bool, true, false, ◌&&◌, nat_eq, Option, Some, None, Result, Ok, Err}
+use Rattle.std.specs.Prelude.{ℕ, ◌<◌, List, [], ◌∷◌, Bool, true, false, ◌&&◌, nat_eq, Option, Some, None, Result, Ok, Err}
 use Rattle.sym_core.specs.declared.refusal.Refusal.{Refusal}
 use Rattle.sym_link.specs.Reading.{Found}
 use Rattle.sym_link.specs.Unfold.{found}
@@ -10,12 +10,15 @@ use Rattle.cpp_term.specs.Meaning.{is_void, is_nil, parameters}
 use Rattle.cpp_term.specs.References.{appended}
 use Rattle.cpp_term.specs.Values as values
 use Rattle.cpp_term.specs.Values.{State, Value, Around, tree_of, qualifiers_of, ref_of}
-use Rattle.cpp_tree.specs.Nodes.{Stored, tree_at}
+use Rattle.cpp_tree.specs.Nodes.{Stored, tree_at, tree_if_there, IsThereBelow}
 use Rattle.cpp_term.specs.Between.{Going, after}
 use Rattle.cpp_link.specs.declared.part.Step.{Step}
 use Rattle.cpp_link.specs.declared.part.Kept.{Kept}
 use Rattle.cpp_tree.specs.declared.node.Node.{Node}
 use Rattle.cpp_link.specs.declared.part.Candidate.{Candidate}
+use Rattle.cpp_link.specs.declared.part.Opened.{Opened}
+use Rattle.cpp_link.specs.declared.signatures.Split.{Split}
+use Rattle.cpp_term.specs.Reargued.{reargued}
 use Rattle.cpp_link.specs.Parts.{trees_in, tree_of_node, around_of, candidate_of}
 
 -- ## Nodes
@@ -32,26 +35,27 @@ unfoldable pub function_node : Node → Bool
 function_node (Node.FunctionType c_linkage noexcept m returned parameters) = true
 function_node _ = false
 
--- the first element and the others of a list that has some
-unfoldable pub cell_of : Node → Option (ℕ × ℕ)
-cell_of (Node.Cell first rest) = Some (first, rest)
-cell_of _ = None
+-- the first element and the others of a list that has some, and the argument under which both stand
+unfoldable pub cell_under : Node → Option ℕ → Option Split
+cell_under (Node.Cell first rest) under = Some (record { first = first; rest = rest; under = under })
+cell_under _ under = None
 
--- the elements of a pack
-unfoldable pub elements_of : Node → Option ℕ
-elements_of (Node.Pack elements) = Some elements
-elements_of _ = None
+unfoldable pub split_of : Opened → Option Split
+split_of list = cell_under list.node list.under
 
--- the parameters of the items that these are, by their cell
-unfoldable pub parameters_by : List Term → Option (ℕ × ℕ) → Term → Term
+abbrev pub IsSplitThere : ℕ → Split → Type 0
+IsSplitThere n items = (items.first < n) × ((items.rest < n) × IsThereBelow n items.under)
+
+-- the parameters of the items that these are
+unfoldable pub parameters_by : List Term → Option Split → Term → Term
 parameters_by ts None items = items
-parameters_by ts (Some cell) items = elim (is_void (tree_at ts cell.0) && is_nil (tree_at ts cell.1)) [ true ↦ nil | false ↦ items ]
+parameters_by ts (Some l) items = elim (is_void (tree_at ts l.first) && is_nil (tree_at ts l.rest)) [ true ↦ nil | false ↦ items ]
 
--- an encoding of this name and these items, by their cell
-unfoldable pub encoding_by : List Term → Value → Option (ℕ × ℕ) → (items : Term) → Term
+-- an encoding of this name and these items
+unfoldable pub encoding_by : List Term → Value → Option Split → (items : Term) → Term
 encoding_by ts name None items = term.object (tree_of name) (qualifiers_of name) (ref_of name)
-encoding_by ts name (Some cell) items = elim (has_return_type (tree_of name)) [
-  | true ↦ term.function (tree_of name) (qualifiers_of name) (ref_of name) (tree_at ts cell.0) (parameters (tree_at ts cell.1))
+encoding_by ts name (Some l) items = elim (has_return_type (tree_of name)) [
+  | true ↦ term.function (tree_of name) (qualifiers_of name) (ref_of name) (reargued (tree_if_there ts l.under) (tree_at ts l.first)) (reargued (tree_if_there ts l.under) (parameters (tree_at ts l.rest)))
   | false ↦ term.function (tree_of name) (qualifiers_of name) (ref_of name) absent (parameters items)
 ]
 

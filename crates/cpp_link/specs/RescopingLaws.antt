@@ -9,7 +9,8 @@ use Rattle.sym_link.proofs.Tally.{tallied_laws, tallied_threads}
 use Rattle.cpp_grammar.specs.declared.production.Production.{Production}
 use Rattle.cpp_grammar.specs.Unfolding.{production_at}
 use Rattle.cpp_grammar.specs.Rescoping.{generic_number}
-use Rattle.cpp_term.specs.Term.{generic_parameter}
+use Rattle.cpp_term.specs.Term.{parameter}
+use Rattle.cpp_term.specs.Items.{auto}
 use Rattle.cpp_term.specs.Values.{State, Value, tree, Around}
 use Rattle.cpp_term.specs.Between.{next, parameter_so_far, argument_so_far, listed_so_far, index_of}
 use Rattle.cpp_term.specs.Unfolding.{cpp}
@@ -36,7 +37,7 @@ unfolding argument_here
 argument_here_counts around place k state = go around.in_lambda
   where
     go : (b : Bool) → IfOk {T = Next Value State Around} (elim b [
-      | true ↦ next (tree (generic_parameter (generic_number k)) true ∷ []) around state
+      | true ↦ next (tree (parameter (generic_number k) auto) true ∷ []) around state
       | false ↦ argument_so_far around place k state
     ]) (λ next. length next.values ≡ 1)
     go true = refl

@@ -1,6 +1,6 @@
 -- What was there stands for what it stood for, where nodes are added.
 use Rattle.std.proofs.Common.{◌≡◌, refl, arith, ℕ, ◌<◌, ◌≤◌, List, [], ◌∷◌, length, Option, Some, None}
-use Rattle.cpp_tree.specs.Nodes.{Stored, tree_at, piece_of, arguments_are, IsPieceBelow, IsArgumentsBelow}
+use Rattle.cpp_tree.specs.Nodes.{Stored, tree_at, piece_of, tree_if_there, IsPieceBelow, IsThereBelow}
 use Rattle.cpp_tree.specs.declared.node.Piece.{Piece}
 use Rattle.cpp_link.specs.declared.part.Part.{Part}
 use Rattle.cpp_link.specs.declared.part.Prefix.{Prefix}
@@ -12,6 +12,7 @@ module _ (s : List ℕ) (old new : Stored) (stays : (i : ℕ) → i < length old
   piece_stays : (p : Piece) → IsPieceBelow s (length old.nodes) p → piece_of s (trees_in s new) p ≡ piece_of s (trees_in s old) p
   unfolding piece_of
   piece_stays (Piece.Lambda parameters number) there = rw (stays parameters there) refl
+  piece_stays (Piece.GenericLambda parameters number) there = rw (stays parameters there) refl
   piece_stays (Piece.Conversion ty) there = rw (stays ty there) refl
   piece_stays _ there = refl
 
@@ -32,8 +33,8 @@ module _ (s : List ℕ) (old new : Stored) (stays : (i : ℕ) → i < length old
   values_stay [] there = refl
   values_stay (p ∷ ps) there = rw (value_stays p there.0, values_stay ps there.1) refl
 
-  arguments_stay : (o : Option ℕ) → IsArgumentsBelow (length old.nodes) o → arguments_are (trees_in s new) o ≡ arguments_are (trees_in s old) o
-  unfolding arguments_are
+  arguments_stay : (o : Option ℕ) → IsThereBelow (length old.nodes) o → tree_if_there (trees_in s new) o ≡ tree_if_there (trees_in s old) o
+  unfolding tree_if_there
   arguments_stay None there = refl
   arguments_stay (Some a) there = rw (stays a there) refl
 
@@ -59,6 +60,7 @@ there_more s m n (Part.Piece p) le there = piece p there
     piece (Piece.Source internal bytes) below = below
     piece (Piece.LiteralOperator bytes) below = below
     piece (Piece.Lambda parameters number) below = omega (arith, le, below)
+    piece (Piece.GenericLambda parameters number) below = omega (arith, le, below)
     piece (Piece.Conversion ty) below = omega (arith, le, below)
     piece _ below = tt
 there_more s m n (Part.Named node q ref) le there = omega (arith, le, there)
@@ -75,7 +77,7 @@ candidates_more m n (c ∷ cs) le there = (omega (arith, le, there.0), candidate
 pub kept_more : (m n : ℕ) (kept : Kept) → m ≤ n → IsKeptThere m kept → IsKeptThere n kept
 kept_more m n kept le there = (arguments (scope_of kept) there.0, prefix (name_of kept) there.1)
   where
-    arguments : (o : Option ℕ) → IsArgumentsBelow m o → IsArgumentsBelow n o
+    arguments : (o : Option ℕ) → IsThereBelow m o → IsThereBelow n o
     arguments None below = tt
     arguments (Some a) below = omega (arith, le, below)
 

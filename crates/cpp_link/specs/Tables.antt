@@ -48,7 +48,8 @@ quiet_parts Production.TypeTag = 1
 quiet_parts Production.ParameterExpression = 1
 quiet_parts Production.BoundedArray = 1
 quiet_parts Production.ParameterArgument = 1
-quiet_parts Production.DeclaredArgument = 0
+quiet_parts Production.ValueOf = 0
+quiet_parts Production.OfConcept = 0
 quiet_parts _ = 5
 
 -- parts without a row may stand between those with one

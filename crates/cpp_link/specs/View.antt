@@ -13,7 +13,7 @@ use Rattle.cpp_link.specs.LinkReading.{linked}
 use Rattle.cpp_link.specs.Room.{lists_of}
 use Rattle.cpp_link.specs.Owed.{owes}
 use Rattle.cpp_link.specs.Closes.{closes}
-use Rattle.cpp_link.specs.Parts.{trees_in, value_in, packs_of, around_of, candidates_of, IsThere, IsKeptThere, AreCandidatesThere}
+use Rattle.cpp_link.specs.Parts.{trees_in, value_in, packs_of, around_of, candidates_of, IsClosed, IsThere, IsKeptThere, AreCandidatesThere}
 
 -- the part stands for the value
 pub record IsPart (s : List ℕ) (l : Linked) (part : Part) (value : Value) : Type 0 where
@@ -24,6 +24,7 @@ pub record IsPart (s : List ℕ) (l : Linked) (part : Part) (value : Value) : Ty
 pub record Surrounds (s : List ℕ) (l : Linked) (kept : Kept) (around : Around) : Type 0 where
   pub there : IsKeptThere (length l.nodes.nodes) kept
   pub is : around_of (trees_in s l.nodes) kept ≡ around
+  pub closed : IsClosed around
 
 pub record IsKept (s : List ℕ) (l : Linked) (kept : Kept) (rule : Open State Around) : Type 0 where
   pub surrounds : Surrounds s l kept rule.context
@@ -46,9 +47,9 @@ pub record IsWhole (s : List ℕ) (l : Linked) : Type 0 where
   pub table : IsTable (over s l.nodes)
   pub there : AreCandidatesThere (length l.nodes.nodes) l.candidates.items
 
--- the table has its first three nodes, and a thunk is adjusted by a node
+-- the table has its first four nodes, and a thunk is adjusted by a node
 pub record IsPaid (l : Linked) : Type 0 where
-  pub begun : 3 ≤ length l.nodes.nodes
+  pub begun : 4 ≤ length l.nodes.nodes
   pub thunks : length l.nodes.thunks ≤ length l.nodes.nodes
 
 abbrev pub cpp_view : List ℕ → View Linked Part Kept Value State Around
@@ -61,7 +62,7 @@ cpp_view s = record {
   IsKept = IsKept s;
   Holds = Holds s;
   Grows = GoesOn s;
-  size = λ l. length l.nodes.nodes - 3;
+  size = λ l. length l.nodes.nodes - 4;
   owes = owes;
   closes = closes;
   most = λ bytes. 2 * bytes;

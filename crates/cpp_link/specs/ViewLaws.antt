@@ -33,6 +33,7 @@ pub surrounds_stays : (s : List ℕ) (old new : Linked) (kept : Kept) (around : 
 surrounds_stays s old new kept around grows is = record {
   there = kept_more (length old.nodes.nodes) (length new.nodes.nodes) kept grows.least is.there;
   is = around_stays s old.nodes new.nodes grows.stays kept is.there ∙ is.is;
+  closed = is.closed;
 }
 
 kept_stays : (s : List ℕ) (old new : Linked) (kept : Kept) (rule : Open State Around) → GoesOn s old new → IsKept s old kept rule → IsKept s new kept rule

@@ -8,7 +8,7 @@ ghost use Rattle.cpp_grammar.specs.declared.production.Production.TheVariants as
 ghost use Rattle.cpp_link.specs.declared.part.Part.TheVariants as variants;
 ghost use Rattle.cpp_term.specs.Term.{Term};
 ghost use Rattle.cpp_grammar.specs.Unfolding.{production_at};
-ghost use Rattle.cpp_tree.specs.Nodes.{IsArgumentsBelow, IsBelow, tree_at};
+ghost use Rattle.cpp_tree.specs.Nodes.{IsThereBelow, IsBelow, tree_at};
 ghost use Rattle.cpp_link.specs.Grows.{Grows, HasPlace};
 ghost use Rattle.cpp_link.specs.Making.{state_of};
 ghost use Rattle.cpp_link.specs.NodeCount.{makes_before};
@@ -73,7 +73,7 @@ impl Linked {
         candidate: Option<u32>,
         packs: Option<u32>,
     ) -> Result<(), Refusal>
-        requires candidate { IsArgumentsBelow (length self.old.nodes.nodes) candidate }
+        requires candidate { IsThereBelow (length self.old.nodes.nodes) candidate }
         requires there { AreCandidatesThere (length self.old.nodes.nodes) self.old.candidates.items }
         ensures nodes { self.new.nodes ≡ self.old.nodes }
         ensures there { OnOk result (AreCandidatesThere (length self.old.nodes.nodes) self.new.candidates.items) }

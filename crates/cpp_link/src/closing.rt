@@ -5,7 +5,7 @@ ghost use Rattle.cpp_term.specs.Values as values;
 ghost use Rattle.cpp_term.specs.Values.{State};
 ghost use Rattle.cpp_term.specs.References.{with_unqualified, is_function_type};
 ghost use Rattle.cpp_term.specs.Unfolding as unfolding_;
-ghost use Rattle.cpp_tree.specs.Nodes.{over, tree_at, IsArgumentsBelow, IsTable};
+ghost use Rattle.cpp_tree.specs.Nodes.{over, tree_at, IsThereBelow, IsTable};
 ghost use Rattle.cpp_link.specs.LinkReading.{link_meaning};
 ghost use Rattle.cpp_link.specs.Parts.{trees_in, value_in, values_in, packs_of, around_of, IsThere, AreThere};
 ghost use Rattle.cpp_link.specs.Reads.{with_candidate, function_node};
@@ -33,7 +33,7 @@ impl Linked {
         requires below { node < length self.now.nodes.nodes }
         ensures { result ≡ is_function_type (tree_at (trees_in symbol.now self.now.nodes) node) }
     {
-        is_function(self.nodes.node(symbol, node))
+        is_function(self.opened(symbol, node).node)
     }
 
     /// The candidate that a type becomes under qualifiers.
@@ -42,7 +42,7 @@ impl Linked {
         requires table { IsTable (over symbol.now self.now.nodes) }
         requires there { IsThere symbol.now (length self.now.nodes.nodes) part }
         ensures is { (state : State) → with_unqualified (around_of (trees_in symbol.now self.now.nodes) kept) (value_in symbol.now self.now.nodes part) state ≡ with_candidate (around_of (trees_in symbol.now self.now.nodes) kept) (trees_in symbol.now self.now.nodes) result state }
-        ensures there { IsArgumentsBelow (length self.now.nodes.nodes) result }
+        ensures there { IsThereBelow (length self.now.nodes.nodes) result }
     {
         let node = self.node(symbol, part);
         if self.is_function_type(symbol, node) {
@@ -70,7 +70,7 @@ impl Linked {
         ensures is { (began : State) (cs : List values.Candidate) → began.packs ≡ packs_of kept
             → unfolding_.behind production byte (around_of (trees_in symbol.now self.now.nodes) kept) began (values_in symbol.now self.now.nodes parts.now) (record { candidates = cs; packs = self.now.packs })
             ≡ with_candidate (around_of (trees_in symbol.now self.now.nodes) kept) (trees_in symbol.now self.now.nodes) result.candidate (record { candidates = cs; packs = result.packs }) }
-        ensures there { IsArgumentsBelow (length self.now.nodes.nodes) result.candidate }
+        ensures there { IsThereBelow (length self.now.nodes.nodes) result.candidate }
     {
         match production {
             Production::RestrictType => Behind {

@@ -217,7 +217,7 @@ impl Linked {
     ///
     /// `Memory` where a list couldn't grow.
     #[inline(always)]
-    fn close_rare(
+    pub(crate) fn close_rare(
         &mut self,
         symbol: &[u8],
         production: Production,

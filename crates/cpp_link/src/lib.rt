@@ -18,6 +18,7 @@ pub mod settling;
 pub mod shapes;
 pub mod signatures;
 pub mod steps;
+mod surroundings;
 mod tables;
 pub mod values;
 pub mod wide_language;
@@ -35,8 +36,8 @@ pub fn nodes_are_few()
     ensures { (tree : Tree) → IsTree either (Kind 0) tree → cost owes tree ≤ 2 * length (spell tree) }
 {}
 
-/// Each candidate of a symbol that is read was made as a node, beside the three with which a table begins: a symbol has at least
-/// three nodes more than candidates.
+/// Each candidate of a symbol that is read was made as a node, beside the four with which a table begins: a symbol has at least
+/// four nodes more than candidates.
 pub fn candidates_are_few()
     ensures { CandidatesAreFew }
 {}

@@ -4,7 +4,7 @@ ghost use Rattle.std.specs.Prelude.{◌≡◌, ℕ, ◌<◌, ◌≤◌, List, le
 ghost use Rattle.sym_core.specs.declared.refusal.Refusal.TheVariants as refusals;
 ghost use Rattle.sym_link.specs.Threads.{IsTaken};
 ghost use Rattle.cpp_term.specs.Unfolding.{first_state};
-ghost use Rattle.cpp_tree.specs.Nodes.{IsArgumentsBelow};
+ghost use Rattle.cpp_tree.specs.Nodes.{IsThereBelow};
 ghost use Rattle.cpp_link.specs.Parts.{trees_in, around_of, candidates_of, AreCandidatesThere};
 ghost use Rattle.cpp_link.specs.Reads.{with_candidate};
 ghost use Rattle.cpp_link.specs.View.{Holds, IsPaid, cpp_view};
@@ -42,10 +42,10 @@ impl Linked {
     /// `Memory` where the nodes couldn't grow.
     pub fn restart(&mut self) -> Result<(), Refusal>
         ensures holds { OnOk result ((s : List ℕ) → Holds s self.new first_state) }
-        ensures size { OnOk result (length self.new.nodes.nodes ≡ 3) }
+        ensures size { OnOk result (length self.new.nodes.nodes ≡ 4) }
         ensures paid { OnOk result (IsPaid self.new) }
         ensures memory { IfErr result (λ e. e ≡ refusals.Memory) }
-        ensures full { OnErr result (self.old.nodes.node_room < 3) }
+        ensures full { OnErr result (self.old.nodes.node_room < 4) }
     {
         self.candidates.clear();
         self.packs = None;
@@ -65,7 +65,7 @@ impl Linked {
         kept: Kept,
         candidate: Option<u32>,
     ) -> Result<(), Refusal>
-        requires candidate { IsArgumentsBelow (length self.old.nodes.nodes) candidate }
+        requires candidate { IsThereBelow (length self.old.nodes.nodes) candidate }
         requires there { AreCandidatesThere (length self.old.nodes.nodes) self.old.candidates.items }
         ensures nodes { self.new.nodes ≡ self.old.nodes }
         ensures packs { self.new.packs ≡ self.old.packs }
@@ -80,8 +80,12 @@ impl Linked {
         match candidate {
             None => Ok(()),
             Some(node) => {
-                let encoding = kept.encoding;
-                push_part(&mut self.candidates, Candidate { node, encoding })?;
+                let candidate = Candidate {
+                    node,
+                    encoding: kept.encoding,
+                    in_lambda: kept.in_lambda(),
+                };
+                push_part(&mut self.candidates, candidate)?;
                 Ok(())
             }
         }

@@ -1,6 +1,6 @@
 // What productions stand for, given their parts: a part, or one whose node isn't there yet.
 
-ghost use Rattle.std.specs.Prelude.{◌≡◌, ◌<◌, ◌≤◌, length, slice_index, true};
+ghost use Rattle.std.specs.Prelude.{◌≡◌, ◌<◌, ◌≤◌, length, slice_index, true, ◌^◌};
 ghost use Rattle.cpp_term.specs.Values.{tree_of, is_there};
 ghost use Rattle.cpp_term.specs.Meaning.{meaning, listed_value};
 ghost use Rattle.cpp_tree.specs.Nodes as nodes;
@@ -329,7 +329,7 @@ impl Linked {
                 },
                 true,
             ),
-            // <template-arg> ::= X <expression> E, with an <expression> that is read by itself
+            // <template-arg> ::= <type> | X <expression> E | <template-param-decl> <template-arg>, read by itself
             Production::AnyArgument => made(
                 Node::Cell {
                     first: self.tree(symbol, parts, 0),
@@ -361,7 +361,7 @@ impl Linked {
                 },
                 true,
             ),
-            // <template-arg> ::= X <expression> E, with an <expression> that is read by itself, in a pack
+            // <template-arg> ::= <type> | X <expression> E | <template-param-decl> <template-arg>, read by itself, in a pack
             Production::AnyElement => made(
                 Node::Cell {
                     first: self.tree(symbol, parts, 0),
@@ -637,6 +637,7 @@ impl Linked {
         requires fits { FitsSymbol symbol.now }
         requires place { place < length symbol.now }
         requires table { IsTable (over symbol.now self.now.nodes) }
+        requires few { length self.now.nodes.nodes < 2 ^ 32 }
         requires there { AreThere symbol.now (length self.now.nodes.nodes) parts.now }
         requires prefix { IsPrefixThere (length self.now.nodes.nodes) (name_of kept) }
         ensures is { meant_value symbol.now self.now.nodes result ≡ meaning production (slice_index symbol.now place) (around_of (trees_in symbol.now self.now.nodes) kept) (values_in symbol.now self.now.nodes parts.now) }

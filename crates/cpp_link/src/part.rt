@@ -74,7 +74,7 @@ pub enum Prefix {
     Behind { node: u32, listed: bool },
 }
 
-/// What parameters name: nothing, nothing as in the signature of a lambda, or arguments.
+/// What parameters name: nothing, nothing as in the signature of a lambda or in what is declared of an argument, or arguments.
 #[derive(Clone, Copy)]
 pub enum Scope {
     Nothing,
@@ -188,11 +188,20 @@ impl Kept {
     }
 }
 
-/// A tree that a substitution may name, and the place where the encoding begins in which it was made.
+/// A tree that a substitution may name, the place where the encoding begins in which it was made, and whether it was made in the
+/// signature of a lambda.
 #[derive(Clone, Copy)]
 pub struct Candidate {
     pub node: u32,
     pub encoding: u32,
+    pub in_lambda: bool,
+}
+
+/// A node that isn't there again, and the argument under which its parts stand.
+#[derive(Clone, Copy)]
+pub struct Opened {
+    pub node: Node,
+    pub under: Option<u32>,
 }
 
 /// What is done before the next part of a rule: the state and what surrounds the part.

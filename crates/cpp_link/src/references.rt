@@ -1,23 +1,24 @@
 // What references name.
 
-ghost use Rattle.std.specs.Prelude.{◌≡◌, ℕ, ◌<◌, ◌≤◌, ◌^◌, MatchOption, ◌&&◌, ◌||◌, not, nat_eq, List, length, IfSome, IfOk, IfErr, ◌∷◌, []};
+ghost use Rattle.std.specs.Prelude.{◌≡◌, ℕ, ◌<◌, ◌≤◌, ◌^◌, MatchOption, ◌&&◌, ◌||◌, not, nat_eq, false, List, length, IfSome, IfOk, IfErr, ◌∷◌, []};
 ghost use Rattle.cpp_term.specs.Values as values;
 ghost use Rattle.sym_core.specs.Value.{counted_value};
 ghost use Rattle.sym_core.specs.declared.NumberKind.TheVariants as kinds;
 ghost use Rattle.sym_core.specs.declared.refusal.Refusal.TheVariants as refusals;
 ghost use Rattle.sym_link.specs.Driving.{Fails};
-ghost use Rattle.cpp_term.specs.Between.{argument_at, parameter_so_far, argument_so_far};
+ghost use Rattle.cpp_term.specs.Between.{closed_arguments, argument_at, parameter_so_far, argument_so_far};
 ghost use Rattle.cpp_term.specs.References.{with_packs, substituted, parameter_named};
+ghost use Rattle.cpp_term.specs.Reargued.{reargued};
 ghost use Rattle.cpp_term.specs.Term as term;
-ghost use Rattle.cpp_term.specs.Scope.{is_open, pack_length, count, arguments_of, length_if_pack};
-ghost use Rattle.cpp_tree.specs.Nodes.{over, tree_at, bytes_at, IsWithin, IsBelow, arguments_are, IsArgumentsBelow, IsTable};
-ghost use Rattle.cpp_link.specs.Parts.{trees_in, tree_of_node, is_lambda, around_of, IsKeptThere, IsStepThere};
+ghost use Rattle.cpp_term.specs.Scope.{is_open, pack_length, count, element, length_if_pack};
+ghost use Rattle.cpp_tree.specs.Nodes.{over, tree_at, bytes_at, is_again, IsBelow, IsWithin, tree_if_there, IsThereBelow, IsTable};
+ghost use Rattle.cpp_link.specs.Parts.{trees_in, tree_of_node, is_lambda, around_of, IsClosed, IsKeptThere, IsStepThere};
 ghost use Rattle.cpp_link.specs.Stepping.{nodes_of_step};
-ghost use Rattle.cpp_link.specs.Reads.{packs_read, maybe_candidate, node_read, parameter_read, elements_of, goes_on};
+ghost use Rattle.cpp_link.specs.Reads.{packs_read, maybe_candidate, node_read, parameter_read, goes_on};
 
 use crate::linked::Linked;
-use crate::part::{Candidate, Kept, Step};
-use cpp_tree::node::Node;
+use crate::part::{Candidate, Kept, Opened, Step};
+use cpp_tree::node::{Node, Placed};
 use sym_core::{Refusal, Span, value10};
 
 /// The length of the packs under an expansion, behind a tree that holds packs of this length.
@@ -72,17 +73,6 @@ fn is_foreign(kept: Kept, is_open: bool, encoding: u32) -> bool
     is_open && (kept.in_lambda() || encoding != kept.encoding)
 }
 
-/// The elements of a pack.
-#[tactic(auto, unfolding(crate::specs::Reads::elements_of))]
-fn elements_of(node: Node) -> Option<u32>
-    ensures { result ≡ elements_of node }
-{
-    match node {
-        Node::Pack(elements) => Some(elements),
-        _ => None,
-    }
-}
-
 impl Linked {
     /// Whether a node's tree has free parameters.
     pub(crate) fn is_open(&self, symbol: &[u8], node: u32) -> bool
@@ -90,7 +80,7 @@ impl Linked {
         requires below { node < length self.now.nodes.nodes }
         ensures { result ≡ is_open (tree_at (trees_in symbol.now self.now.nodes) node) }
     {
-        self.nodes.entry(node).is_open
+        self.nodes.is_open(symbol, node)
     }
 
     /// The length of the packs that the parameters of a node's tree name.
@@ -111,14 +101,36 @@ impl Linked {
         self.nodes.entry(list).count
     }
 
-    /// The arguments that a name ends in.
-    pub fn arguments(&self, symbol: &[u8], name: u32) -> Option<u32>
+    /// The arguments that a name ends in, and none where a parameter is free in it: in the name of an encoding none is.
+    pub fn closed_arguments(&self, symbol: &[u8], name: u32) -> Option<u32>
         requires table { IsTable (over symbol.now self.now.nodes) }
         requires below { name < length self.now.nodes.nodes }
-        ensures is { arguments_are (trees_in symbol.now self.now.nodes) result ≡ arguments_of (tree_at (trees_in symbol.now self.now.nodes) name) }
-        ensures there { IsArgumentsBelow (length self.now.nodes.nodes) result }
+        ensures is { tree_if_there (trees_in symbol.now self.now.nodes) result ≡ closed_arguments (tree_at (trees_in symbol.now self.now.nodes) name) }
+        ensures there { IsThereBelow (length self.now.nodes.nodes) result }
     {
-        self.nodes.entry(name).arguments
+        if self.is_open(symbol, name) {
+            return None;
+        }
+        match self.nodes.entry(name).arguments {
+            Some(arguments) => Some(self.nodes.closed_node(symbol, arguments)),
+            None => None,
+        }
+    }
+
+    /// The argument of this number among those that are named.
+    pub(crate) fn argument(&self, symbol: &[u8], scope: u32, number: u32) -> u32
+        requires table { IsTable (over symbol.now self.now.nodes) }
+        requires below { scope < length self.now.nodes.nodes }
+        requires closed { is_open (tree_at (trees_in symbol.now self.now.nodes) scope) ≡ false }
+        ensures tree { tree_at (trees_in symbol.now self.now.nodes) result ≡ element (tree_at (trees_in symbol.now self.now.nodes) scope) number }
+        ensures below { result < length self.now.nodes.nodes }
+    {
+        let list = Placed {
+            node: scope,
+            under: None,
+        };
+        let argument = self.nodes.element(symbol, list, number);
+        self.nodes.closed_node(symbol, argument)
     }
 
     /// The length of an argument that is a pack.
@@ -127,10 +139,22 @@ impl Linked {
         requires below { argument < length self.now.nodes.nodes }
         ensures { result ≡ length_if_pack (tree_at (trees_in symbol.now self.now.nodes) argument) }
     {
-        let node = self.nodes.node(symbol, argument);
-        match elements_of(node) {
-            Some(elements) => Some(self.count(symbol, elements)),
-            None => None,
+        self.nodes.length_if_pack(symbol, argument)
+    }
+
+    /// The production that a node stands for: where its tree is there again, that of the tree.
+    pub(crate) fn opened(&self, symbol: &[u8], node: u32) -> Opened
+        requires table { IsTable (over symbol.now self.now.nodes) }
+        requires below { node < length self.now.nodes.nodes }
+        ensures tree { tree_at (trees_in symbol.now self.now.nodes) node ≡ reargued (tree_if_there (trees_in symbol.now self.now.nodes) result.under) (tree_of_node symbol.now self.now.nodes result.node) }
+        ensures own { is_again result.node ≡ false }
+        ensures below { IsBelow symbol.now (length self.now.nodes.thunks) (length self.now.nodes.nodes) result.node }
+        ensures there { IsThereBelow (length self.now.nodes.nodes) result.under }
+    {
+        let settled = self.nodes.settled(symbol, Placed { node, under: None });
+        Opened {
+            node: self.nodes.node(symbol, settled.node),
+            under: settled.under,
         }
     }
 
@@ -184,6 +208,7 @@ impl Linked {
     ) -> Result<(Node, Option<u32>), Refusal>
         requires table { IsTable (over symbol.now self.now.nodes) }
         requires kept { IsKeptThere (length self.now.nodes.nodes) kept }
+        requires closed { IsClosed (around_of (trees_in symbol.now self.now.nodes) kept) }
         requires digits { IsWithin digits symbol.now }
         ensures is { (cs : List values.Candidate) → parameter_named (around_of (trees_in symbol.now self.now.nodes) kept) place (counted_value kinds.Decimal (bytes_at symbol.now digits)) (record { candidates = cs; packs = self.now.packs })
             ≡ parameter_read (around_of (trees_in symbol.now self.now.nodes) kept) symbol.now self.now.nodes cs result }
@@ -199,7 +224,7 @@ impl Linked {
         let Some(number) = below(counted, count) else {
             return Err(Refusal::BadReference { at: place });
         };
-        let argument = self.nodes.element(symbol, scope, number);
+        let argument = self.argument(symbol, scope, number);
         let own = self.length_if_pack(symbol, argument);
         match with_packs(place, kept.in_expansion, own, self.packs) {
             Ok(packs) => Ok((Node::Parameter { number, argument }, packs)),
@@ -221,6 +246,7 @@ impl Linked {
     ) -> Result<Step, Refusal>
         requires table { IsTable (over symbol.now self.now.nodes) }
         requires kept { IsKeptThere (length self.now.nodes.nodes) kept }
+        requires closed { IsClosed (around_of (trees_in symbol.now self.now.nodes) kept) }
         requires digits { IsWithin digits symbol.now }
         ensures is { IfOk result (λ step. (v : values.Value) (cs : List values.Candidate) → parameter_so_far (around_of (trees_in symbol.now self.now.nodes) kept) place (counted_value kinds.Decimal (bytes_at symbol.now digits)) [] (record { candidates = cs; packs = self.now.packs })
             ≡ goes_on symbol.now self.now.nodes kept (v ∷ []) cs self.now.packs step) }
@@ -255,6 +281,7 @@ impl Linked {
     ) -> Result<Step, Refusal>
         requires table { IsTable (over symbol.now self.now.nodes) }
         requires kept { IsKeptThere (length self.now.nodes.nodes) kept }
+        requires closed { IsClosed (around_of (trees_in symbol.now self.now.nodes) kept) }
         requires digits { IsWithin digits symbol.now }
         ensures is { IfOk result (λ step. (v : values.Value) (cs : List values.Candidate) → argument_so_far (around_of (trees_in symbol.now self.now.nodes) kept) place (counted_value kinds.Decimal (bytes_at symbol.now digits)) (record { candidates = cs; packs = self.now.packs })
             ≡ goes_on symbol.now self.now.nodes kept (v ∷ []) cs self.now.packs step) }

@@ -1,7 +1,7 @@
-// What is linked of a symbol by the wide grammar: in a lambda's signature parameters are the lambda's own, and a substitution stands
-// for its tree with the parameter that is meant where it stands.
+// What is linked of a symbol by the wide grammar: in a lambda's signature parameters are the lambda's own, such a lambda is a piece of
+// its own, and a substitution stands for its tree with the arguments that are meant where it stands.
 
-ghost use Rattle.std.specs.Prelude.{◌≡◌, ℕ, ◌+◌, ◌-◌, ◌<◌, ◌≤◌, ◌^◌, ◌∷◌, ◌++◌, [], MatchOption, ◌&&◌, ◌||◌, not, nat_eq, List, length, drop, true, Ok, IfSome, IfOk, IfErr, OnOk, OnErr};
+ghost use Rattle.std.specs.Prelude.{◌≡◌, ℕ, ◌+◌, ◌-◌, ◌<◌, ◌≤◌, ◌^◌, ◌∷◌, ◌++◌, [], MatchOption, ◌&&◌, ◌||◌, List, length, drop, true, Ok, IfOk, IfErr, OnOk};
 ghost use Rattle.sym_core.specs.Value.{counted_value};
 ghost use Rattle.sym_core.specs.declared.NumberKind.TheVariants as kinds;
 ghost use Rattle.sym_core.specs.declared.refusal.Refusal.TheVariants as refusals;
@@ -13,18 +13,17 @@ ghost use Rattle.cpp_grammar.specs.declared.production.Production.TheVariants as
 ghost use Rattle.cpp_grammar.specs.declared.production.Production.{Production as Production-type};
 ghost use Rattle.cpp_grammar.specs.Rescoping.{generic_number};
 ghost use Rattle.cpp_grammar.specs.Unfolding.{production_at};
-ghost use Rattle.cpp_term.specs.Term.{Term};
 ghost use Rattle.cpp_term.specs.Values as values;
-ghost use Rattle.cpp_term.specs.Rescoping.{is_foreign, number_of_parameter, number_behind_mark, with_parameter, restated, substituted_wide};
-ghost use Rattle.cpp_term.specs.Scope.{is_generic};
-ghost use Rattle.cpp_tree.specs.Nodes.{over, tree_at, tree_of, bytes_at, IsWithin, IsBelow, IsTable};
-ghost use Rattle.cpp_tree.specs.declared.node.Thunk.{Thunk};
+ghost use Rattle.cpp_term.specs.Reargued.{reargued};
+ghost use Rattle.cpp_term.specs.Rescoping.{is_foreign, restated, substituted_wide, with_own};
+ghost use Rattle.cpp_term.specs.Scope.{pack_length};
+ghost use Rattle.cpp_tree.specs.Nodes.{over, tree_at, bytes_at, piece_of, IsPieceBelow, IsWithin, IsTable};
 ghost use Rattle.cpp_link.specs.declared.part.Part.TheVariants as variants;
-ghost use Rattle.cpp_link.specs.Grows.{Grows, HasPlace};
-ghost use Rattle.cpp_link.specs.LinkRescoping.{is_parameter, is_parameter_argument, generic_read, is_substitution, type_behind_mark, with_meant, meant_read, named_by, restated_nodes, substituted_nodes, wide_view};
+ghost use Rattle.cpp_link.specs.Grows.{HasPlace};
+ghost use Rattle.cpp_link.specs.LinkRescoping.{is_parameter, is_parameter_argument, generic_read, is_substitution, is_lambda_production, argument_read, named_by, substituted_nodes, wide_view};
 ghost use Rattle.cpp_link.specs.Making.{state_of};
-ghost use Rattle.cpp_link.specs.NodeCount.{makes_before};
-ghost use Rattle.cpp_link.specs.Parts.{trees_in, tree_of_node, value_in, values_in, is_lambda, around_of, candidate_of, IsThere, AreThere, IsKeptThere, IsStepThere};
+ghost use Rattle.cpp_link.specs.NodeCount.{makes_before, makes_at_end};
+ghost use Rattle.cpp_link.specs.Parts.{trees_in, value_in, values_in, is_lambda, around_of, candidate_of, IsClosed, IsThere, AreThere, IsKeptThere, IsStepThere};
 ghost use Rattle.cpp_link.specs.Reads.{goes_on};
 ghost use Rattle.cpp_link.specs.Room.{KeepsRoom, LacksRoom, IsRoomy};
 ghost use Rattle.cpp_link.specs.Stepping.{IsStepOf, nodes_of_step};
@@ -36,7 +35,8 @@ use crate::linked::Linked;
 use crate::part::{Candidate, Kept, Part, Step};
 use crate::references::with_packs;
 use cpp_grammar::production::Production;
-use cpp_tree::node::Node;
+use cpp_tree::node::{Free, Node, Piece, Placed};
+use cpp_tree::nodes::AUTO;
 use std::alloc::Global;
 use sym_core::{Refusal, Span, value10};
 use sym_link::language::Frame;
@@ -111,44 +111,14 @@ fn generic_number(counted: Option<u64>) -> u32
     }
 }
 
-/// The number of a parameter.
-#[tactic(auto, unfolding(cpp_tree::specs::Nodes::tree_of, cpp_term::specs::Rescoping::number_of_parameter))]
-fn number_of(node: Node) -> Option<u32>
-    ensures { (s : List ℕ) (us : List Thunk) (ts : List Term) → result ≡ number_of_parameter (tree_of s us ts node) }
+/// Whether a production is a lambda.
+#[tactic(auto, unfolding(crate::specs::LinkRescoping::is_lambda_production))]
+pub fn is_lambda_production(production: Production) -> bool
+    ensures { result ≡ is_lambda_production production }
 {
-    match node {
-        Node::Parameter { number, .. } => Some(number),
-        Node::GenericParameter(number) => Some(number),
-        _ => None,
-    }
-}
-
-/// What stands behind a mark.
-#[tactic(auto, unfolding(crate::specs::LinkRescoping::type_behind_mark))]
-fn behind_mark(node: Node) -> Option<u32>
-    ensures { result ≡ type_behind_mark node }
-{
-    match node {
-        Node::Pointer(ty) => Some(ty),
-        Node::Lvalue(ty) => Some(ty),
-        Node::Rvalue(ty) => Some(ty),
-        Node::Qualified { ty, .. } => Some(ty),
-        _ => None,
-    }
-}
-
-/// A mark as that of a node, before another type.
-#[tactic(auto, unfolding(crate::specs::LinkRescoping::type_behind_mark, cpp_tree::specs::Nodes::tree_of, cpp_term::specs::Rescoping::with_parameter))]
-fn with_type(node: Node, ty: u32) -> Node
-    ensures tree { (s : List ℕ) (us vs : List Thunk) (ts rs : List Term) → IfSome (type_behind_mark node) (λ t. tree_of s us ts result ≡ with_parameter (tree_of s vs rs node) (tree_at ts ty)) }
-    ensures below { (s : List ℕ) (held n : ℕ) → ty < n → IfSome (type_behind_mark node) (λ t. IsBelow s held n result) }
-{
-    match node {
-        Node::Pointer(_) => Node::Pointer(ty),
-        Node::Lvalue(_) => Node::Lvalue(ty),
-        Node::Rvalue(_) => Node::Rvalue(ty),
-        Node::Qualified { qualifiers, .. } => Node::Qualified { qualifiers, ty },
-        _ => node,
+    match production {
+        Production::Lambda => true,
+        _ => false,
     }
 }
 
@@ -156,6 +126,7 @@ impl Linked {
     /// The parameter of the lambda in whose signature it stands, with these digits (ABI 5.1.8). It may be an argument itself.
     #[tactic(auto, unfolding(crate::specs::LinkRescoping::generic_read, cpp_term::specs::Rescoping::generic_so_far, cpp_term::specs::Between::listed_so_far, crate::specs::Reads::goes_on, crate::specs::Reads::behind_first, crate::specs::Reads::named_if, crate::specs::Reads::appended_if, cpp_tree::specs::Nodes::tree_of))]
     fn generic(&self, symbol: &[u8], kept: Kept, digits: Span, is_argument: bool) -> Step
+        requires table { IsTable (over symbol.now self.now.nodes) }
         requires digits { IsWithin digits symbol.now }
         ensures is { (v : values.Value) (cs : List values.Candidate) → generic_read is_argument (around_of (trees_in symbol.now self.now.nodes) kept) (counted_value kinds.Decimal (bytes_at symbol.now digits)) (record { candidates = cs; packs = self.now.packs })
             ≡ goes_on symbol.now self.now.nodes kept (v ∷ []) cs self.now.packs result }
@@ -164,7 +135,10 @@ impl Linked {
         ensures makes { (production : Production-type) (known : List values.Value) → is_parameter production ≡ true → length known ≡ 1 → nodes_of_step result ≡ makes_before production known }
     {
         let counted = value10(&symbol[digits.from as usize..digits.to as usize]);
-        let node = Node::GenericParameter(generic_number(counted));
+        let node = Node::Parameter {
+            number: generic_number(counted),
+            argument: AUTO,
+        };
         if is_argument {
             return Step::Made {
                 node,
@@ -183,138 +157,107 @@ impl Linked {
         }
     }
 
-    /// Whether a tree has a lambda's own parameters that stand under no lambda of it.
-    fn is_generic(&self, symbol: &[u8], node: u32) -> bool
-        requires table { IsTable (over symbol.now self.now.nodes) }
-        requires below { node < length self.now.nodes.nodes }
-        ensures { result ≡ is_generic (tree_at (trees_in symbol.now self.now.nodes) node) }
-    {
-        self.nodes.entry(node).is_generic
-    }
-
-    /// Whether a candidate has parameters that aren't meant here.
+    /// Whether a candidate's free parameters may stand for others here than where it was made.
     #[tactic(auto, unfolding(cpp_term::specs::Rescoping::is_foreign, crate::specs::Parts::around_of))]
     fn is_foreign(&self, symbol: &[u8], kept: Kept, candidate: Candidate) -> bool
         requires table { IsTable (over symbol.now self.now.nodes) }
         requires below { candidate.node < length self.now.nodes.nodes }
         ensures { result ≡ is_foreign (around_of (trees_in symbol.now self.now.nodes) kept) (candidate_of (trees_in symbol.now self.now.nodes) candidate) }
     {
-        let is_open = self.is_open(symbol, candidate.node);
-        let is_generic = self.is_generic(symbol, candidate.node);
-        let in_lambda = kept.in_lambda();
-        (is_open && (in_lambda || candidate.encoding != kept.encoding))
-            || (is_generic && !in_lambda)
+        let elsewhere = candidate.in_lambda || candidate.encoding != kept.encoding;
+        self.is_open(symbol, candidate.node) && (kept.in_lambda() || elsewhere)
     }
 
-    /// The number of a parameter, also of one behind a mark.
-    fn number_behind_mark(&self, symbol: &[u8], node: Node) -> Option<u32>
+    /// The length of the packs that a tree's parameters name with this argument.
+    fn packs_with(&self, symbol: &[u8], node: u32, argument: u32) -> Option<u32>
         requires table { IsTable (over symbol.now self.now.nodes) }
-        requires below { IsBelow symbol.now (length self.now.nodes.thunks) (length self.now.nodes.nodes) node }
-        ensures { result ≡ number_behind_mark (tree_of_node symbol.now self.now.nodes node) }
+        requires node { node < length self.now.nodes.nodes }
+        requires argument { argument < length self.now.nodes.nodes }
+        requires room { length self.now.nodes.nodes + 1 < 2 ^ 32 }
+        ensures { result ≡ pack_length (reargued (Some (tree_at (trees_in symbol.now self.now.nodes) argument)) (tree_at (trees_in symbol.now self.now.nodes) node)) }
     {
-        match behind_mark(node) {
-            Some(ty) => number_of(self.nodes.node(symbol, ty)),
-            None => number_of(node),
-        }
+        let tree = Placed {
+            node,
+            under: Some(argument),
+        };
+        self.nodes.packs(symbol, tree)
     }
 
-    /// The parameter of this number that is meant here, and the length of the packs behind it.
+    /// The argument that the free parameters of a tree which was made elsewhere have here, and the length of the packs behind it.
     ///
     /// # Errors
     ///
-    /// `BadReference` where it names no argument of the scope, or one that is a pack outside an expansion or of another length than
-    /// the earlier ones.
-    #[tactic(auto, unfolding(crate::specs::LinkRescoping::meant_read, crate::specs::Parts::around_of))]
-    fn parameter_here(
+    /// `BadReference` where, outside the signature of a lambda, other than one parameter is free in it, where that names no argument
+    /// of the scope, or where the tree has packs then and stands outside an expansion or behind packs of another length.
+    #[tactic(auto, unfolding(crate::specs::LinkRescoping::argument_read, crate::specs::Parts::around_of))]
+    fn argument_here(
         &self,
         symbol: &[u8],
         kept: Kept,
         place: u32,
-        number: u32,
-    ) -> Result<(Node, Option<u32>), Refusal>
+        node: u32,
+    ) -> Result<(u32, Option<u32>), Refusal>
         requires table { IsTable (over symbol.now self.now.nodes) }
         requires kept { IsKeptThere (length self.now.nodes.nodes) kept }
-        ensures is { (t : Term) (cs : List values.Candidate) → with_meant (around_of (trees_in symbol.now self.now.nodes) kept) place t number (record { candidates = cs; packs = self.now.packs })
-            ≡ meant_read symbol.now self.now.nodes t cs result }
-        ensures below { IfOk result (λ r. IsBelow symbol.now (length self.now.nodes.thunks) (length self.now.nodes.nodes) r.0) }
+        requires closed { IsClosed (around_of (trees_in symbol.now self.now.nodes) kept) }
+        requires below { node < length self.now.nodes.nodes }
+        requires room { length self.now.nodes.nodes + 1 < 2 ^ 32 }
+        ensures is { (cs : List values.Candidate) → restated (around_of (trees_in symbol.now self.now.nodes) kept) place (tree_at (trees_in symbol.now self.now.nodes) node) (record { candidates = cs; packs = self.now.packs })
+            ≡ argument_read (trees_in symbol.now self.now.nodes) (tree_at (trees_in symbol.now self.now.nodes) node) cs result }
+        ensures there { IfOk result (λ r. r.0 < length self.now.nodes.nodes) }
         ensures bad { IfErr result (λ e. e ≡ refusals.Memory → ⊥) }
     {
         if kept.in_lambda() {
-            return Ok((Node::GenericParameter(number), self.packs));
+            return Ok((AUTO, self.packs));
         }
+        let Free::One(number) = self.nodes.free(symbol, node) else {
+            return Err(Refusal::BadReference { at: place });
+        };
         let Some(scope) = kept.in_scope() else {
             return Err(Refusal::BadReference { at: place });
         };
         if number >= self.count(symbol, scope) {
             return Err(Refusal::BadReference { at: place });
         }
-        let argument = self.nodes.element(symbol, scope, number);
-        let own = self.length_if_pack(symbol, argument);
+        let argument = self.argument(symbol, scope, number);
+        let own = self.packs_with(symbol, node, argument);
         match with_packs(place, kept.in_expansion, own, self.packs) {
-            Ok(packs) => Ok((Node::Parameter { number, argument }, packs)),
+            Ok(packs) => Ok((argument, packs)),
             Err(e) => Err(e),
         }
     }
 
-    /// Adds a parameter, and before it the mark of a node that has one.
+    /// A tree that was made elsewhere, with the arguments that are meant here: it is there again with another argument, which is one
+    /// node more whatever the tree is.
     ///
     /// # Errors
     ///
-    /// `Memory` where the nodes couldn't grow.
-    fn add_marked(&mut self, symbol: &[u8], named: Node, parameter: Node) -> Result<u32, Refusal>
-        requires place { HasPlace symbol.now self.old.nodes 2 }
-        requires below { IsBelow symbol.now (length self.old.nodes.thunks) (length self.old.nodes.nodes) parameter }
-        ensures grows { Grows symbol.now self.old.nodes self.new.nodes 2 }
-        ensures more { OnOk result (length self.new.nodes.nodes ≡ length self.old.nodes.nodes + restated_nodes (tree_of_node symbol.now self.old.nodes named)) }
-        ensures thunks { self.new.nodes.thunks ≡ self.old.nodes.thunks }
-        ensures tree { IfOk result (λ number. tree_at (trees_in symbol.now self.new.nodes) number ≡ with_parameter (tree_of_node symbol.now self.old.nodes named) (tree_of_node symbol.now self.old.nodes parameter)) }
-        ensures there { IfOk result (λ number. number < length self.new.nodes.nodes) }
-        ensures candidates { self.new.candidates ≡ self.old.candidates }
-        ensures packs { self.new.packs ≡ self.old.packs }
-        ensures memory { IfErr result (λ e. e ≡ refusals.Memory) }
-        ensures keeps { KeepsRoom self.old self.new }
-        ensures full { OnErr result (LacksRoom self.old self.new) }
-    {
-        let inner = self.add(symbol, parameter)?;
-        match behind_mark(named) {
-            Some(_) => {
-                let number = self.add(symbol, with_type(named, inner))?;
-                Ok(number)
-            }
-            None => Ok(inner),
-        }
-    }
-
-    /// A tree with the parameter that is meant here in the place of its own.
-    ///
-    /// # Errors
-    ///
-    /// `BadReference` where it is neither a parameter nor one behind a mark, or where none of its number may be named here, `Memory`
-    /// where the nodes couldn't grow.
+    /// Those of `argument_here`, and `Memory` where the nodes couldn't grow.
     fn restate(&mut self, symbol: &[u8], kept: Kept, place: u32, node: u32) -> Result<Part, Refusal>
         requires whole { IsWhole symbol.now self.old }
         requires paid { IsPaid self.old }
         requires below { node < length self.old.nodes.nodes }
         requires kept { IsKeptThere (length self.old.nodes.nodes) kept }
+        requires closed { IsClosed (around_of (trees_in symbol.now self.old.nodes) kept) }
         requires room { HasPlace symbol.now self.old.nodes 2 }
         ensures is { IfOk result (λ made. restated (around_of (trees_in symbol.now self.old.nodes) kept) place (tree_at (trees_in symbol.now self.old.nodes) node) (state_of symbol.now self.old) ≡ Ok (found (value_in symbol.now self.new.nodes made) (state_of symbol.now self.new))) }
         ensures refused { IfErr result (λ e. Fails e (restated (around_of (trees_in symbol.now self.old.nodes) kept) place (tree_at (trees_in symbol.now self.old.nodes) node) (state_of symbol.now self.old))) }
         ensures there { IfOk result (λ made. IsThere symbol.now (length self.new.nodes.nodes) made) }
         ensures grows { OnOk result (view.GoesOn symbol.now self.old self.new) }
         ensures few { length self.new.nodes.nodes ≤ length self.old.nodes.nodes + 2 }
-        ensures makes { OnOk result (length self.new.nodes.nodes ≡ length self.old.nodes.nodes + restated_nodes (tree_at (trees_in symbol.now self.old.nodes) node)) }
+        ensures makes { OnOk result (length self.new.nodes.nodes ≡ length self.old.nodes.nodes + 1) }
         ensures paid { OnOk result (IsPaid self.new) }
         ensures whole { OnOk result (IsWhole symbol.now self.new) }
         ensures keeps { KeepsRoom self.old self.new }
         ensures full { IfErr result (λ e. e ≡ refusals.Memory → LacksRoom self.old self.new) }
     {
-        let named = self.nodes.node(symbol, node);
-        let Some(number) = self.number_behind_mark(symbol, named) else {
-            return Err(Refusal::BadReference { at: place });
-        };
-        match self.parameter_here(symbol, kept, place, number) {
-            Ok((parameter, packs)) => {
-                let node = self.add_marked(symbol, named, parameter)?;
+        match self.argument_here(symbol, kept, place, node) {
+            Ok((argument, packs)) => {
+                let again = Node::Again {
+                    tree: node,
+                    argument,
+                };
+                let node = self.add(symbol, again)?;
                 self.packs = packs;
                 Ok(Part::Tree { node, listed: true })
             }
@@ -322,7 +265,7 @@ impl Linked {
         }
     }
 
-    /// A substitution closes: its part is the candidate that it names, with the parameter that is meant here (ABI 5.1.10).
+    /// A substitution closes: its part is the candidate that it names, with the arguments that are meant here (ABI 5.1.10).
     ///
     /// # Errors
     ///
@@ -339,6 +282,7 @@ impl Linked {
         requires paid { IsPaid self.old }
         requires there { AreThere symbol.now (length self.old.nodes.nodes) parts.now }
         requires kept { IsKeptThere (length self.old.nodes.nodes) kept }
+        requires closed { IsClosed (around_of (trees_in symbol.now self.old.nodes) kept) }
         requires room { HasPlace symbol.now self.old.nodes 2 }
         ensures is { IfOk result (λ made. substituted_wide (around_of (trees_in symbol.now self.old.nodes) kept) (place - 1) (named_by (state_of symbol.now self.old) (values_in symbol.now self.old.nodes parts.now)) (state_of symbol.now self.old) ≡ Ok (found (value_in symbol.now self.new.nodes made) (state_of symbol.now self.new))) }
         ensures refused { IfErr result (λ e. Fails e (substituted_wide (around_of (trees_in symbol.now self.old.nodes) kept) (place - 1) (named_by (state_of symbol.now self.old) (values_in symbol.now self.old.nodes parts.now)) (state_of symbol.now self.old))) }
@@ -422,6 +366,74 @@ impl Linked {
     {
         let made = self.substitute_rescoped(symbol, frame.place, frame.kept, &parts[frame.base..])?;
         put(parts, frame.base, made)?;
+        Ok(())
+    }
+
+    /// The piece itself, but for a lambda in whose signature parameters are free: that has parameters of its own (ABI 5.1.8).
+    // <closure-type-name> ::= Ul <lambda-sig> E [ <nonnegative number> ] _
+    #[tactic(auto, unfolding(cpp_tree::specs::Nodes::piece_of))]
+    fn own_piece(&self, symbol: &[u8], piece: Piece) -> Piece
+        requires table { IsTable (over symbol.now self.now.nodes) }
+        requires there { IsPieceBelow symbol.now (length self.now.nodes.nodes) piece }
+        ensures is { values.piece (piece_of symbol.now (trees_in symbol.now self.now.nodes) result) ≡ with_own (values.piece (piece_of symbol.now (trees_in symbol.now self.now.nodes) piece)) }
+        ensures there { IsPieceBelow symbol.now (length self.now.nodes.nodes) result }
+    {
+        match piece {
+            Piece::Lambda { parameters, number } => {
+                if self.is_open(symbol, parameters) {
+                    return Piece::GenericLambda { parameters, number };
+                }
+                piece
+            }
+            _ => piece,
+        }
+    }
+
+    /// The part, as `own_piece` has it where it is a piece.
+    #[tactic(auto, unfolding(crate::specs::Parts::value_of))]
+    fn with_own(&self, symbol: &[u8], part: Part) -> Part
+        requires table { IsTable (over symbol.now self.now.nodes) }
+        requires there { IsThere symbol.now (length self.now.nodes.nodes) part }
+        ensures value { value_in symbol.now self.now.nodes result ≡ with_own (value_in symbol.now self.now.nodes part) }
+        ensures there { IsThere symbol.now (length self.now.nodes.nodes) result }
+    {
+        match part {
+            Part::Piece(piece) => Part::Piece(self.own_piece(symbol, piece)),
+            _ => part,
+        }
+    }
+
+    /// The rule of the frame, a lambda, closes: what it is takes the place of its parts.
+    ///
+    /// # Errors
+    ///
+    /// `Memory` where a list couldn't grow.
+    pub fn finish_lambda(
+        &mut self,
+        symbol: &[u8],
+        frame: &Frame<Kept>,
+        parts: &mut Vec<Part>,
+    ) -> Result<(), Refusal>
+        requires lambda { production_at frame.now.rule ≡ productions.Lambda }
+        requires room { HasRoom (cpp_view symbol.now) symbol.now self.old (owed_behind (cpp_view symbol.now) frame.now parts.old.items) }
+        requires open { IsOpenAt (cpp_view symbol.now) symbol.now self.old frame.now parts.old.items }
+        requires base { frame.now.base ≤ length parts.old.items }
+        requires place { frame.now.place < length symbol.now }
+        ensures closes { ClosesAll (wide_view symbol.now) symbol.now self.old self.new frame.now parts.old.items parts.new.items result }
+        ensures adds { OnOk result (Adds (cpp_view symbol.now) self.old self.new (owed_behind (cpp_view symbol.now) frame.now parts.old.items) 0) }
+        ensures few { AddsFew (cpp_view symbol.now) self.old self.new frame.now parts.old.items }
+        ensures makes { OnOk result (length self.new.nodes.nodes ≡ length self.old.nodes.nodes + makes_at_end (production_at frame.now.rule) (values_in symbol.now self.old.nodes (drop frame.now.base parts.old.items))) }
+        ensures pays { OnOk result ((at : ℕ) → Pays (cpp_view symbol.now) self.old self.new at at) }
+        ensures roomy { IsRoomy self.old self.new parts.old parts.new result }
+    {
+        let made = self.close_rare(
+            symbol,
+            Production::Lambda,
+            frame.place,
+            frame.kept,
+            &parts[frame.base..],
+        )?;
+        put(parts, frame.base, self.with_own(symbol, made))?;
         Ok(())
     }
 }

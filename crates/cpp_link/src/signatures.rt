@@ -1,6 +1,6 @@
 // Encodings and function types: what is read of lists.
 
-ghost use Rattle.std.specs.Prelude.{◌≡◌, ◌<◌, ◌&&◌, length, IfSome, true};
+ghost use Rattle.std.specs.Prelude.{◌≡◌, ◌<◌, ◌^◌, ◌&&◌, length, IfSome, true};
 ghost use Rattle.cpp_term.specs.Values as values;
 ghost use Rattle.cpp_term.specs.Values.{part};
 ghost use Rattle.cpp_term.specs.Between.{no_items};
@@ -8,12 +8,12 @@ ghost use Rattle.cpp_term.specs.Meaning.{parameters, encoding_of, is_void, is_ni
 ghost use Rattle.cpp_tree.specs.Nodes.{over, tree_at, tree_of, IsTable};
 ghost use Rattle.cpp_link.specs.Parts.{trees_in, values_in, meant_value, AreThere, IsMeantThere};
 ghost use Rattle.cpp_link.specs.Making.{nodes_of_meant};
-ghost use Rattle.cpp_link.specs.Reads.{void_node, nil_node, cell_of, parameters_by, encoding_by};
+ghost use Rattle.cpp_link.specs.Reads.{void_node, nil_node, split_of, parameters_by, encoding_by, IsSplitThere};
 ghost use Rattle.cpp_term.specs.Scope.{has_return_type};
 
 use crate::linked::Linked;
-use crate::part::{Meant, Part};
-use cpp_tree::node::Node;
+use crate::part::{Meant, Opened, Part};
+use cpp_tree::node::{Node, under_word};
 use cpp_tree::nodes::{ABSENT, NIL};
 
 /// Whether it is void.
@@ -38,13 +38,25 @@ fn is_nil(node: Node) -> bool
     }
 }
 
+/// The first element and the others of a list that has some, and the argument under which both stand.
+#[derive(Clone, Copy)]
+pub(crate) struct Split {
+    pub first: u32,
+    pub rest: u32,
+    pub under: Option<u32>,
+}
+
 /// The first element and the others of a list that has some.
-#[tactic(auto, unfolding(crate::specs::Reads::cell_of))]
-fn cell_of(node: Node) -> Option<(u32, u32)>
-    ensures { result ≡ cell_of node }
+#[tactic(auto, unfolding(crate::specs::Reads::split_of))]
+fn split_of(list: Opened) -> Option<Split>
+    ensures { result ≡ split_of list }
 {
-    match node {
-        Node::Cell { first, rest } => Some((first, rest)),
+    match list.node {
+        Node::Cell { first, rest } => Some(Split {
+            first,
+            rest,
+            under: list.under,
+        }),
         _ => None,
     }
 }
@@ -64,20 +76,20 @@ impl Linked {
         requires rest { rest < length self.now.nodes.nodes }
         ensures { result ≡ (is_void (tree_at (trees_in symbol.now self.now.nodes) first) && is_nil (tree_at (trees_in symbol.now self.now.nodes) rest)) }
     {
-        let item = self.nodes.node(symbol, first);
-        let others = self.nodes.node(symbol, rest);
+        let item = self.opened(symbol, first).node;
+        let others = self.opened(symbol, rest).node;
         is_lone(item, others)
     }
 
     /// The first element and the others of a list that has some.
-    fn cell(&self, symbol: &[u8], list: u32) -> Option<(u32, u32)>
+    fn split(&self, symbol: &[u8], list: u32) -> Option<Split>
         requires table { IsTable (over symbol.now self.now.nodes) }
         requires below { list < length self.now.nodes.nodes }
         ensures parameters { parameters (tree_at (trees_in symbol.now self.now.nodes) list) ≡ parameters_by (trees_in symbol.now self.now.nodes) result (tree_at (trees_in symbol.now self.now.nodes) list) }
         ensures encoding { (name : values.Value) → encoding_of name (tree_at (trees_in symbol.now self.now.nodes) list) ≡ encoding_by (trees_in symbol.now self.now.nodes) name result (tree_at (trees_in symbol.now self.now.nodes) list) }
-        ensures there { IfSome result (λ cell. (cell.0 < length self.now.nodes.nodes) × (cell.1 < length self.now.nodes.nodes)) }
+        ensures there { IfSome result (IsSplitThere (length self.now.nodes.nodes)) }
     {
-        cell_of(self.nodes.node(symbol, list))
+        split_of(self.opened(symbol, list))
     }
 
     /// The parameters that a list of items says: a lone void is none.
@@ -87,10 +99,10 @@ impl Linked {
         ensures is { tree_at (trees_in symbol.now self.now.nodes) result ≡ parameters (tree_at (trees_in symbol.now self.now.nodes) list) }
         ensures there { result < length self.now.nodes.nodes }
     {
-        let Some((first, rest)) = self.cell(symbol, list) else {
+        let Some(items) = self.split(symbol, list) else {
             return list;
         };
-        if self.is_lone_void(symbol, first, rest) {
+        if self.is_lone_void(symbol, items.first, items.rest) {
             return NIL;
         }
         list
@@ -100,6 +112,7 @@ impl Linked {
     #[tactic(auto, unfolding(crate::specs::Parts::meant_value, cpp_tree::specs::Nodes::tree_of, crate::specs::Reads::encoding_by, crate::specs::Making::nodes_of_meant))]
     pub fn encoding(&self, symbol: &[u8], parts: &[Part]) -> Meant
         requires table { IsTable (over symbol.now self.now.nodes) }
+        requires few { length self.now.nodes.nodes < 2 ^ 32 }
         requires there { AreThere symbol.now (length self.now.nodes.nodes) parts.now }
         ensures is { meant_value symbol.now self.now.nodes result ≡ values.tree (encoding_of (part (values_in symbol.now self.now.nodes parts.now) 0) (no_items (part (values_in symbol.now self.now.nodes parts.now) 1))) true }
         ensures there { IsMeantThere symbol.now (length self.now.nodes.thunks) (length self.now.nodes.nodes) result }
@@ -109,7 +122,7 @@ impl Linked {
         let qualifiers = self.qualifiers(symbol, parts, 0);
         let mark = self.reference(symbol, parts, 0);
         let list = self.list(symbol, parts, 1);
-        let Some((first, rest)) = self.cell(symbol, list) else {
+        let Some(items) = self.split(symbol, list) else {
             let node = Node::Object {
                 name,
                 qualifiers,
@@ -122,8 +135,9 @@ impl Linked {
                 name,
                 qualifiers,
                 mark,
-                returned: first,
-                parameters: self.parameters(symbol, rest),
+                returned: items.first,
+                parameters: self.parameters(symbol, items.rest),
+                under: under_word(items.under),
             };
             return Meant::Made { node, listed: true };
         }
@@ -133,6 +147,7 @@ impl Linked {
             mark,
             returned: ABSENT,
             parameters: self.parameters(symbol, list),
+            under: under_word(None),
         };
         Meant::Made { node, listed: true }
     }

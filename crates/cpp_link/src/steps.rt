@@ -8,21 +8,21 @@ ghost use Rattle.cpp_grammar.specs.declared.production.Production.TheVariants as
 ghost use Rattle.cpp_term.specs.Values as values;
 ghost use Rattle.cpp_term.specs.Values.{State, tree_of, piece_of, text_of, prefix_tree};
 ghost use Rattle.cpp_term.specs.Scope.{is_structor};
-ghost use Rattle.cpp_term.specs.Between.{between, no_items, in_signature, under_expansion, after, inside, applied, named_so_far, with_tag};
+ghost use Rattle.cpp_term.specs.Between.{between, no_items, applied, named_so_far, with_tag};
 ghost use Rattle.cpp_term.specs.References.{with_prefix, with_type};
 ghost use Rattle.cpp_tree.specs.Nodes as nodes;
-ghost use Rattle.cpp_tree.specs.Nodes.{over, tree_at, bytes_at, IsWithin, IsPieceBelow, arguments_are, IsArgumentsBelow, IsBelow, IsTable};
+ghost use Rattle.cpp_tree.specs.Nodes.{over, tree_at, bytes_at, IsWithin, IsPieceBelow, IsThereBelow, IsBelow, IsTable};
 ghost use Rattle.cpp_link.specs.declared.part.Kept.{Kept};
 ghost use Rattle.cpp_link.specs.declared.part.Part.TheVariants as variants;
 ghost use Rattle.cpp_link.specs.declared.part.Step.{Step};
-ghost use Rattle.cpp_link.specs.Parts.{trees_in, tree_of_node, value_in, values_in, prefix_of, name_of, around_of, IsThere, AreThere, IsPrefixThere, IsKeptThere, IsStepThere};
+ghost use Rattle.cpp_link.specs.Parts.{trees_in, tree_of_node, value_in, values_in, prefix_of, name_of, around_of, IsClosed, IsThere, AreThere, IsPrefixThere, IsKeptThere, IsStepThere};
 ghost use Rattle.cpp_link.specs.Reads.{with_candidate, goes_on};
 ghost use Rattle.cpp_link.specs.Stepping.{IsStepOf, nodes_of_step};
 ghost use Rattle.cpp_link.specs.Closes.{pack_makes};
 ghost use Rattle.cpp_link.specs.NodeCount.{makes_before, one_if_arguments};
 
 use crate::linked::Linked;
-use crate::part::{Kept, Naming, Part, Scope, Step};
+use crate::part::{Kept, Naming, Part, Step};
 use crate::values::{is_listed, letter_of, list_of, node_of, piece_of, text_of};
 use cpp_grammar::production::Production;
 use cpp_tree::node::{Node, Piece};
@@ -33,7 +33,7 @@ use sym_core::{Refusal, Span};
 #[tactic(auto, unfolding(crate::specs::Parts::around_of, crate::specs::Parts::prefix_in, crate::specs::Parts::prefix_of, crate::specs::Reads::with_candidate, cpp_term::specs::References::with_prefix, cpp_term::specs::Values::prefix_tree, cpp_term::specs::Values::prefix_listed))]
 fn prefix_candidate(kept: Kept) -> Option<u32>
     ensures is { (ts : List term.Term) (state : State) → with_prefix (around_of ts kept) state ≡ with_candidate (around_of ts kept) ts result state }
-    ensures there { (n : ℕ) → IsPrefixThere n (name_of kept) → IsArgumentsBelow n result }
+    ensures there { (n : ℕ) → IsPrefixThere n (name_of kept) → IsThereBelow n result }
 {
     match kept.naming {
         Naming::Outermost => None,
@@ -43,84 +43,6 @@ fn prefix_candidate(kept: Kept) -> Option<u32>
 }
 
 impl Linked {
-    /// In an encoding that begins at this place, where parameters name these arguments.
-    #[tactic(auto, unfolding(crate::specs::Parts::around_of, crate::specs::Parts::arguments_in, crate::specs::Parts::is_lambda, crate::specs::Parts::prefix_in, crate::specs::Parts::prefix_of, cpp_tree::specs::Nodes::arguments_are))]
-    #[inline(always)]
-    fn in_encoding(&self, kept: Kept, place: u32, scope: Option<u32>) -> Kept
-        requires scope { IsArgumentsBelow (length self.now.nodes.nodes) scope }
-        ensures around { (ts : List term.Term) → around_of ts result ≡ record { scope = arguments_are ts scope; encoding = place; in_lambda = false; in_expansion = false; prefix = values.outermost } }
-        ensures there { IsKeptThere (length self.now.nodes.nodes) result }
-    {
-        let mut then = kept;
-        then.encoding = place;
-        then.scope = Scope::Nothing;
-        then.naming = Naming::Outermost;
-        then.in_expansion = false;
-        if let Some(arguments) = scope {
-            then.arguments = arguments;
-            then.scope = Scope::Arguments;
-        }
-        then
-    }
-
-    /// Behind this name.
-    #[tactic(auto, unfolding(crate::specs::Parts::around_of, crate::specs::Parts::prefix_in, crate::specs::Parts::prefix_of, cpp_term::specs::Between::after))]
-    #[inline(always)]
-    pub fn behind_name(&self, kept: Kept, node: u32, listed: bool) -> Kept
-        requires kept { IsKeptThere (length self.now.nodes.nodes) kept }
-        requires node { node < length self.now.nodes.nodes }
-        ensures around { (ts : List term.Term) → around_of ts result ≡ after (tree_at ts node) listed (around_of ts kept) }
-        ensures there { IsKeptThere (length self.now.nodes.nodes) result }
-    {
-        let mut then = kept;
-        then.name = node;
-        then.naming = if listed {
-            Naming::Listed
-        } else {
-            Naming::Unlisted
-        };
-        then
-    }
-
-    /// In the signature of a lambda.
-    #[tactic(auto, unfolding(crate::specs::Parts::around_of, crate::specs::Parts::arguments_in, crate::specs::Parts::is_lambda, crate::specs::Parts::prefix_in, crate::specs::Parts::prefix_of, cpp_tree::specs::Nodes::arguments_are, cpp_term::specs::Between::in_signature))]
-    #[inline(always)]
-    fn in_signature(&self, kept: Kept) -> Kept
-        ensures around { (ts : List term.Term) → around_of ts result ≡ in_signature (around_of ts kept) }
-        ensures there { IsKeptThere (length self.now.nodes.nodes) result }
-    {
-        let mut then = kept;
-        then.scope = Scope::Lambda;
-        then.naming = Naming::Outermost;
-        then
-    }
-
-    /// Under an expansion.
-    #[tactic(auto, unfolding(crate::specs::Parts::around_of, cpp_term::specs::Between::under_expansion))]
-    #[inline(always)]
-    fn under_expansion(&self, kept: Kept) -> Kept
-        requires kept { IsKeptThere (length self.now.nodes.nodes) kept }
-        ensures around { (ts : List term.Term) → around_of ts result ≡ under_expansion (around_of ts kept) }
-        ensures there { IsKeptThere (length self.now.nodes.nodes) result }
-    {
-        let mut then = kept;
-        then.in_expansion = true;
-        then
-    }
-
-    /// With no name so far.
-    #[tactic(auto, unfolding(crate::specs::Parts::around_of, crate::specs::Parts::prefix_in, crate::specs::Parts::prefix_of, cpp_term::specs::Between::inside))]
-    #[inline(always)]
-    fn inside(&self, kept: Kept) -> Kept
-        requires kept { IsKeptThere (length self.now.nodes.nodes) kept }
-        ensures around { (ts : List term.Term) → around_of ts result ≡ inside (around_of ts kept) }
-        ensures there { IsKeptThere (length self.now.nodes.nodes) result }
-    {
-        let mut then = kept;
-        then.naming = Naming::Outermost;
-        then
-    }
-
     /// Nothing is done, and this surrounds the next part.
     #[inline(always)]
     fn go(&self, then: Kept) -> Step
@@ -163,7 +85,7 @@ impl Linked {
     fn prefix_candidate(&self, symbol: &[u8], kept: Kept) -> Option<u32>
         requires kept { IsKeptThere (length self.now.nodes.nodes) kept }
         ensures is { (state : State) → with_prefix (around_of (trees_in symbol.now self.now.nodes) kept) state ≡ with_candidate (around_of (trees_in symbol.now self.now.nodes) kept) (trees_in symbol.now self.now.nodes) result state }
-        ensures there { IsArgumentsBelow (length self.now.nodes.nodes) result }
+        ensures there { IsThereBelow (length self.now.nodes.nodes) result }
     {
         prefix_candidate(kept)
     }
@@ -174,7 +96,7 @@ impl Linked {
         requires table { IsTable (over symbol.now self.now.nodes) }
         requires there { IsThere symbol.now (length self.now.nodes.nodes) part }
         ensures is { (state : State) → with_type (around_of (trees_in symbol.now self.now.nodes) kept) (value_in symbol.now self.now.nodes part) state ≡ with_candidate (around_of (trees_in symbol.now self.now.nodes) kept) (trees_in symbol.now self.now.nodes) result state }
-        ensures there { IsArgumentsBelow (length self.now.nodes.nodes) result }
+        ensures there { IsThereBelow (length self.now.nodes.nodes) result }
     {
         if is_listed(part) {
             return None;
@@ -204,11 +126,11 @@ impl Linked {
         requires name { name < length self.now.nodes.nodes }
         ensures { result ≡ is_structor (tree_at (trees_in symbol.now self.now.nodes) name) }
     {
-        self.nodes.node(symbol, name).is_structor()
+        self.opened(symbol, name).node.is_structor()
     }
 
     /// What is done before the first part.
-    #[tactic(auto, unfolding(cpp_term::specs::Between::between, cpp_term::specs::Between::in_name, cpp_term::specs::Between::in_types, cpp_term::specs::Between::in_signature, cpp_term::specs::Between::under_expansion, cpp_term::specs::Between::after, cpp_term::specs::Between::inside, cpp_term::specs::Between::applied, cpp_term::specs::Between::piece_so_far, cpp_term::specs::Between::named_so_far, cpp_term::specs::Between::listed_so_far, cpp_term::specs::Values::tree_of, crate::specs::Parts::around_of, crate::specs::Parts::prefix_of, cpp_tree::specs::Nodes::arguments_are, cpp_tree::specs::Nodes::tree_of, cpp_tree::specs::Nodes::piece_of, crate::specs::Reads::goes_on, crate::specs::Reads::behind_first, crate::specs::Reads::named_if, crate::specs::Reads::appended_if, crate::specs::Reads::with_candidate, crate::specs::NodeCount::makes_before, crate::specs::Owed::made_before, crate::specs::NodeCount::std_before, crate::specs::NodeCount::one_if_there, crate::specs::NodeCount::pack_before))]
+    #[tactic(auto, unfolding(cpp_term::specs::Between::between, cpp_term::specs::Between::in_name, cpp_term::specs::Between::in_types, cpp_term::specs::Between::in_signature, cpp_term::specs::Between::under_expansion, cpp_term::specs::Between::after, cpp_term::specs::Between::inside, cpp_term::specs::Between::applied, cpp_term::specs::Between::piece_so_far, cpp_term::specs::Between::named_so_far, cpp_term::specs::Between::listed_so_far, cpp_term::specs::Values::tree_of, crate::specs::Parts::around_of, crate::specs::Parts::prefix_of, cpp_tree::specs::Nodes::tree_if_there, cpp_tree::specs::Nodes::tree_of, cpp_tree::specs::Nodes::piece_of, crate::specs::Reads::goes_on, crate::specs::Reads::behind_first, crate::specs::Reads::named_if, crate::specs::Reads::appended_if, crate::specs::Reads::with_candidate, crate::specs::NodeCount::makes_before, crate::specs::Owed::made_before, crate::specs::NodeCount::std_before, crate::specs::NodeCount::one_if_there, crate::specs::NodeCount::pack_before))]
     #[inline(always)]
     fn step_first(&self, symbol: &[u8], production: Production, place: u32, kept: Kept) -> Step
         requires table { IsTable (over symbol.now self.now.nodes) }
@@ -224,7 +146,8 @@ impl Linked {
             Production::Guard => self.go(self.in_encoding(kept, place, None)),
             Production::OtherSpecial => self.go(self.in_encoding(kept, place, None)),
             Production::Lambda => self.go(self.in_signature(kept)),
-            Production::DeclaredArgument => self.go(self.in_signature(kept)),
+            Production::ValueOf => self.go(self.in_signature(kept)),
+            Production::OfConcept => self.go(self.in_signature(kept)),
             Production::Expansion => Step::Go {
                 candidate: None,
                 then: self.under_expansion(kept),
@@ -363,7 +286,7 @@ impl Linked {
     }
 
     /// What is done before the second part, of a production that is no parameter and no pack.
-    #[tactic(auto, unfolding(cpp_term::specs::Between::between, cpp_term::specs::Between::in_name, cpp_term::specs::Between::in_types, cpp_term::specs::Between::in_signature, cpp_term::specs::Between::under_expansion, cpp_term::specs::Between::after, cpp_term::specs::Between::inside, cpp_term::specs::Between::applied, cpp_term::specs::Between::piece_so_far, cpp_term::specs::Between::named_so_far, cpp_term::specs::Between::tag_so_far, cpp_term::specs::Between::listed_so_far, cpp_term::specs::Values::tree_of, crate::specs::Parts::around_of, crate::specs::Parts::prefix_of, cpp_tree::specs::Nodes::arguments_are, cpp_tree::specs::Nodes::tree_of, cpp_tree::specs::Nodes::piece_of, crate::specs::Reads::goes_on, crate::specs::Reads::behind_first, crate::specs::Reads::named_if, crate::specs::Reads::appended_if, crate::specs::Reads::with_candidate, crate::specs::Owed::made_before, crate::specs::NodeCount::makes_before, crate::specs::Owed::made_before, crate::specs::NodeCount::std_before, crate::specs::NodeCount::one_if_there, crate::specs::NodeCount::pack_before))]
+    #[tactic(auto, unfolding(cpp_term::specs::Between::between, cpp_term::specs::Between::in_name, cpp_term::specs::Between::in_types, cpp_term::specs::Between::in_signature, cpp_term::specs::Between::under_expansion, cpp_term::specs::Between::after, cpp_term::specs::Between::inside, cpp_term::specs::Between::applied, cpp_term::specs::Between::piece_so_far, cpp_term::specs::Between::named_so_far, cpp_term::specs::Between::tag_so_far, cpp_term::specs::Between::listed_so_far, cpp_term::specs::Values::tree_of, crate::specs::Parts::around_of, crate::specs::Parts::prefix_of, cpp_tree::specs::Nodes::tree_if_there, cpp_tree::specs::Nodes::tree_of, cpp_tree::specs::Nodes::piece_of, crate::specs::Reads::goes_on, crate::specs::Reads::behind_first, crate::specs::Reads::named_if, crate::specs::Reads::appended_if, crate::specs::Reads::with_candidate, crate::specs::Owed::made_before, crate::specs::NodeCount::makes_before, crate::specs::Owed::made_before, crate::specs::NodeCount::std_before, crate::specs::NodeCount::one_if_there, crate::specs::NodeCount::pack_before))]
     #[inline(always)]
     fn step_second(
         &self,
@@ -392,6 +315,8 @@ impl Linked {
             Production::Guard => self.go(self.in_encoding(kept, place, None)),
             Production::OtherSpecial => self.go(self.in_encoding(kept, place, None)),
             Production::Lambda => self.go(self.in_signature(kept)),
+            Production::ValueOf => self.go(self.in_signature(kept)),
+            Production::OfConcept => self.go(self.in_signature(kept)),
             Production::Expansion => Step::Go {
                 candidate: None,
                 then: self.under_expansion(kept),
@@ -399,7 +324,7 @@ impl Linked {
             },
             Production::Encoding => {
                 let name = self.node(symbol, first);
-                self.go(self.in_encoding(kept, place, self.arguments(symbol, name)))
+                self.go(self.in_encoding(kept, place, self.closed_arguments(symbol, name)))
             }
             Production::LocalName => self.go(self.behind_name(
                 kept,
@@ -549,7 +474,7 @@ impl Linked {
     }
 
     /// What is done before the third part.
-    #[tactic(auto, unfolding(cpp_term::specs::Between::between, cpp_term::specs::Between::in_name, cpp_term::specs::Between::in_types, cpp_term::specs::Between::in_signature, cpp_term::specs::Between::under_expansion, cpp_term::specs::Between::after, cpp_term::specs::Between::inside, cpp_term::specs::Between::applied, cpp_term::specs::Between::piece_so_far, cpp_term::specs::Between::named_so_far, cpp_term::specs::Between::listed_so_far, cpp_term::specs::Values::tree_of, crate::specs::Parts::around_of, crate::specs::Parts::prefix_of, cpp_tree::specs::Nodes::arguments_are, cpp_tree::specs::Nodes::tree_of, cpp_tree::specs::Nodes::piece_of, crate::specs::Reads::goes_on, crate::specs::Reads::behind_first, crate::specs::Reads::named_if, crate::specs::Reads::appended_if, crate::specs::Reads::with_candidate, crate::specs::Owed::made_before, crate::specs::NodeCount::makes_before, crate::specs::Owed::made_before, crate::specs::NodeCount::std_before, crate::specs::NodeCount::one_if_there, crate::specs::NodeCount::pack_before))]
+    #[tactic(auto, unfolding(cpp_term::specs::Between::between, cpp_term::specs::Between::in_name, cpp_term::specs::Between::in_types, cpp_term::specs::Between::in_signature, cpp_term::specs::Between::under_expansion, cpp_term::specs::Between::after, cpp_term::specs::Between::inside, cpp_term::specs::Between::applied, cpp_term::specs::Between::piece_so_far, cpp_term::specs::Between::named_so_far, cpp_term::specs::Between::listed_so_far, cpp_term::specs::Values::tree_of, crate::specs::Parts::around_of, crate::specs::Parts::prefix_of, cpp_tree::specs::Nodes::tree_if_there, cpp_tree::specs::Nodes::tree_of, cpp_tree::specs::Nodes::piece_of, crate::specs::Reads::goes_on, crate::specs::Reads::behind_first, crate::specs::Reads::named_if, crate::specs::Reads::appended_if, crate::specs::Reads::with_candidate, crate::specs::Owed::made_before, crate::specs::NodeCount::makes_before, crate::specs::Owed::made_before, crate::specs::NodeCount::std_before, crate::specs::NodeCount::one_if_there, crate::specs::NodeCount::pack_before))]
     fn step_third(
         &self,
         symbol: &[u8],
@@ -573,6 +498,8 @@ impl Linked {
             Production::Guard => self.go(self.in_encoding(kept, place, None)),
             Production::OtherSpecial => self.go(self.in_encoding(kept, place, None)),
             Production::Lambda => self.go(self.in_signature(kept)),
+            Production::ValueOf => self.go(self.in_signature(kept)),
+            Production::OfConcept => self.go(self.in_signature(kept)),
             Production::Expansion => Step::Go {
                 candidate: None,
                 then: self.under_expansion(kept),
@@ -580,7 +507,7 @@ impl Linked {
             },
             Production::Encoding => {
                 let name = self.node(symbol, first);
-                self.go(self.in_encoding(kept, place, self.arguments(symbol, name)))
+                self.go(self.in_encoding(kept, place, self.closed_arguments(symbol, name)))
             }
             Production::LocalName => self.go(self.behind_name(
                 kept,
@@ -616,7 +543,7 @@ impl Linked {
     }
 
     /// What is done before the fourth part.
-    #[tactic(auto, unfolding(cpp_term::specs::Between::between, cpp_term::specs::Between::in_name, cpp_term::specs::Between::in_types, cpp_term::specs::Between::in_signature, cpp_term::specs::Between::under_expansion, cpp_term::specs::Between::after, cpp_term::specs::Between::inside, cpp_term::specs::Between::applied, cpp_term::specs::Between::piece_so_far, cpp_term::specs::Between::named_so_far, cpp_term::specs::Between::listed_so_far, cpp_term::specs::Values::tree_of, crate::specs::Parts::around_of, crate::specs::Parts::prefix_of, cpp_tree::specs::Nodes::arguments_are, cpp_tree::specs::Nodes::tree_of, cpp_tree::specs::Nodes::piece_of, crate::specs::Reads::goes_on, crate::specs::Reads::behind_first, crate::specs::Reads::named_if, crate::specs::Reads::appended_if, crate::specs::Reads::with_candidate, crate::specs::NodeCount::makes_before, crate::specs::Owed::made_before, crate::specs::NodeCount::std_before, crate::specs::NodeCount::one_if_there, crate::specs::NodeCount::pack_before))]
+    #[tactic(auto, unfolding(cpp_term::specs::Between::between, cpp_term::specs::Between::in_name, cpp_term::specs::Between::in_types, cpp_term::specs::Between::in_signature, cpp_term::specs::Between::under_expansion, cpp_term::specs::Between::after, cpp_term::specs::Between::inside, cpp_term::specs::Between::applied, cpp_term::specs::Between::piece_so_far, cpp_term::specs::Between::named_so_far, cpp_term::specs::Between::listed_so_far, cpp_term::specs::Values::tree_of, crate::specs::Parts::around_of, crate::specs::Parts::prefix_of, cpp_tree::specs::Nodes::tree_if_there, cpp_tree::specs::Nodes::tree_of, cpp_tree::specs::Nodes::piece_of, crate::specs::Reads::goes_on, crate::specs::Reads::behind_first, crate::specs::Reads::named_if, crate::specs::Reads::appended_if, crate::specs::Reads::with_candidate, crate::specs::NodeCount::makes_before, crate::specs::Owed::made_before, crate::specs::NodeCount::std_before, crate::specs::NodeCount::one_if_there, crate::specs::NodeCount::pack_before))]
     fn step_fourth(
         &self,
         symbol: &[u8],
@@ -642,6 +569,8 @@ impl Linked {
             Production::Guard => self.go(self.in_encoding(kept, place, None)),
             Production::OtherSpecial => self.go(self.in_encoding(kept, place, None)),
             Production::Lambda => self.go(self.in_signature(kept)),
+            Production::ValueOf => self.go(self.in_signature(kept)),
+            Production::OfConcept => self.go(self.in_signature(kept)),
             Production::Expansion => Step::Go {
                 candidate: None,
                 then: self.under_expansion(kept),
@@ -649,7 +578,7 @@ impl Linked {
             },
             Production::Encoding => {
                 let name = self.node(symbol, first);
-                self.go(self.in_encoding(kept, place, self.arguments(symbol, name)))
+                self.go(self.in_encoding(kept, place, self.closed_arguments(symbol, name)))
             }
             Production::LocalName => self.go(self.behind_name(
                 kept,
@@ -671,7 +600,7 @@ impl Linked {
     }
 
     /// What is done before a later part.
-    #[tactic(auto, unfolding(cpp_term::specs::Between::between, cpp_term::specs::Between::in_name, cpp_term::specs::Between::in_types, cpp_term::specs::Between::in_signature, cpp_term::specs::Between::under_expansion, cpp_term::specs::Between::after, cpp_term::specs::Between::inside, cpp_term::specs::Between::applied, cpp_term::specs::Between::piece_so_far, cpp_term::specs::Between::named_so_far, cpp_term::specs::Between::listed_so_far, cpp_term::specs::Values::tree_of, crate::specs::Parts::around_of, crate::specs::Parts::prefix_of, cpp_tree::specs::Nodes::arguments_are, cpp_tree::specs::Nodes::tree_of, cpp_tree::specs::Nodes::piece_of, crate::specs::Reads::goes_on, crate::specs::Reads::behind_first, crate::specs::Reads::named_if, crate::specs::Reads::appended_if, crate::specs::Reads::with_candidate, crate::specs::NodeCount::makes_before, crate::specs::Owed::made_before, crate::specs::NodeCount::std_before, crate::specs::NodeCount::one_if_there, crate::specs::NodeCount::pack_before))]
+    #[tactic(auto, unfolding(cpp_term::specs::Between::between, cpp_term::specs::Between::in_name, cpp_term::specs::Between::in_types, cpp_term::specs::Between::in_signature, cpp_term::specs::Between::under_expansion, cpp_term::specs::Between::after, cpp_term::specs::Between::inside, cpp_term::specs::Between::applied, cpp_term::specs::Between::piece_so_far, cpp_term::specs::Between::named_so_far, cpp_term::specs::Between::listed_so_far, cpp_term::specs::Values::tree_of, crate::specs::Parts::around_of, crate::specs::Parts::prefix_of, cpp_tree::specs::Nodes::tree_if_there, cpp_tree::specs::Nodes::tree_of, cpp_tree::specs::Nodes::piece_of, crate::specs::Reads::goes_on, crate::specs::Reads::behind_first, crate::specs::Reads::named_if, crate::specs::Reads::appended_if, crate::specs::Reads::with_candidate, crate::specs::NodeCount::makes_before, crate::specs::Owed::made_before, crate::specs::NodeCount::std_before, crate::specs::NodeCount::one_if_there, crate::specs::NodeCount::pack_before))]
     fn step_later(
         &self,
         symbol: &[u8],
@@ -693,6 +622,8 @@ impl Linked {
             Production::Guard => self.go(self.in_encoding(kept, place, None)),
             Production::OtherSpecial => self.go(self.in_encoding(kept, place, None)),
             Production::Lambda => self.go(self.in_signature(kept)),
+            Production::ValueOf => self.go(self.in_signature(kept)),
+            Production::OfConcept => self.go(self.in_signature(kept)),
             Production::Expansion => Step::Go {
                 candidate: None,
                 then: self.under_expansion(kept),
@@ -700,7 +631,7 @@ impl Linked {
             },
             Production::Encoding => {
                 let name = self.node(symbol, first);
-                self.go(self.in_encoding(kept, place, self.arguments(symbol, name)))
+                self.go(self.in_encoding(kept, place, self.closed_arguments(symbol, name)))
             }
             Production::LocalName => self.go(self.behind_name(
                 kept,
@@ -733,6 +664,7 @@ impl Linked {
     ) -> Result<Step, Refusal>
         requires table { IsTable (over symbol.now self.now.nodes) }
         requires kept { IsKeptThere (length self.now.nodes.nodes) kept }
+        requires closed { IsClosed (around_of (trees_in symbol.now self.now.nodes) kept) }
         requires first { IsThere symbol.now (length self.now.nodes.nodes) first }
         ensures is { IfOk result (λ step. (cs : List values.Candidate) → between production (around_of (trees_in symbol.now self.now.nodes) kept) place (value_in symbol.now self.now.nodes first ∷ []) (record { candidates = cs; packs = self.now.packs })
             ≡ goes_on symbol.now self.now.nodes kept (value_in symbol.now self.now.nodes first ∷ []) cs self.now.packs step) }
@@ -785,6 +717,7 @@ impl Linked {
     ) -> Result<Step, Refusal>
         requires table { IsTable (over symbol.now self.now.nodes) }
         requires kept { IsKeptThere (length self.now.nodes.nodes) kept }
+        requires closed { IsClosed (around_of (trees_in symbol.now self.now.nodes) kept) }
         requires there { AreThere symbol.now (length self.now.nodes.nodes) parts.now }
         ensures is { IfOk result (λ step. (cs : List values.Candidate) → between production (around_of (trees_in symbol.now self.now.nodes) kept) place (values_in symbol.now self.now.nodes parts.now) (record { candidates = cs; packs = self.now.packs })
             ≡ goes_on symbol.now self.now.nodes kept (values_in symbol.now self.now.nodes parts.now) cs self.now.packs step) }

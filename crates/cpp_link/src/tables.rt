@@ -590,12 +590,12 @@ pub(crate) const QUIET_PARTS: [u8; 151] = [
     5, // Expression
     5, // ArgumentWithT
     5, // PlainArgument
-    0, // DeclaredArgument
+    5, // DeclaredArgument
     1, // ParameterArgument
     5, // OneLiteral
     5, // AnyType
-    5, // ValueOf
-    5, // OfConcept
+    0, // ValueOf
+    0, // OfConcept
     5, // TemplateOf
     5, // PackOf
     5, // Declarations

@@ -1,5 +1,5 @@
-// The moments at which the driver asks C++'s language by the wide grammar. What is done is what the ABI's grammar does, but for the
-// parameters of a lambda's signature, and for substitutions.
+// The moments at which the driver asks C++'s language by the wide grammar. What is done is what the ABI's grammar does, but for
+// lambdas, the parameters of their signatures, and substitutions.
 
 ghost use Rattle.std.specs.Prelude.{◌≡◌, ℕ, ◌<◌, ◌≤◌, ◌∷◌, ◌++◌, [], List, length, drop, OnOk, OnErr};
 ghost use Rattle.sym_link.specs.Driving.{AreAll};
@@ -18,7 +18,7 @@ ghost use Rattle.cpp_link.specs.declared.rescoping.Rescoping.{Rescoping};
 use crate::dispatch::production_of;
 use crate::language::OUTSIDE;
 use crate::part::{Kept, Part};
-use crate::rescoping::{Rescoping, is_parameter, is_substitution};
+use crate::rescoping::{Rescoping, is_lambda_production, is_parameter, is_substitution};
 use cpp_grammar::production::Production;
 use sym_core::Refusal;
 use sym_link::language::{Frame, Linking};
@@ -120,8 +120,12 @@ impl Threading for Rescoping {
         ensures keeps { KeepsRoom (wide_counted symbol.now) self.old self.new parts.old parts.new }
         ensures full { NeedsRoom (wide_counted symbol.now) self.old self.new parts.old parts.new result }
     {
-        if is_substitution(production_of(frame.rule)) {
+        let production = production_of(frame.rule);
+        if is_substitution(production) {
             return self.linked.finish_substitution(symbol, frame, parts);
+        }
+        if is_lambda_production(production) {
+            return self.linked.finish_lambda(symbol, frame, parts);
         }
         self.linked.finish_rule(symbol, frame, parts)
     }

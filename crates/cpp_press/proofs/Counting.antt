@@ -7,11 +7,11 @@ use Rattle.std.proofs.lemmas.Bool.{eqb-true}
 use Rattle.std.proofs.lemmas.Map.Keys.{IsDistinct-cons}
 use Rattle.std.proofs.lemmas.Map.Steps.{length-le_from_distinct_below}
 use Rattle.cpp_grammar.specs.Term.{Term}
-use Rattle.cpp_grammar.specs.Values.{Candidate}
 use Rattle.cpp_layout.specs.Layout.{ReadSymbol, whole_of}
 use Rattle.cpp_press_laws.specs.Same.{same_tree}
 use Rattle.cpp_press_laws.specs.Apart.{spelled_components}
 use Rattle.cpp_press_laws.specs.Repeated.{is_spelled, repeated}
+use Rattle.cpp_press_laws.specs.Components.{Component}
 use Rattle.cpp_press_laws.proofs.Components.Sameness.{tree-itself}
 use Rattle.cpp_press.specs.Tasks.{plain_at}
 use Rattle.cpp_press.specs.Places.{AreOfNodes}
@@ -23,7 +23,7 @@ true-false bad = cc
 
 -- ## Trees that are spelled
 
-spelled-here : (t : Term) (before : List Candidate) (c : Candidate) → c.tree ≡ t → is_spelled t (before ++ c ∷ []) ≡ true
+spelled-here : (t : Term) (before : List Component) (c : Component) → c.tree ≡ t → is_spelled t (before ++ c ∷ []) ≡ true
 unfolding is_spelled
 spelled-here t [] c is = rw (is, tree-itself t) refl
 spelled-here t (d ∷ before) c is = go (same_tree t d.tree) (spelled-here t before c is)
@@ -32,7 +32,7 @@ spelled-here t (d ∷ before) c is = go (same_tree t d.tree) (spelled-here t bef
     go true more = refl
     go false more = more
 
-spelled-later : (t : Term) (before : List Candidate) (c : Candidate) → is_spelled t before ≡ true → is_spelled t (before ++ c ∷ []) ≡ true
+spelled-later : (t : Term) (before : List Component) (c : Component) → is_spelled t before ≡ true → is_spelled t (before ++ c ∷ []) ≡ true
 unfolding is_spelled
 spelled-later t [] c is = cc
 spelled-later t (d ∷ before) c is = go (same_tree t d.tree) is (spelled-later t before c)
@@ -45,17 +45,17 @@ spelled-later t (d ∷ before) c is = go (same_tree t d.tree) is (spelled-later 
 -- ## Nodes of spelled trees
 
 -- each is the node of a tree that is spelled
-AreKnown : ReadSymbol → (before : List Candidate) → List ℕ → Type 0
+AreKnown : ReadSymbol → (before : List Component) → List ℕ → Type 0
 AreKnown y before [] = Unit {0}
 AreKnown y before (x ∷ xs) = ((x < length y.table.nodes) × (is_spelled (plain_at y x) before ≡ true)) × AreKnown y before xs
 
-known-later : (y : ReadSymbol) (before : List Candidate) (c : Candidate) (xs : List ℕ) → AreKnown y before xs
+known-later : (y : ReadSymbol) (before : List Component) (c : Component) (xs : List ℕ) → AreKnown y before xs
     → AreKnown y (before ++ c ∷ []) xs
 unfolding AreKnown
 known-later y before c [] are = tt
 known-later y before c (x ∷ xs) are = ((are.0.0, spelled-later (plain_at y x) before c are.0.1), known-later y before c xs are.1)
 
-known-below : (y : ReadSymbol) (before : List Candidate) (xs : List ℕ) → AreKnown y before xs → (q : ℕ) → list_any (eqb q) xs ≡ true
+known-below : (y : ReadSymbol) (before : List Component) (xs : List ℕ) → AreKnown y before xs → (q : ℕ) → list_any (eqb q) xs ≡ true
     → q < length y.table.nodes
 unfolding AreKnown
 known-below y before [] are q is = cc
@@ -67,7 +67,7 @@ known-below y before (x ∷ xs) are q is = go (eqb q x) refl is (known-below y b
     go false same so more = more so
 
 -- the node of a tree that isn't spelled is none of them
-other-node : (y : ReadSymbol) (before : List Candidate) (t : Term) (i : ℕ) (xs : List ℕ) → plain_at y i ≡ t → is_spelled t before ≡ false
+other-node : (y : ReadSymbol) (before : List Component) (t : Term) (i : ℕ) (xs : List ℕ) → plain_at y i ≡ t → is_spelled t before ≡ false
     → AreKnown y before xs
     → AllByRecursion (λ x. eqb i x ≡ false) xs
 unfolding AreKnown
@@ -82,7 +82,7 @@ other-node y before t i (x ∷ xs) is new are = (go (eqb i x) refl, other-node y
 
 -- ## Components
 
-counted : (y : ReadSymbol) (before cs : List Candidate) (xs : List ℕ) → AreOfNodes y cs → AreKnown y before xs → IsDistinct eqb xs
+counted : (y : ReadSymbol) (before cs : List Component) (xs : List ℕ) → AreOfNodes y cs → AreKnown y before xs → IsDistinct eqb xs
     → length xs + length cs ≤ length y.table.nodes + length (repeated before cs)
 unfolding repeated AreKnown
 counted y before [] xs own known distinct =
@@ -100,11 +100,11 @@ counted y before (c ∷ cs) xs own known distinct =
     go : (b : Bool) → is_spelled c.tree before ≡ b → length xs + length cs ≤ length y.table.nodes + length (repeated (before ++ c ∷ []) cs)
         → (is_spelled c.tree before ≡ false → 1 + length xs + length cs ≤ length y.table.nodes + length (repeated (before ++ c ∷ []) cs))
         → length xs + length (c ∷ cs) ≤ length y.table.nodes
-        + length {A = Candidate} (elim b as (λ _. List Candidate) [ true ↦ c ∷ repeated (before ++ c ∷ []) cs | false ↦ repeated (before ++ c ∷ []) cs ])
+        + length {A = Component} (elim b as (λ _. List Component) [ true ↦ c ∷ repeated (before ++ c ∷ []) cs | false ↦ repeated (before ++ c ∷ []) cs ])
     go true is same fewer = omega (arith, same)
     go false is same fewer = omega (arith, fewer is)
 
-pub few-components : (y : ReadSymbol) (cs : List Candidate) → AreOfNodes y cs → cs ≡ spelled_components (whole_of y) → HasFewComponents y
+pub few-components : (y : ReadSymbol) (cs : List Component) → AreOfNodes y cs → cs ≡ spelled_components (whole_of y) → HasFewComponents y
 unfolding AreKnown IsDistinct
 few-components y cs own is =
     let few : length cs ≤ length y.table.nodes + length (repeated [] cs) = omega (arith, counted y [] cs [] own tt tt) in

@@ -4,9 +4,8 @@ use Rattle.std.specs.Option.{option_to_list}
 use Rattle.sym_spell.specs.Pressing.{Pressed}
 use Rattle.sym_spell.proofs.Spellings.{and-nothing}
 use Rattle.cpp_grammar.specs.Term.{Term}
-use Rattle.cpp_grammar.specs.Values.{Candidate}
 use Rattle.cpp_layout.specs.Layout.{ReadSymbol, whole_of}
-use Rattle.cpp_press_laws.specs.Components.{Spelling, first_equal, ended}
+use Rattle.cpp_press_laws.specs.Components.{Component, Spelling, first_equal, ended}
 use Rattle.cpp_press_laws.specs.Pressing.{ways_of, pressed}
 use Rattle.cpp_press_laws.specs.Apart.{spelled_components}
 use Rattle.cpp_press.specs.declared.components.Likeness.{Likeness}
@@ -44,30 +43,30 @@ top y {older = older} {t = t} last = ap (press_tasks y) last.is ∙ tasks-push y
 
 -- ## What is written
 
-again : (out : List ℕ) (f g : Spelling) (cs : List Candidate) → f ≡ g → behind out (f (length out) cs) ≡ behind out (g (length out) cs)
+again : (out : List ℕ) (f g : Spelling) (cs : List Component) → f ≡ g → behind out (f (length out) cs) ≡ behind out (g (length out) cs)
 again out f g cs same = ap {A = Spelling} (λ (h : Spelling). behind out (h (length out) cs)) same
 
 -- bytes that are written are those of a text that was to be written
-bytes-behind : (f : Spelling) (xs ys : List ℕ) (cs : List Candidate) (p q : ℕ) → p ≡ q
-    → ◌≡◌ {A = Pressed Candidate} (behind (xs ++ ys) (f p cs)) (record { bytes = xs ++ (ys ++ (f q cs).bytes); components = (f q cs).components })
+bytes-behind : (f : Spelling) (xs ys : List ℕ) (cs : List Component) (p q : ℕ) → p ≡ q
+    → ◌≡◌ {A = Pressed Component} (behind (xs ++ ys) (f p cs)) (record { bytes = xs ++ (ys ++ (f q cs).bytes); components = (f q cs).components })
 bytes-behind f xs ys cs p q same = rw (same, append_assoc xs ys (f q cs).bytes) refl
 
-text-behind : (f : Spelling) (out after bytes : List ℕ) (cs : List Candidate) → after ≡ out ++ bytes
+text-behind : (f : Spelling) (out after bytes : List ℕ) (cs : List Component) → after ≡ out ++ bytes
     → behind after (f (length after) cs) ≡ behind out ((written bytes onto f) (length out) cs)
 unfolding ◌onto◌ written
 text-behind f out after bytes cs is =
     ap (λ l. behind l (f (length l) cs)) is ∙ bytes-behind f out bytes cs (length (out ++ bytes)) (length out + length bytes) (length-append out bytes)
 
 -- an end is no bytes
-nothing-behind : (out : List ℕ) (f : Spelling) (cs : List Candidate) (p q : ℕ) → p ≡ q → behind out (f p cs) ≡ behind out (f q cs)
+nothing-behind : (out : List ℕ) (f : Spelling) (cs : List Component) (p q : ℕ) → p ≡ q → behind out (f p cs) ≡ behind out (f q cs)
 nothing-behind out f cs p q same = ap (λ n. behind out (f n cs)) same
 
-end-behind : (f : Spelling) (out : List ℕ) (t : Term) (e : ℕ) (cs : List Candidate)
+end-behind : (f : Spelling) (out : List ℕ) (t : Term) (e : ℕ) (cs : List Component)
     → behind out (f (length out) (cs ++ record { tree = t; encoding = e } ∷ [])) ≡ behind out ((ending e t onto f) (length out) cs)
 unfolding ◌onto◌ ending ended
 end-behind f out t e cs = nothing-behind out f (cs ++ record { tree = t; encoding = e } ∷ []) (length out) (length out + 0) (omega arith)
 
-own-more : (y : ReadSymbol) (cs : List Candidate) (node e : ℕ) → node < length y.table.nodes → AreOfNodes y cs
+own-more : (y : ReadSymbol) (cs : List Component) (node e : ℕ) → node < length y.table.nodes → AreOfNodes y cs
     → AreOfNodes y (cs ++ record { tree = plain_at y node; encoding = e } ∷ [])
 own-more y [] node e low own = ((node, low, refl), tt)
 own-more y (c ∷ cs) node e low own = (own.0, own-more y cs node e low own.1)
@@ -78,7 +77,7 @@ own-more y (c ∷ cs) node e low own = (own.0, own-more y cs node e low own.1)
 pub changed-goes : {y : ReadSymbol} {ns : List ℕ} {whole : Term} {first : Likeness
     → Option ℕ} {count : ℕ} {tasks older new : List Task} {out : List ℕ} {t : Task}
     → Goes y ns whole first count tasks out → IsLast tasks older t → AreTasks y new
-    → ((cs : List Candidate) → ArePlaces y ns first cs
+    → ((cs : List Component) → ArePlaces y ns first cs
     → press_tasks y new (length out) cs ≡ (press_task y t onto press_tasks y older) (length out) cs)
     → Goes y ns whole first count new out
 changed-goes {y} {tasks = tasks} {older = older} {out = out} {t = t} g last are same = record {

@@ -1,5 +1,6 @@
 mod Digits
 mod Pushed
+mod Made
 mod Entities
 mod Ways
 mod Open

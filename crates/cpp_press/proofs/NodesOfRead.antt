@@ -19,7 +19,7 @@ use Rattle.cpp_link.specs.NodeCount.{are_nodes}
 use Rattle.cpp_link.proofs.CandidatesTrees.{candidates-few}
 
 pub components-below : (s : List ℕ) (t : Term) (nodes : ℕ) → IsReading s (Ok t) → AreNodesOf abi are_nodes s nodes
-    → 3 + length (spelled_components t) ≤ nodes
+    → 4 + length (spelled_components t) ≤ nodes
 unfolding unfold_cpp
 components-below s t nodes (misshapen at is e) are =
     let clash : ◌≡◌ {A = Result Term Refusal} (Ok t) (Err (Malformed at)) = e in absurd cc

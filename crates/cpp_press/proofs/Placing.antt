@@ -8,10 +8,9 @@ use Rattle.sym_spell.proofs.Orders.{equal-is, first-tied, then-tied, number-tied
 use Rattle.sym_spell.proofs.Tests.{all}
 use Rattle.cpp_grammar.specs.Term.{Term}
 use Rattle.cpp_grammar.specs.Scope.{is_open}
-use Rattle.cpp_grammar.specs.Values.{Candidate}
 use Rattle.cpp_layout.specs.Layout.{ReadSymbol}
 use Rattle.cpp_press_laws.specs.Same.{same_tree}
-use Rattle.cpp_press_laws.specs.Components.{is_same, first_equal}
+use Rattle.cpp_press_laws.specs.Components.{Component, is_same, first_equal}
 use Rattle.cpp_press_laws.proofs.Components.Sameness.{equal-tree, tree-itself}
 use Rattle.cpp_press.specs.declared.components.Likeness.{Likeness}
 use Rattle.cpp_press.specs.Tasks.{plain_at}
@@ -26,7 +25,7 @@ one-later from (Some k) same count = Some k
 one-later from None true count = Some (from + count)
 one-later from None false count = None
 
-later-is : (e : ℕ) (t : Term) (c : Candidate) (from : ℕ) (cs : List Candidate) → first_equal e t from (cs ++ c ∷ []) ≡ one-later from (first_equal e t from cs) (is_same e t c) (length cs)
+later-is : (e : ℕ) (t : Term) (c : Component) (from : ℕ) (cs : List Component) → first_equal e t from (cs ++ c ∷ []) ≡ one-later from (first_equal e t from cs) (is_same e t c) (length cs)
 unfolding first_equal one-later
 later-is e t c from [] = go (is_same e t c)
   where
@@ -105,7 +104,7 @@ note-goes first one q count from old other b here there same long =
     ∙ ap (λ n. choose old other b n) long
     ∙ chosen old other b from (λ so. sym here ∙ ap first (like-equal one q (sym same ∙ so)) ∙ there)
 
-pub places-go : (y : ReadSymbol) (ns : List ℕ) (first new : Likeness → Option ℕ) (cs : List Candidate) (count node e : ℕ)
+pub places-go : (y : ReadSymbol) (ns : List ℕ) (first new : Likeness → Option ℕ) (cs : List Component) (count node e : ℕ)
     → AreNumbers y ns → ArePlaces y ns first cs → node < length y.table.nodes → count ≡ length cs
     → ((q : Likeness) → new q ≡ noted first (likeness_of y ns node e) count q)
     → ArePlaces y ns new (cs ++ record { tree = plain_at y node; encoding = e } ∷ [])

@@ -4,8 +4,7 @@ use Rattle.std.specs.Prelude.{codes, ◌&&◌}
 use Rattle.sym_spell.specs.Pressing.{◌and◌, text, nothing}
 use Rattle.sym_spell.proofs.Spellings.{and-assoc, nothing-and}
 use Rattle.cpp_grammar.specs.Term.{Term, alone, in_std, within, instance}
-use Rattle.cpp_grammar.specs.Values.{Candidate}
-use Rattle.cpp_press_laws.specs.Components.{Spelling, first_equal, component, spelled_out, referred, reference, ended}
+use Rattle.cpp_press_laws.specs.Components.{Component, Spelling, first_equal, component, spelled_out, referred, reference, ended}
 use Rattle.cpp_press_laws.specs.Pressing.{ways_of, no_ways, type_ways, name_ways, piece_ways, argument_ways, encoding_ways, in_N_and_E, template_before, is_operator}
 use Rattle.cpp_press.specs.Tasks.{◌onto◌, written, in_way, before, bracketed, ending}
 use Rattle.cpp_press.specs.Spelled.{arguments_onto, is_name}
@@ -15,36 +14,36 @@ use Rattle.cpp_press.proofs.Ways.{under, three, arguments-is}
 true-false : true ≡ false → ⊥
 true-false bad = cc
 
-referred-known : (n : ℕ) (t : Term) (a other r : Spelling) (k p : ℕ) (cs : List Candidate) → first_equal n t 0 cs ≡ Some k → (referred n t a other and r) p cs ≡ ((reference k and a) and r) p cs
+referred-known : (n : ℕ) (t : Term) (a other r : Spelling) (k p : ℕ) (cs : List Component) → first_equal n t 0 cs ≡ Some k → (referred n t a other and r) p cs ≡ ((reference k and a) and r) p cs
 unfolding referred
 referred-known n t a other r k p cs some =
-    ap (λ o. ((λ (q : ℕ) (ds : List Candidate). elim o as (λ _. _) [ Some k ↦ (reference k and a) q ds | None ↦ other q ds ]) and r) p cs) some
+    ap (λ o. ((λ (q : ℕ) (ds : List Component). elim o as (λ _. _) [ Some k ↦ (reference k and a) q ds | None ↦ other q ds ]) and r) p cs) some
 
-referred-fresh : (n : ℕ) (t : Term) (a other r : Spelling) (p : ℕ) (cs : List Candidate) → first_equal n t 0 cs ≡ None → (referred n t a other and r) p cs ≡ (other and r) p cs
+referred-fresh : (n : ℕ) (t : Term) (a other r : Spelling) (p : ℕ) (cs : List Component) → first_equal n t 0 cs ≡ None → (referred n t a other and r) p cs ≡ (other and r) p cs
 unfolding referred
 referred-fresh n t a other r p cs none =
-    ap (λ o. ((λ (q : ℕ) (ds : List Candidate). elim o as (λ _. _) [ Some k ↦ (reference k and a) q ds | None ↦ other q ds ]) and r) p cs) none
+    ap (λ o. ((λ (q : ℕ) (ds : List Component). elim o as (λ _. _) [ Some k ↦ (reference k and a) q ds | None ↦ other q ds ]) and r) p cs) none
 
 abbrev behind : (n : ℕ) → Term → Spelling
 behind n a = text (codes "I") and ((ways_of n a).as_elements and text (codes "E"))
 
-named-known : (n : ℕ) (t a : Term) (other r : Spelling) (k p : ℕ) (cs : List Candidate) → first_equal n t 0 cs ≡ Some k
+named-known : (n : ℕ) (t a : Term) (other r : Spelling) (k p : ℕ) (cs : List Component) → first_equal n t 0 cs ≡ Some k
     → (referred n t (behind n a) other and r) p cs ≡ (reference k and arguments_onto n a r) p cs
 named-known n t a other r k p cs some =
     referred-known n t (behind n a) other r k p cs some
     ∙ ap {A = Spelling} (λ (f : Spelling). f p cs) (and-assoc (reference k) (behind n a) r ∙ under (reference k) (arguments-is n a r))
 
-part-known : (n : ℕ) (t : Term) (more r : Spelling) (k p : ℕ) (cs : List Candidate) → first_equal n t 0 cs ≡ Some k → ((component n t nothing and more) and r) p cs ≡ ((reference k and more) and r) p cs
+part-known : (n : ℕ) (t : Term) (more r : Spelling) (k p : ℕ) (cs : List Component) → first_equal n t 0 cs ≡ Some k → ((component n t nothing and more) and r) p cs ≡ ((reference k and more) and r) p cs
 unfolding component
 part-known n t more r k p cs some =
-    ap (λ o. (((λ (q : ℕ) (ds : List Candidate). elim o as (λ _. _) [ Some k ↦ reference k q ds | None ↦ spelled_out n t nothing q ds ]) and more) and r) p cs) some
+    ap (λ o. (((λ (q : ℕ) (ds : List Component). elim o as (λ _. _) [ Some k ↦ reference k q ds | None ↦ spelled_out n t nothing q ds ]) and more) and r) p cs) some
 
-part-fresh : (n : ℕ) (t : Term) (more r : Spelling) (p : ℕ) (cs : List Candidate) → first_equal n t 0 cs ≡ None → ((component n t nothing and more) and r) p cs ≡ (((nothing and ended n t) and more) and r) p cs
+part-fresh : (n : ℕ) (t : Term) (more r : Spelling) (p : ℕ) (cs : List Component) → first_equal n t 0 cs ≡ None → ((component n t nothing and more) and r) p cs ≡ (((nothing and ended n t) and more) and r) p cs
 unfolding component spelled_out
 part-fresh n t more r p cs none =
-    ap (λ o. (((λ (q : ℕ) (ds : List Candidate). elim o as (λ _. _) [ Some k ↦ reference k q ds | None ↦ (nothing and ended n t) q ds ]) and more) and r) p cs) none
+    ap (λ o. (((λ (q : ℕ) (ds : List Component). elim o as (λ _. _) [ Some k ↦ reference k q ds | None ↦ (nothing and ended n t) q ds ]) and more) and r) p cs) none
 
-pub known-template : (n : ℕ) (b : Bool) (t a : Term) (r : Spelling) (k p : ℕ) (cs : List Candidate) → is_name t ≡ true → first_equal n t 0 cs ≡ Some k
+pub known-template : (n : ℕ) (b : Bool) (t a : Term) (r : Spelling) (k p : ℕ) (cs : List Component) → is_name t ≡ true → first_equal n t 0 cs ≡ Some k
     → (before n b t a and r) p cs ≡ (reference k and arguments_onto n a r) p cs
 unfolding ways_of no_ways type_ways name_ways piece_ways argument_ways encoding_ways template_before is_name before bracketed ◌onto◌ written in_way
 known-template n b (alone q) a r k p cs is some = named-known n (alone q) a _ r k p cs some
@@ -71,7 +70,7 @@ std-whole : (n : ℕ) (t a : Term) (s r : Spelling) (b : Bool)
 std-whole n t a s r true = nested-whole n t a s r
 std-whole n t a s r false = whole-is n t a s r
 
-pub fresh-template : (n : ℕ) (b : Bool) (t a : Term) (r : Spelling) (p : ℕ) (cs : List Candidate) → is_name t ≡ true → first_equal n t 0 cs ≡ None
+pub fresh-template : (n : ℕ) (b : Bool) (t a : Term) (r : Spelling) (p : ℕ) (cs : List Component) → is_name t ≡ true → first_equal n t 0 cs ≡ None
     → (before n b t a and r) p cs ≡ (template_onto n b t a r) p cs
 unfolding ways_of no_ways type_ways name_ways piece_ways argument_ways encoding_ways template_before is_name before bracketed needs_N is_instance template_onto ◌onto◌ written in_way ending
 fresh-template n b (alone q) a r p cs is none =

@@ -4,10 +4,9 @@ use Rattle.std.specs.Prelude.{codes, cond}
 use Rattle.sym_spell.specs.Pressing.{◌and◌, text, nothing}
 use Rattle.sym_spell.proofs.Spellings.{and-assoc, nothing-and}
 use Rattle.cpp_grammar.specs.Term.{Qualifiers, RefQualifier, any_value, lvalue_only, rvalue_only, Term, symbol, function, object, special, thunk, of_name, construction, clone, alone, in_std, within, instance, local, holder, tagged, parameter, source, operator, literal_operator, constructor, destructor, lambda, unnamed, string_literal, conversion, builtin, sized_float, vendor, pointer, lvalue, rvalue, array, member_pointer, function_type, qualified, vector, complex, expansion, integer, encoding_literal, address_of, pack, nil, list}
-use Rattle.cpp_grammar.specs.Values.{Candidate}
 use Rattle.cpp_tree.specs.Nodes.{qualifiers_of, mark_of}
 use Rattle.cpp_press_laws.specs.Texts.{counted, ordinal, signed_text, qualifier_letters, mark_letter, name_letters, special_code, thunk_text, discriminator_text}
-use Rattle.cpp_press_laws.specs.Components.{Spelling, first_equal, component, spelled_out, reference, ended}
+use Rattle.cpp_press_laws.specs.Components.{Component, Spelling, first_equal, component, spelled_out, reference, ended}
 use Rattle.cpp_press_laws.specs.Pressing.{ways_of, no_ways, type_ways, name_ways, piece_ways, argument_ways, encoding_ways, begun, function_text, in_N_and_E, with_letters, local_text, entity_text, is_operator, is_one_piece}
 use Rattle.cpp_press.specs.declared.task.Way.{Way}
 use Rattle.cpp_press.specs.Tasks.{◌onto◌, written, in_way, in_name, before, bracketed, ending}
@@ -141,7 +140,7 @@ unfolding ways_of no_ways type_ways name_ways piece_ways argument_ways encoding_
 same-encoding n m (symbol e suffix) = ap {A = Spelling} {B = Spelling} (λ (f : Spelling). text (codes "_Z") and (f and text suffix)) (same-encoding n m e)
 same-encoding n m _ = refl
 
-pub encoding-is : (n here : ℕ) (t : Term) (r : Spelling) (cs : List Candidate) → (((ways_of n t).as_encoding) and r) here cs ≡ (encoding_onto here t r) here cs
+pub encoding-is : (n here : ℕ) (t : Term) (r : Spelling) (cs : List Component) → (((ways_of n t).as_encoding) and r) here cs ≡ (encoding_onto here t r) here cs
 unfolding ways_of no_ways type_ways name_ways piece_ways argument_ways encoding_ways begun encoding_onto in_name ◌onto◌ written in_way
 encoding-is n here (function name q ref returned parameters) r cs =
     ap {A = Spelling} (λ (f : Spelling). f here cs) (three ((ways_of here name).as_name (name_letters q ref)) (ways_of here returned).as_type (ways_of here parameters).as_parameters r)
@@ -206,16 +205,16 @@ elements-is n _ r = nothing-and r
 
 -- ## Components
 
-fresh : (n : ℕ) (t : Term) (s r : Spelling) (p : ℕ) (cs : List Candidate) → first_equal n t 0 cs ≡ None → (component n t s and r) p cs ≡ (s and (ended n t and r)) p cs
+fresh : (n : ℕ) (t : Term) (s r : Spelling) (p : ℕ) (cs : List Component) → first_equal n t 0 cs ≡ None → (component n t s and r) p cs ≡ (s and (ended n t and r)) p cs
 unfolding component spelled_out
 fresh n t s r p cs none =
-    ap (λ o. ((λ (q : ℕ) (ds : List Candidate). elim o as (λ _. _) [ Some k ↦ reference k q ds | None ↦ (s and ended n t) q ds ]) and r) p cs) none
+    ap (λ o. ((λ (q : ℕ) (ds : List Component). elim o as (λ _. _) [ Some k ↦ reference k q ds | None ↦ (s and ended n t) q ds ]) and r) p cs) none
     ∙ ap {A = Spelling} (λ (f : Spelling). f p cs) (and-assoc s (ended n t) r)
 
-known : (n : ℕ) (t : Term) (s r : Spelling) (k p : ℕ) (cs : List Candidate) → first_equal n t 0 cs ≡ Some k → (component n t s and r) p cs ≡ (reference k and r) p cs
+known : (n : ℕ) (t : Term) (s r : Spelling) (k p : ℕ) (cs : List Component) → first_equal n t 0 cs ≡ Some k → (component n t s and r) p cs ≡ (reference k and r) p cs
 unfolding component
 known n t s r k p cs some =
-    ap (λ o. ((λ (q : ℕ) (ds : List Candidate). elim o as (λ _. _) [ Some k ↦ reference k q ds | None ↦ spelled_out n t s q ds ]) and r) p cs) some
+    ap (λ o. ((λ (q : ℕ) (ds : List Component). elim o as (λ _. _) [ Some k ↦ reference k q ds | None ↦ spelled_out n t s q ds ]) and r) p cs) some
 
 std-is : (n : ℕ) (p : Term) (r : Spelling)
     → ◌≡◌ {A = Spelling} ((elim (is_operator p) as (λ _. Spelling) [ true ↦ in_N_and_E [] (text (codes "St") and (ways_of n p).as_piece) | false ↦ text (codes "St") and (ways_of n p).as_piece ]) and r)
@@ -324,16 +323,16 @@ prefix-content-is n t e is = first_of (cc, search (content-is n t e is))
 
 -- ## A tree as it stands to the components before it
 
-fresh-way : (n : ℕ) (t : Term) (way s r after : Spelling) (p : ℕ) (cs : List Candidate) → ◌≡◌ {A = Spelling} way (component n t s)
+fresh-way : (n : ℕ) (t : Term) (way s r after : Spelling) (p : ℕ) (cs : List Component) → ◌≡◌ {A = Spelling} way (component n t s)
     → ◌≡◌ {A = Spelling} (s and (ended n t and r)) after → first_equal n t 0 cs ≡ None → (way and r) p cs ≡ after p cs
 fresh-way n t way s r after p cs is onto_is none =
     ap {A = Spelling} (λ (f : Spelling). (f and r) p cs) is ∙ fresh n t s r p cs none ∙ ap {A = Spelling} (λ (f : Spelling). f p cs) onto_is
 
-known-way : (n : ℕ) (t : Term) (way s r : Spelling) (k p : ℕ) (cs : List Candidate) → ◌≡◌ {A = Spelling} way (component n t s)
+known-way : (n : ℕ) (t : Term) (way s r : Spelling) (k p : ℕ) (cs : List Component) → ◌≡◌ {A = Spelling} way (component n t s)
     → first_equal n t 0 cs ≡ Some k → (way and r) p cs ≡ (reference k and r) p cs
 known-way n t way s r k p cs is some = ap {A = Spelling} (λ (f : Spelling). (f and r) p cs) is ∙ known n t s r k p cs some
 
-pub fresh-tree : (n p : ℕ) (way : Way) (t : Term) (r : Spelling) (cs : List Candidate) → is_compared way t ≡ true → first_equal n t 0 cs ≡ None
+pub fresh-tree : (n p : ℕ) (way : Way) (t : Term) (r : Spelling) (cs : List Component) → is_compared way t ≡ true → first_equal n t 0 cs ≡ None
     → (in_way n way t and r) p cs ≡ (spelled_onto n p way t (ended n t and r)) p cs
 fresh-tree n p Way.Type t r cs is none = fresh-way n t (in_way n Way.Type t) (content n t) r (type_onto n t (ended n t and r)) p cs (typed-is n t is) (content-is n t (ended n t and r) is) none
 fresh-tree n p Way.UnderQualifiers t r cs is none =
@@ -345,7 +344,7 @@ fresh-tree n p Way.Argument t r cs is none =
     fresh-way n t (in_way n Way.Argument t) (content n t) r (argument_onto n t (ended n t and r)) p cs (argued-is n t is) (argument-content-is n t (ended n t and r) is) none
 fresh-tree n p _ t r cs is none = absurd (true-false (sym is))
 
-pub known-tree : (n p k : ℕ) (way : Way) (t : Term) (r : Spelling) (cs : List Candidate) → is_compared way t ≡ true → first_equal n t 0 cs ≡ Some k
+pub known-tree : (n p k : ℕ) (way : Way) (t : Term) (r : Spelling) (cs : List Component) → is_compared way t ≡ true → first_equal n t 0 cs ≡ Some k
     → (in_way n way t and r) p cs ≡ (reference k and r) p cs
 known-tree n p k Way.Type t r cs is some = known-way n t (in_way n Way.Type t) (content n t) r k p cs (typed-is n t is) some
 known-tree n p k Way.UnderQualifiers t r cs is some = known-way n t (in_way n Way.UnderQualifiers t) (content n t) r k p cs (under-is n t is) some
@@ -353,7 +352,7 @@ known-tree n p k Way.Prefix t r cs is some = known-way n t (in_way n Way.Prefix 
 known-tree n p k Way.Argument t r cs is some = known-way n t (in_way n Way.Argument t) (content n t) r k p cs (argued-is n t is) some
 known-tree n p k _ t r cs is some = absurd (true-false (sym is))
 
-pub apart-tree : (n p : ℕ) (way : Way) (t : Term) (r : Spelling) (cs : List Candidate) → is_compared way t ≡ false → (in_way n way t and r) p cs ≡ (spelled_onto n p way t r) p cs
+pub apart-tree : (n p : ℕ) (way : Way) (t : Term) (r : Spelling) (cs : List Component) → is_compared way t ≡ false → (in_way n way t and r) p cs ≡ (spelled_onto n p way t r) p cs
 unfolding in_way
 apart-tree n p Way.Type t r cs is = ap {A = Spelling} (λ (f : Spelling). f p cs) (type-rest n t r is)
 apart-tree n p Way.UnderQualifiers t r cs is = ap {A = Spelling} (λ (f : Spelling). f p cs) (qualified-rest n t r is)

@@ -12,7 +12,7 @@ use Rattle.cpp_link.specs.NodeCount.{are_nodes}
 pub record HasFewComponents (y : ReadSymbol) : Type 0 where
   -- They are at most as many as the nodes, apart from those whose tree is spelled out again.
   pub apart : length (spelled_components (whole_of y)) ≤ length y.table.nodes + length (repeated_components (whole_of y))
-  -- Where the symbol is what some bytes read as, with the nodes of their one shape, each is a node of its own, beside the three with
+  -- Where the symbol is what some bytes read as, with the nodes of their one shape, each is a node of its own, beside the four with
   -- which a table begins.
   pub of_read : (s : List ℕ) → IsReading s (Ok (whole_of y)) → AreNodesOf abi are_nodes s (length y.table.nodes)
-      → 3 + length (spelled_components (whole_of y)) ≤ length y.table.nodes
+      → 4 + length (spelled_components (whole_of y)) ≤ length y.table.nodes

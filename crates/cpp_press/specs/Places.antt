@@ -6,9 +6,8 @@ use Rattle.sym_spell.specs.Numbers.{AreNumbered}
 use Rattle.sym_spell.specs.Pressing.{Pressed}
 use Rattle.cpp_grammar.specs.Term.{Term}
 use Rattle.cpp_grammar.specs.Scope.{is_open}
-use Rattle.cpp_grammar.specs.Values.{Candidate}
 use Rattle.cpp_layout.specs.Layout.{ReadSymbol}
-use Rattle.cpp_press_laws.specs.Components.{first_equal}
+use Rattle.cpp_press_laws.specs.Components.{Component, first_equal}
 use Rattle.cpp_press_laws.specs.Pressing.{ways_of}
 use Rattle.cpp_press.specs.declared.components.Likeness.{Likeness}
 use Rattle.cpp_press.specs.declared.task.Task.{Task}
@@ -30,7 +29,7 @@ abbrev pub likeness_of : ReadSymbol → (numbers : List ℕ) → (node encoding 
 likeness_of y numbers node encoding = record { number = get_or numbers node 0; encoding = cond (is_open (plain_at y node)) encoding 0 }
 
 -- By likeness the number of the first component is that of the definition.
-abbrev pub ArePlaces : ReadSymbol → (numbers : List ℕ) → (Likeness → Option ℕ) → List Candidate → Type 0
+abbrev pub ArePlaces : ReadSymbol → (numbers : List ℕ) → (Likeness → Option ℕ) → List Component → Type 0
 ArePlaces y numbers first cs =
     (node encoding : ℕ) → node < length y.table.nodes → first (likeness_of y numbers node encoding) ≡ first_equal encoding (plain_at y node) 0 cs
 
@@ -39,18 +38,18 @@ abbrev pub AreNumbers : ReadSymbol → List ℕ → Type 0
 AreNumbers y numbers = AreNumbered (plain_at y) (length y.table.nodes) numbers
 
 -- Each component is the tree of a node.
-abbrev pub AreOfNodes : ReadSymbol → List Candidate → Type 0
+abbrev pub AreOfNodes : ReadSymbol → List Component → Type 0
 AreOfNodes y [] = Unit {0}
 AreOfNodes y (c ∷ cs) = ((node : ℕ) × (node < length y.table.nodes) × (plain_at y node ≡ c.tree)) × AreOfNodes y cs
 
 -- what is written, and a spelling behind it
-abbrev pub behind : List ℕ → Pressed Candidate → Pressed Candidate
+abbrev pub behind : List ℕ → Pressed Component → Pressed Component
 behind out one = record { bytes = out ++ one.bytes; components = one.components }
 
 -- What is written, and what the tasks will write behind it, are the spelling of a symbol's tree; the components so far are trees of
 -- nodes.
 pub record Goes (y : ReadSymbol) (numbers : List ℕ) (whole : Term) (first : Likeness → Option ℕ) (count : ℕ) (tasks : List Task) (out : List ℕ) : Type 0 where
-  pub components : List Candidate
+  pub components : List Component
   pub places : ArePlaces y numbers first components
   pub counted : count ≡ length components
   pub own : AreOfNodes y components

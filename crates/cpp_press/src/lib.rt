@@ -7,6 +7,7 @@ mod names;
 mod numbering;
 mod pressing;
 mod steps;
+mod stored;
 mod task;
 mod texts;
 mod types;

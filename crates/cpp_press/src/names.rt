@@ -1,17 +1,18 @@
 // What is spelled of names.
 #![tactic(auto)]
 
-ghost use Rattle.std.specs.Prelude.{◌≡◌, ◌≤◌, ◌<◌, ◌+◌, ◌-◌, ◌++◌, length, codes, OnOk, IfErr};
+ghost use Rattle.std.specs.Prelude.{◌≡◌, ◌≤◌, ◌<◌, ◌+◌, ◌-◌, ◌++◌, length, codes, false, OnOk, IfErr};
 ghost use Rattle.sym_core.specs.declared.Refusal.TheVariants.{Memory};
 ghost use Rattle.cpp_press_laws.specs.Texts.{ordinal};
 ghost use Rattle.cpp_press_laws.specs.Pressing.{is_operator, is_encoding, is_one_piece};
-ghost use Rattle.cpp_tree.specs.Nodes.{qualifiers_of, mark_of, discriminator_of, IsSpan, IsTable};
+ghost use Rattle.cpp_tree.specs.Nodes.{qualifiers_of, mark_of, discriminator_of, is_again, IsSpan, IsTable};
 ghost use Rattle.cpp_layout.specs.Layout.{ReadSymbol, table_of};
 ghost use Rattle.cpp_press.specs.Bytes.{text_bytes, IsThere};
 ghost use Rattle.cpp_press.specs.Weight.{weight};
 ghost use Rattle.cpp_press.specs.Tasks.{◌onto◌, written, in_way, plain_at, node_tree, piece_tree, IsMade, IsPieceMade, press_tasks, AreTasks, tasks_weight};
 ghost use Rattle.cpp_press.specs.Spelled.{piece_onto, in_std_onto, within_onto, nested_onto, between_onto, prefix_onto, has_letters, plain_name_onto, lettered_onto, local_onto, is_name, is_prefix, name_onto, is_piece_behind};
 
+use crate::stored::stored;
 use crate::task::{
     Task, Way, then_arguments, then_ended, then_fixed, then_template, then_text, then_tree,
 };
@@ -34,32 +35,33 @@ pub fn is_operator(piece: Piece) -> bool
 
 /// Whether a node is an encoding.
 fn is_encoding(node: Node) -> bool
+    requires own { is_again node ≡ false }
     ensures { (y : ReadSymbol) → result ≡ is_encoding (node_tree y node) }
 {
     node.is_encoding()
 }
 
 /// Whether a name is one piece behind an encoding.
-#[tactic(auto, unfolding(crate::specs::Spelled::is_piece_behind, cpp_term::specs::Erased::erase, cpp_tree::specs::Nodes::tree_of))]
+#[tactic(auto, unfolding(crate::specs::Spelled::is_piece_behind, cpp_term::specs::Erased::erase, cpp_tree::specs::Nodes::tree_of, cpp_tree::specs::Nodes::is_again))]
 fn is_piece_behind(symbol: &Symbol, name: u32) -> bool
     requires table { IsTable (table_of symbol.now) }
     requires name { name < length symbol.now.table.nodes }
     ensures { result ≡ is_piece_behind (plain_at symbol.now name) }
 {
-    match symbol.stored(name) {
-        Node::Within { prefix, .. } => is_encoding(symbol.stored(prefix)),
+    match stored(symbol, name) {
+        Node::Within { prefix, .. } => is_encoding(stored(symbol, prefix)),
         _ => false,
     }
 }
 
 /// Whether an entity is one piece behind its encoding, with arguments or without.
-#[tactic(auto, unfolding(cpp_press_laws::specs::Pressing::is_one_piece, cpp_term::specs::Erased::erase, cpp_tree::specs::Nodes::tree_of))]
+#[tactic(auto, unfolding(cpp_press_laws::specs::Pressing::is_one_piece, cpp_term::specs::Erased::erase, cpp_tree::specs::Nodes::tree_of, cpp_tree::specs::Nodes::is_again))]
 fn is_one_piece(symbol: &Symbol, entity: u32) -> bool
     requires table { IsTable (table_of symbol.now) }
     requires entity { entity < length symbol.now.table.nodes }
     ensures { result ≡ is_one_piece (plain_at symbol.now entity) }
 {
-    match symbol.stored(entity) {
+    match stored(symbol, entity) {
         Node::Instance { template, .. } => is_piece_behind(symbol, template),
         _ => is_piece_behind(symbol, entity),
     }
@@ -117,6 +119,9 @@ pub fn then_piece(
         Piece::Lambda { parameters, number } => then_lambda(
             symbol, parameters, number, encoding, tasks,
         )?,
+        // <closure-type-name> ::= Ul <lambda-sig> E [ <nonnegative number> ] _, with parameters of its own: read by the ABI's
+        // grammar no symbol has one.
+        Piece::GenericLambda { .. } => {}
         Piece::Unnamed(number) => {
             then_text(
                 symbol,
@@ -198,13 +203,14 @@ pub fn then_nested(
 }
 
 /// A name between N and E (ABI 5.1.3, `<nested-name>`).
-#[tactic(auto, unfolding(crate::specs::Spelled::between_onto, cpp_term::specs::Erased::erase, cpp_tree::specs::Nodes::tree_of, crate::specs::Weight::weight))]
+#[tactic(auto, unfolding(crate::specs::Spelled::between_onto, cpp_term::specs::Erased::erase, cpp_tree::specs::Nodes::tree_of, cpp_tree::specs::Nodes::is_again, crate::specs::Weight::weight))]
 pub fn then_between(
     symbol: &Symbol,
     node: Node,
     encoding: u64,
     tasks: &mut Vec<Task>,
 ) -> Result<(), Refusal>
+    requires own { is_again node ≡ false }
     requires node { IsMade symbol.now node }
     requires tasks { AreTasks symbol.now tasks.old.items }
     ensures presses { OnOk result (press_tasks symbol.now tasks.new.items ≡ between_onto encoding (node_tree symbol.now node) (press_tasks symbol.now tasks.old.items)) }
@@ -230,13 +236,14 @@ pub fn then_between(
 }
 
 /// A name that is a prefix (ABI 5.1.3, `<prefix>`).
-#[tactic(auto, unfolding(crate::specs::Spelled::prefix_onto, cpp_term::specs::Erased::erase, cpp_tree::specs::Nodes::tree_of, crate::specs::Weight::weight))]
+#[tactic(auto, unfolding(crate::specs::Spelled::prefix_onto, cpp_term::specs::Erased::erase, cpp_tree::specs::Nodes::tree_of, cpp_tree::specs::Nodes::is_again, crate::specs::Weight::weight))]
 pub fn then_prefix(
     symbol: &Symbol,
     node: Node,
     encoding: u64,
     tasks: &mut Vec<Task>,
 ) -> Result<(), Refusal>
+    requires own { is_again node ≡ false }
     requires node { IsMade symbol.now node }
     requires tasks { AreTasks symbol.now tasks.old.items }
     ensures presses { OnOk result (press_tasks symbol.now tasks.new.items ≡ prefix_onto encoding (node_tree symbol.now node) (press_tasks symbol.now tasks.old.items)) }
@@ -278,13 +285,14 @@ fn has_letters(qualifiers: Qualifiers, mark: Mark) -> bool
 }
 
 /// An encoding's own name without letters (ABI 5.1.2, `<name>`).
-#[tactic(auto, unfolding(crate::specs::Spelled::plain_name_onto, cpp_term::specs::Erased::erase, cpp_tree::specs::Nodes::tree_of, crate::specs::Weight::weight))]
+#[tactic(auto, unfolding(crate::specs::Spelled::plain_name_onto, cpp_term::specs::Erased::erase, cpp_tree::specs::Nodes::tree_of, cpp_tree::specs::Nodes::is_again, crate::specs::Weight::weight))]
 fn then_plain_name(
     symbol: &Symbol,
     node: Node,
     encoding: u64,
     tasks: &mut Vec<Task>,
 ) -> Result<(), Refusal>
+    requires own { is_again node ≡ false }
     requires node { IsMade symbol.now node }
     requires tasks { AreTasks symbol.now tasks.old.items }
     ensures presses { OnOk result (press_tasks symbol.now tasks.new.items ≡ plain_name_onto encoding (node_tree symbol.now node) (press_tasks symbol.now tasks.old.items)) }
@@ -364,8 +372,9 @@ pub fn then_local(
 }
 
 /// Whether a node is a name that isn't local.
-#[tactic(auto, unfolding(crate::specs::Spelled::is_name, cpp_term::specs::Erased::erase, cpp_tree::specs::Nodes::tree_of))]
+#[tactic(auto, unfolding(crate::specs::Spelled::is_name, cpp_term::specs::Erased::erase, cpp_tree::specs::Nodes::tree_of, cpp_tree::specs::Nodes::is_again))]
 pub fn is_name(node: Node) -> bool
+    requires own { is_again node ≡ false }
     ensures { (y : ReadSymbol) → result ≡ is_name (node_tree y node) }
 {
     match node {
@@ -378,8 +387,9 @@ pub fn is_name(node: Node) -> bool
 }
 
 /// Whether a node is a prefix that is no type of another sort.
-#[tactic(auto, unfolding(crate::specs::Spelled::is_prefix, cpp_term::specs::Erased::erase, cpp_tree::specs::Nodes::tree_of))]
+#[tactic(auto, unfolding(crate::specs::Spelled::is_prefix, cpp_term::specs::Erased::erase, cpp_tree::specs::Nodes::tree_of, cpp_tree::specs::Nodes::is_again))]
 pub fn is_prefix(node: Node) -> bool
+    requires own { is_again node ≡ false }
     ensures { (y : ReadSymbol) → result ≡ is_prefix (node_tree y node) }
 {
     match node {
@@ -389,7 +399,7 @@ pub fn is_prefix(node: Node) -> bool
 }
 
 /// An encoding's own name (ABI 5.1.2, `<name>`).
-#[tactic(auto, unfolding(crate::specs::Spelled::name_onto, cpp_term::specs::Erased::erase, cpp_tree::specs::Nodes::tree_of, crate::specs::Weight::weight, crate::specs::Bytes::text_bytes))]
+#[tactic(auto, unfolding(crate::specs::Spelled::name_onto, cpp_term::specs::Erased::erase, cpp_tree::specs::Nodes::tree_of, cpp_tree::specs::Nodes::is_again, crate::specs::Weight::weight, crate::specs::Bytes::text_bytes))]
 pub fn then_name(
     symbol: &Symbol,
     name: u32,
@@ -406,7 +416,7 @@ pub fn then_name(
     ensures tasks { OnOk result (AreTasks symbol.now tasks.new.items) }
     ensures memory { IfErr result (λ e. e ≡ Memory) }
 {
-    let node = symbol.stored(name);
+    let node = stored(symbol, name);
     if let Node::Local {
         encoding: around,
         entity,

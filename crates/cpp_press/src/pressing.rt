@@ -16,6 +16,7 @@ use crate::components::{Components, Likeness};
 use crate::names::is_name;
 use crate::numbering::numbers;
 use crate::steps::{Standing, compared, step_template, step_tree};
+use crate::stored::stored;
 use crate::task::{Task, Way, then_tree};
 use crate::texts::push_text;
 use crate::types::is_compared;
@@ -33,7 +34,7 @@ fn likeness_of(symbol: &Symbol, numbering: &Numbers, node: u32, encoding: u64) -
     ensures { result ≡ likeness_of symbol.now numbering.now node encoding }
 {
     let number = numbering.number_of(node);
-    if symbol.entry(node).is_open {
+    if symbol.entry(node).is_open() {
         Likeness { number, encoding }
     } else {
         Likeness {
@@ -57,7 +58,7 @@ fn standing_of(
     requires number { node < length numbering.now }
     ensures { result ≡ standing_of way (plain_at symbol.now node) (get likeness_cmp components.now.first (likeness_of symbol.now numbering.now node encoding)) }
 {
-    if is_compared(way, symbol.stored(node)) {
+    if is_compared(way, stored(symbol, node)) {
         compared(components.first(likeness_of(symbol, numbering, node, encoding)))
     } else {
         Standing::Apart
@@ -77,7 +78,7 @@ fn template_standing_of(
     requires number { name < length numbering.now }
     ensures { result ≡ template_standing_of (plain_at symbol.now name) (get likeness_cmp components.now.first (likeness_of symbol.now numbering.now name encoding)) }
 {
-    if is_name(symbol.stored(name)) {
+    if is_name(stored(symbol, name)) {
         compared(components.first(likeness_of(symbol, numbering, name, encoding)))
     } else {
         Standing::Apart

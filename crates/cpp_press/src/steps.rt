@@ -1,17 +1,17 @@
 // One step of the writer at a tree, as it stands to the components before it.
 #![tactic(auto)]
 
-ghost use Rattle.std.specs.Prelude.{◌≡◌, ℕ, ◌≤◌, ◌<◌, ◌+◌, List, length, OnOk, IfErr};
+ghost use Rattle.std.specs.Prelude.{◌≡◌, ℕ, ◌≤◌, ◌<◌, ◌+◌, List, length, false, OnOk, IfErr};
 ghost use Rattle.sym_core.specs.declared.Refusal.TheVariants.{Memory};
-ghost use Rattle.cpp_grammar.specs.Values.{Candidate};
-ghost use Rattle.cpp_tree.specs.Nodes.{IsTable};
+ghost use Rattle.cpp_tree.specs.Nodes.{is_again, IsTable};
 ghost use Rattle.cpp_layout.specs.Layout.{ReadSymbol, table_of};
-ghost use Rattle.cpp_press_laws.specs.Components.{first_equal};
+ghost use Rattle.cpp_press_laws.specs.Components.{Component, first_equal};
 ghost use Rattle.cpp_press.specs.Weight.{weight};
 ghost use Rattle.cpp_press.specs.Tasks.{◌onto◌, in_way, before, plain_at, node_tree, press_tasks, AreTasks, way_weight, tasks_weight};
 ghost use Rattle.cpp_press.specs.Standings.{compared, standing_of, template_standing_of, needs_N, is_instance, between_arguments_onto, template_onto};
 
 use crate::names::is_operator;
+use crate::stored::stored;
 use crate::task::{Task, Way, then_arguments, then_ended, then_fixed, then_text, then_tree};
 use crate::texts::Text;
 use crate::types::then_spelled;
@@ -54,7 +54,7 @@ pub fn step_tree(
     requires table { IsTable (table_of symbol.now) }
     requires node { node < length symbol.now.table.nodes }
     requires tasks { AreTasks symbol.now tasks.old.items }
-    ensures presses { OnOk result ((cs : List Candidate) → standing ≡ standing_of way (plain_at symbol.now node) (first_equal encoding (plain_at symbol.now node) 0 cs)
+    ensures presses { OnOk result ((cs : List Component) → standing ≡ standing_of way (plain_at symbol.now node) (first_equal encoding (plain_at symbol.now node) 0 cs)
         → press_tasks symbol.now tasks.new.items here cs ≡ (in_way encoding way (plain_at symbol.now node) onto press_tasks symbol.now tasks.old.items) here cs) }
     ensures weight { OnOk result (tasks_weight symbol.now tasks.new.items < way_weight way + weight (plain_at symbol.now node) + tasks_weight symbol.now tasks.old.items) }
     ensures tasks { OnOk result (AreTasks symbol.now tasks.new.items) }
@@ -72,8 +72,9 @@ pub fn step_tree(
 }
 
 /// Whether a template name that is spelled out needs an N.
-#[tactic(auto, unfolding(crate::specs::Standings::needs_N, cpp_term::specs::Erased::erase, cpp_tree::specs::Nodes::tree_of))]
+#[tactic(auto, unfolding(crate::specs::Standings::needs_N, cpp_term::specs::Erased::erase, cpp_tree::specs::Nodes::tree_of, cpp_tree::specs::Nodes::is_again))]
 fn needs_n(node: Node, in_type: bool) -> bool
+    requires own { is_again node ≡ false }
     ensures { (y : ReadSymbol) → result ≡ needs_N in_type (node_tree y node) }
 {
     match node {
@@ -84,7 +85,7 @@ fn needs_n(node: Node, in_type: bool) -> bool
 }
 
 /// A template name that is spelled out, and its arguments.
-#[tactic(auto, unfolding(crate::specs::Standings::template_onto, crate::specs::Standings::needs_N, cpp_term::specs::Erased::erase, cpp_tree::specs::Nodes::tree_of))]
+#[tactic(auto, unfolding(crate::specs::Standings::template_onto, crate::specs::Standings::needs_N, cpp_term::specs::Erased::erase, cpp_tree::specs::Nodes::tree_of, cpp_tree::specs::Nodes::is_again))]
 fn then_template_out(
     symbol: &Symbol,
     name: u32,
@@ -102,7 +103,7 @@ fn then_template_out(
     ensures tasks { OnOk result (AreTasks symbol.now tasks.new.items) }
     ensures memory { IfErr result (λ e. e ≡ Memory) }
 {
-    if needs_n(symbol.stored(name), in_type) {
+    if needs_n(stored(symbol, name), in_type) {
         then_fixed(symbol, b"E", tasks)?;
         then_between_arguments(symbol, name, arguments, encoding, tasks)?;
         then_fixed(symbol, b"N", tasks)?;
@@ -113,7 +114,7 @@ fn then_template_out(
 }
 
 /// A template name and its end as a component, and its arguments. A name that has arguments itself is always referred to.
-#[tactic(auto, unfolding(crate::specs::Standings::is_instance, cpp_term::specs::Erased::erase, cpp_tree::specs::Nodes::tree_of))]
+#[tactic(auto, unfolding(crate::specs::Standings::is_instance, cpp_term::specs::Erased::erase, cpp_tree::specs::Nodes::tree_of, cpp_tree::specs::Nodes::is_again))]
 fn then_between_arguments(
     symbol: &Symbol,
     name: u32,
@@ -132,15 +133,16 @@ fn then_between_arguments(
 {
     then_arguments(symbol, arguments, encoding, tasks)?;
     then_ended(symbol, name, encoding, tasks)?;
-    if !is_instance(symbol.stored(name)) {
+    if !is_instance(stored(symbol, name)) {
         then_tree(symbol, name, Way::Between, encoding, tasks)?;
     }
     Ok(())
 }
 
 /// Whether a name ends in arguments.
-#[tactic(auto, unfolding(crate::specs::Standings::is_instance, cpp_term::specs::Erased::erase, cpp_tree::specs::Nodes::tree_of))]
+#[tactic(auto, unfolding(crate::specs::Standings::is_instance, cpp_term::specs::Erased::erase, cpp_tree::specs::Nodes::tree_of, cpp_tree::specs::Nodes::is_again))]
 fn is_instance(node: Node) -> bool
+    requires own { is_again node ≡ false }
     ensures { (y : ReadSymbol) → result ≡ is_instance (node_tree y node) }
 {
     match node {
@@ -163,7 +165,7 @@ pub fn step_template(
     requires name { name < length symbol.now.table.nodes }
     requires arguments { arguments < length symbol.now.table.nodes }
     requires tasks { AreTasks symbol.now tasks.old.items }
-    ensures presses { OnOk result ((here : ℕ) (cs : List Candidate) → standing ≡ template_standing_of (plain_at symbol.now name) (first_equal encoding (plain_at symbol.now name) 0 cs)
+    ensures presses { OnOk result ((here : ℕ) (cs : List Component) → standing ≡ template_standing_of (plain_at symbol.now name) (first_equal encoding (plain_at symbol.now name) 0 cs)
         → press_tasks symbol.now tasks.new.items here cs ≡ (before encoding in_type (plain_at symbol.now name) (plain_at symbol.now arguments) onto press_tasks symbol.now tasks.old.items) here cs) }
     ensures weight { OnOk result (tasks_weight symbol.now tasks.new.items < 8 + weight (plain_at symbol.now name) + weight (plain_at symbol.now arguments) + tasks_weight symbol.now tasks.old.items) }
     ensures tasks { OnOk result (AreTasks symbol.now tasks.new.items) }

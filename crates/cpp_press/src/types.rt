@@ -1,10 +1,10 @@
 // What is spelled of types, arguments and encodings.
 #![tactic(auto)]
 
-ghost use Rattle.std.specs.Prelude.{◌≡◌, ◌≤◌, ◌<◌, ◌+◌, ◌++◌, length, codes, OnOk, IfErr};
+ghost use Rattle.std.specs.Prelude.{◌≡◌, ◌≤◌, ◌<◌, ◌+◌, ◌++◌, length, codes, false, OnOk, IfErr};
 ghost use Rattle.sym_core.specs.declared.Refusal.TheVariants.{Memory};
 ghost use Rattle.cpp_press_laws.specs.Texts.{mark_letter};
-ghost use Rattle.cpp_tree.specs.Nodes.{mark_of, IsTable};
+ghost use Rattle.cpp_tree.specs.Nodes.{mark_of, is_again, IsTable};
 ghost use Rattle.cpp_layout.specs.Layout.{ReadSymbol, table_of};
 ghost use Rattle.cpp_press.specs.Bytes.{text_bytes, IsThere};
 ghost use Rattle.cpp_press.specs.Weight.{weight};
@@ -15,6 +15,7 @@ use crate::names::{
     is_operator, is_prefix, then_between, then_in_std, then_local, then_name, then_nested,
     then_piece, then_prefix,
 };
+use crate::stored::stored;
 use crate::task::{Task, Way, then_fixed, then_template, then_text, then_tree};
 use crate::texts::Text;
 use cpp_layout::{Symbol, special_front};
@@ -22,8 +23,9 @@ use cpp_tree::node::{Mark, Node};
 use sym_core::Refusal;
 
 /// Whether a type is compared with others: each that has more than letters is.
-#[tactic(auto, unfolding(crate::specs::Spelled::is_component, cpp_term::specs::Erased::erase, cpp_tree::specs::Nodes::tree_of))]
+#[tactic(auto, unfolding(crate::specs::Spelled::is_component, cpp_term::specs::Erased::erase, cpp_tree::specs::Nodes::tree_of, cpp_tree::specs::Nodes::is_again))]
 fn is_component(node: Node) -> bool
+    requires own { is_again node ≡ false }
     ensures { (y : ReadSymbol) → result ≡ is_component (node_tree y node) }
 {
     match node {
@@ -50,8 +52,9 @@ fn is_component(node: Node) -> bool
 }
 
 /// Whether a tree is compared with others where it stands. A function type right under qualifiers isn't.
-#[tactic(auto, unfolding(crate::specs::Spelled::is_component, crate::specs::Spelled::is_function_type, cpp_term::specs::Erased::erase, cpp_tree::specs::Nodes::tree_of))]
+#[tactic(auto, unfolding(crate::specs::Spelled::is_component, crate::specs::Spelled::is_function_type, cpp_term::specs::Erased::erase, cpp_tree::specs::Nodes::tree_of, cpp_tree::specs::Nodes::is_again))]
 pub fn is_compared(way: Way, node: Node) -> bool
+    requires own { is_again node ≡ false }
     ensures { (y : ReadSymbol) → result ≡ is_compared way (node_tree y node) }
 {
     match way {
@@ -114,13 +117,14 @@ fn then_function_type(
 }
 
 /// A type over other types (ABI 5.1.5).
-#[tactic(auto, unfolding(crate::specs::Spelled::compound_onto, cpp_term::specs::Erased::erase, cpp_tree::specs::Nodes::tree_of, crate::specs::Weight::weight, crate::specs::Bytes::text_bytes))]
+#[tactic(auto, unfolding(crate::specs::Spelled::compound_onto, cpp_term::specs::Erased::erase, cpp_tree::specs::Nodes::tree_of, cpp_tree::specs::Nodes::is_again, crate::specs::Weight::weight, crate::specs::Bytes::text_bytes))]
 fn then_compound(
     symbol: &Symbol,
     node: Node,
     encoding: u64,
     tasks: &mut Vec<Task>,
 ) -> Result<(), Refusal>
+    requires own { is_again node ≡ false }
     requires node { IsMade symbol.now node }
     requires tasks { AreTasks symbol.now tasks.old.items }
     ensures presses { OnOk result (press_tasks symbol.now tasks.new.items ≡ compound_onto encoding (node_tree symbol.now node) (press_tasks symbol.now tasks.old.items)) }
@@ -173,7 +177,7 @@ fn then_compound(
 }
 
 /// A name that is a type (ABI 5.1.5, `<class-enum-type> ::= <name>`): behind St an operator needs an N.
-#[tactic(auto, unfolding(crate::specs::Spelled::class_onto, cpp_term::specs::Erased::erase, cpp_tree::specs::Nodes::tree_of, crate::specs::Weight::weight, crate::specs::Bytes::text_bytes))]
+#[tactic(auto, unfolding(crate::specs::Spelled::class_onto, cpp_term::specs::Erased::erase, cpp_tree::specs::Nodes::tree_of, cpp_tree::specs::Nodes::is_again, crate::specs::Weight::weight, crate::specs::Bytes::text_bytes))]
 fn then_class(
     symbol: &Symbol,
     node: Node,
@@ -181,6 +185,7 @@ fn then_class(
     tasks: &mut Vec<Task>,
 ) -> Result<(), Refusal>
     requires table { IsTable (table_of symbol.now) }
+    requires own { is_again node ≡ false }
     requires node { IsMade symbol.now node }
     requires tasks { AreTasks symbol.now tasks.old.items }
     ensures presses { OnOk result (press_tasks symbol.now tasks.new.items ≡ class_onto encoding (node_tree symbol.now node) (press_tasks symbol.now tasks.old.items)) }
@@ -227,7 +232,7 @@ fn then_class(
 }
 
 /// A type (ABI 5.1.5, `<type>`).
-#[tactic(auto, unfolding(crate::specs::Spelled::type_onto, cpp_term::specs::Erased::erase, cpp_tree::specs::Nodes::tree_of, crate::specs::Weight::weight, crate::specs::Bytes::text_bytes))]
+#[tactic(auto, unfolding(crate::specs::Spelled::type_onto, cpp_term::specs::Erased::erase, cpp_tree::specs::Nodes::tree_of, cpp_tree::specs::Nodes::is_again, crate::specs::Weight::weight, crate::specs::Bytes::text_bytes))]
 fn then_type(
     symbol: &Symbol,
     node: Node,
@@ -235,6 +240,7 @@ fn then_type(
     tasks: &mut Vec<Task>,
 ) -> Result<(), Refusal>
     requires table { IsTable (table_of symbol.now) }
+    requires own { is_again node ≡ false }
     requires node { IsMade symbol.now node }
     requires tasks { AreTasks symbol.now tasks.old.items }
     ensures presses { OnOk result (press_tasks symbol.now tasks.new.items ≡ type_onto encoding (node_tree symbol.now node) (press_tasks symbol.now tasks.old.items)) }
@@ -263,7 +269,7 @@ fn then_type(
 }
 
 /// An argument of a template (ABI 5.1.5.8, `<template-arg>`).
-#[tactic(auto, unfolding(crate::specs::Spelled::argument_onto, cpp_term::specs::Erased::erase, cpp_tree::specs::Nodes::tree_of, crate::specs::Weight::weight, crate::specs::Bytes::text_bytes))]
+#[tactic(auto, unfolding(crate::specs::Spelled::argument_onto, cpp_term::specs::Erased::erase, cpp_tree::specs::Nodes::tree_of, cpp_tree::specs::Nodes::is_again, crate::specs::Weight::weight, crate::specs::Bytes::text_bytes))]
 fn then_argument(
     symbol: &Symbol,
     node: Node,
@@ -271,6 +277,7 @@ fn then_argument(
     tasks: &mut Vec<Task>,
 ) -> Result<(), Refusal>
     requires table { IsTable (table_of symbol.now) }
+    requires own { is_again node ≡ false }
     requires node { IsMade symbol.now node }
     requires tasks { AreTasks symbol.now tasks.old.items }
     ensures presses { OnOk result (press_tasks symbol.now tasks.new.items ≡ argument_onto encoding (node_tree symbol.now node) (press_tasks symbol.now tasks.old.items)) }
@@ -307,13 +314,14 @@ fn then_argument(
 }
 
 /// The parameters behind the first (ABI 5.1.5.3, `<bare-function-type> ::= <signature type>+`).
-#[tactic(auto, unfolding(crate::specs::Spelled::more_parameters_onto, cpp_term::specs::Erased::erase, cpp_tree::specs::Nodes::tree_of, crate::specs::Weight::weight, crate::specs::Bytes::text_bytes))]
+#[tactic(auto, unfolding(crate::specs::Spelled::more_parameters_onto, cpp_term::specs::Erased::erase, cpp_tree::specs::Nodes::tree_of, cpp_tree::specs::Nodes::is_again, crate::specs::Weight::weight, crate::specs::Bytes::text_bytes))]
 fn then_more_parameters(
     symbol: &Symbol,
     node: Node,
     encoding: u64,
     tasks: &mut Vec<Task>,
 ) -> Result<(), Refusal>
+    requires own { is_again node ≡ false }
     requires node { IsMade symbol.now node }
     requires tasks { AreTasks symbol.now tasks.old.items }
     ensures presses { OnOk result (press_tasks symbol.now tasks.new.items ≡ more_parameters_onto encoding (node_tree symbol.now node) (press_tasks symbol.now tasks.old.items)) }
@@ -332,13 +340,14 @@ fn then_more_parameters(
 }
 
 /// The parameters of a function (ABI 5.1.5.3, `<bare-function-type>`), of which none are a v.
-#[tactic(auto, unfolding(crate::specs::Spelled::parameters_onto, cpp_term::specs::Erased::erase, cpp_tree::specs::Nodes::tree_of, crate::specs::Weight::weight, crate::specs::Bytes::text_bytes))]
+#[tactic(auto, unfolding(crate::specs::Spelled::parameters_onto, cpp_term::specs::Erased::erase, cpp_tree::specs::Nodes::tree_of, cpp_tree::specs::Nodes::is_again, crate::specs::Weight::weight, crate::specs::Bytes::text_bytes))]
 fn then_parameters(
     symbol: &Symbol,
     node: Node,
     encoding: u64,
     tasks: &mut Vec<Task>,
 ) -> Result<(), Refusal>
+    requires own { is_again node ≡ false }
     requires node { IsMade symbol.now node }
     requires tasks { AreTasks symbol.now tasks.old.items }
     ensures presses { OnOk result (press_tasks symbol.now tasks.new.items ≡ parameters_onto encoding (node_tree symbol.now node) (press_tasks symbol.now tasks.old.items)) }
@@ -354,13 +363,14 @@ fn then_parameters(
 }
 
 /// The elements of a list (ABI 5.1.5.8, `<template-arg>+`).
-#[tactic(auto, unfolding(crate::specs::Spelled::elements_onto, cpp_term::specs::Erased::erase, cpp_tree::specs::Nodes::tree_of, crate::specs::Weight::weight, crate::specs::Bytes::text_bytes))]
+#[tactic(auto, unfolding(crate::specs::Spelled::elements_onto, cpp_term::specs::Erased::erase, cpp_tree::specs::Nodes::tree_of, cpp_tree::specs::Nodes::is_again, crate::specs::Weight::weight, crate::specs::Bytes::text_bytes))]
 fn then_elements(
     symbol: &Symbol,
     node: Node,
     encoding: u64,
     tasks: &mut Vec<Task>,
 ) -> Result<(), Refusal>
+    requires own { is_again node ≡ false }
     requires node { IsMade symbol.now node }
     requires tasks { AreTasks symbol.now tasks.old.items }
     ensures presses { OnOk result (press_tasks symbol.now tasks.new.items ≡ elements_onto encoding (node_tree symbol.now node) (press_tasks symbol.now tasks.old.items)) }
@@ -380,13 +390,14 @@ fn then_elements(
 
 /// An encoding that begins at a place (ABI 5.1, `<encoding>`; 5.1.4, `<special-name>`), or the whole symbol
 /// (`<mangled-name> ::= _Z <encoding>`).
-#[tactic(auto, unfolding(crate::specs::Spelled::encoding_onto, cpp_term::specs::Erased::erase, cpp_tree::specs::Nodes::tree_of, crate::specs::Weight::weight, crate::specs::Bytes::text_bytes, crate::specs::Tasks::in_way))]
+#[tactic(auto, unfolding(crate::specs::Spelled::encoding_onto, cpp_term::specs::Erased::erase, cpp_tree::specs::Nodes::tree_of, cpp_tree::specs::Nodes::is_again, crate::specs::Weight::weight, crate::specs::Bytes::text_bytes, crate::specs::Tasks::in_way))]
 fn then_encoding(
     symbol: &Symbol,
     node: Node,
     here: u64,
     tasks: &mut Vec<Task>,
 ) -> Result<(), Refusal>
+    requires own { is_again node ≡ false }
     requires node { IsMade symbol.now node }
     requires tasks { AreTasks symbol.now tasks.old.items }
     ensures presses { OnOk result (press_tasks symbol.now tasks.new.items ≡ encoding_onto here (node_tree symbol.now node) (press_tasks symbol.now tasks.old.items)) }
@@ -401,6 +412,7 @@ fn then_encoding(
             mark,
             returned,
             parameters,
+            ..
         } => {
             then_tree(symbol, parameters, Way::Parameters, here, tasks)?;
             then_tree(symbol, returned, Way::Type, here, tasks)?;
@@ -472,7 +484,7 @@ pub fn then_spelled(
     ensures tasks { OnOk result (AreTasks symbol.now tasks.new.items) }
     ensures memory { IfErr result (λ e. e ≡ Memory) }
 {
-    let is = symbol.stored(node);
+    let is = stored(symbol, node);
     match way {
         Way::Type => then_type(symbol, is, encoding, tasks)?,
         Way::UnderQualifiers => then_type(symbol, is, encoding, tasks)?,

@@ -1,11 +1,10 @@
 -- No two components that are compared and equal are both spelled out.
 use Rattle.std.specs.Prelude.{◌≡◌, ℕ, List, [], ◌∷◌, ◌++◌, ◌⊎◌, true, false}
-use Rattle.cpp_grammar.specs.Term.{Term, symbol, function, object, special, thunk, of_name, construction, clone, alone, in_std, within, instance, local, holder, tagged, of_default, lambda, conversion, pointer, lvalue, rvalue, array, bounded, member_pointer, function_type, qualified, vector, complex, expansion, integer, encoding_literal, address_of, pack, list}
-use Rattle.cpp_grammar.specs.Values.{Candidate}
+use Rattle.cpp_grammar.specs.Term.{Term, symbol, function, object, special, thunk, of_name, construction, clone, alone, in_std, within, instance, local, holder, tagged, of_default, lambda, generic_lambda, conversion, pointer, lvalue, rvalue, array, bounded, member_pointer, function_type, qualified, vector, complex, expansion, integer, encoding_literal, address_of, pack, list}
 use Rattle.cpp_press_laws.specs.Texts.{name_letters}
-use Rattle.cpp_press_laws.specs.Components.{is_same}
+use Rattle.cpp_press_laws.specs.Components.{Component, is_same}
 use Rattle.cpp_press_laws.specs.Pressing.{ways_of, pressed}
-use Rattle.cpp_press_laws.specs.MarkedComponents.{Component, candidates}
+use Rattle.cpp_press_laws.specs.MarkedComponents.{Marked, unmarked}
 use Rattle.cpp_press_laws.specs.MarkedPressing as marked
 
 -- ## Where no reference can stand
@@ -42,6 +41,7 @@ IsNeverReferred own (holder name) = IsNeverReferred own name
 IsNeverReferred own (tagged of_structor name tag) = IsNeverReferred own name
 IsNeverReferred own (of_default digits entity) = IsNeverReferred own entity
 IsNeverReferred own (lambda parameters k) = IsNeverReferred own parameters
+IsNeverReferred own (generic_lambda parameters number) = IsNeverReferred own parameters
 IsNeverReferred own (conversion type) = IsNeverReferred own type
 IsNeverReferred own (pointer type) = IsNeverReferred own type
 IsNeverReferred own (lvalue type) = IsNeverReferred own type
@@ -64,31 +64,31 @@ IsNeverReferred own _ = ⊥
 -- ## Components
 
 -- the components that pressing a symbol spells out
-unfoldable pub spelled_components : Term → List Candidate
+unfoldable pub spelled_components : Term → List Component
 spelled_components t = ((ways_of 0 t).as_encoding 0 []).components
 
 -- the same, each with whether it was compared with those before it where it stands
-unfoldable pub marked_components : Term → List Component
+unfoldable pub marked_components : Term → List Marked
 marked_components t = ((marked.ways_of 0 t).as_encoding 0 []).components
 
 -- What spells the components with their marks is the pressed spelling: it has the same bytes and the same components.
 abbrev pub ComponentsAreMarked : Type 0
 ComponentsAreMarked =
-    (t : Term) → (((marked.ways_of 0 t).as_encoding 0 []).bytes ≡ pressed t) × (candidates (marked_components t) ≡ spelled_components t)
+    (t : Term) → (((marked.ways_of 0 t).as_encoding 0 []).bytes ≡ pressed t) × (unmarked (marked_components t) ≡ spelled_components t)
 
 -- none of the components is equal to the tree, as one in an encoding is compared
-abbrev pub IsNew : (encoding : ℕ) → Term → List Candidate → Type 0
+abbrev pub IsNew : (encoding : ℕ) → Term → List Component → Type 0
 IsNew encoding own [] = Unit {0}
 IsNew encoding own (c ∷ cs) = (is_same encoding own c ≡ false) × IsNew encoding own cs
 
 -- A component that was compared with those before it is equal to none of them. One that wasn't is a template name in the tree that
 -- no reference can stand for.
-abbrev pub IsApart : (tree : Term) → (before : List Component) → Component → Type 0
+abbrev pub IsApart : (tree : Term) → (before : List Marked) → Marked → Type 0
 IsApart tree before c =
-    ((c.was_compared ≡ true) × IsNew c.candidate.encoding c.candidate.tree (candidates before))
-    ⊎ ((c.was_compared ≡ false) × IsNeverReferred c.candidate.tree tree)
+    ((c.was_compared ≡ true) × IsNew c.component.encoding c.component.tree (unmarked before))
+    ⊎ ((c.was_compared ≡ false) × IsNeverReferred c.component.tree tree)
 
-abbrev pub AreApartBehind : (tree : Term) → (before components : List Component) → Type 0
+abbrev pub AreApartBehind : (tree : Term) → (before components : List Marked) → Type 0
 AreApartBehind tree before [] = Unit {0}
 AreApartBehind tree before (c ∷ cs) = IsApart tree before c × AreApartBehind tree (before ++ c ∷ []) cs
 

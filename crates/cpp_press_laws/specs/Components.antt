@@ -1,5 +1,5 @@
 -- Components and the references to them (ABI 5.1.10). A component is what a substitution may name; components are numbered from 0
--- in the order in which their spellings end. Each is kept with the place where the encoding begins that it was spelled in.
+-- in the order in which their spellings end.
 use Rattle.std.specs.Prelude.{ℕ, zero, suc, ◌+◌, List, [], ◌∷◌, ◌++◌, Bool, true, false, not, ◌&&◌, ◌||◌, nat_eq, codes, Option, Some, None}
 use Rattle.sym_spell.specs.Pressing as spell
 use Rattle.sym_spell.specs.Pressing.{◌and◌, text, letter}
@@ -9,16 +9,26 @@ use Rattle.cpp_grammar.specs.Scope.{is_open}
 use Rattle.cpp_grammar.specs.Values.{Candidate}
 use Rattle.cpp_press_laws.specs.Same.{same_tree}
 
+-- a tree, and the place where the encoding begins in which it was spelled
+pub record Component : Type 0 where
+  pub tree : Term
+  pub encoding : ℕ
+
+-- what a reader's candidates are as components
+unfoldable pub components_of : List Candidate → List Component
+components_of [] = []
+components_of (c ∷ cs) = record { tree = c.tree; encoding = c.encoding } ∷ components_of cs
+
 -- spellings, whose components stand in the order of their numbers
 abbrev pub Spelling : Type 0
-Spelling = spell.Pressing Candidate
+Spelling = spell.Pressing Component
 
 -- A free parameter stands for an argument of its encoding, so a tree that has one is compared with those of its encoding alone.
-unfoldable pub is_same : (encoding : ℕ) → Term → Candidate → Bool
+unfoldable pub is_same : (encoding : ℕ) → Term → Component → Bool
 is_same encoding own c = same_tree own c.tree && (not (is_open own) || nat_eq c.encoding encoding)
 
 -- the number of the first component that is equal to a tree, where these are numbered from here on
-unfoldable pub first_equal : (encoding : ℕ) → Term → (from : ℕ) → List Candidate → Option ℕ
+unfoldable pub first_equal : (encoding : ℕ) → Term → (from : ℕ) → List Component → Option ℕ
 first_equal encoding own from [] = None
 first_equal encoding own from (c ∷ cs) = elim (is_same encoding own c) [ true ↦ Some from | false ↦ first_equal encoding own (from + 1) cs ]
 

@@ -6,14 +6,14 @@ use Rattle.sym_spell.specs.Pressing.{◌and◌, text}
 use Rattle.cpp_grammar.specs.declared.kind.Kind.{Kind}
 use Rattle.cpp_grammar.specs.declared.production.Production.{Production}
 use Rattle.cpp_grammar.specs.Grammar.{choose}
-use Rattle.cpp_grammar.specs.Term.{Qualifiers, RefQualifier, Adjustment, non_virtual, by_table, Thunk, adjusting, covariant, Term, symbol, function, object, special, thunk, of_name, construction, clone, alone, in_std, within, instance, local, holder, tagged, of_default, abbreviation, parameter, source, operator, literal_operator, constructor, destructor, lambda, unnamed, string_literal, conversion, builtin, sized_float, generic_parameter, vendor, pointer, lvalue, rvalue, array, bounded, member_pointer, function_type, qualified, vector, complex, expansion, integer, boolean, null_pointer, encoding_literal, address_of, pack, nil, list, absent}
+use Rattle.cpp_grammar.specs.Term.{Qualifiers, RefQualifier, Adjustment, non_virtual, by_table, Thunk, adjusting, covariant, Term, symbol, function, object, special, thunk, of_name, construction, clone, alone, in_std, within, instance, local, holder, tagged, of_default, abbreviation, parameter, source, operator, literal_operator, constructor, destructor, lambda, generic_lambda, unnamed, string_literal, conversion, builtin, sized_float, vendor, pointer, lvalue, rvalue, array, bounded, member_pointer, function_type, qualified, vector, complex, expansion, integer, boolean, null_pointer, encoding_literal, address_of, pack, nil, list, absent}
 use Rattle.cpp_grammar.specs.Scope.{count, element, length_if_pack, has_return_type, is_open}
 use Rattle.cpp_grammar.specs.References.{packs_in}
-use Rattle.cpp_grammar.specs.Values.{Candidate, Prefix, outermost, behind, Around}
+use Rattle.cpp_grammar.specs.Values.{Prefix, outermost, behind, Around}
 use Rattle.cpp_grammar.specs.Between.{in_name, in_types, in_signature, under_expansion, after, inside}
 use Rattle.cpp_grammar.specs.Meaning.{is_void, is_nil}
 use Rattle.cpp_press_laws.specs.Texts.{qualifier_letters, name_letters, thunk_text}
-use Rattle.cpp_press_laws.specs.Components.{Spelling, ended, reference, first_equal}
+use Rattle.cpp_press_laws.specs.Components.{Component, Spelling, ended, reference, first_equal}
 use Rattle.cpp_press_laws.specs.Pressing.{ways_of, is_operator, is_encoding}
 use Rattle.cpp_press_laws.specs.Spellable.{IsSpellableName, AreSpellableDigits, IsSpellableNumber, IsOperator, AreSuffixBytes}
 
@@ -32,7 +32,7 @@ pub record MayBeReferred (around : Around) (allowed : Option ℕ) (t : Term) : T
 
 -- at a place behind components
 abbrev pub Standing : Type 1
-Standing = (place : ℕ) → List Candidate → Type 0
+Standing = (place : ℕ) → List Component → Type 0
 
 -- in surroundings, where packs may have a length
 abbrev pub Fitting : Type 1
@@ -43,7 +43,7 @@ abbrev pub Behind : Spelling → Standing → Standing
 Behind spelling stands place cs = stands (place + length (spelling place cs).bytes) (spelling place cs).components
 
 -- no equal component stands before
-abbrev pub IsFirst : Around → Term → List Candidate → Type 0
+abbrev pub IsFirst : Around → Term → List Component → Type 0
 IsFirst around own cs = first_equal around.encoding own 0 cs ≡ None
 
 -- a component: it may be referred to, and where no equal one stands before, it can be spelled out
@@ -286,14 +286,14 @@ fits_of (special l type) =
 fits_of (thunk kind e) =
     encoding_fits (λ allowed here cs. IsSpellableThunk kind × Behind (text (thunk_text kind)) ((fits_of e).as_encoding allowed) here cs)
 fits_of (of_name l name q ref) = encoding_fits (λ allowed here cs. (l ≡ 86) × (fits_of name).as_name q ref (in_name here) allowed (here + 2) cs)
--- construction vtables, clones, what holds others in its initializer, floats of so many bits, conversions, and entities of default arguments
--- are read by the wide grammar alone
+-- construction vtables, clones, what holds others in its initializer, lambdas with parameters of their own, conversions, floats of so many
+-- bits, and entities of default arguments are read by the wide grammar alone
 fits_of (construction derived digits parent) = fits_nowhere
 fits_of (clone letter e) = fits_nowhere
 fits_of (holder name) = fits_nowhere
+fits_of (generic_lambda parameters number) = fits_nowhere
 fits_of (conversion type) = fits_nowhere
 fits_of (sized_float digits end) = fits_nowhere
-fits_of (generic_parameter number) = fits_nowhere
 fits_of (bounded bound type) = fits_nowhere
 fits_of (of_default digits entity) = fits_nowhere
 -- a piece alone

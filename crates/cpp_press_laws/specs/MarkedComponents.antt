@@ -4,26 +4,25 @@ use Rattle.std.specs.Prelude.{ℕ, List, [], ◌∷◌, ◌++◌, Bool, true, fa
 use Rattle.sym_spell.specs.Pressing as spell
 use Rattle.sym_spell.specs.Pressing.{◌and◌, text}
 use Rattle.cpp_grammar.specs.Term.{Term}
-use Rattle.cpp_grammar.specs.Values.{Candidate}
-use Rattle.cpp_press_laws.specs.Components.{first_equal, seq_id}
+use Rattle.cpp_press_laws.specs.Components.{Component, first_equal, seq_id}
 
-pub record Component : Type 0 where
-  pub candidate : Candidate
+pub record Marked : Type 0 where
+  pub component : Component
   pub was_compared : Bool
 
 -- what the components are, without their marks
-abbrev pub candidates : List Component → List Candidate
-candidates [] = []
-candidates (c ∷ cs) = c.candidate ∷ candidates cs
+abbrev pub unmarked : List Marked → List Component
+unmarked [] = []
+unmarked (c ∷ cs) = c.component ∷ unmarked cs
 
 abbrev pub Spelling : Type 0
-Spelling = spell.Pressing Component
+Spelling = spell.Pressing Marked
 
 -- the tree is a component from here on
 unfoldable pub ended : (was_compared : Bool) → (encoding : ℕ) → Term → Spelling
 ended was_compared encoding own place components = record {
   bytes = [];
-  components = components ++ record { candidate = record { tree = own; encoding = encoding }; was_compared = was_compared } ∷ [];
+  components = components ++ record { component = record { tree = own; encoding = encoding }; was_compared = was_compared } ∷ [];
 }
 
 -- one that was compared with those before it and is equal to none of them; one that wasn't compared
@@ -39,7 +38,7 @@ reference number = text (codes "S" ++ seq_id number ++ codes "_")
 -- one spelling behind a reference to the tree where an equal component stands before, or else another
 unfoldable pub referred : (encoding : ℕ) → Term → (behind other : Spelling) → Spelling
 referred encoding own behind other place components =
-    elim (first_equal encoding own 0 (candidates components)) [
+    elim (first_equal encoding own 0 (unmarked components)) [
       | Some number ↦ (reference number and behind) place components
       | None ↦ other place components
     ]
@@ -47,7 +46,7 @@ referred encoding own behind other place components =
 -- a reference to the first component that is equal to the tree, or its spelling
 unfoldable pub component : (encoding : ℕ) → Term → Spelling → Spelling
 component encoding own spelling place components =
-    elim (first_equal encoding own 0 (candidates components)) [
+    elim (first_equal encoding own 0 (unmarked components)) [
       | Some number ↦ reference number place components
       | None ↦ (spelling and compared encoding own) place components
     ]

@@ -2,25 +2,25 @@
 use Rattle.std.specs.Prelude.{◌≡◌, List, [], ◌∷◌, ◌++◌, ◌⊎◌, Bool, true, false, ◌||◌}
 use Rattle.cpp_grammar.specs.Term.{Term}
 use Rattle.cpp_grammar.specs.Scope.{is_open}
-use Rattle.cpp_grammar.specs.Values.{Candidate}
+use Rattle.cpp_press_laws.specs.Components.{Component}
 use Rattle.cpp_press_laws.specs.Same.{same_tree}
 use Rattle.cpp_press_laws.specs.Apart.{IsNeverReferred, spelled_components}
 
 -- one of the components has the tree, in whatever encoding
-unfoldable pub is_spelled : Term → List Candidate → Bool
+unfoldable pub is_spelled : Term → List Component → Bool
 is_spelled own [] = false
 is_spelled own (c ∷ cs) = same_tree own c.tree || is_spelled own cs
 
-unfoldable pub repeated : (before components : List Candidate) → List Candidate
+unfoldable pub repeated : (before components : List Component) → List Component
 repeated before [] = []
 repeated before (c ∷ cs) = elim (is_spelled c.tree before) [ true ↦ c ∷ repeated (before ++ c ∷ []) cs | false ↦ repeated (before ++ c ∷ []) cs ]
 
 -- of a symbol's tree
-abbrev pub repeated_components : Term → List Candidate
+abbrev pub repeated_components : Term → List Component
 repeated_components t = repeated [] (spelled_components t)
 
 -- each has free parameters, or is a template name in the tree that no reference can stand for
-abbrev pub HaveReasons : Term → (repeated : List Candidate) → Type 0
+abbrev pub HaveReasons : Term → (repeated : List Component) → Type 0
 HaveReasons tree [] = Unit {0}
 HaveReasons tree (c ∷ cs) = ((is_open c.tree ≡ true) ⊎ IsNeverReferred c.tree tree) × HaveReasons tree cs
 

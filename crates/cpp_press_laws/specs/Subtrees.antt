@@ -10,20 +10,20 @@ use Rattle.cpp_grammar.specs.Grammar.{number_of_kind}
 use Rattle.cpp_grammar.specs.Table.{abi}
 use Rattle.cpp_grammar.specs.Term.{Term}
 use Rattle.cpp_grammar.specs.Scope.{count}
-use Rattle.cpp_grammar.specs.Values.{Candidate, State, Around, Value, tree}
+use Rattle.cpp_grammar.specs.Values.{State, Around, Value, tree}
 use Rattle.cpp_grammar.specs.Unfolding.{cpp}
 use Rattle.cpp_press_laws.specs.Pressing.{ways_of}
 use Rattle.cpp_press_laws.specs.PressLaws.{IsReadFrom}
 use Rattle.cpp_press_laws.specs.Fits.{Fitting, any_type, SymbolFits, fits_of}
-use Rattle.cpp_press_laws.specs.Components.{Spelling}
+use Rattle.cpp_press_laws.specs.Components.{Component, components_of, Spelling}
 
 -- ## What it means that a spelling is read
 
 -- what was written, and the components behind it
 abbrev pub Written : Type 0
-Written = spell.Pressed Candidate
+Written = spell.Pressed Component
 
-abbrev pub written : (bytes : List ℕ) → (components : List Candidate) → Written
+abbrev pub written : (bytes : List ℕ) → (components : List Component) → Written
 written bytes components = record { bytes = bytes; components = components }
 
 -- the packs that the innermost expansion has named so far have the length that they may have
@@ -40,13 +40,13 @@ pub record Reads (around : Around) (allowed : Option ℕ) (symbol : Sym) (Q : Va
   pub good : Q value
   pub state : State
   pub unfolds : unfold_tree cpp around place shape start ≡ Ok (found (value ∷ []) state)
-  pub candidates : state.candidates ≡ w.components
+  pub candidates : components_of state.candidates ≡ w.components
   pub packs : IsAllowed allowed state.packs
 
 -- at a place behind components, in any state there
-abbrev pub ReadsAt : Around → Option ℕ → Sym → (Value → Type 0) → (place : ℕ) → List Candidate → Written → Type 0
+abbrev pub ReadsAt : Around → Option ℕ → Sym → (Value → Type 0) → (place : ℕ) → List Component → Written → Type 0
 ReadsAt around allowed symbol Q place components w =
-    (s : State) → s.candidates ≡ components → IsAllowed allowed s.packs → Reads around allowed symbol Q place s w
+    (s : State) → components_of s.candidates ≡ components → IsAllowed allowed s.packs → Reads around allowed symbol Q place s w
 
 -- the value of a part is one that is known
 abbrev pub Is : Value → Value → Type 0
@@ -73,7 +73,7 @@ IsSmall around = (arguments : Term) → around.scope ≡ Some arguments → coun
 -- candidates, where the tree fits and its numbers have 64 bits.
 abbrev pub IsReadBehind : Kind → Term → (ℕ → Spelling) → Fitting → Type 0
 IsReadBehind kind t spelled fits =
-    (around : Around) (allowed : Option ℕ) (place : ℕ) (cs : List Candidate) → IsSmall around → HasRoom (spelled around.encoding place cs)
+    (around : Around) (allowed : Option ℕ) (place : ℕ) (cs : List Component) → IsSmall around → HasRoom (spelled around.encoding place cs)
     → fits around allowed place cs
     → ReadsAt around allowed (OfKind (number_of_kind kind)) (Is (tree t true)) place cs (spelled around.encoding place cs)
 

@@ -25,11 +25,11 @@ use Rattle.cpp_grammar.specs.Between.{in_name, no_items, between}
 use Rattle.cpp_grammar.specs.Meaning.{meaning, encoding_of, parameters}
 use Rattle.cpp_grammar.specs.Unfolding.{opening, close, production_at, byte_of}
 use Rattle.cpp_grammar.proofs.Choosing.{kinds_numbered, number_at, either_rule_at, is_either_kind}
-use Rattle.cpp_grammar.proofs.ClosedValues.{AllGood, GoodPrefix, held, good_tree, good_part}
-use Rattle.cpp_grammar.proofs.ClosedStates.{Bare, AllOld, old_later, old_grows, ok_same, behind_bind}
+use Rattle.cpp_grammar.proofs.ClosedValues.{good_where, AllGood, GoodPrefix, held, good_tree, good_part}
+use Rattle.cpp_grammar.proofs.ClosedStates.{Bare, Within, AllOld, old_later, old_grows, ok_same, behind_bind}
 use Rattle.cpp_grammar.proofs.ClosedParts.{StaysInside}
-use Rattle.cpp_grammar.proofs.Ways.{Way, reading_by, abi_way, is_reference}
-use Rattle.cpp_grammar.proofs.ClosedTrees.{is_encoding, has_encoding, opens, or_true, at_number, its_symbols, stays, takes_byte, Whole, same_rule, opening_keeps, all_append, good_fits, old_fits, grows_fits, old_inner, one_good, known, name_comes, same_found, stepped, inner_closes, KeepsClosed, opens_apart, forest_good, tree_good_by, trees_good_by}
+use Rattle.cpp_grammar.proofs.Ways.{has_signature, Way, reading_by, abi_way, differs}
+use Rattle.cpp_grammar.proofs.ClosedTrees.{is_encoding, has_encoding, opens, or_true, at_number, its_symbols, stays, takes_byte, Whole, same_rule, opening_keeps, all_append, old_fits, grows_fits, old_inner, one_good, known, name_comes, same_found, stepped, inner_closes, KeepsClosed, opens_apart, forest_good, tree_good_by, trees_good_by}
 use Rattle.cpp_term.proofs.KindsNoted.{all_open, is_special_kind, in_special, may_be_special, encodings_open, special_types}
 use Rattle.cpp_term.proofs.MeaningNoted.{Inside}
 
@@ -143,15 +143,23 @@ plain_keeps Production.LocalType h around place [] state n e = goes_on [] around
 plain_keeps Production.LocalType h around place (v ∷ vs) state n e = goes_on (v ∷ vs) _ state n e
 plain_keeps _ h around place vs state n e = absurd (false≢true h)
 
-encodings_apart : (p : Production) → has_encoding (parts_of p) ≡ true → is_reference p ≡ false
-unfolding has_encoding is_encoding parts_of number_of_kind is_reference
+encodings_apart : (p : Production) → has_encoding (parts_of p) ≡ true → differs p ≡ false
+unfolding has_encoding is_encoding parts_of number_of_kind differs
 encodings_apart Production.Parameter h = absurd (false≢true h)
 encodings_apart Production.NestParameter h = absurd (false≢true h)
+encodings_apart Production.Lambda h = absurd (false≢true h)
 encodings_apart Production.Substitution h = absurd (false≢true h)
 encodings_apart Production.ParameterArgument h = absurd (false≢true h)
 encodings_apart Production.ParameterExpression h = absurd (false≢true h)
 encodings_apart Production.BoundedArray h = absurd (false≢true h)
 encodings_apart _ h = refl
+
+special_apart : (p : Production) → in_special p ≡ true → has_signature p ≡ false
+unfolding in_special has_signature
+special_apart Production.Lambda h = absurd (false≢true h)
+special_apart Production.ValueOf h = absurd (false≢true h)
+special_apart Production.OfConcept h = absurd (false≢true h)
+special_apart _ h = refl
 
 abbrev Encodings : List Sym → List Value → Type 0
 Encodings [] vs = Unit {0}
@@ -210,43 +218,43 @@ inside_values _ vs plain all special = first_of (cc, search tt)
 
 module _ (way : Way) (keeps : KeepsClosed way) where
   special_closed : (f : Forest) (rule : Open State Around) (from : ℕ) (state : State) (r : Found (List Value) State) → production_at rule.rule.number ≡ Production.Special →
-      AreTrees either (parts_of Production.Special) f → rule.context.encoding < rule.place → rule.place ≤ from → AllOld rule.context rule.place state.candidates →
+      AreTrees either (parts_of Production.Special) f → rule.context.encoding < rule.place → rule.place ≤ from → AllOld way.own rule.context rule.place state.candidates →
       unfold_forest (reading_by way) rule [] from f state ≡ Ok r → is_open (tree_of (part r.value 0)) ≡ false
-  unfolding is_reference reading_by parts_of number_of_kind between is_encoding nameless_ part in_name
+  unfolding differs reading_by parts_of number_of_kind between is_encoding nameless_ part in_name
   special_closed (grown t nothing) rule from state r is trees lt le old e =
       let around = rule.context in
       let at = rule.place in
       let s = stepped way keeps rule [] from state t nothing r (nameless_ at [] state) (ap (λ p. way.between p around at [] state) is ∙ keeps.plain.between Production.Special refl around at [] state) e in
-      let c = name_comes way keeps t (tree_good_by way keeps t) (OfKind SPECIAL) at from state s.part (known 5 (lit≤ tt)) trees.0 refl le (old_later (in_name at) at from state.candidates le (old_inner around at state.candidates lt old)) s.is in
+      let c = name_comes way keeps t (tree_good_by way keeps t) (OfKind SPECIAL) at from state s.part (known 5 (lit≤ tt)) trees.0 refl le (old_later way.own (in_name at) at from state.candidates le (old_inner way.own around at state.candidates lt old)) s.is in
       let same : found (c.value ∷ []) s.part.state ≡ r = same_found [] s.part.value (c.value ∷ []) s.part.state r c.is s.rest in
-      subst (λ x. is_open (tree_of (part x.value 0)) ≡ false) same ((good_tree (Bare (in_name at)) c.value c.good).closed refl)
+      subst (λ x. is_open (tree_of (part x.value 0)) ≡ false) same ((good_tree (Bare way.own (in_name at)) c.value c.good).closed (refl, λ o. refl))
   special_closed nothing rule from state r is trees lt le old e = absurd trees
   special_closed (grown t (grown u f)) rule from state r is trees lt le old e = absurd trees.1
 
   other_special_closed : (f : Forest) (rule : Open State Around) (from : ℕ) (state : State) (r : Found (List Value) State) → production_at rule.rule.number ≡ Production.OtherSpecial →
-      AreTrees either (parts_of Production.OtherSpecial) f → rule.context.encoding < rule.place → rule.place ≤ from → AllOld rule.context rule.place state.candidates →
+      AreTrees either (parts_of Production.OtherSpecial) f → rule.context.encoding < rule.place → rule.place ≤ from → AllOld way.own rule.context rule.place state.candidates →
       unfold_forest (reading_by way) rule [] from f state ≡ Ok r → is_open (tree_of (part r.value 1)) ≡ false
-  unfolding is_reference reading_by parts_of number_of_kind between is_encoding nameless_ part in_name
+  unfolding differs reading_by parts_of number_of_kind between is_encoding nameless_ part in_name
   other_special_closed (grown t (grown u nothing)) rule from state r is trees lt le old e =
       let around = rule.context in
       let at = rule.place in
       let first = stepped way keeps rule [] from state t (grown u nothing) r (nameless_ at [] state) (ap (λ p. way.between p around at [] state) is ∙ keeps.plain.between Production.OtherSpecial refl around at [] state) e in
-      let old0 = old_later (in_name at) at from state.candidates le (old_inner around at state.candidates lt old) in
+      let old0 = old_later way.own (in_name at) at from state.candidates le (old_inner way.own around at state.candidates lt old) in
       let c = name_comes way keeps t (tree_good_by way keeps t) (OfKind SPECIAL_MARK) at from state first.part (known SPECIAL_MARK (lit≤ tt)) trees.0 refl le old0 first.is in
       let next = from + length (spell t) in
       let vs = c.value ∷ [] in
       let onward = subst (λ ws. unfold_forest (reading_by way) rule ws next (grown u nothing) first.part.state ≡ Ok r) c.is first.rest in
       let second = stepped way keeps rule vs next first.part.state u nothing r (nameless_ at vs first.part.state) (ap (λ p. way.between p around at vs first.part.state) is ∙ keeps.plain.between Production.OtherSpecial refl around at vs first.part.state) onward in
-      let old1 = old_grows (in_name at) from next state first.part.state (omega arith) old0 c.grows in
+      let old1 = old_grows way.own (in_name at) from next state first.part.state (omega arith) old0 c.grows in
       let d = name_comes way keeps u (tree_good_by way keeps u) (OfKind SPECIAL_AFTER_G) at next first.part.state second.part (known SPECIAL_AFTER_G (lit≤ tt)) trees.1.0 refl (omega (arith, le)) old1 second.is in
       let same : found (c.value ∷ d.value ∷ []) second.part.state ≡ r = same_found vs second.part.value (d.value ∷ []) second.part.state r d.is second.rest in
-      subst (λ x. is_open (tree_of (part x.value 1)) ≡ false) same ((good_tree (Bare (in_name at)) d.value d.good).closed refl)
+      subst (λ x. is_open (tree_of (part x.value 1)) ≡ false) same ((good_tree (Bare way.own (in_name at)) d.value d.good).closed (refl, λ o. refl))
   other_special_closed nothing rule from state r is trees lt le old e = absurd trees
   other_special_closed (grown t nothing) rule from state r is trees lt le old e = absurd trees.1
   other_special_closed (grown t (grown u (grown v f))) rule from state r is trees lt le old e = absurd trees.1.1
 
   inner_closed : (p : Production) → opens p ≡ true → (f : Forest) (rule : Open State Around) (from : ℕ) (state : State) (r : Found (List Value) State) → production_at rule.rule.number ≡ p → AreTrees either (parts_of p) f →
-      rule.context.encoding < rule.place → rule.place ≤ from → AllOld rule.context rule.place state.candidates → unfold_forest (reading_by way) rule [] from f state ≡ Ok r →
+      rule.context.encoding < rule.place → rule.place ≤ from → AllOld way.own rule.context rule.place state.candidates → unfold_forest (reading_by way) rule [] from f state ≡ Ok r →
       (byte : ℕ) (around : Around) → is_open (tree_of (meaning p byte around r.value)) ≡ false
   unfolding opens meaning tree_of is_open
   inner_closed Production.Encoding o f rule from state r is trees lt le old e byte around = closed_encoding (part r.value 0) (no_items (part r.value 1))
@@ -256,7 +264,7 @@ module _ (way : Way) (keeps : KeepsClosed way) where
   inner_closed Production.Mark o f rule from state r is trees lt le old e byte around = absurd (false≢true o)
   inner_closed _ o f rule from state r is trees lt le old e byte around = absurd (false≢true o)
 
-  encoded_closed : (t : Tree) (around : Around) (at : ℕ) (state : State) (r : Found (List Value) State) → IsTree either (OfKind ENCODING) t → around.encoding < at → AllOld around at state.candidates →
+  encoded_closed : (t : Tree) (around : Around) (at : ℕ) (state : State) (r : Found (List Value) State) → IsTree either (OfKind ENCODING) t → around.encoding < at → AllOld way.own around at state.candidates →
       unfold_tree (reading_by way) around at t state ≡ Ok r → is_open (tree_of (part r.value 0)) ≡ false
   unfolding reading_by part tree_of is_open
   encoded_closed (branch rule taken parts) around at state r tree less old e =
@@ -289,7 +297,7 @@ module _ (way : Way) (keeps : KeepsClosed way) where
 
   forest_closed : (f : Forest) (rule : Open State Around) (xs : List Sym) (vs : List Value) (at : ℕ) (state : State) (r : Found (List Value) State) →
       StaysInside (production_at rule.rule.number) → Keeps way (production_at rule.rule.number) → AreSymbols either xs → AreTrees either xs f → rule.context.encoding ≤ at → (has_encoding xs ≡ true → rule.context.encoding < at) →
-      GoodPrefix (Bare rule.context) rule.context.prefix → AllGood (Bare rule.context) vs → AllOld rule.context at state.candidates → unfold_forest (reading_by way) rule vs at f state ≡ Ok r → Reads xs vs r
+      GoodPrefix (Bare way.own rule.context) rule.context.prefix → AllGood (Within way.own (production_at rule.rule.number) rule.context) vs → AllOld way.own rule.context at state.candidates → unfold_forest (reading_by way) rule vs at f state ≡ Ok r → Reads xs vs r
   unfolding reading_by has_encoding part
   forest_closed nothing rule [] vs at state r stays keep known trees le inside pre good old e =
       record { more = []; is = ap (λ x. x.value) (sym (ok_same (found vs state) r e)) ∙ sym (append-nil vs); closed = tt }
@@ -304,15 +312,15 @@ module _ (way : Way) (keeps : KeepsClosed way) where
       let g = keeps.goes (production_at rule.rule.number) around rule.place vs state n at stays pre good b.is in
       let c = behind_bind (unfold_tree (reading_by way) n.context at t n.state) (λ part. unfold_forest (reading_by way) rule (n.values ++ part.value) (at + length (spell t)) f part.state) r b.next in
       let this = c.value in
-      let old1 = old_grows around at at state n.state (omega arith) old g.grows in
-      let old3 = old_fits around n.context at n.state.candidates g.fits old1 in
+      let old1 = old_grows way.own around at at state n.state (omega arith) old g.grows in
+      let old3 = old_fits way.own around n.context at n.state.candidates g.fits old1 in
       let tree = tree_good_by way keeps t x n.context at n.state this known.0 trees.0 (omega (arith, g.fits.encoding, le)) (λ opening. omega (arith, g.fits.encoding, inside (or_first (is_encoding x) (has_encoding xs) opening)))
       g.fits.prefix old3 c.is in
-      let grown1 = grows_fits around n.context later n.state this.state g.fits tree.grows in
-      let old2 = old_grows around at later n.state this.state (omega arith) old1 grown1 in
-      let good1 = one_good (Bare around) tree.value this.value tree.is (good_fits around n.context (held tree.value) g.fits tree.good) in
+      let grown1 = grows_fits way.own around n.context later n.state this.state g.fits tree.grows in
+      let old2 = old_grows way.own around at later n.state this.state (omega arith) old1 grown1 in
+      let good1 = one_good (Within way.own (production_at rule.rule.number) around) tree.value this.value tree.is (good_where (Bare way.own n.context) (Within way.own (production_at rule.rule.number) around) (held tree.value) g.bare tree.good) in
       let rest = forest_closed f rule xs (n.values ++ this.value) later this.state r stays keep known.1 trees.1 (omega (arith, le))
-      (λ opening. omega (arith, inside (or_true (is_encoding x) (has_encoding xs) opening))) pre (all_append (Bare around) n.values this.value g.values good1) old2 c.next in
+      (λ opening. omega (arith, inside (or_true (is_encoding x) (has_encoding xs) opening))) pre (all_append (Within way.own (production_at rule.rule.number) around) n.values this.value g.values good1) old2 c.next in
       record {
         more = tree.value ∷ rest.more;
         is = rest.is ∙ ap (λ us. (us ++ this.value) ++ rest.more) (keep around rule.place vs state n b.is) ∙ ap (λ us. (vs ++ us) ++ rest.more) tree.is ∙ append_assoc vs (tree.value ∷ []) rest.more;
@@ -328,7 +336,7 @@ module _ (way : Way) (keeps : KeepsClosed way) where
 
   -- Encodings among the parts of a production have no free parameters.
   pub insides : (p : Production) (rule : Rule) (taken : List ℕ) (parts : Forest) (k : ℕ) (around : Around) (at : ℕ) (state : State) (inner : Found (List Value) State) → rule ≡ rule_of p → opens p ≡ false → k < either.kinds →
-      IsTree either (OfKind k) (branch rule taken parts) → around.encoding ≤ at → (is_special_kind k ≡ true → Bare around) → GoodPrefix (Bare around) around.prefix → AllOld around at state.candidates →
+      IsTree either (OfKind k) (branch rule taken parts) → around.encoding ≤ at → (is_special_kind k ≡ true → Bare way.own around) → GoodPrefix (Bare way.own around) around.prefix → AllOld way.own around at state.candidates →
       unfold_forest (reading_by way) (Whole rule taken at around state) [] (at + length taken) parts state ≡ Ok inner → Inside p inner.value
   insides p rule taken parts k around at state inner is plain lt tree le special pre old e =
       let whole = Whole rule taken at around state in
@@ -337,7 +345,7 @@ module _ (way : Way) (keeps : KeepsClosed way) where
       let from = at + length taken in
       let symbols = either_sound.symbols k tree.0.byte rule lt tree.0.is_byte tree.0.found in
       let same : symbols_of rule ≡ parts_of p = ap symbols_of is ∙ its_symbols p in
-      let old0 = old_later around at from state.candidates (omega arith) old in
+      let old0 = old_later way.own around at from state.candidates (omega arith) old in
       inside_values p inner.value plain
       (λ has.
       let reads = forest_closed parts whole (symbols_of rule) [] from state inner inside_ (subst (λ q. Keeps way q) (sym number) (keeps_values p has)) symbols tree.1 (omega (arith, le))
@@ -346,4 +354,5 @@ module _ (way : Way) (keeps : KeepsClosed way) where
       (λ is_special part_number.
       let all = forest_good way keeps parts (trees_good_by way keeps parts) whole (symbols_of rule) [] from state inner inside_ symbols tree.1 (omega (arith, le))
       (λ any. omega (arith, le, takes_byte p rule k taken is tree.0 any)) pre tt old0 e in
-      (good_part (Bare around) inner.value part_number all.good).closed (special (special_kind p k rule taken is lt tree.0 is_special)))
+      (good_part (Within way.own (production_at rule.number) around) inner.value part_number all.good).closed
+      (special (special_kind p k rule taken is lt tree.0 is_special), λ own. ap has_signature number ∙ special_apart p is_special))

@@ -1,5 +1,5 @@
 -- The two readings of C++ over trees with arguments, as one, and what makes one of them the annotated form of one without.
-use Rattle.std.proofs.Common.{◌≡◌, refl, ℕ, List, [], ◌∷◌, Bool, true, false, Result, Ok}
+use Rattle.std.proofs.Common.{◌≡◌, refl, ℕ, List, [], ◌∷◌, false, Result, Ok}
 use Rattle.std.proofs.lemmas.Bool.{true≢false}
 use Rattle.sym_core.specs.declared.refusal.Refusal.{Refusal}
 use Rattle.sym_link.specs.Reading.{Found, Reading}
@@ -8,15 +8,15 @@ use Rattle.cpp_grammar.specs.declared.production.Production.{Production}
 use Rattle.cpp_grammar.specs.Values as leaf_
 use Rattle.cpp_grammar.specs.Unfolding.{production_at, byte_of}
 use Rattle.cpp_grammar.proofs.ClosedParts.{StaysInside}
-use Rattle.cpp_grammar.proofs.Ways.{Way, abi_way, wide_way, is_reference}
+use Rattle.cpp_grammar.proofs.Ways.{Way, abi_way, wide_way, differs}
 use Rattle.cpp_term.specs.Values.{State, Around, Value, nothing_there, text}
 use Rattle.cpp_term.specs.Between.{Going, between}
 use Rattle.cpp_term.specs.Unfolding.{opening, close}
 use Rattle.cpp_term.specs.Rescoping.{between_wide, close_wide}
-use Rattle.cpp_term.specs.Annotated.{noted_scope, noted_values, noted_around}
+use Rattle.cpp_term.specs.Annotated.{noted_values, noted_around}
 use Rattle.cpp_term.proofs.MeaningNoted.{Inside}
-use Rattle.cpp_term.proofs.StatesNoted.{Alike, Same, Comes}
-use Rattle.cpp_term.proofs.BetweenNoted.{Goes, between_noted, close_noted, wide_between_noted, wide_close_noted}
+use Rattle.cpp_term.proofs.StatesNoted.{Settled, Alike, Same, Comes}
+use Rattle.cpp_term.proofs.BetweenNoted.{parts_place, Goes, between_noted, close_noted, wide_between_noted, wide_close_noted}
 
 pub record NotedWay : Type 0 where
   pub between : Production → Around → (place : ℕ) → List Value → State → Going
@@ -39,29 +39,29 @@ wide_noted = record { between = between_wide; close = close_wide }
 
 -- but for references it goes as in the reading of the ABI's grammar
 pub record IsPlainNoted (v : NotedWay) : Type 0 where
-  pub between : (p : Production) → is_reference p ≡ false → (around : Around) (place : ℕ) (vs : List Value) (state : State) → v.between p around place vs state ≡ between p around place vs state
-  pub close : (p : Production) → is_reference p ≡ false → (byte : ℕ) (around : Around) (place : ℕ) (began : State) (vs : List Value) (state : State) →
+  pub between : (p : Production) → differs p ≡ false → (around : Around) (place : ℕ) (vs : List Value) (state : State) → v.between p around place vs state ≡ between p around place vs state
+  pub close : (p : Production) → differs p ≡ false → (byte : ℕ) (around : Around) (place : ℕ) (began : State) (vs : List Value) (state : State) →
       v.close p byte around place began vs state ≡ close p byte around place began vs state
 
 -- within an encoding it goes as the other does, with arguments
 pub record IsNotedBy (w : Way) (v : NotedWay) : Type 0 where
   pub plain : IsPlainNoted v
-  pub goes : (production : Production) (around : leaf_.Around) (place : ℕ) (vs : List leaf_.Value) (x : leaf_.State) (y : State) → StaysInside production → y.packs ≡ x.packs →
-      Alike (Goes around x y) (w.between production around place vs x) (v.between production (noted_around around) place (noted_values (noted_scope around.scope) vs) y)
+  pub goes : (production : Production) (around : leaf_.Around) (place : ℕ) (vs : List leaf_.Value) (x : leaf_.State) (y : State) → StaysInside production → Settled around → y.packs ≡ x.packs →
+      Alike (Goes w.own (parts_place w.own production around) around x y) (w.between production around place vs x) (v.between production (noted_around w.own around) place (noted_values (parts_place w.own production around) vs) y)
   pub comes : (production : Production) (byte : ℕ) (around : leaf_.Around) (place : ℕ) (began : leaf_.State) (first : State) (vs : List leaf_.Value) (x : leaf_.State) (y : State) → Inside production vs →
-      Same around x y → first.packs ≡ began.packs →
-      Alike (Comes around x y) (w.close production byte around place began vs x) (v.close production byte (noted_around around) place first (noted_values (noted_scope around.scope) vs) y)
+      Settled around → Same w.own around x y → first.packs ≡ began.packs →
+      Alike (Comes w.own around x y) (w.close production byte around place began vs x) (v.close production byte (noted_around w.own around) place first (noted_values (parts_place w.own production around) vs) y)
 
 pub abi_is_noted : IsNotedBy abi_way abi_noted
 unfolding abi_way abi_noted
 abi_is_noted = record {
   plain = record { between = λ p apart around place vs state. refl; close = λ p apart byte around place began vs state. refl };
-  goes = between_noted;
+  goes = λ production around place vs x y stays settled packs. between_noted false production around place vs x y stays packs;
   comes = close_noted;
 }
 
-plain_between : (p : Production) → is_reference p ≡ false → (around : Around) (place : ℕ) (vs : List Value) (state : State) → between_wide p around place vs state ≡ between p around place vs state
-unfolding is_reference between_wide
+plain_between : (p : Production) → differs p ≡ false → (around : Around) (place : ℕ) (vs : List Value) (state : State) → between_wide p around place vs state ≡ between p around place vs state
+unfolding differs between_wide
 plain_between Production.Parameter apart around place vs state = absurd (true≢false apart)
 plain_between Production.NestParameter apart around place vs state = absurd (true≢false apart)
 plain_between Production.ParameterArgument apart around place vs state = absurd (true≢false apart)
@@ -69,10 +69,11 @@ plain_between Production.ParameterExpression apart around place vs state = absur
 plain_between Production.BoundedArray apart around place vs state = absurd (true≢false apart)
 plain_between _ apart around place vs state = refl
 
-plain_close : (p : Production) → is_reference p ≡ false → (byte : ℕ) (around : Around) (place : ℕ) (began : State) (vs : List Value) (state : State) →
+plain_close : (p : Production) → differs p ≡ false → (byte : ℕ) (around : Around) (place : ℕ) (began : State) (vs : List Value) (state : State) →
     close_wide p byte around place began vs state ≡ close p byte around place began vs state
-unfolding is_reference close_wide
+unfolding differs close_wide
 plain_close Production.Substitution apart byte around place began vs state = absurd (true≢false apart)
+plain_close Production.Lambda apart byte around place began vs state = absurd (true≢false apart)
 plain_close _ apart byte around place began vs state = refl
 
 pub wide_is_noted : IsNotedBy wide_way wide_noted

@@ -4,18 +4,17 @@ use Prim.Native.String.{String}
 use Rattle.sym_print.specs.declared.detail.Detail.{Detail}
 use Rattle.sym_print.specs.Details.{has_arguments, has_parameters}
 use Rattle.sym_print.specs.Unfold.{PartOf, text, sub}
-use Rattle.cpp_grammar.specs.Term.{Qualifiers, RefQualifier, Signed, Term, symbol, function, object, of_name, alone, in_std, within, instance, local, holder, tagged, of_default, abbreviation, parameter, source, operator, constructor, destructor, lambda, builtin, sized_float, pointer, lvalue, rvalue, array, bounded, member_pointer, function_type, qualified, expansion, integer, pack, nil, list, absent}
+use Rattle.cpp_grammar.specs.Term.{Qualifiers, RefQualifier, Signed, Term, symbol, function, object, of_name, alone, in_std, within, instance, local, holder, tagged, of_default, abbreviation, parameter, source, operator, constructor, destructor, lambda, generic_lambda, builtin, sized_float, pointer, lvalue, rvalue, array, bounded, member_pointer, function_type, qualified, expansion, integer, pack, nil, list, absent}
 use Rattle.cpp_grammar.specs.Scope.{arguments_of, without_tags}
-use Rattle.cpp_grammar.specs.Items.{Form, root, full, bare, left, right, low, base, piece, first, more, expand, Context, Item, closed, argument, head, is_reference, is_funarr, packs_of, is_empty}
+use Rattle.cpp_grammar.specs.Items.{Form, root, full, bare, left, right, low, base, piece, first, more, expand, Context, signature_in, Item, closed, argument, head, is_reference, is_funarr, packs_of, is_empty}
 use Rattle.cpp_grammar.specs.Parts as leaf_
 use Rattle.cpp_grammar.specs.Parts.{qualifier_text, ref_text, blank_last, encoding_text, is_below}
 use Rattle.cpp_grammar.specs.Texts.{look_up, named_special_texts, literal_endings}
-use Rattle.cpp_term.specs.Term as term_
 use Rattle.cpp_term.specs.Items as item_
 use Rattle.cpp_term.specs.Scope as scope_
 use Rattle.cpp_term.specs.Parts as part_
-use Rattle.cpp_term.specs.Annotated.{argument_in, annotate, noted_scope, noted_context, noted_item, noted_part, noted_parts}
-use Rattle.cpp_term.proofs.Notes.{both, scope_noted, argument_noted, packs_of_noted, head_noted, empty_noted}
+use Rattle.cpp_term.specs.Annotated.{Place, nowhere, place_of, place_in, context_place, argument_in, annotate, noted_scope, noted_context, noted_item, noted_part, noted_parts}
+use Rattle.cpp_term.proofs.Notes.{both, types_place, argument_noted, packs_of_noted, head_noted, empty_noted}
 
 noted_append : (xs ys : List (PartOf Item)) → noted_parts (xs ++ ys) ≡ noted_parts xs ++ noted_parts ys
 unfolding noted_parts
@@ -39,8 +38,8 @@ choice true false xs ys us ws e f g = absurd cc
 choice false true xs ys us ws e f g = absurd cc
 
 -- the scope of a context, annotated
-abbrev at : Context → Option term_.Term
-at c = noted_scope c.scope
+abbrev at : Context → Place
+at c = context_place c
 
 list_noted : (form : Form) (c : Context) (t : Term) → part_.list_part form (noted_context c) (annotate (at c) t) ≡ noted_parts (leaf_.list_part form c t)
 unfolding part_.list_part leaf_.list_part annotate noted_parts noted_part noted_item
@@ -48,9 +47,11 @@ list_noted form c nil = refl
 list_noted form c _ = refl
 
 piece_noted : (c : Context) (t : Term) → part_.piece_parts (noted_context c) (annotate (at c) t) ≡ noted_parts (leaf_.piece_parts c t)
-unfolding part_.piece_parts leaf_.piece_parts annotate noted_parts noted_part noted_item
+unfolding part_.piece_parts leaf_.piece_parts annotate noted_parts noted_part noted_item noted_context place_in
 piece_noted c (lambda parameters number) = ap (λ ps. text (codes "{lambda(") ∷ ps)
     (joins (leaf_.list_part first c parameters) _ (part_.list_part first (noted_context c) (annotate (at c) parameters)) _ (list_noted first c parameters) refl)
+piece_noted c (generic_lambda parameters number) = ap (λ ps. text (codes "{lambda(") ∷ ps)
+    (joins (leaf_.list_part first (signature_in c) parameters) _ (part_.list_part first (noted_context (signature_in c)) (annotate (at (signature_in c)) parameters)) _ (list_noted first (signature_in c) parameters) refl)
 piece_noted c (source internal bytes) = refl
 piece_noted c _ = refl
 
@@ -65,12 +66,12 @@ within_noted c prefix (constructor digit) = refl
 within_noted c prefix (destructor digit) = refl
 within_noted c prefix p = ap (λ i. i ∷ part_.says "::" ∷ part_.as_item piece (noted_context c) (annotate (at c) p) ∷ []) (prefix_noted c prefix)
 
-opening_noted : (s : Option term_.Term) (t : Term) → part_.opening_text (annotate s t) ≡ leaf_.opening_text t
+opening_noted : (s : Place) (t : Term) → part_.opening_text (annotate s t) ≡ leaf_.opening_text t
 unfolding part_.opening_text leaf_.opening_text annotate
 opening_noted s (operator a b) = refl
 opening_noted s _ = refl
 
-last_noted : (s : Option term_.Term) (t : Term) → part_.opening_text (part_.last_piece (annotate s t)) ≡ leaf_.opening_text (leaf_.last_piece t)
+last_noted : (s : Place) (t : Term) → part_.opening_text (part_.last_piece (annotate s t)) ≡ leaf_.opening_text (leaf_.last_piece t)
 unfolding part_.last_piece leaf_.last_piece annotate
 last_noted s (alone p) = opening_noted s p
 last_noted s (in_std p) = opening_noted s p
@@ -117,14 +118,14 @@ sign_noted n = go n.negative
     go true = refl
     go false = refl
 
-plain_noted : (s : Option term_.Term) (t : Term) → part_.is_plain_integer (annotate s t) ≡ leaf_.is_plain_integer t
+plain_noted : (s : Place) (t : Term) → part_.is_plain_integer (annotate s t) ≡ leaf_.is_plain_integer t
 unfolding part_.is_plain_integer leaf_.is_plain_integer annotate
 plain_noted s (builtin []) = refl
 plain_noted s (builtin (c ∷ [])) = refl
 plain_noted s (builtin (c ∷ d ∷ ds)) = refl
 plain_noted s _ = refl
 
-code_noted : (s : Option term_.Term) (t : Term) → part_.builtin_code (annotate s t) ≡ leaf_.builtin_code t
+code_noted : (s : Place) (t : Term) → part_.builtin_code (annotate s t) ≡ leaf_.builtin_code t
 unfolding part_.builtin_code leaf_.builtin_code annotate
 code_noted s (builtin code) = refl
 code_noted s _ = refl
@@ -151,7 +152,7 @@ unfolding part_.array_left leaf_.array_left noted_parts noted_part noted_item
 array_noted c t = choice (is_funarr (head c t)) (is_funarr (item_.head (noted_context c) (annotate (at c) t))) _ _ _ _ (ap is_funarr (head_noted c t)) refl refl
 
 named_noted : (c : Context) (form : Form) (k : ℕ) → (part_.as_item form item_.closed (item_.argument (noted_context c) (argument_in (at c) k)) ∷ []) ≡ noted_parts (leaf_.as_item form closed (argument c k) ∷ [])
-unfolding noted_parts noted_part noted_item noted_context noted_scope
+unfolding noted_parts noted_part noted_item noted_context noted_scope place_in place_of
 named_noted c form k = ap (λ t. part_.as_item form item_.closed t ∷ []) (argument_noted c k)
 
 float_noted : (digits : List ℕ) (end : ℕ) → part_.float_parts digits end ≡ noted_parts (leaf_.float_parts digits end)
@@ -171,7 +172,7 @@ entity_noted c form (symbol e suffix) = refl
 entity_noted c form _ = refl
 
 left_noted : (d : Detail) (c : Context) (t : Term) → part_.left_parts d (noted_context c) (annotate (at c) t) ≡ noted_parts (leaf_.left_parts d c t)
-unfolding part_.left_parts leaf_.left_parts annotate noted_parts noted_part noted_item noted_context noted_scope
+unfolding part_.left_parts leaf_.left_parts annotate noted_parts noted_part noted_item noted_context noted_scope place_in place_of
 left_noted d c (alone p) = piece_noted c p
 left_noted d c (within prefix p) = within_noted c prefix p
 left_noted d c (instance template arguments) = instance_noted (has_arguments d) c template arguments
@@ -238,12 +239,12 @@ base_within_noted c prefix (constructor digit) = refl
 base_within_noted c prefix (destructor digit) = refl
 base_within_noted c prefix p = piece_noted c p
 
-untagged_noted : (s : Option term_.Term) (t : Term) → scope_.without_tags (annotate s t) ≡ annotate s (without_tags t)
+untagged_noted : (s : Place) (t : Term) → scope_.without_tags (annotate s t) ≡ annotate s (without_tags t)
 unfolding scope_.without_tags without_tags annotate
 untagged_noted s (tagged of_structor name tag) = untagged_noted s name
 untagged_noted s _ = refl
 
-own_noted : (s : Option term_.Term) (t : Term) → part_.own_piece (annotate s t) ≡ annotate s (leaf_.own_piece t)
+own_noted : (s : Place) (t : Term) → part_.own_piece (annotate s t) ≡ annotate s (leaf_.own_piece t)
 unfolding part_.own_piece leaf_.own_piece annotate
 own_noted s (alone p) = refl
 own_noted s (in_std p) = refl
@@ -273,43 +274,43 @@ base_noted d c t = left_noted d c t
 -- ## Encodings
 
 bare_noted : (all : Bool) (name : Term) (q : Qualifiers) (ref : RefQualifier) (parameters : Term) →
-    part_.function_bare all (annotate None name) q ref (annotate (noted_scope (arguments_of name)) parameters) ≡ noted_parts (leaf_.function_bare all name q ref parameters)
-unfolding part_.function_bare leaf_.function_bare part_.types_of leaf_.types_of noted_parts noted_part noted_item noted_context noted_scope
+    part_.function_bare all (annotate nowhere name) q ref (annotate (place_in (arguments_of name) false) parameters) ≡ noted_parts (leaf_.function_bare all name q ref parameters)
+unfolding part_.function_bare leaf_.function_bare part_.types_of leaf_.types_of noted_parts noted_part noted_item noted_context noted_scope place_in place_of
 bare_noted false name q ref parameters = refl
 bare_noted true name q ref parameters =
     joins (leaf_.as_item left closed name ∷ leaf_.says "(" ∷ leaf_.list_part first (leaf_.types_of name) parameters) (leaf_.says ")" ∷ leaf_.text_part (encoding_text q ref)) _
     (part_.says ")" ∷ part_.text_part (encoding_text q ref))
-    (ap (λ ps. part_.as_item left item_.closed (annotate None name) ∷ part_.says "(" ∷ ps) (list_noted first (leaf_.types_of name) parameters))
+    (ap (λ ps. part_.as_item left item_.closed (annotate nowhere name) ∷ part_.says "(" ∷ ps) (list_noted first (leaf_.types_of name) parameters))
     (ap (λ ps. part_.says ")" ∷ ps) (text_noted (encoding_text q ref)))
 
 whole_noted : (all : Bool) (name : Term) (q : Qualifiers) (ref : RefQualifier) (returned parameters : Term) →
-    part_.function_full all (annotate None name) q ref (annotate (noted_scope (arguments_of name)) returned) (annotate (noted_scope (arguments_of name)) parameters)
+    part_.function_full all (annotate nowhere name) q ref (annotate (place_in (arguments_of name) false) returned) (annotate (place_in (arguments_of name) false) parameters)
     ≡ noted_parts (leaf_.function_full all name q ref returned parameters)
 unfolding part_.function_full leaf_.function_full annotate part_.types_of leaf_.types_of noted_parts noted_part noted_item noted_context
 whole_noted false name q ref returned parameters = bare_noted false name q ref parameters
 whole_noted true name q ref absent parameters = bare_noted true name q ref parameters
 whole_noted true name q ref returned parameters =
     let types = leaf_.types_of name in
-    let s = noted_scope (arguments_of name) in
-    joins (leaf_.as_item left types returned ∷ leaf_.says " " ∷ []) (leaf_.function_bare true name q ref parameters ++ (leaf_.as_item right types returned ∷ [])) _ (part_.function_bare true (annotate None name) q ref (annotate s parameters) ++ (part_.as_item right item_.closed (annotate s returned) ∷ []))
+    let s = place_in (arguments_of name) false in
+    joins (leaf_.as_item left types returned ∷ leaf_.says " " ∷ []) (leaf_.function_bare true name q ref parameters ++ (leaf_.as_item right types returned ∷ [])) _ (part_.function_bare true (annotate nowhere name) q ref (annotate s parameters) ++ (part_.as_item right item_.closed (annotate s returned) ∷ []))
     refl
-    (joins (leaf_.function_bare true name q ref parameters) (leaf_.as_item right types returned ∷ []) (part_.function_bare true (annotate None name) q ref (annotate s parameters)) (part_.as_item right item_.closed (annotate s returned) ∷ []) (bare_noted true name q ref parameters) refl)
+    (joins (leaf_.function_bare true name q ref parameters) (leaf_.as_item right types returned ∷ []) (part_.function_bare true (annotate nowhere name) q ref (annotate s parameters)) (part_.as_item right item_.closed (annotate s returned) ∷ []) (bare_noted true name q ref parameters) refl)
 
-full_noted : (d : Detail) (s : Option term_.Term) (t : Term) → part_.full_parts d (annotate s t) ≡ noted_parts (leaf_.full_parts d t)
-unfolding part_.full_parts leaf_.full_parts annotate noted_parts noted_part noted_item noted_context noted_scope
+full_noted : (d : Detail) (s : Place) (t : Term) → part_.full_parts d (annotate s t) ≡ noted_parts (leaf_.full_parts d t)
+unfolding part_.full_parts leaf_.full_parts annotate noted_parts noted_part noted_item noted_context noted_scope place_in place_of
 full_noted d s (function name q ref returned parameters) =
-    ap (λ r. part_.function_full (has_parameters d) (annotate None name) q ref (annotate r returned) (annotate r parameters)) (scope_noted name) ∙ whole_noted (has_parameters d) name q ref returned parameters
-full_noted d s (object name q ref) = ap (λ ps. part_.as_item left item_.closed (annotate None name) ∷ ps) (text_noted (encoding_text q ref))
-full_noted d s (of_name letter name q ref) = ap (λ ps. text (look_up (letter ∷ []) named_special_texts) ∷ part_.as_item left item_.closed (annotate None name) ∷ ps) (text_noted (encoding_text q ref))
+    ap (λ r. part_.function_full (has_parameters d) (annotate nowhere name) q ref (annotate r returned) (annotate r parameters)) (types_place name) ∙ whole_noted (has_parameters d) name q ref returned parameters
+full_noted d s (object name q ref) = ap (λ ps. part_.as_item left item_.closed (annotate nowhere name) ∷ ps) (text_noted (encoding_text q ref))
+full_noted d s (of_name letter name q ref) = ap (λ ps. text (look_up (letter ∷ []) named_special_texts) ∷ part_.as_item left item_.closed (annotate nowhere name) ∷ ps) (text_noted (encoding_text q ref))
 full_noted d s _ = refl
 
-bare_all_noted : (d : Detail) (s : Option term_.Term) (t : Term) → part_.bare_parts d (annotate s t) ≡ noted_parts (leaf_.bare_parts d t)
+bare_all_noted : (d : Detail) (s : Place) (t : Term) → part_.bare_parts d (annotate s t) ≡ noted_parts (leaf_.bare_parts d t)
 unfolding part_.bare_parts leaf_.bare_parts annotate
-bare_all_noted d s (function name q ref returned parameters) = ap (λ r. part_.function_bare (has_parameters d) (annotate None name) q ref (annotate r parameters)) (scope_noted name) ∙ bare_noted (has_parameters d) name q ref parameters
+bare_all_noted d s (function name q ref returned parameters) = ap (λ r. part_.function_bare (has_parameters d) (annotate nowhere name) q ref (annotate r parameters)) (types_place name) ∙ bare_noted (has_parameters d) name q ref parameters
 bare_all_noted d s t = full_noted d s t
 
-root_noted : (s : Option term_.Term) (t : Term) → part_.root_parts (annotate s t) ≡ noted_parts (leaf_.root_parts t)
-unfolding part_.root_parts leaf_.root_parts annotate noted_parts noted_part noted_item noted_context noted_scope
+root_noted : (s : Place) (t : Term) → part_.root_parts (annotate s t) ≡ noted_parts (leaf_.root_parts t)
+unfolding part_.root_parts leaf_.root_parts annotate noted_parts noted_part noted_item noted_context noted_scope place_in place_of
 root_noted s (symbol e []) = refl
 root_noted s (symbol e (b ∷ bs)) = refl
 root_noted s _ = refl

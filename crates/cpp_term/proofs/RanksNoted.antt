@@ -7,7 +7,7 @@ use Rattle.sym_print.specs.declared.detail.Detail.{Detail}
 use Rattle.sym_print.specs.Details.{has_arguments, has_parameters}
 use Rattle.sym_print.specs.Unfold.{PartOf, text, sub, RanksBelow}
 use Rattle.cpp_grammar.specs.Term.{Qualifiers, RefQualifier, Signed}
-use Rattle.cpp_term.specs.Term.{Term, symbol, function, object, special, thunk, of_name, construction, clone, alone, in_std, within, instance, local, holder, tagged, of_default, abbreviation, parameter, source, constructor, destructor, lambda, conversion, pointer, lvalue, rvalue, array, bounded, member_pointer, function_type, qualified, expansion, integer, pack, nil, list, absent, sized_float, generic_parameter}
+use Rattle.cpp_term.specs.Term.{Term, symbol, function, object, special, thunk, of_name, construction, clone, alone, in_std, within, instance, local, holder, tagged, of_default, abbreviation, parameter, source, constructor, destructor, lambda, generic_lambda, conversion, pointer, lvalue, rvalue, array, bounded, member_pointer, function_type, qualified, expansion, integer, pack, nil, list, absent, sized_float}
 use Rattle.cpp_term.specs.Scope.{element, pack_length, without_tags}
 use Rattle.cpp_grammar.specs.Items.{Form, root, full, bare, left, right, low, base, piece, first, more, expand, is_reference, is_funarr}
 use Rattle.cpp_term.specs.Items.{Context, Item, indexed, argument, head, packs_of, is_empty}
@@ -81,6 +81,7 @@ piece_falls : (r : ℕ) (c : Context) (p : Term) → weight_in c p ≤ r → Ran
 unfolding piece_parts rank rank_in weight_in weight
 piece_falls r c (source internal name) h = tt
 piece_falls r c (lambda parameters number) h = falls_append r (list_part first c parameters) _ (falls_first r c parameters (omega arith)) tt
+piece_falls r c (generic_lambda parameters number) h = falls_append r (list_part first c parameters) _ (falls_first r c parameters (omega arith)) tt
 piece_falls r c (conversion t) h = (omega (arith, h), (omega (arith, h), tt))
 piece_falls r c _ h = tt
 
@@ -169,7 +170,6 @@ left_falls d c (rvalue t) = left_reference_falls _ c t "&&" (omega arith)
 left_falls d c (array digits t) = array_falls _ c t (omega arith)
 left_falls d c (bounded bound t) = array_falls _ c t (omega arith)
 left_falls d c (member_pointer class t) = member_falls _ c class t (omega arith) (omega arith)
-left_falls d c (generic_parameter number) = (omega arith, tt)
 left_falls d c (qualified q t) = qualified_falls _ c q t (omega arith)
 left_falls d c (expansion t) = expansion_falls c t (packs_of c t)
 left_falls d c (pack elements) = falls_first _ c elements (omega arith)
@@ -211,7 +211,6 @@ right_falls c (member_pointer class t) = closing_falls _ c t (omega arith)
 right_falls c (array digits t) = falls_append _ (says "[" ∷ text_part digits) _ (falls_text _ digits) (omega arith, tt)
 right_falls c (bounded bound t) = (omega arith, (omega arith, tt))
 right_falls c (function_type c_linkage noexcept ref returned parameters) = function_right_falls _ c [] ref noexcept returned parameters (omega arith) (omega arith)
-right_falls c (generic_parameter number) = (omega arith, tt)
 right_falls c (qualified q t) = qualified_right_falls c q t
 right_falls c (parameter k a) = (argument_weight c a, tt)
 right_falls c _ = first_of (assumption tt, grind arith)

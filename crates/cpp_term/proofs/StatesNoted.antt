@@ -1,25 +1,27 @@
 -- What runs along with the bytes, annotated: the candidates of an encoding by its scope, and closed ones in any way.
 use Rattle.std.proofs.Common.{◌≡◌, refl, ap, sym, ◌∙◌, subst, ℕ, zero, suc, List, [], ◌∷◌, ◌++◌, Bool, true, false, not, ◌||◌, ◌&&◌, nat_eq, nat_lt, slice_get, Option, Some, None, Result, Ok, Err}
-use Rattle.std.proofs.lemmas.Bool.{eqb-true}
+use Rattle.std.proofs.lemmas.Bool.{eqb-true, true≢false, false≢true}
 use Rattle.std.proofs.lemmas.List.{append_assoc, append-nil}
 use Rattle.sym_core.specs.declared.refusal.Refusal.{Refusal}
 use Rattle.sym_core.specs.declared.refusal.Refusal.TheVariants.{BadReference}
 use Rattle.sym_link.specs.Reading.{Found, ◌>>=◌}
 use Rattle.sym_link.specs.Unfold.{found}
-use Rattle.cpp_grammar.specs.Term.{Term, parameter, generic_parameter, pointer, lvalue, rvalue, qualified, function_type}
-use Rattle.cpp_grammar.specs.Scope.{count, element, is_open, length_if_pack}
+use Rattle.cpp_grammar.specs.Term.{Term, parameter, function_type}
+use Rattle.cpp_grammar.specs.Scope.{count, element, is_open, length_if_pack, pack_length, Free, none_free, one_free, several_free, free_in}
 use Rattle.cpp_grammar.specs.Values as leaf_
 use Rattle.cpp_grammar.specs.Values.{Around, Prefix, prefix_tree, prefix_listed, Value, State, Candidate, tree_of, is_listed}
 use Rattle.cpp_grammar.specs.References.{appended, is_function_type, with_type, with_unqualified, with_prefix, with_packs, packs_in, substituted, parameter_named}
-use Rattle.cpp_grammar.specs.Rescoping.{is_foreign, number_of_parameter, number_behind_mark, with_parameter, in_scope, restated, substituted_wide}
+use Rattle.cpp_grammar.specs.Rescoping.{is_foreign, in_scope, with_free, restated, substituted_wide}
 use Rattle.cpp_term.specs.Term as term_
 use Rattle.cpp_term.specs.Scope as scope_
 use Rattle.cpp_term.specs.Values as value_
 use Rattle.cpp_term.specs.References as noted_
 use Rattle.cpp_term.specs.Rescoping as wide_
-use Rattle.cpp_term.specs.Annotated.{argument_in, annotate, noted_scope, noted_value, noted_prefix, noted_around}
-use Rattle.cpp_term.proofs.Notes.{both, count_noted, element_noted, open_noted, generic_noted, closed_noted, length_noted, packs_noted}
-use Rattle.cpp_term.proofs.MeaningNoted.{tree_noted, listed_noted, prefix_tree_noted, prefix_listed_noted}
+use Rattle.cpp_term.specs.Items as item_
+use Rattle.cpp_term.specs.Reargued.{reargued}
+use Rattle.cpp_term.specs.Annotated.{Place, nowhere, around_place, place_in, in_own, in_arguments, argument_in, annotate, noted_scope, noted_value, noted_prefix, noted_around}
+use Rattle.cpp_term.proofs.Notes.{both, count_noted, element_noted, open_noted, closed_noted, length_noted, packs_noted, NameThis, renoted, free_noted}
+use Rattle.cpp_term.proofs.MeaningNoted.{three, tree_noted, listed_noted, prefix_tree_noted, prefix_listed_noted}
 
 -- ## Results
 
@@ -39,112 +41,113 @@ alike_bind R Q (Err e) (Ok b) f g r next = absurd r
 -- ## Candidates
 
 -- a candidate with its arguments, for what stands in an encoding
-pub record IsNoted (around : Around) (c : Candidate) (d : value_.Candidate) : Type 0 where
+pub record IsNoted (own : Bool) (around : Around) (c : Candidate) (d : value_.Candidate) : Type 0 where
   pub encoding : d.encoding ≡ c.encoding
   -- the scope by which it was annotated
-  pub by : Option term_.Term
+  pub by : Place
   pub like : d.tree ≡ annotate by c.tree
-  pub closed : is_open c.tree ≡ false → d.tree ≡ annotate None c.tree
-  pub here : c.encoding ≡ around.encoding → around.in_lambda ≡ false → d.tree ≡ annotate (noted_scope around.scope) c.tree
+  pub closed : is_open c.tree ≡ false → d.tree ≡ annotate nowhere c.tree
+  pub in_lambda : d.in_lambda ≡ c.in_lambda
+  pub here : c.encoding ≡ around.encoding → around.in_lambda ≡ false → (own ≡ true → c.in_lambda ≡ false) → d.tree ≡ annotate (around_place own around) c.tree
 
-abbrev pub AllNoted : Around → List Candidate → List value_.Candidate → Type 0
-AllNoted around [] [] = Unit {0}
-AllNoted around (c ∷ cs) (d ∷ ds) = IsNoted around c d × AllNoted around cs ds
-AllNoted around _ _ = ⊥
+abbrev pub AllNoted : (own : Bool) → Around → List Candidate → List value_.Candidate → Type 0
+AllNoted own around [] [] = Unit {0}
+AllNoted own around (c ∷ cs) (d ∷ ds) = IsNoted own around c d × AllNoted own around cs ds
+AllNoted own around _ _ = ⊥
 
 -- two states that are alike
-pub record Same (around : Around) (x : State) (y : value_.State) : Type 0 where
+pub record Same (own : Bool) (around : Around) (x : State) (y : value_.State) : Type 0 where
   pub packs : y.packs ≡ x.packs
-  pub all : AllNoted around x.candidates y.candidates
+  pub all : AllNoted own around x.candidates y.candidates
 
 -- from two states to two others: candidates are appended
-pub record Moves (around : Around) (x : State) (y : value_.State) (later : State) (noted : value_.State) : Type 0 where
+pub record Moves (own : Bool) (around : Around) (x : State) (y : value_.State) (later : State) (noted : value_.State) : Type 0 where
   pub more : List Candidate
   pub others : List value_.Candidate
   pub is : later.candidates ≡ x.candidates ++ more
   pub so : noted.candidates ≡ y.candidates ++ others
-  pub each : AllNoted around more others
+  pub each : AllNoted own around more others
   pub packs : noted.packs ≡ later.packs
 
-pub all_append : (around : Around) (cs es : List Candidate) (ds fs : List value_.Candidate) → AllNoted around cs ds → AllNoted around es fs → AllNoted around (cs ++ es) (ds ++ fs)
-all_append around [] es [] fs f g = g
-all_append around (c ∷ cs) es (d ∷ ds) fs f g = (f.0, all_append around cs es ds fs f.1 g)
-all_append around [] es (d ∷ ds) fs f g = absurd f
-all_append around (c ∷ cs) es [] fs f g = absurd f
+pub all_append : (own : Bool) (around : Around) (cs es : List Candidate) (ds fs : List value_.Candidate) → AllNoted own around cs ds → AllNoted own around es fs → AllNoted own around (cs ++ es) (ds ++ fs)
+all_append own around [] es [] fs f g = g
+all_append own around (c ∷ cs) es (d ∷ ds) fs f g = (f.0, all_append own around cs es ds fs f.1 g)
+all_append own around [] es (d ∷ ds) fs f g = absurd f
+all_append own around (c ∷ cs) es [] fs f g = absurd f
 
-pub same_moves : (around : Around) (x later : State) (y noted : value_.State) → Same around x y → Moves around x y later noted → Same around later noted
-same_moves around x later y noted same m = record {
+pub same_moves : (own : Bool) (around : Around) (x later : State) (y noted : value_.State) → Same own around x y → Moves own around x y later noted → Same own around later noted
+same_moves own around x later y noted same m = record {
   packs = m.packs;
-  all = subst (λ cs. AllNoted around cs noted.candidates) (sym m.is) (subst (λ ds. AllNoted around (x.candidates ++ m.more) ds) (sym m.so) (all_append around x.candidates m.more y.candidates m.others same.all m.each));
+  all = subst (λ cs. AllNoted own around cs noted.candidates) (sym m.is) (subst (λ ds. AllNoted own around (x.candidates ++ m.more) ds) (sym m.so) (all_append own around x.candidates m.more y.candidates m.others same.all m.each));
 }
 
-pub moves_none : (around : Around) (x later : State) (y noted : value_.State) → later.candidates ≡ x.candidates → noted.candidates ≡ y.candidates → noted.packs ≡ later.packs → Moves around x y later noted
-moves_none around x later y noted e g packs = record { more = []; others = []; is = e ∙ sym (append-nil x.candidates); so = g ∙ sym (append-nil y.candidates); each = tt; packs = packs }
+pub moves_none : (own : Bool) (around : Around) (x later : State) (y noted : value_.State) → later.candidates ≡ x.candidates → noted.candidates ≡ y.candidates → noted.packs ≡ later.packs → Moves own around x y later noted
+moves_none own around x later y noted e g packs = record { more = []; others = []; is = e ∙ sym (append-nil x.candidates); so = g ∙ sym (append-nil y.candidates); each = tt; packs = packs }
 
-pub moves_then : (around : Around) (x u w : State) (y v z : value_.State) → Moves around x y u v → Moves around u v w z → Moves around x y w z
-moves_then around x u w y v z m n = record {
+pub moves_then : (own : Bool) (around : Around) (x u w : State) (y v z : value_.State) → Moves own around x y u v → Moves own around u v w z → Moves own around x y w z
+moves_then own around x u w y v z m n = record {
   more = m.more ++ n.more;
   others = m.others ++ n.others;
   is = n.is ∙ ap (λ cs. cs ++ n.more) m.is ∙ append_assoc x.candidates m.more n.more;
   so = n.so ∙ ap (λ cs. cs ++ n.others) m.so ∙ append_assoc y.candidates m.others n.others;
-  each = all_append around m.more n.more m.others n.others m.each n.each;
+  each = all_append own around m.more n.more m.others n.others m.each n.each;
   packs = n.packs;
 }
 
-pub one_moves : (around : Around) (t : Term) (u : term_.Term) (x : State) (y : value_.State) → y.packs ≡ x.packs → u ≡ annotate (noted_scope around.scope) t →
-    Moves around x y (appended around t x) (noted_.appended (noted_around around) u y)
+pub one_moves : (own : Bool) (around : Around) (t : Term) (u : term_.Term) (x : State) (y : value_.State) → y.packs ≡ x.packs → u ≡ annotate (around_place own around) t →
+    Moves own around x y (appended around t x) (noted_.appended (noted_around own around) u y)
 unfolding appended noted_.appended noted_around
-one_moves around t u x y packs is = record {
-  more = record { tree = t; encoding = around.encoding } ∷ [];
-  others = record { tree = u; encoding = around.encoding } ∷ [];
+one_moves own around t u x y packs is = record {
+  more = record { tree = t; encoding = around.encoding; in_lambda = around.in_lambda } ∷ [];
+  others = record { tree = u; encoding = around.encoding; in_lambda = around.in_lambda } ∷ [];
   is = refl;
   so = refl;
-  each = (record { encoding = refl; by = noted_scope around.scope; like = is; closed = λ h. is ∙ closed_noted (noted_scope around.scope) None t h; here = λ e f. is }, tt);
+  each = (record { encoding = refl; by = around_place own around; like = is; closed = λ h. is ∙ closed_noted (around_place own around) nowhere t h; in_lambda = refl; here = λ e f g. is }, tt);
   packs = packs;
 }
 
 -- ## Types and prefixes
 
-function_type_noted : (s : Option term_.Term) (t : Term) → noted_.is_function_type (annotate s t) ≡ is_function_type t
+function_type_noted : (s : Place) (t : Term) → noted_.is_function_type (annotate s t) ≡ is_function_type t
 unfolding noted_.is_function_type is_function_type annotate
 function_type_noted s (function_type c_linkage noexcept ref returned parameters) = refl
 function_type_noted s _ = refl
 
-moves_choice : (around : Around) (x a c : State) (y b d : value_.State) (p q : Bool) → q ≡ p → Moves around x y a b → Moves around x y c d →
-    Moves around x y (elim p [ true ↦ a | false ↦ c ]) (elim q [ true ↦ b | false ↦ d ])
-moves_choice around x a c y b d true true e m n = m
-moves_choice around x a c y b d false false e m n = n
-moves_choice around x a c y b d true false e m n = absurd cc
-moves_choice around x a c y b d false true e m n = absurd cc
+moves_choice : (own : Bool) (around : Around) (x a c : State) (y b d : value_.State) (p q : Bool) → q ≡ p → Moves own around x y a b → Moves own around x y c d →
+    Moves own around x y (elim p [ true ↦ a | false ↦ c ]) (elim q [ true ↦ b | false ↦ d ])
+moves_choice own around x a c y b d true true e m n = m
+moves_choice own around x a c y b d false false e m n = n
+moves_choice own around x a c y b d true false e m n = absurd cc
+moves_choice own around x a c y b d false true e m n = absurd cc
 
-pub type_moves : (around : Around) (v : Value) (x : State) (y : value_.State) → y.packs ≡ x.packs →
-    Moves around x y (with_type around v x) (noted_.with_type (noted_around around) (noted_value (noted_scope around.scope) v) y)
+pub type_moves : (own : Bool) (around : Around) (v : Value) (x : State) (y : value_.State) → y.packs ≡ x.packs →
+    Moves own around x y (with_type around v x) (noted_.with_type (noted_around own around) (noted_value (around_place own around) v) y)
 unfolding with_type noted_.with_type
-type_moves around v x y packs =
-    let s = noted_scope around.scope in
-    moves_choice around x x (appended around (tree_of v) x) y y (noted_.appended (noted_around around) (value_.tree_of (noted_value s v)) y)
+type_moves own around v x y packs =
+    let s = around_place own around in
+    moves_choice own around x x (appended around (tree_of v) x) y y (noted_.appended (noted_around own around) (value_.tree_of (noted_value s v)) y)
     (is_listed v) (value_.is_listed (noted_value s v)) (listed_noted s v)
-    (moves_none around x x y y refl refl packs) (one_moves around (tree_of v) (value_.tree_of (noted_value s v)) x y packs (tree_noted s v))
+    (moves_none own around x x y y refl refl packs) (one_moves own around (tree_of v) (value_.tree_of (noted_value s v)) x y packs (tree_noted s v))
 
-pub unqualified_moves : (around : Around) (v : Value) (x : State) (y : value_.State) → y.packs ≡ x.packs →
-    Moves around x y (with_unqualified around v x) (noted_.with_unqualified (noted_around around) (noted_value (noted_scope around.scope) v) y)
+pub unqualified_moves : (own : Bool) (around : Around) (v : Value) (x : State) (y : value_.State) → y.packs ≡ x.packs →
+    Moves own around x y (with_unqualified around v x) (noted_.with_unqualified (noted_around own around) (noted_value (around_place own around) v) y)
 unfolding with_unqualified noted_.with_unqualified
-unqualified_moves around v x y packs =
-    let s = noted_scope around.scope in
-    moves_choice around x x (with_type around v x) y y (noted_.with_type (noted_around around) (noted_value s v) y)
+unqualified_moves own around v x y packs =
+    let s = around_place own around in
+    moves_choice own around x x (with_type around v x) y y (noted_.with_type (noted_around own around) (noted_value s v) y)
     (is_function_type (tree_of v)) (noted_.is_function_type (value_.tree_of (noted_value s v)))
     (ap noted_.is_function_type (tree_noted s v) ∙ function_type_noted s (tree_of v))
-    (moves_none around x x y y refl refl packs) (type_moves around v x y packs)
+    (moves_none own around x x y y refl refl packs) (type_moves own around v x y packs)
 
-pub prefix_moves : (around : Around) (x : State) (y : value_.State) → y.packs ≡ x.packs → Moves around x y (with_prefix around x) (noted_.with_prefix (noted_around around) y)
+pub prefix_moves : (own : Bool) (around : Around) (x : State) (y : value_.State) → y.packs ≡ x.packs → Moves own around x y (with_prefix around x) (noted_.with_prefix (noted_around own around) y)
 unfolding with_prefix noted_.with_prefix noted_around
-prefix_moves around x y packs =
-    let s = noted_scope around.scope in
+prefix_moves own around x y packs =
+    let s = around_place own around in
     let p = around.prefix in
     let t = value_.prefix_tree (noted_prefix s p) in
-    moves_choice around x x (appended around (prefix_tree p) x) y y (noted_.appended (noted_around around) t y)
+    moves_choice own around x x (appended around (prefix_tree p) x) y y (noted_.appended (noted_around own around) t y)
     (prefix_listed p) (value_.prefix_listed (noted_prefix s p)) (prefix_listed_noted s p)
-    (moves_none around x x y y refl refl packs) (one_moves around (prefix_tree p) t x y packs (prefix_tree_noted s p))
+    (moves_none own around x x y y refl refl packs) (one_moves own around (prefix_tree p) t x y packs (prefix_tree_noted s p))
 
 -- ## References
 
@@ -174,94 +177,99 @@ packs_kept place true (Some m) x y e = go y.packs x.packs e
     go None (Some k) f = absurd cc
     go (Some n) None f = absurd cc
 
-abbrev pub AreNoted : Around → Option Candidate → Option value_.Candidate → Type 0
-AreNoted around None None = Unit {0}
-AreNoted around (Some c) (Some d) = IsNoted around c d
-AreNoted around _ _ = ⊥
+abbrev pub AreNoted : (own : Bool) → Around → Option Candidate → Option value_.Candidate → Type 0
+AreNoted own around None None = Unit {0}
+AreNoted own around (Some c) (Some d) = IsNoted own around c d
+AreNoted own around _ _ = ⊥
 
-pub get_noted : (around : Around) (cs : List Candidate) (ds : List value_.Candidate) (n : ℕ) → AllNoted around cs ds → AreNoted around (slice_get cs n) (slice_get ds n)
-get_noted around [] [] n all = tt
-get_noted around (c ∷ cs) (d ∷ ds) zero all = all.0
-get_noted around (c ∷ cs) (d ∷ ds) (suc n) all = get_noted around cs ds n all.1
-get_noted around [] (d ∷ ds) n all = absurd all
-get_noted around (c ∷ cs) [] n all = absurd all
+pub get_noted : (own : Bool) (around : Around) (cs : List Candidate) (ds : List value_.Candidate) (n : ℕ) → AllNoted own around cs ds → AreNoted own around (slice_get cs n) (slice_get ds n)
+get_noted own around [] [] n all = tt
+get_noted own around (c ∷ cs) (d ∷ ds) zero all = all.0
+get_noted own around (c ∷ cs) (d ∷ ds) (suc n) all = get_noted own around cs ds n all.1
+get_noted own around [] (d ∷ ds) n all = absurd all
+get_noted own around (c ∷ cs) [] n all = absurd all
 
 -- what a part comes to, both ways
-pub record Comes (around : Around) (x : State) (y : value_.State) (a : Found Value State) (b : Found value_.Value value_.State) : Type 0 where
-  pub value : b.value ≡ noted_value (noted_scope around.scope) a.value
-  pub moves : Moves around x y a.state b.state
+pub record Comes (own : Bool) (around : Around) (x : State) (y : value_.State) (a : Found Value State) (b : Found value_.Value value_.State) : Type 0 where
+  pub value : b.value ≡ noted_value (around_place own around) a.value
+  pub moves : Moves own around x y a.state b.state
 
 -- a candidate that may be named here has its arguments by the scope here
-noted_here : (around : Around) (c : Candidate) (d : value_.Candidate) → IsNoted around c d → (is_open c.tree && (around.in_lambda || not (nat_eq c.encoding around.encoding))) ≡ false →
-    d.tree ≡ annotate (noted_scope around.scope) c.tree
-noted_here around c d n e = go (is_open c.tree) around.in_lambda (nat_eq c.encoding around.encoding) refl refl refl e
+-- a candidate that is open was made in no signature whose parameters are its own
+abbrev pub IsOutside : (own : Bool) → Option Candidate → Type 0
+IsOutside own None = Unit {0}
+IsOutside own (Some c) = is_open c.tree ≡ true → own ≡ true → c.in_lambda ≡ false
+
+noted_here : (own : Bool) (around : Around) (c : Candidate) (d : value_.Candidate) → IsNoted own around c d → (is_open c.tree ≡ true → own ≡ true → c.in_lambda ≡ false) → (is_open c.tree && (around.in_lambda || not (nat_eq c.encoding around.encoding))) ≡ false →
+    d.tree ≡ annotate (around_place own around) c.tree
+noted_here own around c d n outside e = go (is_open c.tree) around.in_lambda (nat_eq c.encoding around.encoding) refl refl refl e
   where
-    go : (o l same : Bool) → is_open c.tree ≡ o → around.in_lambda ≡ l → nat_eq c.encoding around.encoding ≡ same → (o && (l || not same)) ≡ false → d.tree ≡ annotate (noted_scope around.scope) c.tree
-    go false l same is-open is-lambda is-same h = n.closed is-open ∙ closed_noted None (noted_scope around.scope) c.tree is-open
+    go : (o l same : Bool) → is_open c.tree ≡ o → around.in_lambda ≡ l → nat_eq c.encoding around.encoding ≡ same → (o && (l || not same)) ≡ false → d.tree ≡ annotate (around_place own around) c.tree
+    go false l same is-open is-lambda is-same h = n.closed is-open ∙ closed_noted nowhere (around_place own around) c.tree is-open
     go true true same is-open is-lambda is-same h = absurd cc
     go true false false is-open is-lambda is-same h = absurd cc
-    go true false true is-open is-lambda is-same h = n.here (eqb-true c.encoding around.encoding is-same) is-lambda
+    go true false true is-open is-lambda is-same h = n.here (eqb-true c.encoding around.encoding is-same) is-lambda (outside is-open)
 
-pub substituted_noted : (around : Around) (place : ℕ) (o : Option Candidate) (p : Option value_.Candidate) (x : State) (y : value_.State) → y.packs ≡ x.packs → AreNoted around o p →
-    Alike (Comes around x y) (substituted around place o x) (noted_.substituted (noted_around around) place p y)
+pub substituted_noted : (own : Bool) (around : Around) (place : ℕ) (o : Option Candidate) (p : Option value_.Candidate) (x : State) (y : value_.State) → y.packs ≡ x.packs → AreNoted own around o p → IsOutside own o →
+    Alike (Comes own around x y) (substituted around place o x) (noted_.substituted (noted_around own around) place p y)
 unfolding substituted noted_.substituted noted_around noted_value
-substituted_noted around place None None x y packs n = refl
-substituted_noted around place None (Some d) x y packs n = absurd n
-substituted_noted around place (Some c) None x y packs n = absurd n
-substituted_noted around place (Some c) (Some d) x y packs n =
+substituted_noted own around place None None x y packs n outside = refl
+substituted_noted own around place None (Some d) x y packs n outside = absurd n
+substituted_noted own around place (Some c) None x y packs n outside = absurd n
+substituted_noted own around place (Some c) (Some d) x y packs n outside =
     go (is_open c.tree && (around.in_lambda || not (nat_eq c.encoding around.encoding))) (scope_.is_open d.tree && (around.in_lambda || not (nat_eq d.encoding around.encoding)))
     (both (λ a k. a && (around.in_lambda || not (nat_eq k around.encoding))) (ap scope_.is_open n.like ∙ open_noted n.by c.tree) n.encoding) refl
   where
-    s : Option term_.Term
-    s = noted_scope around.scope
+    s : Place
+    s = around_place own around
 
-    onward : (m k : Option ℕ) → k ≡ m → d.tree ≡ annotate s c.tree → Alike (Comes around x y)
+    onward : (m k : Option ℕ) → k ≡ m → d.tree ≡ annotate s c.tree → Alike (Comes own around x y)
         (with_packs place around.in_expansion m x >>= λ z. Ok (found (leaf_.tree c.tree true) z)) (noted_.with_packs place around.in_expansion k y >>= λ z. Ok (found (value_.tree d.tree true) z))
-    onward m k e is = subst (λ k. Alike (Comes around x y)
+    onward m k e is = subst (λ k. Alike (Comes own around x y)
         (with_packs place around.in_expansion m x >>= λ z. Ok (found (leaf_.tree c.tree true) z)) (noted_.with_packs place around.in_expansion k y >>= λ z. Ok (found (value_.tree d.tree true) z))) (sym e)
-        (alike_bind (Kept x y) (Comes around x y) (with_packs place around.in_expansion m x) (noted_.with_packs place around.in_expansion m y) (λ z. Ok (found (leaf_.tree c.tree true) z)) (λ z. Ok (found (value_.tree d.tree true) z))
-        (packs_kept place around.in_expansion m x y packs) (λ a b h k. record { value = ap (λ t. value_.tree t true) is; moves = moves_none around x a y b k.is k.so k.packs }))
+        (alike_bind (Kept x y) (Comes own around x y) (with_packs place around.in_expansion m x) (noted_.with_packs place around.in_expansion m y) (λ z. Ok (found (leaf_.tree c.tree true) z)) (λ z. Ok (found (value_.tree d.tree true) z))
+        (packs_kept place around.in_expansion m x y packs) (λ a b h k. record { value = ap (λ t. value_.tree t true) is; moves = moves_none own around x a y b k.is k.so k.packs }))
 
-    go : (b e : Bool) → e ≡ b → (is_open c.tree && (around.in_lambda || not (nat_eq c.encoding around.encoding))) ≡ b → Alike (Comes around x y)
+    go : (b e : Bool) → e ≡ b → (is_open c.tree && (around.in_lambda || not (nat_eq c.encoding around.encoding))) ≡ b → Alike (Comes own around x y)
         (elim b [ true ↦ Err (BadReference place) | false ↦ with_packs place around.in_expansion (packs_in around.scope c.tree) x >>= λ z. Ok (found (leaf_.tree c.tree true) z) ])
         (elim e [ true ↦ Err (BadReference place) | false ↦ noted_.with_packs place around.in_expansion (scope_.pack_length d.tree) y >>= λ z. Ok (found (value_.tree d.tree true) z) ])
     go true true f h = refl
-    go false false f h = let is = noted_here around c d n h in onward (packs_in around.scope c.tree) (scope_.pack_length d.tree) (ap scope_.pack_length is ∙ packs_noted around.scope c.tree) is
+    go false false f h = let is = noted_here own around c d n outside h in onward (packs_in around.scope c.tree) (scope_.pack_length d.tree) (ap scope_.pack_length is ∙ packs_noted around.scope (own && around.in_lambda) c.tree) is
     go true false f h = absurd cc
     go false true f h = absurd cc
 
-pub named_here : (around : Around) (k : ℕ) (arguments : Term) → around.scope ≡ Some arguments → term_.parameter k (scope_.element (annotate None arguments) k) ≡ annotate (noted_scope around.scope) (parameter k)
-unfolding annotate argument_in noted_scope
-named_here around k arguments scope = ap (λ o. annotate (noted_scope o) (parameter k)) (sym scope)
+pub named_here : (own : Bool) (around : Around) (k : ℕ) (arguments : Term) → around.scope ≡ Some arguments → term_.parameter k (scope_.element (annotate nowhere arguments) k) ≡ annotate (around_place own around) (parameter k)
+unfolding annotate argument_in place_in
+named_here own around k arguments scope = ap (λ o. annotate (place_in o (own && around.in_lambda)) (parameter k)) (sym scope)
 
 -- a parameter that is named, as a candidate
-pub parameter_noted : (around : Around) (place k : ℕ) (x : State) (y : value_.State) → y.packs ≡ x.packs →
-    Alike (Moves around x y) (parameter_named around place k x) (noted_.parameter_named (noted_around around) place k y)
+pub parameter_noted : (own : Bool) (around : Around) (place k : ℕ) (x : State) (y : value_.State) → y.packs ≡ x.packs →
+    Alike (Moves own around x y) (parameter_named around place k x) (noted_.parameter_named (noted_around own around) place k y)
 unfolding parameter_named noted_.parameter_named noted_around noted_scope
-parameter_noted around place k x y packs = go around.scope refl
+parameter_noted own around place k x y packs = go around.scope refl
   where
-    onward : (arguments : Term) → around.scope ≡ Some arguments → (m n : Option ℕ) → n ≡ m → (u : term_.Term) → u ≡ annotate (noted_scope around.scope) (parameter k) → Alike (Moves around x y)
-        (with_packs place around.in_expansion m x >>= λ z. Ok (appended around (parameter k) z)) (noted_.with_packs place around.in_expansion n y >>= λ z. Ok (noted_.appended (noted_around around) u z))
-    onward arguments scope m n e u is = subst (λ n. Alike (Moves around x y)
-        (with_packs place around.in_expansion m x >>= λ z. Ok (appended around (parameter k) z)) (noted_.with_packs place around.in_expansion n y >>= λ z. Ok (noted_.appended (noted_around around) u z))) (sym e)
-        (alike_bind (Kept x y) (Moves around x y) (with_packs place around.in_expansion m x) (noted_.with_packs place around.in_expansion m y) (λ z. Ok (appended around (parameter k) z)) (λ z. Ok (noted_.appended (noted_around around) u z))
+    onward : (arguments : Term) → around.scope ≡ Some arguments → (m n : Option ℕ) → n ≡ m → (u : term_.Term) → u ≡ annotate (around_place own around) (parameter k) → Alike (Moves own around x y)
+        (with_packs place around.in_expansion m x >>= λ z. Ok (appended around (parameter k) z)) (noted_.with_packs place around.in_expansion n y >>= λ z. Ok (noted_.appended (noted_around own around) u z))
+    onward arguments scope m n e u is = subst (λ n. Alike (Moves own around x y)
+        (with_packs place around.in_expansion m x >>= λ z. Ok (appended around (parameter k) z)) (noted_.with_packs place around.in_expansion n y >>= λ z. Ok (noted_.appended (noted_around own around) u z))) (sym e)
+        (alike_bind (Kept x y) (Moves own around x y) (with_packs place around.in_expansion m x) (noted_.with_packs place around.in_expansion m y) (λ z. Ok (appended around (parameter k) z)) (λ z. Ok (noted_.appended (noted_around own around) u z))
         (packs_kept place around.in_expansion m x y packs)
-        (λ a b h kept. moves_then around x a (appended around (parameter k) a) y b (noted_.appended (noted_around around) u b) (moves_none around x a y b kept.is kept.so kept.packs) (one_moves around (parameter k) u a b kept.packs is)))
+        (λ a b h kept. moves_then own around x a (appended around (parameter k) a) y b (noted_.appended (noted_around own around) u b) (moves_none own around x a y b kept.is kept.so kept.packs) (one_moves own around (parameter k) u a b kept.packs is)))
 
-    tested : (arguments : Term) → around.scope ≡ Some arguments → (b c : Bool) → c ≡ b → Alike (Moves around x y)
+    tested : (arguments : Term) → around.scope ≡ Some arguments → (b c : Bool) → c ≡ b → Alike (Moves own around x y)
         (elim b [ false ↦ Err (BadReference place) | true ↦ with_packs place around.in_expansion (length_if_pack (element arguments k)) x >>= λ z. Ok (appended around (parameter k) z) ])
         (elim c [
           | false ↦ Err (BadReference place)
-          | true ↦ noted_.with_packs place around.in_expansion (scope_.length_if_pack (scope_.element (annotate None arguments) k)) y
-              >>= λ z. Ok (noted_.appended (noted_around around) (term_.parameter k (scope_.element (annotate None arguments) k)) z)
+          | true ↦ noted_.with_packs place around.in_expansion (scope_.length_if_pack (scope_.element (annotate nowhere arguments) k)) y
+              >>= λ z. Ok (noted_.appended (noted_around own around) (term_.parameter k (scope_.element (annotate nowhere arguments) k)) z)
         ])
     tested arguments scope false false f = refl
-    tested arguments scope true true f = onward arguments scope (length_if_pack (element arguments k)) (scope_.length_if_pack (scope_.element (annotate None arguments) k))
-        (ap scope_.length_if_pack (element_noted None arguments k) ∙ length_noted None (element arguments k)) (term_.parameter k (scope_.element (annotate None arguments) k)) (named_here around k arguments scope)
+    tested arguments scope true true f = onward arguments scope (length_if_pack (element arguments k)) (scope_.length_if_pack (scope_.element (annotate nowhere arguments) k))
+        (ap scope_.length_if_pack (element_noted nowhere arguments k) ∙ length_noted nowhere (element arguments k)) (term_.parameter k (scope_.element (annotate nowhere arguments) k)) (named_here own around k arguments scope)
     tested arguments scope true false f = absurd cc
     tested arguments scope false true f = absurd cc
 
-    go : (o : Option Term) → around.scope ≡ o → Alike (Moves around x y)
+    go : (o : Option Term) → around.scope ≡ o → Alike (Moves own around x y)
         (elim o [
           | None ↦ Err (BadReference place)
           | Some arguments ↦ elim (nat_lt k (count arguments)) [ false ↦ Err (BadReference place) | true ↦ with_packs place around.in_expansion (length_if_pack (element arguments k)) x >>= λ z. Ok (appended around (parameter k) z) ]
@@ -271,144 +279,130 @@ parameter_noted around place k x y packs = go around.scope refl
           | Some arguments ↦ elim (nat_lt k (scope_.count arguments)) [
             | false ↦ Err (BadReference place)
             | true ↦ noted_.with_packs place around.in_expansion (scope_.length_if_pack (scope_.element arguments k)) y
-                >>= λ z. Ok (noted_.appended (noted_around around) (term_.parameter k (scope_.element arguments k)) z)
+                >>= λ z. Ok (noted_.appended (noted_around own around) (term_.parameter k (scope_.element arguments k)) z)
           ]
         ])
     go None scope = refl
-    go (Some arguments) scope = tested arguments scope (nat_lt k (count arguments)) (nat_lt k (scope_.count (annotate None arguments))) (ap (nat_lt k) (count_noted None arguments))
+    go (Some arguments) scope = tested arguments scope (nat_lt k (count arguments)) (nat_lt k (scope_.count (annotate nowhere arguments))) (ap (nat_lt k) (count_noted nowhere arguments))
 
 -- ## The reading of the wide grammar
 
-foreign_noted : (around : Around) (c : Candidate) (d : value_.Candidate) → IsNoted around c d → wide_.is_foreign (noted_around around) d ≡ is_foreign around c
+foreign_noted : (around : Around) (c : Candidate) (d : value_.Candidate) → IsNoted true around c d → wide_.is_foreign (noted_around true around) d ≡ is_foreign around c
 unfolding wide_.is_foreign is_foreign noted_around
 foreign_noted around c d n =
-    both (λ a b. a || b)
-    (both (λ a k. a && (around.in_lambda || not (nat_eq k around.encoding))) (ap scope_.is_open n.like ∙ open_noted n.by c.tree) n.encoding)
-    (ap (λ a. a && not around.in_lambda) (ap scope_.is_generic n.like ∙ generic_noted n.by c.tree))
+    three (λ a l k. a && (around.in_lambda || (l || not (nat_eq k around.encoding)))) (ap scope_.is_open n.like ∙ open_noted n.by c.tree) n.in_lambda n.encoding
 
-parameter_number_noted : (s : Option term_.Term) (t : Term) → wide_.number_of_parameter (annotate s t) ≡ number_of_parameter t
-unfolding wide_.number_of_parameter number_of_parameter annotate
-parameter_number_noted s (parameter k) = refl
-parameter_number_noted s _ = refl
+-- in a signature no arguments are named
+abbrev pub Settled : Around → Type 0
+Settled around = around.in_lambda ≡ true → around.scope ≡ None
 
-number_noted : (s : Option term_.Term) (t : Term) → wide_.number_behind_mark (annotate s t) ≡ number_behind_mark t
-unfolding wide_.number_behind_mark number_behind_mark annotate wide_.number_of_parameter number_of_parameter
-number_noted s (pointer t) = parameter_number_noted s t
-number_noted s (lvalue t) = parameter_number_noted s t
-number_noted s (rvalue t) = parameter_number_noted s t
-number_noted s (qualified q t) = parameter_number_noted s t
-number_noted s _ = refl
+meant_by : (around : Around) (by : Place) (t : Term) (k : ℕ) → free_in t ≡ one_free k → (arguments : Term) →
+    reargued (Some (scope_.element (annotate nowhere arguments) k)) (annotate by t) ≡ annotate (place_in (Some arguments) false) t
+unfolding place_in argument_in
+meant_by around by t k one arguments =
+    renoted (in_arguments (annotate nowhere arguments)) by (scope_.element (annotate nowhere arguments) k) t (subst (λ f. NameThis (in_arguments (annotate nowhere arguments)) (scope_.element (annotate nowhere arguments) k) f) (sym one) refl)
 
-with_noted : (by s : Option term_.Term) (t other : Term) (noted : term_.Term) → noted ≡ annotate s other → wide_.with_parameter (annotate by t) noted ≡ annotate s (with_parameter t other)
-unfolding wide_.with_parameter with_parameter annotate
-with_noted by s (pointer t) other noted e = ap term_.pointer e
-with_noted by s (lvalue t) other noted e = ap term_.lvalue e
-with_noted by s (rvalue t) other noted e = ap term_.rvalue e
-with_noted by s (qualified q t) other noted e = ap (term_.qualified q) e
-with_noted by s _ other noted e = e
+scope_place : (around : Around) (arguments : Term) → around.scope ≡ Some arguments → place_in (Some arguments) false ≡ around_place true around
+unfolding place_in
+scope_place around arguments scope = ap (λ o. place_in o around.in_lambda) (sym scope)
 
-in_scope_noted : (around : Around) (place : ℕ) (by : Option term_.Term) (t : Term) (k : ℕ) (x : State) (y : value_.State) → y.packs ≡ x.packs →
-    Alike (Comes around x y) (in_scope around place t k x) (wide_.in_scope (noted_around around) place (annotate by t) k y)
-unfolding in_scope wide_.in_scope noted_around noted_scope noted_value
-in_scope_noted around place by t k x y packs = go around.scope refl
+pub own_place : (around : Around) → around.scope ≡ None → around.in_lambda ≡ true → around_place true around ≡ in_own
+unfolding place_in
+own_place around none inside_ = both place_in none inside_
+
+in_scope_noted : (around : Around) (place : ℕ) (by : Place) (t : Term) (k : ℕ) (x : State) (y : value_.State) → free_in t ≡ one_free k → y.packs ≡ x.packs →
+    Alike (Comes true around x y) (in_scope around place t k x) (wide_.in_scope (noted_around true around) place (annotate by t) k y)
+unfolding in_scope wide_.in_scope noted_around noted_scope noted_value packs_in
+in_scope_noted around place by t k x y one packs = go around.scope refl
   where
-    onward : (arguments : Term) → around.scope ≡ Some arguments → (m n : Option ℕ) → n ≡ m → (u : term_.Term) → u ≡ annotate (noted_scope around.scope) (with_parameter t (parameter k)) → Alike (Comes around x y)
-        (with_packs place around.in_expansion m x >>= λ z. Ok (found (leaf_.tree (with_parameter t (parameter k)) true) z)) (noted_.with_packs place around.in_expansion n y >>= λ z. Ok (found (value_.tree u true) z))
-    onward arguments scope m n e u is = subst (λ n. Alike (Comes around x y)
-        (with_packs place around.in_expansion m x >>= λ z. Ok (found (leaf_.tree (with_parameter t (parameter k)) true) z)) (noted_.with_packs place around.in_expansion n y >>= λ z. Ok (found (value_.tree u true) z))) (sym e)
-        (alike_bind (Kept x y) (Comes around x y) (with_packs place around.in_expansion m x) (noted_.with_packs place around.in_expansion m y)
-        (λ z. Ok (found (leaf_.tree (with_parameter t (parameter k)) true) z)) (λ z. Ok (found (value_.tree u true) z))
-        (packs_kept place around.in_expansion m x y packs) (λ a b h kept. record { value = ap (λ w. value_.tree w true) is; moves = moves_none around x a y b kept.is kept.so kept.packs }))
+    onward : (arguments : Term) → around.scope ≡ Some arguments → (m n : Option ℕ) → n ≡ m → (u : term_.Term) → u ≡ annotate (around_place true around) t → Alike (Comes true around x y)
+        (with_packs place around.in_expansion m x >>= λ z. Ok (found (leaf_.tree t true) z)) (noted_.with_packs place around.in_expansion n y >>= λ z. Ok (found (value_.tree u true) z))
+    onward arguments scope m n e u is = subst (λ n. Alike (Comes true around x y)
+        (with_packs place around.in_expansion m x >>= λ z. Ok (found (leaf_.tree t true) z)) (noted_.with_packs place around.in_expansion n y >>= λ z. Ok (found (value_.tree u true) z))) (sym e)
+        (alike_bind (Kept x y) (Comes true around x y) (with_packs place around.in_expansion m x) (noted_.with_packs place around.in_expansion m y) (λ z. Ok (found (leaf_.tree t true) z)) (λ z. Ok (found (value_.tree u true) z))
+        (packs_kept place around.in_expansion m x y packs) (λ a b h kept. record { value = ap (λ v. value_.tree v true) is; moves = moves_none true around x a y b kept.is kept.so kept.packs }))
 
-    tested : (arguments : Term) → around.scope ≡ Some arguments → (b c : Bool) → c ≡ b → Alike (Comes around x y)
-        (elim b [
-          | false ↦ Err (BadReference place)
-          | true ↦ with_packs place around.in_expansion (length_if_pack (element arguments k)) x >>= λ z. Ok (found (leaf_.tree (with_parameter t (parameter k)) true) z)
-        ])
+    argument_ : Term → term_.Term
+    argument_ arguments = scope_.element (annotate nowhere arguments) k
+
+    here : (arguments : Term) → around.scope ≡ Some arguments → reargued (Some (argument_ arguments)) (annotate by t) ≡ annotate (around_place true around) t
+    here arguments scope = meant_by around by t k one arguments ∙ ap (λ s. annotate s t) (scope_place around arguments scope)
+
+    tested : (arguments : Term) → around.scope ≡ Some arguments → (b c : Bool) → c ≡ b → Alike (Comes true around x y)
+        (elim b [ false ↦ Err (BadReference place) | true ↦ with_packs place around.in_expansion (pack_length arguments t) x >>= λ z. Ok (found (leaf_.tree t true) z) ])
         (elim c [
           | false ↦ Err (BadReference place)
-          | true ↦ noted_.with_packs place around.in_expansion (scope_.length_if_pack (scope_.element (annotate None arguments) k)) y
-              >>= λ z. Ok (found (value_.tree (wide_.with_parameter (annotate by t) (term_.parameter k (scope_.element (annotate None arguments) k))) true) z)
+          | true ↦ noted_.with_packs place around.in_expansion (scope_.pack_length (reargued (Some (argument_ arguments)) (annotate by t))) y
+              >>= λ z. Ok (found (value_.tree (reargued (Some (argument_ arguments)) (annotate by t)) true) z)
         ])
     tested arguments scope false false f = refl
-    tested arguments scope true true f = onward arguments scope (length_if_pack (element arguments k)) (scope_.length_if_pack (scope_.element (annotate None arguments) k))
-        (ap scope_.length_if_pack (element_noted None arguments k) ∙ length_noted None (element arguments k))
-        (wide_.with_parameter (annotate by t) (term_.parameter k (scope_.element (annotate None arguments) k)))
-        (with_noted by (noted_scope around.scope) t (parameter k) (term_.parameter k (scope_.element (annotate None arguments) k)) (named_here around k arguments scope))
+    tested arguments scope true true f = onward arguments scope (pack_length arguments t) (scope_.pack_length (reargued (Some (argument_ arguments)) (annotate by t)))
+        (ap scope_.pack_length (meant_by around by t k one arguments) ∙ packs_noted (Some arguments) false t) (reargued (Some (argument_ arguments)) (annotate by t)) (here arguments scope)
     tested arguments scope true false f = absurd cc
     tested arguments scope false true f = absurd cc
 
-    go : (o : Option Term) → around.scope ≡ o → Alike (Comes around x y)
+    go : (o : Option Term) → around.scope ≡ o → Alike (Comes true around x y)
         (elim o [
           | None ↦ Err (BadReference place)
-          | Some arguments ↦ elim (nat_lt k (count arguments)) [
-            | false ↦ Err (BadReference place)
-            | true ↦ with_packs place around.in_expansion (length_if_pack (element arguments k)) x >>= λ z. Ok (found (leaf_.tree (with_parameter t (parameter k)) true) z)
-          ]
+          | Some arguments ↦ elim (nat_lt k (count arguments)) [ false ↦ Err (BadReference place) | true ↦ with_packs place around.in_expansion (pack_length arguments t) x >>= λ z. Ok (found (leaf_.tree t true) z) ]
         ])
         (elim (noted_scope o) [
           | None ↦ Err (BadReference place)
           | Some arguments ↦ elim (nat_lt k (scope_.count arguments)) [
             | false ↦ Err (BadReference place)
-            | true ↦ noted_.with_packs place around.in_expansion (scope_.length_if_pack (scope_.element arguments k)) y
-                >>= λ z. Ok (found (value_.tree (wide_.with_parameter (annotate by t) (term_.parameter k (scope_.element arguments k))) true) z)
+            | true ↦ noted_.with_packs place around.in_expansion (scope_.pack_length (reargued (Some (scope_.element arguments k)) (annotate by t))) y
+                >>= λ z. Ok (found (value_.tree (reargued (Some (scope_.element arguments k)) (annotate by t)) true) z)
           ]
         ])
     go None scope = refl
-    go (Some arguments) scope = tested arguments scope (nat_lt k (count arguments)) (nat_lt k (scope_.count (annotate None arguments))) (ap (nat_lt k) (count_noted None arguments))
+    go (Some arguments) scope = tested arguments scope (nat_lt k (count arguments)) (nat_lt k (scope_.count (annotate nowhere arguments))) (ap (nat_lt k) (count_noted nowhere arguments))
 
-restated_noted : (around : Around) (place : ℕ) (by : Option term_.Term) (t : Term) (x : State) (y : value_.State) → y.packs ≡ x.packs →
-    Alike (Comes around x y) (restated around place t x) (wide_.restated (noted_around around) place (annotate by t) y)
-unfolding restated wide_.restated noted_around noted_value annotate
-restated_noted around place by t x y packs = go (number_behind_mark t) (wide_.number_behind_mark (annotate by t)) (number_noted by t)
+own_names : (f : Free) → NameThis in_own item_.auto f
+unfolding argument_in
+own_names none_free = tt
+own_names (one_free k) = refl
+own_names several_free = λ k. refl
+
+free_noted_bad : (f : Free) (around : Around) (place : ℕ) (by : Place) (t : Term) (x : State) (y : value_.State) → free_in t ≡ f → y.packs ≡ x.packs →
+    Alike (Comes true around x y) (with_free f around place t x) (wide_.with_free f (noted_around true around) place (annotate by t) y)
+unfolding with_free wide_.with_free
+free_noted_bad none_free around place by t x y e packs = refl
+free_noted_bad (one_free k) around place by t x y e packs = in_scope_noted around place by t k x y e packs
+free_noted_bad several_free around place by t x y e packs = refl
+
+restated_noted : (around : Around) (place : ℕ) (by : Place) (t : Term) (x : State) (y : value_.State) → Settled around → y.packs ≡ x.packs →
+    Alike (Comes true around x y) (restated around place t x) (wide_.restated (noted_around true around) place (annotate by t) y)
+unfolding restated wide_.restated noted_around noted_value
+restated_noted around place by t x y settled packs = go around.in_lambda refl
   where
-    tested : (k j : ℕ) → j ≡ k → (b : Bool) → Alike (Comes around x y)
-        (elim b [
-          | true ↦ Ok (found (leaf_.tree (with_parameter t (generic_parameter k)) true) x)
-          | false ↦ in_scope around place t k x
-        ])
-        (elim b [
-          | true ↦ Ok (found (value_.tree (wide_.with_parameter (annotate by t) (term_.generic_parameter j)) true) y)
-          | false ↦ wide_.in_scope (noted_around around) place (annotate by t) j y
-        ])
-    tested k j same true = record {
-      value = ap (λ u. value_.tree u true) (with_noted by (noted_scope around.scope) t (generic_parameter k) (term_.generic_parameter j) (ap term_.generic_parameter same));
-      moves = moves_none around x x y y refl refl packs;
-    }
-    tested k j same false = subst (λ i. Alike (Comes around x y) (in_scope around place t k x) (wide_.in_scope (noted_around around) place (annotate by t) i y)) (sym same) (in_scope_noted around place by t k x y packs)
+    inside_ : around.in_lambda ≡ true → reargued (Some item_.auto) (annotate by t) ≡ annotate (around_place true around) t
+    inside_ l = renoted in_own by item_.auto t (own_names (free_in t)) ∙ ap (λ s. annotate s t) (sym (own_place around (settled l) l))
 
-    go : (o p : Option ℕ) → p ≡ o → Alike (Comes around x y)
-        (elim o [
-          | None ↦ Err (BadReference place)
-          | Some k ↦ elim around.in_lambda [
-            | true ↦ Ok (found (leaf_.tree (with_parameter t (generic_parameter k)) true) x)
-            | false ↦ in_scope around place t k x
-          ]
-        ])
-        (elim p [
-          | None ↦ Err (BadReference place)
-          | Some k ↦ elim around.in_lambda [
-            | true ↦ Ok (found (value_.tree (wide_.with_parameter (annotate by t) (term_.generic_parameter k)) true) y)
-            | false ↦ wide_.in_scope (noted_around around) place (annotate by t) k y
-          ]
-        ])
-    go None None e = refl
-    go (Some k) (Some j) e = let same : j ≡ k = cc in tested k j same around.in_lambda
-    go None (Some j) e = absurd cc
-    go (Some k) None e = absurd cc
+    go : (b : Bool) → around.in_lambda ≡ b → Alike (Comes true around x y)
+        (elim b [ true ↦ Ok (found (leaf_.tree t true) x) | false ↦ with_free (free_in t) around place t x ])
+        (elim b [ true ↦ Ok (found (value_.tree (reargued (Some item_.auto) (annotate by t)) true) y) | false ↦ wide_.with_free (scope_.free_in (annotate by t)) (noted_around true around) place (annotate by t) y ])
+    go true is = record { value = ap (λ u. value_.tree u true) (inside_ is); moves = moves_none true around x x y y refl refl packs }
+    go false is = subst (λ f. Alike (Comes true around x y) (with_free (free_in t) around place t x) (wide_.with_free f (noted_around true around) place (annotate by t) y)) (sym (free_noted by t))
+        (free_noted_bad (free_in t) around place by t x y refl packs)
 
-pub wide_substituted_noted : (around : Around) (place : ℕ) (o : Option Candidate) (p : Option value_.Candidate) (x : State) (y : value_.State) → y.packs ≡ x.packs → AreNoted around o p →
-    Alike (Comes around x y) (substituted_wide around place o x) (wide_.substituted_wide (noted_around around) place p y)
-unfolding substituted_wide wide_.substituted_wide
-wide_substituted_noted around place None None x y packs n = refl
-wide_substituted_noted around place None (Some d) x y packs n = absurd n
-wide_substituted_noted around place (Some c) None x y packs n = absurd n
-wide_substituted_noted around place (Some c) (Some d) x y packs n = go (is_foreign around c) (wide_.is_foreign (noted_around around) d) (foreign_noted around c d n)
+pub wide_substituted_noted : (around : Around) (place : ℕ) (o : Option Candidate) (p : Option value_.Candidate) (x : State) (y : value_.State) → Settled around → y.packs ≡ x.packs → AreNoted true around o p →
+    Alike (Comes true around x y) (substituted_wide around place o x) (wide_.substituted_wide (noted_around true around) place p y)
+unfolding substituted_wide wide_.substituted_wide is_foreign
+wide_substituted_noted around place None None x y settled packs n = refl
+wide_substituted_noted around place None (Some d) x y settled packs n = absurd n
+wide_substituted_noted around place (Some c) None x y settled packs n = absurd n
+wide_substituted_noted around place (Some c) (Some d) x y settled packs n = go (is_foreign around c) (wide_.is_foreign (noted_around true around) d) (foreign_noted around c d n) refl
   where
-    go : (b e : Bool) → e ≡ b → Alike (Comes around x y)
+    outside : (o l m other : Bool) → (o && (l || (m || other))) ≡ false → o ≡ true → m ≡ false
+    outside true false false other h opens = refl
+    outside true false true other h opens = absurd (true≢false h)
+    outside true true m other h opens = absurd (true≢false h)
+    outside false l m other h opens = absurd (false≢true opens)
+
+    go : (b e : Bool) → e ≡ b → is_foreign around c ≡ b → Alike (Comes true around x y)
         (elim b [ true ↦ restated around place c.tree x | false ↦ substituted around place (Some c) x ])
-        (elim e [ true ↦ wide_.restated (noted_around around) place d.tree y | false ↦ noted_.substituted (noted_around around) place (Some d) y ])
-    go true true f = subst (λ u. Alike (Comes around x y) (restated around place c.tree x) (wide_.restated (noted_around around) place u y)) (sym n.like) (restated_noted around place n.by c.tree x y packs)
-    go false false f = substituted_noted around place (Some c) (Some d) x y packs n
-    go true false f = absurd cc
-    go false true f = absurd cc
+        (elim e [ true ↦ wide_.restated (noted_around true around) place d.tree y | false ↦ noted_.substituted (noted_around true around) place (Some d) y ])
+    go true true f is = subst (λ u. Alike (Comes true around x y) (restated around place c.tree x) (wide_.restated (noted_around true around) place u y)) (sym n.like) (restated_noted around place n.by c.tree x y settled packs)
+    go false false f is = substituted_noted true around place (Some c) (Some d) x y packs n (λ opens o. outside (is_open c.tree) around.in_lambda c.in_lambda (not (nat_eq c.encoding around.encoding)) is opens)
+    go true false f is = absurd cc
+    go false true f is = absurd cc

@@ -17,7 +17,7 @@ use Rattle.cpp_grammar.specs.Unfolding.{production_at, byte_of}
 use Rattle.cpp_grammar.specs.Term as plain_
 use Rattle.cpp_grammar.specs.Unfolding as plain_unfolding
 use Rattle.cpp_grammar.specs.Rescoping as plain_wide
-use Rattle.cpp_grammar.proofs.Ways.{is_reference}
+use Rattle.cpp_grammar.proofs.Ways.{differs}
 use Rattle.cpp_grammar.proofs.ClosedStates.{ok_same, behind_bind}
 use Rattle.cpp_grammar.proofs.ClosedTrees.{at_number, known}
 use Rattle.cpp_term.specs.Term.{Term, symbol}
@@ -55,7 +55,7 @@ pub record IsWhole (values : List Value) : Type 0 where
 
 module _ (noted_way : NotedWay) (apart : IsPlainNoted noted_way) where
   pub whole_reading : (shape : Tree) (r : Found (List Value) State) → IsTree either (OfKind SYMBOL) shape → unfold_tree (reading_noted_by noted_way) first_around 0 shape first_state ≡ Ok r → IsWhole r.value
-  unfolding is_reference reading_noted_by close meaning
+  unfolding differs reading_noted_by close meaning
   whole_reading (branch rule taken parts) r is e =
       let whole : Open State Around = standing rule taken 0 first_around first_state in
       let byte = byte_of taken in

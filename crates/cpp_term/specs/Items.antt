@@ -1,7 +1,7 @@
 -- What is printed: a tree in a form and a context, and what must be known of it: heads of types, packs, empty elements.
-use Rattle.std.specs.Prelude.{ℕ, Bool, true, false, ◌&&◌, Option, Some, None}
+use Rattle.std.specs.Prelude.{ℕ, [], ◌∷◌, Bool, true, false, ◌&&◌, Option, Some, None}
 use Rattle.cpp_grammar.specs.Items.{Form, Head, plain_head, funarr, lref, rref, collapsed, is_none_of}
-use Rattle.cpp_term.specs.Term.{Term, parameter, lvalue, rvalue, array, bounded, function_type, qualified, expansion, pack, nil, list}
+use Rattle.cpp_term.specs.Term.{Term, parameter, builtin, lvalue, rvalue, array, bounded, function_type, qualified, expansion, pack, nil, list}
 use Rattle.cpp_term.specs.Scope.{element, pack_length}
 
 -- ## Items
@@ -25,6 +25,10 @@ closed = record { index = None }
 unfoldable pub indexed : Option ℕ → Term → Term
 indexed (Some i) (pack elements) = element elements i
 indexed index t = t
+
+-- what a lambda's own parameter is printed as: the builtin type auto
+abbrev pub auto : Term
+auto = builtin (68 ∷ 97 ∷ [])
 
 -- the argument that a parameter stands for
 unfoldable pub argument : Context → Term → Term

@@ -5,7 +5,7 @@ use Rattle.sym_print.specs.declared.detail.Detail.{Detail}
 use Rattle.sym_print.specs.Details.{has_arguments, has_parameters}
 use Rattle.sym_print.specs.Unfold.{PartOf, text, sub}
 use Rattle.cpp_grammar.specs.Texts.{same_bytes, look_up, builtin_texts, operator_texts, abbreviation_texts, special_texts, named_special_texts, literal_endings}
-use Rattle.cpp_term.specs.Term.{Term, symbol, function, object, special, thunk, of_name, construction, clone, alone, in_std, within, instance, local, holder, tagged, of_default, abbreviation, parameter, source, operator, literal_operator, constructor, destructor, lambda, unnamed, string_literal, conversion, builtin, sized_float, generic_parameter, vendor, pointer, lvalue, rvalue, array, bounded, member_pointer, function_type, qualified, vector, complex, expansion, integer, boolean, null_pointer, encoding_literal, address_of, pack, nil, list, absent}
+use Rattle.cpp_term.specs.Term.{Term, symbol, function, object, special, thunk, of_name, construction, clone, alone, in_std, within, instance, local, holder, tagged, of_default, abbreviation, parameter, source, operator, literal_operator, constructor, destructor, lambda, generic_lambda, unnamed, string_literal, conversion, builtin, sized_float, vendor, pointer, lvalue, rvalue, array, bounded, member_pointer, function_type, qualified, vector, complex, expansion, integer, boolean, null_pointer, encoding_literal, address_of, pack, nil, list, absent}
 use Rattle.cpp_grammar.specs.Term.{Qualifiers, RefQualifier, Signed}
 use Rattle.cpp_term.specs.Scope.{without_tags}
 use Rattle.cpp_term.specs.Items.{Context, Item, closed, argument, head, packs_of, is_empty}
@@ -34,6 +34,8 @@ piece_parts context (source internal name) = text (source_text name) ∷ []
 piece_parts context (operator a b) = text (codes "operator" ++ look_up (a ∷ b ∷ []) operator_texts) ∷ []
 piece_parts context (literal_operator name) = says "operator\"\" " ∷ text name ∷ []
 piece_parts context (lambda parameters number) =
+    (says "{lambda(" ∷ list_part first context parameters) ++ (says ")#" ∷ text (decimal number) ∷ says "}" ∷ [])
+piece_parts context (generic_lambda parameters number) =
     (says "{lambda(" ∷ list_part first context parameters) ++ (says ")#" ∷ text (decimal number) ∷ says "}" ∷ [])
 piece_parts context (unnamed number) = says "{unnamed type#" ∷ text (decimal number) ∷ says "}" ∷ []
 piece_parts context string_literal = says "string literal" ∷ []
@@ -145,10 +147,6 @@ unfoldable pub entity_of : Term → Term
 entity_of (of_default digits entity) = entity
 entity_of entity = entity
 
--- what a lambda's own parameter is shown as: the builtin type auto
-abbrev pub placeholder : Term
-placeholder = builtin (codes "Da")
-
 unfoldable pub left_parts : Detail → Context → Term → List (PartOf Item)
 left_parts d context (alone p) = piece_parts context p
 left_parts d context (in_std p) = says "std::" ∷ as_item piece context p ∷ []
@@ -161,7 +159,6 @@ left_parts d context (abbreviation letter) = text (look_up (letter ∷ []) abbre
 left_parts d context (parameter k a) = as_item left closed (argument context a) ∷ []
 left_parts d context (builtin code) = text (look_up code builtin_texts) ∷ []
 left_parts d context (sized_float digits end) = float_parts digits end
-left_parts d context (generic_parameter number) = as_item left context placeholder ∷ []
 left_parts d context (vendor name) = text (source_text name) ∷ []
 left_parts d context (pointer t) = marked_parts context t "*"
 left_parts d context (lvalue t) = reference_parts context low t "&"
@@ -217,7 +214,6 @@ right_parts context (function_type c_linkage noexcept ref returned parameters) =
 right_parts context (qualified q t) = qualified_right context q t
 right_parts context (vector digits t) = as_item right context t ∷ []
 right_parts context (complex t) = as_item right context t ∷ []
-right_parts context (generic_parameter number) = as_item right context placeholder ∷ []
 right_parts context (parameter k a) = as_item right closed (argument context a) ∷ []
 right_parts context _ = []
 

@@ -1,7 +1,7 @@
 -- A rank of items that falls from each item to its parts, so that printing ends.
 use Rattle.std.specs.Prelude.{ℕ, ◌+◌, ◌-◌}
 use Rattle.cpp_grammar.specs.Ranks.{or_none}
-use Rattle.cpp_term.specs.Term.{Term, symbol, function, object, special, thunk, of_name, construction, clone, alone, in_std, within, instance, local, holder, tagged, of_default, parameter, lambda, conversion, pointer, lvalue, rvalue, array, bounded, member_pointer, function_type, qualified, generic_parameter, vector, complex, expansion, integer, encoding_literal, address_of, pack, list}
+use Rattle.cpp_term.specs.Term.{Term, symbol, function, object, special, thunk, of_name, construction, clone, alone, in_std, within, instance, local, holder, tagged, of_default, parameter, lambda, generic_lambda, conversion, pointer, lvalue, rvalue, array, bounded, member_pointer, function_type, qualified, vector, complex, expansion, integer, encoding_literal, address_of, pack, list}
 use Rattle.cpp_term.specs.Scope.{pack_length}
 use Rattle.cpp_grammar.specs.Items.{Form, expand}
 use Rattle.cpp_term.specs.Items.{Context, Item}
@@ -31,8 +31,8 @@ weight (tagged of_structor name tag) = 1 + weight name
 weight (of_default digits entity) = 1 + weight entity
 weight (parameter k argument) = 2 + weight argument
 weight (lambda parameters number) = 1 + weight parameters
+weight (generic_lambda parameters number) = 1 + weight parameters
 weight (conversion t) = 1 + weight t
-weight (generic_parameter number) = 2
 weight (pointer t) = 1 + weight t
 weight (lvalue t) = 1 + weight t
 weight (rvalue t) = 1 + weight t

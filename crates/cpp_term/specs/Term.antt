@@ -37,6 +37,8 @@ pub data Term : Type 0 where
   constructor : (digit : ℕ) → Term
   destructor : (digit : ℕ) → Term
   lambda : (parameters : Term) → (number : ℕ) → Term
+  -- one whose signature names parameters of its own
+  generic_lambda : (parameters : Term) → (number : ℕ) → Term
   unnamed : (number : ℕ) → Term
   string_literal : Term
   -- the operator that makes a value of a type
@@ -45,8 +47,6 @@ pub data Term : Type 0 where
   builtin : (code : List ℕ) → Term
   -- a floating type of so many bits, and the byte behind their digits
   sized_float : (digits : List ℕ) → (end : ℕ) → Term
-  -- a lambda's own parameter: what a parameter's code stands for in the signature of the lambda
-  generic_parameter : (number : ℕ) → Term
   vendor : (bytes : List ℕ) → Term
   pointer : Term → Term
   lvalue : Term → Term

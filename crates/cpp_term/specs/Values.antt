@@ -4,10 +4,12 @@ use Rattle.cpp_term.specs.Term.{Term, absent}
 use Rattle.cpp_grammar.specs.Term.{Qualifiers, RefQualifier, any_value, lvalue_only, rvalue_only, Signed, Adjustment, non_virtual}
 use Rattle.cpp_grammar.specs.Values.{unqualified}
 
--- a tree that a substitution may name, and the place where the encoding begins in which it was made
+-- a tree that a substitution may name, the place where the encoding begins in which it was made, and whether it was made in a
+-- lambda's signature of that encoding, or in what is declared of an argument
 pub record Candidate : Type 0 where
   pub tree : Term
   pub encoding : ℕ
+  pub in_lambda : Bool
 
 -- What runs along with the bytes: the candidates so far, and the length of the packs that the innermost expansion has
 -- named so far.
@@ -29,7 +31,8 @@ prefix_listed outermost = true
 prefix_listed (behind t listed) = listed
 
 -- What surrounds a part: the arguments that parameters name there, the place where the innermost encoding begins,
--- whether the part stands in a lambda's signature of that encoding, or under an expansion of it, and the name so far.
+-- whether the part stands in a lambda's signature of that encoding or in what is declared of an argument, whether it stands under
+-- an expansion, and the name so far.
 pub record Around : Type 0 where
   pub scope : Option Term
   pub encoding : ℕ

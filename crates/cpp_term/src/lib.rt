@@ -3,7 +3,7 @@
 //! for the trees of `cpp_grammar`, in which a parameter is a number.
 #![tactic(auto)]
 
-ghost use Rattle.std.specs.Prelude.{◌≡◌, ℕ, List, Ok, Err};
+ghost use Rattle.std.specs.Prelude.{◌≡◌, ℕ, List, Bool, false, cond, Option, None, Some, Ok, Err};
 ghost use Rattle.sym_core.specs.declared.refusal.Refusal.{Refusal};
 ghost use Rattle.sym_print.specs.declared.detail.Detail.{Detail};
 ghost use Rattle.sym_shape.specs.Tree.{Tree, IsTree};
@@ -12,7 +12,7 @@ ghost use Rattle.sym_link.specs.Reading.{Found};
 ghost use Rattle.sym_link.specs.Unfold.{unfold_tree};
 ghost use Rattle.cpp_grammar.specs.Table.{either};
 ghost use Rattle.cpp_grammar.specs.Answer.{shown, root_item, answer_within};
-ghost use Rattle.cpp_grammar.specs.Items.{Item};
+ghost use Rattle.cpp_grammar.specs.Items.{Item, is_none_of};
 ghost use Rattle.cpp_grammar.specs.Parts as leaf_;
 ghost use Rattle.cpp_grammar.specs.Rescoping.{unfold_wide};
 ghost use Rattle.cpp_grammar.specs.Unfolding as unfolding_;
@@ -22,8 +22,11 @@ ghost use Rattle.cpp_term.specs.Unfolding as unfolded_;
 ghost use Rattle.cpp_term.specs.Annotated.{noted_item, noted_parts, noted_tree};
 ghost use Rattle.cpp_term.specs.Answer.{noted_shown, noted_answer};
 ghost use Rattle.cpp_term.specs.Erased.{erase, CarriesArguments};
+ghost use Rattle.cpp_term.specs.Items as items;
+ghost use Rattle.cpp_term.specs.Reargued.{reargued, bare, head_from, class_from, is_empty_with};
+ghost use Rattle.cpp_term.specs.Scope.{is_open, free_in, length_if_pack, pack_length};
 ghost use Rattle.cpp_term.specs.ReadAs.{IsReadAs};
-ghost use Rattle.cpp_term.specs.Term.{Term, symbol};
+ghost use Rattle.cpp_term.specs.Term.{Term, symbol, parameter};
 ghost use Rattle.cpp_term.specs.Values.{Value, State};
 
 /// What is shown of an item whose parameters carry their arguments is what is shown of the item without them: the same texts,
@@ -64,4 +67,19 @@ pub fn texts_are_the_same()
 pub fn answers_are_the_same()
     ensures wide { (detail : Detail) (limit : ℕ) (shape : Tree) → IsTree either (Kind 0) shape → noted_answer detail limit (wide_.unfold_wide shape) ≡ answer_within detail limit (unfold_wide shape) }
     ensures abi { (detail : Detail) (limit : ℕ) (shape : Tree) → IsTree either (Kind 0) shape → noted_answer detail limit (unfolded_.unfold_cpp shape) ≡ answer_within detail limit (unfolding_.unfold_cpp shape) }
+{}
+
+/// A tree with another argument in each of its free parameters: without one it is the tree, the outer one of two counts, and it
+/// changes nothing where no parameter is free, nor what is left without arguments. The length of its packs, the head of a type and
+/// whether it prints nothing are those of the tree, or follow from the argument.
+pub fn arguments_are_replaced()
+    ensures none { (t : Term) → reargued None t ≡ t }
+    ensures twice { (c : Option Term) (a t : Term) → reargued (Some a) (reargued c t) ≡ reargued (Some a) t }
+    ensures closed { (c : Option Term) (t : Term) → is_open t ≡ false → reargued c t ≡ t }
+    ensures open { (c : Option Term) (t : Term) → is_open (reargued c t) ≡ is_open t }
+    ensures free { (c : Option Term) (t : Term) → free_in (reargued c t) ≡ free_in t }
+    ensures erased { (c : Option Term) (t : Term) → erase (reargued c t) ≡ erase t }
+    ensures packs { (a t : Term) → pack_length (reargued (Some a) t) ≡ cond (bare t) (length_if_pack a) None }
+    ensures head { (a t : Term) → items.class_of (reargued (Some a) t) ≡ class_from (head_from t) (items.class_of t) (items.class_of (parameter 0 a)) }
+    ensures empty { (context : items.Context) (a t : Term) → items.is_empty context (reargued (Some a) t) ≡ is_empty_with (is_none_of (length_if_pack a)) t }
 {}

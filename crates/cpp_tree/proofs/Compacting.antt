@@ -1,5 +1,5 @@
 -- What is held of a node in few bytes.
-use Rattle.std.proofs.Common.{◌≡◌, refl, ap, ◌∙◌, arith, ℕ, zero, suc, ◌+◌, List, [], ◌∷◌, ◌++◌, map, Bool, true, false, ◌||◌, Option, None, Some}
+use Rattle.std.proofs.Common.{◌≡◌, refl, sym, ap, ◌∙◌, arith, ℕ, zero, suc, ◌+◌, List, [], ◌∷◌, ◌++◌, map, Bool, true, false, ◌||◌, Option, None, Some}
 use Rattle.std.proofs.lemmas.List.{map-append}
 use Rattle.cpp_grammar.specs.Items as heads
 use Rattle.cpp_grammar.specs.Scope.{first_of}
@@ -10,12 +10,15 @@ use Rattle.cpp_tree.specs.declared.node.Mark.{Mark}
 use Rattle.cpp_tree.specs.declared.node.Signed.{Signed}
 use Rattle.cpp_tree.specs.declared.node.Node.{Node}
 use Rattle.cpp_tree.specs.declared.node.HeadClass.{HeadClass}
+use Rattle.cpp_tree.specs.declared.node.HeadFrom.{HeadFrom}
+use Rattle.cpp_tree.specs.declared.node.Free.{Free}
+use Rattle.cpp_tree.specs.declared.node.ByArgument.{ByArgument}
 use Rattle.cpp_tree.specs.declared.node.Entry.{Entry}
 use Rattle.cpp_tree.specs.declared.compact.Words.{Words}
 use Rattle.cpp_tree.specs.declared.compact.Compact.{Compact}
-use Rattle.cpp_tree.specs.Nodes.{entry_at}
-use Rattle.cpp_tree.specs.Notes.{piece_opens, piece_has_generic, piece_packs, argument_packs, argument_class, opens, has_generic, empties, ends_in, untagging, classes, packing, returning, counting, running, noting, bare_entry}
-use Rattle.cpp_tree.specs.Compact.{packs_kept, class_kept, arguments_kept, untagged_kept, returns_kept, count_kept, run_kept, kept, with_head, entry_of}
+use Rattle.cpp_tree.specs.Nodes.{entry_at, by_none, under_kept}
+use Rattle.cpp_tree.specs.Notes.{by_argument_at, passed, joined, of_expansion, of_pack, piece_by_argument, node_by_argument, placed_under, if_own, packs_by, empty_by, pack_class, class_by, collapses, both_free, piece_frees, piece_packs, argument_packs, frees, empties, ends_in, untagging, classes, packing, returning, counting, running, noting, bare_entry}
+use Rattle.cpp_tree.specs.Compact.{packs_kept, class_kept, arguments_kept, untagged_kept, returns_kept, count_kept, run_kept, free_kept, kept, with_head, restated_entry, entry_of}
 
 -- a length that is kept, and one that isn't
 pub some-packs : (m n : ℕ) → (m ≡ 0 → ⊥) → packs_kept m ≡ first_of (packs_kept m) (packs_kept n)
@@ -27,54 +30,51 @@ pub other-packs : (m n : ℕ) → m ≡ 0 → packs_kept n ≡ first_of (packs_k
 unfolding packs_kept first_of
 other-packs m n none = rw none refl
 
-pub over-is : (n : Node) (w : Words) (first : ℕ) (c part : Compact) (e : Entry) → entry_of part ≡ e
-    → entry_of c ≡ kept n (packs_kept part.packs) part.is_open part.is_generic false w first 0 → entry_of c ≡ kept n e.packs e.is_open e.is_generic false w first 0
-over-is n w first c part e at made = made ∙ ap (λ x. kept n x.packs x.is_open x.is_generic false w first 0) at
+pub over-is : (n : Node) (f : ByArgument → ByArgument) (l : ByArgument) (w : Words) (first second : ℕ) (c part : Compact) (e : Entry) → entry_of part ≡ e → l ≡ f part.by_argument
+    → entry_of c ≡ kept n (packs_kept part.packs) (free_kept part.free part.number) false l w first second → entry_of c ≡ kept n e.packs e.free false (f e.by_argument) w first second
+over-is n f l w first second c part e at depends made =
+    made ∙ ap (λ x. kept n (packs_kept part.packs) (free_kept part.free part.number) false x w first second) depends ∙ ap (λ x. kept n x.packs x.free false (f x.by_argument) w first second) at
 
-pub over-two-is : (n : Node) (empty : Bool) (w : Words) (first second : ℕ) (c one other : Compact) (e f : Entry) → entry_of one ≡ e → entry_of other ≡ f
-    → entry_of c ≡ kept n (first_of (packs_kept one.packs) (packs_kept other.packs)) (one.is_open || other.is_open) (one.is_generic || other.is_generic) empty w first second
-    → entry_of c ≡ kept n (first_of e.packs f.packs) (e.is_open || f.is_open) (e.is_generic || f.is_generic) empty w first second
-over-two-is n empty w first second c one other e f at there made =
-    made ∙ ap (λ x. kept n (first_of x.packs (packs_kept other.packs)) (x.is_open || other.is_open) (x.is_generic || other.is_generic) empty w first second) at
-    ∙ ap (λ x. kept n (first_of e.packs x.packs) (e.is_open || x.is_open) (e.is_generic || x.is_generic) empty w first second) there
-
--- with other notes of free parameters, and of a lambda's own ones
-abbrev opened : Entry → (is_open is_generic : Bool) → Entry
-opened e free own = record { node = e.node; packs = e.packs; is_open = free; is_generic = own; is_empty = e.is_empty; class = e.class; arguments = e.arguments; untagged = e.untagged; returns = e.returns; count = e.count; run = e.run }
-
-abbrev as_generic : Compact → Bool → Compact
-as_generic c own = record { node = c.node; packs = c.packs; first = c.first; second = c.second; is_open = c.is_open; is_generic = own; is_empty = c.is_empty; words = c.words }
+pub over-two-is : (n : Node) (empty : Bool) (f : ByArgument → ByArgument → ByArgument) (l : ByArgument) (w : Words) (first second : ℕ) (c one other : Compact) (e g : Entry) → entry_of one ≡ e → entry_of other ≡ g
+    → l ≡ f one.by_argument other.by_argument
+    → entry_of c ≡ kept n (first_of (packs_kept one.packs) (packs_kept other.packs)) (both_free (free_kept one.free one.number) (free_kept other.free other.number)) empty l w first second
+    → entry_of c ≡ kept n (first_of e.packs g.packs) (both_free e.free g.free) empty (f e.by_argument g.by_argument) w first second
+over-two-is n empty f l w first second c one other e g at there depends made =
+    made ∙ ap (λ x. kept n (first_of (packs_kept one.packs) (packs_kept other.packs)) (both_free (free_kept one.free one.number) (free_kept other.free other.number)) empty x w first second) depends
+    ∙ ap (λ x. kept n (first_of x.packs (packs_kept other.packs)) (both_free x.free (free_kept other.free other.number)) empty (f x.by_argument other.by_argument) w first second) at
+    ∙ ap (λ x. kept n (first_of e.packs x.packs) (both_free e.free x.free) empty (f e.by_argument x.by_argument) w first second) there
 
 or-false : (b : Bool) → b ≡ b || false
 or-false true = refl
 or-false false = refl
 
-pub lambda-alone : (ns : List Entry) (n : Node) (piece : Piece) (c : Compact) (p k : ℕ) → piece ≡ Piece.Lambda p k
-    → entry_of c ≡ kept n (entry_at ns p).packs (entry_at ns p).is_open (entry_at ns p).is_generic false Words.Plain 0 0
-    → entry_of (as_generic c false) ≡ kept n (piece_packs ns piece) (piece_opens ns piece) (piece_has_generic ns piece) false Words.Plain 0 0
-unfolding piece_packs piece_opens piece_has_generic
-lambda-alone ns n piece c p k is made = rw is (ap (λ x. opened x x.is_open false) made)
+pub lambda-alone : (ns : List Entry) (n : Node) (piece : Piece) (p k : ℕ) → piece ≡ Piece.Lambda p k
+    → kept n (entry_at ns p).packs (entry_at ns p).free false (passed (by_argument_at ns p)) Words.Plain 0 0
+    ≡ kept n (piece_packs ns piece) (piece_frees ns piece) false (piece_by_argument ns piece) Words.Plain 0 0
+unfolding piece_packs piece_frees piece_by_argument
+lambda-alone ns n piece p k is = rw is refl
 
-pub lambda-within : (ns : List Entry) (n : Node) (e : Entry) (piece : Piece) (c : Compact) (own : Bool) (p k : ℕ) → piece ≡ Piece.Lambda p k → own ≡ e.is_generic
-    → entry_of c ≡ kept n (first_of e.packs (entry_at ns p).packs) (e.is_open || (entry_at ns p).is_open) (e.is_generic || (entry_at ns p).is_generic) false Words.Plain 0 0
-    → entry_of (as_generic c own) ≡ kept n (first_of e.packs (piece_packs ns piece)) (e.is_open || piece_opens ns piece) (e.is_generic || piece_has_generic ns piece) false Words.Plain 0 0
-unfolding piece_packs piece_opens piece_has_generic
-lambda-within ns n e piece c own p k is before made = rw is (ap (λ x. opened x x.is_open own) made
-    ∙ ap (λ b. kept n (first_of e.packs (entry_at ns p).packs) (e.is_open || (entry_at ns p).is_open) b false Words.Plain 0 0) (before ∙ or-false e.is_generic))
+pub lambda-within : (ns : List Entry) (n : Node) (e : Entry) (piece : Piece) (p k : ℕ) → piece ≡ Piece.Lambda p k
+    → kept n (first_of e.packs (entry_at ns p).packs) (both_free e.free (entry_at ns p).free) false (joined e.by_argument (by_argument_at ns p)) Words.Plain 0 0
+    ≡ kept n (first_of e.packs (piece_packs ns piece)) (both_free e.free (piece_frees ns piece)) false (joined e.by_argument (piece_by_argument ns piece)) Words.Plain 0 0
+unfolding piece_packs piece_frees piece_by_argument joined passed
+lambda-within ns n e piece p k is = rw is refl
 
 pub conversion-alone : (ns : List Entry) (n : Node) (piece : Piece) (t : ℕ) → piece ≡ Piece.Conversion t
-    → kept n (entry_at ns t).packs (entry_at ns t).is_open (entry_at ns t).is_generic false Words.Plain 0 0 ≡ kept n (piece_packs ns piece) (piece_opens ns piece) (piece_has_generic ns piece) false Words.Plain 0 0
-unfolding piece_packs piece_opens piece_has_generic
+    → kept n (entry_at ns t).packs (entry_at ns t).free false (passed (by_argument_at ns t)) Words.Plain 0 0
+    ≡ kept n (piece_packs ns piece) (piece_frees ns piece) false (piece_by_argument ns piece) Words.Plain 0 0
+unfolding piece_packs piece_frees piece_by_argument
 conversion-alone ns n piece t is = rw is refl
 
 pub conversion-within : (ns : List Entry) (n : Node) (e : Entry) (piece : Piece) (t : ℕ) → piece ≡ Piece.Conversion t
-    → kept n (first_of e.packs (entry_at ns t).packs) (e.is_open || (entry_at ns t).is_open) (e.is_generic || (entry_at ns t).is_generic) false Words.Plain 0 0 ≡ kept n (first_of e.packs (piece_packs ns piece)) (e.is_open || piece_opens ns piece) (e.is_generic || piece_has_generic ns piece) false Words.Plain 0 0
-unfolding piece_packs piece_opens piece_has_generic
+    → kept n (first_of e.packs (entry_at ns t).packs) (both_free e.free (entry_at ns t).free) false (joined e.by_argument (by_argument_at ns t)) Words.Plain 0 0
+    ≡ kept n (first_of e.packs (piece_packs ns piece)) (both_free e.free (piece_frees ns piece)) false (joined e.by_argument (piece_by_argument ns piece)) Words.Plain 0 0
+unfolding piece_packs piece_frees piece_by_argument joined passed
 conversion-within ns n e piece t is = rw is refl
 
 pub other-alone : (ns : List Entry) (n : Node) (piece : Piece) → ((p k : ℕ) → piece ≡ Piece.Lambda p k → ⊥) → ((t : ℕ) → piece ≡ Piece.Conversion t → ⊥)
-    → bare_entry n false ≡ kept n (piece_packs ns piece) (piece_opens ns piece) (piece_has_generic ns piece) false Words.Plain 0 0
-unfolding piece_packs piece_opens piece_has_generic class_kept arguments_kept untagged_kept returns_kept count_kept run_kept
+    → bare_entry n false ≡ kept n (piece_packs ns piece) (piece_frees ns piece) false (piece_by_argument ns piece) Words.Plain 0 0
+unfolding piece_packs piece_frees piece_by_argument class_kept arguments_kept untagged_kept returns_kept count_kept run_kept
 other-alone ns n (Piece.Lambda p k) other none = absurd (other p k refl)
 other-alone ns n (Piece.Conversion t) other none = absurd (none t refl)
 other-alone ns n _ other none = refl
@@ -84,25 +84,40 @@ unfolding first_of
 first-none None = refl
 first-none (Some n) = refl
 
-within-none : (n : Node) (e : Entry) → kept n e.packs e.is_open e.is_generic false Words.Plain 0 0 ≡ kept n (first_of e.packs None) (e.is_open || false) (e.is_generic || false) false Words.Plain 0 0
+joined-none : (l : ByArgument) → passed l ≡ joined l (by_none false)
+unfolding passed joined
+joined-none l = ap (λ b. record { is_bare = b; head = HeadFrom.Own; empty_with = false; empty_without = false }) (or-false l.is_bare)
+
+both-none : (f : Free) → f ≡ both_free f Free.None
+unfolding both_free
+both-none Free.None = refl
+both-none (Free.One k) = refl
+both-none Free.Several = refl
+
+within-none : (n : Node) (e : Entry) → kept n e.packs e.free false (passed e.by_argument) Words.Plain 0 0
+    ≡ kept n (first_of e.packs None) (both_free e.free Free.None) false (joined e.by_argument (by_none false)) Words.Plain 0 0
 within-none n e =
-    ap (λ p. kept n p e.is_open e.is_generic false Words.Plain 0 0) (first-none e.packs)
-    ∙ ap (λ b. kept n (first_of e.packs None) b e.is_generic false Words.Plain 0 0) (or-false e.is_open)
-    ∙ ap (λ b. kept n (first_of e.packs None) (e.is_open || false) b false Words.Plain 0 0) (or-false e.is_generic)
+    ap (λ p. kept n p e.free false (passed e.by_argument) Words.Plain 0 0) (first-none e.packs)
+    ∙ ap (λ f. kept n (first_of e.packs None) f false (passed e.by_argument) Words.Plain 0 0) (both-none e.free)
+    ∙ ap (λ l. kept n (first_of e.packs None) (both_free e.free Free.None) false l Words.Plain 0 0) (joined-none e.by_argument)
 
 pub other-within : (ns : List Entry) (n : Node) (e : Entry) (piece : Piece) → ((p k : ℕ) → piece ≡ Piece.Lambda p k → ⊥) → ((t : ℕ) → piece ≡ Piece.Conversion t → ⊥)
-    → kept n e.packs e.is_open e.is_generic false Words.Plain 0 0 ≡ kept n (first_of e.packs (piece_packs ns piece)) (e.is_open || piece_opens ns piece) (e.is_generic || piece_has_generic ns piece) false Words.Plain 0 0
-unfolding piece_packs piece_opens piece_has_generic
+    → kept n e.packs e.free false (passed e.by_argument) Words.Plain 0 0
+    ≡ kept n (first_of e.packs (piece_packs ns piece)) (both_free e.free (piece_frees ns piece)) false (joined e.by_argument (piece_by_argument ns piece)) Words.Plain 0 0
+unfolding piece_packs piece_frees piece_by_argument
 other-within ns n e (Piece.Lambda p k) other none = absurd (other p k refl)
 other-within ns n e (Piece.Conversion t) other none = absurd (none t refl)
 other-within ns n e _ other none = within-none n e
 
-pub expansion-is : (n : Node) (c held : Compact) (e : Entry) → entry_of held ≡ e → entry_of c ≡ bare_entry n (heads.is_none_of (packs_kept held.packs))
-    → entry_of (record { node = c.node; packs = c.packs; first = c.first; second = c.second; is_open = held.is_open; is_generic = held.is_generic; is_empty = c.is_empty; words = c.words })
-    ≡ kept n None e.is_open e.is_generic (heads.is_none_of e.packs) Words.Plain 0 0
-unfolding class_kept arguments_kept untagged_kept returns_kept count_kept run_kept
-expansion-is n c held e at made =
-    ap (λ x. opened x held.is_open held.is_generic) made ∙ ap (λ x. kept n None x.is_open x.is_generic (heads.is_none_of x.packs) Words.Plain 0 0) at
+pub expansion-is : (n : Node) (empty : Bool) (held : Compact) (e : Entry) → entry_of held ≡ e → empty ≡ heads.is_none_of (packs_kept held.packs)
+    → kept n None (free_kept held.free held.number) empty (of_expansion held.by_argument) Words.Plain 0 0
+    ≡ kept n None e.free (heads.is_none_of e.packs) (of_expansion e.by_argument) Words.Plain 0 0
+expansion-is n empty held e at made =
+    ap (λ b. kept n None (free_kept held.free held.number) b (of_expansion held.by_argument) Words.Plain 0 0) made ∙ ap (λ x. kept n None x.free (heads.is_none_of x.packs) (of_expansion x.by_argument) Words.Plain 0 0) at
+
+pub pack-is : (n : Node) (held : Compact) (e : Entry) → entry_of held ≡ e
+    → kept n (packs_kept held.packs) (free_kept held.free held.number) held.is_empty (of_pack held.by_argument) Words.Plain 0 0 ≡ kept n e.packs e.free e.is_empty (of_pack e.by_argument) Words.Plain 0 0
+pack-is n held e at = ap (λ x. kept n x.packs x.free x.is_empty (of_pack x.by_argument) Words.Plain 0 0) at
 
 -- one more is held
 pub held-one-more : (olds news : List Compact) (c : Compact) (ns : List Entry) (e : Entry) → news ≡ olds ++ c ∷ [] → map entry_of olds ≡ ns → entry_of c ≡ e
@@ -112,11 +127,6 @@ held-one-more olds news c ns e is was made =
     ∙ ap (λ es. es ++ entry_of c ∷ []) was ∙ ap (λ x. ns ++ x ∷ []) made
 
 -- ## The nodes of which nothing is noted
-
--- that of a lambda's own parameter
-pub generic-node : (ns : List Entry) (n : Node) (c : Compact) (k : ℕ) → n ≡ Node.GenericParameter k → entry_of c ≡ bare_entry n false → entry_of (as_generic c true) ≡ noting ns n
-unfolding opens has_generic empties ends_in untagging classes packing returning counting running
-generic-node ns n c k is made = ap (λ x. opened x x.is_open true) made ∙ rw is refl
 
 -- Generated by tools/trees.py. The others
 pub record IsOther (n : Node) : Type 0 where
@@ -138,17 +148,17 @@ pub record IsOther (n : Node) : Type 0 where
   pub not_memberpointer : (i : ℕ) (j : ℕ) → n ≡ Node.MemberPointer i j → ⊥
   pub not_functiontype : (x : Bool) (y : Bool) (m : Mark) (i : ℕ) (j : ℕ) → n ≡ Node.FunctionType x y m i j → ⊥
   pub not_qualified : (q : Qualifiers) (i : ℕ) → n ≡ Node.Qualified q i → ⊥
-  pub not_genericparameter : (k : ℕ) → n ≡ Node.GenericParameter k → ⊥
   pub not_vector : (d : Span) (i : ℕ) → n ≡ Node.Vector d i → ⊥
   pub not_complex : (i : ℕ) → n ≡ Node.Complex i → ⊥
   pub not_expansion : (i : ℕ) → n ≡ Node.Expansion i → ⊥
   pub not_integer : (i : ℕ) (v : Signed) → n ≡ Node.Integer i v → ⊥
   pub not_pack : (i : ℕ) → n ≡ Node.Pack i → ⊥
   pub not_cell : (i : ℕ) (j : ℕ) → n ≡ Node.Cell i j → ⊥
+  pub not_again : (i : ℕ) (j : ℕ) → n ≡ Node.Again i j → ⊥
 
 -- Generated by tools/trees.py.
 pub other-node : (ns : List Entry) (n : Node) → IsOther n → bare_entry n false ≡ noting ns n
-unfolding opens has_generic empties ends_in untagging classes packing returning counting running
+unfolding frees node_by_argument empties ends_in untagging classes packing returning counting running
 other-node ns Node.Nil other = absurd (other.not_nil refl)
 other-node ns (Node.Alone p) other = absurd (other.not_alone p refl)
 other-node ns (Node.InStd p) other = absurd (other.not_instd p refl)
@@ -167,13 +177,13 @@ other-node ns (Node.Bounded i j) other = absurd (other.not_bounded i j refl)
 other-node ns (Node.MemberPointer i j) other = absurd (other.not_memberpointer i j refl)
 other-node ns (Node.FunctionType x y m i j) other = absurd (other.not_functiontype x y m i j refl)
 other-node ns (Node.Qualified q i) other = absurd (other.not_qualified q i refl)
-other-node ns (Node.GenericParameter k) other = absurd (other.not_genericparameter k refl)
 other-node ns (Node.Vector d i) other = absurd (other.not_vector d i refl)
 other-node ns (Node.Complex i) other = absurd (other.not_complex i refl)
 other-node ns (Node.Expansion i) other = absurd (other.not_expansion i refl)
 other-node ns (Node.Integer i v) other = absurd (other.not_integer i v refl)
 other-node ns (Node.Pack i) other = absurd (other.not_pack i refl)
 other-node ns (Node.Cell i j) other = absurd (other.not_cell i j refl)
+other-node ns (Node.Again i j) other = absurd (other.not_again i j refl)
 other-node ns _ other = refl
 
 -- ## Parameters
@@ -181,14 +191,49 @@ other-node ns _ other = refl
 one-more : (n : ℕ) → n + 1 ≡ suc n
 one-more n = omega arith
 
-pub pack-argument : (ns : List Entry) (n : Node) (argument elements count : ℕ) → (entry_at ns argument).node ≡ Node.Pack elements → count ≡ (entry_at ns elements).count
-    → entry_of (record { node = n; packs = count + 1; first = elements; second = 0; is_open = true; is_generic = false; is_empty = false; words = Words.OfElement })
-    ≡ with_head n (argument_packs ns (entry_at ns argument).node) true false (argument_class (entry_at ns argument).node (entry_at ns argument).class)
-unfolding argument_packs argument_class packs_kept class_kept arguments_kept untagged_kept returns_kept count_kept run_kept
-pack-argument ns n argument elements count is counted = rw (is, counted, one-more (entry_at ns elements).count) refl
+pub pack-packs : (ns : List Entry) (n : Node) (elements count : ℕ) → n ≡ Node.Pack elements → count ≡ (entry_at ns elements).count → packs_kept (count + 1) ≡ argument_packs ns n
+unfolding argument_packs packs_kept
+pack-packs ns n elements count is counted = rw (is, counted, one-more (entry_at ns elements).count) refl
 
-pub other-argument : (ns : List Entry) (n m : Node) (c : HeadClass) → ((elements : ℕ) → m ≡ Node.Pack elements → ⊥)
-    → with_head n None true false c ≡ with_head n (argument_packs ns m) true false (argument_class m c)
-unfolding argument_packs argument_class
-other-argument ns n (Node.Pack elements) c other = absurd (other elements refl)
-other-argument ns n _ c other = refl
+pub pack-head : (n : Node) (c : HeadClass) (under : Option ℕ) (elements second : ℕ) → n ≡ Node.Pack elements → under_kept second ≡ under → class_kept Words.OfElement elements second ≡ pack_class under n c
+unfolding pack_class class_kept
+pack-head n c under elements second is there = rw (is, sym there) refl
+
+pub other-packs-none : (ns : List Entry) (n : Node) → ((elements : ℕ) → n ≡ Node.Pack elements → ⊥) → packs_kept 0 ≡ argument_packs ns n
+unfolding argument_packs packs_kept
+other-packs-none ns (Node.Pack elements) other = absurd (other elements refl)
+other-packs-none ns _ other = refl
+
+pub other-head : (n : Node) (under : Option ℕ) (c : HeadClass) → ((elements : ℕ) → n ≡ Node.Pack elements → ⊥) → c ≡ pack_class under n c
+unfolding pack_class
+other-head (Node.Pack elements) under c other = absurd (other elements refl)
+other-head _ under c other = refl
+
+-- ## Trees that are there again
+
+pub own-restated : (n : Node) (packs : Option ℕ) (empty : Bool) (e : Entry) (argument : ℕ) (given : HeadClass) → e.by_argument.head ≡ HeadFrom.Own
+    → record { node = n; packs = packs; free = e.free; is_empty = empty; by_argument = e.by_argument; class = e.class; arguments = placed_under argument e.arguments; untagged = placed_under argument e.untagged; returns = e.returns; count = e.count; run = 0 }
+    ≡ restated_entry n packs empty e argument given
+unfolding class_by if_own
+own-restated n packs empty e argument given is = rw is refl
+
+pub given-restated : (n : Node) (packs : Option ℕ) (empty : Bool) (e : Entry) (argument : ℕ) (given : HeadClass) → e.by_argument.head ≡ HeadFrom.Argument
+    → with_head n packs e.free empty e.by_argument given ≡ restated_entry n packs empty e argument given
+unfolding class_by if_own
+given-restated n packs empty e argument given is = rw is refl
+
+pub collapsed-restated : (n : Node) (packs : Option ℕ) (empty : Bool) (e : Entry) (argument : ℕ) (given : HeadClass) → e.by_argument.head ≡ HeadFrom.Collapsed
+    → with_head n packs e.free empty e.by_argument (collapses given) ≡ restated_entry n packs empty e argument given
+unfolding class_by if_own
+collapsed-restated n packs empty e argument given is = rw is refl
+
+pub again-is : (n : Node) (made : Entry) (held : Compact) (e : Entry) (kept_packs given_packs packs : Option ℕ) (empty none : Bool) (argument : ℕ) (given class : HeadClass)
+    → made ≡ restated_entry n kept_packs empty (entry_of held) argument given → entry_of held ≡ e → given_packs ≡ packs → given ≡ class
+    → kept_packs ≡ packs_by held.by_argument.is_bare given_packs → none ≡ heads.is_none_of given_packs → empty ≡ empty_by none held.by_argument
+    → made ≡ restated_entry n (packs_by e.by_argument.is_bare packs) (empty_by (heads.is_none_of packs) e.by_argument) e argument class
+again-is n made held e kept_packs given_packs packs empty none argument given class made-is at packs-are class-is kept-is none-is empty-is =
+    made-is ∙ ap (λ p. restated_entry n p empty (entry_of held) argument given) kept-is
+    ∙ ap (λ b. restated_entry n (packs_by held.by_argument.is_bare given_packs) b (entry_of held) argument given) (empty-is ∙ ap (λ b. empty_by b held.by_argument) none-is)
+    ∙ ap (λ p. restated_entry n (packs_by held.by_argument.is_bare p) (empty_by (heads.is_none_of p) held.by_argument) (entry_of held) argument given) packs-are
+    ∙ ap (λ h. restated_entry n (packs_by held.by_argument.is_bare packs) (empty_by (heads.is_none_of packs) held.by_argument) (entry_of held) argument h) class-is
+    ∙ ap (λ x. restated_entry n (packs_by x.by_argument.is_bare packs) (empty_by (heads.is_none_of packs) x.by_argument) x argument class) at

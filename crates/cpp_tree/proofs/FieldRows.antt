@@ -1,7 +1,7 @@
 -- The fields of some trees, computed.
 use Rattle.std.proofs.Common.{◌≡◌, [], ◌∷◌, true, false, Some, refl}
 use Rattle.std.specs.Prelude.{codes}
-use Rattle.cpp_grammar.specs.Term.{any_value, rvalue_only, non_virtual, by_table, adjusting, covariant, Term, Thunk, Signed, function, thunk, alone, within, local, source, operator, lambda, builtin, function_type, nil, absent}
+use Rattle.cpp_grammar.specs.Term.{any_value, rvalue_only, non_virtual, by_table, adjusting, covariant, Term, Thunk, Signed, function, thunk, alone, within, local, source, operator, lambda, generic_lambda, builtin, function_type, nil, absent}
 use Rattle.cpp_tree.specs.Fields.{fields_of, offsets_of, bit, mark_number, name_fields, local_fields, thunk_fields}
 
 abbrev foo : Term
@@ -15,6 +15,10 @@ nested-row = refl
 lambda-row : fields_of (within foo (lambda nil 2)) ≡ record { production = 59; numbers = 2 ∷ 0 ∷ []; texts = [] ∷ [] ∷ []; parts = foo ∷ nil ∷ [] }
 unfolding fields_of name_fields
 lambda-row = refl
+
+generic_lambda-row : fields_of (within foo (generic_lambda nil 2)) ≡ record { production = 76; numbers = 2 ∷ 0 ∷ []; texts = [] ∷ [] ∷ []; parts = foo ∷ nil ∷ [] }
+unfolding fields_of name_fields
+generic_lambda-row = refl
 
 -- 1 for restrict and 4 for const
 function-row : fields_of (function foo (record { restrict = true; volatile = false; const = true }) rvalue_only absent nil)

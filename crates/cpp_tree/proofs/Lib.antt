@@ -3,4 +3,5 @@ pub mod Pushed
 pub mod Noting
 pub mod Compacting
 pub mod Rebuilding
+pub mod FreeParameters
 mod FieldRows

@@ -3,15 +3,18 @@ use Rattle.std.proofs.Common.{◌≡◌, refl, sym, ◌∙◌, ap, subst, arith,
 use Rattle.std.proofs.lemmas.List.Elements.{All-push}
 use Rattle.cpp_term.specs.Term.{Term, absent}
 use Rattle.cpp_term.specs.Items as items
-use Rattle.cpp_term.specs.Scope.{pack_length, is_open, is_generic, arguments_of, without_tags, has_return_type, count, element}
+use Rattle.cpp_term.specs.Scope.{pack_length, free_in, arguments_of, without_tags, has_return_type, count, element}
 use Rattle.cpp_tree.specs.declared.node.Node.{Node}
 use Rattle.cpp_tree.specs.declared.node.Piece.{Piece}
 use Rattle.cpp_tree.specs.declared.node.Thunk.{Thunk}
 use Rattle.cpp_tree.specs.declared.node.HeadClass.{HeadClass}
 use Rattle.cpp_tree.specs.declared.node.Head.{Head}
+use Rattle.cpp_tree.specs.declared.node.Free.{Free}
 use Rattle.cpp_tree.specs.declared.node.Entry.{Entry}
 use Rattle.cpp_tree.specs.Notes.{bare_entry}
-use Rattle.cpp_tree.specs.Nodes.{Stored, over, head_of, Table, tree_at, piece_of, tree_of, trees_onto, trees, entry_at, IsPieceBelow, IsBelow, IsClassBelow, class_is, arguments_are, IsArgumentsBelow, untagged_is, IsEntry, IsTable, IsNoted, with_entry, with_thunk, IsThunkWithin}
+use Rattle.cpp_tree.specs.Nodes.{Stored, over, head_of, Table, tree_at, piece_of, tree_of, trees_onto, trees, entry_at, IsPieceBelow, IsBelow, IsThereBelow, under_kept, IsPlacedBelow, IsClassBelow, tree_if_there, placed_tree, class_is, placed_if_there, IsPlacedThere, untagged_is, free_is, head_noted, by_argument_of, by_none, is_again, IsFlat, IsEntry, IsTable, IsNoted, with_entry, with_thunk, IsThunkWithin}
+use Rattle.cpp_tree.specs.declared.node.Placed.{Placed}
+use Rattle.cpp_term.specs.Reargued.{bare, head_from, is_empty_with}
 
 get-early : {A : Type 0} (xs : List A) (x d : A) (k : ℕ) → k < length xs → get_or (xs ++ x ∷ []) k d ≡ get_or xs k d
 get-early [] x d k less = absurd (omega (arith, less))
@@ -40,9 +43,15 @@ module _ (s : List ℕ) (us : List Thunk) (ts : List Term) (t : Term) (i : ℕ) 
   early : (k : ℕ) → k < i → tree_at (ts ++ t ∷ []) k ≡ tree_at ts k
   early k less = get-early ts t absent k (omega (arith, less, most))
 
+  tree-stays : (o : Option ℕ) → IsThereBelow i o → tree_if_there (ts ++ t ∷ []) o ≡ tree_if_there ts o
+  unfolding tree_if_there
+  tree-stays None b = refl
+  tree-stays (Some a) b = rw (early a b) refl
+
   piece-stays : (p : Piece) → IsPieceBelow s i p → piece_of s (ts ++ t ∷ []) p ≡ piece_of s ts p
   unfolding piece_of
   piece-stays (Piece.Lambda parameters number) below = rw (early parameters below) refl
+  piece-stays (Piece.GenericLambda parameters number) below = rw (early parameters below) refl
   piece-stays (Piece.Conversion t) below = rw (early t below) refl
   piece-stays _ below = refl
 
@@ -51,7 +60,7 @@ module _ (s : List ℕ) (us : List Thunk) (ts : List Term) (t : Term) (i : ℕ) 
   unfolding tree_of
   node-stays Node.Absent b = refl
   node-stays Node.Nil b = refl
-  node-stays (Node.Function name q m returned parameters) b = rw (early name b.0, early returned b.1, early parameters b.2) refl
+  node-stays (Node.Function name q m returned parameters under) b = rw (early name b.0, early returned b.1, early parameters b.2, tree-stays (under_kept under) b.3) refl
   node-stays (Node.Object name q m) b = rw (early name b) refl
   node-stays (Node.Special letter x) b = rw (early x b) refl
   node-stays (Node.Thunk u e) b = rw (early e b.1) refl
@@ -71,7 +80,6 @@ module _ (s : List ℕ) (us : List Thunk) (ts : List Term) (t : Term) (i : ℕ) 
   node-stays (Node.Builtin letter) b = refl
   node-stays (Node.BuiltinWithD letter) b = refl
   node-stays (Node.SizedFloat digits end) b = refl
-  node-stays (Node.GenericParameter number) b = refl
   node-stays (Node.Vendor bytes) b = refl
   node-stays (Node.Pointer x) b = rw (early x b) refl
   node-stays (Node.Lvalue x) b = rw (early x b) refl
@@ -92,28 +100,44 @@ module _ (s : List ℕ) (us : List Thunk) (ts : List Term) (t : Term) (i : ℕ) 
   node-stays (Node.Pack elements) b = rw (early elements b) refl
   node-stays (Node.Cell first rest) b = rw (early first b.0, early rest b.1) refl
   node-stays (Node.Whole e suffix) b = rw (early e b.0) refl
+  node-stays (Node.Again x a) b = rw (early x b.0, early a b.1) refl
+
+  placed-stays : (p : Placed) → IsPlacedBelow i p → placed_tree (ts ++ t ∷ []) p ≡ placed_tree ts p
+  unfolding placed_tree
+  placed-stays p b = rw (early p.node b.0, tree-stays p.under b.1) refl
 
   class-stays : (c : HeadClass) → IsClassBelow i c → class_is (ts ++ t ∷ []) c ≡ class_is ts c
   unfolding class_is
   class-stays (HeadClass.Known h) b = refl
-  class-stays (HeadClass.OfElement e) b = rw (early e b) refl
-  class-stays (HeadClass.CollapsedOfElement e) b = rw (early e b) refl
+  class-stays (HeadClass.OfElement e) b = ap items.of_element (placed-stays e b)
+  class-stays (HeadClass.CollapsedOfElement e) b = ap items.collapsed_of_element (placed-stays e b)
 
-  arguments-stay : (a : Option ℕ) → IsArgumentsBelow i a → arguments_are (ts ++ t ∷ []) a ≡ arguments_are ts a
-  unfolding arguments_are
+  arguments-stay : (a : Option Placed) → IsPlacedThere i a → placed_if_there (ts ++ t ∷ []) a ≡ placed_if_there ts a
+  unfolding placed_if_there
   arguments-stay None b = refl
-  arguments-stay (Some a) b = rw (early a b) refl
+  arguments-stay (Some a) b = ap Some (placed-stays a b)
 
-  untagged-stays : (u : Term) (o : Option ℕ) → IsArgumentsBelow i o → untagged_is (ts ++ t ∷ []) u o ≡ untagged_is ts u o
+  untagged-stays : (u : Term) (o : Option Placed) → IsPlacedThere i o → untagged_is (ts ++ t ∷ []) u o ≡ untagged_is ts u o
   unfolding untagged_is
   untagged-stays u None b = refl
-  untagged-stays u (Some a) b = early a b
+  untagged-stays u (Some a) b = placed-stays a b
 
 split : (i n : ℕ) → i < suc n → (i < n) ⊎ (i ≡ n)
 split zero zero less = inr refl
 split zero (suc n) less = inl (omega arith)
 split (suc i) zero less = absurd (omega (arith, less))
 split (suc i) (suc n) less = elim (split i n (omega (arith, less))) [ inl a ↦ inl (omega (arith, a)) | inr b ↦ inr (ap suc b) ]
+
+abbrev no_entry : Entry
+no_entry = record { node = Node.Absent; packs = None; free = Free.None; is_empty = false; by_argument = by_none false; class = HeadClass.Known Head.Plain; arguments = None; untagged = None; returns = false; count = 0; run = 0 }
+
+flat-new : (y : Table) (e : Entry) (n : Node) → IsBelow y.bytes (length y.thunks) (length y.nodes) n → IsFlat y.nodes n → IsFlat (y.nodes ++ e ∷ []) n
+flat-new y e (Node.Again t a) b flat = ap (λ x. is_again x.node) (get-early y.nodes e no_entry t b.0) ∙ flat
+flat-new y e _ b flat = tt
+
+flat-stays : (y : Table) (e : Entry) (i : ℕ) (n : Node) → i < length y.nodes → IsBelow y.bytes (length y.thunks) i n → IsFlat y.nodes n → IsFlat (y.nodes ++ e ∷ []) n
+flat-stays y e i (Node.Again t a) less b flat = ap (λ x. is_again x.node) (get-early y.nodes e no_entry t (omega (arith, b.0, less))) ∙ flat
+flat-stays y e i _ less b flat = tt
 
 module _ (y : Table) (e : Entry) (table : IsTable y) (noted : IsNoted y e) where
   abbrev own : Term
@@ -131,9 +155,10 @@ module _ (y : Table) (e : Entry) (table : IsTable y) (noted : IsNoted y e) where
         built = here ∙ was.built ∙ sym (node-stays y.bytes y.thunks (trees y) own i most (entry_at y.nodes i).node was.below);
         below = was.below;
         packs = was.packs ∙ ap pack_length (sym here);
-        free = was.free ∙ ap is_open (sym here);
-        generic = was.generic ∙ ap is_generic (sym here);
+        free = was.free ∙ ap free_in (sym here);
         empty = was.empty ∙ ap (λ t. items.is_empty items.closed t) (sym here);
+        by_argument = was.by_argument ∙ ap by_argument_of (sym here);
+        flat = flat-stays y e i (entry_at y.nodes i).node less was.below was.flat;
         class = class-stays y.bytes y.thunks (trees y) own i most (entry_at y.nodes i).class was.class_below ∙ was.class ∙ ap items.class_of (sym here);
         class_below = was.class_below;
         arguments = arguments-stay y.bytes y.thunks (trees y) own i most (entry_at y.nodes i).arguments was.arguments_below ∙ was.arguments ∙ ap arguments_of (sym here);
@@ -158,9 +183,10 @@ module _ (y : Table) (e : Entry) (table : IsTable y) (noted : IsNoted y e) where
         built = last ∙ sym (node-stays y.bytes y.thunks (trees y) own (length y.nodes) most e.node noted.below);
         below = noted.below;
         packs = noted.packs ∙ ap pack_length (sym last);
-        free = noted.free ∙ ap is_open (sym last);
-        generic = noted.generic ∙ ap is_generic (sym last);
+        free = noted.free ∙ ap free_in (sym last);
         empty = noted.empty ∙ ap (λ t. items.is_empty items.closed t) (sym last);
+        by_argument = noted.by_argument ∙ ap by_argument_of (sym last);
+        flat = flat-new y e e.node noted.below noted.flat;
         class = class-stays y.bytes y.thunks (trees y) own (length y.nodes) most e.class noted.class_below ∙ noted.class ∙ ap items.class_of (sym last);
         class_below = noted.class_below;
         arguments = arguments-stay y.bytes y.thunks (trees y) own (length y.nodes) most e.arguments noted.arguments_below ∙ noted.arguments ∙ ap arguments_of (sym last);
@@ -176,7 +202,7 @@ module _ (y : Table) (e : Entry) (table : IsTable y) (noted : IsNoted y e) where
       }
 
   abbrev none : Entry
-  none = record { node = Node.Absent; packs = None; is_open = false; is_generic = false; is_empty = false; class = HeadClass.Known Head.Plain; arguments = None; untagged = None; returns = false; count = 0; run = 0 }
+  none = no_entry
 
   each-here : (i : ℕ) → (i < length y.nodes) ⊎ (i ≡ length y.nodes) → IsEntry (with_entry y e) (trees y ++ own ∷ []) i (entry_at (y.nodes ++ e ∷ []) i)
   each-here i (inl less) = subst (λ x. IsEntry (with_entry y e) (trees y ++ own ∷ []) i x) (sym (get-early y.nodes e none i less)) (old i less)
@@ -194,7 +220,8 @@ module _ (y : Table) (e : Entry) (table : IsTable y) (noted : IsNoted y e) where
     fixed = omega (arith, table.fixed, length-one-more y.nodes e);
     no_tree = earlier-stays 0 (omega (arith, table.fixed)) ∙ table.no_tree;
     no_list = earlier-stays 1 (omega (arith, table.fixed)) ∙ table.no_list;
-    no_elements = earlier-stays 2 table.fixed ∙ table.no_elements;
+    no_elements = earlier-stays 2 (omega (arith, table.fixed)) ∙ table.no_elements;
+    auto = earlier-stays 3 table.fixed ∙ table.auto;
     adjusting = table.adjusting;
     many = ap (λ ts. length ts) grown ∙ length-one-more (trees y) own ∙ ap suc table.many ∙ sym (length-one-more y.nodes e);
     each = λ i less. subst (λ ts. IsEntry (with_entry y e) ts i (entry_at (y.nodes ++ e ∷ []) i)) (sym grown)
@@ -216,23 +243,24 @@ pushed-stays y z e is table noted i less = ap (λ x. tree_at (trees x) i) is ∙
 pub with-one-more : (s : List ℕ) (stored : Stored) (es : List Entry) (us : List Thunk) (e : Entry) → es ≡ stored.nodes ++ e ∷ [] → us ≡ stored.thunks → (let more : Table = record { bytes = s; nodes = es; thunks = us } in more ≡ with_entry (over s stored) e)
 with-one-more s stored es us e is same = rw (is, same) refl
 
--- ## The first three
+-- ## The first four
 
-abbrev first-three : List ℕ → List Thunk → Table
-first-three s us = record { bytes = s; nodes = bare_entry Node.Absent false ∷ bare_entry Node.Nil true ∷ bare_entry (Node.Pack 1) true ∷ []; thunks = us }
+abbrev first-four : List ℕ → List Thunk → Table
+first-four s us = record { bytes = s; nodes = bare_entry Node.Absent false ∷ bare_entry Node.Nil true ∷ bare_entry (Node.Pack 1) true ∷ bare_entry (Node.BuiltinWithD 97) false ∷ []; thunks = us }
 
-each-begins : (s : List ℕ) (us : List Thunk) (i : ℕ) → i < 3 → IsEntry (first-three s us) (trees (first-three s us)) i (entry_at (first-three s us).nodes i)
-unfolding trees_onto tree_of pack_length is_open is_generic arguments_of arguments_are without_tags untagged_is has_return_type count items.is_empty items.class_of class_is head_of
-each-begins s us zero less = record { built = refl; below = tt; packs = refl; free = refl; generic = refl; empty = refl; class = refl; class_below = tt; arguments = refl; arguments_below = tt; untagged = refl; untagged_below = tt; returns = refl; counted = refl; count_below = omega arith; runs = λ k n most. absurd (omega (arith, most)); run_below = omega arith }
-each-begins s us (suc zero) less = record { built = refl; below = tt; packs = refl; free = refl; generic = refl; empty = refl; class = refl; class_below = tt; arguments = refl; arguments_below = tt; untagged = refl; untagged_below = tt; returns = refl; counted = refl; count_below = omega arith; runs = λ k n most. absurd (omega (arith, most)); run_below = omega arith }
-each-begins s us (suc (suc zero)) less = record { built = refl; below = omega arith; packs = refl; free = refl; generic = refl; empty = refl; class = refl; class_below = tt; arguments = refl; arguments_below = tt; untagged = refl; untagged_below = tt; returns = refl; counted = refl; count_below = omega arith; runs = λ k n most. absurd (omega (arith, most)); run_below = omega arith }
-each-begins s us (suc (suc (suc i))) less = absurd (omega (arith, less))
+each-begins : (s : List ℕ) (us : List Thunk) (i : ℕ) → i < 4 → IsEntry (first-four s us) (trees (first-four s us)) i (entry_at (first-four s us).nodes i)
+unfolding trees_onto tree_of pack_length free_in free_is by_argument_of bare head_from is_empty_with head_noted arguments_of placed_if_there without_tags untagged_is has_return_type count items.is_empty items.class_of class_is head_of
+each-begins s us zero less = record { built = refl; below = tt; packs = refl; free = refl; empty = refl; by_argument = refl; flat = tt; class = refl; class_below = tt; arguments = refl; arguments_below = tt; untagged = refl; untagged_below = tt; returns = refl; counted = refl; count_below = omega arith; runs = λ k n most. absurd (omega (arith, most)); run_below = omega arith }
+each-begins s us (suc zero) less = record { built = refl; below = tt; packs = refl; free = refl; empty = refl; by_argument = refl; flat = tt; class = refl; class_below = tt; arguments = refl; arguments_below = tt; untagged = refl; untagged_below = tt; returns = refl; counted = refl; count_below = omega arith; runs = λ k n most. absurd (omega (arith, most)); run_below = omega arith }
+each-begins s us (suc (suc zero)) less = record { built = refl; below = omega arith; packs = refl; free = refl; empty = refl; by_argument = refl; flat = tt; class = refl; class_below = tt; arguments = refl; arguments_below = tt; untagged = refl; untagged_below = tt; returns = refl; counted = refl; count_below = omega arith; runs = λ k n most. absurd (omega (arith, most)); run_below = omega arith }
+each-begins s us (suc (suc (suc zero))) less = record { built = refl; below = tt; packs = refl; free = refl; empty = refl; by_argument = refl; flat = tt; class = refl; class_below = tt; arguments = refl; arguments_below = tt; untagged = refl; untagged_below = tt; returns = refl; counted = refl; count_below = omega arith; runs = λ k n most. absurd (omega (arith, most)); run_below = omega arith }
+each-begins s us (suc (suc (suc (suc i)))) less = absurd (omega (arith, less))
 
-begins : (s : List ℕ) → IsTable (first-three s [])
+begins : (s : List ℕ) → IsTable (first-four s [])
 unfolding trees_onto tree_of
-begins s = record { fixed = omega arith; no_tree = refl; no_list = refl; no_elements = refl; adjusting = λ k d less. absurd (omega (arith, less)); many = refl; each = each-begins s [] }
+begins s = record { fixed = omega arith; no_tree = refl; no_list = refl; no_elements = refl; auto = refl; adjusting = λ k d less. absurd (omega (arith, less)); many = refl; each = each-begins s [] }
 
-pub begun : (es : List Entry) (us : List Thunk) (s : List ℕ) → es ≡ bare_entry Node.Absent false ∷ bare_entry Node.Nil true ∷ bare_entry (Node.Pack 1) true ∷ [] → us ≡ [] → IsTable (record { bytes = s; nodes = es; thunks = us })
+pub begun : (es : List Entry) (us : List Thunk) (s : List ℕ) → es ≡ bare_entry Node.Absent false ∷ bare_entry Node.Nil true ∷ bare_entry (Node.Pack 1) true ∷ bare_entry (Node.BuiltinWithD 97) false ∷ [] → us ≡ [] → IsTable (record { bytes = s; nodes = es; thunks = us })
 begun es us s is none = rw (is, none) (begins s)
 
 -- ## One more thunk
@@ -248,6 +276,7 @@ module _ (s : List ℕ) (us : List Thunk) (u : Thunk) where
   below-adjusts (Node.Alone p) i b = b
   below-adjusts (Node.InStd p) i b = b
   below-adjusts (Node.Within prefix p) i b = b
+  below-adjusts (Node.Again t a) i b = b
   below-adjusts _ i b = b
 
   trees-adjust : (ts : List Term) (es : List Entry) → ((i : ℕ) → i < length es → (k : ℕ) × IsBelow s (length us) k (entry_at es i).node) → trees_onto s (us ++ u ∷ []) ts es ≡ trees_onto s us ts es
@@ -270,8 +299,9 @@ module _ (y : Table) (u : Thunk) (table : IsTable y) (within : IsThunkWithin y.b
         below = below-adjusts y.bytes y.thunks u (entry_at y.nodes i).node i was.below;
         packs = was.packs;
         free = was.free;
-        generic = was.generic;
         empty = was.empty;
+        by_argument = was.by_argument;
+        flat = was.flat;
         class = was.class;
         class_below = was.class_below;
         arguments = was.arguments;
@@ -291,6 +321,7 @@ module _ (y : Table) (u : Thunk) (table : IsTable y) (within : IsThunkWithin y.b
     no_tree = ap (λ ts. tree_at ts 0) same-trees ∙ table.no_tree;
     no_list = ap (λ ts. tree_at ts 1) same-trees ∙ table.no_list;
     no_elements = ap (λ ts. tree_at ts 2) same-trees ∙ table.no_elements;
+    auto = ap (λ ts. tree_at ts 3) same-trees ∙ table.auto;
     adjusting = All-push (IsThunkWithin y.bytes) y.thunks u table.adjusting within;
     many = ap (λ ts. length ts) same-trees ∙ table.many;
     each = λ i less. subst (λ ts. IsEntry (with_thunk y u) ts i (entry_at y.nodes i)) (sym same-trees) (adjusts i less);

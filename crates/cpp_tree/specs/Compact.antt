@@ -3,31 +3,41 @@ use Rattle.std.specs.Prelude.{ℕ, zero, suc, Bool, true, false, Option, None, S
 use Rattle.cpp_tree.specs.declared.node.Entry.{Entry}
 use Rattle.cpp_tree.specs.declared.node.Node.{Node}
 use Rattle.cpp_tree.specs.declared.node.Head.{Head}
+use Rattle.cpp_tree.specs.declared.node.Placed.{Placed}
 use Rattle.cpp_tree.specs.declared.node.HeadClass.{HeadClass}
+use Rattle.cpp_tree.specs.declared.node.Free.{Free}
+use Rattle.cpp_tree.specs.declared.node.ByArgument.{ByArgument}
+use Rattle.cpp_tree.specs.declared.compact.HowMany.{HowMany}
 use Rattle.cpp_tree.specs.declared.compact.Words.{Words}
 use Rattle.cpp_tree.specs.declared.compact.Compact.{Compact}
+use Rattle.cpp_tree.specs.Nodes.{under_kept}
+use Rattle.cpp_tree.specs.Notes.{placed_under, if_own, class_by}
 
 -- the length of packs, by what is kept: the number behind it, and 0 where there are none
 unfoldable pub packs_kept : ℕ → Option ℕ
 packs_kept zero = None
 packs_kept (suc n) = Some n
 
-unfoldable pub class_kept : Words → ℕ → HeadClass
-class_kept Words.FunctionOrArray n = HeadClass.Known Head.FunctionOrArray
-class_kept Words.Lvalue n = HeadClass.Known Head.Lvalue
-class_kept Words.Rvalue n = HeadClass.Known Head.Rvalue
-class_kept Words.OfElement n = HeadClass.OfElement n
-class_kept Words.CollapsedOfElement n = HeadClass.CollapsedOfElement n
-class_kept _ n = HeadClass.Known Head.Plain
+-- the first word is a node, and the second the argument under which it stands and one more, 0 where there is none
+abbrev pub placed_kept : (first second : ℕ) → Placed
+placed_kept first second = record { node = first; under = under_kept second }
 
-unfoldable pub arguments_kept : Words → ℕ → Option ℕ
-arguments_kept Words.Arguments n = Some n
-arguments_kept Words.ReturningArguments n = Some n
-arguments_kept _ n = None
+unfoldable pub class_kept : Words → (first second : ℕ) → HeadClass
+class_kept Words.FunctionOrArray n m = HeadClass.Known Head.FunctionOrArray
+class_kept Words.Lvalue n m = HeadClass.Known Head.Lvalue
+class_kept Words.Rvalue n m = HeadClass.Known Head.Rvalue
+class_kept Words.OfElement n m = HeadClass.OfElement (placed_kept n m)
+class_kept Words.CollapsedOfElement n m = HeadClass.CollapsedOfElement (placed_kept n m)
+class_kept _ n m = HeadClass.Known Head.Plain
 
-unfoldable pub untagged_kept : Words → ℕ → Option ℕ
-untagged_kept Words.Tagged n = Some n
-untagged_kept _ n = None
+unfoldable pub arguments_kept : Words → (first second : ℕ) → Option Placed
+arguments_kept Words.Arguments n m = Some (placed_kept n m)
+arguments_kept Words.ReturningArguments n m = Some (placed_kept n m)
+arguments_kept _ n m = None
+
+unfoldable pub untagged_kept : Words → (first second : ℕ) → Option Placed
+untagged_kept Words.Tagged n m = Some (placed_kept n m)
+untagged_kept _ n m = None
 
 unfoldable pub returns_kept : Words → Bool
 returns_kept Words.ReturningArguments = true
@@ -41,34 +51,52 @@ unfoldable pub run_kept : Words → ℕ → ℕ
 run_kept Words.Elements n = n
 run_kept _ n = 0
 
+-- the free parameters: the number is that of one alone
+unfoldable pub free_kept : HowMany → (number : ℕ) → Free
+free_kept HowMany.None k = Free.None
+free_kept HowMany.One k = Free.One k
+free_kept HowMany.Several k = Free.Several
+
 -- an entry, by what is shared in two words
-abbrev pub kept : (n : Node) (packs : Option ℕ) (is_open is_generic is_empty : Bool) (words : Words) (first second : ℕ) → Entry
-kept n packs is_open is_generic is_empty words first second = record {
+abbrev pub kept : (n : Node) (packs : Option ℕ) (free : Free) (is_empty : Bool) (by_argument : ByArgument) (words : Words) (first second : ℕ) → Entry
+kept n packs free is_empty by_argument words first second = record {
   node = n;
   packs = packs;
-  is_open = is_open;
-  is_generic = is_generic;
+  free = free;
   is_empty = is_empty;
-  class = class_kept words first;
-  arguments = arguments_kept words first;
-  untagged = untagged_kept words first;
+  by_argument = by_argument;
+  class = class_kept words first second;
+  arguments = arguments_kept words first second;
+  untagged = untagged_kept words first second;
   returns = returns_kept words;
   count = count_kept words first;
   run = run_kept words second;
 }
 
 -- the entry of a type with this head
-abbrev pub with_head : (n : Node) (packs : Option ℕ) (is_open is_generic : Bool) (class : HeadClass) → Entry
-with_head n packs is_open is_generic class = record { node = n; packs = packs; is_open = is_open; is_generic = is_generic; is_empty = false; class = class; arguments = None; untagged = None; returns = false; count = 0; run = 0 }
-
--- the entry of a name that ends in these arguments
-abbrev pub with_arguments : (n : Node) (packs : Option ℕ) (is_open is_generic : Bool) (arguments : Option ℕ) (returns : Bool) → Entry
-with_arguments n packs is_open is_generic arguments returns = record {
+abbrev pub with_head : (n : Node) (packs : Option ℕ) (free : Free) (is_empty : Bool) (by_argument : ByArgument) (class : HeadClass) → Entry
+with_head n packs free is_empty by_argument class = record {
   node = n;
   packs = packs;
-  is_open = is_open;
-  is_generic = is_generic;
+  free = free;
+  is_empty = is_empty;
+  by_argument = by_argument;
+  class = class;
+  arguments = None;
+  untagged = None;
+  returns = false;
+  count = 0;
+  run = 0;
+}
+
+-- the entry of a name that ends in these arguments
+abbrev pub with_arguments : (n : Node) (packs : Option ℕ) (free : Free) (by_argument : ByArgument) (arguments : Option Placed) (returns : Bool) → Entry
+with_arguments n packs free by_argument arguments returns = record {
+  node = n;
+  packs = packs;
+  free = free;
   is_empty = false;
+  by_argument = by_argument;
   class = HeadClass.Known Head.Plain;
   arguments = arguments;
   untagged = None;
@@ -77,6 +105,54 @@ with_arguments n packs is_open is_generic arguments returns = record {
   run = 0;
 }
 
+-- the entry of a name with tags, under which this one stands
+abbrev pub with_tags : (n : Node) (packs : Option ℕ) (free : Free) (by_argument : ByArgument) (untagged : Placed) → Entry
+with_tags n packs free by_argument untagged = record {
+  node = n;
+  packs = packs;
+  free = free;
+  is_empty = false;
+  by_argument = by_argument;
+  class = HeadClass.Known Head.Plain;
+  arguments = None;
+  untagged = Some untagged;
+  returns = false;
+  count = 0;
+  run = 0;
+}
+
+-- the entry of a tree that is there again with an argument, where its head is its own, by the words of the tree
+abbrev pub own_entry : (n : Node) (packs : Option ℕ) (free : Free) (is_empty : Bool) (by_argument : ByArgument) (words : Words) (first second argument : ℕ) → Entry
+own_entry n packs free is_empty by_argument words first second argument = record {
+  node = n;
+  packs = packs;
+  free = free;
+  is_empty = is_empty;
+  by_argument = by_argument;
+  class = class_kept words first second;
+  arguments = placed_under argument (arguments_kept words first second);
+  untagged = placed_under argument (untagged_kept words first second);
+  returns = returns_kept words;
+  count = count_kept words first;
+  run = 0;
+}
+
+-- the same, by the entry of the tree and the head that a parameter with the argument has
+abbrev pub restated_entry : (n : Node) (packs : Option ℕ) (is_empty : Bool) (own : Entry) (argument : ℕ) (given : HeadClass) → Entry
+restated_entry n packs is_empty own argument given = record {
+  node = n;
+  packs = packs;
+  free = own.free;
+  is_empty = is_empty;
+  by_argument = own.by_argument;
+  class = class_by own.by_argument.head own.class given;
+  arguments = if_own own.by_argument.head (placed_under argument own.arguments) None;
+  untagged = if_own own.by_argument.head (placed_under argument own.untagged) None;
+  returns = if_own own.by_argument.head own.returns false;
+  count = if_own own.by_argument.head own.count 0;
+  run = 0;
+}
+
 -- the entry that is held
 abbrev pub entry_of : Compact → Entry
-entry_of c = kept c.node (packs_kept c.packs) c.is_open c.is_generic c.is_empty c.words c.first c.second
+entry_of c = kept c.node (packs_kept c.packs) (free_kept c.free c.number) c.is_empty c.by_argument c.words c.first c.second

@@ -1,13 +1,16 @@
 -- The trees that nodes stand for.
-use Rattle.std.specs.Prelude.{◌≡◌, ℕ, suc, ◌<◌, ◌≤◌, ◌-◌, ◌+◌, List, [], ◌∷◌, ◌++◌, length, get_or, slice_get, slice_range, Bool, true, false, Option, None, Some}
+use Rattle.std.specs.Prelude.{◌≡◌, ℕ, zero, suc, ◌<◌, ◌≤◌, ◌-◌, ◌+◌, List, [], ◌∷◌, ◌++◌, length, get_or, slice_get, slice_range, Bool, true, false, Option, None, Some}
 use Rattle.std.specs.List.{All}
 use Rattle.sym_core.specs.declared.Span.{Span}
 use Rattle.cpp_grammar.specs.Term as values
 use Rattle.cpp_grammar.specs.Items as heads
+use Rattle.cpp_grammar.specs.Scope as scope
 use Rattle.cpp_term.specs.Term as term
 use Rattle.cpp_term.specs.Term.{Term}
-use Rattle.cpp_term.specs.Scope.{pack_length, is_open, is_generic, arguments_of, without_tags, has_return_type, count, element}
+use Rattle.cpp_term.specs.Scope.{pack_length, free_in, arguments_of, without_tags, has_return_type, count, element}
 use Rattle.cpp_term.specs.Items as items
+use Rattle.cpp_term.specs.Reargued as again
+use Rattle.cpp_term.specs.Reargued.{reargued, bare, head_from, is_empty_with}
 use Rattle.cpp_tree.specs.declared.node.Qualifiers.{Qualifiers}
 use Rattle.cpp_tree.specs.declared.node.Mark.{Mark}
 use Rattle.cpp_tree.specs.declared.node.Signed.{Signed}
@@ -16,7 +19,11 @@ use Rattle.cpp_tree.specs.declared.node.Thunk.{Thunk}
 use Rattle.cpp_tree.specs.declared.node.Piece.{Piece}
 use Rattle.cpp_tree.specs.declared.node.Node.{Node}
 use Rattle.cpp_tree.specs.declared.node.Head.{Head}
+use Rattle.cpp_tree.specs.declared.node.Placed.{Placed}
 use Rattle.cpp_tree.specs.declared.node.HeadClass.{HeadClass}
+use Rattle.cpp_tree.specs.declared.node.HeadFrom.{HeadFrom}
+use Rattle.cpp_tree.specs.declared.node.Free.{Free}
+use Rattle.cpp_tree.specs.declared.node.ByArgument.{ByArgument}
 use Rattle.cpp_tree.specs.declared.node.Entry.{Entry}
 
 -- what is stored: the nodes, and what thunks adjust; and how many of each fit without taking memory
@@ -72,6 +79,16 @@ discriminator_of s (Some digits) = Some (bytes_at s digits)
 
 -- ## Trees
 
+-- the tree of a node, if one is given
+unfoldable pub tree_if_there : List Term → Option ℕ → Option Term
+tree_if_there ts None = None
+tree_if_there ts (Some i) = Some (tree_at ts i)
+
+-- what a word says: a node, which is one less, and 0 none
+unfoldable pub under_kept : ℕ → Option ℕ
+under_kept zero = None
+under_kept (suc n) = Some n
+
 unfoldable pub piece_of : List ℕ → List Term → Piece → Term
 piece_of s ts (Piece.Source internal bytes) = term.source internal (bytes_at s bytes)
 piece_of s ts (Piece.Operator first second) = term.operator first second
@@ -79,6 +96,7 @@ piece_of s ts (Piece.LiteralOperator bytes) = term.literal_operator (bytes_at s 
 piece_of s ts (Piece.Constructor digit) = term.constructor digit
 piece_of s ts (Piece.Destructor digit) = term.destructor digit
 piece_of s ts (Piece.Lambda parameters number) = term.lambda (tree_at ts parameters) number
+piece_of s ts (Piece.GenericLambda parameters number) = term.generic_lambda (tree_at ts parameters) number
 piece_of s ts (Piece.Unnamed number) = term.unnamed number
 piece_of s ts Piece.StringLiteral = term.string_literal
 piece_of s ts (Piece.Conversion t) = term.conversion (tree_at ts t)
@@ -88,7 +106,7 @@ piece_of s ts Piece.Absent = term.absent
 unfoldable pub tree_of : List ℕ → List Thunk → List Term → Node → Term
 tree_of s us ts Node.Absent = term.absent
 tree_of s us ts Node.Nil = term.nil
-tree_of s us ts (Node.Function name q m returned parameters) = term.function (tree_at ts name) (qualifiers_of q) (mark_of m) (tree_at ts returned) (tree_at ts parameters)
+tree_of s us ts (Node.Function name q m returned parameters under) = term.function (tree_at ts name) (qualifiers_of q) (mark_of m) (reargued (tree_if_there ts (under_kept under)) (tree_at ts returned)) (reargued (tree_if_there ts (under_kept under)) (tree_at ts parameters))
 tree_of s us ts (Node.Object name q m) = term.object (tree_at ts name) (qualifiers_of q) (mark_of m)
 tree_of s us ts (Node.Special letter t) = term.special letter (tree_at ts t)
 tree_of s us ts (Node.Thunk u e) = term.thunk (thunk_of s (slice_get us u)) (tree_at ts e)
@@ -108,7 +126,6 @@ tree_of s us ts (Node.Parameter k a) = term.parameter k (tree_at ts a)
 tree_of s us ts (Node.Builtin letter) = term.builtin (letter ∷ [])
 tree_of s us ts (Node.BuiltinWithD letter) = term.builtin (68 ∷ letter ∷ [])
 tree_of s us ts (Node.SizedFloat digits end) = term.sized_float (bytes_at s digits) end
-tree_of s us ts (Node.GenericParameter number) = term.generic_parameter number
 tree_of s us ts (Node.Vendor bytes) = term.vendor (bytes_at s bytes)
 tree_of s us ts (Node.Pointer t) = term.pointer (tree_at ts t)
 tree_of s us ts (Node.Lvalue t) = term.lvalue (tree_at ts t)
@@ -129,6 +146,7 @@ tree_of s us ts (Node.AddressOf e) = term.address_of (tree_at ts e)
 tree_of s us ts (Node.Pack elements) = term.pack (tree_at ts elements)
 tree_of s us ts (Node.Cell first rest) = term.list (tree_at ts first) (tree_at ts rest)
 tree_of s us ts (Node.Whole e suffix) = term.symbol (tree_at ts e) (bytes_at s suffix)
+tree_of s us ts (Node.Again t a) = reargued (Some (tree_at ts a)) (tree_at ts t)
 
 unfoldable pub trees_onto : List ℕ → List Thunk → List Term → List Entry → List Term
 trees_onto s us ts [] = ts
@@ -140,7 +158,7 @@ trees y = trees_onto y.bytes y.thunks [] y.nodes
 -- ## What nodes are
 
 unfoldable pub is_encoding : Node → Bool
-is_encoding (Node.Function name q m returned parameters) = true
+is_encoding (Node.Function name q m returned parameters under) = true
 is_encoding (Node.Object name q m) = true
 is_encoding (Node.Special code t) = true
 is_encoding (Node.Thunk u e) = true
@@ -155,8 +173,13 @@ abbrev pub IsPieceBelow : List ℕ → ℕ → Piece → Type 0
 IsPieceBelow s n (Piece.Source internal bytes) = IsWithin bytes s
 IsPieceBelow s n (Piece.LiteralOperator bytes) = IsWithin bytes s
 IsPieceBelow s n (Piece.Lambda parameters number) = parameters < n
+IsPieceBelow s n (Piece.GenericLambda parameters number) = parameters < n
 IsPieceBelow s n (Piece.Conversion t) = t < n
 IsPieceBelow s n _ = Unit {0}
+
+abbrev pub IsThereBelow : ℕ → Option ℕ → Type 0
+IsThereBelow n None = Unit {0}
+IsThereBelow n (Some i) = i < n
 
 abbrev pub IsSpan : List ℕ → Option Span → Type 0
 IsSpan s None = Unit {0}
@@ -164,7 +187,7 @@ IsSpan s (Some span) = IsWithin span s
 
 -- Generated by tools/trees.py. A node is made of earlier ones and of bytes of the symbol
 abbrev pub IsBelow : List ℕ → (held n : ℕ) → Node → Type 0
-IsBelow s held n (Node.Function name q m returned parameters) = (name < n) × (returned < n) × (parameters < n)
+IsBelow s held n (Node.Function name q m returned parameters under) = (name < n) × (returned < n) × (parameters < n) × IsThereBelow n (under_kept under)
 IsBelow s held n (Node.Object name q m) = name < n
 IsBelow s held n (Node.Special letter t) = t < n
 IsBelow s held n (Node.Thunk u e) = (u < held) × (e < n)
@@ -199,6 +222,7 @@ IsBelow s held n (Node.AddressOf e) = e < n
 IsBelow s held n (Node.Pack elements) = elements < n
 IsBelow s held n (Node.Cell first rest) = (first < n) × (rest < n)
 IsBelow s held n (Node.Whole e suffix) = (e < n) × IsWithin suffix s
+IsBelow s held n (Node.Again t a) = (t < n) × (a < n)
 IsBelow s held n _ = Unit {0}
 
 abbrev pub IsAdjustmentWithin : List ℕ → Adjustment → Type 0
@@ -211,37 +235,76 @@ IsThunkWithin s (Thunk.Covariant a b) = IsAdjustmentWithin s a × IsAdjustmentWi
 
 -- ## What is noted of a tree
 
+unfoldable pub free_is : Free → scope.Free
+free_is Free.None = scope.none_free
+free_is (Free.One k) = scope.one_free k
+free_is Free.Several = scope.several_free
+
+-- some are free
+unfoldable pub has_free : scope.Free → Bool
+has_free scope.none_free = false
+has_free _ = true
+
 unfoldable pub head_of : Head → heads.Head
 head_of Head.Plain = heads.plain_head
 head_of Head.FunctionOrArray = heads.funarr
 head_of Head.Lvalue = heads.lref
 head_of Head.Rvalue = heads.rref
 
+unfoldable pub placed_tree : List Term → Placed → Term
+placed_tree ts p = reargued (tree_if_there ts p.under) (tree_at ts p.node)
+
 unfoldable pub class_is : List Term → HeadClass → items.HeadClass
 class_is ts (HeadClass.Known h) = items.known (head_of h)
-class_is ts (HeadClass.OfElement elements) = items.of_element (tree_at ts elements)
-class_is ts (HeadClass.CollapsedOfElement elements) = items.collapsed_of_element (tree_at ts elements)
+class_is ts (HeadClass.OfElement elements) = items.of_element (placed_tree ts elements)
+class_is ts (HeadClass.CollapsedOfElement elements) = items.collapsed_of_element (placed_tree ts elements)
+
+abbrev pub IsPlacedBelow : ℕ → Placed → Type 0
+IsPlacedBelow n p = (p.node < n) × IsThereBelow n p.under
 
 abbrev pub IsClassBelow : ℕ → HeadClass → Type 0
 IsClassBelow n (HeadClass.Known h) = Unit {0}
-IsClassBelow n (HeadClass.OfElement elements) = elements < n
-IsClassBelow n (HeadClass.CollapsedOfElement elements) = elements < n
+IsClassBelow n (HeadClass.OfElement elements) = IsPlacedBelow n elements
+IsClassBelow n (HeadClass.CollapsedOfElement elements) = IsPlacedBelow n elements
 
-unfoldable pub arguments_are : List Term → Option ℕ → Option Term
-arguments_are ts None = None
-arguments_are ts (Some a) = Some (tree_at ts a)
+unfoldable pub placed_if_there : List Term → Option Placed → Option Term
+placed_if_there ts None = None
+placed_if_there ts (Some a) = Some (placed_tree ts a)
 
-abbrev pub IsArgumentsBelow : ℕ → Option ℕ → Type 0
-IsArgumentsBelow n None = Unit {0}
-IsArgumentsBelow n (Some a) = a < n
+abbrev pub IsPlacedThere : ℕ → Option Placed → Type 0
+IsPlacedThere n None = Unit {0}
+IsPlacedThere n (Some a) = IsPlacedBelow n a
 
 -- the tree of a name's tags taken away: its own where none are noted
-unfoldable pub untagged_is : List Term → Term → Option ℕ → Term
+unfoldable pub untagged_is : List Term → Term → Option Placed → Term
 untagged_is ts t None = t
-untagged_is ts t (Some i) = tree_at ts i
+untagged_is ts t (Some p) = placed_tree ts p
 
+unfoldable pub head_noted : again.HeadFrom → HeadFrom
+head_noted again.of_its_own = HeadFrom.Own
+head_noted again.of_argument = HeadFrom.Argument
+head_noted again.collapsed_of_argument = HeadFrom.Collapsed
+
+-- what of a tree depends on another argument
+unfoldable pub by_argument_of : Term → ByArgument
+by_argument_of t = record { is_bare = bare t; head = head_noted (head_from t); empty_with = is_empty_with true t; empty_without = is_empty_with false t }
+
+-- nothing does
+abbrev pub by_none : Bool → ByArgument
+by_none empty = record { is_bare = false; head = HeadFrom.Own; empty_with = empty; empty_without = empty }
+
+unfoldable pub is_again : Node → Bool
+is_again (Node.Again t a) = true
+is_again _ = false
+
+-- the entry of a node; behind the last one that of the absent tree
 abbrev pub entry_at : List Entry → ℕ → Entry
-entry_at es i = get_or es i (record { node = Node.Absent; packs = None; is_open = false; is_generic = false; is_empty = false; class = HeadClass.Known Head.Plain; arguments = None; untagged = None; returns = false; count = 0; run = 0 })
+entry_at es i = get_or es i (record { node = Node.Absent; packs = None; free = Free.None; is_empty = false; by_argument = by_none false; class = HeadClass.Known Head.Plain; arguments = None; untagged = None; returns = false; count = 0; run = 0 })
+
+-- a tree that is there again isn't one that is there again itself
+abbrev pub IsFlat : List Entry → Node → Type 0
+IsFlat es (Node.Again t a) = is_again (entry_at es t).node ≡ false
+IsFlat es _ = Unit {0}
 
 -- What holds of the node at a place: all that is noted follows from its tree. A cell's run is how many of the nodes before it are
 -- the cells behind it, so that an element is found by a subtraction.
@@ -249,27 +312,29 @@ pub record IsEntry (y : Table) (ts : List Term) (i : ℕ) (e : Entry) : Type 0 w
   pub built : tree_at ts i ≡ tree_of y.bytes y.thunks ts e.node
   pub below : IsBelow y.bytes (length y.thunks) i e.node
   pub packs : e.packs ≡ pack_length (tree_at ts i)
-  pub free : e.is_open ≡ is_open (tree_at ts i)
-  pub generic : e.is_generic ≡ is_generic (tree_at ts i)
+  pub free : free_is e.free ≡ free_in (tree_at ts i)
   pub empty : e.is_empty ≡ items.is_empty items.closed (tree_at ts i)
+  pub by_argument : e.by_argument ≡ by_argument_of (tree_at ts i)
+  pub flat : IsFlat y.nodes e.node
   pub class : class_is ts e.class ≡ items.class_of (tree_at ts i)
   pub class_below : IsClassBelow i e.class
-  pub arguments : arguments_are ts e.arguments ≡ arguments_of (tree_at ts i)
-  pub arguments_below : IsArgumentsBelow i e.arguments
+  pub arguments : placed_if_there ts e.arguments ≡ arguments_of (tree_at ts i)
+  pub arguments_below : IsPlacedThere i e.arguments
   pub untagged : untagged_is ts (tree_at ts i) e.untagged ≡ without_tags (tree_at ts i)
-  pub untagged_below : IsArgumentsBelow i e.untagged
+  pub untagged_below : IsPlacedThere i e.untagged
   pub returns : e.returns ≡ has_return_type (tree_at ts i)
   pub counted : e.count ≡ count (tree_at ts i)
   pub count_below : e.count ≤ i
   pub runs : (k n : ℕ) → k < e.run → element (tree_at ts i) (suc k + n) ≡ element (tree_at ts (i - suc k)) n
   pub run_below : e.run ≤ i
 
--- The first three nodes are the absent tree, the empty list, and the pack of no elements.
+-- The first four nodes are the absent tree, the empty list, the pack of no elements, and the builtin type auto.
 pub record IsTable (y : Table) : Type 0 where
-  pub fixed : 2 < length y.nodes
+  pub fixed : 3 < length y.nodes
   pub no_tree : tree_at (trees y) 0 ≡ term.absent
   pub no_list : tree_at (trees y) 1 ≡ term.nil
   pub no_elements : tree_at (trees y) 2 ≡ term.pack term.nil
+  pub auto : tree_at (trees y) 3 ≡ items.auto
   pub adjusting : All (IsThunkWithin y.bytes) y.thunks
   pub many : length (trees y) ≡ length y.nodes
   pub each : (i : ℕ) → i < length y.nodes → IsEntry y (trees y) i (entry_at y.nodes i)
@@ -280,15 +345,16 @@ pub record IsTable (y : Table) : Type 0 where
 pub record IsNoted (y : Table) (e : Entry) : Type 0 where
   pub below : IsBelow y.bytes (length y.thunks) (length y.nodes) e.node
   pub packs : e.packs ≡ pack_length (tree_of y.bytes y.thunks (trees y) e.node)
-  pub free : e.is_open ≡ is_open (tree_of y.bytes y.thunks (trees y) e.node)
-  pub generic : e.is_generic ≡ is_generic (tree_of y.bytes y.thunks (trees y) e.node)
+  pub free : free_is e.free ≡ free_in (tree_of y.bytes y.thunks (trees y) e.node)
   pub empty : e.is_empty ≡ items.is_empty items.closed (tree_of y.bytes y.thunks (trees y) e.node)
+  pub by_argument : e.by_argument ≡ by_argument_of (tree_of y.bytes y.thunks (trees y) e.node)
+  pub flat : IsFlat y.nodes e.node
   pub class : class_is (trees y) e.class ≡ items.class_of (tree_of y.bytes y.thunks (trees y) e.node)
   pub class_below : IsClassBelow (length y.nodes) e.class
-  pub arguments : arguments_are (trees y) e.arguments ≡ arguments_of (tree_of y.bytes y.thunks (trees y) e.node)
-  pub arguments_below : IsArgumentsBelow (length y.nodes) e.arguments
+  pub arguments : placed_if_there (trees y) e.arguments ≡ arguments_of (tree_of y.bytes y.thunks (trees y) e.node)
+  pub arguments_below : IsPlacedThere (length y.nodes) e.arguments
   pub untagged : untagged_is (trees y) (tree_of y.bytes y.thunks (trees y) e.node) e.untagged ≡ without_tags (tree_of y.bytes y.thunks (trees y) e.node)
-  pub untagged_below : IsArgumentsBelow (length y.nodes) e.untagged
+  pub untagged_below : IsPlacedThere (length y.nodes) e.untagged
   pub returns : e.returns ≡ has_return_type (tree_of y.bytes y.thunks (trees y) e.node)
   pub counted : e.count ≡ count (tree_of y.bytes y.thunks (trees y) e.node)
   pub count_below : e.count ≤ length y.nodes

@@ -2,13 +2,14 @@
 #![tactic(auto)]
 
 ghost use Rattle.std.specs.Prelude.{◌≡◌};
-ghost use Rattle.cpp_tree.specs.Compact.{packs_kept, class_kept, arguments_kept, untagged_kept, returns_kept, count_kept, run_kept, entry_of};
+ghost use Rattle.cpp_tree.specs.Compact.{packs_kept, placed_kept, class_kept, arguments_kept, untagged_kept, returns_kept, count_kept, run_kept, free_kept, entry_of};
+ghost use Rattle.cpp_tree.specs.Nodes.{by_none};
 ghost use Rattle.cpp_tree.specs.Notes.{bare_entry};
 
-use crate::node::{Entry, Head, HeadClass, Node};
+use crate::node::{ByArgument, Entry, Free, Head, HeadClass, HeadFrom, Node, Placed, under_of};
 
-/// What two words beside a node tell: of a type a list of elements, of a name its arguments or itself without tags, of a list its
-/// count and its run.
+/// What two words beside a node tell: of a type a list of elements, of a name its arguments or itself without tags, each with the
+/// argument under which it stands, and of a list its count and its run.
 #[derive(Clone, Copy)]
 pub enum Words {
     Plain,
@@ -23,8 +24,16 @@ pub enum Words {
     Elements,
 }
 
-/// An entry in 40 bytes: what no node has at once (the arguments of a name, the name under its tags, the elements of a list, the head of a type) shares
-/// the two words.
+/// How many parameters are free. The number of one alone stands beside.
+#[derive(Clone, Copy)]
+pub enum HowMany {
+    None,
+    One,
+    Several,
+}
+
+/// An entry in 48 bytes: what no node has at once (the arguments of a name, the name under its tags, the elements of a list, the head
+/// of a type) shares the two words.
 #[derive(Clone, Copy)]
 pub struct Compact {
     pub node: Node,
@@ -32,33 +41,48 @@ pub struct Compact {
     pub packs: u32,
     pub first: u32,
     pub second: u32,
-    pub is_open: bool,
-    pub is_generic: bool,
+    /// The number of the free parameter, where one alone is free.
+    pub number: u32,
+    pub free: HowMany,
     pub is_empty: bool,
     pub words: Words,
+    pub by_argument: ByArgument,
 }
+
+const _: () = prove!(std::mem::size_of::<Compact>() == 48);
 
 /// The length of the packs.
 #[inline(always)]
 #[tactic(auto, unfolding(crate::specs::Compact::packs_kept))]
-fn packs(kept: u32) -> Option<u32>
+pub(crate) fn packs(kept: u32) -> Option<u32>
     ensures { result ≡ packs_kept kept }
 {
     if kept == 0 { None } else { Some(kept - 1) }
 }
 
+/// The tree of the node that the first word is, under the argument that the second says.
+#[inline(always)]
+fn placed(first: u32, second: u32) -> Placed
+    ensures { result ≡ placed_kept first second }
+{
+    Placed {
+        node: first,
+        under: under_of(second),
+    }
+}
+
 /// The head of a type.
 #[inline(always)]
 #[tactic(auto, unfolding(crate::specs::Compact::class_kept))]
-pub(crate) fn class(words: Words, first: u32) -> HeadClass
-    ensures { result ≡ class_kept words first }
+pub(crate) fn class(words: Words, first: u32, second: u32) -> HeadClass
+    ensures { result ≡ class_kept words first second }
 {
     match words {
         Words::FunctionOrArray => HeadClass::Known(Head::FunctionOrArray),
         Words::Lvalue => HeadClass::Known(Head::Lvalue),
         Words::Rvalue => HeadClass::Known(Head::Rvalue),
-        Words::OfElement => HeadClass::OfElement(first),
-        Words::CollapsedOfElement => HeadClass::CollapsedOfElement(first),
+        Words::OfElement => HeadClass::OfElement(placed(first, second)),
+        Words::CollapsedOfElement => HeadClass::CollapsedOfElement(placed(first, second)),
         _ => HeadClass::Known(Head::Plain),
     }
 }
@@ -66,12 +90,12 @@ pub(crate) fn class(words: Words, first: u32) -> HeadClass
 /// The arguments that a name ends in.
 #[inline(always)]
 #[tactic(auto, unfolding(crate::specs::Compact::arguments_kept))]
-fn arguments(words: Words, first: u32) -> Option<u32>
-    ensures { result ≡ arguments_kept words first }
+fn arguments(words: Words, first: u32, second: u32) -> Option<Placed>
+    ensures { result ≡ arguments_kept words first second }
 {
     match words {
-        Words::Arguments => Some(first),
-        Words::ReturningArguments => Some(first),
+        Words::Arguments => Some(placed(first, second)),
+        Words::ReturningArguments => Some(placed(first, second)),
         _ => None,
     }
 }
@@ -79,11 +103,11 @@ fn arguments(words: Words, first: u32) -> Option<u32>
 /// The name under the tags of a name.
 #[inline(always)]
 #[tactic(auto, unfolding(crate::specs::Compact::untagged_kept))]
-fn untagged(words: Words, first: u32) -> Option<u32>
-    ensures { result ≡ untagged_kept words first }
+fn untagged(words: Words, first: u32, second: u32) -> Option<Placed>
+    ensures { result ≡ untagged_kept words first second }
 {
     match words {
-        Words::Tagged => Some(first),
+        Words::Tagged => Some(placed(first, second)),
         _ => None,
     }
 }
@@ -124,6 +148,19 @@ fn run(words: Words, second: u32) -> u32
     }
 }
 
+/// The free parameters.
+#[inline(always)]
+#[tactic(auto, unfolding(crate::specs::Compact::free_kept))]
+fn free_parameters(kept: HowMany, number: u32) -> Free
+    ensures { result ≡ free_kept kept number }
+{
+    match kept {
+        HowMany::None => Free::None,
+        HowMany::One => Free::One(number),
+        HowMany::Several => Free::Several,
+    }
+}
+
 impl Compact {
     /// The entry that is held.
     #[inline(always)]
@@ -133,12 +170,12 @@ impl Compact {
         Entry {
             node: self.node,
             packs: packs(self.packs),
-            is_open: self.is_open,
-            is_generic: self.is_generic,
+            free: free_parameters(self.free, self.number),
             is_empty: self.is_empty,
-            class: class(self.words, self.first),
-            arguments: arguments(self.words, self.first),
-            untagged: untagged(self.words, self.first),
+            by_argument: self.by_argument,
+            class: class(self.words, self.first, self.second),
+            arguments: arguments(self.words, self.first, self.second),
+            untagged: untagged(self.words, self.first, self.second),
             returns: returns(self.words),
             count: count(self.words, self.first),
             run: run(self.words, self.second),
@@ -146,9 +183,22 @@ impl Compact {
     }
 }
 
+/// What another argument changes of a tree in which no parameter is free.
+#[inline(always)]
+pub(crate) fn by_none(empty: bool) -> ByArgument
+    ensures { result ≡ by_none empty }
+{
+    ByArgument {
+        is_bare: false,
+        head: HeadFrom::Own,
+        empty_with: empty,
+        empty_without: empty,
+    }
+}
+
 /// A node of which nothing is noted.
 #[inline(always)]
-#[tactic(auto, unfolding(crate::specs::Compact::packs_kept, crate::specs::Compact::class_kept, crate::specs::Compact::arguments_kept, crate::specs::Compact::untagged_kept, crate::specs::Compact::returns_kept, crate::specs::Compact::count_kept, crate::specs::Compact::run_kept))]
+#[tactic(auto, unfolding(crate::specs::Compact::packs_kept, crate::specs::Compact::class_kept, crate::specs::Compact::arguments_kept, crate::specs::Compact::untagged_kept, crate::specs::Compact::returns_kept, crate::specs::Compact::count_kept, crate::specs::Compact::run_kept, crate::specs::Compact::free_kept))]
 pub(crate) fn bare(node: Node, is_empty: bool) -> Compact
     ensures { entry_of result ≡ bare_entry node is_empty }
 {
@@ -157,9 +207,10 @@ pub(crate) fn bare(node: Node, is_empty: bool) -> Compact
         packs: 0,
         first: 0,
         second: 0,
-        is_open: false,
-        is_generic: false,
+        number: 0,
+        free: HowMany::None,
         is_empty,
         words: Words::Plain,
+        by_argument: by_none(is_empty),
     }
 }

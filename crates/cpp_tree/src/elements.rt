@@ -1,66 +1,150 @@
-// The elements of lists.
+// The elements of lists, and the nodes that stand under an argument.
 #![tactic(auto)]
 
-ghost use Rattle.std.specs.Prelude.{◌≡◌, ◌<◌, length};
-ghost use Rattle.cpp_term.specs.Scope.{element};
+ghost use Rattle.std.specs.Prelude.{◌≡◌, ◌<◌, length, false};
+ghost use Rattle.cpp_term.specs.Scope.{element, is_open, free_in, length_if_pack};
 ghost use Rattle.cpp_term.specs.Items.{indexed};
-ghost use Rattle.cpp_tree.specs.Nodes.{over, tree_at, trees, IsTable};
+ghost use Rattle.cpp_tree.specs.Nodes.{over, trees, tree_at, placed_tree, free_is, IsPlacedBelow, IsTable};
 
-use crate::node::Node;
+use crate::node::{Free, Node, Placed};
 use crate::nodes::{ABSENT, Nodes};
+
+/// The absent tree.
+const NOWHERE: Placed = Placed {
+    node: ABSENT,
+    under: None,
+};
 
 impl Nodes {
     /// The first element of a list, or the absent tree.
     #[inline(always)]
-    fn first(&self, symbol: &[u8], list: u32) -> u32
+    fn first(&self, symbol: &[u8], list: Placed) -> Placed
         requires table { IsTable (over symbol.now self.now) }
-        requires list { list < length self.now.nodes }
-        ensures tree { tree_at (trees (over symbol.now self.now)) result ≡ element (tree_at (trees (over symbol.now self.now)) list) 0 }
-        ensures below { result < length self.now.nodes }
+        requires list { IsPlacedBelow (length self.now.nodes) list }
+        ensures tree { placed_tree (trees (over symbol.now self.now)) result ≡ element (placed_tree (trees (over symbol.now self.now)) list) 0 }
+        ensures below { IsPlacedBelow (length self.now.nodes) result }
     {
-        match self.entry(list).node {
-            Node::Cell { first, .. } => first,
-            _ => ABSENT,
+        let settled = self.settled(symbol, list);
+        match self.node(symbol, settled.node) {
+            Node::Cell { first, .. } => Placed {
+                node: first,
+                under: settled.under,
+            },
+            _ => NOWHERE,
         }
     }
 
     /// The element of a list at a place, or the absent tree. Of cells that were made one behind the other it is found at once.
-    pub fn element(&self, symbol: &[u8], list: u32, k: u32) -> u32
+    pub fn element(&self, symbol: &[u8], list: Placed, k: u32) -> Placed
         requires table { IsTable (over symbol.now self.now) }
-        requires list { list < length self.now.nodes }
-        ensures tree { tree_at (trees (over symbol.now self.now)) result ≡ element (tree_at (trees (over symbol.now self.now)) list) k }
-        ensures below { result < length self.now.nodes }
+        requires list { IsPlacedBelow (length self.now.nodes) list }
+        ensures tree { placed_tree (trees (over symbol.now self.now)) result ≡ element (placed_tree (trees (over symbol.now self.now)) list) k }
+        ensures below { IsPlacedBelow (length self.now.nodes) result }
     {
-        let mut cell = list;
+        let mut cell = list.node;
+        let mut under = list.under;
         let mut left = k;
         'runs: loop {
             let run = self.entry(cell).run;
             if left <= run {
-                return self.first(symbol, cell - left);
+                return self.first(
+                    symbol,
+                    Placed {
+                        node: cell - left,
+                        under,
+                    },
+                );
             }
-            match self.entry(cell - run).node {
+            let settled = self.settled(
+                symbol,
+                Placed {
+                    node: cell - run,
+                    under,
+                },
+            );
+            match self.node(symbol, settled.node) {
                 Node::Cell { rest, .. } => {
                     cell = rest;
+                    under = settled.under;
                     left -= run + 1;
                 }
-                _ => return ABSENT,
+                _ => return NOWHERE,
             }
         }
     }
 
     /// Of a pack its element at the index.
-    pub fn indexed(&self, symbol: &[u8], index: Option<u32>, argument: u32) -> u32
+    pub fn indexed(&self, symbol: &[u8], index: Option<u32>, argument: Placed) -> Placed
         requires table { IsTable (over symbol.now self.now) }
-        requires argument { argument < length self.now.nodes }
-        ensures tree { tree_at (trees (over symbol.now self.now)) result ≡ indexed index (tree_at (trees (over symbol.now self.now)) argument) }
-        ensures below { result < length self.now.nodes }
+        requires argument { IsPlacedBelow (length self.now.nodes) argument }
+        ensures tree { placed_tree (trees (over symbol.now self.now)) result ≡ indexed index (placed_tree (trees (over symbol.now self.now)) argument) }
+        ensures below { IsPlacedBelow (length self.now.nodes) result }
     {
         let Some(i) = index else {
             return argument;
         };
-        match self.entry(argument).node {
-            Node::Pack(elements) => self.element(symbol, elements, i),
+        let settled = self.settled(symbol, argument);
+        match self.node(symbol, settled.node) {
+            Node::Pack(elements) => self.element(
+                symbol,
+                Placed {
+                    node: elements,
+                    under: settled.under,
+                },
+                i,
+            ),
             _ => argument,
         }
+    }
+
+    /// The node of a tree in which no parameter is free: the argument under which it stands changes nothing of it.
+    #[inline(always)]
+    pub fn closed_node(&self, symbol: &[u8], tree: Placed) -> u32
+        requires table { IsTable (over symbol.now self.now) }
+        requires tree { IsPlacedBelow (length self.now.nodes) tree }
+        requires closed { is_open (placed_tree (trees (over symbol.now self.now)) tree) ≡ false }
+        ensures tree { tree_at (trees (over symbol.now self.now)) result ≡ placed_tree (trees (over symbol.now self.now)) tree }
+        ensures below { result < length self.now.nodes }
+    {
+        tree.node
+    }
+
+    /// The length of an argument that is a pack: it has as many elements under another argument.
+    pub fn length_if_pack(&self, symbol: &[u8], argument: u32) -> Option<u32>
+        requires table { IsTable (over symbol.now self.now) }
+        requires below { argument < length self.now.nodes }
+        ensures { result ≡ length_if_pack (tree_at (trees (over symbol.now self.now)) argument) }
+    {
+        let settled = self.settled(
+            symbol,
+            Placed {
+                node: argument,
+                under: None,
+            },
+        );
+        match self.node(symbol, settled.node) {
+            Node::Pack(elements) => Some(self.entry(elements).count),
+            _ => None,
+        }
+    }
+
+    /// Whether parameters are free in a node's tree.
+    #[inline(always)]
+    pub fn is_open(&self, symbol: &[u8], node: u32) -> bool
+        requires table { IsTable (over symbol.now self.now) }
+        requires below { node < length self.now.nodes }
+        ensures { result ≡ is_open (tree_at (trees (over symbol.now self.now)) node) }
+    {
+        self.entry(node).is_open()
+    }
+
+    /// Which parameters are free in a node's tree.
+    #[inline(always)]
+    pub fn free(&self, symbol: &[u8], node: u32) -> Free
+        requires table { IsTable (over symbol.now self.now) }
+        requires below { node < length self.now.nodes }
+        ensures { free_is result ≡ free_in (tree_at (trees (over symbol.now self.now)) node) }
+    {
+        self.entry(node).free
     }
 }

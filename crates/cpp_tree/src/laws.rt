@@ -1,7 +1,10 @@
 // What holds of trees, their fields and their views.
 ghost use Rattle.std.specs.Prelude.{◌≡◌, ℕ, List};
 ghost use Rattle.cpp_grammar.specs.Term.{Term};
+ghost use Rattle.cpp_term.specs.Term as noted;
+ghost use Rattle.cpp_term.specs.Scope.{is_open, free_in};
 ghost use Rattle.cpp_tree.specs.Fields.{fields_of, offsets_of, tree_from};
+ghost use Rattle.cpp_tree.specs.Nodes.{has_free};
 ghost use Rattle.cpp_tree.specs.Views.{IsView, AreAlike};
 ghost use Rattle.cpp_tree.specs.declared.view.Node.{Node};
 
@@ -17,4 +20,9 @@ pub fn equal_trees_have_equal_views()
         → AreAlike s t first second one other → one ≡ other }
     ensures alike { (s t : List ℕ) (first second : Node) (one other : Term) → IsView s first (fields_of one) → IsView t second (fields_of other)
         → one ≡ other → AreAlike s t first second one other }
+{}
+
+/// A tree is open exactly where parameters are free in it.
+pub fn open_trees_have_free_parameters()
+    ensures { (t : noted.Term) → is_open t ≡ has_free (free_in t) }
 {}

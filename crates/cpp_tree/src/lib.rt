@@ -12,6 +12,8 @@ mod notes;
 pub mod tree_production;
 pub mod view;
 
-pub use laws::{equal_trees_have_equal_views, fields_make_the_tree};
+pub use laws::{
+    equal_trees_have_equal_views, fields_make_the_tree, open_trees_have_free_parameters,
+};
 pub use nodes::Nodes;
 pub use view::Node;

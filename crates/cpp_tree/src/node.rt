@@ -1,8 +1,8 @@
 // The nodes of a symbol. A node names its parts by their numbers, which are smaller than its own.
 
-ghost use Rattle.std.specs.Prelude.{◌≡◌, ◌≤◌};
+ghost use Rattle.std.specs.Prelude.{◌≡◌, ◌≤◌, ℕ, ◌+◌, ◌<◌, ◌^◌, Some};
 ghost use Rattle.cpp_tree.specs.Fields.{bit, mark_number, qualifiers_number};
-ghost use Rattle.cpp_tree.specs.Nodes.{qualifiers_of, mark_of, is_encoding};
+ghost use Rattle.cpp_tree.specs.Nodes.{qualifiers_of, mark_of, is_encoding, free_is, has_free, under_kept};
 ghost use Rattle.cpp_tree.specs.Notes.{is_structor_node};
 
 use sym_core::Span;
@@ -14,6 +14,28 @@ pub fn bit(test: bool) -> u8
     ensures few { result ≤ 1 }
 {
     if test { 1 } else { 0 }
+}
+
+/// The word for an argument under which a tree stands: its node and one more, and 0 where there is none.
+#[inline(always)]
+#[tactic(auto, unfolding(crate::specs::Nodes::under_kept))]
+pub fn under_word(under: Option<u32>) -> u32
+    requires { (a : ℕ) → under ≡ Some a → a + 1 < 2 ^ 32 }
+    ensures { under_kept result ≡ under }
+{
+    match under {
+        None => 0,
+        Some(argument) => argument + 1,
+    }
+}
+
+/// The argument of such a word.
+#[inline(always)]
+#[tactic(auto, unfolding(crate::specs::Nodes::under_kept))]
+pub fn under_of(word: u32) -> Option<u32>
+    ensures { result ≡ under_kept word }
+{
+    if word == 0 { None } else { Some(word - 1) }
 }
 
 /// What is said of a type or a function by const, volatile and restrict.
@@ -87,6 +109,8 @@ pub enum Piece {
     Constructor(u8),
     Destructor(u8),
     Lambda { parameters: u32, number: u64 },
+    /// A lambda whose signature names parameters of its own.
+    GenericLambda { parameters: u32, number: u64 },
     Unnamed(u64),
     StringLiteral,
     Conversion(u32),
@@ -105,6 +129,8 @@ pub enum Node {
         mark: Mark,
         returned: u32,
         parameters: u32,
+        /// The argument under which its return type and its parameters stand, as a word (`under_word`).
+        under: u32,
     },
     Object {
         name: u32,
@@ -172,8 +198,6 @@ pub enum Node {
         digits: Span,
         end: u8,
     },
-    /// A lambda's own parameter, by its number.
-    GenericParameter(u32),
     Vendor(Span),
     Pointer(u32),
     Lvalue(u32),
@@ -225,6 +249,11 @@ pub enum Node {
         encoding: u32,
         suffix: Span,
     },
+    /// A tree again, with this argument in each of its free parameters.
+    Again {
+        tree: u32,
+        argument: u32,
+    },
 }
 
 impl Node {
@@ -275,12 +304,48 @@ pub enum Head {
     Rvalue,
 }
 
-/// The head of a type as far as it doesn't depend on an index.
+/// The tree of a node, with the tree of another as the argument in each of its free parameters if one is given.
+#[derive(Clone, Copy)]
+pub struct Placed {
+    pub node: u32,
+    pub under: Option<u32>,
+}
+
+/// The head of a type as far as it doesn't depend on an index: it is known, or that of an element of a list.
 #[derive(Clone, Copy)]
 pub enum HeadClass {
     Known(Head),
-    OfElement(u32),
-    CollapsedOfElement(u32),
+    OfElement(Placed),
+    CollapsedOfElement(Placed),
+}
+
+/// Where the head of a type is from, if its free parameters get another argument: it is the type's own, that of the argument, or
+/// that of a reference to an rvalue of the argument.
+#[derive(Clone, Copy)]
+pub enum HeadFrom {
+    Own,
+    Argument,
+    Collapsed,
+}
+
+/// The parameters that are free in a tree: none, one by its number, in one place or in several, or more than one.
+#[derive(Clone, Copy)]
+pub enum Free {
+    None,
+    One(u32),
+    Several,
+}
+
+/// What depends on the argument of a tree's free parameters, if they get another one.
+#[derive(Clone, Copy)]
+pub struct ByArgument {
+    /// Whether one stands under no expansion of the tree, so that its packs are the argument's.
+    pub is_bare: bool,
+    pub head: HeadFrom,
+    /// Whether it prints nothing where the argument is a pack of no elements.
+    pub empty_with: bool,
+    /// And where it is none.
+    pub empty_without: bool,
 }
 
 /// A node, and what is noted of its tree.
@@ -289,21 +354,35 @@ pub struct Entry {
     pub node: Node,
     /// The length of the packs that its parameters name, if they name one.
     pub packs: Option<u32>,
-    /// Whether it has free parameters.
-    pub is_open: bool,
-    /// Whether it has a lambda's own parameter that stands under no lambda of it.
-    pub is_generic: bool,
+    /// Its free parameters.
+    pub free: Free,
     /// Whether it prints nothing.
     pub is_empty: bool,
+    /// What of this depends on another argument of its free parameters.
+    pub by_argument: ByArgument,
     pub class: HeadClass,
     /// The arguments that a name ends in.
-    pub arguments: Option<u32>,
+    pub arguments: Option<Placed>,
     /// The name under all its tags, if it has some.
-    pub untagged: Option<u32>,
+    pub untagged: Option<Placed>,
     /// Whether a function of this name has its return type before its parameters.
     pub returns: bool,
     /// How many elements a list has.
     pub count: u32,
     /// How many of the nodes before a cell are the cells behind it, each before the next.
     pub run: u32,
+}
+
+impl Entry {
+    /// Whether parameters are free in its tree.
+    #[inline(always)]
+    #[tactic(auto, unfolding(crate::specs::Nodes::free_is, crate::specs::Nodes::has_free))]
+    pub fn is_open(self) -> bool
+        ensures { result ≡ has_free (free_is self.free) }
+    {
+        match self.free {
+            Free::None => false,
+            _ => true,
+        }
+    }
 }

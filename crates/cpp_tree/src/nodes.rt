@@ -1,14 +1,15 @@
 // A table of nodes, and what is noted of their trees.
 #![tactic(auto)]
 
-ghost use Rattle.std.specs.Prelude.{◌≡◌, ℕ, ◌+◌, ◌<◌, ◌≤◌, ◌^◌, ◌++◌, ◌∷◌, [], List, length, slice_get, IfOk, IfErr, OnOk, OnErr};
+ghost use Rattle.std.specs.Prelude.{◌≡◌, ℕ, ◌+◌, ◌<◌, ◌≤◌, ◌^◌, ◌++◌, ◌∷◌, [], List, length, slice_get, false, None, Some, Option, IfOk, IfErr, OnOk, OnErr};
 ghost use Rattle.sym_core.specs.declared.Refusal.{Refusal};
 ghost use Rattle.cpp_term.specs.Scope.{without_tags};
-ghost use Rattle.cpp_tree.specs.Nodes.{over, tree_at, trees, tree_of, entry_at, IsBelow, IsThunkWithin, IsTable};
+ghost use Rattle.cpp_tree.specs.Nodes.{over, tree_at, trees, tree_of, entry_at, placed_tree, is_again, IsFlat, IsPlacedBelow, IsBelow, IsThunkWithin, IsTable};
+ghost use Rattle.cpp_tree.specs.Notes.{resolved_at};
 ghost use Rattle.cpp_tree.specs.Compact.{entry_of};
 
 use crate::compact::{Compact, bare};
-use crate::node::{Entry, Node, Thunk};
+use crate::node::{Entry, Node, Placed, Thunk};
 use std::alloc::Global;
 use std::marker::Model;
 use sym_core::Refusal;
@@ -39,6 +40,9 @@ pub const NIL: u32 = 1;
 /// The pack of no elements. A table begins with it, so that no step of the linker adds more than two nodes.
 pub const NO_ELEMENTS: u32 = 2;
 
+/// The builtin type auto, which is the argument of a lambda's own parameters.
+pub const AUTO: u32 = 3;
+
 impl Nodes {
     /// A table of no nodes.
     pub fn new(alloc: Global) -> Nodes
@@ -51,28 +55,30 @@ impl Nodes {
         }
     }
 
-    /// Takes all nodes away, keeps their memory, and puts the three that each table begins with.
+    /// Takes all nodes away, keeps their memory, and puts the four that each table begins with.
     ///
     /// # Errors
     ///
     /// `Memory` where the list couldn't grow.
     pub fn begin(&mut self) -> Result<(), Refusal>
         ensures table { OnOk result ((s : List ℕ) → IsTable (over s self.new)) }
-        ensures nodes { OnOk result (length self.new.nodes ≡ 3) }
+        ensures nodes { OnOk result (length self.new.nodes ≡ 4) }
         ensures thunks { OnOk result (self.new.thunks ≡ []) }
         ensures memory { IfErr result (λ e. e ≡ Refusal.Memory) }
-        ensures full { OnErr result (self.old.node_room < 3) }
+        ensures full { OnErr result (self.old.node_room < 4) }
         ensures node_room { self.old.node_room ≤ self.new.node_room }
         ensures thunk_room { self.new.thunk_room ≡ self.old.thunk_room }
     {
         self.entries.clear();
         self.thunks.clear();
-        if self.entries.reserve(3).is_err() {
+        if self.entries.reserve(4).is_err() {
             return Err(Refusal::Memory);
         }
         self.entries.push_reserved(bare(Node::Absent, false));
         self.entries.push_reserved(bare(Node::Nil, true));
         self.entries.push_reserved(bare(Node::Pack(NIL), true));
+        self.entries
+            .push_reserved(bare(Node::BuiltinWithD(b'a'), false));
         Ok(())
     }
 
@@ -124,17 +130,94 @@ impl Nodes {
         self.entry(node).node
     }
 
+    /// What a node stands for: the tree that is there again with its argument, or its own tree.
+    #[inline(always)]
+    pub(crate) fn resolved(&self, symbol: &[u8], node: u32) -> Placed
+        requires table { IsTable (over symbol.now self.now) }
+        requires node { node < length self.now.nodes }
+        ensures is { result ≡ resolved_at self.now.nodes node }
+        ensures tree { placed_tree (trees (over symbol.now self.now)) result ≡ tree_at (trees (over symbol.now self.now)) node }
+        ensures flat { is_again (entry_at self.now.nodes result.node).node ≡ false }
+        ensures below { IsPlacedBelow (length self.now.nodes) result }
+    {
+        match self.node(symbol, node) {
+            Node::Again { tree, argument } => Placed {
+                node: tree,
+                under: Some(argument),
+            },
+            _ => Placed { node, under: None },
+        }
+    }
+
+    /// What a node stands for under an argument: the outer of two arguments counts.
+    #[inline(always)]
+    pub fn settled(&self, symbol: &[u8], tree: Placed) -> Placed
+        requires table { IsTable (over symbol.now self.now) }
+        requires tree { IsPlacedBelow (length self.now.nodes) tree }
+        ensures tree { placed_tree (trees (over symbol.now self.now)) result ≡ placed_tree (trees (over symbol.now self.now)) tree }
+        ensures flat { is_again (entry_at self.now.nodes result.node).node ≡ false }
+        ensures below { IsPlacedBelow (length self.now.nodes) result }
+    {
+        let inner = self.resolved(symbol, tree.node);
+        match tree.under {
+            None => inner,
+            Some(argument) => Placed {
+                node: inner.node,
+                under: Some(argument),
+            },
+        }
+    }
+
     /// A name without its tags: the one under them, or itself.
     #[inline(always)]
-    pub fn untagged(&self, symbol: &[u8], name: u32) -> u32
+    pub fn untagged(&self, symbol: &[u8], name: Placed) -> Placed
+        requires table { IsTable (over symbol.now self.now) }
+        requires name { IsPlacedBelow (length self.now.nodes) name }
+        ensures tree { placed_tree (trees (over symbol.now self.now)) result ≡ without_tags (placed_tree (trees (over symbol.now self.now)) name) }
+        ensures below { IsPlacedBelow (length self.now.nodes) result }
+    {
+        let inner = self.untagged_node(symbol, name.node);
+        match name.under {
+            None => inner,
+            Some(argument) => Placed {
+                node: inner.node,
+                under: Some(argument),
+            },
+        }
+    }
+
+    /// The same of a node.
+    #[inline(always)]
+    fn untagged_node(&self, symbol: &[u8], name: u32) -> Placed
         requires table { IsTable (over symbol.now self.now) }
         requires name { name < length self.now.nodes }
-        ensures tree { tree_at (trees (over symbol.now self.now)) result ≡ without_tags (tree_at (trees (over symbol.now self.now)) name) }
-        ensures below { result < length self.now.nodes }
+        ensures tree { placed_tree (trees (over symbol.now self.now)) result ≡ without_tags (tree_at (trees (over symbol.now self.now)) name) }
+        ensures below { IsPlacedBelow (length self.now.nodes) result }
     {
         match self.entry(name).untagged {
             Some(inner) => inner,
-            None => name,
+            None => Placed {
+                node: name,
+                under: None,
+            },
+        }
+    }
+
+    /// The node with a tree that isn't there again itself.
+    #[inline(always)]
+    fn flat(&self, symbol: &[u8], node: Node) -> Node
+        requires table { IsTable (over symbol.now self.now) }
+        requires below { IsBelow symbol.now (length self.now.thunks) (length self.now.nodes) node }
+        ensures tree { tree_of symbol.now self.now.thunks (trees (over symbol.now self.now)) result ≡ tree_of symbol.now self.now.thunks (trees (over symbol.now self.now)) node }
+        ensures flat { IsFlat self.now.nodes result }
+        ensures below { IsBelow symbol.now (length self.now.thunks) (length self.now.nodes) result }
+    {
+        match node {
+            Node::Again { tree, argument } => Node::Again {
+                tree: self.resolved(symbol, tree).node,
+                argument,
+            },
+            _ => node,
         }
     }
 
@@ -164,7 +247,7 @@ impl Nodes {
         ensures thunk_room { self.new.thunk_room ≡ self.old.thunk_room }
     {
         let number = self.len() as u32;
-        let compact = self.noted(symbol, node);
+        let compact = self.noted(symbol, self.flat(symbol, node));
         if self.entries.reserve(1).is_err() {
             return Err(Refusal::Memory);
         }

@@ -1,24 +1,94 @@
 // What is noted of a node.
 #![tactic(auto)]
 
-ghost use Rattle.std.specs.Prelude.{◌≡◌, ℕ, ◌+◌, ◌<◌, ◌^◌, ◌||◌, ◌&&◌, Bool, Some, None, Option, length, true, false, nat_eq, cond, not, if◌then◌else◌};
+ghost use Rattle.std.specs.Prelude.{◌≡◌, ℕ, ◌+◌, ◌<◌, ◌^◌, ◌&&◌, Bool, Some, None, Option, length, true, false, nat_eq, cond, not, if◌then◌else◌};
 ghost use Rattle.cpp_grammar.specs.Items as heads;
 ghost use Rattle.cpp_grammar.specs.Scope.{first_of};
 ghost use Rattle.cpp_tree.specs.declared.node.Node.{Node};
+ghost use Rattle.cpp_tree.specs.declared.node.Free.{Free};
+ghost use Rattle.cpp_tree.specs.declared.node.HeadFrom.{HeadFrom};
+ghost use Rattle.cpp_tree.specs.declared.node.ByArgument.{ByArgument};
 ghost use Rattle.cpp_tree.specs.declared.compact.Words.{Words};
-ghost use Rattle.cpp_tree.specs.Compact.{packs_kept, class_kept, arguments_kept, untagged_kept, returns_kept, entry_of, kept, with_head, with_arguments};
+ghost use Rattle.cpp_tree.specs.Compact.{packs_kept, class_kept, arguments_kept, untagged_kept, returns_kept, placed_kept, free_kept, entry_of, kept, with_head, with_arguments, with_tags, own_entry, restated_entry};
 ghost use Rattle.cpp_tree.specs.Nodes.{over, entry_at, IsBelow, IsPieceBelow, IsTable};
-ghost use Rattle.cpp_tree.specs.Notes.{or_itself, piece_opens, piece_has_generic, piece_packs, argument_packs, argument_class, collapses, is_structor_node, noting};
+ghost use Rattle.cpp_tree.specs.Notes.{itself, or_itself, by_argument_at, passed, joined, of_parameter, of_expansion, of_pack, of_cell, of_head, collapses_from, piece_by_argument, both_free, piece_frees, piece_packs, argument_packs, argument_class, shape_at, packs_by, empty_by, collapses, placed_under, is_structor_node, noting};
 
-use crate::compact::{Compact, Words, bare};
-use crate::node::{Node, Piece};
+use crate::compact::{Compact, HowMany, Words, bare, class, packs};
+use crate::heads::empty_by;
+use crate::node::{ByArgument, HeadClass, HeadFrom, Node, Piece, under_word};
 use crate::nodes::Nodes;
+
+/// What another argument changes of a tree over one: its packs.
+#[inline(always)]
+#[tactic(auto, unfolding(crate::specs::Notes::passed))]
+fn passed(part: ByArgument) -> ByArgument
+    ensures { result ≡ passed part }
+{
+    ByArgument {
+        is_bare: part.is_bare,
+        head: HeadFrom::Own,
+        empty_with: false,
+        empty_without: false,
+    }
+}
+
+/// And of a tree over two.
+#[inline(always)]
+#[tactic(auto, unfolding(crate::specs::Notes::joined))]
+fn joined(one: ByArgument, other: ByArgument) -> ByArgument
+    ensures { result ≡ joined one other }
+{
+    ByArgument {
+        is_bare: one.is_bare | other.is_bare,
+        head: HeadFrom::Own,
+        empty_with: false,
+        empty_without: false,
+    }
+}
+
+/// And of a cell of a list.
+#[inline(always)]
+fn of_cell(one: ByArgument, other: ByArgument) -> ByArgument
+    ensures { result ≡ of_cell one other }
+{
+    ByArgument {
+        is_bare: one.is_bare | other.is_bare,
+        head: HeadFrom::Own,
+        empty_with: one.empty_with & other.empty_with,
+        empty_without: one.empty_without & other.empty_without,
+    }
+}
+
+/// And of a type with the head of another.
+#[inline(always)]
+fn of_head(head: HeadFrom, part: ByArgument) -> ByArgument
+    ensures { result ≡ of_head head part }
+{
+    ByArgument {
+        is_bare: part.is_bare,
+        head,
+        empty_with: false,
+        empty_without: false,
+    }
+}
+
+/// Where the head of a reference to an rvalue of a type is from.
+#[inline(always)]
+#[tactic(auto, unfolding(crate::specs::Notes::collapses_from))]
+fn collapsed_from(head: HeadFrom) -> HeadFrom
+    ensures { result ≡ collapses_from head }
+{
+    match head {
+        HeadFrom::Own => HeadFrom::Own,
+        _ => HeadFrom::Collapsed,
+    }
+}
 
 /// What two words tell of a reference to an rvalue of a type.
 #[inline(always)]
 #[tactic(auto, unfolding(crate::specs::Compact::class_kept, crate::specs::Compact::arguments_kept, crate::specs::Compact::untagged_kept, crate::specs::Compact::returns_kept, crate::specs::Compact::count_kept, crate::specs::Compact::run_kept, crate::specs::Notes::collapses))]
 fn collapsed(words: Words) -> Words
-    ensures { (n : Node) (packs : Option ℕ) (is_open is_generic : Bool) (first : ℕ) → kept n packs is_open is_generic false result first 0 ≡ with_head n packs is_open is_generic (collapses (class_kept words first)) }
+    ensures { (n : Node) (packs : Option ℕ) (free : Free) (is_empty : Bool) (l : ByArgument) (first second : ℕ) → kept n packs free is_empty l result first second ≡ with_head n packs free is_empty l (collapses (class_kept words first second)) }
 {
     match words {
         Words::Lvalue => Words::Lvalue,
@@ -32,7 +102,7 @@ fn collapsed(words: Words) -> Words
 #[inline(always)]
 #[tactic(auto, unfolding(crate::specs::Compact::class_kept, crate::specs::Compact::arguments_kept, crate::specs::Compact::untagged_kept, crate::specs::Compact::returns_kept, crate::specs::Compact::count_kept, crate::specs::Compact::run_kept))]
 fn of_type(words: Words) -> Words
-    ensures { (n : Node) (packs : Option ℕ) (is_open is_generic : Bool) (first : ℕ) → kept n packs is_open is_generic false result first 0 ≡ with_head n packs is_open is_generic (class_kept words first) }
+    ensures { (n : Node) (packs : Option ℕ) (free : Free) (is_empty : Bool) (l : ByArgument) (first second : ℕ) → kept n packs free is_empty l result first second ≡ with_head n packs free is_empty l (class_kept words first second) }
 {
     match words {
         Words::Arguments => Words::Plain,
@@ -47,7 +117,7 @@ fn of_type(words: Words) -> Words
 #[inline(always)]
 #[tactic(auto, unfolding(crate::specs::Compact::class_kept, crate::specs::Compact::arguments_kept, crate::specs::Compact::untagged_kept, crate::specs::Compact::returns_kept, crate::specs::Compact::count_kept, crate::specs::Compact::run_kept))]
 fn of_name(words: Words) -> Words
-    ensures { (n : Node) (packs : Option ℕ) (is_open is_generic : Bool) (first : ℕ) → kept n packs is_open is_generic false result first 0 ≡ with_arguments n packs is_open is_generic (arguments_kept words first) (returns_kept words) }
+    ensures { (n : Node) (packs : Option ℕ) (free : Free) (l : ByArgument) (first second : ℕ) → kept n packs free false l result first second ≡ with_arguments n packs free l (arguments_kept words first second) (returns_kept words) }
 {
     match words {
         Words::Arguments => Words::Arguments,
@@ -58,9 +128,9 @@ fn of_name(words: Words) -> Words
 
 /// What two words tell of an instance of a template.
 #[inline(always)]
-#[tactic(auto, unfolding(crate::specs::Compact::class_kept, crate::specs::Compact::arguments_kept, crate::specs::Compact::untagged_kept, crate::specs::Compact::returns_kept, crate::specs::Compact::count_kept, crate::specs::Compact::run_kept))]
+#[tactic(auto, unfolding(crate::specs::Nodes::under_kept, crate::specs::Compact::class_kept, crate::specs::Compact::arguments_kept, crate::specs::Compact::untagged_kept, crate::specs::Compact::returns_kept, crate::specs::Compact::count_kept, crate::specs::Compact::run_kept))]
 fn of_instance(template: Node) -> Words
-    ensures { (n : Node) (packs : Option ℕ) (is_open is_generic : Bool) (first : ℕ) → kept n packs is_open is_generic false result first 0 ≡ with_arguments n packs is_open is_generic (Some first) (not (is_structor_node template)) }
+    ensures { (n : Node) (packs : Option ℕ) (free : Free) (l : ByArgument) (first : ℕ) → kept n packs free false l result first 0 ≡ with_arguments n packs free l (Some (itself first)) (not (is_structor_node template)) }
 {
     if template.is_structor() {
         Words::Arguments
@@ -69,32 +139,53 @@ fn of_instance(template: Node) -> Words
     }
 }
 
+/// Two words, of which the first is a node and the second the argument under which it stands and one more.
+#[derive(Clone, Copy)]
+struct Pair {
+    first: u32,
+    second: u32,
+}
+
 /// The name under the tags of a name, or the name itself.
 #[inline(always)]
-#[tactic(auto, unfolding(crate::specs::Compact::untagged_kept, crate::specs::Notes::or_itself))]
-fn under_tags(held: Compact, name: u32) -> u32
-    ensures { result ≡ or_itself name (untagged_kept held.words held.first) }
+#[tactic(auto, unfolding(crate::specs::Nodes::under_kept, crate::specs::Compact::untagged_kept, crate::specs::Notes::or_itself))]
+fn under_tags(held: Compact, name: u32) -> Pair
+    ensures { placed_kept result.first result.second ≡ or_itself name (untagged_kept held.words held.first held.second) }
 {
     match held.words {
-        Words::Tagged => held.first,
-        _ => name,
+        Words::Tagged => Pair {
+            first: held.first,
+            second: held.second,
+        },
+        _ => Pair {
+            first: name,
+            second: 0,
+        },
     }
 }
 
 /// A node whose parameters are those of a part.
 #[inline(always)]
-fn noted_over(node: Node, part: Compact, words: Words, first: u32) -> Compact
-    ensures { entry_of result ≡ kept node (packs_kept part.packs) part.is_open part.is_generic false words first 0 }
+fn noted_over(
+    node: Node,
+    part: Compact,
+    by_argument: ByArgument,
+    words: Words,
+    first: u32,
+    second: u32,
+) -> Compact
+    ensures { entry_of result ≡ kept node (packs_kept part.packs) (free_kept part.free part.number) false by_argument words first second }
 {
     Compact {
         node,
         packs: part.packs,
         first,
-        second: 0,
-        is_open: part.is_open,
-        is_generic: part.is_generic,
+        second,
+        number: part.number,
+        free: part.free,
         is_empty: false,
         words,
+        by_argument,
     }
 }
 
@@ -110,13 +201,66 @@ fn packs_of_two(one: Compact, other: Compact) -> u32
     }
 }
 
-/// Whether a part has packs of no elements.
+/// How many parameters are free, and the number of one alone.
+#[derive(Clone, Copy)]
+struct Freed {
+    free: HowMany,
+    number: u32,
+}
+
+/// More than one is free.
+const SEVERAL: Freed = Freed {
+    free: HowMany::Several,
+    number: 0,
+};
+
+/// The free parameters of this one and of a part.
+#[inline(always)]
+#[tactic(auto, unfolding(crate::specs::Compact::free_kept, crate::specs::Notes::both_free))]
+fn free_beside(number: u32, part: Compact) -> Freed
+    ensures { free_kept result.free result.number ≡ both_free (Free.One number) (free_kept part.free part.number) }
+{
+    match part.free {
+        HowMany::None => Freed {
+            free: HowMany::One,
+            number,
+        },
+        HowMany::One => {
+            if number == part.number {
+                return Freed {
+                    free: HowMany::One,
+                    number,
+                };
+            }
+            SEVERAL
+        }
+        HowMany::Several => SEVERAL,
+    }
+}
+
+/// The free parameters of two parts.
+#[inline(always)]
+#[tactic(auto, unfolding(crate::specs::Compact::free_kept, crate::specs::Notes::both_free))]
+fn free_in_two(one: Compact, other: Compact) -> Freed
+    ensures { free_kept result.free result.number ≡ both_free (free_kept one.free one.number) (free_kept other.free other.number) }
+{
+    match one.free {
+        HowMany::None => Freed {
+            free: other.free,
+            number: other.number,
+        },
+        HowMany::One => free_beside(one.number, other),
+        HowMany::Several => SEVERAL,
+    }
+}
+
+/// Whether packs have no elements.
 #[inline(always)]
 #[tactic(auto, unfolding(crate::specs::Compact::packs_kept, cpp_grammar::specs::Items::is_none_of))]
-fn has_empty_packs(part: Compact) -> bool
-    ensures { result ≡ heads.is_none_of (packs_kept part.packs) }
+fn has_no_elements(packs: u32) -> bool
+    ensures { result ≡ heads.is_none_of (packs_kept packs) }
 {
-    part.packs == 1
+    packs == 1
 }
 
 /// A node whose parameters are those of two parts.
@@ -126,37 +270,174 @@ fn noted_over_two(
     one: Compact,
     other: Compact,
     is_empty: bool,
+    by_argument: ByArgument,
     words: Words,
     first: u32,
     second: u32,
 ) -> Compact
-    ensures { entry_of result ≡ kept node (first_of (packs_kept one.packs) (packs_kept other.packs)) (one.is_open || other.is_open) (one.is_generic || other.is_generic) is_empty words first second }
+    ensures { entry_of result ≡ kept node (first_of (packs_kept one.packs) (packs_kept other.packs)) (both_free (free_kept one.free one.number) (free_kept other.free other.number)) is_empty by_argument words first second }
 {
+    let freed = free_in_two(one, other);
     Compact {
         node,
         packs: packs_of_two(one, other),
         first,
         second,
-        is_open: one.is_open | other.is_open,
-        is_generic: one.is_generic | other.is_generic,
+        number: freed.number,
+        free: freed.free,
         is_empty,
         words,
+        by_argument,
+    }
+}
+
+/// What a parameter has of its argument: the length of its packs and one more, 0 where it has none, and of what the words tell
+/// the head.
+#[derive(Clone, Copy)]
+struct Given {
+    packs: u32,
+    words: Words,
+    first: u32,
+    second: u32,
+}
+
+/// The length of the packs of a tree with another argument.
+#[inline(always)]
+#[tactic(auto, unfolding(crate::specs::Compact::packs_kept, crate::specs::Notes::packs_by))]
+fn packs_given(is_bare: bool, given: u32) -> u32
+    ensures { packs_kept result ≡ packs_by is_bare (packs_kept given) }
+{
+    if is_bare { given } else { 0 }
+}
+
+/// The second word of a tree that is there again with this argument, where its head is its own.
+#[inline(always)]
+#[tactic(auto, unfolding(crate::specs::Nodes::under_kept, crate::specs::Compact::class_kept, crate::specs::Compact::arguments_kept, crate::specs::Compact::untagged_kept, crate::specs::Compact::returns_kept, crate::specs::Compact::count_kept, crate::specs::Compact::run_kept, crate::specs::Notes::placed_under))]
+fn second_under(held: Compact, argument: u32) -> u32
+    requires { argument + 1 < 2 ^ 32 }
+    ensures { (n : Node) (packs : Option ℕ) (free : Free) (is_empty : Bool) (l : ByArgument) → kept n packs free is_empty l held.words held.first result ≡ own_entry n packs free is_empty l held.words held.first held.second argument }
+{
+    match held.words {
+        Words::Arguments => argument + 1,
+        Words::ReturningArguments => argument + 1,
+        Words::Tagged => argument + 1,
+        Words::Elements => 0,
+        _ => held.second,
+    }
+}
+
+/// The entry of a tree that is there again with an argument, from that of the tree and what the argument gives.
+#[inline(always)]
+fn restated(
+    node: Node,
+    held: Compact,
+    packs: u32,
+    is_empty: bool,
+    argument: u32,
+    given: Given,
+) -> Compact
+    requires { argument + 1 < 2 ^ 32 }
+    ensures { entry_of result ≡ restated_entry node (packs_kept packs) is_empty (entry_of held) argument (class_kept given.words given.first given.second) }
+{
+    match held.by_argument.head {
+        HeadFrom::Own => Compact {
+            node,
+            packs,
+            first: held.first,
+            second: second_under(held, argument),
+            number: held.number,
+            free: held.free,
+            is_empty,
+            words: held.words,
+            by_argument: held.by_argument,
+        },
+        HeadFrom::Argument => Compact {
+            node,
+            packs,
+            first: given.first,
+            second: given.second,
+            number: held.number,
+            free: held.free,
+            is_empty,
+            words: of_type(given.words),
+            by_argument: held.by_argument,
+        },
+        HeadFrom::Collapsed => Compact {
+            node,
+            packs,
+            first: given.first,
+            second: given.second,
+            number: held.number,
+            free: held.free,
+            is_empty,
+            words: collapsed(given.words),
+            by_argument: held.by_argument,
+        },
     }
 }
 
 impl Nodes {
+    /// What a parameter has of its argument.
+    #[inline(always)]
+    fn given(&self, symbol: &[u8], argument: u32) -> Given
+        requires table { IsTable (over symbol.now self.now) }
+        requires argument { argument < length self.now.nodes }
+        requires room { length self.now.nodes + 1 < 2 ^ 32 }
+        ensures packs { packs_kept result.packs ≡ argument_packs self.now.nodes (shape_at self.now.nodes argument) }
+        ensures class { class_kept result.words result.first result.second ≡ argument_class self.now.nodes argument }
+    {
+        let place = self.resolved(symbol, argument);
+        match self.node(symbol, place.node) {
+            Node::Pack(elements) => Given {
+                packs: self.at(elements).entry().count + 1,
+                words: Words::OfElement,
+                first: elements,
+                second: under_word(place.under),
+            },
+            _ => {
+                let held = self.at(argument);
+                Given {
+                    packs: 0,
+                    words: held.words,
+                    first: held.first,
+                    second: held.second,
+                }
+            }
+        }
+    }
+
+    /// The head of a parameter with this argument.
+    #[inline(always)]
+    pub(crate) fn given_class(&self, symbol: &[u8], argument: u32) -> HeadClass
+        requires table { IsTable (over symbol.now self.now) }
+        requires argument { argument < length self.now.nodes }
+        requires room { length self.now.nodes + 1 < 2 ^ 32 }
+        ensures { result ≡ argument_class self.now.nodes argument }
+    {
+        let given = self.given(symbol, argument);
+        class(given.words, given.first, given.second)
+    }
+
+    /// The length of the packs of a parameter with this argument.
+    #[inline(always)]
+    pub(crate) fn given_packs(&self, symbol: &[u8], argument: u32) -> Option<u32>
+        requires table { IsTable (over symbol.now self.now) }
+        requires argument { argument < length self.now.nodes }
+        requires room { length self.now.nodes + 1 < 2 ^ 32 }
+        ensures { result ≡ argument_packs self.now.nodes (shape_at self.now.nodes argument) }
+    {
+        packs(self.given(symbol, argument).packs)
+    }
+
     /// A name of a piece behind no other.
     #[inline(always)]
     fn noted_piece(&self, symbol: &[u8], node: Node, piece: Piece) -> Compact
         requires below { IsPieceBelow symbol.now (length self.now.nodes) piece }
-        ensures { entry_of result ≡ kept node (piece_packs self.now.nodes piece) (piece_opens self.now.nodes piece) (piece_has_generic self.now.nodes piece) false Words.Plain 0 0 }
+        ensures { entry_of result ≡ kept node (piece_packs self.now.nodes piece) (piece_frees self.now.nodes piece) false (piece_by_argument self.now.nodes piece) Words.Plain 0 0 }
     {
         match piece {
-            Piece::Lambda { parameters, .. } => Compact {
-                is_generic: false,
-                ..noted_over(node, self.at(parameters), Words::Plain, 0)
-            },
-            Piece::Conversion(ty) => noted_over(node, self.at(ty), Words::Plain, 0),
+            Piece::Lambda { parameters, .. } => self.noted_type(node, parameters, Words::Plain),
+            Piece::Conversion(ty) => self.noted_type(node, ty, Words::Plain),
             _ => bare(node, false),
         }
     }
@@ -166,70 +447,84 @@ impl Nodes {
     fn noted_within(&self, symbol: &[u8], node: Node, prefix: u32, piece: Piece) -> Compact
         requires prefix { prefix < length self.now.nodes }
         requires below { IsPieceBelow symbol.now (length self.now.nodes) piece }
-        ensures { entry_of result ≡ kept node (first_of (entry_at self.now.nodes prefix).packs (piece_packs self.now.nodes piece)) ((entry_at self.now.nodes prefix).is_open || piece_opens self.now.nodes piece) ((entry_at self.now.nodes prefix).is_generic || piece_has_generic self.now.nodes piece) false Words.Plain 0 0 }
+        ensures { entry_of result ≡ kept node (first_of (entry_at self.now.nodes prefix).packs (piece_packs self.now.nodes piece)) (both_free (entry_at self.now.nodes prefix).free (piece_frees self.now.nodes piece)) false
+            (joined (by_argument_at self.now.nodes prefix) (piece_by_argument self.now.nodes piece)) Words.Plain 0 0 }
     {
-        let before = self.at(prefix);
         match piece {
-            Piece::Lambda { parameters, .. } => Compact {
-                is_generic: before.is_generic,
-                ..noted_over_two(node, before, self.at(parameters), false, Words::Plain, 0, 0)
-            },
-            Piece::Conversion(ty) => noted_over_two(
-                node,
-                before,
-                self.at(ty),
-                false,
-                Words::Plain,
-                0,
-                0,
-            ),
-            _ => noted_over(node, before, Words::Plain, 0),
+            Piece::Lambda { parameters, .. } => {
+                self.noted_types(node, prefix, parameters, Words::Plain)
+            }
+            Piece::Conversion(ty) => self.noted_types(node, prefix, ty, Words::Plain),
+            _ => self.noted_type(node, prefix, Words::Plain),
         }
     }
 
     /// A parameter with its argument.
     #[inline(always)]
-    fn noted_parameter(&self, symbol: &[u8], node: Node, argument: u32) -> Compact
+    fn noted_parameter(&self, symbol: &[u8], node: Node, number: u32, argument: u32) -> Compact
         requires table { IsTable (over symbol.now self.now) }
         requires argument { argument < length self.now.nodes }
-        ensures { entry_of result ≡ with_head node (argument_packs self.now.nodes (entry_at self.now.nodes argument).node) true false (argument_class (entry_at self.now.nodes argument).node (entry_at self.now.nodes argument).class) }
+        requires room { length self.now.nodes + 1 < 2 ^ 32 }
+        ensures { entry_of result ≡ with_head node (argument_packs self.now.nodes (shape_at self.now.nodes argument)) (Free.One number) false of_parameter (argument_class self.now.nodes argument) }
     {
-        let held = self.at(argument);
-        match self.node(symbol, argument) {
-            Node::Pack(elements) => Compact {
-                node,
-                packs: self.at(elements).entry().count + 1,
-                first: elements,
-                second: 0,
-                is_open: true,
-                is_generic: false,
-                is_empty: false,
-                words: Words::OfElement,
-            },
-            _ => Compact {
-                node,
-                packs: 0,
-                first: held.first,
-                second: 0,
-                is_open: true,
-                is_generic: false,
-                is_empty: false,
-                words: of_type(held.words),
+        let given = self.given(symbol, argument);
+        Compact {
+            node,
+            packs: given.packs,
+            first: given.first,
+            second: given.second,
+            number,
+            free: HowMany::One,
+            is_empty: false,
+            words: of_type(given.words),
+            by_argument: ByArgument {
+                is_bare: true,
+                head: HeadFrom::Argument,
+                empty_with: false,
+                empty_without: false,
             },
         }
+    }
+
+    /// A tree that is there again with an argument.
+    #[inline(always)]
+    fn noted_again(&self, symbol: &[u8], node: Node, tree: u32, argument: u32) -> Compact
+        requires table { IsTable (over symbol.now self.now) }
+        requires tree { tree < length self.now.nodes }
+        requires argument { argument < length self.now.nodes }
+        requires room { length self.now.nodes + 1 < 2 ^ 32 }
+        ensures { entry_of result ≡ restated_entry node (packs_by (by_argument_at self.now.nodes tree).is_bare (argument_packs self.now.nodes (shape_at self.now.nodes argument)))
+            (empty_by (heads.is_none_of (argument_packs self.now.nodes (shape_at self.now.nodes argument))) (by_argument_at self.now.nodes tree)) (entry_at self.now.nodes tree) argument (argument_class self.now.nodes argument) }
+    {
+        let held = self.at(tree);
+        let given = self.given(symbol, argument);
+        let packs = packs_given(held.by_argument.is_bare, given.packs);
+        let is_empty = empty_by(has_no_elements(given.packs), held.by_argument);
+        restated(node, held, packs, is_empty, argument, given)
     }
 
     /// An expansion over a pattern.
     #[inline(always)]
     fn noted_expansion(&self, node: Node, pattern: u32) -> Compact
         requires pattern { pattern < length self.now.nodes }
-        ensures { entry_of result ≡ kept node None (entry_at self.now.nodes pattern).is_open (entry_at self.now.nodes pattern).is_generic (heads.is_none_of (entry_at self.now.nodes pattern).packs) Words.Plain 0 0 }
+        ensures { entry_of result ≡ kept node None (entry_at self.now.nodes pattern).free (heads.is_none_of (entry_at self.now.nodes pattern).packs) (of_expansion (by_argument_at self.now.nodes pattern)) Words.Plain 0 0 }
     {
         let held = self.at(pattern);
         Compact {
-            is_open: held.is_open,
-            is_generic: held.is_generic,
-            ..bare(node, has_empty_packs(held))
+            node,
+            packs: 0,
+            first: 0,
+            second: 0,
+            number: held.number,
+            free: held.free,
+            is_empty: has_no_elements(held.packs),
+            words: Words::Plain,
+            by_argument: ByArgument {
+                is_bare: false,
+                head: HeadFrom::Own,
+                empty_with: held.by_argument.is_bare,
+                empty_without: false,
+            },
         }
     }
 
@@ -237,12 +532,24 @@ impl Nodes {
     #[inline(always)]
     fn noted_pack(&self, node: Node, elements: u32) -> Compact
         requires elements { elements < length self.now.nodes }
-        ensures { entry_of result ≡ kept node (entry_at self.now.nodes elements).packs (entry_at self.now.nodes elements).is_open (entry_at self.now.nodes elements).is_generic (entry_at self.now.nodes elements).is_empty Words.Plain 0 0 }
+        ensures { entry_of result ≡ kept node (entry_at self.now.nodes elements).packs (entry_at self.now.nodes elements).free (entry_at self.now.nodes elements).is_empty (of_pack (by_argument_at self.now.nodes elements)) Words.Plain 0 0 }
     {
         let held = self.at(elements);
         Compact {
+            node,
+            packs: held.packs,
+            first: 0,
+            second: 0,
+            number: held.number,
+            free: held.free,
             is_empty: held.is_empty,
-            ..noted_over(node, held, Words::Plain, 0)
+            words: Words::Plain,
+            by_argument: ByArgument {
+                is_bare: held.by_argument.is_bare,
+                head: HeadFrom::Own,
+                empty_with: held.by_argument.empty_with,
+                empty_without: held.by_argument.empty_without,
+            },
         }
     }
 
@@ -268,8 +575,8 @@ impl Nodes {
         requires first { first < length self.now.nodes }
         requires rest { rest < length self.now.nodes }
         requires room { length self.now.nodes + 1 < 2 ^ 32 }
-        ensures { entry_of result ≡ kept node (first_of (entry_at self.now.nodes first).packs (entry_at self.now.nodes rest).packs) ((entry_at self.now.nodes first).is_open || (entry_at self.now.nodes rest).is_open) ((entry_at self.now.nodes first).is_generic || (entry_at self.now.nodes rest).is_generic)
-            ((entry_at self.now.nodes first).is_empty && (entry_at self.now.nodes rest).is_empty) Words.Elements ((entry_at self.now.nodes rest).count + 1) (cond (nat_eq (rest + 1) (length self.now.nodes)) ((entry_at self.now.nodes rest).run + 1) 0) }
+        ensures { entry_of result ≡ kept node (first_of (entry_at self.now.nodes first).packs (entry_at self.now.nodes rest).packs) (both_free (entry_at self.now.nodes first).free (entry_at self.now.nodes rest).free)
+            ((entry_at self.now.nodes first).is_empty && (entry_at self.now.nodes rest).is_empty) (of_cell (by_argument_at self.now.nodes first) (by_argument_at self.now.nodes rest)) Words.Elements ((entry_at self.now.nodes rest).count + 1) (cond (nat_eq (rest + 1) (length self.now.nodes)) ((entry_at self.now.nodes rest).run + 1) 0) }
     {
         let one = self.at(first);
         let other = self.at(rest);
@@ -280,6 +587,7 @@ impl Nodes {
             one,
             other,
             is_empty,
+            of_cell(one.by_argument, other.by_argument),
             Words::Elements,
             count,
             self.run_to(rest),
@@ -290,9 +598,10 @@ impl Nodes {
     #[inline(always)]
     fn noted_type(&self, node: Node, ty: u32, words: Words) -> Compact
         requires { ty < length self.now.nodes }
-        ensures { entry_of result ≡ kept node (entry_at self.now.nodes ty).packs (entry_at self.now.nodes ty).is_open (entry_at self.now.nodes ty).is_generic false words 0 0 }
+        ensures { entry_of result ≡ kept node (entry_at self.now.nodes ty).packs (entry_at self.now.nodes ty).free false (passed (by_argument_at self.now.nodes ty)) words 0 0 }
     {
-        noted_over(node, self.at(ty), words, 0)
+        let held = self.at(ty);
+        noted_over(node, held, passed(held.by_argument), words, 0, 0)
     }
 
     /// A node over two types, of which these words tell.
@@ -300,66 +609,112 @@ impl Nodes {
     fn noted_types(&self, node: Node, one: u32, other: u32, words: Words) -> Compact
         requires one { one < length self.now.nodes }
         requires other { other < length self.now.nodes }
-        ensures { entry_of result ≡ kept node (first_of (entry_at self.now.nodes one).packs (entry_at self.now.nodes other).packs) ((entry_at self.now.nodes one).is_open || (entry_at self.now.nodes other).is_open) ((entry_at self.now.nodes one).is_generic || (entry_at self.now.nodes other).is_generic) false words 0 0 }
+        ensures { entry_of result ≡ kept node (first_of (entry_at self.now.nodes one).packs (entry_at self.now.nodes other).packs) (both_free (entry_at self.now.nodes one).free (entry_at self.now.nodes other).free) false (joined (by_argument_at self.now.nodes one) (by_argument_at self.now.nodes other)) words 0 0 }
     {
-        noted_over_two(node, self.at(one), self.at(other), false, words, 0, 0)
+        let first = self.at(one);
+        let second = self.at(other);
+        noted_over_two(
+            node,
+            first,
+            second,
+            false,
+            joined(first.by_argument, second.by_argument),
+            words,
+            0,
+            0,
+        )
     }
 
     /// A reference to an rvalue of a type.
     #[inline(always)]
     fn noted_rvalue(&self, node: Node, ty: u32) -> Compact
         requires { ty < length self.now.nodes }
-        ensures { entry_of result ≡ with_head node (entry_at self.now.nodes ty).packs (entry_at self.now.nodes ty).is_open (entry_at self.now.nodes ty).is_generic (collapses (entry_at self.now.nodes ty).class) }
+        ensures { entry_of result ≡ with_head node (entry_at self.now.nodes ty).packs (entry_at self.now.nodes ty).free false (of_head (collapses_from (by_argument_at self.now.nodes ty).head) (by_argument_at self.now.nodes ty)) (collapses (entry_at self.now.nodes ty).class) }
     {
         let held = self.at(ty);
-        noted_over(node, held, collapsed(held.words), held.first)
+        let by_argument = of_head(collapsed_from(held.by_argument.head), held.by_argument);
+        noted_over(
+            node,
+            held,
+            by_argument,
+            collapsed(held.words),
+            held.first,
+            held.second,
+        )
     }
 
     /// A qualified type.
     #[inline(always)]
     fn noted_qualified(&self, node: Node, ty: u32) -> Compact
         requires { ty < length self.now.nodes }
-        ensures { entry_of result ≡ with_head node (entry_at self.now.nodes ty).packs (entry_at self.now.nodes ty).is_open (entry_at self.now.nodes ty).is_generic (entry_at self.now.nodes ty).class }
+        ensures { entry_of result ≡ with_head node (entry_at self.now.nodes ty).packs (entry_at self.now.nodes ty).free false (of_head (by_argument_at self.now.nodes ty).head (by_argument_at self.now.nodes ty)) (entry_at self.now.nodes ty).class }
     {
         let held = self.at(ty);
-        noted_over(node, held, of_type(held.words), held.first)
+        let by_argument = of_head(held.by_argument.head, held.by_argument);
+        noted_over(
+            node,
+            held,
+            by_argument,
+            of_type(held.words),
+            held.first,
+            held.second,
+        )
     }
 
     /// A name in a function, or the entity that it names.
     #[inline(always)]
     fn noted_local(&self, node: Node, entity: u32) -> Compact
         requires { entity < length self.now.nodes }
-        ensures { entry_of result ≡ with_arguments node (entry_at self.now.nodes entity).packs (entry_at self.now.nodes entity).is_open (entry_at self.now.nodes entity).is_generic (entry_at self.now.nodes entity).arguments (entry_at self.now.nodes entity).returns }
+        ensures { entry_of result ≡ with_arguments node (entry_at self.now.nodes entity).packs (entry_at self.now.nodes entity).free (passed (by_argument_at self.now.nodes entity)) (entry_at self.now.nodes entity).arguments (entry_at self.now.nodes entity).returns }
     {
         let held = self.at(entity);
-        noted_over(node, held, of_name(held.words), held.first)
+        noted_over(
+            node,
+            held,
+            passed(held.by_argument),
+            of_name(held.words),
+            held.first,
+            held.second,
+        )
     }
 
     /// A name with one tag more.
     #[inline(always)]
     fn noted_tagged(&self, node: Node, name: u32) -> Compact
         requires { name < length self.now.nodes }
-        ensures { entry_of result ≡ kept node (entry_at self.now.nodes name).packs (entry_at self.now.nodes name).is_open (entry_at self.now.nodes name).is_generic false Words.Tagged (or_itself name (entry_at self.now.nodes name).untagged) 0 }
+        ensures { entry_of result ≡ with_tags node (entry_at self.now.nodes name).packs (entry_at self.now.nodes name).free (passed (by_argument_at self.now.nodes name)) (or_itself name (entry_at self.now.nodes name).untagged) }
     {
         let held = self.at(name);
-        noted_over(node, held, Words::Tagged, under_tags(held, name))
+        let under = under_tags(held, name);
+        noted_over(
+            node,
+            held,
+            passed(held.by_argument),
+            Words::Tagged,
+            under.first,
+            under.second,
+        )
     }
 
     /// An instance of a template.
     #[inline(always)]
-    fn noted_instance(&self, node: Node, template: u32, arguments: u32) -> Compact
+    fn noted_instance(&self, symbol: &[u8], node: Node, template: u32, arguments: u32) -> Compact
+        requires table { IsTable (over symbol.now self.now) }
         requires template { template < length self.now.nodes }
         requires arguments { arguments < length self.now.nodes }
-        ensures { entry_of result ≡ with_arguments node (first_of (entry_at self.now.nodes template).packs (entry_at self.now.nodes arguments).packs) ((entry_at self.now.nodes template).is_open || (entry_at self.now.nodes arguments).is_open) ((entry_at self.now.nodes template).is_generic || (entry_at self.now.nodes arguments).is_generic)
-            (Some arguments) (not (is_structor_node (entry_at self.now.nodes template).node)) }
+        ensures { entry_of result ≡ with_arguments node (first_of (entry_at self.now.nodes template).packs (entry_at self.now.nodes arguments).packs) (both_free (entry_at self.now.nodes template).free (entry_at self.now.nodes arguments).free)
+            (joined (by_argument_at self.now.nodes template) (by_argument_at self.now.nodes arguments)) (Some (itself arguments)) (not (is_structor_node (shape_at self.now.nodes template))) }
     {
         let held = self.at(template);
+        let other = self.at(arguments);
+        let place = self.resolved(symbol, template);
         noted_over_two(
             node,
             held,
-            self.at(arguments),
+            other,
             false,
-            of_instance(held.node),
+            joined(held.by_argument, other.by_argument),
+            of_instance(self.node(symbol, place.node)),
             arguments,
             0,
         )
@@ -367,7 +722,7 @@ impl Nodes {
 
     /// A node with what is noted of it.
     #[inline(always)]
-    #[tactic(auto, unfolding(crate::specs::Compact::packs_kept, crate::specs::Compact::class_kept, crate::specs::Compact::arguments_kept, crate::specs::Compact::untagged_kept, crate::specs::Compact::returns_kept, crate::specs::Compact::count_kept, crate::specs::Compact::run_kept, crate::specs::Notes::opens, crate::specs::Notes::has_generic, crate::specs::Notes::empties, crate::specs::Notes::ends_in, crate::specs::Notes::untagging, crate::specs::Notes::classes, crate::specs::Notes::packing, crate::specs::Notes::returning, crate::specs::Notes::counting, crate::specs::Notes::running))]
+    #[tactic(auto, unfolding(crate::specs::Compact::packs_kept, crate::specs::Compact::class_kept, crate::specs::Compact::arguments_kept, crate::specs::Compact::untagged_kept, crate::specs::Compact::returns_kept, crate::specs::Compact::count_kept, crate::specs::Compact::run_kept, crate::specs::Notes::frees, crate::specs::Notes::node_by_argument, crate::specs::Notes::if_own, crate::specs::Notes::class_by, crate::specs::Notes::empties, crate::specs::Notes::ends_in, crate::specs::Notes::untagging, crate::specs::Notes::classes, crate::specs::Notes::packing, crate::specs::Notes::returning, crate::specs::Notes::counting, crate::specs::Notes::running))]
     pub(crate) fn noted(&self, symbol: &[u8], node: Node) -> Compact
         requires table { IsTable (over symbol.now self.now) }
         requires below { IsBelow symbol.now (length self.now.thunks) (length self.now.nodes) node }
@@ -381,16 +736,14 @@ impl Nodes {
             Node::Instance {
                 template,
                 arguments,
-            } => self.noted_instance(node, template, arguments),
+            } => self.noted_instance(symbol, node, template, arguments),
             Node::Local { entity, .. } => self.noted_local(node, entity),
             Node::Holder(name) => self.noted_type(node, name, Words::Plain),
             Node::Tagged { name, .. } => self.noted_tagged(node, name),
             Node::OfDefault { entity, .. } => self.noted_local(node, entity),
-            Node::Parameter { argument, .. } => self.noted_parameter(symbol, node, argument),
-            Node::GenericParameter(_) => Compact {
-                is_generic: true,
-                ..bare(node, false)
-            },
+            Node::Parameter { number, argument } => {
+                self.noted_parameter(symbol, node, number, argument)
+            }
             Node::Pointer(ty) => self.noted_type(node, ty, Words::Plain),
             Node::Lvalue(ty) => self.noted_type(node, ty, Words::Lvalue),
             Node::Rvalue(ty) => self.noted_rvalue(node, ty),
@@ -420,6 +773,7 @@ impl Nodes {
             Node::Pack(elements) => self.noted_pack(node, elements),
             Node::Nil => bare(node, true),
             Node::Cell { first, rest } => self.noted_cell(symbol, node, first, rest),
+            Node::Again { tree, argument } => self.noted_again(symbol, node, tree, argument),
             _ => bare(node, false),
         }
     }

@@ -238,9 +238,15 @@ pub const CLONE: u16 = 72;
 /// the wide grammar alone have it.
 pub const OF_DEFAULT: u16 = 73;
 
-/// A lambda's own parameter, in the lambda's signature. Numbers: its number, counted from 0. Symbols of the wide grammar alone
-/// have it.
-pub const GENERIC_PARAMETER: u16 = 74;
+/// A lambda whose signature names parameters of its own, in no scope, otherwise as `LAMBDA`. Symbols of the wide grammar alone have
+/// it, and the next two.
+pub const GENERIC_LAMBDA: u16 = 74;
+
+/// As `GENERIC_LAMBDA`, in std.
+pub const STD_GENERIC_LAMBDA: u16 = 75;
+
+/// As `GENERIC_LAMBDA`, in a prefix: its parameters are the second part.
+pub const NESTED_GENERIC_LAMBDA: u16 = 76;
 
 /// An array whose length is a parameter. Parts: the parameter and the type of its elements.
-pub const BOUNDED: u16 = 75;
+pub const BOUNDED: u16 = 77;

@@ -1,26 +1,26 @@
 // The view of a node.
 #![tactic(auto)]
 
-ghost use Rattle.std.specs.Prelude.{◌≡◌, ℕ, ◌≤◌, [], ◌∷◌, length};
+ghost use Rattle.std.specs.Prelude.{◌≡◌, ℕ, ◌≤◌, ◌<◌, [], ◌∷◌, length, false};
 ghost use Rattle.cpp_term.specs.Erased.{erase};
 ghost use Rattle.cpp_grammar.specs.Term.{Term};
-ghost use Rattle.cpp_tree.specs.Nodes.{over, trees, tree_of, piece_of, qualifiers_of, mark_of, thunk_of, discriminator_of, IsSpan, IsBelow, IsPieceBelow, IsTable};
-ghost use Rattle.cpp_tree.specs.Fields.{bit, mark_number, qualifiers_number, linkage_number, name_fields, named_fields, local_fields, thunk_fields, fields_of, offsets_of};
+ghost use Rattle.cpp_tree.specs.Nodes.{over, trees, tree_of, piece_of, qualifiers_of, mark_of, thunk_of, discriminator_of, is_again, IsSpan, IsBelow, IsPieceBelow, IsTable};
+ghost use Rattle.cpp_tree.specs.Fields.{bit, linkage_number, name_fields, named_fields, local_fields, thunk_fields, fields_of, offsets_of};
 ghost use Rattle.cpp_tree.specs.Views.{plain_tree, prefix_trees, seen_of, seen_behind, seen_fields, no_text, offsets_in, AreBelow, IsSlotBelow, AreWithin, IsKnownThunk};
 
 use crate::node::{Adjustment, Mark, Piece, Qualifiers, Signed, Thunk, bit};
 use crate::tree_production::{
     ABBREVIATION, ABSENT, ADDRESS_OF, ARRAY, BOOLEAN, BOUNDED, BUILTIN, BUILTIN_WITH_D, CLONE,
     COMPLEX, CONSTRUCTION, CONSTRUCTOR, CONVERSION, COVARIANT_THUNK, DESTRUCTOR, ENCODING_LITERAL,
-    EXPANSION, FUNCTION, FUNCTION_TYPE, GENERIC_PARAMETER, GUARD, HOLDER, INSTANCE, INTEGER,
-    LAMBDA, LIST, LITERAL_OPERATOR, LOCAL, LVALUE, MEMBER_POINTER, NESTED_CONSTRUCTOR,
-    NESTED_CONVERSION, NESTED_DESTRUCTOR, NESTED_LAMBDA, NESTED_LITERAL_OPERATOR, NESTED_NO_PIECE,
-    NESTED_OPERATOR, NESTED_SOURCE, NESTED_STRING_LITERAL, NESTED_UNNAMED, NIL, NO_PIECE,
-    NULL_POINTER, NUMBERED_LOCAL, OBJECT, OF_DEFAULT, OF_NAME, OPERATOR, PACK, PARAMETER, POINTER,
-    QUALIFIED, RVALUE, SIZED_FLOAT, SOURCE, SPECIAL, STD_CONSTRUCTOR, STD_CONVERSION,
-    STD_DESTRUCTOR, STD_LAMBDA, STD_LITERAL_OPERATOR, STD_NO_PIECE, STD_OPERATOR, STD_SOURCE,
-    STD_STRING_LITERAL, STD_UNNAMED, STRING_LITERAL, SYMBOL, TABLE_THUNK, TAGGED, THUNK, UNNAMED,
-    VECTOR, VENDOR, WIDE_THUNK,
+    EXPANSION, FUNCTION, FUNCTION_TYPE, GENERIC_LAMBDA, GUARD, HOLDER, INSTANCE, INTEGER, LAMBDA,
+    LIST, LITERAL_OPERATOR, LOCAL, LVALUE, MEMBER_POINTER, NESTED_CONSTRUCTOR, NESTED_CONVERSION,
+    NESTED_DESTRUCTOR, NESTED_GENERIC_LAMBDA, NESTED_LAMBDA, NESTED_LITERAL_OPERATOR,
+    NESTED_NO_PIECE, NESTED_OPERATOR, NESTED_SOURCE, NESTED_STRING_LITERAL, NESTED_UNNAMED, NIL,
+    NO_PIECE, NULL_POINTER, NUMBERED_LOCAL, OBJECT, OF_DEFAULT, OF_NAME, OPERATOR, PACK, PARAMETER,
+    POINTER, QUALIFIED, RVALUE, SIZED_FLOAT, SOURCE, SPECIAL, STD_CONSTRUCTOR, STD_CONVERSION,
+    STD_DESTRUCTOR, STD_GENERIC_LAMBDA, STD_LAMBDA, STD_LITERAL_OPERATOR, STD_NO_PIECE,
+    STD_OPERATOR, STD_SOURCE, STD_STRING_LITERAL, STD_UNNAMED, STRING_LITERAL, SYMBOL, TABLE_THUNK,
+    TAGGED, THUNK, UNNAMED, VECTOR, VENDOR, WIDE_THUNK,
 };
 use crate::{Nodes, node};
 use sym_core::Span;
@@ -50,6 +50,7 @@ struct Names {
     constructor: u16,
     destructor: u16,
     lambda: u16,
+    generic_lambda: u16,
     conversion: u16,
     unnamed: u16,
     string_literal: u16,
@@ -64,6 +65,7 @@ const ALONE: Names = Names {
     constructor: CONSTRUCTOR,
     destructor: DESTRUCTOR,
     lambda: LAMBDA,
+    generic_lambda: GENERIC_LAMBDA,
     conversion: CONVERSION,
     unnamed: UNNAMED,
     string_literal: STRING_LITERAL,
@@ -78,6 +80,7 @@ const IN_STD: Names = Names {
     constructor: STD_CONSTRUCTOR,
     destructor: STD_DESTRUCTOR,
     lambda: STD_LAMBDA,
+    generic_lambda: STD_GENERIC_LAMBDA,
     conversion: STD_CONVERSION,
     unnamed: STD_UNNAMED,
     string_literal: STD_STRING_LITERAL,
@@ -92,6 +95,7 @@ const NESTED: Names = Names {
     constructor: NESTED_CONSTRUCTOR,
     destructor: NESTED_DESTRUCTOR,
     lambda: NESTED_LAMBDA,
+    generic_lambda: NESTED_GENERIC_LAMBDA,
     conversion: NESTED_CONVERSION,
     unnamed: NESTED_UNNAMED,
     string_literal: NESTED_STRING_LITERAL,
@@ -191,6 +195,16 @@ fn view_of_name(
         Piece::Lambda { parameters, number } => match prefix {
             None => one(names.lambda, [number, 0], NO_TEXT, parameters),
             Some(prefix) => two(names.lambda, [number, 0], NO_TEXT, prefix, parameters),
+        },
+        Piece::GenericLambda { parameters, number } => match prefix {
+            None => one(names.generic_lambda, [number, 0], NO_TEXT, parameters),
+            Some(prefix) => two(
+                names.generic_lambda,
+                [number, 0],
+                NO_TEXT,
+                prefix,
+                parameters,
+            ),
         },
         Piece::Conversion(ty) => match prefix {
             None => one(names.conversion, [0; 2], NO_TEXT, ty),
@@ -299,10 +313,39 @@ fn view_of_thunk(symbol: &[u8], nodes: &Nodes, thunk: Option<Thunk>, encoding: u
     }
 }
 
-/// The view of a node, and its parts.
-#[tactic(auto, unfolding(crate::specs::Fields::fields_of, cpp_term::specs::Erased::erase, crate::specs::Nodes::tree_of))]
+/// The view of a node, and its parts. Without arguments a tree that is there again is that tree.
 pub fn view_of(symbol: &[u8], nodes: &Nodes, node: node::Node) -> NodeView
     requires table { IsTable (over symbol.now nodes.now) }
+    requires node { IsBelow symbol.now (length nodes.now.thunks) (length nodes.now.nodes) node }
+    ensures fields { seen_fields (over symbol.now nodes.now) result ≡ fields_of (erase (tree_of symbol.now nodes.now.thunks (trees (over symbol.now nodes.now)) node)) }
+    ensures texts { AreWithin symbol.now result.node.texts }
+    ensures parts { (n : ℕ) → IsBelow symbol.now (length nodes.now.thunks) n node → AreBelow n result }
+    ensures few { result.node.parts ≤ 3 }
+{
+    match node {
+        node::Node::Again { tree, .. } => view_of_tree(symbol, nodes, tree),
+        _ => view_of_own(symbol, nodes, node),
+    }
+}
+
+/// The view of the tree at a node.
+fn view_of_tree(symbol: &[u8], nodes: &Nodes, tree: u32) -> NodeView
+    requires table { IsTable (over symbol.now nodes.now) }
+    requires tree { tree < length nodes.now.nodes }
+    ensures fields { seen_fields (over symbol.now nodes.now) result ≡ fields_of (plain_tree (over symbol.now nodes.now) tree) }
+    ensures texts { AreWithin symbol.now result.node.texts }
+    ensures parts { AreBelow tree result }
+    ensures few { result.node.parts ≤ 3 }
+{
+    let place = nodes.resolved(symbol, tree);
+    view_of_own(symbol, nodes, nodes.node(symbol, place.node))
+}
+
+/// The view of a node whose tree isn't there again.
+#[tactic(auto, unfolding(crate::specs::Fields::fields_of, cpp_term::specs::Erased::erase, crate::specs::Nodes::tree_of, crate::specs::Nodes::is_again))]
+fn view_of_own(symbol: &[u8], nodes: &Nodes, node: node::Node) -> NodeView
+    requires table { IsTable (over symbol.now nodes.now) }
+    requires own { is_again node ≡ false }
     requires node { IsBelow symbol.now (length nodes.now.thunks) (length nodes.now.nodes) node }
     ensures fields { seen_fields (over symbol.now nodes.now) result ≡ fields_of (erase (tree_of symbol.now nodes.now.thunks (trees (over symbol.now nodes.now)) node)) }
     ensures texts { AreWithin symbol.now result.node.texts }
@@ -319,6 +362,7 @@ pub fn view_of(symbol: &[u8], nodes: &Nodes, node: node::Node) -> NodeView
             mark,
             returned,
             parameters,
+            ..
         } => seen(
             FUNCTION,
             [qualifiers.number() as u64, mark.number() as u64],
@@ -380,7 +424,6 @@ pub fn view_of(symbol: &[u8], nodes: &Nodes, node: node::Node) -> NodeView
         node::Node::SizedFloat { digits, end } => {
             seen(SIZED_FLOAT, [end as u64, 0], [digits, NO_TEXT], 0, [0; 3])
         }
-        node::Node::GenericParameter(number) => leaf(GENERIC_PARAMETER, number as u64),
         node::Node::Vendor(name) => seen(VENDOR, none, [name, NO_TEXT], 0, [0; 3]),
         node::Node::Pointer(ty) => one(POINTER, none, NO_TEXT, ty),
         node::Node::Lvalue(ty) => one(LVALUE, none, NO_TEXT, ty),
@@ -416,14 +459,33 @@ pub fn view_of(symbol: &[u8], nodes: &Nodes, node: node::Node) -> NodeView
         node::Node::Pack(elements) => one(PACK, none, NO_TEXT, elements),
         node::Node::Cell { first, rest } => two(LIST, none, NO_TEXT, first, rest),
         node::Node::Whole { encoding, suffix } => one(SYMBOL, none, suffix, encoding),
+        // No node here: the tree that is there again is shown in its place.
+        node::Node::Again { .. } => leaf(ABSENT, 0),
     }
 }
 
 /// The offsets of a node that is a thunk.
-#[tactic(auto, unfolding(crate::specs::Fields::offsets_of, cpp_term::specs::Erased::erase, crate::specs::Nodes::tree_of))]
 pub fn offsets_of(symbol: &[u8], nodes: &Nodes, node: node::Node) -> Option<Thunk>
     requires table { IsTable (over symbol.now nodes.now) }
     requires node { IsBelow symbol.now (length nodes.now.thunks) (length nodes.now.nodes) node }
+    ensures offsets { offsets_in symbol.now result ≡ offsets_of (erase (tree_of symbol.now nodes.now.thunks (trees (over symbol.now nodes.now)) node)) }
+    ensures within { IsKnownThunk symbol.now result }
+{
+    match node {
+        node::Node::Again { tree, .. } => {
+            let place = nodes.resolved(symbol, tree);
+            own_offsets_of(symbol, nodes, nodes.node(symbol, place.node))
+        }
+        _ => own_offsets_of(symbol, nodes, node),
+    }
+}
+
+/// The same of a node whose tree isn't there again.
+#[tactic(auto, unfolding(crate::specs::Fields::offsets_of, cpp_term::specs::Erased::erase, crate::specs::Nodes::tree_of, crate::specs::Nodes::is_again))]
+fn own_offsets_of(symbol: &[u8], nodes: &Nodes, node: node::Node) -> Option<Thunk>
+    requires table { IsTable (over symbol.now nodes.now) }
+    requires node { IsBelow symbol.now (length nodes.now.thunks) (length nodes.now.nodes) node }
+    requires own { is_again node ≡ false }
     ensures offsets { offsets_in symbol.now result ≡ offsets_of (erase (tree_of symbol.now nodes.now.thunks (trees (over symbol.now nodes.now)) node)) }
     ensures within { IsKnownThunk symbol.now result }
 {

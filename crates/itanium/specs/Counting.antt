@@ -9,9 +9,9 @@ use Rattle.cpp_link.specs.LinkRescoping.{wide_counted}
 abbrev pub node_count : Linked → ℕ
 node_count linked = length linked.nodes.nodes
 
--- before the first row these: the absent tree, the empty list and the pack of no elements
+-- before the first row these: the absent tree, the empty list, the pack of no elements and the type auto
 abbrev pub first_nodes : ℕ
-first_nodes = 3
+first_nodes = 4
 
 pub cpp_counts : (s : List ℕ) → CountsNodes (cpp_counted s) node_count first_nodes
 cpp_counts s = record { few = omega arith; most = λ nodes. omega arith; least = λ nodes bytes paid. omega (arith, paid.begun) }

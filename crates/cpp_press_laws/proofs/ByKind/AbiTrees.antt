@@ -1,5 +1,5 @@
 -- What holds of the trees of both grammars holds of those of the grammar.
-use Rattle.std.proofs.Common.{◌≡◌, ℕ, suc, ◌+◌, ◌<◌, ◌≤◌, List, refl, arith, length, true, Ok}
+use Rattle.std.proofs.Common.{◌≡◌, ℕ, suc, ◌+◌, ◌<◌, ◌≤◌, List, refl, arith, length, true, false, Ok}
 use Rattle.sym_shape.specs.Law.{IsSymbol}
 use Rattle.sym_shape.specs.declared.rule.Sym.{Sym}
 use Rattle.sym_shape.specs.declared.rule.Sym.TheVariants.{Kind as OfKind, Name, Number, Byte}
@@ -31,6 +31,6 @@ either_symbol (Number kind) is = tt
 either_symbol (Byte b) is = is
 
 pub tree_good : (t : Tree) (x : Sym) (around : Around) (at : ℕ) (state : State) (r : Found (List Value) State) → IsSymbol abi x → IsTree abi x t → around.encoding ≤ at
-    → (is_encoding x ≡ true → around.encoding < at) → GoodPrefix (Bare around) around.prefix → AllOld around at state.candidates → unfold_tree cpp around at t state ≡ Ok r
-    → TreeComes around (at + length (spell t)) state r
+    → (is_encoding x ≡ true → around.encoding < at) → GoodPrefix (Bare false around) around.prefix → AllOld false around at state.candidates → unfold_tree cpp around at t state ≡ Ok r
+    → TreeComes false around (at + length (spell t)) state r
 tree_good t x around at state r lt is = both_.tree_good t x around at state r (either_symbol x lt) (abi_either x t is)

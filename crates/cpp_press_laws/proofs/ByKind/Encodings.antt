@@ -38,14 +38,14 @@ use Rattle.cpp_press_laws.proofs.ByKind.Known.{EncodingRead, SpecialRead, KindRe
 
 -- ## Candidates around an encoding and in it
 
-all-before : (around : Around) (at : ℕ) (cs : List Candidate) → around.encoding < at → AllOld around at cs → AllBefore at cs
+all-before : (around : Around) (at : ℕ) (cs : List Candidate) → around.encoding < at → AllOld false around at cs → AllBefore at cs
 all-before around at [] less old = tt
 all-before around at (c ∷ cs) less old = (
   elim old.0.place [ inl same ↦ omega (arith, same, less) | inr before ↦ before ],
   all-before around at cs less old.1,
 )
 
-all-after : (around inner : Around) (end : ℕ) (cs : List Candidate) → around.encoding < inner.encoding → AllNew inner end cs
+all-after : (around inner : Around) (end : ℕ) (cs : List Candidate) → around.encoding < inner.encoding → AllNew false inner end cs
     → AllAfter around.encoding cs
 all-after around inner end [] less new = tt
 all-after around inner end (c ∷ cs) less new = (
@@ -53,10 +53,10 @@ all-after around inner end (c ∷ cs) less new = (
   all-after around inner end cs less new.1,
 )
 
-all-shut : (at end : ℕ) (cs : List Candidate) → AllOld (in_name at) end cs → AllShut at cs
+all-shut : (at end : ℕ) (cs : List Candidate) → AllOld false (in_name at) end cs → AllShut at cs
 unfolding in_name
 all-shut at end [] old = tt
-all-shut at end (c ∷ cs) old = (λ same. old.0.closed refl refl same, all-shut at end cs old.1)
+all-shut at end (c ∷ cs) old = (λ same. old.0.closed (refl, λ own. refl) refl (λ own. absurd (false≢true own)) same, all-shut at end cs old.1)
 
 after-append : (encoding : ℕ) (cs ds : List Candidate) → AllAfter encoding cs → AllAfter encoding ds → AllAfter encoding (cs ++ ds)
 after-append encoding [] ds one other = other
@@ -64,7 +64,7 @@ after-append encoding (c ∷ cs) ds one other = (one.0, after-append encoding cs
 
 -- what was read inside an encoding stays behind where it begins
 stays-behind : (around inner : Around) (at end : ℕ) (old new : State) → around.encoding < at → inner.encoding ≡ at
-    → AllOld around at old.candidates → Grows inner end old new → StaysBehind around at old new
+    → AllOld false around at old.candidates → Grows false inner end old new → StaysBehind around at old new
 stays-behind around inner at end old new less is before grows = record {
   more = grows.more;
   grows = grows.is;
@@ -73,7 +73,7 @@ stays-behind around inner at end old new less is before grows = record {
 }
 
 stays-further : (around inner : Around) (at end : ℕ) (old mid new : State) → around.encoding < at → inner.encoding ≡ at
-    → StaysBehind around at old mid → Grows inner end mid new → StaysBehind around at old new
+    → StaysBehind around at old mid → Grows false inner end mid new → StaysBehind around at old new
 stays-further around inner at end old mid new less is one grows = record {
   more = one.more ++ grows.more;
   grows = grows.is ∙ ap (λ cs. cs ++ grows.more) one.grows ∙ append_assoc old.candidates one.more grows.more;
@@ -86,13 +86,13 @@ stays-further around inner at end old mid new less is one grows = record {
 
 -- in front of a part of an encoding's name
 name-front : (x : Sym) (around : Around) (at from : ℕ) (state : State) → around.encoding < at → at ≤ from → holds_encoding x ≡ false
-    → AllOld around at state.candidates → InFront x (in_name at) from state
+    → AllOld false around at state.candidates → InFront x (in_name at) from state
 unfolding in_name
 name-front x around at from state less le other old = record {
   placed = record {
     lambda = λ is. refl;
     encoding = le;
-    old = old_later (in_name at) at from state.candidates le (old_inner around at state.candidates less old);
+    old = old_later false (in_name at) at from state.candidates le (old_inner false around at state.candidates less old);
   };
   opening = λ opens. absurd (false≢true (sym other ∙ opens));
   prefix = tt;
@@ -100,9 +100,9 @@ name-front x around at from state less le other old = record {
 
 -- what a part has come to
 record PartCame (around : Around) (later : ℕ) (state : State) (v : Value) (new : State) : Type 0 where
-  pub grows : Grows around later state new
-  pub good : Good (Bare around) (held v)
-  pub old : AllOld around later new.candidates
+  pub grows : Grows false around later state new
+  pub good : Good (Bare false around) (held v)
+  pub old : AllOld false around later new.candidates
 
 first-of : List Value → Value → Value
 first-of [] d = d
@@ -119,8 +119,8 @@ part-came x around from state shape v new small front is e =
     let same : v ≡ came.value = ap (λ vs. first-of vs v) came.is in
     record {
       grows = came.grows;
-      good = subst (λ w. Good (Bare around) (held w)) (sym same) came.good;
-      old = old_grows around from later state new (omega arith) front.placed.old came.grows;
+      good = subst (λ w. Good (Bare false around) (held w)) (sym same) came.good;
+      old = old_grows false around from later state new (omega arith) front.placed.old came.grows;
     }
 
 -- what holds of a production's meaning, and the state behind it, holds of what it came to
@@ -178,7 +178,7 @@ function-read around at old v new front o =
       placed = record {
         lambda = λ is. absurd (false≢true is);
         encoding = omega arith;
-        old = old_types at later name g.after.candidates c.old;
+        old = old_types false at later name g.after.candidates c.old;
       };
       opening = λ opens. absurd (false≢true opens);
       prefix = tt;
@@ -207,12 +207,12 @@ guard-read around at old v new front o =
     let later : ℕ = from + length (spell g.shape) in
     let h = g.onward in
     let f = name-front (OfKind COMPLETE_NAME) around at later g.after less (omega arith) refl
-    (subst (λ s. AllOld around at (State.candidates s)) (sym b.0) front.placed.old) in
+    (subst (λ s. AllOld false around at (State.candidates s)) (sym b.0) front.placed.old) in
     let own = h.holds Kind.CompleteName (in_name at) later g.after h.value h.after f h.is h.unfolds refl in
     let c = part-came (OfKind COMPLETE_NAME) (in_name at) later g.after h.shape h.value h.after (known 8 (lit≤ tt)) f h.is h.unfolds in
     let whole = guard-fits around at (tree_of h.value) (qualifiers_of h.value) (ref_of h.value) old h.after
     (stays-behind around (in_name at) at (later + length (spell h.shape)) old h.after less refl front.placed.old
-    (subst (λ s. Grows (in_name at) (later + length (spell h.shape)) s h.after) b.0 c.grows))
+    (subst (λ s. Grows false (in_name at) (later + length (spell h.shape)) s h.after) b.0 c.grows))
     (subst (λ s. OwnNameFits (in_name at) (tree_of h.value) (qualifiers_of h.value) (ref_of h.value) s h.after) b.0 own) in
     ended-read (λ w t. EncodingRead around w old t) Production.Guard byte around old (g.value ∷ h.value ∷ []) h.after v new
     (ended-as Production.Guard byte around old o.inner o.one (g.value ∷ h.value ∷ []) h.after v new (ok_same _ o.one o.closes) h.onward

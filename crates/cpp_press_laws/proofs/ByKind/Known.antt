@@ -17,15 +17,15 @@ use Rattle.cpp_grammar.specs.KindNumbers.{KIND_COUNT}
 use Rattle.cpp_grammar.specs.Grammar.{Alternative, alternatives, choose, number_of_kind, parts_of, is_chain}
 use Rattle.cpp_grammar.specs.Table.{abi}
 use Rattle.cpp_grammar.specs.Term.{Term, Thunk, special, thunk, parameter, literal_operator}
-use Rattle.cpp_grammar.specs.Values.{State, outermost, behind, Around, Value, nothing_there, letter, text, tree, piece, tree_of, piece_of, qualifiers_of, ref_of, letter_of, is_there, text_of, signed_of, adjustment_of}
+use Rattle.cpp_grammar.specs.Values.{State, outermost, behind, Around, Value, nothing_there, letter, text, tree, piece, tree_of, piece_of, qualifiers_of, ref_of, letter_of, text_of, signed_of, adjustment_of}
 use Rattle.cpp_grammar.specs.References.{with_prefix, parameter_named}
 use Rattle.cpp_grammar.specs.Between.{in_name, in_types, in_signature, under_expansion, after, inside, Going, named_so_far, listed_so_far, piece_so_far, tag_so_far, parameter_so_far, argument_so_far, index_of, between}
 use Rattle.cpp_grammar.specs.Meaning.{discriminator_of}
 use Rattle.cpp_grammar.specs.Unfolding.{cpp, opening, close, byte_of}
-use Rattle.cpp_grammar.proofs.ClosedValues.{AllGood, GoodPrefix, held}
-use Rattle.cpp_grammar.proofs.ClosedStates.{Bare, AllOld, old_later, old_grows, ok_same, behind_bind}
-use Rattle.cpp_grammar.proofs.ClosedParts.{StaysInside, Goes, between_goes}
-use Rattle.cpp_grammar.proofs.ClosedTrees.{is_encoding as holds_encoding, has_encoding, all_append, good_fits, old_fits, grows_fits, one_good, or_true}
+use Rattle.cpp_grammar.proofs.ClosedValues.{AllGood, GoodPrefix, held, good_where}
+use Rattle.cpp_grammar.proofs.ClosedStates.{Bare, Within, AllOld, old_later, old_grows, ok_same, behind_bind}
+use Rattle.cpp_grammar.proofs.ClosedParts.{StaysInside, Goes, goes_within}
+use Rattle.cpp_grammar.proofs.ClosedTrees.{is_encoding as holds_encoding, has_encoding, all_append, old_fits, grows_fits, one_good, or_true}
 use Rattle.cpp_press_laws.proofs.ByKind.AbiTrees.{known, tree_good}
 use Rattle.cpp_press_laws.specs.Pressing.{is_encoding}
 use Rattle.cpp_press_laws.specs.Fits.{in_type, in_name_with, any_type, names_type, begins_name, names_function, IsSpellableOffset, IsSpellableThunk, IsSpellableDiscriminator, IsSpellableSuffix}
@@ -147,7 +147,7 @@ KindRead kind around v old new = around.prefix ≡ outermost → KindFits kind a
 pub record InFront (x : Sym) (around : Around) (at : ℕ) (state : State) : Type 0 where
   pub placed : Placed around at state
   pub opening : holds_encoding x ≡ true → around.encoding < at
-  pub prefix : GoodPrefix (Bare around) around.prefix
+  pub prefix : GoodPrefix (Bare false around) around.prefix
 
 -- what is known of a shape, whatever kind it is read as
 abbrev pub ShapeRead : Shape → Type 0
@@ -313,7 +313,8 @@ lambdas-go Production.Parameter around place (v ∷ []) state n bare e = bare-pa
 lambdas-go Production.ParameterExpression around place (v ∷ []) state n bare e = bare-argument around place (index_of v) state n bare e
 lambdas-go Production.BoundedArray around place (v ∷ []) state n bare e = bare-argument around place (index_of v) state n bare e
 lambdas-go Production.ParameterArgument around place (v ∷ []) state n bare e = bare-parameter around (place - 1) (index_of v) state n bare e
-lambdas-go Production.DeclaredArgument around place [] state n bare e = bare-next (in_signature around) [] state n (λ is. refl) e
+lambdas-go Production.ValueOf around place vs state n bare e = bare-next (in_signature around) vs state n (λ is. refl) e
+lambdas-go Production.OfConcept around place vs state n bare e = bare-next (in_signature around) vs state n (λ is. refl) e
 lambdas-go Production.TypeWithS around place (v ∷ []) state n bare e = bare-next _ _ state n bare e
 lambdas-go Production.LvalueItem around place (v ∷ []) state n bare e = bare-next _ _ _ n bare e
 lambdas-go Production.RvalueItem around place (v ∷ []) state n bare e = bare-next _ _ _ n bare e
@@ -336,18 +337,18 @@ symbol-read (Byte b) t holds around at state v new front is e = byte-read b t ar
 
 -- what follows behind each part is known as the part is
 parts-read : (p : Production) (byte : ℕ) (around : Around) (place : ℕ) (old : State) (v : Value) (new : State) → StaysInside p
-    → LambdasAreBare around → GoodPrefix (Bare around) around.prefix → (inner : Found (List Value) State)
+    → LambdasAreBare around → GoodPrefix (Bare false around) around.prefix → (inner : Found (List Value) State)
     → close p byte around place old inner.value inner.state ≡ Ok (found v new)
     → (xs : List Sym) (f : Forest) (vs : List Value) (from : ℕ) (state : State)
-    → AreSymbols abi xs → around.encoding ≤ from → (has_encoding xs ≡ true → around.encoding < from) → AllGood (Bare around) vs
-    → AllOld around from state.candidates → PartsGo ShapeRead p around place inner xs f vs from state
+    → AreSymbols abi xs → around.encoding ≤ from → (has_encoding xs ≡ true → around.encoding < from) → AllGood (Within false p around) vs
+    → AllOld false around from state.candidates → PartsGo ShapeRead p around place inner xs f vs from state
     → PartsRead p byte around place old v new xs f vs from state
 unfolding has_encoding
 parts-read p byte around place old v new stays bare pre inner closes [] f vs from state small le opening good olds goes =
     subst (λ i. close p byte around place old i.value i.state ≡ Ok (found v new)) (sym goes) closes
 parts-read p byte around place old v new stays bare pre inner closes (x ∷ xs) f vs from state small le opening good olds goes =
     go (between p around place vs state) (λ n is. (
-      between_goes p around place vs state n from stays pre good is,
+      goes_within false p around place vs state n from stays pre good is,
       lambdas-go p around place vs state n bare is,
     )) goes
     (λ g ws later s is-later goods oldss more. parts-read p byte around place old v new stays bare pre inner closes xs g ws later s small.1
@@ -358,9 +359,9 @@ parts-read p byte around place old v new stays bare pre inner closes (x ∷ xs) 
     or_first a b h = ap (λ c. c || b) h
 
     go : (m : Going)
-        → ((n : Next Value State Around) → m ≡ Ok n → Goes around from state n × LambdasAreBare n.context)
+        → ((n : Next Value State Around) → m ≡ Ok n → Goes false (Within false p around) around from state n × LambdasAreBare n.context)
         → OnGoing m (λ next. PartGoes ShapeRead x f from next (PartsGo ShapeRead p around place inner xs))
-        → ((g : Forest) (ws : List Value) (later : ℕ) (s : State) → from ≤ later → AllGood (Bare around) ws → AllOld around later
+        → ((g : Forest) (ws : List Value) (later : ℕ) (s : State) → from ≤ later → AllGood (Within false p around) ws → AllOld false around later
         s.candidates
         → PartsGo ShapeRead p around place inner xs g ws later s → PartsRead p byte around place old v new xs g ws later s)
         → OnGoing m (λ next. PartRead x f from next (PartsRead p byte around place old v new xs))
@@ -368,11 +369,11 @@ parts-read p byte around place old v new stays bare pre inner closes (x ∷ xs) 
     go (Ok n) known_ h more =
         let g = (known_ n refl).0 in
         let later : ℕ = from + length (spell h.shape) in
-        let old1 = old_grows around from from state n.state (omega arith) olds g.grows in
+        let old1 = old_grows false around from from state n.state (omega arith) olds g.grows in
         let inside_ : n.context.encoding ≤ from = omega (arith, g.fits.encoding, le) in
         let opens_ : holds_encoding x ≡ true → n.context.encoding < from =
         λ begins. omega (arith, g.fits.encoding, opening (or_first (holds_encoding x) (has_encoding xs) begins)) in
-        let oldest = old_fits around n.context from n.state.candidates g.fits old1 in
+        let oldest = old_fits false around n.context from n.state.candidates g.fits old1 in
         let came =
         tree_good h.shape x n.context from n.state (found (h.value ∷ []) h.after) small.0 h.is inside_ opens_ g.fits.prefix oldest
         h.unfolds in
@@ -382,7 +383,8 @@ parts-read p byte around place old v new stays bare pre inner closes (x ∷ xs) 
           prefix = g.fits.prefix;
         } in
         let good1 =
-        one_good (Bare around) came.value (h.value ∷ []) came.is (good_fits around n.context (held came.value) g.fits came.good) in
+        one_good (Within false p around) came.value (h.value ∷ []) came.is
+        (good_where (Bare false n.context) (Within false p around) (held came.value) g.bare came.good) in
         record {
           shape = h.shape;
           others = h.others;
@@ -394,9 +396,9 @@ parts-read p byte around place old v new stays bare pre inner closes (x ∷ xs) 
           unfolds = h.unfolds;
           read = symbol-read x h.shape h.holds n.context from n.state h.value h.after front h.is h.unfolds;
           onward = more h.others (n.values ++ h.value ∷ []) later h.after (omega arith)
-              (all_append (Bare around) n.values (h.value ∷ []) g.values good1)
-              (old_grows around from later n.state h.after (omega arith) old1
-              (grows_fits around n.context later n.state h.after g.fits came.grows))
+              (all_append (Within false p around) n.values (h.value ∷ []) g.values good1)
+              (old_grows false around from later n.state h.after (omega arith) old1
+              (grows_fits false around n.context later n.state h.after g.fits came.grows))
               h.onward;
         }
 
@@ -450,7 +452,7 @@ opened-as kind around at old v new x front p o = record {
       (o.closes ∙ ap (λ i. Ok i) one) (parts_of p) o.parts [] from old (small-symbols (parts_of p) (parts-small p))
       (omega (arith, placed.encoding))
       (λ has. omega (arith, placed.encoding, behind-taken p o.taken o.byte o.takes has)) tt
-      (old_later around at from old.candidates (omega arith) placed.old) o.goes);
+      (old_later false around at from old.candidates (omega arith) placed.old) o.goes);
 }
 
 -- A branch of a kind is one of the kind's productions, where its parts were read.

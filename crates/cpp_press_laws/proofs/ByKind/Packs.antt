@@ -190,7 +190,8 @@ between-outside Production.BoundedArray around place (v ∷ []) state next no_ o
     argument-goes around place (index_of v) state next outside e
 between-outside Production.ParameterArgument around place (v ∷ []) state next no_ outside e =
     parameter-goes around (place - 1) (index_of v) state next outside e
-between-outside Production.DeclaredArgument around place [] state next no_ outside e = goes state _ _ state next outside refl e
+between-outside Production.ValueOf around place vs state next no_ outside e = goes state _ _ state next outside refl e
+between-outside Production.OfConcept around place vs state next no_ outside e = goes state _ _ state next outside refl e
 between-outside Production.TypeWithS around place (v ∷ []) state next no_ outside e = goes state _ _ state next outside refl e
 between-outside Production.LvalueItem around place (v ∷ []) state next no_ outside e = goes state _ _ _ next outside refl e
 between-outside Production.RvalueItem around place (v ∷ []) state next no_ outside e = goes state _ _ _ next outside refl e

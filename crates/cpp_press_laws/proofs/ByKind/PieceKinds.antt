@@ -1,6 +1,7 @@
 -- The pieces of names that were read, of each kind, and the leaves, as it is known of their kinds.
 use Rattle.std.proofs.Common.{◌≡◌, ℕ, ◌-◌, inl, inr, List, [], ◌∷◌, Bool, true, false, slice_get, Some, Result, Ok, Err, refl, ap, arith, lit≤, sym, subst, ◌∙◌}
 use Rattle.std.specs.Prelude.{nat_lt, ◌^◌}
+use Rattle.std.proofs.lemmas.Bool.{false≢true}
 use Rattle.sym_core.specs.declared.refusal.Refusal.{Refusal}
 use Rattle.sym_core.specs.declared.refusal.Refusal.TheVariants.{BadValue}
 use Rattle.sym_core.specs.declared.NumberKind.TheVariants.{Decimal}
@@ -308,11 +309,11 @@ unnamed-type around at old v new o =
     g.onward
     (refl, refl, subst (PieceFits around (unnamed k) old) (sym g.read.0) (unnamed-fits around k old good))
 
-new-shut : (around : Around) (end : ℕ) (more : List Candidate) → AllNew (in_signature around) end more → ShutOrInside around.encoding more
+new-shut : (around : Around) (end : ℕ) (more : List Candidate) → AllNew false (in_signature around) end more → ShutOrInside around.encoding more
 unfolding in_signature
 new-shut around end [] each = tt
 new-shut around end (c ∷ cs) each = (
-  elim each.0.place [ inl here ↦ inl (here.1 refl) | inr inner ↦ inr inner.0 ],
+  elim each.0.place [ inl here ↦ inl (here.1 refl (λ own. absurd (false≢true own))) | inr inner ↦ inr inner.0 ],
   new-shut around end cs each.1,
 )
 
@@ -346,7 +347,7 @@ lambda-type around at old v new o =
     let rest =
     tree_good h.shape (OfKind ITEMS) inner _ g.after (found (h.value ∷ []) h.after) (known 41 (lit≤ tt)) h.is h.front.placed.encoding
     h.front.opening h.front.prefix h.front.placed.old h.unfolds in
-    let grows = grows_then inner _ _ old g.after h.after (omega arith) first.grows rest.grows in
+    let grows = grows_then false inner _ _ old g.after h.after (omega arith) first.grows rest.grows in
     let items = h.read Kind.Items refl refl in
     let one = parameters-fit inner item_type (list a b) old h.after tt
     (list-fits inner item_type a b old g.after h.after (g.read Kind.Item refl refl) items.1) in

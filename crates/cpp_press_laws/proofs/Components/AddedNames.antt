@@ -5,11 +5,11 @@ use Rattle.std.proofs.lemmas.Bool.{true≢false, false≢true}
 use Rattle.sym_spell.specs.Pressing as spell
 use Rattle.sym_spell.specs.Pressing.{◌and◌, text, nothing}
 use Rattle.cpp_grammar.specs.Term.{Term, symbol, alone, in_std, within, instance, local}
-use Rattle.cpp_grammar.specs.Values.{Candidate, outermost, behind, Around}
+use Rattle.cpp_grammar.specs.Values.{outermost, behind, Around}
 use Rattle.cpp_grammar.specs.Between.{after, inside}
 use Rattle.cpp_press_laws.proofs.Components.Encodings.{encoding-prefix, no-encoding-fits}
 use Rattle.cpp_press_laws.specs.Texts.{name_letters}
-use Rattle.cpp_press_laws.specs.Components.{Spelling, ended, component}
+use Rattle.cpp_press_laws.specs.Components.{Component, Spelling, ended, component}
 use Rattle.cpp_press_laws.specs.Pressing.{no_ways, type_ways, in_N_and_E, with_letters, name_ways, template_before, is_operator, is_encoding, is_one_piece, entity_text, local_text, ways_of}
 use Rattle.cpp_press_laws.proofs.Components.Parts.{PrefixOr, Inside, Whole, prefix-whole}
 use Rattle.cpp_press_laws.proofs.Components.Complete.{Complete}
@@ -61,7 +61,7 @@ alone-add p a = record {
     whole around allowed may = in-component around allowed (alone p) (one_piece outermost may (fits_of p).as_piece)
         (ways_of around.encoding p).as_piece (spelled around allowed may)
 
-pub front-none : (s : Spelling) (n : ℕ) (own : Term) (G : Standing) (place : ℕ) (cs : List Candidate)
+pub front-none : (s : Spelling) (n : ℕ) (own : Term) (G : Standing) (place : ℕ) (cs : List Component)
     → Behind ((text [] and s) and ended n own) G place cs → Behind (s and ended n own) G place cs
 unfolding ended
 front-none s n own G place cs fits =
@@ -146,7 +146,7 @@ in-std-add p a = record {
         in-nested-template around allowed (in_std p) std spelling G arguments Q (spelled around allowed) more
 
 -- the one form of an entity or the other
-pub entity-adds : (b : Bool) (n : ℕ) (P : Term → Type 0) (letters : List ℕ) (between : Spelling) (place : ℕ) (cs : List Candidate)
+pub entity-adds : (b : Bool) (n : ℕ) (P : Term → Type 0) (letters : List ℕ) (between : Spelling) (place : ℕ) (cs : List Component)
     → ((b ≡ true) × AddsParts n P cs (between place cs).components)
     ⊎ ((b ≡ false) × AddsParts n P cs (between (place + length (codes "N" ++ letters)) cs).components)
     → AddsParts n P cs ((elim b as (λ _. Spelling) [ true ↦ between | false ↦ in_N_and_E letters between ]) place cs).components
@@ -160,7 +160,7 @@ pub is-not : (b : Bool) → (b ≡ true → ⊥) → b ≡ false
 is-not true never = absurd (never refl)
 is-not false never = refl
 
-pub at-none : (G : Standing) (place : ℕ) (cs : List Candidate) → G place cs → G (place + 0) cs
+pub at-none : (G : Standing) (place : ℕ) (cs : List Component) → G place cs → G (place + 0) cs
 at-none G place cs fits = let same : place ≡ place + 0 = omega arith in subst (λ p. G p cs) same fits
 
 -- a name that stands between N and E with letters or without
@@ -225,7 +225,7 @@ within-add prefix p a b = record {
     joins : (around : Around) (allowed : Option ℕ) → Adds around.encoding (Inside (within prefix p)) (joined around allowed)
         (spelling around.encoding)
     joins around allowed place cs fits complete =
-        let f : spell.Pressed Candidate = (ways_of around.encoding prefix).as_prefix place cs in
+        let f : spell.Pressed Component = (ways_of around.encoding prefix).as_prefix place cs in
         let later : ℕ = place + length f.bytes in
         let one = a.as_prefix around allowed place cs fits.0 complete in
         fewer-added around.encoding (Either (Whole prefix) (Inside p)) (Inside (within prefix p)) cs
@@ -257,14 +257,14 @@ within-add prefix p a b = record {
         in-component around allowed (within prefix p) (behind_bytes (codes "N") joined) (in_N_and_E [] (spelling around.encoding))
         (λ place cs fits complete. joins around allowed (place + 1) cs fits complete)
 
-pub entity-piece : (template arguments : Term) (around : Around) (allowed : Option ℕ) (place : ℕ) (cs : List Candidate)
+pub entity-piece : (template arguments : Term) (around : Around) (allowed : Option ℕ) (place : ℕ) (cs : List Component)
     → (fits_of template).as_entity_template around allowed place cs → is_one_piece (instance template arguments) ≡ true
 unfolding fits_of fits_nowhere type_fits piece_fits argument_fits encoding_fits is_one_piece
 entity-piece (within prefix p) arguments around allowed place cs fits = fits.0
 entity-piece (symbol e suffix) arguments around allowed place cs fits = absurd fits
 entity-piece _ arguments around allowed place cs fits = absurd fits
 
-pub nest-piece : (template arguments : Term) (around : Around) (allowed : Option ℕ) (place : ℕ) (cs : List Candidate)
+pub nest-piece : (template arguments : Term) (around : Around) (allowed : Option ℕ) (place : ℕ) (cs : List Component)
     → (fits_of template).between_template around allowed place cs → is_one_piece (instance template arguments) ≡ false
 unfolding fits_of is_one_piece
 nest-piece (within prefix p) arguments around allowed place cs fits =
@@ -340,7 +340,7 @@ instance-add template arguments a b = record {
         (a.between_template around allowed) (elements-add around allowed) place cs fits.0
         (behind-and between (ended n template) (elements around allowed) place cs fits.1) complete
 
-    pieces : (around : Around) (allowed : Option ℕ) (place : ℕ) (cs : List Candidate)
+    pieces : (around : Around) (allowed : Option ℕ) (place : ℕ) (cs : List Component)
         → (fits_of template).as_entity_template around allowed place cs
         → Behind ((ways_of around.encoding template).between_N_and_E and ended around.encoding template) (elements around allowed) place cs
         → Complete cs → AddsParts around.encoding (Inside own) cs (spelling around.encoding place cs).components
@@ -418,7 +418,7 @@ local-add e entity discriminator a b = record {
     spelled-adds role around allowed place cs fits complete =
         let n : ℕ = around.encoding in
         let scope : Spelling = (ways_of n e).as_encoding in
-        let f : spell.Pressed Candidate = scope (place + 1) cs in
+        let f : spell.Pressed Component = scope (place + 1) cs in
         let inner : Around = after e true around in
         let G : Standing = (fits_of entity).as_entity role inner allowed in
         let later : ℕ = place + 1 + length f.bytes + 1 in

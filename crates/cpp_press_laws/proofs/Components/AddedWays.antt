@@ -4,9 +4,9 @@ use Rattle.std.specs.Prelude.{codes}
 use Rattle.sym_spell.specs.Pressing as spell
 use Rattle.sym_spell.specs.Pressing.{◌and◌, text}
 use Rattle.cpp_grammar.specs.Term.{Qualifiers, RefQualifier, Term}
-use Rattle.cpp_grammar.specs.Values.{Candidate, Around}
+use Rattle.cpp_grammar.specs.Values.{Around}
 use Rattle.cpp_press_laws.specs.Texts.{name_letters}
-use Rattle.cpp_press_laws.specs.Components.{Spelling, first_equal, reference, ended, spelled_out, component}
+use Rattle.cpp_press_laws.specs.Components.{Component, Spelling, first_equal, reference, ended, spelled_out, component}
 use Rattle.cpp_press_laws.specs.Pressing.{Ways, no_ways, type_ways, template_before, entity_text, begun, encoding_ways, piece_ways, argument_ways}
 use Rattle.cpp_press_laws.proofs.Components.Parts.{IsComponent, Shut, Inside, Whole, Unqualified}
 use Rattle.cpp_press_laws.proofs.Components.KnownTrees.{In}
@@ -91,7 +91,7 @@ pub no-whole : (t : Term) → (IsComponent t → ⊥) → In (Inside t) No → I
 no-whole t never none x (inl same) = never same.0
 no-whole t never none x (inr i) = none x i
 
-abbrev followed_by : Spelling → (place : ℕ) → spell.Pressed Candidate → spell.Pressed Candidate
+abbrev followed_by : Spelling → (place : ℕ) → spell.Pressed Component → spell.Pressed Component
 followed_by rest place w =
     let g = rest (place + length w.bytes) w.components in record { bytes = w.bytes ++ g.bytes; components = g.components }
 
@@ -104,10 +104,10 @@ unfolding component reference spelled_out ended
 found-and-adds around allowed own front G s arguments Q more place cs fits complete = go (first_equal around.encoding own 0 cs) refl
   where
     go : (o : Option ℕ) → first_equal around.encoding own 0 cs ≡ o
-        → AddsParts around.encoding (Either (Whole own) Q) cs (followed_by arguments place (elim o as (λ _. spell.Pressed Candidate)
+        → AddsParts around.encoding (Either (Whole own) Q) cs (followed_by arguments place (elim o as (λ _. spell.Pressed Component)
         [ Some number ↦ reference number place cs | None ↦ spelled_out around.encoding own s place cs ])).components
     go (Some number) is =
-        let r : spell.Pressed Candidate = reference number place cs in
+        let r : spell.Pressed Component = reference number place cs in
         both-added around.encoding (Whole own) Q cs cs (arguments (place + length r.bytes) cs).components
         (tree-found around.encoding number own cs is complete)
         (more (place + length r.bytes) cs (fits.1 number is) complete)
@@ -220,7 +220,7 @@ argument-ways-add t fitting s same one = record {
 
 pub encoding-ways-add : (t : Term) (standing : (allowed : Option ℕ) → Standing) (s : (encoding : ℕ) → Spelling) (raw : Term → Type 0)
     → In (Inside t) (λ x. Shut (raw x) x)
-    → ((allowed : Option ℕ) (place : ℕ) (cs : List Candidate) → standing allowed place cs → Complete cs
+    → ((allowed : Option ℕ) (place : ℕ) (cs : List Component) → standing allowed place cs → Complete cs
     → AddsParts place raw cs (s place place cs).components)
     → WaysAdd t (encoding_fits standing) (λ n. encoding_ways s)
 unfolding encoding_fits fits_nowhere encoding_ways no_ways begun

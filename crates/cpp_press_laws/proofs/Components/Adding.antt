@@ -4,8 +4,8 @@ use Rattle.std.specs.Prelude.{codes}
 use Rattle.sym_spell.specs.Pressing as spell
 use Rattle.sym_spell.specs.Pressing.{◌and◌, text}
 use Rattle.cpp_grammar.specs.Term.{Term}
-use Rattle.cpp_grammar.specs.Values.{Candidate, Around}
-use Rattle.cpp_press_laws.specs.Components.{Spelling, first_equal, reference, ended, spelled_out, referred, component}
+use Rattle.cpp_grammar.specs.Values.{Around}
+use Rattle.cpp_press_laws.specs.Components.{Component, Spelling, first_equal, reference, ended, spelled_out, referred, component}
 use Rattle.cpp_press_laws.specs.Pressing.{in_N_and_E, with_letters, template_before}
 use Rattle.cpp_press_laws.proofs.Components.Parts.{Shut, Inside, Whole, Has, has-before, has-itself, has-closed, found-stands}
 use Rattle.cpp_press_laws.proofs.Components.KnownTrees.{In}
@@ -13,14 +13,14 @@ use Rattle.cpp_press_laws.proofs.Components.Complete.{Complete, complete-ended, 
 use Rattle.cpp_press_laws.specs.Fits.{Standing, Fitting, Behind, IsWithoutLetters, by_letters}
 
 -- from these components to others, among which these trees stand
-pub record AddsParts (n : ℕ) (P : Term → Type 0) (cs ds : List Candidate) : Type 0 where
+pub record AddsParts (n : ℕ) (P : Term → Type 0) (cs ds : List Component) : Type 0 where
   pub complete : Complete ds
   pub has : (x : Term) → P x → Has n x ds
   pub keeps : (m : ℕ) (x : Term) → Has m x cs → Has m x ds
 
 -- a spelling that fits adds these trees or finds them
 abbrev pub Adds : (n : ℕ) → (P : Term → Type 0) → Standing → Spelling → Type 0
-Adds n P F spelling = (place : ℕ) (cs : List Candidate) → F place cs → Complete cs → AddsParts n P cs (spelling place cs).components
+Adds n P F spelling = (place : ℕ) (cs : List Component) → F place cs → Complete cs → AddsParts n P cs (spelling place cs).components
 
 abbrev pub Either : (P Q : Term → Type 0) → (x : Term) → Type 0
 Either P Q x = P x ⊎ Q x
@@ -30,10 +30,10 @@ No x = ⊥
 
 -- ## Lists
 
-pub none-added : (n : ℕ) (cs : List Candidate) → Complete cs → AddsParts n No cs cs
+pub none-added : (n : ℕ) (cs : List Component) → Complete cs → AddsParts n No cs cs
 none-added n cs complete = record { complete = complete; has = λ x none. absurd none; keeps = λ m x has. has }
 
-pub both-added : (n : ℕ) (P Q : Term → Type 0) (cs ds es : List Candidate) → AddsParts n P cs ds → AddsParts n Q ds es
+pub both-added : (n : ℕ) (P Q : Term → Type 0) (cs ds es : List Component) → AddsParts n P cs ds → AddsParts n Q ds es
     → AddsParts n (Either P Q) cs es
 both-added n P Q cs ds es a b = record {
   complete = b.complete;
@@ -41,13 +41,13 @@ both-added n P Q cs ds es a b = record {
   keeps = λ m x has. b.keeps m x (a.keeps m x has);
 }
 
-pub fewer-added : (n : ℕ) (P Q : Term → Type 0) (cs ds : List Candidate) → In Q P → AddsParts n P cs ds → AddsParts n Q cs ds
+pub fewer-added : (n : ℕ) (P Q : Term → Type 0) (cs ds : List Component) → In Q P → AddsParts n P cs ds → AddsParts n Q cs ds
 fewer-added n P Q cs ds more a = record { complete = a.complete; has = λ x is. a.has x (more x is); keeps = a.keeps }
 
-pub tree-ended : (n : ℕ) (own : Term) (cs ds : List Candidate) → AddsParts n (Inside own) cs ds
+pub tree-ended : (n : ℕ) (own : Term) (cs ds : List Component) → AddsParts n (Inside own) cs ds
     → AddsParts n (Whole own) cs (ds ++ record { tree = own; encoding = n } ∷ [])
 tree-ended n own cs ds a =
-    let one : List Candidate = record { tree = own; encoding = n } ∷ [] in
+    let one : List Component = record { tree = own; encoding = n } ∷ [] in
     record {
       complete = complete-ended n own ds a.complete a.has;
       has = λ x is. elim is [
@@ -57,7 +57,7 @@ tree-ended n own cs ds a =
       keeps = λ m x has. has-before m x ds one (a.keeps m x has);
     }
 
-pub tree-found : (n number : ℕ) (own : Term) (cs : List Candidate) → first_equal n own 0 cs ≡ Some number → Complete cs
+pub tree-found : (n number : ℕ) (own : Term) (cs : List Component) → first_equal n own 0 cs ≡ Some number → Complete cs
     → AddsParts n (Whole own) cs cs
 tree-found n number own cs is complete = record {
   complete = complete;
@@ -66,21 +66,21 @@ tree-found n number own cs is complete = record {
 }
 
 -- outside of an encoding, what has no free parameters
-pub outside-added : (n m : ℕ) (P : Term → Type 0) (cs ds : List Candidate) → AddsParts n P cs ds → AddsParts m (λ x. Shut (P x) x) cs ds
+pub outside-added : (n m : ℕ) (P : Term → Type 0) (cs ds : List Component) → AddsParts n P cs ds → AddsParts m (λ x. Shut (P x) x) cs ds
 outside-added n m P cs ds a = record { complete = a.complete; has = λ x s. has-closed n m x ds s.0 (a.has x s.1); keeps = a.keeps }
 
 -- ## Places
 
-pub behind-and : (first rest : Spelling) (G : Standing) (place : ℕ) (cs : List Candidate) → Behind (first and rest) G place cs
+pub behind-and : (first rest : Spelling) (G : Standing) (place : ℕ) (cs : List Component) → Behind (first and rest) G place cs
     → Behind first (Behind rest G) place cs
 behind-and first rest G place cs fits =
-    let f : spell.Pressed Candidate = first place cs in
-    let g : spell.Pressed Candidate = rest (place + length f.bytes) f.components in
+    let f : spell.Pressed Component = first place cs in
+    let g : spell.Pressed Component = rest (place + length f.bytes) f.components in
     let same : place + length (f.bytes ++ g.bytes) ≡ place + length f.bytes + length g.bytes = omega
     (arith, length-append f.bytes g.bytes) in
     subst (λ p. G p g.components) same fits
 
-pub at-once : (G : Standing) (place : ℕ) (cs : List Candidate) → G (place + 0) cs → G place cs
+pub at-once : (G : Standing) (place : ℕ) (cs : List Component) → G (place + 0) cs → G place cs
 at-once G place cs fits = let same : place + 0 ≡ place = omega arith in subst (λ p. G p cs) same fits
 
 -- ## Spellings
@@ -91,7 +91,7 @@ text-adds n F bytes place cs fits complete = none-added n cs complete
 pub and-adds : (n : ℕ) (P Q : Term → Type 0) (F G : Standing) (first rest : Spelling) → Adds n P F first → Adds n Q G rest
     → Adds n (Either P Q) (λ place cs. F place cs × Behind first G place cs) (first and rest)
 and-adds n P Q F G first rest one more place cs (fits, behind) complete =
-    let f : spell.Pressed Candidate = first place cs in
+    let f : spell.Pressed Component = first place cs in
     let a = one place cs fits complete in
     both-added n P Q cs f.components (rest (place + length f.bytes) f.components).components a
     (more (place + length f.bytes) f.components behind a.complete)
@@ -102,19 +102,19 @@ unfolding component reference spelled_out ended
 component-adds n own F spelling one place cs fits complete = go (first_equal n own 0 cs) refl
   where
     go : (o : Option ℕ) → first_equal n own 0 cs ≡ o → AddsParts n (Whole own) cs (spell.Pressed.components (elim o as
-        (λ _. spell.Pressed Candidate)
+        (λ _. spell.Pressed Component)
         [ Some number ↦ reference number place cs | None ↦ spelled_out n own spelling place cs ]))
     go (Some number) is = tree-found n number own cs is complete
     go None is = tree-ended n own cs (spelling place cs).components (one place cs (fits is) complete)
 
 -- a template name and its arguments, without an N
 pub whole-adds : (n : ℕ) (own : Term) (Q : Term → Type 0) (F G : Standing) (between arguments : Spelling) → Adds n (Inside own) F between
-    → Adds n Q G arguments → (place : ℕ) (cs : List Candidate) → F place cs → Behind between (Behind (ended n own) G) place cs → Complete cs
+    → Adds n Q G arguments → (place : ℕ) (cs : List Component) → F place cs → Behind between (Behind (ended n own) G) place cs → Complete cs
     → AddsParts n (Either (Whole own) Q) cs ((between and ended n own and arguments) place cs).components
 unfolding ended
 whole-adds n own Q F G between arguments one more place cs fits behind complete =
-    let f : spell.Pressed Candidate = between place cs in
-    let now : List Candidate = f.components ++ record { tree = own; encoding = n } ∷ [] in
+    let f : spell.Pressed Component = between place cs in
+    let now : List Component = f.components ++ record { tree = own; encoding = n } ∷ [] in
     let a = tree-ended n own cs f.components (one place cs fits complete) in
     both-added n (Whole own) Q cs now (arguments (place + length f.bytes + 0) now).components a
     (more (place + length f.bytes + 0) now behind a.complete)
@@ -131,12 +131,12 @@ unfolding template_before referred reference
 template-adds n own Q F G between arguments one more place cs (found, new) complete = go (first_equal n own 0 cs) refl
   where
     go : (o : Option ℕ) → first_equal n own 0 cs ≡ o
-        → AddsParts n (Either (Whole own) Q) cs (spell.Pressed.components (elim o as (λ _. spell.Pressed Candidate) [
+        → AddsParts n (Either (Whole own) Q) cs (spell.Pressed.components (elim o as (λ _. spell.Pressed Component) [
           | Some number ↦ (reference number and arguments) place cs
           | None ↦ (between and ended n own and arguments) place cs
         ]))
     go (Some number) is =
-        let r : spell.Pressed Candidate = reference number place cs in
+        let r : spell.Pressed Component = reference number place cs in
         both-added n (Whole own) Q cs cs (arguments (place + length r.bytes) cs).components (tree-found n number own cs is complete)
         (more (place + length r.bytes) cs (found number is) complete)
     go None is =
@@ -152,12 +152,12 @@ unfolding template_before referred reference in_N_and_E
 nested-template-adds n own Q F G between arguments one more place cs (found, new) complete = go (first_equal n own 0 cs) refl
   where
     go : (o : Option ℕ) → first_equal n own 0 cs ≡ o
-        → AddsParts n (Either (Whole own) Q) cs (spell.Pressed.components (elim o as (λ _. spell.Pressed Candidate) [
+        → AddsParts n (Either (Whole own) Q) cs (spell.Pressed.components (elim o as (λ _. spell.Pressed Component) [
           | Some number ↦ (reference number and arguments) place cs
           | None ↦ (in_N_and_E [] (between and ended n own and arguments)) place cs
         ]))
     go (Some number) is =
-        let r : spell.Pressed Candidate = reference number place cs in
+        let r : spell.Pressed Component = reference number place cs in
         both-added n (Whole own) Q cs cs (arguments (place + length r.bytes) cs).components (tree-found n number own cs is complete)
         (more (place + length r.bytes) cs (found number is) complete)
     go None is =

@@ -4,14 +4,14 @@ use Rattle.std.proofs.Common.{◌≡◌, ℕ, ◌+◌, ◌⊎◌, inl, inr, leng
 use Rattle.std.specs.Prelude.{◌&&◌, ◌||◌, codes, cond}
 use Rattle.sym_spell.specs.Pressing as spell
 use Rattle.sym_spell.specs.Pressing.{◌and◌}
-use Rattle.cpp_grammar.specs.Term.{RefQualifier, Term, symbol, abbreviation, lambda, builtin, function_type, nil, list}
+use Rattle.cpp_grammar.specs.Term.{RefQualifier, Term, symbol, abbreviation, builtin, function_type, nil, list}
 use Rattle.cpp_grammar.specs.Scope.{is_open}
-use Rattle.cpp_grammar.specs.Values.{Candidate, Around}
+use Rattle.cpp_grammar.specs.Values.{Around}
 use Rattle.cpp_grammar.specs.References.{packs_in}
 use Rattle.cpp_grammar.specs.Meaning.{is_void, is_nil}
 use Rattle.cpp_press_laws.specs.Pressing.{ways_of}
 use Rattle.cpp_press_laws.proofs.Components.Parts.{IsComponent, Inside, Whole, Has, stands-found}
-use Rattle.cpp_press_laws.specs.Components.{first_equal}
+use Rattle.cpp_press_laws.specs.Components.{Component, first_equal}
 use Rattle.cpp_press_laws.proofs.Components.KnownTrees.{In}
 use Rattle.cpp_press_laws.proofs.Components.Complete.{Complete, complete-has}
 use Rattle.cpp_press_laws.specs.Fits.{Slot, any_type, bare_type, item_type, parameter_type, literal_type, IsBuiltin, IsAbbreviation, type_fits, piece_fits, argument_fits, encoding_fits, fits_nowhere, fits_of, PacksFit, MayBeReferred}
@@ -56,13 +56,13 @@ stands-again : (t : Term) (around : Around) (allowed packs : Option ℕ) → Pac
     → (packs_in around.scope t ≡ None) ⊎ (packs_in around.scope t ≡ packs) → MayBeReferred around allowed t
 stands-again t around allowed packs fits shut own = record { lambda = shut; packs = same-packs around allowed packs (packs_in around.scope t) fits own }
 
-never-first : (t : Term) (around : Around) (cs : List Candidate) → In (Whole t) (λ x. Has around.encoding x cs) → IsComponent t → first_equal around.encoding t 0 cs ≡ None → ⊥
+never-first : (t : Term) (around : Around) (cs : List Component) → In (Whole t) (λ x. Has around.encoding x cs) → IsComponent t → first_equal around.encoding t 0 cs ≡ None → ⊥
 never-first t around cs has is first = stands-found around.encoding t 0 cs (has t (inl (is, refl))) first
 
 -- a type that stands may be referred to
 pub item-again : (t : Term) (slot : Slot) → IsNotBare slot → (around : Around) (allowed packs : Option ℕ)
     → ItemStands slot around.scope packs t
-    → PacksFit around allowed packs → is_open t && around.in_lambda ≡ false → (place : ℕ) (cs : List Candidate)
+    → PacksFit around allowed packs → is_open t && around.in_lambda ≡ false → (place : ℕ) (cs : List Component)
     → In (Whole t) (λ x. Has around.encoding x cs) → (fits_of t).as_type slot around allowed place cs
 unfolding fits_of type_fits piece_fits argument_fits encoding_fits fits_nowhere
 item-again (builtin code) slot other around allowed packs item fits shut place cs has = item
@@ -96,7 +96,7 @@ right-shut false b c h = h
 
 -- parameters that stand
 items-again : (t : Term) (around : Around) (allowed packs : Option ℕ) → ItemsStand around.scope packs t → PacksFit around allowed packs
-    → is_open t && around.in_lambda ≡ false → (place : ℕ) (cs : List Candidate) → Complete cs → In (Inside t) (λ x. Has around.encoding x cs)
+    → is_open t && around.in_lambda ≡ false → (place : ℕ) (cs : List Component) → Complete cs → In (Inside t) (λ x. Has around.encoding x cs)
     → (fits_of t).as_more_parameters parameter_type around allowed place cs
 unfolding fits_of fits_nowhere is_open way_at
 items-again nil around allowed packs items fits shut place cs complete has = tt
@@ -105,7 +105,7 @@ items-again (list first rest) around allowed packs items fits shut place cs comp
     let one = item-again first parameter_type tt around allowed packs items.0 fits (left-shut (is_open first)
     (is_open rest) around.in_lambda shut)
     place cs (λ x w. has x (inl w)) in
-    let w : spell.Pressed Candidate = (ways_of n first).as_type place cs in
+    let w : spell.Pressed Component = (ways_of n first).as_type place cs in
     let a : AddsParts n (Whole first) cs w.components = (adds first).as_type parameter_type around allowed place cs one complete in (
       one,
       items-again rest around allowed packs items.1 fits (right-shut (is_open first) (is_open rest) around.in_lambda shut)
@@ -115,7 +115,7 @@ items-again (symbol e suffix) around allowed packs items fits shut place cs comp
 items-again _ around allowed packs items fits shut place cs complete has = absurd items
 
 parameters-again : (t : Term) (around : Around) (allowed packs : Option ℕ) → ItemsStand around.scope packs t → IsNoVoid t
-    → PacksFit around allowed packs → is_open t && around.in_lambda ≡ false → (place : ℕ) (cs : List Candidate) → Complete cs
+    → PacksFit around allowed packs → is_open t && around.in_lambda ≡ false → (place : ℕ) (cs : List Component) → Complete cs
     → In (Inside t) (λ x. Has around.encoding x cs) → (fits_of t).as_parameters parameter_type around allowed place cs
 unfolding fits_of fits_nowhere
 parameters-again nil around allowed packs items void fits shut place cs complete has = tt
@@ -128,7 +128,7 @@ parameters-again _ around allowed packs items void fits shut place cs complete h
 pub function-again : (c_linkage noexcept : Bool) (ref : RefQualifier) (returned parameters : Term) (around : Around) (allowed : Option ℕ)
     → FunctionStands around.scope (function_type c_linkage noexcept ref returned parameters)
     → MayBeReferred around allowed (function_type c_linkage noexcept ref returned parameters)
-    → (place : ℕ) (cs : List Candidate) → Complete cs → Has around.encoding (function_type c_linkage noexcept ref returned parameters) cs
+    → (place : ℕ) (cs : List Component) → Complete cs → Has around.encoding (function_type c_linkage noexcept ref returned parameters) cs
     → (fits_of (function_type c_linkage noexcept ref returned parameters)).as_type bare_type around allowed place cs
 unfolding fits_of is_open way_at
 function-again c_linkage noexcept ref returned parameters around allowed stands may place cs complete has =
@@ -139,7 +139,7 @@ function-again c_linkage noexcept ref returned parameters around allowed stands 
     let all : In (Whole own) (λ x. Has n x cs) = complete-has n own cs complete has in
     let one = item-again returned any_type tt around allowed packs stands.0 may.packs
     (left-shut (is_open returned) (is_open parameters) around.in_lambda may.lambda) (place + length marks) cs (λ x w. all x (inr (inl w))) in
-    let w : spell.Pressed Candidate = (ways_of n returned).as_type (place + length marks) cs in
+    let w : spell.Pressed Component = (ways_of n returned).as_type (place + length marks) cs in
     let a : AddsParts n (Whole returned) cs w.components = (adds returned).as_type any_type around allowed
     (place + length marks) cs one complete in (
       one,

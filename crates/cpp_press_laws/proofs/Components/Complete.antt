@@ -5,7 +5,7 @@ use Rattle.std.proofs.lemmas.Bool.{true≢false}
 use Rattle.cpp_grammar.specs.Term.{Term, symbol, alone, in_std, within, instance, local, holder, tagged, of_default, lambda, conversion, pointer, lvalue, rvalue, array, bounded, member_pointer, function_type, qualified, vector, complex, expansion, integer, pack, list}
 use Rattle.cpp_grammar.specs.Scope.{is_open}
 use Rattle.cpp_grammar.specs.Values.{Candidate}
-use Rattle.cpp_press_laws.specs.Components.{Spelling}
+use Rattle.cpp_press_laws.specs.Components.{Component, Spelling}
 use Rattle.cpp_press_laws.proofs.Components.Parts.{IsComponent, ItselfOr, PrefixOr, UnqualifiedOr, Inside, Whole, Has, has-before, has-either, has-itself, same-means, has-closed, prefix-whole}
 use Rattle.cpp_press_laws.proofs.Components.Known.{KeepsTo, known-has}
 
@@ -84,29 +84,29 @@ inside-shut _ x closed i = first_of (assumption i, search i)
 -- ## Complete lists
 
 -- of each of these components, the components in it stand among others
-abbrev pub AllStand : (some others : List Candidate) → Type 0
+abbrev pub AllStand : (some others : List Component) → Type 0
 AllStand [] others = Unit {0}
 AllStand (c ∷ cs) others = ((x : Term) → Inside c.tree x → Has c.encoding x others) × AllStand cs others
 
-abbrev pub Complete : List Candidate → Type 0
+abbrev pub Complete : List Component → Type 0
 Complete cs = AllStand cs cs
 
-stand-more : (cs others more : List Candidate) → AllStand cs others → AllStand cs (others ++ more)
+stand-more : (cs others more : List Component) → AllStand cs others → AllStand cs (others ++ more)
 stand-more [] others more each = tt
 stand-more (c ∷ cs) others more each = (λ x i. has-before c.encoding x others more (each.0 x i), stand-more cs others more each.1)
 
-stand-append : (cs ds others : List Candidate) → AllStand cs others → AllStand ds others → AllStand (cs ++ ds) others
+stand-append : (cs ds others : List Component) → AllStand cs others → AllStand ds others → AllStand (cs ++ ds) others
 stand-append [] ds others one other = other
 stand-append (c ∷ cs) ds others one other = (one.0, stand-append cs ds others one.1 other)
 
 -- a tree becomes a component behind those in it
-pub complete-ended : (n : ℕ) (t : Term) (cs : List Candidate) → Complete cs → ((x : Term) → Inside t x → Has n x cs)
+pub complete-ended : (n : ℕ) (t : Term) (cs : List Component) → Complete cs → ((x : Term) → Inside t x → Has n x cs)
     → Complete (cs ++ record { tree = t; encoding = n } ∷ [])
 complete-ended n t cs complete inside =
-    let one : List Candidate = record { tree = t; encoding = n } ∷ [] in
+    let one : List Component = record { tree = t; encoding = n } ∷ [] in
     stand-append cs one (cs ++ one) (stand-more cs cs one complete) (λ x i. has-before n x cs one (inside x i), tt)
 
-all-has : (n : ℕ) (t : Term) (cs others : List Candidate) → AllStand cs others → Has n t cs → (x : Term) → Inside t x → Has n x others
+all-has : (n : ℕ) (t : Term) (cs others : List Component) → AllStand cs others → Has n t cs → (x : Term) → Inside t x → Has n x others
 all-has n t [] others each has x i = absurd has
 all-has n t (c ∷ cs) others each (inr later) x i = all-has n t cs others each.1 later x i
 all-has n t (c ∷ cs) others each (inl same) x i = go (same-means n t c same)
@@ -117,12 +117,12 @@ all-has n t (c ∷ cs) others each (inl same) x i = go (same-means n t c same)
     go (equal, inr here) = subst (λ m. Has m x others) here (each.0 x (subst (λ u. Inside u x) equal i))
 
 -- where a tree stands, so do the components in it
-pub complete-has : (n : ℕ) (t : Term) (cs : List Candidate) → Complete cs → Has n t cs → (x : Term) → Whole t x → Has n x cs
+pub complete-has : (n : ℕ) (t : Term) (cs : List Component) → Complete cs → Has n t cs → (x : Term) → Whole t x → Has n x cs
 complete-has n t cs complete has x (inl same) = subst (λ u. Has n u cs) (sym same.1) has
 complete-has n t cs complete has x (inr i) = all-has n t cs cs complete has x i
 
 -- Where a tree stands, its spelling adds nothing that may be referred to and doesn't stand there.
-pub nothing-new : (n : ℕ) (R : Term → Type 0) (spelling : Spelling) → KeepsTo Unit n R spelling → (place : ℕ) (cs : List Candidate)
+pub nothing-new : (n : ℕ) (R : Term → Type 0) (spelling : Spelling) → KeepsTo Unit n R spelling → (place : ℕ) (cs : List Component)
     → n ≤ place
     → ((x : Term) → R x → Has n x cs) → (x : Term) → IsComponent x → Has n x (spelling place cs).components → Has n x cs
 nothing-new n R spelling keeps place cs le stands x is has =
@@ -135,23 +135,23 @@ nothing-new n R spelling keeps place cs le stands x is has =
 -- ## A reader's candidates
 
 -- Each candidate without free parameters stands among the components, and each other one of the reader's encoding.
-abbrev pub EachStands : (read pressed : ℕ) → (candidates components : List Candidate) → Type 0
+abbrev pub EachStands : (read pressed : ℕ) → (candidates : List Candidate) → (components : List Component) → Type 0
 EachStands read pressed [] components = Unit {0}
 EachStands read pressed (c ∷ cs) components =
     (IsComponent c.tree × ((is_open c.tree ≡ false) ⊎ (c.encoding ≡ read)
     → Has pressed c.tree components)) × EachStands read pressed cs components
 
 -- They do, and the components are no more than the candidates.
-abbrev pub StandAmong : (read pressed : ℕ) → (candidates components : List Candidate) → Type 0
+abbrev pub StandAmong : (read pressed : ℕ) → (candidates : List Candidate) → (components : List Component) → Type 0
 StandAmong read pressed candidates components = EachStands read pressed candidates components × (length components ≤ length candidates)
 
-pub each-append : (read pressed : ℕ) (cs ds components : List Candidate) → EachStands read pressed cs components
+pub each-append : (read pressed : ℕ) (cs ds : List Candidate) (components : List Component) → EachStands read pressed cs components
     → EachStands read pressed ds components → EachStands read pressed (cs ++ ds) components
 each-append read pressed [] ds components one other = other
 each-append read pressed (c ∷ cs) ds components one other = (one.0, each-append read pressed cs ds components one.1 other)
 
 -- among others, where each component that may be referred to stands
-pub each-others : (read pressed : ℕ) (cs components others : List Candidate)
+pub each-others : (read pressed : ℕ) (cs : List Candidate) (components others : List Component)
     → ((x : Term) → IsComponent x → Has pressed x components → Has pressed x others) → EachStands read pressed cs components
     → EachStands read pressed cs others
 each-others read pressed [] components others more among = tt
@@ -161,11 +161,11 @@ each-others read pressed (c ∷ cs) components others more among = (
 )
 
 -- one more on both sides
-pub among-ended : (read pressed : ℕ) (t : Term) (cs components : List Candidate) → IsComponent t → StandAmong read pressed cs components
-    → StandAmong read pressed (cs ++ record { tree = t; encoding = read } ∷ []) (components ++ record { tree = t; encoding = pressed } ∷ [])
-among-ended read pressed t cs components is among =
-    let own : List Candidate = record { tree = t; encoding = pressed } ∷ [] in
-    let named : List Candidate = record { tree = t; encoding = read } ∷ [] in (
+pub among-ended : (read pressed : ℕ) (in_lambda : Bool) (t : Term) (cs : List Candidate) (components : List Component) → IsComponent t → StandAmong read pressed cs components
+    → StandAmong read pressed (cs ++ record { tree = t; encoding = read; in_lambda = in_lambda } ∷ []) (components ++ record { tree = t; encoding = pressed } ∷ [])
+among-ended read pressed in_lambda t cs components is among =
+    let own : List Component = record { tree = t; encoding = pressed } ∷ [] in
+    let named : List Candidate = record { tree = t; encoding = read; in_lambda = in_lambda } ∷ [] in (
       each-append read pressed cs named (components ++ own)
           (each-others read pressed cs components (components ++ own) (λ x c has. has-before pressed x components own has) among.0)
           ((is, λ may. has-itself pressed t components), tt),
@@ -173,10 +173,10 @@ among-ended read pressed t cs components is among =
     )
 
 -- one more candidate that stands already
-pub among-known : (read pressed : ℕ) (t : Term) (cs components : List Candidate) → IsComponent t → Has pressed t components
-    → StandAmong read pressed cs components → StandAmong read pressed (cs ++ record { tree = t; encoding = read } ∷ []) components
-among-known read pressed t cs components is has among =
-    let named : List Candidate = record { tree = t; encoding = read } ∷ [] in
+pub among-known : (read pressed : ℕ) (in_lambda : Bool) (t : Term) (cs : List Candidate) (components : List Component) → IsComponent t → Has pressed t components
+    → StandAmong read pressed cs components → StandAmong read pressed (cs ++ record { tree = t; encoding = read; in_lambda = in_lambda } ∷ []) components
+among-known read pressed in_lambda t cs components is has among =
+    let named : List Candidate = record { tree = t; encoding = read; in_lambda = in_lambda } ∷ [] in
     (each-append read pressed cs named components among.0 ((is, λ may. has), tt), omega (arith, among.1, length-append cs named))
 
 -- these were made in encodings that begin before a place
@@ -185,7 +185,7 @@ AllBefore place [] = Unit {0}
 AllBefore place (c ∷ cs) = (c.encoding < place) × AllBefore place cs
 
 -- in an encoding of its own, of which no candidate is: those without free parameters stand
-each-inner : (read pressed inner own : ℕ) (cs components : List Candidate) → AllBefore inner cs → EachStands read pressed cs components
+each-inner : (read pressed inner own : ℕ) (cs : List Candidate) (components : List Component) → AllBefore inner cs → EachStands read pressed cs components
     → EachStands inner own cs components
 each-inner read pressed inner own [] components before among = tt
 each-inner read pressed inner own (c ∷ cs) components before among = (
@@ -199,6 +199,6 @@ each-inner read pressed inner own (c ∷ cs) components before among = (
   each-inner read pressed inner own cs components before.1 among.1,
 )
 
-pub among-inner : (read pressed inner own : ℕ) (cs components : List Candidate) → AllBefore inner cs → StandAmong read pressed cs components
+pub among-inner : (read pressed inner own : ℕ) (cs : List Candidate) (components : List Component) → AllBefore inner cs → StandAmong read pressed cs components
     → StandAmong inner own cs components
 among-inner read pressed inner own cs components before among = (each-inner read pressed inner own cs components before among.0, among.1)

@@ -5,10 +5,10 @@ use Rattle.sym_spell.specs.Pressing.{◌and◌, text, nothing}
 use Rattle.sym_spell.specs.Digits.{digits_in, decimal_digit}
 use Rattle.cpp_grammar.specs.Term.{Qualifiers, Term, alone, in_std, within, instance, local, of_default, tagged, abbreviation, parameter, source, operator, literal_operator, constructor, destructor, lambda, unnamed, string_literal, builtin, vendor, pointer, lvalue, rvalue, array, member_pointer, function_type, qualified, vector, complex, expansion, integer, boolean, null_pointer, encoding_literal, address_of, pack, nil, list}
 use Rattle.cpp_grammar.specs.Scope.{count, arguments_of}
-use Rattle.cpp_grammar.specs.Values.{Candidate, Around}
+use Rattle.cpp_grammar.specs.Values.{Around}
 use Rattle.cpp_grammar.specs.Between.{after, inside}
 use Rattle.cpp_press_laws.specs.Texts.{decimal, counted, ordinal, qualifier_letters, mark_letter, name_letters, discriminator_text}
-use Rattle.cpp_press_laws.specs.Components.{Spelling, reference, first_equal, ended, spelled_out, referred, component}
+use Rattle.cpp_press_laws.specs.Components.{Component, Spelling, reference, first_equal, ended, spelled_out, referred, component}
 use Rattle.cpp_press_laws.specs.Pressing.{no_ways, type_ways, piece_ways, argument_ways, encoding_ways, function_text, name_ways, with_letters, in_N_and_E, template_before, is_operator, is_one_piece, entity_text, local_text, ways_of}
 use Rattle.cpp_press_laws.specs.Subtrees.{Written}
 use Rattle.cpp_press_laws.proofs.Components.Keeping.{choice}
@@ -24,20 +24,20 @@ use Rattle.cpp_press_laws.specs.Fits.{IsWithoutLetters, Fitting, IsFirst, Role, 
 abbrev Writes : ℕ → Written → Type 0
 Writes m w = m ≤ length w.bytes
 
-writes-rest : (m : ℕ) (first rest : Spelling) (place : ℕ) (cs : List Candidate)
+writes-rest : (m : ℕ) (first rest : Spelling) (place : ℕ) (cs : List Component)
     → (let w = first place cs in Writes m (rest (place + length w.bytes) w.components)) → Writes m ((first and rest) place cs)
 writes-rest m first rest place cs one =
     let w : Written = first place cs in
     omega (arith, one, length-append w.bytes (rest (place + length w.bytes) w.components).bytes)
 
-writes-first : (m : ℕ) (first rest : Spelling) (place : ℕ) (cs : List Candidate) → Writes m (first place cs)
+writes-first : (m : ℕ) (first rest : Spelling) (place : ℕ) (cs : List Component) → Writes m (first place cs)
     → Writes m ((first and rest) place cs)
 writes-first m first rest place cs one =
     let w : Written = first place cs in
     omega (arith, one, length-append w.bytes (rest (place + length w.bytes) w.components).bytes)
 
 -- a component of a spelling with bytes
-component-writes : (n : ℕ) (own : Term) (spelling : Spelling) (place : ℕ) (cs : List Candidate)
+component-writes : (n : ℕ) (own : Term) (spelling : Spelling) (place : ℕ) (cs : List Component)
     → (first_equal n own 0 cs ≡ None → Writes 1 (spelling place cs)) → Writes 1 (component n own spelling place cs)
 unfolding component reference spelled_out ended
 component-writes n own spelling place cs one = go (first_equal n own 0 cs) refl
@@ -62,7 +62,7 @@ unfolding counted decimal
 counted-long name = omega (arith, length-append (digits_in 10 decimal_digit 40 (length name)) name, digits-long 39 (length name))
 
 -- a piece has bytes
-piece-writes : (p : Term) (around : Around) (allowed : Option ℕ) (place : ℕ) (cs : List Candidate)
+piece-writes : (p : Term) (around : Around) (allowed : Option ℕ) (place : ℕ) (cs : List Component)
     → (fits_of p).as_piece around allowed place cs
     → Writes 1 ((ways_of around.encoding p).as_piece place cs)
 unfolding ways_of fits_of piece_ways no_ways fits_nowhere type_fits piece_fits argument_fits encoding_fits
@@ -82,9 +82,9 @@ piece-writes _ around allowed place cs h = absurd h
 -- arguments that fit have so many bytes
 abbrev ArgumentsWrite : ℕ → Around → Option ℕ → Fitting → Spelling → Type 0
 ArgumentsWrite m around allowed arguments elements =
-    (place : ℕ) (cs : List Candidate) → arguments around allowed place cs → Writes m (elements (place + 1) cs)
+    (place : ℕ) (cs : List Component) → arguments around allowed place cs → Writes m (elements (place + 1) cs)
 
-elements-write : (m : ℕ) (elements : Spelling) (place : ℕ) (cs : List Candidate) → Writes m (elements (place + 1) cs)
+elements-write : (m : ℕ) (elements : Spelling) (place : ℕ) (cs : List Component) → Writes m (elements (place + 1) cs)
     → Writes (m + 2) (of_elements elements place cs)
 elements-write m elements place cs one = omega (arith, one, length-append (elements (place + 1) cs).bytes (69 ∷ []))
 
@@ -102,7 +102,7 @@ behind-writes m around allowed own arguments elements place at w write there fit
 
 -- a reference, or what is spelled
 referred-writes : (m : ℕ) (around : Around) (allowed : Option ℕ) (own : Term) (arguments : Fitting)
-    (elements other : Spelling) (place : ℕ) (cs : List Candidate) → ArgumentsWrite m around allowed arguments elements
+    (elements other : Spelling) (place : ℕ) (cs : List Component) → ArgumentsWrite m around allowed arguments elements
     → ((number : ℕ) → first_equal around.encoding own 0 cs ≡ Some number → Behind (reference number) (arguments around allowed) place cs)
     → (IsFirst around own cs → Writes (m + 2) (other place cs))
     → Writes (m + 2) (referred around.encoding own (of_elements elements) other place cs)
@@ -121,7 +121,7 @@ referred-writes m around allowed own arguments elements other place cs write fit
 
 -- a component, of which only a reference stands there
 component-before-writes : (m : ℕ) (around : Around) (allowed : Option ℕ) (own : Term) (spelling : Spelling) (arguments : Fitting)
-    (elements : Spelling) (place : ℕ) (cs : List Candidate) → ArgumentsWrite m around allowed arguments elements
+    (elements : Spelling) (place : ℕ) (cs : List Component) → ArgumentsWrite m around allowed arguments elements
     → as_template own nowhere (λ n. text []) arguments around allowed place cs
     → Writes (m + 2) ((component around.encoding own spelling and of_elements elements) place cs)
 unfolding component reference
@@ -140,7 +140,7 @@ component-before-writes m around allowed own spelling arguments elements place c
     go None is = absurd (fits.2 is).0
 
 -- between N and E
-nested-writes : (m : ℕ) (letters : List ℕ) (name : Spelling) (place : ℕ) (cs : List Candidate)
+nested-writes : (m : ℕ) (letters : List ℕ) (name : Spelling) (place : ℕ) (cs : List Component)
     → Writes m (name (place + length (codes "N" ++ letters)) cs) → Writes m (in_N_and_E letters name place cs)
 unfolding in_N_and_E
 nested-writes m letters name place cs one =
@@ -148,7 +148,7 @@ nested-writes m letters name place cs one =
     (writes-first m name (text (codes "E")) (place + length (codes "N" ++ letters)) cs one)
 
 std-writes : (b : Bool) (p : Term) (m : ℕ) (around : Around) (allowed : Option ℕ) (arguments : Fitting) (elements : Spelling) (place : ℕ)
-    (cs : List Candidate) → ArgumentsWrite m around allowed arguments elements
+    (cs : List Component) → ArgumentsWrite m around allowed arguments elements
     → Behind ((text (maybe_N b) and std_spelling around.encoding p) and ended around.encoding (in_std p)) (arguments around allowed) place cs
     → (let whole = std_spelling around.encoding p and ended around.encoding (in_std p) and of_elements elements in
     Writes (m + 2) (choice b (in_N_and_E [] whole) whole place cs))
@@ -173,7 +173,7 @@ std-writes false p m around allowed arguments elements place cs write fits =
 
 before-writes : (t : Term) (typed : Bool) (m : ℕ) (around : Around) (allowed : Option ℕ) (arguments : Fitting) (elements : Spelling)
     (place : ℕ)
-    (cs : List Candidate) → ArgumentsWrite m around allowed arguments elements
+    (cs : List Component) → ArgumentsWrite m around allowed arguments elements
     → (fits_of t).before typed arguments around allowed place cs
     → Writes (m + 2) ((ways_of around.encoding t).before typed (of_elements elements) place cs)
 unfolding ways_of fits_of name_ways type_ways piece_ways argument_ways encoding_ways no_ways fits_nowhere type_fits piece_fits argument_fits encoding_fits template_before ended function_text
@@ -239,12 +239,12 @@ marks-long true false = omega arith
 marks-long false true = omega arith
 marks-long false false = omega arith
 
-std-long : (b : Bool) (p : Term) (n place : ℕ) (cs : List Candidate)
+std-long : (b : Bool) (p : Term) (n place : ℕ) (cs : List Component)
     → Writes 1 (choice b (in_N_and_E [] (std_spelling n p)) (std_spelling n p) place cs)
 std-long true p n place cs = nested-writes 1 [] (std_spelling n p) place cs (omega arith)
 std-long false p n place cs = omega arith
 
-argument-writes : (t : Term) (in_pack : Bool) (around : Around) (allowed : Option ℕ) (place : ℕ) (cs : List Candidate)
+argument-writes : (t : Term) (in_pack : Bool) (around : Around) (allowed : Option ℕ) (place : ℕ) (cs : List Component)
     → (fits_of t).as_argument in_pack around allowed place cs → Writes 1 ((ways_of around.encoding t).as_argument place cs)
 unfolding ways_of fits_of name_ways type_ways piece_ways argument_ways encoding_ways no_ways fits_nowhere type_fits piece_fits argument_fits encoding_fits function_text local_text in_N_and_E
 argument-writes (alone p) in_pack around allowed place cs h =
@@ -306,7 +306,7 @@ argument-writes (address_of e) in_pack around allowed place cs h = omega arith
 argument-writes (pack elements) in_pack around allowed place cs h = omega arith
 argument-writes _ in_pack around allowed place cs h = absurd h
 
-elements-count : (a : Term) (in_pack : Bool) (around : Around) (allowed : Option ℕ) (place : ℕ) (cs : List Candidate)
+elements-count : (a : Term) (in_pack : Bool) (around : Around) (allowed : Option ℕ) (place : ℕ) (cs : List Component)
     → (fits_of a).as_elements in_pack around allowed place cs → Writes (count a) ((ways_of around.encoding a).as_elements place cs)
 unfolding ways_of fits_of name_ways type_ways piece_ways argument_ways encoding_ways no_ways fits_nowhere type_fits piece_fits argument_fits encoding_fits count
 elements-count nil in_pack around allowed place cs h = omega arith
@@ -328,7 +328,7 @@ arguments-write : (a : Term) (around : Around) (allowed : Option ℕ)
 unfolding inside
 arguments-write a around allowed place cs h = elements-count a false (inside around) allowed (place + 1) cs h
 
-between-counts : (t a : Term) (around : Around) (allowed : Option ℕ) (place : ℕ) (cs : List Candidate)
+between-counts : (t a : Term) (around : Around) (allowed : Option ℕ) (place : ℕ) (cs : List Component)
     → Behind ((ways_of around.encoding t).between_N_and_E and ended around.encoding t) (elements_of a around allowed) place cs
     → Writes (count a + 2) (instance_between around.encoding t a place cs)
 unfolding ended
@@ -345,7 +345,7 @@ some-one h = cc
 none-some : {a : Term} → ◌≡◌ {A = Option Term} None (Some a) → ⊥
 none-some h = cc
 
-entity-between : (t a : Term) (letters : List ℕ) (around : Around) (allowed : Option ℕ) (place : ℕ) (cs : List Candidate) (b : Bool)
+entity-between : (t a : Term) (letters : List ℕ) (around : Around) (allowed : Option ℕ) (place : ℕ) (cs : List Component) (b : Bool)
     → is_one_piece (instance t a) ≡ b
     → ((fits_of t).as_entity_template around allowed place cs
     × Behind ((ways_of around.encoding t).between_N_and_E and ended around.encoding t) (elements_of a around allowed) place cs)
@@ -362,7 +362,7 @@ entity-between t a letters around allowed place cs false is (inr h) =
     nested-writes (count a + 2) letters (instance_between around.encoding t a) place cs
     (between-counts t a around allowed (place + length (codes "N" ++ letters)) cs h.1)
 
-entity-counts : (entity : Term) (role : Role) (around : Around) (allowed : Option ℕ) (place : ℕ) (cs : List Candidate)
+entity-counts : (entity : Term) (role : Role) (around : Around) (allowed : Option ℕ) (place : ℕ) (cs : List Component)
     → (fits_of entity).as_entity role around allowed place cs → (a : Term) → arguments_of entity ≡ Some a
     → Writes (count a) (entity_text entity (letters_of role) (ways_of around.encoding entity).between_N_and_E place cs)
 unfolding ways_of fits_of name_ways no_ways fits_nowhere type_fits arguments_of entity_text
@@ -390,7 +390,7 @@ entity-counts (local e entity d) role around allowed place cs h a is = absurd h
 entity-counts (of_default digits entity) role around allowed place cs h a is = absurd h
 entity-counts _ role around allowed place cs h a is = absurd (none-some is)
 
-own-counts : (t a : Term) (ls : List ℕ) (around : Around) (allowed : Option ℕ) (place : ℕ) (cs : List Candidate)
+own-counts : (t a : Term) (ls : List ℕ) (around : Around) (allowed : Option ℕ) (place : ℕ) (cs : List Component)
     → by_letters ls ((fits_of t).before false (elements_of a)) (λ inner others at ds.
     (fits_of t).between_template inner others at ds
     × Behind ((ways_of inner.encoding t).between_N_and_E and ended inner.encoding t)

@@ -3,8 +3,8 @@ use Rattle.std.proofs.Common.{◌≡◌, ℕ, List, Option, Bool, true, false, r
 use Rattle.std.proofs.lemmas.Bool.{false≢true}
 use Rattle.sym_spell.specs.Pressing.{◌and◌, nothing}
 use Rattle.cpp_grammar.specs.Term.{Term, symbol}
-use Rattle.cpp_grammar.specs.Values.{Around, Candidate}
-use Rattle.cpp_press_laws.specs.Components.{Spelling}
+use Rattle.cpp_grammar.specs.Values.{Around}
+use Rattle.cpp_press_laws.specs.Components.{Component, Spelling}
 use Rattle.cpp_press_laws.specs.Pressing.{ways_of, no_ways, encoding_ways, is_encoding}
 use Rattle.cpp_press_laws.specs.Fits.{fits_of, fits_nowhere, encoding_fits}
 use Rattle.cpp_grammar.specs.Scope.{is_open}
@@ -15,18 +15,18 @@ encoding-prefix (symbol e suffix) n is = absurd (false≢true is)
 encoding-prefix _ n is = cc
 
 -- an encoding writes nothing as a prefix
-pub scope-first : (x : Term) (n : ℕ) (f : Spelling) (place : ℕ) (cs : List Candidate) → is_encoding x ≡ true
+pub scope-first : (x : Term) (n : ℕ) (f : Spelling) (place : ℕ) (cs : List Component) → is_encoding x ≡ true
     → ((ways_of n x).as_prefix and f) place cs ≡ f place cs
 scope-first x n f place cs is = ap (λ s. (s and f) place cs) (encoding-prefix x n is) ∙ ap (λ q. f q cs) (omega arith)
 
-pub no-encoding-fits : (e : Term) (around : Around) (allowed : Option ℕ) (place : ℕ) (cs : List Candidate) → is_encoding e ≡ true
+pub no-encoding-fits : (e : Term) (around : Around) (allowed : Option ℕ) (place : ℕ) (cs : List Component) → is_encoding e ≡ true
     → (fits_of e).as_prefix around allowed place cs → ⊥
 unfolding is_encoding fits_of encoding_fits fits_nowhere
 no-encoding-fits (symbol e suffix) around allowed place cs is fits = absurd (false≢true is)
 no-encoding-fits _ around allowed place cs is fits = first_of (cc, assumption fits)
 
 -- what fits as a prefix is no encoding
-pub no-encoding : (x : Term) (around : Around) (allowed : Option ℕ) (place : ℕ) (cs : List Candidate)
+pub no-encoding : (x : Term) (around : Around) (allowed : Option ℕ) (place : ℕ) (cs : List Component)
     → (fits_of x).as_prefix around allowed place cs → is_encoding x ≡ false
 no-encoding x around allowed place cs fits = go (is_encoding x) (λ is. no-encoding-fits x around allowed place cs is fits)
   where

@@ -2,13 +2,13 @@
 use Rattle.std.proofs.Common.{◌≡◌, ℕ, ◌+◌, ◌≤◌, ◌⊎◌, inl, inr, length, List, [], ◌∷◌, ◌++◌, Option, None, Bool, true, false, refl, arith, sym, subst, ◌∙◌, length-append}
 use Rattle.std.specs.Prelude.{cond, codes, ◌&&◌}
 use Rattle.sym_spell.specs.Pressing.{◌and◌, text, nothing}
-use Rattle.cpp_grammar.specs.Term.{Thunk, Qualifiers, RefQualifier, Term, symbol, function, object, special, thunk, of_name, construction, clone, alone, in_std, within, instance, local, holder, tagged, of_default, abbreviation, parameter, source, operator, literal_operator, constructor, destructor, lambda, unnamed, string_literal, conversion, builtin, sized_float, generic_parameter, vendor, pointer, lvalue, rvalue, array, bounded, member_pointer, function_type, qualified, vector, complex, expansion, integer, boolean, null_pointer, encoding_literal, address_of, pack, nil, list, absent}
+use Rattle.cpp_grammar.specs.Term.{Thunk, Qualifiers, RefQualifier, Term, symbol, function, object, special, thunk, of_name, construction, clone, alone, in_std, within, instance, local, holder, tagged, of_default, abbreviation, parameter, source, operator, literal_operator, constructor, destructor, lambda, generic_lambda, unnamed, string_literal, conversion, builtin, sized_float, vendor, pointer, lvalue, rvalue, array, bounded, member_pointer, function_type, qualified, vector, complex, expansion, integer, boolean, null_pointer, encoding_literal, address_of, pack, nil, list, absent}
 use Rattle.cpp_grammar.specs.Scope.{has_return_type}
-use Rattle.cpp_grammar.specs.Values.{Candidate, outermost, Around}
+use Rattle.cpp_grammar.specs.Values.{outermost, Around}
 use Rattle.cpp_grammar.specs.Between.{in_name, in_types, after, inside}
 use Rattle.cpp_press_laws.proofs.Components.Encodings.{scope-first, no-encoding}
 use Rattle.cpp_press_laws.specs.Texts.{ordinal, mark_letter, name_letters, special_code, thunk_text, discriminator_text}
-use Rattle.cpp_press_laws.specs.Components.{Spelling, ended, component}
+use Rattle.cpp_press_laws.specs.Components.{Component, Spelling, ended, component}
 use Rattle.cpp_press_laws.specs.Pressing.{no_ways, type_ways, pressed, encoding_ways, begun, function_text, name_ways, with_letters, in_N_and_E, template_before, is_operator, is_encoding, is_one_piece, entity_text, local_text, ways_of}
 use Rattle.cpp_grammar.specs.Unfolding.{first_around}
 use Rattle.cpp_press_laws.specs.Apart.{spelled_components}
@@ -26,7 +26,7 @@ use Rattle.cpp_press_laws.proofs.Components.FewTrees.{few-and, few-component, fe
 
 -- ## Names
 
-few-letters : (letters : List ℕ) (around : Around) (allowed : Option ℕ) (place : ℕ) (cs : List Candidate) (own between : Spelling)
+few-letters : (letters : List ℕ) (around : Around) (allowed : Option ℕ) (place : ℕ) (cs : List Component) (own between : Spelling)
     (fit_own fit_between : Fitting) → by_letters letters fit_own fit_between around allowed place cs
     → (fit_own around allowed place cs → FewBy 0 cs (own place cs))
     → ((at : ℕ) → fit_between around allowed at cs → FewBy 0 cs (between at cs)) → FewBy 0 cs (with_letters letters own between place cs)
@@ -35,7 +35,7 @@ few-letters [] around allowed place cs own between fit_own fit_between h one two
 few-letters (l ∷ ls) around allowed place cs own between fit_own fit_between h one two =
     few-nested 0 (l ∷ ls) between place cs (two (place + length (codes "N" ++ l ∷ ls)) h)
 
-few-no-letters : (own : Spelling) (place : ℕ) (cs : List Candidate) → FewBy 1 cs (own place cs)
+few-no-letters : (own : Spelling) (place : ℕ) (cs : List Component) → FewBy 1 cs (own place cs)
     → FewBy 0 cs (with_letters [] own own place cs)
 unfolding with_letters
 few-no-letters own place cs one = omega (arith, one)
@@ -75,7 +75,7 @@ few-alone p r = record {
   as_elements = λ in_pack around allowed place cs h. absurd h;
 }
   where
-    bare : (ls : List ℕ) (around : Around) (allowed : Option ℕ) (place : ℕ) (cs : List Candidate) → IsWithoutLetters ls
+    bare : (ls : List ℕ) (around : Around) (allowed : Option ℕ) (place : ℕ) (cs : List Component) → IsWithoutLetters ls
         → (fits_of p).as_piece around allowed place cs
         → FewBy 0 cs (with_letters ls (ways_of around.encoding p).as_piece (ways_of around.encoding p).as_piece place cs)
     bare ls around allowed place cs none h =
@@ -158,7 +158,7 @@ few-parameter k = record {
   as_elements = λ in_pack around allowed place cs h. absurd h;
 }
   where
-    whole : (around : Around) (place : ℕ) (cs : List Candidate)
+    whole : (around : Around) (place : ℕ) (cs : List Component)
         → FewBy 0 cs (component around.encoding (parameter k) (text (codes "T" ++ ordinal k)) place cs)
     whole around place cs = few-component around.encoding (parameter k) (text (codes "T" ++ ordinal k)) place cs (λ none. omega arith)
 
@@ -170,7 +170,7 @@ few-parameter k = record {
     as_types literal_type around allowed place cs h = whole around place cs
 
 -- behind St
-few-std : (p : Term) → Counts p → (around : Around) (allowed : Option ℕ) (place : ℕ) (cs : List Candidate)
+few-std : (p : Term) → Counts p → (around : Around) (allowed : Option ℕ) (place : ℕ) (cs : List Component)
     → (fits_of p).as_piece around allowed (place + 2) cs → FewBy 1 cs (std_spelling around.encoding p place cs)
 few-std p r around allowed place cs h =
     omega (
@@ -179,7 +179,7 @@ few-std p r around allowed place cs h =
           (place + 2) cs h),
     )
 
-few-std-typed : (b : Bool) (p : Term) → Counts p → (around : Around) (allowed : Option ℕ) (place : ℕ) (cs : List Candidate)
+few-std-typed : (b : Bool) (p : Term) → Counts p → (around : Around) (allowed : Option ℕ) (place : ℕ) (cs : List Component)
     → (fits_of p).as_piece around allowed (place + length (maybe_N b) + 2) cs
     → FewBy 1 cs (choice b (in_N_and_E [] (std_spelling around.encoding p)) (std_spelling around.encoding p) place cs)
 few-std-typed true p r around allowed place cs h =
@@ -189,7 +189,7 @@ few-std-typed false p r around allowed place cs h =
 
 few-std-before : (b : Bool) (p : Term) → Counts p → (around : Around) (allowed : Option ℕ) (arguments : Fitting) (elements : Spelling)
     (place : ℕ)
-    (cs : List Candidate) → ArgumentsFew around allowed arguments elements
+    (cs : List Component) → ArgumentsFew around allowed arguments elements
     → (fits_of p).as_piece around allowed (place + length (maybe_N b) + 2) cs
     → Behind ((text (maybe_N b) and std_spelling around.encoding p) and ended around.encoding (in_std p)) (arguments around allowed) place cs
     → (let whole = std_spelling around.encoding p and ended around.encoding (in_std p) and of_elements elements in
@@ -220,7 +220,7 @@ few-std-before false p r around allowed arguments elements place cs few h fits =
           ((std_spelling n p q cs).components ++ record { tree = in_std p; encoding = n } ∷ [])) (omega arith) fits)),
     )
 
-std-placed : (typed : Bool) (p : Term) (around : Around) (allowed : Option ℕ) (place : ℕ) (cs : List Candidate)
+std-placed : (typed : Bool) (p : Term) (around : Around) (allowed : Option ℕ) (place : ℕ) (cs : List Component)
     → (elim typed as (λ _. Fitting) [
       | true ↦ behind_bytes (maybe_N (is_operator p))
           (std_fits p)
@@ -345,7 +345,7 @@ few-function-type c x ref a ps ra rp = record {
 
 -- ## Behind a prefix
 
-few-joined : (x p : Term) → Counts x → Counts p → (around : Around) (allowed : Option ℕ) (place : ℕ) (cs : List Candidate)
+few-joined : (x p : Term) → Counts x → Counts p → (around : Around) (allowed : Option ℕ) (place : ℕ) (cs : List Component)
     → joined_fits x p around allowed place cs → FewBy 1 cs (joined_spelling around.encoding x p place cs)
 unfolding after
 few-joined x p rx rp around allowed place cs h =
@@ -353,19 +353,19 @@ few-joined x p rx rp around allowed place cs h =
     few-and 0 1 (ways_of around.encoding x).as_prefix (ways_of around.encoding p).as_piece place cs (rx.as_prefix around allowed place cs h.0)
     (rp.as_piece (after x true around) allowed (place + length w.bytes) w.components h.2)
 
-few-local : (x p : Term) (may : Bool) → Counts p → (around : Around) (allowed : Option ℕ) (place : ℕ) (cs : List Candidate)
+few-local : (x p : Term) (may : Bool) → Counts p → (around : Around) (allowed : Option ℕ) (place : ℕ) (cs : List Component)
     → local_fits x p may around allowed place cs → FewBy 1 cs (joined_spelling around.encoding x p place cs)
 few-local x p may rp around allowed place cs h =
     subst (FewBy 1 cs) (sym (scope-first x around.encoding (ways_of around.encoding p).as_piece place cs h.0))
     (rp.as_piece around allowed place cs h.1.2)
 
-few-begun : (x p : Term) → Counts x → Counts p → (around : Around) (allowed : Option ℕ) (place : ℕ) (cs : List Candidate)
+few-begun : (x p : Term) → Counts x → Counts p → (around : Around) (allowed : Option ℕ) (place : ℕ) (cs : List Component)
     → begun_fits x p around allowed place cs → FewBy 1 cs (joined_spelling around.encoding x p place cs)
 few-begun x p rx rp around allowed place cs (inl h) = few-local x p _ rp around allowed place cs h
 few-begun x p rx rp around allowed place cs (inr h) = few-joined x p rx rp around allowed place cs h
 
 few-within-entity : (x p : Term) → Counts x → Counts p → (role : Role) (around : Around) (allowed : Option ℕ) (place : ℕ)
-    (cs : List Candidate)
+    (cs : List Component)
     (b : Bool) → is_encoding x ≡ b
     → (IsWithoutLetters (letters_of role) × local_fits x p (names_in role p) around allowed place cs)
     ⊎ behind_bytes (codes "N" ++ letters_of role) (joined_fits x p) around allowed place cs
@@ -386,7 +386,7 @@ few-within-entity x p rx rp role around allowed place cs false is (inr h) =
           (few-joined x p rx rp around allowed (place + length (codes "N" ++ letters_of role)) cs h),
     )
 
-few-nested-name : (letters : List ℕ) (between : Spelling) (place : ℕ) (cs : List Candidate)
+few-nested-name : (letters : List ℕ) (between : Spelling) (place : ℕ) (cs : List Component)
     → FewBy 1 cs (between (place + length (codes "N" ++ letters)) cs)
     → FewBy 0 cs (with_letters letters (in_N_and_E [] between) between place cs)
 unfolding with_letters
@@ -451,7 +451,7 @@ few-arguments : (a : Term) → Counts a → (around : Around) (allowed : Option 
 unfolding inside
 few-arguments a r around allowed place cs h = r.as_elements false (inside around) allowed (place + 1) cs h
 
-few-instance-between : (t a : Term) → Counts a → (around : Around) (allowed : Option ℕ) (place : ℕ) (cs : List Candidate)
+few-instance-between : (t a : Term) → Counts a → (around : Around) (allowed : Option ℕ) (place : ℕ) (cs : List Component)
     → FewBy 1 cs ((ways_of around.encoding t).between_N_and_E place cs)
     → Behind ((ways_of around.encoding t).between_N_and_E and ended around.encoding t) (elements_of a around allowed) place cs
     → FewBy 1 cs (instance_between around.encoding t a place cs)
@@ -468,7 +468,7 @@ few-instance-between t a ra around allowed place cs one h =
     )
 
 few-instance-entity : (t a : Term) → Counts t → Counts a → (role : Role) (around : Around) (allowed : Option ℕ) (place : ℕ)
-    (cs : List Candidate)
+    (cs : List Component)
     (b : Bool) → is_one_piece (instance t a) ≡ b
     → (IsWithoutLetters (letters_of role)
     × (fits_of t).as_entity_template around allowed place cs
@@ -554,7 +554,7 @@ few-instance t a rt ra = record {
 -- ## Local names and encodings
 
 few-local-text : (e entity : Term) (d : Option (List ℕ)) → Counts e → Counts entity → (role : Role) (around : Around) (allowed : Option ℕ)
-    (place : ℕ) (cs : List Candidate) → (fits_of e).as_encoding allowed (place + 1) cs
+    (place : ℕ) (cs : List Component) → (fits_of e).as_encoding allowed (place + 1) cs
     → Behind (text (codes "Z") and (ways_of around.encoding e).as_encoding and text (codes "E"))
     ((fits_of entity).as_entity role (after e true around) allowed) place cs
     → FewBy 1 cs (local_text (ways_of around.encoding e).as_encoding entity (ways_of around.encoding entity).between_N_and_E d
@@ -622,7 +622,7 @@ few-local-name e entity d re rn = record {
     as_types parameter_type = whole
     as_types literal_type = whole
 
-few-returned : (b : Bool) (r : Term) → Counts r → (around : Around) (allowed : Option ℕ) (place : ℕ) (cs : List Candidate)
+few-returned : (b : Bool) (r : Term) → Counts r → (around : Around) (allowed : Option ℕ) (place : ℕ) (cs : List Component)
     → either b ((fits_of r).as_type item_type around allowed place cs) (r ≡ absent)
     → FewBy 0 cs ((ways_of around.encoding r).as_type place cs)
 unfolding either ways_of no_ways
@@ -696,12 +696,12 @@ counts (literal_operator name) = few-literal-operator name
 counts (constructor digit) = few-constructor digit
 counts (destructor digit) = few-destructor digit
 counts (lambda parameters k) = few-lambda parameters k (counts parameters)
+counts (generic_lambda parameters number) = few-nowhere (generic_lambda parameters number) _
 counts (unnamed k) = few-unnamed k
 counts string_literal = few-string-literal
 counts (conversion type) = few-nowhere (conversion type) _
 counts (builtin code) = few-builtin code
 counts (sized_float digits end) = few-nowhere (sized_float digits end) _
-counts (generic_parameter number) = few-nowhere (generic_parameter number) _
 counts (vendor name) = few-vendor name
 counts (pointer type) = few-pointer type (counts type)
 counts (lvalue type) = few-lvalue type (counts type)

@@ -3,10 +3,10 @@ use Rattle.std.proofs.Common.{◌≡◌, ℕ, ◌+◌, ◌-◌, ◌≤◌, lengt
 use Rattle.std.specs.Prelude.{cond, codes}
 use Rattle.sym_spell.specs.Pressing.{◌and◌, text}
 use Rattle.cpp_grammar.specs.Term.{Qualifiers, RefQualifier, Signed, Term, tagged, source, operator, literal_operator, constructor, destructor, lambda, unnamed, string_literal, builtin, vendor, pointer, lvalue, rvalue, array, member_pointer, qualified, vector, complex, expansion, integer, boolean, null_pointer, encoding_literal, address_of, pack, nil, list}
-use Rattle.cpp_grammar.specs.Values.{Candidate, Around}
+use Rattle.cpp_grammar.specs.Values.{Around}
 use Rattle.cpp_grammar.specs.Between.{in_signature, under_expansion}
 use Rattle.cpp_press_laws.specs.Texts.{counted, ordinal, signed_text, qualifier_letters, name_letters}
-use Rattle.cpp_press_laws.specs.Components.{Spelling, reference, first_equal, ended, spelled_out, referred, component}
+use Rattle.cpp_press_laws.specs.Components.{Component, Spelling, reference, first_equal, ended, spelled_out, referred, component}
 use Rattle.cpp_press_laws.specs.Pressing.{Ways, no_ways, type_ways, piece_ways, argument_ways, in_N_and_E, entity_text, ways_of}
 use Rattle.cpp_press_laws.specs.Subtrees.{Written, written}
 use Rattle.cpp_press_laws.proofs.ReadBack.Templates.{of_elements}
@@ -17,17 +17,17 @@ use Rattle.cpp_press_laws.specs.Fits.{Slot, any_type, bare_type, item_type, para
 -- ## Counts
 
 -- so many bytes more than components are added
-abbrev pub FewBy : ℕ → List Candidate → Written → Type 0
+abbrev pub FewBy : ℕ → List Component → Written → Type 0
 FewBy k cs w = length w.components + k ≤ length cs + length w.bytes
 
-pub few-and : (a b : ℕ) (first rest : Spelling) (place : ℕ) (cs : List Candidate) → FewBy a cs (first place cs)
+pub few-and : (a b : ℕ) (first rest : Spelling) (place : ℕ) (cs : List Component) → FewBy a cs (first place cs)
     → (let w = first place cs in FewBy b w.components (rest (place + length w.bytes) w.components))
     → FewBy (a + b) cs ((first and rest) place cs)
 few-and a b first rest place cs one two =
     let w : Written = first place cs in
     omega (arith, one, two, length-append w.bytes (rest (place + length w.bytes) w.components).bytes)
 
-pub few-component : (n : ℕ) (own : Term) (spelling : Spelling) (place : ℕ) (cs : List Candidate)
+pub few-component : (n : ℕ) (own : Term) (spelling : Spelling) (place : ℕ) (cs : List Component)
     → (first_equal n own 0 cs ≡ None → FewBy 1 cs (spelling place cs)) → FewBy 0 cs (component n own spelling place cs)
 unfolding component reference spelled_out ended
 few-component n own spelling place cs one = go (first_equal n own 0 cs) refl
@@ -40,15 +40,15 @@ few-component n own spelling place cs one = go (first_equal n own 0 cs) refl
         omega (arith, one is, length-append w.bytes [], length-append w.components (record { tree = own; encoding = n } ∷ []))
 
 -- behind fixed bytes, and before them
-pub few-behind : (k m : ℕ) (bytes : List ℕ) (spelling : Spelling) (place : ℕ) (cs : List Candidate) → m ≤ length bytes
+pub few-behind : (k m : ℕ) (bytes : List ℕ) (spelling : Spelling) (place : ℕ) (cs : List Component) → m ≤ length bytes
     → FewBy k cs (spelling (place + length bytes) cs) → FewBy (m + k) cs ((text bytes and spelling) place cs)
 few-behind k m bytes spelling place cs long one = omega (arith, one, long, length-append bytes (spelling (place + length bytes) cs).bytes)
 
-pub few-before : (k : ℕ) (spelling : Spelling) (bytes : List ℕ) (place : ℕ) (cs : List Candidate) → FewBy k cs (spelling place cs)
+pub few-before : (k : ℕ) (spelling : Spelling) (bytes : List ℕ) (place : ℕ) (cs : List Component) → FewBy k cs (spelling place cs)
     → FewBy k cs ((spelling and text bytes) place cs)
 few-before k spelling bytes place cs one = omega (arith, one, length-append (spelling place cs).bytes bytes)
 
-pub few-nested : (k : ℕ) (letters : List ℕ) (name : Spelling) (place : ℕ) (cs : List Candidate)
+pub few-nested : (k : ℕ) (letters : List ℕ) (name : Spelling) (place : ℕ) (cs : List Component)
     → FewBy k cs (name (place + length (codes "N" ++ letters)) cs) → FewBy k cs (in_N_and_E letters name place cs)
 unfolding in_N_and_E
 few-nested k letters name place cs one =
@@ -62,9 +62,9 @@ few-nested k letters name place cs one =
 
 abbrev pub ArgumentsFew : Around → Option ℕ → Fitting → Spelling → Type 0
 ArgumentsFew around allowed arguments elements =
-    (place : ℕ) (cs : List Candidate) → arguments around allowed place cs → FewBy 0 cs (elements (place + 1) cs)
+    (place : ℕ) (cs : List Component) → arguments around allowed place cs → FewBy 0 cs (elements (place + 1) cs)
 
-pub few-elements : (elements : Spelling) (place : ℕ) (cs : List Candidate) → FewBy 0 cs (elements (place + 1) cs)
+pub few-elements : (elements : Spelling) (place : ℕ) (cs : List Component) → FewBy 0 cs (elements (place + 1) cs)
     → FewBy 2 cs (of_elements elements place cs)
 few-elements elements place cs one = omega (arith, one, length-append (elements (place + 1) cs).bytes (69 ∷ []))
 
@@ -75,7 +75,7 @@ pub few-made : (around : Around) (allowed : Option ℕ) (own : Term) (arguments 
     → FewBy 1 w.components ((ended around.encoding own and of_elements elements) (place + length w.bytes) w.components)
 unfolding ended
 few-made around allowed own arguments elements place at w few there fits =
-    let made : List Candidate = w.components ++ record { tree = own; encoding = around.encoding } ∷ [] in
+    let made : List Component = w.components ++ record { tree = own; encoding = around.encoding } ∷ [] in
     let from : ℕ = place + length w.bytes + 0 in
     omega (
       arith,
@@ -85,7 +85,7 @@ few-made around allowed own arguments elements place at w few there fits =
     )
 
 pub few-referred : (around : Around) (allowed : Option ℕ) (own : Term) (arguments : Fitting) (elements other : Spelling) (place : ℕ)
-    (cs : List Candidate) → ArgumentsFew around allowed arguments elements
+    (cs : List Component) → ArgumentsFew around allowed arguments elements
     → ((number : ℕ) → first_equal around.encoding own 0 cs ≡ Some number → Behind (reference number) (arguments around allowed) place cs)
     → (IsFirst around own cs → FewBy 1 cs (other place cs)) → FewBy 1 cs (referred around.encoding own (of_elements elements) other place cs)
 unfolding referred reference
@@ -105,7 +105,7 @@ few-referred around allowed own arguments elements other place cs few fits out =
     go None is = out is
 
 pub few-reference : (around : Around) (allowed : Option ℕ) (own : Term) (spelling : Spelling) (arguments : Fitting)
-    (elements : Spelling) (place : ℕ) (cs : List Candidate) → ArgumentsFew around allowed arguments elements
+    (elements : Spelling) (place : ℕ) (cs : List Component) → ArgumentsFew around allowed arguments elements
     → as_template own nowhere (λ n. text []) arguments around allowed place cs
     → FewBy 1 cs ((component around.encoding own spelling and of_elements elements) place cs)
 unfolding component reference
@@ -130,7 +130,7 @@ few-reference around allowed own spelling arguments elements place cs few fits =
 
 abbrev pub LeadsFew : ℕ → (ℕ → Spelling) → Fitting → Type 0
 LeadsFew k spelled fits =
-    (around : Around) (allowed : Option ℕ) (place : ℕ) (cs : List Candidate) → fits around allowed place cs
+    (around : Around) (allowed : Option ℕ) (place : ℕ) (cs : List Component) → fits around allowed place cs
     → FewBy k cs (spelled around.encoding place cs)
 
 pub record FewAll (t : Term) (ways : ℕ → Ways) (fits : Fits) : Type 1 where
@@ -144,7 +144,7 @@ pub record FewAll (t : Term) (ways : ℕ → Ways) (fits : Fits) : Type 1 where
   pub as_piece : LeadsFew 1 (λ n. (ways n).as_piece) fits.as_piece
   pub as_encoding : LeadsFew 0 (λ n. (ways n).as_encoding) (λ around. fits.as_encoding)
   pub as_name : (q : Qualifiers) (ref : RefQualifier) → LeadsFew 0 (λ n. (ways n).as_name (name_letters q ref)) (fits.as_name q ref)
-  pub before : (typed : Bool) (around : Around) (allowed : Option ℕ) (place : ℕ) (cs : List Candidate) (arguments : Fitting)
+  pub before : (typed : Bool) (around : Around) (allowed : Option ℕ) (place : ℕ) (cs : List Component) (arguments : Fitting)
       (elements : Spelling)
       → ArgumentsFew around allowed arguments elements → fits.before typed arguments around allowed place cs
       → FewBy 1 cs ((ways around.encoding).before typed (of_elements elements) place cs)
@@ -369,7 +369,7 @@ few-member-pointer a b r_a r_b =
     (r_b.as_type any_type around allowed (place + 1 + length w.bytes) w.components
     (subst (λ q. (fits_of b).as_type any_type around allowed q w.components) (omega arith) h.1))))
 
-pub few-source-piece : (internal : Bool) (name : List ℕ) (cs : List Candidate)
+pub few-source-piece : (internal : Bool) (name : List ℕ) (cs : List Component)
     → FewBy 1 cs (written (cond internal (codes "L") [] ++ counted name) cs)
 few-source-piece true name cs = omega arith
 few-source-piece false name cs = omega (arith, counted-long name)

@@ -3,14 +3,13 @@ use Rattle.std.proofs.Common.{◌≡◌, ℕ, suc, ◌+◌, ◌<◌, ◌≤◌, 
 use Rattle.std.specs.Prelude.{not, ◌&&◌, ◌||◌, nat_eq, codes}
 use Rattle.sym_spell.specs.Pressing as spell
 use Rattle.sym_spell.specs.Pressing.{◌and◌, text, nothing}
-use Rattle.cpp_grammar.specs.Term.{Term, symbol, function, object, special, thunk, of_name, construction, clone, alone, in_std, within, instance, local, holder, tagged, of_default, lambda, conversion, pointer, lvalue, rvalue, array, bounded, member_pointer, function_type, qualified, vector, complex, expansion, integer, encoding_literal, address_of, pack, list}
+use Rattle.cpp_grammar.specs.Term.{Term, symbol, function, object, special, thunk, of_name, construction, clone, alone, in_std, within, instance, local, holder, tagged, of_default, lambda, generic_lambda, conversion, pointer, lvalue, rvalue, array, bounded, member_pointer, function_type, qualified, vector, complex, expansion, integer, encoding_literal, address_of, pack, list}
 use Rattle.cpp_grammar.specs.Scope.{is_open}
-use Rattle.cpp_grammar.specs.Values.{Candidate}
 use Rattle.cpp_press_laws.specs.Same.{same_tree}
-use Rattle.cpp_press_laws.specs.Components.{Spelling, is_same, first_equal, seq_id, reference, ended, spelled_out, referred, component}
+use Rattle.cpp_press_laws.specs.Components.{Component, Spelling, is_same, first_equal, seq_id, reference, ended, spelled_out, referred, component}
 use Rattle.cpp_press_laws.specs.Pressing.{in_N_and_E, template_before}
 use Rattle.cpp_press_laws.specs.MarkedComponents as marks
-use Rattle.cpp_press_laws.specs.MarkedComponents.{Component, candidates}
+use Rattle.cpp_press_laws.specs.MarkedComponents.{Marked, unmarked}
 use Rattle.cpp_press_laws.specs.MarkedPressing as marked
 use Rattle.cpp_press_laws.specs.Apart.{IsNeverReferred, IsNew, IsApart, AreApartBehind}
 use Rattle.cpp_press_laws.proofs.Components.Sameness.{equal-tree}
@@ -36,6 +35,7 @@ size (holder name) = suc (size name)
 size (tagged of_structor name tag) = suc (size name)
 size (of_default digits entity) = suc (size entity)
 size (lambda parameters k) = suc (size parameters)
+size (generic_lambda parameters number) = suc (size parameters)
 size (conversion type) = suc (size type)
 size (pointer type) = suc (size type)
 size (lvalue type) = suc (size type)
@@ -57,46 +57,46 @@ size _ = 1
 
 -- ## Lists of components
 
-pub candidates-append : (cs ds : List Component) → candidates (cs ++ ds) ≡ candidates cs ++ candidates ds
-candidates-append [] ds = refl
-candidates-append (c ∷ cs) ds = ap (λ l. c.candidate ∷ l) (candidates-append cs ds)
+pub unmarked-append : (cs ds : List Marked) → unmarked (cs ++ ds) ≡ unmarked cs ++ unmarked ds
+unmarked-append [] ds = refl
+unmarked-append (c ∷ cs) ds = ap (λ l. c.component ∷ l) (unmarked-append cs ds)
 
-new-append : (encoding : ℕ) (own : Term) (cs ds : List Component) → IsNew encoding own (candidates cs) → IsNew encoding own (candidates ds)
-    → IsNew encoding own (candidates (cs ++ ds))
+new-append : (encoding : ℕ) (own : Term) (cs ds : List Marked) → IsNew encoding own (unmarked cs) → IsNew encoding own (unmarked ds)
+    → IsNew encoding own (unmarked (cs ++ ds))
 new-append encoding own [] ds one other = other
 new-append encoding own (c ∷ cs) ds one other = (one.0, new-append encoding own cs ds one.1 other)
 
 -- one more component is apart from those before it
-apart-more : (whole : Term) (before cs : List Component) (c : Component) → AreApartBehind whole before cs → IsApart whole (before ++ cs) c
+apart-more : (whole : Term) (before cs : List Marked) (c : Marked) → AreApartBehind whole before cs → IsApart whole (before ++ cs) c
     → AreApartBehind whole before (cs ++ c ∷ [])
 apart-more whole before [] c apart new = (subst (λ l. IsApart whole l c) (append-nil before) new, tt)
 apart-more whole before (d ∷ cs) c apart new =
     (apart.0, apart-more whole (before ++ d ∷ []) cs c apart.1 (subst (λ l. IsApart whole l c) (sym (append_assoc before (d ∷ []) cs)) new))
 
-abbrev pub AreBelow : ℕ → List Component → Type 0
+abbrev pub AreBelow : ℕ → List Marked → Type 0
 AreBelow m [] = Unit {0}
-AreBelow m (c ∷ cs) = (size c.candidate.tree < m) × AreBelow m cs
+AreBelow m (c ∷ cs) = (size c.component.tree < m) × AreBelow m cs
 
-below-more : (n m : ℕ) (cs : List Component) → n ≤ m → AreBelow n cs → AreBelow m cs
+below-more : (n m : ℕ) (cs : List Marked) → n ≤ m → AreBelow n cs → AreBelow m cs
 below-more n m [] le are = tt
 below-more n m (c ∷ cs) le (low, rest) = (omega (arith, low, le), below-more n m cs le rest)
 
-below-append : (m : ℕ) (cs ds : List Component) → AreBelow m cs → AreBelow m ds → AreBelow m (cs ++ ds)
+below-append : (m : ℕ) (cs ds : List Marked) → AreBelow m cs → AreBelow m ds → AreBelow m (cs ++ ds)
 below-append m [] ds are others = others
 below-append m (c ∷ cs) ds (low, rest) others = (low, below-append m cs ds rest others)
 
 -- what is smaller than a tree isn't equal to it
-below-new : (encoding : ℕ) (own : Term) (cs : List Component) → AreBelow (size own) cs → IsNew encoding own (candidates cs)
+below-new : (encoding : ℕ) (own : Term) (cs : List Marked) → AreBelow (size own) cs → IsNew encoding own (unmarked cs)
 unfolding is_same
 below-new encoding own [] below = tt
-below-new encoding own (c ∷ cs) (low, rest) = (go (same_tree own c.candidate.tree) refl, below-new encoding own cs rest)
+below-new encoding own (c ∷ cs) (low, rest) = (go (same_tree own c.component.tree) refl, below-new encoding own cs rest)
   where
-    go : (b : Bool) → same_tree own c.candidate.tree ≡ b → b && (not (is_open own) || nat_eq c.candidate.encoding encoding) ≡ false
-    go true same = let equal : size own ≡ size c.candidate.tree = ap size (equal-tree own c.candidate.tree same) in absurd (omega (arith, low, equal))
+    go : (b : Bool) → same_tree own c.component.tree ≡ b → b && (not (is_open own) || nat_eq c.component.encoding encoding) ≡ false
+    go true same = let equal : size own ≡ size c.component.tree = ap size (equal-tree own c.component.tree same) in absurd (omega (arith, low, equal))
     go false same = refl
 
 -- where no first component is equal none is
-none-equal : (encoding : ℕ) (own : Term) (from : ℕ) (cs : List Candidate) → first_equal encoding own from cs ≡ None → IsNew encoding own cs
+none-equal : (encoding : ℕ) (own : Term) (from : ℕ) (cs : List Component) → first_equal encoding own from cs ≡ None → IsNew encoding own cs
 unfolding first_equal
 none-equal encoding own from [] none = tt
 none-equal encoding own from (c ∷ cs) none = go (is_same encoding own c) refl none (λ h. none-equal encoding own (from + 1) cs h)
@@ -111,20 +111,20 @@ none-equal encoding own from (c ∷ cs) none = go (is_same encoding own c) refl 
 
 -- components below a size behind those before, all of which are apart in a tree if those before are; the same bytes and components as
 -- without marks
-pub record Adds (whole : Term) (m : ℕ) (components : List Component) (pressed : spell.Pressed Component) (plain : spell.Pressed Candidate) : Type 0 where
-  pub added : List Component
+pub record Adds (whole : Term) (m : ℕ) (components : List Marked) (pressed : spell.Pressed Marked) (plain : spell.Pressed Component) : Type 0 where
+  pub added : List Marked
   pub split : pressed.components ≡ components ++ added
   pub below : AreBelow m added
   pub apart : AreApartBehind whole [] components → AreApartBehind whole [] pressed.components
   pub bytes : pressed.bytes ≡ plain.bytes
-  pub same : candidates pressed.components ≡ plain.components
+  pub same : unmarked pressed.components ≡ plain.components
 
 pub record Grows (whole : Term) (m : ℕ) (spelling : marks.Spelling) (plain : Spelling) : Type 0 where
-  pub adds : (place : ℕ) (components : List Component) → Adds whole m components (spelling place components) (plain place (candidates components))
+  pub adds : (place : ℕ) (components : List Marked) → Adds whole m components (spelling place components) (plain place (unmarked components))
 
 -- behind what is equal without marks
-moved : {whole : Term} {m place other : ℕ} {components : List Component} {others : List Candidate} {pressed : spell.Pressed Component} (plain : Spelling)
-    → place ≡ other → candidates components ≡ others → Adds whole m components pressed (plain place (candidates components))
+moved : {whole : Term} {m place other : ℕ} {components : List Marked} {others : List Component} {pressed : spell.Pressed Marked} (plain : Spelling)
+    → place ≡ other → unmarked components ≡ others → Adds whole m components pressed (plain place (unmarked components))
     → Adds whole m components pressed (plain other others)
 moved {whole} {m} {place} {other} {components} {others} {pressed} plain e f a =
     subst (λ p. Adds whole m components pressed (plain p others)) e (subst (λ l. Adds whole m components pressed (plain place l)) f a)
@@ -134,7 +134,7 @@ abbrev behind : {C : Type 0} → spell.Pressed C → spell.Pressing C → (place
 behind first rest place =
     record { bytes = first.bytes ++ (rest place first.components).bytes; components = (rest place first.components).components }
 
-adds-and : {whole : Term} {m : ℕ} {components : List Component} {f : spell.Pressed Component} {g : spell.Pressed Candidate} (rest : marks.Spelling)
+adds-and : {whole : Term} {m : ℕ} {components : List Marked} {f : spell.Pressed Marked} {g : spell.Pressed Component} (rest : marks.Spelling)
     (others : Spelling) (place other : ℕ) → place ≡ other → Adds whole m components f g → Grows whole m rest others
     → Adds whole m components (behind f rest place) (behind g others other)
 adds-and {whole} {m} {components} {f} {g} rest others place other e a more =
@@ -154,7 +154,7 @@ pub and-grows : {whole : Term} {m : ℕ} {first rest : marks.Spelling} {one othe
 and-grows {whole} {m} {first} {rest} {one} {others} f r = record {
   adds = λ place components.
       let a = f.adds place components in
-      adds-and rest others (place + length (first place components).bytes) (place + length (one place (candidates components)).bytes)
+      adds-and rest others (place + length (first place components).bytes) (place + length (one place (unmarked components)).bytes)
       (ap (λ l. place + length l) a.bytes) a r;
 }
 
@@ -201,14 +201,14 @@ pub never-referred-grows : {whole : Term} {m : ℕ} (encoding : ℕ) (own : Term
     → Grows whole m (marks.not_compared encoding own) (ended encoding own)
 unfolding marks.ended ended
 never-referred-grows {whole} encoding own low never =
-    let c : Component = record { candidate = record { tree = own; encoding = encoding }; was_compared = false } in record {
+    let c : Marked = record { component = record { tree = own; encoding = encoding }; was_compared = false } in record {
       adds = λ place components. record {
         added = c ∷ [];
         split = refl;
         below = (low, tt);
         apart = λ apart. apart-more whole [] components c apart (inr (refl, never));
         bytes = refl;
-        same = candidates-append components (c ∷ []);
+        same = unmarked-append components (c ∷ []);
       };
     }
 
@@ -217,15 +217,15 @@ one_more pressed c = record { bytes = pressed.bytes; components = pressed.compon
 
 -- a tree that is new becomes a component behind its spelling
 newly-adds : {whole : Term} {m : ℕ} {spelling : marks.Spelling} {plain : Spelling} (encoding : ℕ) (own : Term) → size own < m
-    → Grows whole (size own) spelling plain → (place : ℕ) (components : List Component) → IsNew encoding own (candidates components)
+    → Grows whole (size own) spelling plain → (place : ℕ) (components : List Marked) → IsNew encoding own (unmarked components)
     → Adds whole m components
-    (one_more (spelling place components) (record { candidate = record { tree = own; encoding = encoding }; was_compared = true }))
-    (one_more (plain place (candidates components)) (record { tree = own; encoding = encoding }))
+    (one_more (spelling place components) (record { component = record { tree = own; encoding = encoding }; was_compared = true }))
+    (one_more (plain place (unmarked components)) (record { tree = own; encoding = encoding }))
 newly-adds {whole} {m} {spelling} {plain} encoding own low one place components new =
-    let f : spell.Pressed Component = spelling place components in
+    let f : spell.Pressed Marked = spelling place components in
     let a = one.adds place components in
-    let c : Component = record { candidate = record { tree = own; encoding = encoding }; was_compared = true } in
-    let still : IsNew encoding own (candidates f.components) = subst (λ l. IsNew encoding own (candidates l)) (sym a.split)
+    let c : Marked = record { component = record { tree = own; encoding = encoding }; was_compared = true } in
+    let still : IsNew encoding own (unmarked f.components) = subst (λ l. IsNew encoding own (unmarked l)) (sym a.split)
     (new-append encoding own components a.added new (below-new encoding own a.added a.below)) in
     record {
       added = a.added ++ c ∷ [];
@@ -233,13 +233,13 @@ newly-adds {whole} {m} {spelling} {plain} encoding own low one place components 
       below = below-append m a.added (c ∷ []) (below-more (size own) m a.added (omega (arith, low)) a.below) (low, tt);
       apart = λ apart. apart-more whole [] f.components c (a.apart apart) (inl (refl, still));
       bytes = a.bytes;
-      same = candidates-append f.components (c ∷ []) ∙ ap (λ l. l ++ c.candidate ∷ []) a.same;
+      same = unmarked-append f.components (c ∷ []) ∙ ap (λ l. l ++ c.component ∷ []) a.same;
     }
 
 spelled-adds : {whole : Term} {m : ℕ} {spelling : marks.Spelling} {plain : Spelling} (encoding : ℕ) (own : Term) → size own < m
-    → Grows whole (size own) spelling plain → (place : ℕ) (components : List Component) → IsNew encoding own (candidates components)
+    → Grows whole (size own) spelling plain → (place : ℕ) (components : List Marked) → IsNew encoding own (unmarked components)
     → Adds whole m components ((spelling and marks.compared encoding own) place components)
-    ((plain and ended encoding own) place (candidates components))
+    ((plain and ended encoding own) place (unmarked components))
 unfolding marks.ended ended
 spelled-adds encoding own low one place components new =
     let a = newly-adds encoding own low one place components new in record {
@@ -255,26 +255,26 @@ pub component-grows : {whole : Term} {m : ℕ} {spelling : marks.Spelling} {plai
     → Grows whole (size own) spelling plain → Grows whole m (marks.component encoding own spelling) (component encoding own plain)
 unfolding marks.component marks.reference component reference spelled_out
 component-grows {whole} {m} {spelling} {plain} encoding own low one =
-    record { adds = λ place components. go place components (first_equal encoding own 0 (candidates components)) refl }
+    record { adds = λ place components. go place components (first_equal encoding own 0 (unmarked components)) refl }
   where
-    go : (place : ℕ) (components : List Component) → (o : Option ℕ)
-        → first_equal encoding own 0 (candidates components) ≡ o
-        → Adds whole m components (elim o as (λ _. spell.Pressed Component) [
+    go : (place : ℕ) (components : List Marked) → (o : Option ℕ)
+        → first_equal encoding own 0 (unmarked components) ≡ o
+        → Adds whole m components (elim o as (λ _. spell.Pressed Marked) [
           | Some number ↦ marks.reference number place components
           | None ↦ (spelling and marks.compared encoding own) place components
-        ]) (elim o as (λ _. spell.Pressed Candidate) [
-          | Some number ↦ reference number place (candidates components)
-          | None ↦ spelled_out encoding own plain place (candidates components)
+        ]) (elim o as (λ _. spell.Pressed Component) [
+          | Some number ↦ reference number place (unmarked components)
+          | None ↦ spelled_out encoding own plain place (unmarked components)
         ])
     go place components (Some number) is = (text-grows _).adds place components
     go place components None is =
-        spelled-adds encoding own low one place components (none-equal encoding own 0 (candidates components) is)
+        spelled-adds encoding own low one place components (none-equal encoding own 0 (unmarked components) is)
 
 -- bytes around a spelling add nothing
-around-adds : {whole : Term} {m : ℕ} (before after : List ℕ) (spelling : marks.Spelling) (plain : Spelling) (place : ℕ) (components : List Component)
-    → Adds whole m components (spelling (place + length before) components) (plain (place + length before) (candidates components))
+around-adds : {whole : Term} {m : ℕ} (before after : List ℕ) (spelling : marks.Spelling) (plain : Spelling) (place : ℕ) (components : List Marked)
+    → Adds whole m components (spelling (place + length before) components) (plain (place + length before) (unmarked components))
     → Adds whole m components ((text before and spelling and text after) place components)
-    ((text before and plain and text after) place (candidates components))
+    ((text before and plain and text after) place (unmarked components))
 around-adds before after spelling plain place components a = record {
   added = a.added;
   split = a.split;
@@ -289,45 +289,45 @@ pub before-grows : {whole : Term} {m : ℕ} {between arguments : marks.Spelling}
     → Grows whole m (marked.template_before encoding own needs_N between arguments) (template_before encoding own needs_N plain others)
 unfolding marked.template_before marked.in_N_and_E marks.referred marks.reference marks.ended template_before in_N_and_E referred reference ended
 before-grows {whole} {m} {between} {arguments} {plain} {others} encoding own needs_N low one more =
-    record { adds = λ place components. go place components (first_equal encoding own 0 (candidates components)) refl }
+    record { adds = λ place components. go place components (first_equal encoding own 0 (unmarked components)) refl }
   where
-    spelled : (place : ℕ) (components : List Component) → IsNew encoding own (candidates components)
+    spelled : (place : ℕ) (components : List Marked) → IsNew encoding own (unmarked components)
         → Adds whole m components ((between and marks.compared encoding own and arguments) place components)
-        ((plain and ended encoding own and others) place (candidates components))
+        ((plain and ended encoding own and others) place (unmarked components))
     spelled place components is =
         let a = newly-adds encoding own low one place components is in
-        adds-and arguments others (place + length (between place components).bytes + 0) (place + length (plain place (candidates components)).bytes + 0)
+        adds-and arguments others (place + length (between place components).bytes + 0) (place + length (plain place (unmarked components)).bytes + 0)
         (ap (λ l. place + length l + 0) a.bytes) a more
 
-    new : (b : Bool) (place : ℕ) (components : List Component) → IsNew encoding own (candidates components)
+    new : (b : Bool) (place : ℕ) (components : List Marked) → IsNew encoding own (unmarked components)
         → Adds whole m components ((elim b as (λ _. marks.Spelling) [
           | true ↦ text (codes "N" ++ []) and (between and marks.compared encoding own and arguments) and text (codes "E")
           | false ↦ (between and marks.compared encoding own and arguments)
         ]) place components) ((elim b as (λ _. Spelling) [
           | true ↦ text (codes "N" ++ []) and (plain and ended encoding own and others) and text (codes "E")
           | false ↦ (plain and ended encoding own and others)
-        ]) place (candidates components))
+        ]) place (unmarked components))
     new true place components is =
         around-adds (codes "N" ++ []) (codes "E") (between and marks.compared encoding own and arguments) (plain and ended encoding own and others)
         place components (spelled (place + 1) components is)
     new false place components is = spelled place components is
 
-    go : (place : ℕ) (components : List Component) → (o : Option ℕ)
-        → first_equal encoding own 0 (candidates components) ≡ o
-        → Adds whole m components (elim o as (λ _. spell.Pressed Component) [
+    go : (place : ℕ) (components : List Marked) → (o : Option ℕ)
+        → first_equal encoding own 0 (unmarked components) ≡ o
+        → Adds whole m components (elim o as (λ _. spell.Pressed Marked) [
           | Some number ↦ (marks.reference number and arguments) place components
           | None ↦
               (elim needs_N as (λ _. marks.Spelling) [
                 | true ↦ text (codes "N" ++ []) and (between and marks.compared encoding own and arguments) and text (codes "E")
                 | false ↦ (between and marks.compared encoding own and arguments)
               ]) place components
-        ]) (elim o as (λ _. spell.Pressed Candidate) [
-          | Some number ↦ (reference number and others) place (candidates components)
+        ]) (elim o as (λ _. spell.Pressed Component) [
+          | Some number ↦ (reference number and others) place (unmarked components)
           | None ↦
               (elim needs_N as (λ _. Spelling) [
                 | true ↦ text (codes "N" ++ []) and (plain and ended encoding own and others) and text (codes "E")
                 | false ↦ (plain and ended encoding own and others)
-              ]) place (candidates components)
+              ]) place (unmarked components)
         ])
     go place components (Some number) is = (front (codes "S" ++ seq_id number ++ codes "_") more).adds place components
-    go place components None is = new needs_N place components (none-equal encoding own 0 (candidates components) is)
+    go place components None is = new needs_N place components (none-equal encoding own 0 (unmarked components) is)

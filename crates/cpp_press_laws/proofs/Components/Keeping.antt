@@ -3,21 +3,20 @@ use Rattle.std.proofs.Common.{◌≡◌, ℕ, suc, ◌+◌, ◌≤◌, inl, inr,
 use Rattle.std.specs.Prelude.{codes}
 use Rattle.sym_spell.specs.Pressing.{◌and◌, text}
 use Rattle.cpp_grammar.specs.Term.{Term, local, list, absent}
-use Rattle.cpp_grammar.specs.Values.{Candidate}
 use Rattle.cpp_press_laws.specs.Texts.{discriminator_text}
-use Rattle.cpp_press_laws.specs.Components.{Spelling, reference, first_equal, ended, spelled_out, referred, component}
+use Rattle.cpp_press_laws.specs.Components.{Component, Spelling, reference, first_equal, ended, spelled_out, referred, component}
 use Rattle.cpp_press_laws.specs.Pressing.{Ways, in_N_and_E, is_one_piece, entity_text, local_text, ways_of}
 use Rattle.cpp_press_laws.specs.MarkedComponents as marks
-use Rattle.cpp_press_laws.specs.MarkedComponents.{Component, candidates}
+use Rattle.cpp_press_laws.specs.MarkedComponents.{Marked, unmarked}
 use Rattle.cpp_press_laws.specs.Apart.{IsTemplateBehindLetters, IsNeverReferred}
 use Rattle.cpp_press_laws.specs.Subtrees.{Written}
-use Rattle.cpp_press_laws.proofs.Components.Growing.{size, candidates-append, Grows, more-grows, front, back}
+use Rattle.cpp_press_laws.proofs.Components.Growing.{size, unmarked-append, Grows, more-grows, front, back}
 use Rattle.cpp_press_laws.proofs.Components.Apart.{ways-grow}
 
 -- ## Spellings
 
 pub record Keeps (spelling : Spelling) : Type 0 where
-  pub kept : (place : ℕ) (cs : List Candidate) → length cs ≤ length (spelling place cs).components
+  pub kept : (place : ℕ) (cs : List Component) → length cs ≤ length (spelling place cs).components
 
 pub keeps-text : (bytes : List ℕ) → Keeps (text bytes)
 keeps-text bytes = record { kept = λ place cs. omega arith }
@@ -36,7 +35,7 @@ pub keeps-component : (n : ℕ) (own : Term) (spelling : Spelling) → Keeps spe
 unfolding component reference spelled_out ended
 keeps-component n own spelling one = record { kept = λ place cs. go place cs (first_equal n own 0 cs) }
   where
-    go : (place : ℕ) (cs : List Candidate) (o : Option ℕ) → length cs ≤ length (elim o as (λ _. Written) [
+    go : (place : ℕ) (cs : List Component) (o : Option ℕ) → length cs ≤ length (elim o as (λ _. Written) [
       | Some number ↦ reference number place cs
       | None ↦ spelled_out n own spelling place cs
     ]).components
@@ -52,7 +51,7 @@ pub keeps-referred : (n : ℕ) (own : Term) (behind other : Spelling) → Keeps 
 unfolding referred reference
 keeps-referred n own behind other one two = record { kept = λ place cs. go place cs (first_equal n own 0 cs) }
   where
-    go : (place : ℕ) (cs : List Candidate) (o : Option ℕ) → length cs ≤ length (elim o as (λ _. Written) [
+    go : (place : ℕ) (cs : List Component) (o : Option ℕ) → length cs ≤ length (elim o as (λ _. Written) [
       | Some number ↦ (reference number and behind) place cs
       | None ↦ other place cs
     ]).components
@@ -93,11 +92,11 @@ keeps-local around entity between discriminator letters one two =
 -- ## The ways of a tree
 
 -- components, each with a mark
-abbrev marked_as : List Candidate → List Component
+abbrev marked_as : List Component → List Marked
 marked_as [] = []
-marked_as (c ∷ cs) = record { candidate = c; was_compared = true } ∷ marked_as cs
+marked_as (c ∷ cs) = record { component = c; was_compared = true } ∷ marked_as cs
 
-without_marks : (cs : List Candidate) → candidates (marked_as cs) ≡ cs
+without_marks : (cs : List Component) → unmarked (marked_as cs) ≡ cs
 without_marks [] = refl
 without_marks (c ∷ cs) = ap (λ l. c ∷ l) (without_marks cs)
 
@@ -107,12 +106,12 @@ grown_keeps {plain = plain} one = record {
   kept = λ place cs. subst (λ l. length l ≤ length (plain place l).components) (without_marks cs) (still place (marked_as cs));
 }
   where
-    still : (place : ℕ) (cs : List Component) → length (candidates cs) ≤ length (plain place (candidates cs)).components
+    still : (place : ℕ) (cs : List Marked) → length (unmarked cs) ≤ length (plain place (unmarked cs)).components
     still place cs =
         let a = one.adds place cs in
-        let all : candidates cs ++ candidates a.added ≡ (plain place (candidates cs)).components =
-        sym (candidates-append cs a.added) ∙ ap candidates (sym a.split) ∙ a.same in
-        subst (λ l. length (candidates cs) ≤ length l) all (omega (arith, length-append (candidates cs) (candidates a.added)))
+        let all : unmarked cs ++ unmarked a.added ≡ (plain place (unmarked cs)).components =
+        sym (unmarked-append cs a.added) ∙ ap unmarked (sym a.split) ∙ a.same in
+        subst (λ l. length (unmarked cs) ≤ length l) all (omega (arith, length-append (unmarked cs) (unmarked a.added)))
 
 -- a tree in which each template name that ends a name is never referred to
 abbrev around_it : Term → Term

@@ -6,47 +6,46 @@ use Rattle.sym_spell.specs.Pressing as spell
 use Rattle.sym_spell.specs.Pressing.{◌and◌, text}
 use Rattle.cpp_grammar.specs.Term.{Term}
 use Rattle.cpp_grammar.specs.Scope.{is_open}
-use Rattle.cpp_grammar.specs.Values.{Candidate}
-use Rattle.cpp_press_laws.specs.Components.{Spelling, first_equal, reference, ended, spelled_out, referred, component}
+use Rattle.cpp_press_laws.specs.Components.{Component, Spelling, first_equal, reference, ended, spelled_out, referred, component}
 use Rattle.cpp_press_laws.specs.Pressing.{in_N_and_E, template_before, begun}
 use Rattle.cpp_press_laws.proofs.Components.Parts.{IsComponent, Has, has-before, has-either, has-closed, same-means}
 
 -- Of these trees each without free parameters stands among the components, and if that is so of the others, each other one.
-abbrev pub Stands : (open_ : Type 0) → (encoding : ℕ) → (R : Term → Type 0) → List Candidate → Type 0
+abbrev pub Stands : (open_ : Type 0) → (encoding : ℕ) → (R : Term → Type 0) → List Component → Type 0
 Stands open_ n R cs = (x : Term) → R x → (is_open x ≡ false) ⊎ open_ → Has n x cs
 
 -- What is added in an encoding, or in a later one in it, stands among the components.
-pub record IsKnown (open_ : Type 0) (n start : ℕ) (components : List Candidate) (c : Candidate) : Type 0 where
+pub record IsKnown (open_ : Type 0) (n start : ℕ) (components : List Component) (c : Component) : Type 0 where
   pub known : IsComponent c.tree → (is_open c.tree ≡ false) ⊎ (open_ × (c.encoding ≡ n)) → Has n c.tree components
   pub place : (c.encoding ≡ n) ⊎ (start ≤ c.encoding)
 
-abbrev pub AreKnown : (open_ : Type 0) → (n start : ℕ) → (components added : List Candidate) → Type 0
+abbrev pub AreKnown : (open_ : Type 0) → (n start : ℕ) → (components added : List Component) → Type 0
 AreKnown open_ n start components [] = Unit {0}
 AreKnown open_ n start components (c ∷ cs) = IsKnown open_ n start components c × AreKnown open_ n start components cs
 
-pub record AddsKnown (open_ : Type 0) (n start : ℕ) (components : List Candidate) (pressed : spell.Pressed Candidate) : Type 0 where
-  pub added : List Candidate
+pub record AddsKnown (open_ : Type 0) (n start : ℕ) (components : List Component) (pressed : spell.Pressed Component) : Type 0 where
+  pub added : List Component
   pub split : pressed.components ≡ components ++ added
   pub each : AreKnown open_ n start components added
 
 -- a spelling in an encoding, and one behind at least a byte of it
 abbrev pub KeepsTo : (open_ : Type 0) → (n : ℕ) → (R : Term → Type 0) → Spelling → Type 0
 KeepsTo open_ n R spelling =
-    (place : ℕ) (components : List Candidate) → n ≤ place → Stands open_ n R components
+    (place : ℕ) (components : List Component) → n ≤ place → Stands open_ n R components
     → AddsKnown open_ n place components (spelling place components)
 
 abbrev pub KeepsBehind : (open_ : Type 0) → (n : ℕ) → (R : Term → Type 0) → Spelling → Type 0
 KeepsBehind open_ n R spelling =
-    (place : ℕ) (components : List Candidate) → n < place → Stands open_ n R components
+    (place : ℕ) (components : List Component) → n < place → Stands open_ n R components
     → AddsKnown open_ n place components (spelling place components)
 
 -- ## What is known
 
-stands-more : (open_ : Type 0) (n : ℕ) (R : Term → Type 0) (cs ds : List Candidate) → Stands open_ n R cs → Stands open_ n R (cs ++ ds)
+stands-more : (open_ : Type 0) (n : ℕ) (R : Term → Type 0) (cs ds : List Component) → Stands open_ n R cs → Stands open_ n R (cs ++ ds)
 stands-more open_ n R cs ds stands x is may = has-before n x cs ds (stands x is may)
 
 -- what is found among the added stands before them
-pub known-has : (open_ : Type 0) (n start : ℕ) (cs ds : List Candidate) (x : Term) → AreKnown open_ n start cs ds → IsComponent x
+pub known-has : (open_ : Type 0) (n start : ℕ) (cs ds : List Component) (x : Term) → AreKnown open_ n start cs ds → IsComponent x
     → (is_open x ≡ false) ⊎ open_ → Has n x ds → Has n x cs
 known-has open_ n start cs [] x each is may has = absurd has
 known-has open_ n start cs (d ∷ ds) x each is may (inr later) = known-has open_ n start cs ds x each.1 is may later
@@ -63,7 +62,7 @@ known-has open_ n start cs (d ∷ ds) x each is may (inl same) = go (same-means 
     go (equal, inl closed) (inr o) = there equal (inl (shut equal closed))
     go (equal, inr here) (inr o) = there equal (inr (o, here))
 
-known-earlier : (open_ : Type 0) (n start later : ℕ) (cs ds es : List Candidate) → start ≤ later → AreKnown open_ n start cs ds
+known-earlier : (open_ : Type 0) (n start later : ℕ) (cs ds es : List Component) → start ≤ later → AreKnown open_ n start cs ds
     → AreKnown open_ n later (cs ++ ds) es → AreKnown open_ n start cs es
 known-earlier open_ n start later cs ds [] le before each = tt
 known-earlier open_ n start later cs ds (e ∷ es) le before each = (
@@ -79,17 +78,17 @@ known-earlier open_ n start later cs ds (e ∷ es) le before each = (
     known is (inl closed) (inr has) = known-has open_ n start cs ds e.tree before is (inl closed) has
     known is (inr o) (inr has) = known-has open_ n start cs ds e.tree before is (inr o.0) has
 
-known-append : (open_ : Type 0) (n start : ℕ) (cs ds es : List Candidate) → AreKnown open_ n start cs ds → AreKnown open_ n start cs es
+known-append : (open_ : Type 0) (n start : ℕ) (cs ds es : List Component) → AreKnown open_ n start cs ds → AreKnown open_ n start cs es
     → AreKnown open_ n start cs (ds ++ es)
 known-append open_ n start cs [] es one other = other
 known-append open_ n start cs (d ∷ ds) es one other = (one.0, known-append open_ n start cs ds es one.1 other)
 
 -- ## Spellings
 
-abbrev both_written : (first : spell.Pressed Candidate) → (rest : spell.Pressed Candidate) → spell.Pressed Candidate
+abbrev both_written : (first : spell.Pressed Component) → (rest : spell.Pressed Component) → spell.Pressed Component
 both_written first rest = record { bytes = first.bytes ++ rest.bytes; components = rest.components }
 
-and-adds : (open_ : Type 0) (n start later : ℕ) (cs : List Candidate) (first rest : spell.Pressed Candidate) → start ≤ later
+and-adds : (open_ : Type 0) (n start later : ℕ) (cs : List Component) (first rest : spell.Pressed Component) → start ≤ later
     → AddsKnown open_ n start cs first → AddsKnown open_ n later first.components rest → AddsKnown open_ n start cs (both_written first rest)
 and-adds open_ n start later cs first rest le a b = record {
   added = a.added ++ b.added;
@@ -99,12 +98,12 @@ and-adds open_ n start later cs first rest le a b = record {
       (subst (λ l. AreKnown open_ n later l b.added) a.split b.each));
 }
 
-stands-behind : (open_ : Type 0) (n start : ℕ) (R : Term → Type 0) (cs : List Candidate) (first : spell.Pressed Candidate)
+stands-behind : (open_ : Type 0) (n start : ℕ) (R : Term → Type 0) (cs : List Component) (first : spell.Pressed Component)
     → AddsKnown open_ n start cs first → Stands open_ n R cs → Stands open_ n R first.components
 stands-behind open_ n start R cs first a stands =
     subst (Stands open_ n R) (sym a.split) (stands-more open_ n R cs a.added stands)
 
-text-adds : (open_ : Type 0) (n start : ℕ) (bytes : List ℕ) (cs : List Candidate)
+text-adds : (open_ : Type 0) (n start : ℕ) (bytes : List ℕ) (cs : List Component)
     → AddsKnown open_ n start cs (record { bytes = bytes; components = cs })
 text-adds open_ n start bytes cs = record { added = []; split = sym (append-nil cs); each = tt }
 
@@ -158,7 +157,7 @@ pub component-keeps : (open_ : Type 0) (n : ℕ) (R : Term → Type 0) (own : Te
 unfolding component reference
 component-keeps open_ n R own spelling is one place cs le stands = go (first_equal n own 0 cs)
   where
-    go : (o : Option ℕ) → AddsKnown open_ n place cs (elim o as (λ _. spell.Pressed Candidate)
+    go : (o : Option ℕ) → AddsKnown open_ n place cs (elim o as (λ _. spell.Pressed Component)
         [ Some number ↦ reference number place cs | None ↦ spelled_out n own spelling place cs ])
     go (Some number) = text-adds open_ n place _ cs
     go None = spelled-keeps open_ n R own spelling is one place cs le stands
@@ -188,7 +187,7 @@ before-keeps open_ n R own needs_N between arguments is one more place cs le sta
     named true = in-N-and-E-keeps open_ n R [] (between and ended n own and arguments) whole
     named false = whole
 
-    go : (o : Option ℕ) → AddsKnown open_ n place cs (elim o as (λ _. spell.Pressed Candidate) [
+    go : (o : Option ℕ) → AddsKnown open_ n place cs (elim o as (λ _. spell.Pressed Component) [
       | Some number ↦ (reference number and arguments) place cs
       | None ↦
           (elim needs_N as (λ _. Spelling) [
@@ -205,13 +204,13 @@ before-keeps open_ n R own needs_N between arguments is one more place cs le sta
 abbrev pub OrOpen : (R : Term → Type 0) → (x : Term) → Type 0
 OrOpen R x = R x ⊎ (is_open x ≡ true)
 
-inner-stands : (open_ : Type 0) (n place : ℕ) (R : Term → Type 0) (cs : List Candidate) → Stands open_ n R cs
+inner-stands : (open_ : Type 0) (n place : ℕ) (R : Term → Type 0) (cs : List Component) → Stands open_ n R cs
     → Stands ⊥ place (OrOpen R) cs
 inner-stands open_ n place R cs stands x is (inr none) = absurd none
 inner-stands open_ n place R cs stands x (inr free) (inl closed) = absurd (true≢false (sym free ∙ closed))
 inner-stands open_ n place R cs stands x (inl is) (inl closed) = has-closed n place x cs closed (stands x is (inl closed))
 
-outer-known : (open_ : Type 0) (n place : ℕ) (cs ds : List Candidate) → n < place → AreKnown ⊥ place place cs ds
+outer-known : (open_ : Type 0) (n place : ℕ) (cs ds : List Component) → n < place → AreKnown ⊥ place place cs ds
     → AreKnown open_ n place cs ds
 outer-known open_ n place cs [] le each = tt
 outer-known open_ n place cs (d ∷ ds) le each = (

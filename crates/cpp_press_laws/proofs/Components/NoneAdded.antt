@@ -4,38 +4,37 @@ use Rattle.std.specs.Prelude.{cond, codes}
 use Rattle.sym_spell.specs.Pressing as spell
 use Rattle.sym_spell.specs.Pressing.{◌and◌}
 use Rattle.cpp_grammar.specs.Term.{Term, alone, function_type, list}
-use Rattle.cpp_grammar.specs.Values.{Candidate}
-use Rattle.cpp_press_laws.specs.Components.{Spelling, first_equal, reference, spelled_out, component}
+use Rattle.cpp_press_laws.specs.Components.{Component, Spelling, first_equal, reference, spelled_out, component}
 use Rattle.cpp_press_laws.specs.Pressing.{ways_of, no_ways, type_ways, name_ways, piece_ways, argument_ways, encoding_ways, function_text}
 use Rattle.cpp_press_laws.proofs.Components.Parts.{IsComponent, Inside, Has, stands-found}
 use Rattle.cpp_press_laws.proofs.Components.Complete.{Complete, complete-has}
 
-component-none : (n : ℕ) (t : Term) (s : Spelling) (place : ℕ) (cs : List Candidate) → Has n t cs →
+component-none : (n : ℕ) (t : Term) (s : Spelling) (place : ℕ) (cs : List Component) → Has n t cs →
     (component n t s place cs).components ≡ cs
 unfolding component reference
 component-none n t s place cs has = go (first_equal n t 0 cs) refl
   where
-    go : (o : Option ℕ) → first_equal n t 0 cs ≡ o → spell.Pressed.components (elim o as (λ _. spell.Pressed Candidate)
+    go : (o : Option ℕ) → first_equal n t 0 cs ≡ o → spell.Pressed.components (elim o as (λ _. spell.Pressed Component)
         [ Some number ↦ reference number place cs | None ↦ spelled_out n t s place cs ]) ≡ cs
     go (Some number) is = refl
     go None is = absurd (stands-found n t 0 cs has is)
 
 -- as a type
-pub type-none : (t : Term) (n place : ℕ) (cs : List Candidate) → (IsComponent t → Has n t cs) →
+pub type-none : (t : Term) (n place : ℕ) (cs : List Component) → (IsComponent t → Has n t cs) →
     ((ways_of n t).as_type place cs).components ≡ cs
 unfolding ways_of no_ways type_ways name_ways piece_ways argument_ways encoding_ways
 type-none (alone p) n place cs has = component-none n (alone p) _ place cs (has tt)
 type-none _ n place cs has = first_of (cc, search (component-none, has))
 
 -- as a prefix
-pub prefix-none : (t : Term) (n place : ℕ) (cs : List Candidate) → IsComponent t → Has n t cs →
+pub prefix-none : (t : Term) (n place : ℕ) (cs : List Component) → IsComponent t → Has n t cs →
     ((ways_of n t).as_prefix place cs).components ≡ cs
 unfolding ways_of no_ways type_ways name_ways piece_ways argument_ways encoding_ways
 prefix-none (alone p) n place cs is has = component-none n (alone p) _ place cs has
 prefix-none _ n place cs is has = first_of (search is, search (component-none, has))
 
 -- parameters, of which each that is a component stands
-parameters-none : (t : Term) (n place : ℕ) (cs : List Candidate) → ((x : Term) → Inside t x → Has n x cs)
+parameters-none : (t : Term) (n place : ℕ) (cs : List Component) → ((x : Term) → Inside t x → Has n x cs)
     → ((ways_of n t).as_more_parameters place cs).components ≡ cs
 unfolding ways_of no_ways type_ways name_ways piece_ways argument_ways encoding_ways
 parameters-none (list first rest) n place cs has =
@@ -46,7 +45,7 @@ parameters-none (list first rest) n place cs has =
 parameters-none (alone p) n place cs has = refl
 parameters-none _ n place cs has = refl
 
-all-parameters-none : (t : Term) (n place : ℕ) (cs : List Candidate) → ((x : Term) → Inside t x → Has n x cs)
+all-parameters-none : (t : Term) (n place : ℕ) (cs : List Component) → ((x : Term) → Inside t x → Has n x cs)
     → ((ways_of n t).as_parameters place cs).components ≡ cs
 unfolding ways_of no_ways type_ways name_ways piece_ways argument_ways encoding_ways
 all-parameters-none (list first rest) n place cs has = parameters-none (list first rest) n place cs has
@@ -54,7 +53,7 @@ all-parameters-none (alone p) n place cs has = refl
 all-parameters-none _ n place cs has = refl
 
 -- right under qualifiers
-pub bare-none : (t : Term) (n place : ℕ) (cs : List Candidate) → IsComponent t → Complete cs → Has n t cs
+pub bare-none : (t : Term) (n place : ℕ) (cs : List Component) → IsComponent t → Complete cs → Has n t cs
     → ((ways_of n t).under_qualifiers place cs).components ≡ cs
 unfolding ways_of no_ways type_ways name_ways piece_ways argument_ways encoding_ways function_text
 bare-none (function_type c x ref returned parameters) n place cs is complete has =

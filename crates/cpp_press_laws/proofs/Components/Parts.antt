@@ -2,11 +2,10 @@
 use Rattle.std.proofs.Common.{◌≡◌, ℕ, ◌+◌, ◌⊎◌, inl, inr, List, [], ◌∷◌, ◌++◌, Option, Some, None, Bool, true, false, refl, sym, ◌∙◌}
 use Rattle.std.specs.Prelude.{not, ◌&&◌, ◌||◌, nat_eq}
 use Rattle.std.proofs.lemmas.Bool.{eq-eqb, eqb-true, and_parts, false≢true}
-use Rattle.cpp_grammar.specs.Term.{Term, symbol, function, object, special, thunk, of_name, construction, clone, alone, in_std, within, instance, local, holder, tagged, of_default, parameter, lambda, conversion, vendor, pointer, lvalue, rvalue, array, bounded, member_pointer, function_type, qualified, vector, complex, expansion, integer, encoding_literal, address_of, pack, list}
+use Rattle.cpp_grammar.specs.Term.{Term, symbol, function, object, special, thunk, of_name, construction, clone, alone, in_std, within, instance, local, holder, tagged, of_default, parameter, lambda, generic_lambda, conversion, vendor, pointer, lvalue, rvalue, array, bounded, member_pointer, function_type, qualified, vector, complex, expansion, integer, encoding_literal, address_of, pack, list}
 use Rattle.cpp_grammar.specs.Scope.{is_open}
-use Rattle.cpp_grammar.specs.Values.{Candidate}
 use Rattle.cpp_press_laws.specs.Same.{same_tree}
-use Rattle.cpp_press_laws.specs.Components.{is_same, first_equal}
+use Rattle.cpp_press_laws.specs.Components.{Component, is_same, first_equal}
 use Rattle.cpp_press_laws.proofs.Components.Sameness.{equal-tree, tree-itself}
 
 -- ## The components in a tree
@@ -77,6 +76,7 @@ Inside (holder name) x = PrefixOr name (Inside name x) x
 Inside (tagged of_structor name tag) x = ItselfOr name (Inside name x) x
 Inside (of_default digits entity) x = Inside entity x
 Inside (lambda parameters k) x = Inside parameters x
+Inside (generic_lambda parameters number) x = Shut (Inside parameters x) x
 Inside (conversion type) x = ItselfOr type (Inside type x) x
 Inside (pointer type) x = ItselfOr type (Inside type x) x
 Inside (lvalue type) x = ItselfOr type (Inside type x) x
@@ -113,20 +113,20 @@ prefix-whole _ x inside w = first_of (assumption w, search w)
 -- ## What stands among components
 
 -- an equal one stands among them, as one in an encoding is compared
-abbrev pub Has : (encoding : ℕ) → Term → List Candidate → Type 0
+abbrev pub Has : (encoding : ℕ) → Term → List Component → Type 0
 Has encoding own [] = ⊥
 Has encoding own (c ∷ cs) = (is_same encoding own c ≡ true) ⊎ Has encoding own cs
 
-pub has-before : (n : ℕ) (x : Term) (cs ds : List Candidate) → Has n x cs → Has n x (cs ++ ds)
+pub has-before : (n : ℕ) (x : Term) (cs ds : List Component) → Has n x cs → Has n x (cs ++ ds)
 has-before n x [] ds has = absurd has
 has-before n x (c ∷ cs) ds (inl same) = inl same
 has-before n x (c ∷ cs) ds (inr later) = inr (has-before n x cs ds later)
 
-pub has-behind : (n : ℕ) (x : Term) (cs ds : List Candidate) → Has n x ds → Has n x (cs ++ ds)
+pub has-behind : (n : ℕ) (x : Term) (cs ds : List Component) → Has n x ds → Has n x (cs ++ ds)
 has-behind n x [] ds has = has
 has-behind n x (c ∷ cs) ds has = inr (has-behind n x cs ds has)
 
-pub has-either : (n : ℕ) (x : Term) (cs ds : List Candidate) → Has n x (cs ++ ds) → Has n x cs ⊎ Has n x ds
+pub has-either : (n : ℕ) (x : Term) (cs ds : List Component) → Has n x (cs ++ ds) → Has n x cs ⊎ Has n x ds
 has-either n x [] ds has = inr has
 has-either n x (c ∷ cs) ds (inl same) = inl (inl same)
 has-either n x (c ∷ cs) ds (inr later) = elim (has-either n x cs ds later) [ inl one ↦ inl (inr one) | inr other ↦ inr other ]
@@ -140,11 +140,11 @@ same-itself n x = rw (tree-itself x, eq-eqb n n refl) (either-true (not (is_open
     either-true true = refl
     either-true false = refl
 
-pub has-itself : (n : ℕ) (x : Term) (cs : List Candidate) → Has n x (cs ++ record { tree = x; encoding = n } ∷ [])
+pub has-itself : (n : ℕ) (x : Term) (cs : List Component) → Has n x (cs ++ record { tree = x; encoding = n } ∷ [])
 has-itself n x cs = has-behind n x cs (record { tree = x; encoding = n } ∷ []) (inl (same-itself n x))
 
 -- what is equal is the same tree, and of the same encoding if it has free parameters
-pub same-means : (n : ℕ) (x : Term) (c : Candidate) → is_same n x c ≡ true
+pub same-means : (n : ℕ) (x : Term) (c : Component) → is_same n x c ≡ true
     → (x ≡ c.tree) × ((is_open x ≡ false) ⊎ (c.encoding ≡ n))
 unfolding is_same
 same-means n x c same =
@@ -160,18 +160,18 @@ and-true : (b : Bool) → b && true ≡ b
 and-true true = refl
 and-true false = refl
 
-same-closed : (n : ℕ) (x : Term) (c : Candidate) → is_open x ≡ false → is_same n x c ≡ same_tree x c.tree
+same-closed : (n : ℕ) (x : Term) (c : Component) → is_open x ≡ false → is_same n x c ≡ same_tree x c.tree
 unfolding is_same
 same-closed n x c closed = rw closed (and-true (same_tree x c.tree))
 
 -- without free parameters it doesn't matter in which encoding
-pub has-closed : (n m : ℕ) (x : Term) (cs : List Candidate) → is_open x ≡ false → Has n x cs → Has m x cs
+pub has-closed : (n m : ℕ) (x : Term) (cs : List Component) → is_open x ≡ false → Has n x cs → Has m x cs
 has-closed n m x [] closed has = has
 has-closed n m x (c ∷ cs) closed (inr later) = inr (has-closed n m x cs closed later)
 has-closed n m x (c ∷ cs) closed (inl same) = inl (same-closed m x c closed ∙ sym (same-closed n x c closed) ∙ same)
 
 -- the first equal one is found exactly where one stands
-pub found-stands : (n : ℕ) (x : Term) (from number : ℕ) (cs : List Candidate) → first_equal n x from cs ≡ Some number → Has n x cs
+pub found-stands : (n : ℕ) (x : Term) (from number : ℕ) (cs : List Component) → first_equal n x from cs ≡ Some number → Has n x cs
 unfolding first_equal
 found-stands n x from number [] is = cc
 found-stands n x from number (c ∷ cs) is = go (is_same n x c) refl is (λ h. found-stands n x (from + 1) number cs h)
@@ -185,7 +185,7 @@ found-stands n x from number (c ∷ cs) is = go (is_same n x c) refl is (λ h. f
     go true same h later = inl same
     go false same h later = inr (later h)
 
-pub stands-found : (n : ℕ) (x : Term) (from : ℕ) (cs : List Candidate) → Has n x cs → first_equal n x from cs ≡ None → ⊥
+pub stands-found : (n : ℕ) (x : Term) (from : ℕ) (cs : List Component) → Has n x cs → first_equal n x from cs ≡ None → ⊥
 unfolding first_equal
 stands-found n x from [] has is = has
 stands-found n x from (c ∷ cs) has is = go (is_same n x c) refl is has (λ later h. stands-found n x (from + 1) cs later h)

@@ -3,13 +3,12 @@ use Rattle.std.proofs.Common.{◌≡◌, ℕ, List, [], ◌∷◌, ◌++◌, ◌
 use Rattle.std.specs.Prelude.{not, ◌&&◌, ◌||◌, nat_eq}
 use Rattle.cpp_grammar.specs.Term.{Term}
 use Rattle.cpp_grammar.specs.Scope.{is_open}
-use Rattle.cpp_grammar.specs.Values.{Candidate}
 use Rattle.cpp_press_laws.specs.Same.{same_tree}
-use Rattle.cpp_press_laws.specs.Components.{is_same}
-use Rattle.cpp_press_laws.specs.MarkedComponents.{Component, candidates}
+use Rattle.cpp_press_laws.specs.Components.{Component, is_same}
+use Rattle.cpp_press_laws.specs.MarkedComponents.{Marked, unmarked}
 use Rattle.cpp_press_laws.specs.Apart.{IsNeverReferred, IsNew, IsApart, AreApartBehind, marked_components}
 use Rattle.cpp_press_laws.specs.Repeated.{is_spelled, repeated, HaveReasons, RepeatedComponentsHaveReasons}
-use Rattle.cpp_press_laws.proofs.Components.Growing.{candidates-append}
+use Rattle.cpp_press_laws.proofs.Components.Growing.{unmarked-append}
 use Rattle.cpp_press_laws.proofs.Components.Apart.{components-apart, components-marked}
 
 -- a tree that isn't compared as equal with one that it is equal to has free parameters
@@ -18,7 +17,7 @@ open-by true true other differ is = refl
 open-by true false other differ is = cc
 open-by false free other differ is = cc
 
-new-open : (n : ℕ) (own : Term) (before : List Candidate) → IsNew n own before → is_spelled own before ≡ true → is_open own ≡ true
+new-open : (n : ℕ) (own : Term) (before : List Component) → IsNew n own before → is_spelled own before ≡ true → is_open own ≡ true
 unfolding is_same is_spelled
 new-open n own [] new is = cc
 new-open n own (c ∷ cs) new is = go (same_tree own c.tree) refl is (new-open n own cs new.1)
@@ -29,23 +28,23 @@ new-open n own (c ∷ cs) new is = go (same_tree own c.tree) refl is (new-open n
     go false same is more = more is
 
 -- of components that are apart those whose tree is spelled already
-reasons : (tree : Term) (before cs : List Component) → AreApartBehind tree before cs → HaveReasons tree (repeated (candidates before) (candidates cs))
+reasons : (tree : Term) (before cs : List Marked) → AreApartBehind tree before cs → HaveReasons tree (repeated (unmarked before) (unmarked cs))
 unfolding repeated
 reasons tree before [] apart = tt
 reasons tree before (c ∷ cs) apart =
-    go (is_spelled c.candidate.tree (candidates before)) refl
-    (subst (λ l. HaveReasons tree (repeated l (candidates cs))) (candidates-append before (c ∷ [])) (reasons tree (before ++ c ∷ []) cs apart.1))
+    go (is_spelled c.component.tree (unmarked before)) refl
+    (subst (λ l. HaveReasons tree (repeated l (unmarked cs))) (unmarked-append before (c ∷ [])) (reasons tree (before ++ c ∷ []) cs apart.1))
   where
-    later : List Candidate
-    later = repeated (candidates before ++ c.candidate ∷ []) (candidates cs)
+    later : List Component
+    later = repeated (unmarked before ++ c.component ∷ []) (unmarked cs)
 
-    why : IsApart tree before c → is_spelled c.candidate.tree (candidates before) ≡ true
-        → (is_open c.candidate.tree ≡ true) ⊎ IsNeverReferred c.candidate.tree tree
-    why (inl new) is = inl (new-open c.candidate.encoding c.candidate.tree (candidates before) new.1 is)
+    why : IsApart tree before c → is_spelled c.component.tree (unmarked before) ≡ true
+        → (is_open c.component.tree ≡ true) ⊎ IsNeverReferred c.component.tree tree
+    why (inl new) is = inl (new-open c.component.encoding c.component.tree (unmarked before) new.1 is)
     why (inr never) is = inr never.1
 
-    go : (b : Bool) → is_spelled c.candidate.tree (candidates before) ≡ b → HaveReasons tree later
-        → HaveReasons tree (elim b as (λ _. List Candidate) [ true ↦ c.candidate ∷ later | false ↦ later ])
+    go : (b : Bool) → is_spelled c.component.tree (unmarked before) ≡ b → HaveReasons tree later
+        → HaveReasons tree (elim b as (λ _. List Component) [ true ↦ c.component ∷ later | false ↦ later ])
     go true is more = (why apart.0 is, more)
     go false is more = more
 

@@ -1,40 +1,40 @@
 -- How a reader's candidates go on standing among the components, step by step, where what was read is pressed.
-use Rattle.std.proofs.Common.{◌≡◌, ℕ, zero, suc, ◌≤◌, ◌⊎◌, length, List, [], ◌∷◌, ◌++◌, Option, Some, None, false, refl, ap, arith, subst, length-append}
+use Rattle.std.proofs.Common.{◌≡◌, ℕ, zero, suc, ◌≤◌, ◌⊎◌, length, List, [], ◌∷◌, ◌++◌, Option, Some, None, Bool, false, refl, ap, arith, subst, length-append}
 use Rattle.std.specs.Prelude.{slice_get}
 use Rattle.sym_spell.specs.Pressing as spell
 use Rattle.sym_spell.specs.Pressing.{◌and◌}
 use Rattle.cpp_grammar.specs.Term.{Term}
 use Rattle.cpp_grammar.specs.Scope.{is_open}
 use Rattle.cpp_grammar.specs.Values.{Candidate}
-use Rattle.cpp_press_laws.specs.Components.{Spelling, first_equal, reference, ended, spelled_out, component}
+use Rattle.cpp_press_laws.specs.Components.{Component, Spelling, first_equal, reference, ended, spelled_out, component}
 use Rattle.cpp_press_laws.proofs.Components.Parts.{IsComponent, Whole, Has, found-stands}
 use Rattle.cpp_press_laws.proofs.Components.Known.{KeepsTo}
 use Rattle.cpp_press_laws.proofs.Components.Complete.{Complete, complete-has, nothing-new, EachStands, StandAmong, each-others, among-ended, among-known}
 
 -- What was read becomes a candidate: its parts' candidates stand among the components behind its spelling, so with it they stand
 -- among those behind the component that it is.
-pub component-among : (read n : ℕ) (t : Term) (spelling : Spelling) → IsComponent t → KeepsTo Unit n (Whole t) spelling → (place : ℕ)
-    (cs candidates : List Candidate) → n ≤ place → Complete cs → StandAmong read n candidates (spelling place cs).components
-    → StandAmong read n (candidates ++ record { tree = t; encoding = read } ∷ []) (component n t spelling place cs).components
+pub component-among : (read n : ℕ) (in_lambda : Bool) (t : Term) (spelling : Spelling) → IsComponent t → KeepsTo Unit n (Whole t) spelling → (place : ℕ)
+    (cs : List Component) (candidates : List Candidate) → n ≤ place → Complete cs → StandAmong read n candidates (spelling place cs).components
+    → StandAmong read n (candidates ++ record { tree = t; encoding = read; in_lambda = in_lambda } ∷ []) (component n t spelling place cs).components
 unfolding component reference spelled_out ended
-component-among read n t spelling is keeps place cs candidates le complete among = go (first_equal n t 0 cs) refl
+component-among read n in_lambda t spelling is keeps place cs candidates le complete among = go (first_equal n t 0 cs) refl
   where
     go : (o : Option ℕ) → first_equal n t 0 cs ≡ o
-        → StandAmong read n (candidates ++ record { tree = t; encoding = read } ∷ []) (spell.Pressed.components (elim o as
-        (λ _. spell.Pressed Candidate)
+        → StandAmong read n (candidates ++ record { tree = t; encoding = read; in_lambda = in_lambda } ∷ []) (spell.Pressed.components (elim o as
+        (λ _. spell.Pressed Component)
         [ Some number ↦ reference number place cs | None ↦ spelled_out n t spelling place cs ]))
     go (Some number) found =
         let has : Has n t cs = found-stands n t 0 number cs found in
         let stands : (x : Term) → Whole t x → Has n x cs = complete-has n t cs complete has in
         let added = keeps place cs le (λ x whole may. stands x whole) in
-        among-known read n t candidates cs is has (
+        among-known read n in_lambda t candidates cs is has (
           each-others read n candidates (spelling place cs).components cs
               (nothing-new n (Whole t) spelling keeps place cs le stands) among.0,
           omega (arith, among.1, ap length added.split, length-append cs added.added),
         )
-    go None new = among-ended read n t candidates (spelling place cs).components is among
+    go None new = among-ended read n in_lambda t candidates (spelling place cs).components is among
 
-each-named : (read n number : ℕ) (c : Candidate) (candidates components : List Candidate) → EachStands read n candidates components
+each-named : (read n number : ℕ) (c : Candidate) (candidates : List Candidate) (components : List Component) → EachStands read n candidates components
     → slice_get candidates number ≡ Some c → (is_open c.tree ≡ false) ⊎ (c.encoding ≡ read) → IsComponent c.tree × Has n c.tree components
 each-named read n number c [] components among at may = absurd cc
 each-named read n zero c (d ∷ ds) components among at may =
@@ -44,7 +44,7 @@ each-named read n zero c (d ∷ ds) components among at may =
 each-named read n (suc number) c (d ∷ ds) components among at may = each-named read n number c ds components among.1 at may
 
 -- What a reference may name stands among the components: it's a candidate that is closed, or of the same encoding.
-pub named-stands : (read n number : ℕ) (c : Candidate) (candidates components : List Candidate) → StandAmong read n candidates components
+pub named-stands : (read n number : ℕ) (c : Candidate) (candidates : List Candidate) (components : List Component) → StandAmong read n candidates components
     → slice_get candidates number ≡ Some c → (is_open c.tree ≡ false) ⊎ (c.encoding ≡ read) → IsComponent c.tree × Has n c.tree components
 named-stands read n number c candidates components among at may = each-named read n number c candidates components among.0 at may
 

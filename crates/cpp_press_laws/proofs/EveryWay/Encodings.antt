@@ -8,13 +8,13 @@ use Rattle.cpp_grammar.specs.KindNumbers.{ENCODING, CALL_OFFSET, COMPLETE_NAME, 
 use Rattle.cpp_grammar.specs.Grammar.{kinds, may_be_empty}
 use Rattle.cpp_grammar.specs.Term.{Adjustment, non_virtual, by_table, Thunk, adjusting, covariant, function, object, special, thunk, of_name, absent, Qualifiers, RefQualifier, local, Term, nil, list, instance}
 use Rattle.cpp_grammar.specs.Scope.{count, arguments_of, has_return_type}
-use Rattle.cpp_grammar.specs.Values.{Candidate, Around, Value, nothing_there, tree, tree_of}
+use Rattle.cpp_grammar.specs.Values.{Around, Value, nothing_there, tree, tree_of}
 use Rattle.cpp_grammar.specs.References.{is_function_type}
 use Rattle.cpp_grammar.specs.Between.{in_name, in_types, after, no_items}
 use Rattle.cpp_grammar.specs.Meaning.{encoding_of, parameters}
 use Rattle.cpp_grammar.specs.Texts.{special_front}
 use Rattle.cpp_press_laws.specs.Texts.{offset_text, thunk_text, name_letters, special_code, discriminator_text, signed_text}
-use Rattle.cpp_press_laws.specs.Components.{Spelling, component}
+use Rattle.cpp_press_laws.specs.Components.{Component, Spelling, component}
 use Rattle.cpp_press_laws.specs.Pressing.{begun, encoding_ways, in_N_and_E, is_one_piece, entity_text, local_text, ways_of, no_ways, type_ways}
 use Rattle.cpp_press_laws.specs.Subtrees.{Written, written, ReadsAt, Is, HasRoom, IsSmall}
 use Rattle.cpp_press_laws.proofs.ReadBack.Reading.{empty-reads}
@@ -35,7 +35,7 @@ use Rattle.cpp_press_laws.proofs.Components.Keeping.{keeps-local, keeps-N-and-E,
 
 -- ## Local names
 
-discriminator-reads : (around : Around) (allowed : Option ℕ) (d : Option (List ℕ)) (place : ℕ) (cs : List Candidate)
+discriminator-reads : (around : Around) (allowed : Option ℕ) (d : Option (List ℕ)) (place : ℕ) (cs : List Component)
     → IsSpellableDiscriminator d
     → ReadsAt around allowed (OfKind MAYBE_DISCRIMINATOR) (Is (discriminator_value d)) place cs (written (discriminator_text d) cs)
 unfolding discriminator_text
@@ -69,7 +69,7 @@ keeps-entity n entity letters =
 
 -- the encoding, the entity and the discriminator
 record LocalParts (role : Role) (around : Around) (allowed : Option ℕ) (e entity : Term) (d : Option (List ℕ)) (place : ℕ)
-    (cs : List Candidate)
+    (cs : List Component)
     (first second : Written) : Type 0 where
   one : ReadsAt around allowed (OfKind ENCODING) (Is (tree e true)) (place + 1) cs first
   two : EntityReads role (after e true around) allowed entity (place + 1 + length first.bytes + 1) first.components second
@@ -78,7 +78,7 @@ record LocalParts (role : Role) (around : Around) (allowed : Option ℕ) (e enti
       second.components (written (discriminator_text d) second.components)
 
 local-parts : (e entity : Term) (d : Option (List ℕ)) → Reading e → Reading entity → (role : Role) (around : Around) (allowed : Option ℕ)
-    (place : ℕ) (cs : List Candidate) → IsSmall around → HasRoom (local_spelling around.encoding e entity d (letters_of role) place cs)
+    (place : ℕ) (cs : List Component) → IsSmall around → HasRoom (local_spelling around.encoding e entity d (letters_of role) place cs)
     → local_fits e entity d role around allowed place cs
     → (let first = (ways_of around.encoding e).as_encoding (place + 1) cs in
     LocalParts role around allowed e entity d place cs first
@@ -108,7 +108,7 @@ local-parts e entity d re rn role around allowed place cs small room h =
     }
 
 local-typed : (e entity : Term) (d : Option (List ℕ)) → Reading e → Reading entity → (k : ℕ) → TypeRules k → (around : Around)
-    (allowed : Option ℕ) (place : ℕ) (cs : List Candidate) → IsSmall around → HasRoom (local_spelling around.encoding e entity d [] place cs)
+    (allowed : Option ℕ) (place : ℕ) (cs : List Component) → IsSmall around → HasRoom (local_spelling around.encoding e entity d [] place cs)
     → local_fits e entity d in_type around allowed place cs
     → ReadsAt around allowed (OfKind k) (Is (tree (local e entity d) false)) place cs (local_spelling around.encoding e entity d [] place cs)
 unfolding local_text letters_of
@@ -122,7 +122,7 @@ local-typed e entity d re rn k rules around allowed place cs small room h =
     p.three
 
 local-as-name : (e entity : Term) (d : Option (List ℕ)) → Reading e → Reading entity → (q : Qualifiers) (ref : RefQualifier) (around : Around)
-    (allowed : Option ℕ) (place : ℕ) (cs : List Candidate) → IsSmall around
+    (allowed : Option ℕ) (place : ℕ) (cs : List Component) → IsSmall around
     → HasRoom (local_spelling around.encoding e entity d (name_letters q ref) place cs)
     → local_fits e entity d (in_name_with q ref) around allowed place cs
     → NameReads around allowed 8 (local e entity d) q ref place cs (local_spelling around.encoding e entity d (name_letters q ref) place cs)
@@ -212,12 +212,12 @@ name-small here arguments is = absurd (none-named arguments is)
 -- a scope has no more arguments than the bytes of the name that they end
 abbrev pub CountsArguments : Type 0
 CountsArguments =
-    (t : Term) (q : Qualifiers) (ref : RefQualifier) (around : Around) (allowed : Option ℕ) (place : ℕ) (cs : List Candidate)
+    (t : Term) (q : Qualifiers) (ref : RefQualifier) (around : Around) (allowed : Option ℕ) (place : ℕ) (cs : List Component)
     → (fits_of t).as_name q ref around allowed place cs → (arguments : Term) → arguments_of t ≡ Some arguments
     → count arguments ≤ length ((ways_of around.encoding t).as_name (name_letters q ref) place cs).bytes
 
 -- items behind a function's name, as they are read
-record FunctionItems (around : Around) (allowed : Option ℕ) (v : Value) (t : Term) (place : ℕ) (cs : List Candidate)
+record FunctionItems (around : Around) (allowed : Option ℕ) (v : Value) (t : Term) (place : ℕ) (cs : List Component)
     (w : Written) : Type 0 where
   last : Value
   means : encoding_of v (no_items last) ≡ t
@@ -256,7 +256,7 @@ unfolding encoding_of
 encoding-object v name q ref a b c = rw (a, b, c) refl
 
 -- the items of parameters as one list
-items-whole : (around : Around) (allowed : Option ℕ) (ps : Term) (place : ℕ) (cs : List Candidate) (w : Written)
+items-whole : (around : Around) (allowed : Option ℕ) (ps : Term) (place : ℕ) (cs : List Component) (w : Written)
     (i : ItemsRead around allowed ps place cs w)
     → ReadsAt around allowed (OfKind ITEMS) (Is (tree (list i.first i.items) true)) place cs w
 items-whole around allowed ps place cs w i =
@@ -270,7 +270,7 @@ items-whole around allowed ps place cs w i =
 
 -- with a return type in front of the parameters
 returned-items : (name r ps : Term) (q : Qualifiers) (ref : RefQualifier) → Reading r → Reading ps → (around : Around) (allowed : Option ℕ)
-    (v : Value) (place : ℕ) (cs : List Candidate) → IsSmall around
+    (v : Value) (place : ℕ) (cs : List Component) → IsSmall around
     → (let n = around.encoding in
     HasRoom (((ways_of n r).as_type and (ways_of n ps).as_parameters) place cs) → tree_of v ≡ name → qualifiers_of v ≡ q → ref_of v ≡ ref
     → has_return_type name ≡ true
@@ -297,7 +297,7 @@ returned-items name r ps q ref rr rp around allowed v place cs small room a b c 
 
 -- and without
 plain-items : (name ps : Term) (q : Qualifiers) (ref : RefQualifier) → Reading ps → (around : Around) (allowed : Option ℕ)
-    (v : Value) (place : ℕ) (cs : List Candidate) → IsSmall around
+    (v : Value) (place : ℕ) (cs : List Component) → IsSmall around
     → HasRoom (((ways_of around.encoding absent).as_type and (ways_of around.encoding ps).as_parameters) place cs) → tree_of v ≡ name
     → qualifiers_of v ≡ q → ref_of v ≡ ref
     → has_return_type name ≡ false
@@ -317,7 +317,7 @@ plain-items name ps q ref rp around allowed v place cs small room a b c has two 
     }
 
 function-items : (name r ps : Term) (q : Qualifiers) (ref : RefQualifier) → Reading r → Reading ps → (around : Around) (allowed : Option ℕ)
-    (v : Value) (place : ℕ) (cs : List Candidate) → IsSmall around
+    (v : Value) (place : ℕ) (cs : List Component) → IsSmall around
     → (let n = around.encoding in
     HasRoom (((ways_of n r).as_type and (ways_of n ps).as_parameters) place cs) → tree_of v ≡ name → qualifiers_of v ≡ q → ref_of v ≡ ref
     → (b : Bool) → has_return_type name ≡ b
@@ -334,7 +334,7 @@ function-items name r ps q ref rr rp around allowed v place cs small room a b c 
     (((ways_of around.encoding x).as_type and (ways_of around.encoding ps).as_parameters) place cs)) (sym one)
     (λ enough fits. plain-items name ps q ref rp around allowed v place cs small enough a b c has fits) room two
 
-types-small : CountsArguments → (name : Term) (q : Qualifiers) (ref : RefQualifier) (allowed : Option ℕ) (here : ℕ) (cs : List Candidate)
+types-small : CountsArguments → (name : Term) (q : Qualifiers) (ref : RefQualifier) (allowed : Option ℕ) (here : ℕ) (cs : List Component)
     → (fits_of name).as_name q ref (in_name here) allowed here cs → HasRoom ((ways_of here name).as_name (name_letters q ref) here cs)
     → IsSmall (in_types here name)
 unfolding in_types in_name
@@ -417,7 +417,7 @@ reads-special l t r =
 two-offsets : (a b x : List ℕ) → a ++ (95 ∷ (b ++ (95 ∷ x))) ≡ ((a ++ (95 ∷ [])) ++ b) ++ (95 ∷ x)
 two-offsets a b x = sym (append_assoc a (95 ∷ []) (b ++ (95 ∷ x))) ∙ sym (append_assoc (a ++ (95 ∷ [])) b (95 ∷ x))
 
-offset-reads : (around : Around) (allowed : Option ℕ) (a : Adjustment) (place : ℕ) (cs : List Candidate) → IsSpellableOffset a
+offset-reads : (around : Around) (allowed : Option ℕ) (a : Adjustment) (place : ℕ) (cs : List Component) → IsSpellableOffset a
     → ReadsAt around allowed (OfKind CALL_OFFSET) (Is (adjusted a)) place cs (written (offset_text a) cs)
 unfolding offset_text
 offset-reads around allowed (non_virtual n) place cs h =
@@ -429,7 +429,7 @@ offset-reads around allowed (by_table n m) place cs h =
     (virtual-offset around allowed n m place cs (written (signed_text n) cs) (written (signed_text m) cs)
     (integer-reads around allowed n (place + 1) cs h.0) (integer-reads around allowed m (place + 1 + length (signed_text n) + 1) cs h.1))
 
-thunk-reads : (kind : Thunk) (around : Around) (allowed : Option ℕ) (e : Term) (place : ℕ) (cs : List Candidate) (w : Written)
+thunk-reads : (kind : Thunk) (around : Around) (allowed : Option ℕ) (e : Term) (place : ℕ) (cs : List Component) (w : Written)
     → IsSpellableThunk kind
     → ReadsAt (in_name place) allowed (OfKind ENCODING) (Is (tree e true)) (place + length (thunk_text kind)) cs w
     → ReadsAt around allowed (OfKind ENCODING) (Is (tree (thunk kind e) true)) place cs (written (thunk_text kind ++ w.bytes) w.components)

@@ -5,12 +5,12 @@ use Rattle.sym_shape.specs.declared.rule.Sym.TheVariants.{Kind as OfKind}
 use Rattle.sym_spell.specs.Pressing.{◌and◌, text}
 use Rattle.cpp_grammar.specs.KindNumbers.{ENCODING, TYPE_ENTITY, ITEM, ARGUMENT_LIST, PACK_LIST}
 use Rattle.cpp_grammar.specs.Term.{Qualifiers, RefQualifier, any_value, Term, instance, list}
-use Rattle.cpp_grammar.specs.Values.{Candidate, Around, Value, tree, tree_of, qualifiers_of, ref_of, unqualified}
+use Rattle.cpp_grammar.specs.Values.{Around, Value, tree, tree_of, qualifiers_of, ref_of, unqualified}
 use Rattle.cpp_grammar.specs.References.{is_function_type}
 use Rattle.cpp_grammar.specs.Between.{no_items}
 use Rattle.cpp_grammar.specs.Meaning.{parameters}
 use Rattle.cpp_press_laws.specs.Texts.{name_letters, mark_letter}
-use Rattle.cpp_press_laws.specs.Components.{Spelling, first_equal, seq_id, reference, spelled_out, component}
+use Rattle.cpp_press_laws.specs.Components.{Component, Spelling, first_equal, seq_id, reference, spelled_out, component}
 use Rattle.cpp_press_laws.specs.Pressing.{Ways, no_ways, type_ways, is_one_piece, entity_text}
 use Rattle.cpp_press_laws.specs.Subtrees.{greatest, Written, written, ReadsAt, Is, HasRoom, IsSmall}
 use Rattle.cpp_press_laws.proofs.ReadBack.References.{found-first, number-refers}
@@ -29,7 +29,7 @@ use Rattle.cpp_press_laws.specs.Fits.{Slot, any_type, bare_type, item_type, para
 
 -- as a name with qualifiers and a mark
 pub record NameReads (around : Around) (allowed : Option ℕ) (k : ℕ) (t : Term) (q : Qualifiers) (ref : RefQualifier) (place : ℕ)
-    (cs : List Candidate) (w : Written) : Type 0 where
+    (cs : List Component) (w : Written) : Type 0 where
   pub value : Value
   pub tree_is : tree_of value ≡ t
   pub qualifiers_are : qualifiers_of value ≡ q
@@ -37,11 +37,11 @@ pub record NameReads (around : Around) (allowed : Option ℕ) (k : ℕ) (t : Ter
   pub reads : ReadsAt around allowed (OfKind k) (Is value) place cs w
 
 -- an instance in a type, or as an encoding's own name without letters
-abbrev pub TemplateReads : (typed : Bool) → Around → Option ℕ → (k : ℕ) → Term → (place : ℕ) → List Candidate → Written → Type 0
+abbrev pub TemplateReads : (typed : Bool) → Around → Option ℕ → (k : ℕ) → Term → (place : ℕ) → List Component → Written → Type 0
 TemplateReads true around allowed k t place cs w = ReadsAt around allowed (OfKind k) (Is (tree t false)) place cs w
 TemplateReads false around allowed k t place cs w = NameReads around allowed k t unqualified any_value place cs w
 
-pub template-value : (typed : Bool) (around : Around) (allowed : Option ℕ) (k : ℕ) (t : Term) (place : ℕ) (cs : List Candidate) (w : Written)
+pub template-value : (typed : Bool) (around : Around) (allowed : Option ℕ) (k : ℕ) (t : Term) (place : ℕ) (cs : List Component) (w : Written)
     → ReadsAt around allowed (OfKind k) (Is (tree t false)) place cs w → TemplateReads typed around allowed k t place cs w
 unfolding tree_of qualifiers_of ref_of
 template-value true around allowed k t place cs w one = one
@@ -49,7 +49,7 @@ template-value false around allowed k t place cs w one =
     record { value = tree t false; tree_is = refl; qualifiers_are = refl; ref_is = refl; reads = one }
 
 -- as the entity of a local name
-abbrev pub EntityReads : Role → Around → Option ℕ → Term → (place : ℕ) → List Candidate → Written → Type 0
+abbrev pub EntityReads : Role → Around → Option ℕ → Term → (place : ℕ) → List Component → Written → Type 0
 EntityReads in_type around allowed t place cs w = ReadsAt around allowed (OfKind TYPE_ENTITY) (Is (tree t false)) place cs w
 EntityReads (in_name_with q ref) around allowed t place cs w = NameReads around allowed 23 t q ref place cs w
 
@@ -59,7 +59,7 @@ list_kind true = 45
 list_kind false = 44
 
 -- as one more element in front of others
-abbrev pub ArgumentReads : Bool → Around → Option ℕ → Term → (place : ℕ) → List Candidate → Written → Type 0
+abbrev pub ArgumentReads : Bool → Around → Option ℕ → Term → (place : ℕ) → List Component → Written → Type 0
 ArgumentReads in_pack around allowed t place cs w =
     (items : Term) (last : Value) (rest : Written) → no_items last ≡ items
     → ReadsAt around allowed (OfKind (list_kind in_pack)) (Is last) (place + length w.bytes) w.components rest
@@ -67,7 +67,7 @@ ArgumentReads in_pack around allowed t place cs w =
     (written (w.bytes ++ rest.bytes) rest.components)
 
 -- as a list of a kind
-abbrev pub ListReads : ℕ → Around → Option ℕ → Term → (place : ℕ) → List Candidate → Written → Type 0
+abbrev pub ListReads : ℕ → Around → Option ℕ → Term → (place : ℕ) → List Component → Written → Type 0
 ListReads k around allowed t place cs w =
     (no_items (items_value t) ≡ t) × ReadsAt around allowed (OfKind k) (Is (items_value t)) place cs w
 
@@ -75,12 +75,12 @@ ListReads k around allowed t place cs w =
 abbrev pub with_end : RefQualifier → Written → Written
 with_end ref w = written (w.bytes ++ (mark_letter ref ++ codes "E")) w.components
 
-abbrev pub ParametersRead : RefQualifier → Around → Option ℕ → Term → (place : ℕ) → List Candidate → Written → Type 0
+abbrev pub ParametersRead : RefQualifier → Around → Option ℕ → Term → (place : ℕ) → List Component → Written → Type 0
 ParametersRead ref around allowed t place cs w =
     (items : Term) × (parameters items ≡ t) × RestReads around allowed items ref place cs (with_end ref w)
 
 -- an entity that is one piece
-pub record OnePiece (around : Around) (allowed : Option ℕ) (t : Term) (place : ℕ) (cs : List Candidate) (w : Written) : Type 0 where
+pub record OnePiece (around : Around) (allowed : Option ℕ) (t : Term) (place : ℕ) (cs : List Component) (w : Written) : Type 0 where
   pub is : (arguments : Term) → is_one_piece (instance t arguments) ≡ true
   pub in_name : Named around allowed 23 t place cs w
   pub in_a_type : Named around allowed 24 t place cs w
@@ -88,9 +88,9 @@ pub record OnePiece (around : Around) (allowed : Option ℕ) (t : Term) (place :
 -- ## The ways of a tree
 
 -- where it fits, and has room, what is spelled is read
-abbrev pub Leads : (ℕ → Spelling) → Fitting → (Around → Option ℕ → (place : ℕ) → List Candidate → Written → Type 0) → Type 0
+abbrev pub Leads : (ℕ → Spelling) → Fitting → (Around → Option ℕ → (place : ℕ) → List Component → Written → Type 0) → Type 0
 Leads spelled fits reads =
-    (around : Around) (allowed : Option ℕ) (place : ℕ) (cs : List Candidate) → IsSmall around → HasRoom (spelled around.encoding place cs)
+    (around : Around) (allowed : Option ℕ) (place : ℕ) (cs : List Component) → IsSmall around → HasRoom (spelled around.encoding place cs)
     → fits around allowed place cs → reads around allowed place cs (spelled around.encoding place cs)
 
 -- right under qualifiers a type has a way of its own
@@ -115,7 +115,7 @@ pub record ReadsAll (t : Term) (ways : ℕ → Ways) (fits : Fits) : Type 1 wher
       (λ around allowed. ReadsAt around allowed (OfKind ENCODING) (Is (tree t true)))
   pub as_name : (q : Qualifiers) (ref : RefQualifier) → Leads (λ n. (ways n).as_name (name_letters q ref)) (fits.as_name q ref)
       (λ around allowed. NameReads around allowed 8 t q ref)
-  pub before : (typed : Bool) (k : ℕ) → TemplateKind typed k → (around : Around) (allowed : Option ℕ) (place : ℕ) (cs : List Candidate)
+  pub before : (typed : Bool) (k : ℕ) → TemplateKind typed k → (around : Around) (allowed : Option ℕ) (place : ℕ) (cs : List Component)
       (arguments : Fitting) (elements : Spelling) (items : Term) (last : Value) → no_items last ≡ items
       → ReadElements around allowed last arguments elements → Keeps (of_elements elements) → IsSmall around
       → HasRoom ((ways around.encoding).before typed (of_elements elements) place cs) → fits.before typed arguments around allowed place cs
@@ -230,7 +230,7 @@ reads-encoding t ways standing one = record {
 -- ## Types
 
 -- a type as an argument
-pub typed-argument : (in_pack : Bool) (around : Around) (allowed : Option ℕ) (t : Term) (place : ℕ) (cs : List Candidate) (w : Written)
+pub typed-argument : (in_pack : Bool) (around : Around) (allowed : Option ℕ) (t : Term) (place : ℕ) (cs : List Component) (w : Written)
     → ReadsAs item_type around allowed t place cs w → ArgumentReads in_pack around allowed t place cs w
 typed-argument true around allowed t place cs w one items last rest are two =
     type-element around allowed t items last place cs w rest are
@@ -243,7 +243,7 @@ typed-argument false around allowed t place cs w one items last rest are two =
 
 -- a component before its arguments, of which only a reference stands there
 pub referred-before : (typed : Bool) (k : ℕ) (around : Around) (allowed : Option ℕ) (t : Term) → TemplateKind typed k → (place : ℕ)
-    (cs : List Candidate) (spelling : Spelling) (arguments : Fitting) (elements : Spelling) (items : Term) (last : Value)
+    (cs : List Component) (spelling : Spelling) (arguments : Fitting) (elements : Spelling) (items : Term) (last : Value)
     → no_items last ≡ items
     → ReadElements around allowed last arguments elements → Keeps spelling → Keeps (of_elements elements)
     → HasRoom ((component around.encoding t spelling and of_elements elements) place cs)

@@ -3,11 +3,11 @@ use Rattle.std.proofs.Common.{◌≡◌, ℕ, ◌+◌, length, List, [], ◌++�
 use Rattle.std.specs.Prelude.{codes}
 use Rattle.sym_spell.specs.Pressing.{◌and◌, text, nothing}
 use Rattle.cpp_grammar.specs.Term.{nil, within, Term, instance}
-use Rattle.cpp_grammar.specs.Values.{Candidate, Around, tree_of}
+use Rattle.cpp_grammar.specs.Values.{Around, tree_of}
 use Rattle.cpp_grammar.specs.References.{is_function_type}
 use Rattle.cpp_grammar.specs.Between.{inside, no_items}
 use Rattle.cpp_press_laws.specs.Texts.{name_letters}
-use Rattle.cpp_press_laws.specs.Components.{Spelling, ended, component}
+use Rattle.cpp_press_laws.specs.Components.{Component, Spelling, ended, component}
 use Rattle.cpp_press_laws.specs.Pressing.{ways_of, no_ways, name_ways, in_N_and_E, is_one_piece, entity_text}
 use Rattle.cpp_press_laws.specs.Subtrees.{Written, HasRoom, IsSmall}
 use Rattle.cpp_press_laws.proofs.ReadBack.Types.{more}
@@ -61,7 +61,7 @@ keeps-rest : (n : ℕ) (t a : Term) → Keeps (ended n t and spelled_arguments n
 keeps-rest n t a = keeps-and (ended n t) (spelled_arguments n a) (keeps-ended n t) (keeps-arguments n a)
 
 -- the elements behind a name that has become a component
-behind-name : (t a : Term) → Reading a → (around : Around) (allowed : Option ℕ) (place : ℕ) (cs : List Candidate) → IsSmall around
+behind-name : (t a : Term) → Reading a → (around : Around) (allowed : Option ℕ) (place : ℕ) (cs : List Component) → IsSmall around
     → HasRoom (instance_between around.encoding t a place cs)
     → Behind ((ways_of around.encoding t).between_N_and_E and ended around.encoding t) (elements_of a around allowed) place cs
     → (let w = (ways_of around.encoding t).between_N_and_E place cs in
@@ -77,7 +77,7 @@ behind-name t a ra around allowed place cs small room fits =
     (room-rest (ways_of n t).between_N_and_E (ended n t and spelled_arguments n a) place cs room) (omega
     (arith, length-append w.bytes [])) fits
 
-instance-nested : (t a : Term) → Reading t → Reading a → (around : Around) (allowed : Option ℕ) (place : ℕ) (cs : List Candidate)
+instance-nested : (t a : Term) → Reading t → Reading a → (around : Around) (allowed : Option ℕ) (place : ℕ) (cs : List Component)
     → IsSmall around
     → HasRoom (instance_between around.encoding t a place cs) → instance_joined t a around allowed place cs
     → SoFar around allowed (instance t a) false 18 place cs (instance_between around.encoding t a place cs)
@@ -93,13 +93,13 @@ instance-nested t a rt ra around allowed place cs small room h =
 -- ## As the entity of a local name
 
 -- what stands between N and E isn't one piece
-pub not-one-piece : (t a : Term) (around : Around) (allowed : Option ℕ) (place : ℕ) (cs : List Candidate)
+pub not-one-piece : (t a : Term) (around : Around) (allowed : Option ℕ) (place : ℕ) (cs : List Component)
     → (fits_of t).between_template around allowed place cs → is_one_piece (instance t a) ≡ false
 unfolding fits_of is_one_piece encoding_fits piece_fits argument_fits type_fits fits_nowhere
 not-one-piece (within x p) a around allowed place cs h = no-encoding x around allowed place cs h.0
 not-one-piece _ a around allowed place cs h = refl
 
-piece-entity : (t a : Term) → Reading t → Reading a → (role : Role) (around : Around) (allowed : Option ℕ) (place : ℕ) (cs : List Candidate)
+piece-entity : (t a : Term) → Reading t → Reading a → (role : Role) (around : Around) (allowed : Option ℕ) (place : ℕ) (cs : List Component)
     → IsSmall around → HasRoom (instance_between around.encoding t a place cs) → IsWithoutLetters (letters_of role)
     → OnePiece around allowed t place cs ((ways_of around.encoding t).between_N_and_E place cs)
     → Behind ((ways_of around.encoding t).between_N_and_E and ended around.encoding t) (elements_of a around allowed) place cs
@@ -117,14 +117,14 @@ piece-entity t a rt ra (in_name_with q ref) around allowed place cs small room n
     ((ways_of around.encoding a).as_elements (place + length w.bytes + 0 + 1) (more around w.components t)) (items-kept a)
     (behind-name t a ra around allowed place cs small room fits))
 
-pub one-piece-is : (t a : Term) (around : Around) (allowed : Option ℕ) (place : ℕ) (cs : List Candidate)
+pub one-piece-is : (t a : Term) (around : Around) (allowed : Option ℕ) (place : ℕ) (cs : List Component)
     → (fits_of t).as_entity_template around allowed place cs → is_one_piece (instance t a) ≡ false → ⊥
 unfolding fits_of is_one_piece encoding_fits piece_fits argument_fits type_fits fits_nowhere
 one-piece-is (within x p) a around allowed place cs h k = let e : true ≡ false = sym h.0 ∙ k in cc
 one-piece-is _ a around allowed place cs h k = h
 
 instance-entity : (t a : Term) → Reading t → Reading a → (role : Role) (around : Around) (allowed : Option ℕ) (place : ℕ)
-    (cs : List Candidate)
+    (cs : List Component)
     → IsSmall around → (b : Bool) → is_one_piece (instance t a) ≡ b
     → HasRoom (choice b (instance_between around.encoding t a) (in_N_and_E (letters_of role) (instance_between around.encoding t a)) place cs)
     → (IsWithoutLetters (letters_of role)
@@ -153,7 +153,7 @@ instance-entity t a rt ra role around allowed place cs small false is room (inr 
 -- ## In its ways
 
 instance-own : (t a : Term) → Reading t → Reading a → (typed : Bool) (k : ℕ) → TemplateKind typed k → (around : Around) (allowed : Option ℕ)
-    (place : ℕ) (cs : List Candidate) → IsSmall around
+    (place : ℕ) (cs : List Component) → IsSmall around
     → HasRoom ((ways_of around.encoding t).before typed (spelled_arguments around.encoding a) place cs)
     → (fits_of t).before typed (elements_of a) around allowed place cs
     → TemplateReads typed around allowed k (instance t a) place cs ((ways_of around.encoding t).before typed

@@ -5,10 +5,11 @@ use Rattle.sym_link.specs.Reading.{◌>>=◌}
 use Rattle.sym_spell.specs.Pressing.{◌and◌, text}
 use Rattle.cpp_grammar.specs.KindNumbers.{SYMBOL}
 use Rattle.std.specs.Prelude.{codes}
-use Rattle.cpp_grammar.specs.Term.{Term, symbol, function, object, special, thunk, of_name, construction, clone, alone, in_std, within, instance, local, holder, tagged, of_default, abbreviation, parameter, source, operator, literal_operator, constructor, destructor, lambda, unnamed, string_literal, conversion, builtin, sized_float, generic_parameter, vendor, pointer, lvalue, rvalue, array, bounded, member_pointer, function_type, qualified, vector, complex, expansion, integer, boolean, null_pointer, encoding_literal, address_of, pack, nil, list, absent}
+use Rattle.cpp_grammar.specs.Term.{Term, symbol, function, object, special, thunk, of_name, construction, clone, alone, in_std, within, instance, local, holder, tagged, of_default, abbreviation, parameter, source, operator, literal_operator, constructor, destructor, lambda, generic_lambda, unnamed, string_literal, conversion, builtin, sized_float, vendor, pointer, lvalue, rvalue, array, bounded, member_pointer, function_type, qualified, vector, complex, expansion, integer, boolean, null_pointer, encoding_literal, address_of, pack, nil, list, absent}
 use Rattle.cpp_grammar.specs.Values as value
-use Rattle.cpp_grammar.specs.Values.{Candidate, Around, nothing_there, tree, tree_of, text_of}
+use Rattle.cpp_grammar.specs.Values.{Around, nothing_there, tree, tree_of, text_of}
 use Rattle.cpp_grammar.specs.Unfolding.{first_around, first_state, first_tree, unfold_cpp}
+use Rattle.cpp_press_laws.specs.Components.{Component, components_of}
 use Rattle.cpp_press_laws.specs.Pressing.{ways_of, no_ways, piece_ways, pressed}
 use Rattle.cpp_press_laws.specs.PressLaws.{AreReadAs}
 use Rattle.cpp_press_laws.specs.Subtrees.{Written, written, ReadsAt, Is, HasRoom, IsSmall}
@@ -26,7 +27,7 @@ use Rattle.cpp_press_laws.proofs.EveryWay.Encodings.{CountsArguments, reads-loca
 use Rattle.cpp_press_laws.proofs.PressLaw.{read-by-one}
 use Rattle.cpp_press_laws.specs.Fits.{begins_name, SymbolFits, fits_of}
 
-string-piece : (around : Around) (allowed : Option ℕ) (place : ℕ) (cs : List Candidate)
+string-piece : (around : Around) (allowed : Option ℕ) (place : ℕ) (cs : List Component)
     → PieceReads around allowed string_literal place cs (written (codes "s") cs)
 unfolding begins_name
 string-piece around allowed place cs = record {
@@ -66,12 +67,12 @@ reads c (literal_operator name) = reads-literal-operator name
 reads c (constructor digit) = reads-constructor digit
 reads c (destructor digit) = reads-destructor digit
 reads c (lambda parameters k) = reads-lambda parameters k (reads c parameters)
+reads c (generic_lambda parameters number) = reads-nowhere (generic_lambda parameters number) _
 reads c (unnamed k) = reads-unnamed k
 reads c string_literal = reads-string-literal
 reads c (conversion type) = reads-nowhere (conversion type) _
 reads c (builtin code) = reads-builtin code
 reads c (sized_float digits end) = reads-nowhere (sized_float digits end) _
-reads c (generic_parameter number) = reads-nowhere (generic_parameter number) _
 reads c (vendor name) = reads-vendor name
 reads c (pointer type) = reads-pointer type (reads c type)
 reads c (lvalue type) = reads-lvalue type (reads c type)
@@ -128,7 +129,7 @@ symbol-fits counts e (d ∷ b ∷ bs) fits room =
 
 -- what is pressed of a symbol that fits is read as the symbol
 pub fitting-symbol : CountsArguments → (t : Term) → SymbolFits t → HasRoom ((ways_of 0 t).as_encoding 0 []) → AreReadAs (pressed t) t
-unfolding ways_of no_ways pressed unfold_cpp first_state first_tree tree_of
+unfolding ways_of no_ways pressed unfold_cpp first_state first_tree tree_of components_of
 fitting-symbol counts (symbol e suffix) fits room =
     let r = symbol-fits counts e suffix fits room first_state refl (inl refl) in
     read-by-one (symbol e suffix) r.shape r.shaped r.spelled

@@ -8,12 +8,12 @@ use Rattle.cpp_grammar.specs.declared.production.Production.{Production}
 use Rattle.cpp_grammar.specs.KindNumbers.{TYPE, PLAIN, ITEM, AFTER_D, SOLID, ITEMS, ARGUMENT_LIST, PACK_LIST}
 use Rattle.cpp_grammar.specs.Grammar.{in_ranges, among, is_in, pick, alternatives, choose, kinds, is_chain, may_be_empty}
 use Rattle.cpp_grammar.specs.Term.{RefQualifier, Term, builtin, function_type, nil, list, instance}
-use Rattle.cpp_grammar.specs.Values.{Candidate, Around, nothing_there, tree}
+use Rattle.cpp_grammar.specs.Values.{Around, nothing_there, tree}
 use Rattle.cpp_grammar.specs.References.{is_function_type}
 use Rattle.cpp_grammar.specs.Between.{no_items}
 use Rattle.cpp_grammar.specs.Meaning.{is_void, is_nil, parameters}
 use Rattle.cpp_press_laws.specs.Texts.{mark_letter}
-use Rattle.cpp_press_laws.specs.Components.{Spelling, component}
+use Rattle.cpp_press_laws.specs.Components.{Component, Spelling, component}
 use Rattle.cpp_press_laws.specs.Pressing.{ways_of, no_ways, type_ways, function_text}
 use Rattle.cpp_press_laws.specs.Subtrees.{Written, written, ReadsAt, Is, HasRoom, IsSmall}
 use Rattle.cpp_press_laws.proofs.ReadBack.Reading.{takes-byte, empty-reads}
@@ -34,14 +34,14 @@ use Rattle.cpp_press_laws.specs.Fits.{takes_all, Slot, any_type, bare_type, item
 -- ## Lists
 
 -- no parameters are spelled as a void
-void-item : (around : Around) (allowed : Option ℕ) (place : ℕ) (cs : List Candidate)
+void-item : (around : Around) (allowed : Option ℕ) (place : ℕ) (cs : List Component)
     → ReadsAt around allowed (OfKind ITEM) (Is (tree (builtin (118 ∷ [])) true)) place cs (written (118 ∷ []) cs)
 unfolding choose alternatives pick is_in in_ranges among kinds is_chain is_function_type
 void-item around allowed place cs =
     (in-slot item_type around allowed (builtin (118 ∷ [])) refl).keeps place cs (written (118 ∷ []) cs)
     (builtin-solid SOLID around allowed 118 place cs (takes-byte SOLID Kind.Solid Production.Builtin 118 refl refl (omega arith) refl))
 
-empty-list : (k : ℕ) (kind : Kind) (around : Around) (allowed : Option ℕ) (place : ℕ) (cs : List Candidate) → slice_get kinds k ≡ Some kind
+empty-list : (k : ℕ) (kind : Kind) (around : Around) (allowed : Option ℕ) (place : ℕ) (cs : List Component) → slice_get kinds k ≡ Some kind
     → may_be_empty kind ≡ true → ListReads k around allowed nil place cs (written [] cs)
 empty-list k kind around allowed place cs at may = (items-kept nil, empty-reads around allowed k kind place cs at may)
 
@@ -80,7 +80,7 @@ reads-nil = record {
   as_elements = λ in_pack around allowed place cs small room h. none in_pack around allowed place cs;
 }
   where
-    none : (in_pack : Bool) (around : Around) (allowed : Option ℕ) (place : ℕ) (cs : List Candidate)
+    none : (in_pack : Bool) (around : Around) (allowed : Option ℕ) (place : ℕ) (cs : List Component)
         → ListReads (list_kind in_pack) around allowed nil place cs (written [] cs)
     none true around allowed place cs = empty-list PACK_LIST Kind.PackList around allowed place cs refl refl
     none false around allowed place cs = empty-list ARGUMENT_LIST Kind.ArgumentList around allowed place cs refl refl
@@ -199,7 +199,7 @@ keeps-function n c_linkage noexcept ref a ps =
     (keeps-behind (ways_of n ps).as_parameters (mark_letter ref ++ codes "E") (keeps ps n).as_parameters))
 
 -- the return type, and the parameters with the end
-record FunctionParts (around : Around) (allowed : Option ℕ) (ref : RefQualifier) (a ps : Term) (at : ℕ) (cs : List Candidate)
+record FunctionParts (around : Around) (allowed : Option ℕ) (ref : RefQualifier) (a ps : Term) (at : ℕ) (cs : List Component)
     (one rest : Written) : Type 0 where
   items : Term
   means : parameters items ≡ ps
@@ -208,7 +208,7 @@ record FunctionParts (around : Around) (allowed : Option ℕ) (ref : RefQualifie
 
 function-parts : (c_linkage noexcept : Bool) (ref : RefQualifier) (a ps : Term) → Reading a → Reading ps
     → (around : Around) (allowed : Option ℕ)
-    (place : ℕ) (cs : List Candidate) → IsSmall around → HasRoom (function_spelling around.encoding c_linkage noexcept ref a ps place cs)
+    (place : ℕ) (cs : List Component) → IsSmall around → HasRoom (function_spelling around.encoding c_linkage noexcept ref a ps place cs)
     → function_fits c_linkage noexcept a ps around allowed place cs
     → (let at = place + length (marks_of c_linkage noexcept) in
     let one = (ways_of around.encoding a).as_type at cs in
@@ -235,7 +235,7 @@ function-parts c_linkage noexcept ref a ps ra rp around allowed place cs small r
     }
 
 -- what is read behind no byte, or behind the D of a noexcept
-abbrev FunctionReads : (noexcept : Bool) → Around → Option ℕ → Term → ℕ → List Candidate → Written → Type 0
+abbrev FunctionReads : (noexcept : Bool) → Around → Option ℕ → Term → ℕ → List Component → Written → Type 0
 FunctionReads false around allowed t place cs w = ReadsAt around allowed (OfKind SOLID) (Is (tree t false)) place cs w
 FunctionReads true around allowed t place cs w =
     (inner : Written) × (w ≡ written (68 ∷ inner.bytes) inner.components)
@@ -243,7 +243,7 @@ FunctionReads true around allowed t place cs w =
 
 function-reads : (c_linkage noexcept : Bool) (ref : RefQualifier) (a ps : Term) → Reading a → Reading ps
     → (around : Around) (allowed : Option ℕ)
-    (place : ℕ) (cs : List Candidate) → IsSmall around → HasRoom (function_spelling around.encoding c_linkage noexcept ref a ps place cs)
+    (place : ℕ) (cs : List Component) → IsSmall around → HasRoom (function_spelling around.encoding c_linkage noexcept ref a ps place cs)
     → function_fits c_linkage noexcept a ps around allowed place cs
     → FunctionReads noexcept around allowed (function_type c_linkage noexcept ref a ps) place cs
     (function_spelling around.encoding c_linkage noexcept ref a ps place cs)
@@ -291,7 +291,7 @@ function-reads false true ref a ps ra rp around allowed place cs small room h =
     )
 
 -- a function type as a component
-function-in : (noexcept : Bool) (slot : Slot) (around : Around) (allowed : Option ℕ) (t : Term) (place : ℕ) (cs : List Candidate)
+function-in : (noexcept : Bool) (slot : Slot) (around : Around) (allowed : Option ℕ) (t : Term) (place : ℕ) (cs : List Component)
     (w : Written)
     → takes_all slot ≡ true → is_function_type t && is_bare slot ≡ false → FunctionReads noexcept around allowed t place cs w
     → ReadsAs slot around allowed t place cs (written w.bytes (more around w.components t))
@@ -301,7 +301,7 @@ function-in true slot around allowed t place cs w all bare (inner, is, one) =
     (with-d-in-all slot around allowed t place cs inner all bare one)
 
 -- and right under qualifiers
-function-bare : (noexcept : Bool) (around : Around) (allowed : Option ℕ) (t : Term) (place : ℕ) (cs : List Candidate) (w : Written)
+function-bare : (noexcept : Bool) (around : Around) (allowed : Option ℕ) (t : Term) (place : ℕ) (cs : List Component) (w : Written)
     → is_function_type t ≡ true → FunctionReads noexcept around allowed t place cs w
     → ReadsAt around allowed (OfKind PLAIN) (Is (tree t true)) place cs w
 function-bare false around allowed t place cs w is one =

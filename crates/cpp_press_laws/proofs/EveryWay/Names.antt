@@ -10,11 +10,11 @@ use Rattle.cpp_grammar.specs.KindNumbers.{COMPLETE_NAME, NEST, ARGUMENT_LIST}
 use Rattle.cpp_grammar.specs.Grammar.{in_ranges, among, is_in, pick, alternatives, choose, kinds, is_chain}
 use Rattle.cpp_grammar.specs.Table.{abi, rule_of}
 use Rattle.cpp_grammar.specs.Term.{Qualifiers, RefQualifier, any_value, lvalue_only, rvalue_only, Term, alone, instance}
-use Rattle.cpp_grammar.specs.Values.{Candidate, outermost, Around, Value, tree, named, tree_of, qualifiers_of, ref_of, unqualified}
+use Rattle.cpp_grammar.specs.Values.{outermost, Around, Value, tree, named, tree_of, qualifiers_of, ref_of, unqualified}
 use Rattle.cpp_grammar.specs.References.{is_function_type}
 use Rattle.cpp_grammar.specs.Between.{extended, inside}
 use Rattle.cpp_press_laws.specs.Texts.{qualifier_letters, mark_letter, name_letters}
-use Rattle.cpp_press_laws.specs.Components.{Spelling, ended, component}
+use Rattle.cpp_press_laws.specs.Components.{Component, Spelling, ended, component}
 use Rattle.cpp_press_laws.specs.Pressing.{ways_of, no_ways, name_ways, with_letters, in_N_and_E, template_before}
 use Rattle.cpp_press_laws.specs.Subtrees.{Written, written, ReadsAt, Is, HasRoom}
 use Rattle.cpp_press_laws.proofs.ReadBack.Reading.{takes-byte}
@@ -60,7 +60,7 @@ letters-are q ref x =
 
 -- a name between N and E, behind the letters of its encoding
 pub letters-nested : (k : ℕ) (around : Around) (allowed : Option ℕ) (t : Term) (q : Qualifiers) (ref : RefQualifier) (place : ℕ)
-    (cs : List Candidate) (w : Written) → TakesRule abi k (rule_of Production.NestedName) (78 ∷ [])
+    (cs : List Component) (w : Written) → TakesRule abi k (rule_of Production.NestedName) (78 ∷ [])
     → SoFar around allowed t false 18 (place + length (78 ∷ name_letters q ref)) cs w
     → NameReads around allowed k t q ref place cs (written ((78 ∷ name_letters q ref) ++ (w.bytes ++ (69 ∷ []))) w.components)
 unfolding tree_of qualifiers_of ref_of
@@ -112,7 +112,7 @@ no-letters (l ∷ ls) h = absurd h
 
 -- a tree as a name without letters
 pub plain-name : (k : ℕ) (around : Around) (allowed : Option ℕ) (t : Term) (q : Qualifiers) (ref : RefQualifier) (place : ℕ)
-    (cs : List Candidate)
+    (cs : List Component)
     (w : Written) → name_letters q ref ≡ [] → ReadsAt around allowed (OfKind k) (Is (tree t false)) place cs w
     → NameReads around allowed k t q ref place cs w
 unfolding tree_of qualifiers_of ref_of
@@ -122,7 +122,7 @@ plain-name k around allowed t q ref place cs w none one =
 
 -- one without qualifiers is a name with none
 pub no-qualifiers : (k : ℕ) (around : Around) (allowed : Option ℕ) (t : Term) (q : Qualifiers) (ref : RefQualifier) (place : ℕ)
-    (cs : List Candidate)
+    (cs : List Component)
     (w : Written) → name_letters q ref ≡ [] → NameReads around allowed k t unqualified any_value place cs w
     → NameReads around allowed k t q ref place cs w
 no-qualifiers k around allowed t q ref place cs w none one =
@@ -140,7 +140,7 @@ unfolding choose alternatives pick is_in in_ranges among kinds is_chain
 takes-nested-name = takes-byte COMPLETE_NAME Kind.CompleteName Production.NestedName 78 refl refl (omega arith) refl
 
 -- the room of a name behind letters
-pub nested-room : (letters : List ℕ) (name : Spelling) (place : ℕ) (cs : List Candidate) → HasRoom (in_N_and_E letters name place cs)
+pub nested-room : (letters : List ℕ) (name : Spelling) (place : ℕ) (cs : List Component) → HasRoom (in_N_and_E letters name place cs)
     → HasRoom (name (place + length (codes "N" ++ letters)) cs)
 unfolding in_N_and_E
 nested-room letters name place cs room =
@@ -149,7 +149,7 @@ nested-room letters name place cs room =
 
 -- an encoding's own name: without letters it is spelled out, and behind letters between N and E
 pub name-by-letters : (around : Around) (allowed : Option ℕ) (t : Term) (q : Qualifiers) (ref : RefQualifier) (place : ℕ)
-    (cs : List Candidate)
+    (cs : List Component)
     (own between : Spelling) (fit_own fit_between : Fitting) → HasRoom (with_letters (name_letters q ref) own between place cs)
     → by_letters (name_letters q ref) fit_own fit_between around allowed place cs
     → (fit_own around allowed place cs → HasRoom (own place cs) → NameReads around allowed 8 t unqualified any_value place cs (own place cs))
@@ -193,7 +193,7 @@ pub elements-behind : (around : Around) (allowed : Option ℕ) (last : Value) (a
 unfolding ended
 elements-behind around allowed last arguments elements own w place at read room there fits =
     let from : ℕ = place + length w.bytes + 0 in
-    let made : List Candidate = more around w.components own in
+    let made : List Component = more around w.components own in
     subst (λ q. ReadsAt (inside around) allowed (OfKind ARGUMENT_LIST) (Is last) (q + 1) made (elements (from + 1) made)) (omega arith)
     (read from made (subst (λ q. arguments around allowed q made) (omega (arith, there)) fits)
     (elements-room (ended around.encoding own) elements (place + length w.bytes) w.components room))

@@ -10,11 +10,11 @@ use Rattle.cpp_grammar.specs.KindNumbers.{ENCODING, SOLID, ARGUMENT_LIST, PACK_L
 use Rattle.cpp_grammar.specs.Grammar.{choose, kinds, is_chain}
 use Rattle.cpp_grammar.specs.Term.{Signed, Term, abbreviation, parameter, source, operator, literal_operator, constructor, destructor, lambda, unnamed, builtin, integer, boolean, null_pointer, encoding_literal, address_of, pack, list, instance}
 use Rattle.cpp_grammar.specs.Scope.{count}
-use Rattle.cpp_grammar.specs.Values.{Candidate, Around, tree}
+use Rattle.cpp_grammar.specs.Values.{Around, tree}
 use Rattle.cpp_grammar.specs.References.{is_function_type}
 use Rattle.cpp_grammar.specs.Between.{in_signature}
 use Rattle.cpp_press_laws.specs.Texts.{ordinal, signed_text}
-use Rattle.cpp_press_laws.specs.Components.{Spelling, component}
+use Rattle.cpp_press_laws.specs.Components.{Component, Spelling, component}
 use Rattle.cpp_press_laws.specs.Pressing.{ways_of, no_ways, type_ways, piece_ways, argument_ways}
 use Rattle.cpp_press_laws.specs.Subtrees.{Written, written, ReadsAt, Is, HasRoom, IsSmall}
 use Rattle.cpp_press_laws.proofs.ReadBack.Reading.{takes-byte}
@@ -86,7 +86,7 @@ reads-lambda ps k r =
 -- ## Letters
 
 -- a builtin type behind a D
-with-d : (slot : Slot) (around : Around) (allowed : Option ℕ) (d b place : ℕ) (cs : List Candidate) → takes_all slot ≡ true
+with-d : (slot : Slot) (around : Around) (allowed : Option ℕ) (d b place : ℕ) (cs : List Component) → takes_all slot ≡ true
     → (d ≡ 68) × (b < 256) × (choose Kind.AfterD b ≡ Some Production.BuiltinWithD)
     → ReadsAs slot around allowed (builtin (d ∷ b ∷ [])) place cs (written (d ∷ b ∷ []) cs)
 unfolding is_function_type
@@ -95,7 +95,7 @@ with-d slot around allowed d b place cs all is =
     (with-d-kept slot around allowed (builtin (68 ∷ b ∷ [])) place cs (written (b ∷ []) cs) all refl
     (builtin-behind-d around allowed b (place + 1) cs is.1 is.2))
 
-builtin-in : (slot : Slot) (around : Around) (allowed : Option ℕ) (code : List ℕ) (place : ℕ) (cs : List Candidate) → IsBuiltin slot code
+builtin-in : (slot : Slot) (around : Around) (allowed : Option ℕ) (code : List ℕ) (place : ℕ) (cs : List Component) → IsBuiltin slot code
     → ReadsAs slot around allowed (builtin code) place cs (written code cs)
 unfolding takes_all is_function_type kinds is_chain
 builtin-in any_type around allowed (b ∷ []) place cs is =
@@ -196,7 +196,7 @@ reads-abbreviation l = record {
   as_elements = λ in_pack around allowed place cs small room h. absurd h;
 }
   where
-    whole : (slot : Slot) (around : Around) (allowed : Option ℕ) (place : ℕ) (cs : List Candidate) → IsAbbreviation l
+    whole : (slot : Slot) (around : Around) (allowed : Option ℕ) (place : ℕ) (cs : List Component) → IsAbbreviation l
         → ReadsAs slot around allowed (abbreviation l) place cs (written (83 ∷ l ∷ []) cs)
     whole slot around allowed place cs h =
         (in-slot slot around allowed (abbreviation l) refl).behind_s place cs (written (l ∷ []) cs)
@@ -229,7 +229,7 @@ parameter_fits k around allowed place cs = NamesArgument around allowed k
 
 -- a parameter before its arguments, in a type
 parameter-before : (typed : Bool) (k : ℕ) (around : Around) (allowed : Option ℕ) (j : ℕ) → TemplateKind typed k
-    → (place : ℕ) (cs : List Candidate)
+    → (place : ℕ) (cs : List Component)
     → IsSmall around → HasRoom (component around.encoding (parameter j) (parameter_spelling j) place cs)
     → as_component (parameter j) (elim typed as (λ _. Fitting) [ true ↦ parameter_fits j | false ↦ nowhere ]) around allowed place cs
     → InstancedAt around allowed k (parameter j) place cs (component around.encoding (parameter j) (parameter_spelling j) place cs)
@@ -296,7 +296,7 @@ reads-parameter j = record {
 -- ## Arguments that are no types
 
 -- a literal between L and E
-literal-in : (in_pack : Bool) (around : Around) (allowed : Option ℕ) (t : Term) (place : ℕ) (cs : List Candidate) (w : Written)
+literal-in : (in_pack : Bool) (around : Around) (allowed : Option ℕ) (t : Term) (place : ℕ) (cs : List Component) (w : Written)
     → ReadsAt around allowed (OfKind LITERAL) (Is (tree t true)) (place + 1) cs w
     → ArgumentReads in_pack around allowed t place cs (written (76 ∷ (w.bytes ++ (69 ∷ []))) w.components)
 literal-in true around allowed t place cs w one items last rest are two =
@@ -354,7 +354,7 @@ reads-encoding-literal e r =
     (room-first (ways_of m e).as_encoding (text (codes "E")) (place + 3) cs (keeps-text (codes "E"))
     (room-rest (text (codes "L_Z")) ((ways_of m e).as_encoding and text (codes "E")) place cs room)) h))))
 
-address-in : (in_pack : Bool) (around : Around) (allowed : Option ℕ) (t : Term) (place : ℕ) (cs : List Candidate) (w : Written)
+address-in : (in_pack : Bool) (around : Around) (allowed : Option ℕ) (t : Term) (place : ℕ) (cs : List Component) (w : Written)
     → ReadsAt around allowed (OfKind ADDRESS) (Is (tree t true)) (place + 3) cs w
     → ArgumentReads in_pack around allowed t place cs (written (88 ∷ 97 ∷ 100 ∷ w.bytes) w.components)
 address-in true around allowed t place cs w one items last rest are two =

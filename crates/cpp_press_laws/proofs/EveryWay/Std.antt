@@ -8,11 +8,11 @@ use Rattle.cpp_grammar.specs.declared.production.Production.{Production}
 use Rattle.cpp_grammar.specs.KindNumbers.{COMPLETE_NAME, ENTITY, TYPE_ENTITY}
 use Rattle.cpp_grammar.specs.Grammar.{in_ranges, among, is_in, pick, alternatives, choose, kinds, is_chain}
 use Rattle.cpp_grammar.specs.Term.{any_value, Term, in_std, instance, operator, literal_operator, source, lambda, unnamed}
-use Rattle.cpp_grammar.specs.Values.{Candidate, Around, Value, tree, unqualified}
+use Rattle.cpp_grammar.specs.Values.{Around, Value, tree, unqualified}
 use Rattle.cpp_grammar.specs.References.{is_function_type}
 use Rattle.cpp_grammar.specs.Between.{no_items}
 use Rattle.cpp_press_laws.specs.Texts.{qualifier_letters, mark_letter, name_letters}
-use Rattle.cpp_press_laws.specs.Components.{Spelling, ended, component}
+use Rattle.cpp_press_laws.specs.Components.{Component, Spelling, ended, component}
 use Rattle.cpp_press_laws.specs.Pressing.{ways_of, no_ways, name_ways, in_N_and_E, template_before, is_operator, is_one_piece, entity_text}
 use Rattle.cpp_press_laws.specs.Subtrees.{Written, written, ReadsAt, Is, HasRoom, IsSmall}
 use Rattle.cpp_press_laws.proofs.ReadBack.Reading.{takes-byte}
@@ -31,7 +31,7 @@ use Rattle.cpp_press_laws.specs.Fits.{Slot, any_type, bare_type, item_type, para
 -- ## Between N and E
 
 -- a whole name between N and E, as the entity of a local name
-pub entity-nested : (role : Role) (around : Around) (allowed : Option ℕ) (t : Term) (place : ℕ) (cs : List Candidate) (between : Spelling)
+pub entity-nested : (role : Role) (around : Around) (allowed : Option ℕ) (t : Term) (place : ℕ) (cs : List Component) (between : Spelling)
     → SoFar around allowed t false 18 (place + length (codes "N" ++ letters_of role)) cs (between (place + length
     (codes "N" ++ letters_of role)) cs)
     → EntityReads role around allowed t place cs (in_N_and_E (letters_of role) between place cs)
@@ -49,7 +49,7 @@ no-letters-at-all = refl
 
 -- an instance between N and E, in a type or as an encoding's own name
 pub template-nested : (typed : Bool) (k : ℕ) (around : Around) (allowed : Option ℕ) (t : Term) → TemplateKind typed k → (place : ℕ)
-    (cs : List Candidate) (w : Written) → SoFar around allowed t false 18 (place + 1) cs w
+    (cs : List Component) (w : Written) → SoFar around allowed t false 18 (place + 1) cs w
     → TemplateReads typed around allowed k t place cs (written (78 ∷ (w.bytes ++ (69 ∷ []))) w.components)
 unfolding choose alternatives pick is_in in_ranges among kinds is_chain
 template-nested true k around allowed t rules place cs w so_far = whole-nested k around allowed t place cs w rules.nested so_far
@@ -85,27 +85,27 @@ maybe_N b = elim b as (λ _. List ℕ) [ true ↦ codes "N" | false ↦ [] ]
 keeps-std : (n : ℕ) (p : Term) → Keeps (std_spelling n p)
 keeps-std n p = keeps-front (codes "St") (ways_of n p).as_piece (keeps p n).as_piece
 
-std-piece : (p : Term) → Reading p → (around : Around) (allowed : Option ℕ) (place : ℕ) (cs : List Candidate) → IsSmall around
+std-piece : (p : Term) → Reading p → (around : Around) (allowed : Option ℕ) (place : ℕ) (cs : List Component) → IsSmall around
     → HasRoom (std_spelling around.encoding p place cs) → std_fits p around allowed place cs
     → PieceReads around allowed p (place + 2) cs ((ways_of around.encoding p).as_piece (place + 2) cs)
 std-piece p r around allowed place cs small room h =
     r.as_piece around allowed (place + 2) cs small (room-rest (text (codes "St")) (ways_of around.encoding p).as_piece place cs room) h.1
 
-std-nested : (p : Term) → Reading p → (around : Around) (allowed : Option ℕ) (place : ℕ) (cs : List Candidate) → IsSmall around
+std-nested : (p : Term) → Reading p → (around : Around) (allowed : Option ℕ) (place : ℕ) (cs : List Component) → IsSmall around
     → HasRoom (std_spelling around.encoding p place cs) → std_fits p around allowed place cs
     → Nested around allowed (in_std p) place cs (std_spelling around.encoding p place cs)
 std-nested p r around allowed place cs small room h =
     nested-std around allowed p place cs ((ways_of around.encoding p).as_piece (place + 2) cs)
     ((std-piece p r around allowed place cs small room h).pieces 14 (std-rule p h.0))
 
-std-named : (p : Term) → Reading p → (around : Around) (allowed : Option ℕ) (place : ℕ) (cs : List Candidate) → IsSmall around
+std-named : (p : Term) → Reading p → (around : Around) (allowed : Option ℕ) (place : ℕ) (cs : List Component) → IsSmall around
     → HasRoom (std_spelling around.encoding p place cs) → std_fits p around allowed place cs
     → Named around allowed 8 (in_std p) place cs (std_spelling around.encoding p place cs)
 std-named p r around allowed place cs small room h =
     named-std around allowed p place cs ((ways_of around.encoding p).as_piece (place + 2) cs)
     ((std-piece p r around allowed place cs small room h).pieces 14 (std-rule p h.0))
 
-std-typed : (p : Term) → Reading p → (k : ℕ) → TypeRules k → (around : Around) (allowed : Option ℕ) (place : ℕ) (cs : List Candidate)
+std-typed : (p : Term) → Reading p → (k : ℕ) → TypeRules k → (around : Around) (allowed : Option ℕ) (place : ℕ) (cs : List Component)
     → is_operator p ≡ false → IsSmall around
     → HasRoom (std_spelling around.encoding p place cs) → std_fits p around allowed place cs
     → Named around allowed k (in_std p) place cs (std_spelling around.encoding p place cs)
@@ -115,7 +115,7 @@ std-typed p r k rules around allowed place cs none small room h =
 
 -- as a type
 std-type-reads : (p : Term) → Reading p → (b : Bool) → is_operator p ≡ b → (k : ℕ) → TypeRules k → (around : Around) (allowed : Option ℕ)
-    (place : ℕ) (cs : List Candidate) → IsSmall around
+    (place : ℕ) (cs : List Component) → IsSmall around
     → HasRoom (choice b (in_N_and_E [] (std_spelling around.encoding p)) (std_spelling around.encoding p) place cs)
     → behind_bytes (maybe_N b) (std_fits p) around allowed place cs
     → ReadsAt around allowed (OfKind k) (Is (tree (in_std p) false)) place cs
@@ -130,7 +130,7 @@ std-type-reads p r false is k rules around allowed place cs small room h =
 -- what stands before arguments, with an N or without
 std-before : (typed b : Bool) (p : Term) → Reading p → is_operator p ≡ b → (k : ℕ) → TemplateKind typed k
     → (around : Around) (allowed : Option ℕ)
-    (place : ℕ) (cs : List Candidate) (arguments : Fitting) (elements : Spelling) (items : Term) (last : Value) → no_items last ≡ items
+    (place : ℕ) (cs : List Component) (arguments : Fitting) (elements : Spelling) (items : Term) (last : Value) → no_items last ≡ items
     → ReadElements around allowed last arguments elements → Keeps (of_elements elements) → IsSmall around
     → (let whole = std_spelling around.encoding p and ended around.encoding (in_std p) and of_elements elements in
     let other = choice (typed && b) (in_N_and_E [] whole) whole in

@@ -10,12 +10,13 @@ use Rattle.cpp_grammar.specs.KindNumbers.{TYPE, PLAIN, ITEM, ITEM_BUT_REF, ITEM_
 use Rattle.cpp_grammar.specs.Grammar.{in_ranges, among, is_in, pick, number_of_kind, alternatives, choose, kinds, parts_of, is_chain}
 use Rattle.cpp_grammar.specs.Table.{abi, rule_of}
 use Rattle.cpp_grammar.specs.Term.{Qualifiers, Term, tagged, vendor, pointer, lvalue, rvalue, array, member_pointer, qualified, vector, complex, expansion}
-use Rattle.cpp_grammar.specs.Values.{Candidate, Around, tree, tree_of, is_listed, part}
+use Rattle.cpp_grammar.specs.Values.{Around, tree, tree_of, is_listed, part}
 use Rattle.cpp_grammar.specs.References.{is_function_type, with_type}
 use Rattle.cpp_grammar.specs.Between.{between, under_expansion}
 use Rattle.cpp_grammar.specs.Meaning.{meaning, listed_value}
 use Rattle.cpp_grammar.specs.Unfolding as unfolding_
 use Rattle.cpp_grammar.specs.Unfolding.{opening, close}
+use Rattle.cpp_press_laws.specs.Components.{Component}
 use Rattle.cpp_press_laws.specs.Texts.{counted, qualifier_letters}
 use Rattle.cpp_press_laws.specs.Pressing.{ways_of}
 use Rattle.cpp_press_laws.specs.Subtrees.{Written, written, ReadsAt, Is, HasRoom}
@@ -37,7 +38,7 @@ no-slot : false ≡ true → ⊥
 no-slot h = cc
 
 -- a solid type
-pub solid-in-all : (slot : Slot) (around : Around) (allowed : Option ℕ) (t : Term) (place : ℕ) (cs : List Candidate) (w : Written)
+pub solid-in-all : (slot : Slot) (around : Around) (allowed : Option ℕ) (t : Term) (place : ℕ) (cs : List Component) (w : Written)
     → takes_all slot ≡ true → is_function_type t && is_bare slot ≡ false
     → ReadsAt around allowed (OfKind SOLID) (Is (tree t false)) place cs w
     → ReadsAs slot around allowed t place cs (written w.bytes (more around w.components t))
@@ -49,7 +50,7 @@ solid-in-all parameter_type around allowed t place cs w all bare one = (in-slot 
 solid-in-all literal_type around allowed t place cs w all bare one = absurd (no-slot all)
 
 -- what stands behind a D
-pub with-d-in-all : (slot : Slot) (around : Around) (allowed : Option ℕ) (t : Term) (place : ℕ) (cs : List Candidate) (w : Written)
+pub with-d-in-all : (slot : Slot) (around : Around) (allowed : Option ℕ) (t : Term) (place : ℕ) (cs : List Component) (w : Written)
     → takes_all slot ≡ true → is_function_type t && is_bare slot ≡ false
     → ReadsAt around allowed (OfKind AFTER_D) (Is (tree t false)) (place + 1) cs w
     → ReadsAs slot around allowed t place cs (written (68 ∷ w.bytes) (more around w.components t))
@@ -68,7 +69,7 @@ with-d-in-all parameter_type around allowed t place cs w all bare one =
 with-d-in-all literal_type around allowed t place cs w all bare one = absurd (no-slot all)
 
 -- and builtin types behind a D
-pub with-d-kept : (slot : Slot) (around : Around) (allowed : Option ℕ) (t : Term) (place : ℕ) (cs : List Candidate) (w : Written)
+pub with-d-kept : (slot : Slot) (around : Around) (allowed : Option ℕ) (t : Term) (place : ℕ) (cs : List Component) (w : Written)
     → takes_all slot ≡ true → is_function_type t ≡ false
     → ReadsAt around allowed (OfKind AFTER_D) (Is (tree t true)) (place + 1) cs w
     → ReadsAs slot around allowed t place cs (written (68 ∷ w.bytes) w.components)
@@ -81,7 +82,7 @@ with-d-kept parameter_type around allowed t place cs w all other one =
 with-d-kept literal_type around allowed t place cs w all other one = absurd (no-slot all)
 
 -- an expansion
-expansion-in : (slot : Slot) (around : Around) (allowed : Option ℕ) (t : Term) (place : ℕ) (cs : List Candidate) (w : Written)
+expansion-in : (slot : Slot) (around : Around) (allowed : Option ℕ) (t : Term) (place : ℕ) (cs : List Component) (w : Written)
     → takes_expansions slot ≡ true
     → ReadsAt around allowed (OfKind ITEM_AFTER_D) (Is (tree t false)) (place + 1) cs w
     → ReadsAs slot around allowed t place cs (written (68 ∷ w.bytes) (more around w.components t))
@@ -101,7 +102,7 @@ expansion-in bare_type around allowed t place cs w all one = absurd (no-slot all
 expansion-in literal_type around allowed t place cs w all one = absurd (no-slot all)
 
 -- references; as a parameter of a function type each becomes a component before those behind it
-lvalue-in : (slot : Slot) (around : Around) (allowed : Option ℕ) (t : Term) (place : ℕ) (cs : List Candidate) (w : Written)
+lvalue-in : (slot : Slot) (around : Around) (allowed : Option ℕ) (t : Term) (place : ℕ) (cs : List Component) (w : Written)
     → takes_all slot ≡ true
     → ReadsAt around allowed (OfKind TYPE) (Is (tree t true)) (place + 1) cs w
     → ReadsAs slot around allowed (lvalue t) place cs (written (82 ∷ w.bytes) (more around w.components (lvalue t)))
@@ -118,7 +119,7 @@ lvalue-in parameter_type around allowed t place cs w all one = λ items ref rest
     (subst (λ q. RestReads around allowed items ref q (more around w.components (lvalue t)) rest) (omega arith) two)
 lvalue-in literal_type around allowed t place cs w all one = absurd (no-slot all)
 
-rvalue-in : (slot : Slot) (around : Around) (allowed : Option ℕ) (t : Term) (place : ℕ) (cs : List Candidate) (w : Written)
+rvalue-in : (slot : Slot) (around : Around) (allowed : Option ℕ) (t : Term) (place : ℕ) (cs : List Component) (w : Written)
     → takes_all slot ≡ true
     → ReadsAt around allowed (OfKind TYPE) (Is (tree t true)) (place + 1) cs w
     → ReadsAs slot around allowed (rvalue t) place cs (written (79 ∷ w.bytes) (more around w.components (rvalue t)))
@@ -171,7 +172,7 @@ abbrev letters_for : (restrict volatile const : Bool) → List ℕ
 letters_for restrict volatile const = qualifier_letters (record { restrict = restrict; volatile = volatile; const = const })
 
 -- what is read right under the letters
-qualified-at : (k : ℕ) (around : Around) (allowed : Option ℕ) (restrict volatile const : Bool) (t : Term) (place : ℕ) (cs : List Candidate)
+qualified-at : (k : ℕ) (around : Around) (allowed : Option ℕ) (restrict volatile const : Bool) (t : Term) (place : ℕ) (cs : List Component)
     (w : Written) → QualifiedRules k → restrict || volatile || const ≡ true
     → ReadsAt around allowed (OfKind PLAIN) (Is (tree t true)) (place + length (letters_for restrict volatile const)) cs w
     → ReadsAt around allowed (OfKind k) (Is (tree (qualified_with restrict volatile const t) true)) place cs
@@ -201,7 +202,7 @@ qualified-at k around allowed false false true t place cs w rules some one =
 qualified-at k around allowed false false false t place cs w rules some one = absurd (no-slot some)
 
 qualified-in : (slot : Slot) (around : Around) (allowed : Option ℕ) (restrict volatile const : Bool) (t : Term) (place : ℕ)
-    (cs : List Candidate)
+    (cs : List Component)
     (w : Written) → takes_qualified slot ≡ true → restrict || volatile || const ≡ true
     → ReadsAt around allowed (OfKind PLAIN) (Is (tree t true)) (place + length (letters_for restrict volatile const)) cs w
     → ReadsAs slot around allowed (qualified_with restrict volatile const t) place cs

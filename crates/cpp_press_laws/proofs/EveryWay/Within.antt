@@ -7,12 +7,12 @@ use Rattle.cpp_grammar.specs.declared.production.Production.{Production}
 use Rattle.cpp_grammar.specs.KindNumbers.{COMPLETE_NAME, ENTITY}
 use Rattle.cpp_grammar.specs.Grammar.{in_ranges, among, is_in, pick, alternatives, choose, kinds, is_chain}
 use Rattle.cpp_grammar.specs.Term.{Qualifiers, within, string_literal, RefQualifier, any_value, Term, instance}
-use Rattle.cpp_grammar.specs.Values.{Candidate, behind, Around, tree, tree_of, qualifiers_of, ref_of, unqualified}
+use Rattle.cpp_grammar.specs.Values.{behind, Around, tree, tree_of, qualifiers_of, ref_of, unqualified}
 use Rattle.cpp_grammar.specs.References.{is_function_type}
 use Rattle.cpp_grammar.specs.Between.{after, extended}
 use Rattle.cpp_press_laws.proofs.Components.Encodings.{scope-first, no-encoding}
 use Rattle.cpp_press_laws.specs.Texts.{name_letters}
-use Rattle.cpp_press_laws.specs.Components.{Spelling, ended, component}
+use Rattle.cpp_press_laws.specs.Components.{Component, Spelling, ended, component}
 use Rattle.cpp_press_laws.specs.Pressing.{ways_of, no_ways, name_ways, with_letters, in_N_and_E, template_before, piece_ways, is_encoding, is_one_piece, entity_text}
 use Rattle.cpp_press_laws.specs.Subtrees.{Written, written, HasRoom, IsSmall}
 use Rattle.cpp_press_laws.proofs.ReadBack.Reading.{takes-byte}
@@ -50,7 +50,7 @@ joined_fits x p around allowed place cs =
 keeps-joined : (n : ℕ) (x p : Term) → Keeps (joined_spelling n x p)
 keeps-joined n x p = keeps-and (ways_of n x).as_prefix (ways_of n p).as_piece (keeps x n).as_prefix (keeps p n).as_piece
 
-joined-nested : (x p : Term) → Reading x → Reading p → (around : Around) (allowed : Option ℕ) (place : ℕ) (cs : List Candidate)
+joined-nested : (x p : Term) → Reading x → Reading p → (around : Around) (allowed : Option ℕ) (place : ℕ) (cs : List Component)
     → IsSmall around
     → HasRoom (joined_spelling around.encoding x p place cs) → joined_fits x p around allowed place cs
     → Nested around allowed (within x p) place cs (joined_spelling around.encoding x p place cs)
@@ -74,7 +74,7 @@ local_fits x p may around allowed place cs = (is_encoding x ≡ true)
     × one_piece (behind x true) may (fits_of p).as_piece around allowed place cs
 
 -- the piece itself
-local-piece : (x p : Term) (may : Bool) → Reading p → (around : Around) (allowed : Option ℕ) (place : ℕ) (cs : List Candidate)
+local-piece : (x p : Term) (may : Bool) → Reading p → (around : Around) (allowed : Option ℕ) (place : ℕ) (cs : List Component)
     → IsSmall around
     → HasRoom (joined_spelling around.encoding x p place cs) → local_fits x p may around allowed place cs
     → PieceReads around allowed p place cs ((ways_of around.encoding p).as_piece place cs)
@@ -84,7 +84,7 @@ local-piece x p may rp around allowed place cs small room h =
 
 -- the name at a kind of entities
 local-named : (x p : Term) (may : Bool) → Reading p → (k : ℕ) → NameRule k p → (around : Around) (allowed : Option ℕ) (place : ℕ)
-    (cs : List Candidate) → IsSmall around
+    (cs : List Component) → IsSmall around
     → HasRoom (joined_spelling around.encoding x p place cs) → local_fits x p may around allowed place cs
     → Named around allowed k (within x p) place cs (joined_spelling around.encoding x p place cs)
 local-named x p may rp k rule around allowed place cs small room h =
@@ -99,7 +99,7 @@ unfolding names_entity
 entity-piece string_literal h = inr refl
 entity-piece _ h = inl h
 
-string-named : (x : Term) (around : Around) (allowed : Option ℕ) (place : ℕ) (cs : List Candidate) → is_encoding x ≡ true
+string-named : (x : Term) (around : Around) (allowed : Option ℕ) (place : ℕ) (cs : List Component) → is_encoding x ≡ true
     → around.prefix ≡ behind x true
     → NameReads around allowed 23 (within x string_literal) unqualified any_value place cs
     (joined_spelling around.encoding x string_literal place cs)
@@ -114,7 +114,7 @@ string-named x around allowed place cs is scoped =
       reads = string-literal-reads around allowed place cs;
     })
 
-local-in-name : (x p : Term) → Reading p → (around : Around) (allowed : Option ℕ) (place : ℕ) (cs : List Candidate) → IsSmall around
+local-in-name : (x p : Term) → Reading p → (around : Around) (allowed : Option ℕ) (place : ℕ) (cs : List Component) → IsSmall around
     → HasRoom (joined_spelling around.encoding x p place cs) → local_fits x p (names_entity p) around allowed place cs
     → NameReads around allowed 23 (within x p) unqualified any_value place cs (joined_spelling around.encoding x p place cs)
 local-in-name x p rp around allowed place cs small room h = go (entity-piece p h.1.1)
@@ -132,7 +132,7 @@ local-in-name x p rp around allowed place cs small room h = go (entity-piece p h
 abbrev pub begun_fits : (x p : Term) → Fitting
 begun_fits x p around allowed place cs = local_fits x p (begins_name p) around allowed place cs ⊎ joined_fits x p around allowed place cs
 
-begun-extends : (x p : Term) → Reading x → Reading p → (around : Around) (allowed : Option ℕ) (place : ℕ) (cs : List Candidate)
+begun-extends : (x p : Term) → Reading x → Reading p → (around : Around) (allowed : Option ℕ) (place : ℕ) (cs : List Component)
     → IsSmall around
     → HasRoom (joined_spelling around.encoding x p place cs) → begun_fits x p around allowed place cs
     → (let w = joined_spelling around.encoding x p place cs in
@@ -156,7 +156,7 @@ begun-extends x p rx rp around allowed place cs small room (inr h) =
 
 -- ## As the entity of a local name
 
-within-entity : (x p : Term) → Reading x → Reading p → (role : Role) (around : Around) (allowed : Option ℕ) (place : ℕ) (cs : List Candidate)
+within-entity : (x p : Term) → Reading x → Reading p → (role : Role) (around : Around) (allowed : Option ℕ) (place : ℕ) (cs : List Component)
     → IsSmall around → (b : Bool) → is_encoding x ≡ b
     → HasRoom (choice b (joined_spelling around.encoding x p) (in_N_and_E (letters_of role) (joined_spelling around.encoding x p)) place cs)
     → (IsWithoutLetters (letters_of role) × local_fits x p (names_in role p) around allowed place cs)
@@ -182,7 +182,7 @@ within-entity x p rx rp role around allowed place cs small false is room (inr h)
 -- ## As a name
 
 -- between N and E, with letters or without
-name-nested : (around : Around) (allowed : Option ℕ) (t : Term) (q : Qualifiers) (ref : RefQualifier) (place : ℕ) (cs : List Candidate)
+name-nested : (around : Around) (allowed : Option ℕ) (t : Term) (q : Qualifiers) (ref : RefQualifier) (place : ℕ) (cs : List Component)
     (between : Spelling)
     → ((at : ℕ) → at ≡ place + length (78 ∷ name_letters q ref) → HasRoom (between at cs)
     → SoFar around allowed t false 18 at cs (between at cs))

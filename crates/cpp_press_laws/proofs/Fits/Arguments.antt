@@ -4,11 +4,11 @@ use Rattle.std.specs.Prelude.{codes, cond}
 use Rattle.sym_spell.specs.Pressing.{◌and◌, text}
 use Rattle.cpp_grammar.specs.Term.{Signed, Term, symbol, alone, in_std, within, instance, local, tagged, abbreviation, parameter, builtin, vendor, pointer, lvalue, rvalue, array, member_pointer, function_type, qualified, vector, complex, expansion, integer, boolean, null_pointer, encoding_literal, address_of, pack, nil, list}
 use Rattle.cpp_grammar.specs.Scope.{is_open, pack_length}
-use Rattle.cpp_grammar.specs.Values.{Candidate, State, Around, Value, tree, tree_of, is_listed}
+use Rattle.cpp_grammar.specs.Values.{State, Around, Value, tree, tree_of, is_listed}
 use Rattle.cpp_grammar.specs.References.{is_function_type, with_type, with_unqualified}
 use Rattle.cpp_grammar.specs.Between.{under_expansion}
 use Rattle.cpp_press_laws.specs.Texts.{signed_text}
-use Rattle.cpp_press_laws.specs.Components.{Spelling}
+use Rattle.cpp_press_laws.specs.Components.{Component, Spelling}
 use Rattle.cpp_press_laws.specs.Pressing.{type_ways, argument_ways, name_ways, no_ways, ways_of}
 use Rattle.cpp_press_laws.specs.Fits.{Fitting, Slot, any_type, bare_type, item_type, literal_type, takes_all, takes_expansions, type_fits, piece_fits, argument_fits, encoding_fits, fits_nowhere, fits_of}
 use Rattle.cpp_press_laws.specs.Spellable.{IsSpellableNumber}
@@ -25,7 +25,7 @@ ArgumentFits around in_pack t old new = Fitted around ((fits_of t).as_argument i
 
 -- what fits nowhere
 never-fitted : (around : Around) (F G : Fitting) (s r : ℕ → Spelling) (t : Term) (old new : State)
-    → ((n : ℕ) (allowed : Option ℕ) (place : ℕ) (cs : List Candidate) → F (pressed_at n around) allowed place cs → ⊥)
+    → ((n : ℕ) (allowed : Option ℕ) (place : ℕ) (cs : List Component) → F (pressed_at n around) allowed place cs → ⊥)
     → Fitted around F s t old new → Fitted around G r t old new
 never-fitted around F G s r t old new never one = record {
   stay = one.stay;

@@ -7,7 +7,7 @@ use Rattle.cpp_grammar.specs.Scope.{is_open, arguments_of}
 use Rattle.cpp_grammar.specs.Values.{Candidate, State, Around}
 use Rattle.cpp_grammar.specs.References.{packs_in}
 use Rattle.cpp_grammar.specs.Between.{in_name, in_types}
-use Rattle.cpp_press_laws.specs.Components.{Spelling}
+use Rattle.cpp_press_laws.specs.Components.{Component, Spelling}
 use Rattle.cpp_press_laws.specs.Pressing.{ways_of}
 use Rattle.cpp_press_laws.proofs.Components.Parts.{Has, has-closed}
 use Rattle.cpp_press_laws.proofs.Components.Complete.{EachStands, StandAmong, AllBefore, each-append, each-others, among-inner}
@@ -92,7 +92,7 @@ functions-inner scope read at (c ∷ cs) before stand = (
   functions-inner scope read at cs before.1 stand.1,
 )
 
-front-inner : (around : Around) (n place at : ℕ) (cs : List Candidate) (old : State) → AllBefore at old.candidates
+front-inner : (around : Around) (n place at : ℕ) (cs : List Component) (old : State) → AllBefore at old.candidates
     → Front around n place cs old → Front (in_name at) place place cs old
 unfolding in_name
 front-inner around n place at cs old before front = record {
@@ -102,7 +102,7 @@ front-inner around n place at cs old before front = record {
   functions = functions-inner around.scope around.encoding at old.candidates before front.functions;
 }
 
-among-new : (read n at place : ℕ) (more ds : List Candidate) → AllAfter read more → EachStands at place more ds → EachStands read n more ds
+among-new : (read n at place : ℕ) (more : List Candidate) (ds : List Component) → AllAfter read more → EachStands at place more ds → EachStands read n more ds
 among-new read n at place [] ds later among = tt
 among-new read n at place (c ∷ cs) ds later among = (
   (
@@ -115,12 +115,12 @@ among-new read n at place (c ∷ cs) ds later among = (
   among-new read n at place cs ds later.1 among.1,
 )
 
-among-last : (read n : ℕ) (olds more ds : List Candidate) → EachStands read n (olds ++ more) ds → EachStands read n more ds
+among-last : (read n : ℕ) (olds more : List Candidate) (ds : List Component) → EachStands read n (olds ++ more) ds → EachStands read n more ds
 among-last read n [] more ds among = among
 among-last read n (c ∷ cs) more ds among = among-last read n cs more ds among.1
 
 -- behind an encoding the candidates from before stand as they did, and of those from within the closed ones
-among-outer : (read n at place : ℕ) (olds more cs ds : List Candidate) → ((m : ℕ) (x : Term) → Has m x cs → Has m x ds) → AllAfter read more
+among-outer : (read n at place : ℕ) (olds more : List Candidate) (cs ds : List Component) → ((m : ℕ) (x : Term) → Has m x cs → Has m x ds) → AllAfter read more
     → StandAmong read n olds cs → StandAmong at place (olds ++ more) ds → StandAmong read n (olds ++ more) ds
 among-outer read n at place olds more cs ds keeps later before inner = (
   each-append read n olds more ds (each-others read n olds cs ds (λ x is has. keeps n x has) before.0)
@@ -143,8 +143,8 @@ functions-outer scope read at (c ∷ cs) more later before inner = (before.0, fu
 -- an encoding that begins at a place
 pub encoding-fitted : (around : Around) (at : ℕ) (e : Term) (F : Fitting) (s : ℕ → Spelling) (old new : State) (more : List Candidate)
     → is_open e ≡ false → new.candidates ≡ old.candidates ++ more → AllBefore at old.candidates → AllAfter around.encoding more
-    → ((allowed : Option ℕ) (place : ℕ) (cs : List Candidate) → F (in_name place) allowed place cs → (fits_of e).as_encoding allowed place cs)
-    → ((n place : ℕ) (cs : List Candidate) → (s place place cs).components ≡ ((ways_of n e).as_encoding place cs).components)
+    → ((allowed : Option ℕ) (place : ℕ) (cs : List Component) → F (in_name place) allowed place cs → (fits_of e).as_encoding allowed place cs)
+    → ((n place : ℕ) (cs : List Component) → (s place place cs).components ≡ ((ways_of n e).as_encoding place cs).components)
     → Fitted (in_name at) F s e old new
     → Fitted around (λ inner allowed place cs. (fits_of e).as_encoding allowed place cs) (λ n. (ways_of n e).as_encoding) e old new
 unfolding in_name

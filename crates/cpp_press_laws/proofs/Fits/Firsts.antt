@@ -5,6 +5,7 @@ use Rattle.cpp_grammar.specs.Term.{Term, symbol, instance, abbreviation, paramet
 use Rattle.cpp_grammar.specs.Values.{Candidate, State, outermost, behind, Around, prefix_tree, prefix_listed, Value, tree_of, is_listed}
 use Rattle.cpp_grammar.specs.References.{appended, with_type, with_prefix}
 use Rattle.cpp_grammar.specs.Between.{after, inside, extended, no_items}
+use Rattle.cpp_press_laws.specs.Components.{Component}
 use Rattle.cpp_press_laws.specs.Pressing.{no_ways, type_ways, is_encoding, ways_of}
 use Rattle.cpp_press_laws.proofs.Components.Parts.{IsComponent, Whole, Has, stands-found}
 use Rattle.cpp_press_laws.proofs.Components.Steps.{named-stands}
@@ -32,7 +33,7 @@ twice may never = ((may, λ stands. absurd (never stands)), (may, λ stands. abs
 
 -- a component that stands before fits as a prefix, and before arguments that end one
 prefix-again : (t : Term) → IsComponent t → (around : Around) (allowed : Option ℕ) → MayBeReferred around allowed t → (place : ℕ)
-    (cs : List Candidate) → Has around.encoding t cs
+    (cs : List Component) → Has around.encoding t cs
     → (fits_of t).as_prefix around allowed place cs × (fits_of t).as_prefix_template around allowed place cs
 unfolding fits_of type_fits fits_nowhere
 prefix-again (symbol e suffix) is around allowed may place cs has = absurd is

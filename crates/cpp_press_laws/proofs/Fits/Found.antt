@@ -4,7 +4,7 @@ use Rattle.sym_spell.specs.Pressing as spell
 use Rattle.sym_spell.specs.Pressing.{◌and◌}
 use Rattle.cpp_grammar.specs.Term.{Term, symbol, alone, in_std, within, instance, parameter}
 use Rattle.cpp_grammar.specs.Values.{Candidate, State, Around}
-use Rattle.cpp_press_laws.specs.Components.{Spelling, first_equal, reference, spelled_out, referred, component}
+use Rattle.cpp_press_laws.specs.Components.{Component, Spelling, first_equal, reference, spelled_out, referred, component}
 use Rattle.cpp_press_laws.specs.Pressing.{type_ways, name_ways, no_ways, template_before, ways_of}
 use Rattle.cpp_press_laws.proofs.Components.Parts.{IsComponent, Has, stands-found}
 use Rattle.cpp_press_laws.proofs.Components.Complete.{Complete, StandAmong}
@@ -14,27 +14,27 @@ use Rattle.cpp_press_laws.proofs.Fits.Read.{pressed_at, FunctionsStand, Front, F
 use Rattle.cpp_press_laws.proofs.Fits.Names.{ElementsFit, arguments_standing, arguments_text, arguments-fitted, instance-may}
 use Rattle.cpp_press_laws.proofs.Fits.References.{Referred, referred-may}
 
-referred-found : (n number : ℕ) (own : Term) (behind other : Spelling) (place : ℕ) (cs : List Candidate) → first_equal n own 0 cs ≡ Some number
+referred-found : (n number : ℕ) (own : Term) (behind other : Spelling) (place : ℕ) (cs : List Component) → first_equal n own 0 cs ≡ Some number
     → referred n own behind other place cs ≡ (reference number and behind) place cs
 unfolding referred
 referred-found n number own behind other place cs is =
-    ap (λ o. elim o as (λ _. spell.Pressed Candidate) [ Some k ↦ (reference k and behind) place cs | None ↦ other place cs ]) is
+    ap (λ o. elim o as (λ _. spell.Pressed Component) [ Some k ↦ (reference k and behind) place cs | None ↦ other place cs ]) is
 
 -- a component that stands before is a reference
-component-is : (n number : ℕ) (own : Term) (s : Spelling) (place : ℕ) (cs : List Candidate) → first_equal n own 0 cs ≡ Some number
+component-is : (n number : ℕ) (own : Term) (s : Spelling) (place : ℕ) (cs : List Component) → first_equal n own 0 cs ≡ Some number
     → component n own s place cs ≡ reference number place cs
 unfolding component
 component-is n number own s place cs is =
-    ap (λ o. elim o as (λ _. spell.Pressed Candidate) [ Some k ↦ reference k place cs | None ↦ spelled_out n own s place cs ]) is
+    ap (λ o. elim o as (λ _. spell.Pressed Component) [ Some k ↦ reference k place cs | None ↦ spelled_out n own s place cs ]) is
 
-component-found : (n number : ℕ) (own : Term) (s behind : Spelling) (place : ℕ) (cs : List Candidate) → first_equal n own 0 cs ≡ Some number
+component-found : (n number : ℕ) (own : Term) (s behind : Spelling) (place : ℕ) (cs : List Component) → first_equal n own 0 cs ≡ Some number
     → (component n own s and behind) place cs ≡ (reference number and behind) place cs
 component-found n number own s behind place cs is =
-    let first : spell.Pressed Candidate → Spelling = λ w later ds. w in
+    let first : spell.Pressed Component → Spelling = λ w later ds. w in
     ap (λ w. (first w and behind) place cs) (component-is n number own s place cs is)
 
 -- behind a component that stands before, as behind the reference to it
-named-behind : (n number : ℕ) (own : Term) (s : Spelling) (G : Standing) (place : ℕ) (cs : List Candidate) → first_equal n own 0 cs ≡ Some number
+named-behind : (n number : ℕ) (own : Term) (s : Spelling) (G : Standing) (place : ℕ) (cs : List Component) → first_equal n own 0 cs ≡ Some number
     → Behind (reference number) G place cs → Behind (component n own s) G place cs
 named-behind n number own s G place cs is fits =
     subst (λ w. G (place + length (spell.Pressed.bytes w)) (spell.Pressed.components w)) (sym (component-is n number own s place cs is)) fits
@@ -42,16 +42,16 @@ named-behind n number own s G place cs is fits =
 some-one : {a b : ℕ} → Some a ≡ Some b → a ≡ b
 some-one h = cc
 
-same-reference : (number other : ℕ) (G : Standing) (place : ℕ) (cs : List Candidate) → Some number ≡ Some other
+same-reference : (number other : ℕ) (G : Standing) (place : ℕ) (cs : List Component) → Some number ≡ Some other
     → Behind (reference number) G place cs → Behind (reference other) G place cs
 same-reference number other G place cs same fits = subst (λ k. Behind (reference k) G place cs) (some-one same) fits
 
 -- the number of what stands
-record FoundAt (n : ℕ) (own : Term) (cs : List Candidate) : Type 0 where
+record FoundAt (n : ℕ) (own : Term) (cs : List Component) : Type 0 where
   pub number : ℕ
   pub is : first_equal n own 0 cs ≡ Some number
 
-found-number : (n : ℕ) (own : Term) (cs : List Candidate) → Has n own cs → FoundAt n own cs
+found-number : (n : ℕ) (own : Term) (cs : List Component) → Has n own cs → FoundAt n own cs
 found-number n own cs has = go (first_equal n own 0 cs) refl
   where
     go : (o : Option ℕ) → first_equal n own 0 cs ≡ o → FoundAt n own cs
@@ -59,7 +59,7 @@ found-number n own cs has = go (first_equal n own 0 cs) refl
     go None is = absurd (stands-found n own 0 cs has is)
 
 -- where a template name stands, a reference to it is spelled before its arguments
-before-spelled : (t : Term) → IsComponent t → (n number : ℕ) (typed : Bool) (arguments : Spelling) (place : ℕ) (cs : List Candidate)
+before-spelled : (t : Term) → IsComponent t → (n number : ℕ) (typed : Bool) (arguments : Spelling) (place : ℕ) (cs : List Component)
     → first_equal n t 0 cs ≡ Some number → (ways_of n t).before typed arguments place cs ≡ (reference number and arguments) place cs
 unfolding ways_of type_ways name_ways no_ways template_before
 before-spelled (alone p) c n number typed arguments place cs is = referred-found n number (alone p) arguments _ place cs is
@@ -73,7 +73,7 @@ thrice may again never = (may, again, λ stands. absurd (never stands))
 
 -- and there it fits
 before-found : (t : Term) → IsComponent t → (around : Around) (allowed : Option ℕ) (number : ℕ) (typed : Bool) (G : Fitting) (place : ℕ)
-    (cs : List Candidate) → MayBeReferred around allowed t → Has around.encoding t cs → first_equal around.encoding t 0 cs ≡ Some number
+    (cs : List Component) → MayBeReferred around allowed t → Has around.encoding t cs → first_equal around.encoding t 0 cs ≡ Some number
     → Behind (reference number) (G around allowed) place cs → (fits_of t).before typed G around allowed place cs
 unfolding fits_of type_fits fits_nowhere ways_of type_ways no_ways component
 before-found (parameter k) c around allowed number typed G place cs may has is fits = (

@@ -3,8 +3,9 @@ use Rattle.std.proofs.Common.{◌≡◌, ℕ, ◌+◌, ◌⊎◌, inl, inr, leng
 use Rattle.sym_spell.specs.Pressing as spell
 use Rattle.cpp_grammar.specs.Term.{RefQualifier, Term, symbol, abbreviation, builtin, function_type, nil, list}
 use Rattle.cpp_grammar.specs.Scope.{first_of, pack_length}
-use Rattle.cpp_grammar.specs.Values.{Candidate, Around}
+use Rattle.cpp_grammar.specs.Values.{Around}
 use Rattle.cpp_grammar.specs.References.{packs_in}
+use Rattle.cpp_press_laws.specs.Components.{Component}
 use Rattle.cpp_press_laws.specs.Pressing.{ways_of}
 use Rattle.cpp_press_laws.specs.Fits.{Slot, any_type, bare_type, item_type, parameter_type, literal_type, type_fits, piece_fits, argument_fits, encoding_fits, fits_nowhere, fits_of, PacksFit}
 use Rattle.cpp_press_laws.proofs.Components.AddedWays.{IsNotBare}
@@ -15,7 +16,7 @@ abbrev pub PacksOf : (packs own : Option ℕ) → Type 0
 PacksOf packs own = (own ≡ None) ⊎ (own ≡ packs)
 
 -- a type that fits stands again
-pub item-stands : (t : Term) (slot : Slot) → IsNotBare slot → (around : Around) (allowed packs : Option ℕ) (place : ℕ) (cs : List Candidate)
+pub item-stands : (t : Term) (slot : Slot) → IsNotBare slot → (around : Around) (allowed packs : Option ℕ) (place : ℕ) (cs : List Component)
     → (fits_of t).as_type slot around allowed place cs → PacksOf packs (packs_in around.scope t) → ItemStands slot around.scope packs t
 unfolding fits_of type_fits piece_fits argument_fits encoding_fits fits_nowhere
 item-stands (builtin code) slot other around allowed packs place cs fits own = fits
@@ -29,7 +30,7 @@ unfolding packs_in
 no-packs None t none = refl
 no-packs (Some arguments) t none = none arguments
 
-pub item-packs : (t : Term) (slot : Slot) → IsNotBare slot → (around : Around) (allowed : Option ℕ) (place : ℕ) (cs : List Candidate)
+pub item-packs : (t : Term) (slot : Slot) → IsNotBare slot → (around : Around) (allowed : Option ℕ) (place : ℕ) (cs : List Component)
     → (fits_of t).as_type slot around allowed place cs → PacksFit around allowed (packs_in around.scope t)
 unfolding fits_of type_fits piece_fits argument_fits encoding_fits fits_nowhere pack_length
 item-packs (builtin code) slot other around allowed place cs fits = inl (no-packs around.scope (builtin code) (λ arguments. refl))
@@ -90,12 +91,12 @@ unfolding packs_in pack_length first_of
 packs-function None c_linkage noexcept ref returned parameters = refl
 packs-function (Some arguments) c_linkage noexcept ref returned parameters = refl
 
-items-packs : (t : Term) (around : Around) (allowed : Option ℕ) (place : ℕ) (cs : List Candidate)
+items-packs : (t : Term) (around : Around) (allowed : Option ℕ) (place : ℕ) (cs : List Component)
     → (fits_of t).as_more_parameters parameter_type around allowed place cs → PacksFit around allowed (packs_in around.scope t)
 unfolding fits_of type_fits piece_fits argument_fits encoding_fits fits_nowhere pack_length
 items-packs nil around allowed place cs fits = inl (no-packs around.scope nil (λ arguments. refl))
 items-packs (list first rest) around allowed place cs fits =
-    let w : spell.Pressed Candidate = (ways_of around.encoding first).as_type place cs in
+    let w : spell.Pressed Component = (ways_of around.encoding first).as_type place cs in
     subst (PacksFit around allowed) (sym (packs-list around.scope first rest))
     (first-fits around allowed (packs_in around.scope first) (packs_in around.scope rest)
     (item-packs first parameter_type tt around allowed place cs fits.0)
@@ -103,13 +104,13 @@ items-packs (list first rest) around allowed place cs fits =
 items-packs (symbol e suffix) around allowed place cs fits = absurd fits
 items-packs _ around allowed place cs fits = absurd fits
 
-items-stand : (t : Term) (around : Around) (allowed packs : Option ℕ) (place : ℕ) (cs : List Candidate)
+items-stand : (t : Term) (around : Around) (allowed packs : Option ℕ) (place : ℕ) (cs : List Component)
     → (fits_of t).as_more_parameters parameter_type around allowed place cs → PacksOf packs (packs_in around.scope t)
     → ItemsStand around.scope packs t
 unfolding fits_of type_fits piece_fits argument_fits encoding_fits fits_nowhere
 items-stand nil around allowed packs place cs fits own = tt
 items-stand (list first rest) around allowed packs place cs fits own =
-    let w : spell.Pressed Candidate = (ways_of around.encoding first).as_type place cs in
+    let w : spell.Pressed Component = (ways_of around.encoding first).as_type place cs in
     let a : Option ℕ = packs_in around.scope first in
     let b : Option ℕ = packs_in around.scope rest in
     let whole : PacksOf packs (first_of a b) = subst (PacksOf packs) (packs-list around.scope first rest) own in
@@ -121,7 +122,7 @@ items-stand (list first rest) around allowed packs place cs fits own =
 items-stand (symbol e suffix) around allowed packs place cs fits own = absurd fits
 items-stand _ around allowed packs place cs fits own = absurd fits
 
-more-parameters : (t : Term) (around : Around) (allowed : Option ℕ) (place : ℕ) (cs : List Candidate)
+more-parameters : (t : Term) (around : Around) (allowed : Option ℕ) (place : ℕ) (cs : List Component)
     → (fits_of t).as_parameters parameter_type around allowed place cs
     → (fits_of t).as_more_parameters parameter_type around allowed place cs × IsNoVoid t
 unfolding fits_of type_fits piece_fits argument_fits encoding_fits fits_nowhere
@@ -132,7 +133,7 @@ more-parameters _ around allowed place cs fits = absurd fits
 
 -- A function type whose return type and parameters fit stands again.
 pub function-stands : (c_linkage noexcept : Bool) (ref : RefQualifier) (returned parameters : Term) (around : Around) (allowed : Option ℕ)
-    (place later : ℕ) (cs ds : List Candidate) → (fits_of returned).as_type any_type around allowed place cs
+    (place later : ℕ) (cs ds : List Component) → (fits_of returned).as_type any_type around allowed place cs
     → (fits_of parameters).as_parameters parameter_type around allowed later ds
     → FunctionStands around.scope (function_type c_linkage noexcept ref returned parameters)
 function-stands c_linkage noexcept ref returned parameters around allowed place later cs ds one two =

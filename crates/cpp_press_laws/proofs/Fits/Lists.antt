@@ -5,11 +5,11 @@ use Rattle.std.proofs.lemmas.Bool.{false≢true}
 use Rattle.sym_spell.specs.Pressing.{◌and◌, text}
 use Rattle.cpp_grammar.specs.Term.{RefQualifier, Term, symbol, builtin, function_type, nil, list}
 use Rattle.cpp_grammar.specs.Scope.{is_open, pack_length}
-use Rattle.cpp_grammar.specs.Values.{Candidate, State, Around, tree, tree_of, is_listed}
+use Rattle.cpp_grammar.specs.Values.{State, Around, tree, tree_of, is_listed}
 use Rattle.cpp_grammar.specs.References.{appended, is_function_type, with_type, with_unqualified}
 use Rattle.cpp_grammar.specs.Meaning.{is_void, is_nil, parameters}
 use Rattle.cpp_press_laws.specs.Texts.{mark_letter}
-use Rattle.cpp_press_laws.specs.Components.{Spelling, component}
+use Rattle.cpp_press_laws.specs.Components.{Component, Spelling, component}
 use Rattle.cpp_press_laws.specs.Pressing.{type_ways, no_ways, function_text, ways_of}
 use Rattle.cpp_press_laws.proofs.Components.Parts.{Whole}
 use Rattle.cpp_press_laws.proofs.Components.Known.{KeepsTo, text-keeps, and-keeps}
@@ -47,7 +47,7 @@ and-no true = refl
 and-no false = refl
 
 -- a lone void adds nothing
-pub void-adds-none : (a b : Term) → is_void a && is_nil b ≡ true → (n place : ℕ) (cs : List Candidate)
+pub void-adds-none : (a b : Term) → is_void a && is_nil b ≡ true → (n place : ℕ) (cs : List Component)
     → ((ways_of n (list a b)).as_more_parameters place cs).components ≡ cs
 unfolding is_void is_nil ways_of no_ways type_ways
 void-adds-none (builtin (l ∷ [])) nil void n place cs = refl
@@ -63,7 +63,7 @@ abbrev pub ParametersFit : (around : Around) → Slot → Term → (old new : St
 ParametersFit around slot t old new = Fitted around ((fits_of t).as_parameters slot) (λ n. (ways_of n t).as_parameters) t old new
 
 pub no-parameters-fit : (around : Around) (slot : Slot) (a : Term) (s : ℕ → Spelling) (F : Fitting) (old new : State)
-    → ((n place : ℕ) (cs : List Candidate) → (s n place cs).components ≡ cs) → Fitted around F s a old new → ParametersFit around slot nil old new
+    → ((n place : ℕ) (cs : List Component) → (s n place cs).components ≡ cs) → Fitted around F s a old new → ParametersFit around slot nil old new
 unfolding fits_of fits_nowhere ways_of no_ways is_open
 no-parameters-fit around slot a s F old new none one = record {
   stay = one.stay;

@@ -6,10 +6,10 @@ use Rattle.sym_spell.specs.Pressing.{◌and◌, text}
 use Rattle.sym_spell.proofs.Spellings.{and-assoc-at}
 use Rattle.cpp_grammar.specs.Term.{Term, alone, in_std, within, instance}
 use Rattle.cpp_grammar.specs.Scope.{is_open, pack_length}
-use Rattle.cpp_grammar.specs.Values.{Candidate, State, Prefix, outermost, behind, Around}
+use Rattle.cpp_grammar.specs.Values.{State, Prefix, outermost, behind, Around}
 use Rattle.cpp_grammar.specs.References.{appended}
 use Rattle.cpp_grammar.specs.Between.{after, inside}
-use Rattle.cpp_press_laws.specs.Components.{Spelling, ended, component}
+use Rattle.cpp_press_laws.specs.Components.{Component, Spelling, ended, component}
 use Rattle.cpp_press_laws.specs.Pressing.{no_ways, name_ways, ways_of}
 use Rattle.cpp_press_laws.proofs.Components.Parts.{IsComponent, Inside, Whole, prefix-whole}
 use Rattle.cpp_press_laws.proofs.Components.Known.{KeepsTo, text-keeps, and-keeps}
@@ -57,7 +57,7 @@ moved around prefix F s t old new one = record {
 
 -- the same spelling
 pub respelled : (around : Around) (F : Fitting) (s r : ℕ → Spelling) (t : Term) (old new : State)
-    → ((n place : ℕ) (cs : List Candidate) → s n place cs ≡ r n place cs) → Fitted around F s t old new → Fitted around F r t old new
+    → ((n place : ℕ) (cs : List Component) → s n place cs ≡ r n place cs) → Fitted around F s t old new → Fitted around F r t old new
 respelled around F s r t old new same one = record {
   stay = one.stay;
   fits = λ n place cs allowed front allows. (
@@ -74,7 +74,7 @@ respelled around F s r t old new same one = record {
 -- what fits becomes a component without more bytes, and a candidate
 pub ended-fitted : (around : Around) (t : Term) (F : Fitting) (s : ℕ → Spelling) (old new : State) → IsComponent t
     → FunctionStands around.scope t
-    → ((n : ℕ) (allowed : Option ℕ) (place : ℕ) (cs : List Candidate) → F (pressed_at n around) allowed place cs → Complete cs
+    → ((n : ℕ) (allowed : Option ℕ) (place : ℕ) (cs : List Component) → F (pressed_at n around) allowed place cs → Complete cs
     → AddsParts n (Inside t) cs (s n place cs).components)
     → Fitted around F s t old new → Fitted around F (λ n. s n and ended n t) t old (appended around t new)
 unfolding ended appended
@@ -86,8 +86,8 @@ ended-fitted around t F s old new is stands whole one = record {
         fits = p.fits;
         may = p.may;
         complete = (tree-ended n t cs (s n place cs).components (whole n allowed place cs p.fits front.complete)).complete;
-        among = among-ended around.encoding n t new.candidates (s n place cs).components is p.among;
-        functions = functions-append around.scope around.encoding new.candidates (record { tree = t; encoding = around.encoding } ∷ [])
+        among = among-ended around.encoding n around.in_lambda t new.candidates (s n place cs).components is p.among;
+        functions = functions-append around.scope around.encoding new.candidates (record { tree = t; encoding = around.encoding; in_lambda = around.in_lambda } ∷ [])
             p.functions (λ may. stands, tt);
       });
 }
@@ -155,9 +155,9 @@ within-joined around t p old mid now names one other =
 
 -- A name between N and E that is a component as a prefix.
 pub prefix-component : (around : Around) (t : Term) (F G : Fitting) (old now : State) → IsComponent t → FunctionStands around.scope t
-    → ((n : ℕ) (allowed : Option ℕ) (place : ℕ) (cs : List Candidate) → F (pressed_at n around) allowed place cs
+    → ((n : ℕ) (allowed : Option ℕ) (place : ℕ) (cs : List Component) → F (pressed_at n around) allowed place cs
     → G (pressed_at n around) allowed place cs)
-    → ((n : ℕ) (allowed : Option ℕ) (place : ℕ) (cs : List Candidate) → as_component t G (pressed_at n around) allowed place cs → Complete cs
+    → ((n : ℕ) (allowed : Option ℕ) (place : ℕ) (cs : List Component) → as_component t G (pressed_at n around) allowed place cs → Complete cs
     → Complete (component n t (ways_of n t).between_N_and_E place cs).components)
     → Fitted around F (λ n. (ways_of n t).between_N_and_E) t old now
     → Fitted around (as_component t G) (λ n. component n t (ways_of n t).between_N_and_E) t old (appended around t now)

@@ -3,10 +3,10 @@ use Rattle.std.proofs.Common.{◌≡◌, ℕ, ◌+◌, inl, inr, length, List, [
 use Rattle.std.specs.Prelude.{codes}
 use Rattle.sym_spell.specs.Pressing.{◌and◌, text}
 use Rattle.cpp_grammar.specs.Term.{Qualifiers, RefQualifier, Term, in_std, within, instance}
-use Rattle.cpp_grammar.specs.Values.{Candidate, State, Around}
+use Rattle.cpp_grammar.specs.Values.{State, Around}
 use Rattle.cpp_grammar.specs.References.{appended, is_function_type}
 use Rattle.cpp_press_laws.specs.Texts.{name_letters}
-use Rattle.cpp_press_laws.specs.Components.{Spelling}
+use Rattle.cpp_press_laws.specs.Components.{Component, Spelling}
 use Rattle.cpp_press_laws.specs.Pressing.{no_ways, name_ways, in_N_and_E, with_letters, is_operator, is_encoding, is_one_piece, entity_text, ways_of}
 use Rattle.cpp_press_laws.proofs.Components.Parts.{IsComponent, Whole}
 use Rattle.cpp_press_laws.proofs.Components.Known.{KeepsTo, in-N-and-E-keeps}
@@ -59,7 +59,7 @@ letters-fitted (l ∷ ls) around F G own between t old now one other = nested-fi
 
 -- an entity of more than a piece
 nested-entity : (around : Around) (t : Term) (role : Role) (old now : State) → Wherever around old (is_one_piece t ≡ false)
-    → ((n : ℕ) (allowed : Option ℕ) (place : ℕ) (cs : List Candidate)
+    → ((n : ℕ) (allowed : Option ℕ) (place : ℕ) (cs : List Component)
     → (fits_of t).between (pressed_at n around) allowed (place + length (codes "N" ++ letters_of role)) cs
     → (fits_of t).as_entity role (pressed_at n around) allowed place cs)
     → BetweenFits around t old now → EntityFits around t role old now

@@ -1,5 +1,5 @@
 -- Where a part is read: what is known of the candidates in front of it; and what a production comes to behind its parts.
-use Rattle.std.proofs.Common.{◌≡◌, ℕ, ◌≤◌, List, [], ◌∷◌, ap, sym, ◌∙◌}
+use Rattle.std.proofs.Common.{◌≡◌, ℕ, ◌≤◌, List, [], ◌∷◌, false, ap, sym, ◌∙◌}
 use Rattle.sym_link.specs.Reading.{Found}
 use Rattle.sym_link.specs.Unfold.{found}
 use Rattle.cpp_grammar.specs.declared.production.Production.{Production}
@@ -20,7 +20,7 @@ use Rattle.cpp_press_laws.proofs.Fits.Sorts.{Meant, Later}
 pub record Placed (around : Around) (at : ℕ) (state : State) : Type 0 where
   pub lambda : LambdasAreBare around
   pub encoding : around.encoding ≤ at
-  pub old : AllOld around at state.candidates
+  pub old : AllOld false around at state.candidates
 
 -- ## What a production comes to
 

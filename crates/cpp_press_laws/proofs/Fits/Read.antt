@@ -6,7 +6,7 @@ use Rattle.cpp_grammar.specs.Term.{Term}
 use Rattle.cpp_grammar.specs.Scope.{is_open}
 use Rattle.cpp_grammar.specs.Values.{Candidate, State, Around}
 use Rattle.cpp_grammar.specs.References.{appended}
-use Rattle.cpp_press_laws.specs.Components.{Spelling, component}
+use Rattle.cpp_press_laws.specs.Components.{Component, Spelling, component}
 use Rattle.cpp_press_laws.proofs.Components.Parts.{IsComponent, Whole}
 use Rattle.cpp_press_laws.proofs.Components.Known.{KeepsTo}
 use Rattle.cpp_press_laws.proofs.Components.Complete.{Complete, StandAmong}
@@ -32,7 +32,7 @@ FunctionsStand scope read (c ∷ cs) =
     ((is_open c.tree ≡ false) ⊎ (c.encoding ≡ read) → FunctionStands scope c.tree) × FunctionsStand scope read cs
 
 -- complete components in an encoding, among which the candidates stand in front of a part
-pub record Front (around : Around) (n place : ℕ) (cs : List Candidate) (old : State) : Type 0 where
+pub record Front (around : Around) (n place : ℕ) (cs : List Component) (old : State) : Type 0 where
   pub later : n ≤ place
   pub complete : Complete cs
   pub among : StandAmong around.encoding n old.candidates cs
@@ -40,7 +40,7 @@ pub record Front (around : Around) (n place : ℕ) (cs : List Candidate) (old : 
 
 -- a part with this tree fits there, and behind its spelling the candidates stand among the components
 pub record PartFits (around : Around) (F : Fitting) (spelled : ℕ → Spelling) (t : Term) (n : ℕ) (allowed : Option ℕ) (place : ℕ)
-    (cs : List Candidate) (new : State) : Type 0 where
+    (cs : List Component) (new : State) : Type 0 where
   pub fits : F (pressed_at n around) allowed place cs
   pub may : MayBeReferred (pressed_at n around) allowed t
   pub complete : Complete (spelled n place cs).components
@@ -50,12 +50,12 @@ pub record PartFits (around : Around) (F : Fitting) (spelled : ℕ → Spelling)
 -- What was read from one state to another fits, where its packs are allowed.
 pub record Fitted (around : Around) (F : Fitting) (spelled : ℕ → Spelling) (t : Term) (old new : State) : Type 0 where
   pub stay : StayNamed old new
-  pub fits : (n place : ℕ) (cs : List Candidate) (allowed : Option ℕ) → Front around n place cs old → Allows allowed new.packs
+  pub fits : (n place : ℕ) (cs : List Component) (allowed : Option ℕ) → Front around n place cs old → Allows allowed new.packs
       → PartFits around F spelled t n allowed place cs new
 
 -- what is so wherever components stand in front of what was read from this state
 abbrev pub Wherever : Around → State → Type 0 → Type 0
-Wherever around old So = (n place : ℕ) (cs : List Candidate) → Front around n place cs old → So
+Wherever around old So = (n place : ℕ) (cs : List Component) → Front around n place cs old → So
 
 pub fitted-wherever : (around : Around) (F : Fitting) (s : ℕ → Spelling) (t : Term) (old new : State) (So : Type 0) → StayNamed old new
     → Wherever around old So → (So → Fitted around F s t old new) → Fitted around F s t old new
@@ -75,7 +75,7 @@ functions-append scope read (c ∷ cs) ds one other = (one.0, functions-append s
 
 -- behind a part that fits
 pub front-behind : (around : Around) (F : Fitting) (s : ℕ → Spelling) (t : Term) (n : ℕ) (allowed : Option ℕ) (place : ℕ)
-    (cs : List Candidate) (old new : State) → Front around n place cs old → PartFits around F s t n allowed place cs new
+    (cs : List Component) (old new : State) → Front around n place cs old → PartFits around F s t n allowed place cs new
     → Front around n (place + length (s n place cs).bytes) (s n place cs).components new
 front-behind around F s t n allowed place cs old new front part = record {
   later = omega (arith, front.later);
@@ -91,18 +91,18 @@ allows-before allowed old new stay allows m is = allows m (stay m is)
 -- ## What is read in turn
 
 -- a place behind two spellings
-pub behind-both : (first rest : Spelling) (G : Standing) (place : ℕ) (cs : List Candidate) → Behind first (Behind rest G) place cs
+pub behind-both : (first rest : Spelling) (G : Standing) (place : ℕ) (cs : List Component) → Behind first (Behind rest G) place cs
     → Behind (first and rest) G place cs
 behind-both first rest G place cs fits =
-    let f : spell.Pressed Candidate = first place cs in
-    let g : spell.Pressed Candidate = rest (place + length f.bytes) f.components in
+    let f : spell.Pressed Component = first place cs in
+    let g : spell.Pressed Component = rest (place + length f.bytes) f.components in
     let same : place + length f.bytes + length g.bytes ≡ place + length (f.bytes ++ g.bytes) = omega
     (arith, length-append f.bytes g.bytes) in
     subst (λ p. G p g.components) same fits
 
 -- another standing that follows, of a tree that may be referred to as well
 pub refitted : (around : Around) (F G : Fitting) (s : ℕ → Spelling) (a t : Term) (old new : State)
-    → ((n : ℕ) (allowed : Option ℕ) (place : ℕ) (cs : List Candidate) → F (pressed_at n around) allowed place cs
+    → ((n : ℕ) (allowed : Option ℕ) (place : ℕ) (cs : List Component) → F (pressed_at n around) allowed place cs
     → G (pressed_at n around) allowed place cs)
     → ((n : ℕ) (allowed : Option ℕ) → MayBeReferred (pressed_at n around) allowed a → MayBeReferred (pressed_at n around) allowed t)
     → Fitted around F s a old new → Fitted around G s t old new
@@ -121,7 +121,7 @@ refitted around F G s a t old new more may one = record {
 
 -- bytes that name nothing
 pub text-fitted : (around : Around) (F : Fitting) (bytes : List ℕ) (t : Term) (state : State)
-    → ((n : ℕ) (allowed : Option ℕ) (place : ℕ) (cs : List Candidate) → F (pressed_at n around) allowed place cs)
+    → ((n : ℕ) (allowed : Option ℕ) (place : ℕ) (cs : List Component) → F (pressed_at n around) allowed place cs)
     → ((n : ℕ) (allowed : Option ℕ) → MayBeReferred (pressed_at n around) allowed t)
     → Fitted around F (λ n. text bytes) t state state
 text-fitted around F bytes t state fits may = record {
@@ -188,9 +188,9 @@ fitted-bytes around F s bytes t old new one = record {
 -- What is spelled out of parts that fit becomes a component, and a candidate.
 pub component-fitted : (around : Around) (t : Term) (F : Fitting) (s : ℕ → Spelling) (old new : State) → IsComponent t
     → ((n : ℕ) → KeepsTo Unit n (Whole t) (s n))
-    → ((n : ℕ) (allowed : Option ℕ) (place : ℕ) (cs : List Candidate) → F (pressed_at n around) allowed place cs
+    → ((n : ℕ) (allowed : Option ℕ) (place : ℕ) (cs : List Component) → F (pressed_at n around) allowed place cs
     → FunctionStands around.scope t)
-    → ((n : ℕ) (allowed : Option ℕ) (place : ℕ) (cs : List Candidate) → as_component t F (pressed_at n around) allowed place cs → Complete cs
+    → ((n : ℕ) (allowed : Option ℕ) (place : ℕ) (cs : List Component) → as_component t F (pressed_at n around) allowed place cs → Complete cs
     → Complete (component n t (s n) place cs).components)
     → Fitted around F s t old new → Fitted around (as_component t F) (λ n. component n t (s n)) t old (appended around t new)
 unfolding appended
@@ -202,8 +202,8 @@ component-fitted around t F s old new is keeps function whole one = record {
         fits = (p.may, λ first. p.fits);
         may = p.may;
         complete = whole n allowed place cs (p.may, λ first. p.fits) front.complete;
-        among = component-among around.encoding n t (s n) is (keeps n) place cs new.candidates front.later front.complete p.among;
-        functions = functions-append around.scope around.encoding new.candidates (record { tree = t; encoding = around.encoding } ∷ [])
+        among = component-among around.encoding n around.in_lambda t (s n) is (keeps n) place cs new.candidates front.later front.complete p.among;
+        functions = functions-append around.scope around.encoding new.candidates (record { tree = t; encoding = around.encoding; in_lambda = around.in_lambda } ∷ [])
             p.functions (λ may. function n allowed place cs p.fits, tt);
       });
 }

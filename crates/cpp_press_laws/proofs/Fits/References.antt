@@ -6,12 +6,12 @@ use Rattle.sym_core.specs.declared.refusal.Refusal.{Refusal}
 use Rattle.sym_core.specs.declared.refusal.Refusal.TheVariants.{BadReference}
 use Rattle.sym_link.specs.Reading.{Found, ◌>>=◌}
 use Rattle.sym_link.specs.Unfold.{found}
-use Rattle.cpp_grammar.specs.Term.{Term, symbol, abbreviation, lambda, builtin, function_type}
+use Rattle.cpp_grammar.specs.Term.{Term, symbol, abbreviation, builtin, function_type}
 use Rattle.cpp_grammar.specs.Scope.{is_open}
 use Rattle.cpp_grammar.specs.Values.{Candidate, State, Around, Value, tree, tree_of, is_listed}
 use Rattle.cpp_grammar.specs.References.{is_function_type, with_type, with_unqualified, with_packs, packs_in, substituted}
 use Rattle.cpp_grammar.proofs.ClosedStates.{ok_same, behind_bind}
-use Rattle.cpp_press_laws.specs.Components.{Spelling}
+use Rattle.cpp_press_laws.specs.Components.{Component, Spelling}
 use Rattle.cpp_press_laws.specs.Pressing.{ways_of}
 use Rattle.cpp_press_laws.proofs.Components.Parts.{IsComponent, Whole, Unqualified, Has, stands-found}
 use Rattle.cpp_press_laws.proofs.Components.Complete.{Complete, StandAmong, complete-has}
@@ -73,7 +73,7 @@ component-stands t slot scope is = (is, inr refl)
 
 -- a component that stands among complete ones fits as a type
 pub type-again : (t : Term) (slot : Slot) → IsNotBare slot → IsComponent t → (around : Around) (allowed : Option ℕ)
-    → MayBeReferred around allowed t → (place : ℕ) (cs : List Candidate) → Complete cs → Has around.encoding t cs
+    → MayBeReferred around allowed t → (place : ℕ) (cs : List Component) → Complete cs → Has around.encoding t cs
     → (fits_of t).as_type slot around allowed place cs
 type-again t slot other is around allowed may place cs complete has =
     item-again t slot other around allowed (packs_in around.scope t) (component-stands t slot around.scope is) may.packs may.lambda place cs
@@ -81,7 +81,7 @@ type-again t slot other is around allowed may place cs complete has =
 
 -- right under qualifiers as well, also a function type, which is spelled out there
 pub bare-again : (t : Term) → IsComponent t → (around : Around) (allowed : Option ℕ) → FunctionStands around.scope t
-    → MayBeReferred around allowed t → (place : ℕ) (cs : List Candidate) → Complete cs → Has around.encoding t cs
+    → MayBeReferred around allowed t → (place : ℕ) (cs : List Component) → Complete cs → Has around.encoding t cs
     → (fits_of t).as_type bare_type around allowed place cs
 unfolding fits_of type_fits piece_fits argument_fits encoding_fits fits_nowhere
 bare-again (function_type c_linkage noexcept ref returned parameters) is around allowed stands may place cs complete has =
@@ -96,9 +96,9 @@ bare-again t is around allowed stands may place cs complete has =
 pub referred-fitted : (around : Around) (F : Fitting) (s : ℕ → Spelling) (old new : State) (c : Candidate) (P : Term → Type 0)
     → Referred around old new c
     → ((n : ℕ) (allowed : Option ℕ) → Adds n P (F (pressed_at n around) allowed) (s n))
-    → ((n : ℕ) (allowed : Option ℕ) (place : ℕ) (cs : List Candidate) → MayBeReferred (pressed_at n around) allowed c.tree
+    → ((n : ℕ) (allowed : Option ℕ) (place : ℕ) (cs : List Component) → MayBeReferred (pressed_at n around) allowed c.tree
     → FunctionStands around.scope c.tree → IsComponent c.tree → Complete cs → Has n c.tree cs → F (pressed_at n around) allowed place cs)
-    → ((n place : ℕ) (cs : List Candidate) → IsComponent c.tree → Complete cs → Has n c.tree cs → (s n place cs).components ≡ cs)
+    → ((n place : ℕ) (cs : List Component) → IsComponent c.tree → Complete cs → Has n c.tree cs → (s n place cs).components ≡ cs)
     → Fitted around F s c.tree old new
 referred-fitted around F s old new c P r adding again none = record {
   stay = r.packs.stay;

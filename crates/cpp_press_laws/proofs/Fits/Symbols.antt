@@ -13,7 +13,7 @@ use Rattle.cpp_grammar.specs.Between.{in_name, in_types}
 use Rattle.cpp_grammar.specs.Meaning.{is_void, is_nil, parameters}
 use Rattle.cpp_grammar.specs.Texts.{special_front}
 use Rattle.cpp_press_laws.specs.Texts.{name_letters, thunk_text}
-use Rattle.cpp_press_laws.specs.Components.{Spelling}
+use Rattle.cpp_press_laws.specs.Components.{Component, Spelling}
 use Rattle.cpp_press_laws.specs.Pressing.{no_ways, type_ways, name_ways, encoding_ways, piece_ways, argument_ways, begun, ways_of}
 use Rattle.cpp_press_laws.proofs.Components.Complete.{AllBefore}
 use Rattle.cpp_press_laws.specs.Fits.{Standing, Fitting, Slot, any_type, item_type, Behind, either, type_fits, piece_fits, argument_fits, encoding_fits, fits_nowhere, IsSpellableThunk, fits_of}
@@ -85,11 +85,11 @@ thunk-fits around at kind e old new good stays one =
 at-zero : (place : ℕ) → place ≡ place + 0
 at-zero place = omega arith
 
-at-end : (G : Standing) (place : ℕ) (cs : List Candidate) → G place cs → G (place + 0) cs
+at-end : (G : Standing) (place : ℕ) (cs : List Component) → G place cs → G (place + 0) cs
 at-end G place cs fits = subst (λ p. G p cs) (at-zero place) fits
 
 -- parameters, where a lone void is no parameters
-parameters-standing : (slot : Slot) (t : Term) (around : Around) (allowed : Option ℕ) (place : ℕ) (cs : List Candidate)
+parameters-standing : (slot : Slot) (t : Term) (around : Around) (allowed : Option ℕ) (place : ℕ) (cs : List Component)
     → (fits_of t).as_more_parameters slot around allowed place cs → (fits_of (parameters t)).as_parameters slot around allowed place cs
 unfolding fits_of type_fits piece_fits argument_fits encoding_fits fits_nowhere parameters
 parameters-standing slot nil around allowed place cs fits = tt
@@ -102,7 +102,7 @@ parameters-standing slot (list a b) around allowed place cs fits = go (is_void a
 parameters-standing slot (symbol e suffix) around allowed place cs fits = absurd fits
 parameters-standing slot _ around allowed place cs fits = absurd fits
 
-parameters-components : (t : Term) (n place : ℕ) (cs : List Candidate)
+parameters-components : (t : Term) (n place : ℕ) (cs : List Component)
     → ((ways_of n t).as_more_parameters place cs).components ≡ ((ways_of n (parameters t)).as_parameters place cs).components
 unfolding ways_of type_ways name_ways encoding_ways piece_ways argument_ways no_ways parameters
 parameters-components nil n place cs = refl
@@ -165,7 +165,7 @@ plain-function-fits around at name items q ref old mid new plain stays all one o
           (parameters-standing item_type items (in_types place name) allowed _ _ fits.1)),
     ))
     (λ n place cs. (
-    let w : spell.Pressed Candidate = (ways_of place name).as_name (name_letters q ref) place cs in
+    let w : spell.Pressed Component = (ways_of place name).as_name (name_letters q ref) place cs in
     ap (λ p. spell.Pressed.components ((ways_of place items).as_more_parameters p w.components)) (at-zero (place + length w.bytes))
     ∙ parameters-components items place (place + length w.bytes + 0) w.components))
     (items-behind at e name items q ref old mid new refl all one other)

@@ -5,9 +5,9 @@ use Rattle.sym_spell.specs.Pressing as spell
 use Rattle.sym_spell.specs.Pressing.{◌and◌, text}
 use Rattle.sym_spell.proofs.Spellings.{and-assoc-at}
 use Rattle.cpp_grammar.specs.Term.{Term, in_std, within, instance}
-use Rattle.cpp_grammar.specs.Values.{Candidate, State, Around}
+use Rattle.cpp_grammar.specs.Values.{State, Around}
 use Rattle.cpp_grammar.specs.References.{appended}
-use Rattle.cpp_press_laws.specs.Components.{Spelling, first_equal, reference, ended, spelled_out, referred, component}
+use Rattle.cpp_press_laws.specs.Components.{Component, Spelling, first_equal, reference, ended, spelled_out, referred, component}
 use Rattle.cpp_press_laws.specs.Pressing.{no_ways, name_ways, in_N_and_E, template_before, is_operator, is_encoding, is_one_piece, ways_of}
 use Rattle.cpp_press_laws.proofs.Components.Parts.{IsComponent, Inside}
 use Rattle.cpp_press_laws.proofs.Components.Adding.{AddsParts}
@@ -19,21 +19,21 @@ use Rattle.cpp_press_laws.proofs.Fits.Read.{pressed_at, Fitted, Wherever, refitt
 use Rattle.cpp_press_laws.proofs.Fits.Names.{respelled, ended-fitted, BetweenFits, TemplateBetweenFits, TemplatePrefixFits, within-prefix, within-prefix-template, std-prefix, ElementsFit, arguments_standing, arguments_text, arguments-fitted, instance-may}
 
 -- a component and what stands behind it, where an equal one stands before
-behind-found : (n number : ℕ) (own : Term) (s : Spelling) (G : Standing) (place : ℕ) (cs : List Candidate) → first_equal n own 0 cs ≡ Some number
+behind-found : (n number : ℕ) (own : Term) (s : Spelling) (G : Standing) (place : ℕ) (cs : List Component) → first_equal n own 0 cs ≡ Some number
     → Behind (component n own s) G place cs → Behind (reference number) G place cs
 unfolding component
 behind-found n number own s G place cs is fits = go (first_equal n own 0 cs) is fits
   where
     go : (o : Option ℕ) → o ≡ Some number
-        → (let w : spell.Pressed Candidate = elim o as (λ _. spell.Pressed Candidate) [ Some k ↦ reference k place cs | None ↦ spelled_out n own s place cs ] in
+        → (let w : spell.Pressed Component = elim o as (λ _. spell.Pressed Component) [ Some k ↦ reference k place cs | None ↦ spelled_out n own s place cs ] in
         G (place + length w.bytes) w.components)
         → Behind (reference number) G place cs
     go (Some k) same h = let equal : k ≡ number = cc in subst (λ j. Behind (reference j) G place cs) equal h
     go None same h = absurd cc
 
 -- where an equal one stands before, the components are those behind a reference, or else those behind the whole spelling
-components-before : (n : ℕ) (own : Term) (needs_N : Bool) (s between arguments : Spelling) (place : ℕ) (cs : List Candidate)
-    (P : List Candidate → Type 0) → P ((component n own s and arguments) place cs).components
+components-before : (n : ℕ) (own : Term) (needs_N : Bool) (s between arguments : Spelling) (place : ℕ) (cs : List Component)
+    (P : List Component → Type 0) → P ((component n own s and arguments) place cs).components
     → P ((elim needs_N as (λ _. Spelling) [
       | true ↦ in_N_and_E [] (between and ended n own and arguments)
       | false ↦ between and ended n own and arguments
@@ -43,9 +43,9 @@ unfolding template_before referred component
 components-before n own needs_N s between arguments place cs P found new = go (first_equal n own 0 cs) found
   where
     go : (o : Option ℕ)
-        → P (let w : spell.Pressed Candidate = elim o as (λ _. spell.Pressed Candidate) [ Some k ↦ reference k place cs | None ↦ spelled_out n own s place cs ] in
+        → P (let w : spell.Pressed Component = elim o as (λ _. spell.Pressed Component) [ Some k ↦ reference k place cs | None ↦ spelled_out n own s place cs ] in
         (arguments (place + length w.bytes) w.components).components)
-        → P (spell.Pressed.components (elim o as (λ _. spell.Pressed Candidate) [
+        → P (spell.Pressed.components (elim o as (λ _. spell.Pressed Component) [
           | Some number ↦ (reference number and arguments) place cs
           | None ↦ (elim needs_N as (λ _. Spelling) [
             | true ↦ in_N_and_E [] (between and ended n own and arguments)
@@ -93,10 +93,10 @@ template-fitted around own a needs_N F H s front between old mid now one whole o
 -- ## Spelled out
 
 -- nothing before a spelling
-pub nothing-and : (s : Spelling) (place : ℕ) (cs : List Candidate) → (text [] and s) place cs ≡ s place cs
+pub nothing-and : (s : Spelling) (place : ℕ) (cs : List Component) → (text [] and s) place cs ≡ s place cs
 nothing-and s place cs = let same : place + 0 ≡ place = omega arith in ap (λ q. s q cs) same
 
-behind-same : (s r : Spelling) (G : Standing) (place : ℕ) (cs : List Candidate) → s place cs ≡ r place cs → Behind s G place cs
+behind-same : (s r : Spelling) (G : Standing) (place : ℕ) (cs : List Component) → s place cs ≡ r place cs → Behind s G place cs
     → Behind r G place cs
 behind-same s r G place cs same fits = subst (λ w. G (place + length (spell.Pressed.bytes w)) (spell.Pressed.components w)) same fits
 
@@ -108,7 +108,7 @@ SpelledBefore around own a H front whole old now =
 -- a template name that is spelled out, and its arguments
 pub spelled-before : (around : Around) (own a : Term) (F : Fitting) (between : ℕ → Spelling) (old mid now : State) → IsComponent own
     → FunctionStands around.scope own
-    → ((n : ℕ) (allowed : Option ℕ) (place : ℕ) (cs : List Candidate) → F (pressed_at n around) allowed place cs → Complete cs
+    → ((n : ℕ) (allowed : Option ℕ) (place : ℕ) (cs : List Component) → F (pressed_at n around) allowed place cs → Complete cs
     → AddsParts n (Inside own) cs (between n place cs).components)
     → Fitted around F between own old mid → ElementsFit around a (appended around own mid) now
     → SpelledBefore around own a F between (λ n. between n and ended n own and arguments_text a n) old now
@@ -203,7 +203,7 @@ std-template around p old mid one = record {
     front b n = text (elim b as (λ _. List ℕ) [ true ↦ codes "N" | false ↦ [] ]) and between n
 
     plain : (H : Fitting)
-        → ((n : ℕ) (allowed : Option ℕ) (place : ℕ) (cs : List Candidate) → std (pressed_at n around) allowed place cs
+        → ((n : ℕ) (allowed : Option ℕ) (place : ℕ) (cs : List Component) → std (pressed_at n around) allowed place cs
         → H (pressed_at n around) allowed place cs)
         → (a : Term) (now : State) → ElementsFit around a (appended around own mid) now
         → Fitted around (as_template own H (front false) (arguments_standing a))
@@ -235,7 +235,7 @@ std-template around p old mid one = record {
         (λ n allowed place cs fits complete. (adds own).between (pressed_at n around) allowed place cs fits complete) one other))
         other
 
-    at-once : (n : ℕ) (allowed : Option ℕ) (place : ℕ) (cs : List Candidate) → std (pressed_at n around) allowed place cs
+    at-once : (n : ℕ) (allowed : Option ℕ) (place : ℕ) (cs : List Component) → std (pressed_at n around) allowed place cs
         → std (pressed_at n around) allowed (place + 0) cs
     at-once n allowed place cs fits = let same : place ≡ place + 0 = omega arith in subst (λ q. std (pressed_at n around) allowed q cs) same fits
 

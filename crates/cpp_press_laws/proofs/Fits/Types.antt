@@ -5,10 +5,10 @@ use Rattle.sym_core.specs.declared.NumberKind.TheVariants.{Decimal, Digits}
 use Rattle.sym_spell.specs.Pressing.{◌and◌, text}
 use Rattle.cpp_grammar.specs.Term.{Qualifiers, Term, pointer, lvalue, rvalue, array, member_pointer, qualified, vector, complex}
 use Rattle.cpp_grammar.specs.Scope.{is_open, first_of, pack_length}
-use Rattle.cpp_grammar.specs.Values.{Candidate, State, Around, Value, tree, tree_of, is_listed}
+use Rattle.cpp_grammar.specs.Values.{State, Around, Value, tree, tree_of, is_listed}
 use Rattle.cpp_grammar.specs.References.{appended, is_function_type, with_type, with_unqualified, packs_in}
 use Rattle.cpp_press_laws.specs.Texts.{qualifier_letters}
-use Rattle.cpp_press_laws.specs.Components.{Spelling, component}
+use Rattle.cpp_press_laws.specs.Components.{Component, Spelling, component}
 use Rattle.cpp_press_laws.specs.Pressing.{type_ways, no_ways, ways_of}
 use Rattle.cpp_press_laws.specs.Spellable.{AreSpellableDigits}
 use Rattle.cpp_press_laws.proofs.Components.Parts.{IsComponent, Whole}
@@ -97,7 +97,7 @@ SolidFits takes around v old new =
 -- ## Components that are spelled alike wherever they stand
 
 pub typed-complete : (t : Term) → ((n : ℕ) → (ways_of n t).under_qualifiers ≡ (ways_of n t).as_type) → (slot : Slot) (around : Around)
-    (allowed : Option ℕ) (place : ℕ) (cs : List Candidate) → (fits_of t).as_type slot around allowed place cs → Complete cs
+    (allowed : Option ℕ) (place : ℕ) (cs : List Component) → (fits_of t).as_type slot around allowed place cs → Complete cs
     → Complete ((ways_of around.encoding t).as_type place cs).components
 unfolding way_at
 typed-complete t alike any_type around allowed place cs fits complete =
@@ -117,7 +117,7 @@ pub record Spelled (around : Around) (t : Term) (G : Slot → Fitting) (s : ℕ 
   pub is : IsComponent t
   pub keeps : (n : ℕ) → KeepsTo Unit n (Whole t) (s n)
   pub function : FunctionStands around.scope t
-  pub whole : (slot : Slot) (n : ℕ) (allowed : Option ℕ) (place : ℕ) (cs : List Candidate)
+  pub whole : (slot : Slot) (n : ℕ) (allowed : Option ℕ) (place : ℕ) (cs : List Component)
       → as_component t (G slot) (pressed_at n around) allowed place cs → Complete cs → Complete (component n t (s n) place cs).components
 
 pub spelled-fitted : (around : Around) (t : Term) (G : Slot → Fitting) (s : ℕ → Spelling) (slot : Slot) (old new : State)
@@ -144,7 +144,7 @@ bytes-keep n t a bytes inside =
 pub one-part : (takes : Slot → Bool) (around : Around) (t a : Term) (bytes : List ℕ) (G : Slot → Fitting) (old new : State)
     → Spelled around t G (λ n. text bytes and (ways_of n a).as_type) → is_open t ≡ is_open a
     → ((arguments : Term) → pack_length arguments t ≡ pack_length arguments a)
-    → ((slot : Slot) → takes slot ≡ true → (n : ℕ) (allowed : Option ℕ) (place : ℕ) (cs : List Candidate)
+    → ((slot : Slot) → takes slot ≡ true → (n : ℕ) (allowed : Option ℕ) (place : ℕ) (cs : List Component)
     → (fits_of a).as_type any_type (pressed_at n around) allowed (place + length bytes) cs → G slot (pressed_at n around) allowed place cs)
     → TypeFits around any_type a old new
     → SolidAs takes around t (λ slot. as_component t (G slot)) (λ n. component n t (text bytes and (ways_of n a).as_type))

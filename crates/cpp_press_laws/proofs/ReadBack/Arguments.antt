@@ -12,11 +12,12 @@ use Rattle.cpp_grammar.specs.Grammar.{in_ranges, among, is_in, pick, number_of_k
 use Rattle.cpp_grammar.specs.Table.{abi, rule_of}
 use Rattle.cpp_grammar.specs.Term.{Signed, Term, expansion, nil, list}
 use Rattle.cpp_grammar.specs.Values as value
-use Rattle.cpp_grammar.specs.Values.{Candidate, State, Around, Value, nothing_there, letter, signed, tree, tree_of, letter_of, text_of, signed_of, is_listed, is_there, normal, is_zero, signed_digits, part}
+use Rattle.cpp_grammar.specs.Values.{State, Around, Value, nothing_there, letter, signed, tree, tree_of, letter_of, text_of, signed_of, is_listed, is_there, normal, is_zero, signed_digits, part}
 use Rattle.cpp_grammar.specs.Between.{Going, between, inside, under_expansion, no_items}
 use Rattle.cpp_grammar.specs.Meaning.{meaning}
 use Rattle.cpp_grammar.specs.Unfolding as unfolding_
 use Rattle.cpp_grammar.specs.Unfolding.{opening, close, byte_of}
+use Rattle.cpp_press_laws.specs.Components.{Component}
 use Rattle.cpp_press_laws.specs.Texts.{signed_text}
 use Rattle.cpp_press_laws.specs.Spellable.{AreSpellableDigits, IsSpellableNumber}
 use Rattle.cpp_press_laws.specs.Subtrees.{Written, written, ReadsAt, Is}
@@ -34,7 +35,7 @@ items_value t = tree t true
 
 -- one more item of a list whose production is a chain of its first item
 pub list-reads : (p : Production) (k inner : ℕ) (around : Around) (allowed : Option ℕ) (t items : Term) (last : Value) (place : ℕ)
-    (cs : List Candidate) (first rest : Written)
+    (cs : List Component) (first rest : Written)
     → TakesRule abi k (rule_of p) [] → parts_of p ≡ OfKind inner ∷ OfKind k ∷ []
     → ((known : List Value) (s : State) → ◌≡◌ {A = Going} (between p around place known s)
     (Ok (record { context = around; values = known; state = s })))
@@ -49,7 +50,7 @@ list-reads p k inner around allowed t items last place cs first rest takes parts
     (goes []) (goes (tree t true ∷ [])) opens means one two
 
 -- items of an encoding's parameters and of a lambda's, arguments that are types, elements of a pack that are types
-pub items-more : (around : Around) (allowed : Option ℕ) (t items : Term) (last : Value) (place : ℕ) (cs : List Candidate) (first rest : Written)
+pub items-more : (around : Around) (allowed : Option ℕ) (t items : Term) (last : Value) (place : ℕ) (cs : List Component) (first rest : Written)
     → no_items last ≡ items
     → ReadsAt around allowed (OfKind ITEM) (Is (tree t true)) (place + 0) cs first
     → ReadsAt around allowed (OfKind ITEMS) (Is last) (place + 0 + length first.bytes) first.components rest
@@ -60,7 +61,7 @@ items-more around allowed t items last place cs first rest are one two =
     (takes-none ITEMS Kind.Items Production.Items 80 refl refl (omega arith) refl) refl (λ known s. refl) (λ f s. refl)
     (λ began s. ap (λ l. Ok (found (tree (list t l) true) s)) are) one two
 
-pub type-argument : (around : Around) (allowed : Option ℕ) (t items : Term) (last : Value) (place : ℕ) (cs : List Candidate)
+pub type-argument : (around : Around) (allowed : Option ℕ) (t items : Term) (last : Value) (place : ℕ) (cs : List Component)
     (first rest : Written) → no_items last ≡ items
     → ReadsAt around allowed (OfKind ITEM) (Is (tree t true)) (place + 0) cs first
     → ReadsAt around allowed (OfKind ARGUMENT_LIST) (Is last) (place + 0 + length first.bytes) first.components rest
@@ -71,7 +72,7 @@ type-argument around allowed t items last place cs first rest are one two =
     (takes-none ARGUMENT_LIST Kind.ArgumentList Production.TypeArgument 80 refl refl (omega arith) refl) refl (λ known s. refl) (λ f s. refl)
     (λ began s. ap (λ l. Ok (found (tree (list t l) true) s)) are) one two
 
-pub type-element : (around : Around) (allowed : Option ℕ) (t items : Term) (last : Value) (place : ℕ) (cs : List Candidate)
+pub type-element : (around : Around) (allowed : Option ℕ) (t items : Term) (last : Value) (place : ℕ) (cs : List Component)
     (first rest : Written) → no_items last ≡ items
     → ReadsAt around allowed (OfKind ITEM) (Is (tree t true)) (place + 0) cs first
     → ReadsAt around allowed (OfKind PACK_LIST) (Is last) (place + 0 + length first.bytes) first.components rest
@@ -86,7 +87,7 @@ type-element around allowed t items last place cs first rest are one two =
 
 -- arguments that are there; they are read where the name before them has become a component
 pub arguments-read : (around : Around) (allowed : Option ℕ) (k : ℕ) (items : Term) (last : Value) (place : ℕ)
-    (cs middle : List Candidate) (w : Written)
+    (cs middle : List Component) (w : Written)
     → TakesRule abi k (rule_of Production.Arguments) (73 ∷ []) → no_items last ≡ items
     → PassesAt Production.Arguments around allowed place [] cs (inside around) allowed [] middle
     → ReadsAt (inside around) allowed (OfKind ARGUMENT_LIST) (Is last) (place + 1) middle w
@@ -108,7 +109,7 @@ arguments-read around allowed k items last place cs middle w takes are passes on
 -- ## Expansions
 
 -- What stands under an expansion names packs of one length, whichever they may have around it.
-pub expansion-reads : (around : Around) (allowed inner : Option ℕ) (t : Term) (place : ℕ) (cs : List Candidate) (w : Written)
+pub expansion-reads : (around : Around) (allowed inner : Option ℕ) (t : Term) (place : ℕ) (cs : List Component) (w : Written)
     → ReadsAt (under_expansion around) inner (OfKind TYPE) (Is (tree t true)) (place + 1) cs w
     → ReadsAt around allowed (OfKind ITEM_AFTER_D) (Is (tree (expansion t) false)) place cs (written (112 ∷ w.bytes) w.components)
 unfolding choose alternatives pick is_in in_ranges among kinds is_chain parts_of number_of_kind between opening close unfolding_.behind meaning tree_of part
@@ -137,7 +138,7 @@ unfolding signed_digits
 signed-kept true digits same none = rw (same, none refl) refl
 signed-kept false digits same none = rw same refl
 
-pub integer-reads : (around : Around) (allowed : Option ℕ) (n : Signed) (place : ℕ) (cs : List Candidate) → IsSpellableNumber n
+pub integer-reads : (around : Around) (allowed : Option ℕ) (n : Signed) (place : ℕ) (cs : List Component) → IsSpellableNumber n
     → ReadsAt around allowed (OfKind INTEGER) (Is (signed n)) place cs (written (signed_text n) cs)
 unfolding choose alternatives pick is_in in_ranges among kinds is_chain parts_of between opening close unfolding_.behind meaning text_of part signed_text
 integer-reads around allowed n place cs good = go n.negative n.digits good.digits good.minus

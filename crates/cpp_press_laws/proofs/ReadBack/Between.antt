@@ -6,8 +6,9 @@ use Rattle.cpp_grammar.specs.declared.production.Production.{Production}
 use Rattle.cpp_grammar.specs.KindNumbers.{COMPLETE_NAME, UNQUALIFIED, NEST_REST, NEST_TAIL, ABBREVIATION, TYPE_AFTER_S, SOURCE_OR_LOCAL, ARGUMENT_LIST}
 use Rattle.cpp_grammar.specs.Table.{abi, rule_of}
 use Rattle.cpp_grammar.specs.Term.{Term, in_std, within, instance, parameter}
-use Rattle.cpp_grammar.specs.Values.{Candidate, Around, Value, nothing_there, tree, piece, tree_of, is_there}
+use Rattle.cpp_grammar.specs.Values.{Around, Value, nothing_there, tree, piece, tree_of, is_there}
 use Rattle.cpp_grammar.specs.Between.{after, inside, extended, applied, no_items}
+use Rattle.cpp_press_laws.specs.Components.{Component}
 use Rattle.cpp_press_laws.specs.Texts.{ordinal}
 use Rattle.cpp_press_laws.specs.Subtrees.{Written, written, ReadsAt, Is}
 use Rattle.cpp_press_laws.proofs.ReadBack.Types.{same-written, more, solid-with-s}
@@ -25,19 +26,19 @@ abbrev pub in_I_and_E : List ℕ → List ℕ
 in_I_and_E bytes = 73 ∷ (bytes ++ (69 ∷ []))
 
 -- elements behind a template name that has become a component
-abbrev pub ElementsRead : Around → Option ℕ → (last : Value) → (place : ℕ) → List Candidate → Written → Type 0
+abbrev pub ElementsRead : Around → Option ℕ → (last : Value) → (place : ℕ) → List Component → Written → Type 0
 ElementsRead around allowed last place cs args = ReadsAt (inside around) allowed (OfKind ARGUMENT_LIST) (Is last) (place + 1) cs args
 
 -- ## Names with arguments and without
 
-pub record Named (around : Around) (allowed : Option ℕ) (k : ℕ) (t : Term) (place : ℕ) (cs : List Candidate) (w : Written) : Type 0 where
+pub record Named (around : Around) (allowed : Option ℕ) (k : ℕ) (t : Term) (place : ℕ) (cs : List Component) (w : Written) : Type 0 where
   pub bare : ReadsAt around allowed (OfKind k) (Is (tree t false)) place cs w
   pub instanced : (items : Term) (last : Value) (args : Written) → no_items last ≡ items
       → ElementsRead around allowed last (place + length w.bytes) (more around w.components t) args
       → ReadsAt around allowed (OfKind k) (Is (tree (instance t items) false)) place cs (written
       (w.bytes ++ in_I_and_E args.bytes) args.components)
 
-pub named-piece : (around : Around) (allowed : Option ℕ) (k : ℕ) (p t : Term) (place : ℕ) (cs : List Candidate) (w : Written)
+pub named-piece : (around : Around) (allowed : Option ℕ) (k : ℕ) (p t : Term) (place : ℕ) (cs : List Component) (w : Written)
     → PieceReads around allowed p place cs w → NameRule k p → extended around.prefix p ≡ t → Named around allowed k t place cs w
 unfolding applied is_there tree_of
 named-piece around allowed k p t place cs w one rule is = record {
@@ -55,7 +56,7 @@ named-piece around allowed k p t place cs w one rule is = record {
 }
 
 -- a piece behind St, as an encoding's own name
-pub named-std : (around : Around) (allowed : Option ℕ) (p : Term) (place : ℕ) (cs : List Candidate) (w : Written)
+pub named-std : (around : Around) (allowed : Option ℕ) (p : Term) (place : ℕ) (cs : List Component) (w : Written)
     → ReadsAt around allowed (OfKind UNQUALIFIED) (Is (piece p)) (place + 2) cs w
     → Named around allowed 8 (in_std p) place cs (written (83 ∷ 116 ∷ w.bytes) w.components)
 unfolding applied is_there tree_of
@@ -75,7 +76,7 @@ named-std around allowed p place cs w one =
     }
 
 -- and as a type
-pub named-std-type : (k : ℕ) (around : Around) (allowed : Option ℕ) (p : Term) (place : ℕ) (cs : List Candidate) (w : Written)
+pub named-std-type : (k : ℕ) (around : Around) (allowed : Option ℕ) (p : Term) (place : ℕ) (cs : List Component) (w : Written)
     → TakesRule abi k (rule_of Production.TypeWithS) (83 ∷ [])
     → ReadsAt around allowed (OfKind SOURCE_OR_LOCAL) (Is (piece p)) (place + 2) cs w
     → Named around allowed k (in_std p) place cs (written (83 ∷ 116 ∷ w.bytes) w.components)
@@ -96,18 +97,18 @@ named-std-type k around allowed p place cs w takes one =
 -- ## Between N and E
 
 -- a name so far with its arguments, in front of which it becomes a component
-abbrev pub SoFarWith : Around → Option ℕ → (t : Term) → (place : ℕ) → List Candidate → Written → Type 0
+abbrev pub SoFarWith : Around → Option ℕ → (t : Term) → (place : ℕ) → List Component → Written → Type 0
 SoFarWith around allowed t place cs w =
     (items : Term) (last : Value) (args : Written) → no_items last ≡ items
     → ElementsRead around allowed last (place + length w.bytes) (more around w.components t) args
     → SoFar around allowed (instance t items) false 18 place cs (written (w.bytes ++ in_I_and_E args.bytes) args.components)
 
-pub record Nested (around : Around) (allowed : Option ℕ) (t : Term) (place : ℕ) (cs : List Candidate) (w : Written) : Type 0 where
+pub record Nested (around : Around) (allowed : Option ℕ) (t : Term) (place : ℕ) (cs : List Component) (w : Written) : Type 0 where
   pub bare : SoFar around allowed t false 18 place cs w
   pub instanced : SoFarWith around allowed t place cs w
 
 -- a piece behind St
-pub nested-std : (around : Around) (allowed : Option ℕ) (p : Term) (place : ℕ) (cs : List Candidate) (w : Written)
+pub nested-std : (around : Around) (allowed : Option ℕ) (p : Term) (place : ℕ) (cs : List Component) (w : Written)
     → ReadsAt around allowed (OfKind UNQUALIFIED) (Is (piece p)) (place + 2) cs w
     → Nested around allowed (in_std p) place cs (written (83 ∷ 116 ∷ w.bytes) w.components)
 unfolding applied is_there tree_of
@@ -126,7 +127,7 @@ nested-std around allowed p place cs w one =
     }
 
 -- a piece behind a prefix
-pub nested-within : (around : Around) (allowed : Option ℕ) (x p : Term) (place : ℕ) (cs : List Candidate) (w one : Written)
+pub nested-within : (around : Around) (allowed : Option ℕ) (x p : Term) (place : ℕ) (cs : List Component) (w one : Written)
     → Extends around allowed x place cs w
     → Named (after x true around) allowed 19 (within x p) (place + length w.bytes) w.components one
     → Nested around allowed (within x p) place cs (written (w.bytes ++ one.bytes) one.components)
@@ -144,7 +145,7 @@ nested-within around allowed x p place cs w one prefix name = record {
 }
 
 -- the whole of a name between N and E
-pub whole-nested : (k : ℕ) (around : Around) (allowed : Option ℕ) (t : Term) (place : ℕ) (cs : List Candidate) (w : Written)
+pub whole-nested : (k : ℕ) (around : Around) (allowed : Option ℕ) (t : Term) (place : ℕ) (cs : List Component) (w : Written)
     → TakesRule abi k (rule_of Production.NestedType) (78 ∷ []) → SoFar around allowed t false 18 (place + 1) cs w
     → ReadsAt around allowed (OfKind k) (Is (tree t false)) place cs (written (78 ∷ (w.bytes ++ (69 ∷ []))) w.components)
 whole-nested k around allowed t place cs w takes so_far =
@@ -154,7 +155,7 @@ whole-nested k around allowed t place cs w takes so_far =
 -- ## Prefixes
 
 -- a prefix with arguments, which become part of it
-abbrev pub ExtendsWith : Around → Option ℕ → (t : Term) → (place : ℕ) → List Candidate → Written → Type 0
+abbrev pub ExtendsWith : Around → Option ℕ → (t : Term) → (place : ℕ) → List Component → Written → Type 0
 ExtendsWith around allowed t place cs w =
     (items : Term) (last : Value) (args : Written) → no_items last ≡ items
     → ElementsRead around allowed last (place + length w.bytes) w.components args
@@ -162,7 +163,7 @@ ExtendsWith around allowed t place cs w =
     (written (w.bytes ++ in_I_and_E args.bytes) (more around args.components (instance t items)))
 
 -- what begins with an S
-pub extends-with-behind-s : (around : Around) (allowed : Option ℕ) (t : Term) (place : ℕ) (cs : List Candidate) (w : Written)
+pub extends-with-behind-s : (around : Around) (allowed : Option ℕ) (t : Term) (place : ℕ) (cs : List Component) (w : Written)
     → ReadsAt around allowed (OfKind ABBREVIATION) (Is (tree t true)) (place + 1) cs w
     → ExtendsWith around allowed t place cs (written (83 ∷ w.bytes) w.components)
 extends-with-behind-s around allowed t place cs w one items last args are two =
@@ -170,34 +171,34 @@ extends-with-behind-s around allowed t place cs w one items last args are two =
     (nest-behind-s around allowed t place cs w
     (subst (λ q. ReadsAt around allowed (OfKind ABBREVIATION) (Is (tree t true)) q cs w) (omega arith) one)) two
 
-pub prefix-behind-s : (around : Around) (allowed : Option ℕ) (t : Term) (place : ℕ) (cs : List Candidate) (w : Written)
+pub prefix-behind-s : (around : Around) (allowed : Option ℕ) (t : Term) (place : ℕ) (cs : List Component) (w : Written)
     → ReadsAt around allowed (OfKind ABBREVIATION) (Is (tree t true)) (place + 1) cs w
     → Extends around allowed t place cs (written (83 ∷ w.bytes) w.components)
 prefix-behind-s around allowed t place cs w one =
     extends-behind-s around allowed t place cs w (subst (λ q. ReadsAt around allowed (OfKind ABBREVIATION) (Is (tree t true)) q cs w) (omega arith) one)
 
 -- a parameter
-pub prefix-parameter : (around : Around) (allowed : Option ℕ) (k place : ℕ) (cs : List Candidate) → IsInScope around allowed k
+pub prefix-parameter : (around : Around) (allowed : Option ℕ) (k place : ℕ) (cs : List Component) → IsInScope around allowed k
     → Extends around allowed (parameter k) place cs (written (84 ∷ ordinal k) (more around cs (parameter k)))
 prefix-parameter around allowed k place cs scoped =
     extends-same NEST_REST around allowed (parameter k) place cs (written (84 ∷ ordinal k) (more around cs (parameter k))) next-17
     (nest-parameter around allowed k place cs scoped)
 
-pub prefix-with-parameter : (around : Around) (allowed : Option ℕ) (k place : ℕ) (cs : List Candidate) → IsInScope around allowed k
+pub prefix-with-parameter : (around : Around) (allowed : Option ℕ) (k place : ℕ) (cs : List Component) → IsInScope around allowed k
     → ExtendsWith around allowed (parameter k) place cs (written (84 ∷ ordinal k) (more around cs (parameter k)))
 prefix-with-parameter around allowed k place cs scoped items last args are two =
     nest-arguments around allowed (parameter k) items true last place cs (written (84 ∷ ordinal k) (more around cs (parameter k))) args are
     (nest-parameter around allowed k place cs scoped) two
 
 -- a first piece, which becomes a component
-pub prefix-piece : (around : Around) (allowed : Option ℕ) (p t : Term) (place : ℕ) (cs : List Candidate) (w : Written)
+pub prefix-piece : (around : Around) (allowed : Option ℕ) (p t : Term) (place : ℕ) (cs : List Component) (w : Written)
     → SoFar around allowed (extended around.prefix p) false 17 place cs w → extended around.prefix p ≡ t
     → Extends around allowed t place cs (written w.bytes (more around w.components t))
 prefix-piece around allowed p t place cs w so_far is =
     subst (λ x. Extends around allowed x place cs (written w.bytes (more around w.components x))) is
     (extends-more NEST_REST around allowed (extended around.prefix p) place cs w next-17 so_far)
 
-pub prefix-with-piece : (around : Around) (allowed : Option ℕ) (p t : Term) (place : ℕ) (cs : List Candidate) (w : Written)
+pub prefix-with-piece : (around : Around) (allowed : Option ℕ) (p t : Term) (place : ℕ) (cs : List Component) (w : Written)
     → SoFar around allowed (extended around.prefix p) false 17 place cs w → extended around.prefix p ≡ t
     → ExtendsWith around allowed t place cs (written w.bytes (more around w.components t))
 prefix-with-piece around allowed p t place cs w so_far is =
@@ -205,11 +206,11 @@ prefix-with-piece around allowed p t place cs w so_far is =
     (λ items last args are two. nest-arguments around allowed (extended around.prefix p) items false last place cs w args are so_far two)
 
 -- what stands between N and E becomes a component
-pub prefix-nested : (around : Around) (allowed : Option ℕ) (t : Term) (place : ℕ) (cs : List Candidate) (w : Written)
+pub prefix-nested : (around : Around) (allowed : Option ℕ) (t : Term) (place : ℕ) (cs : List Component) (w : Written)
     → SoFar around allowed t false 18 place cs w → Extends around allowed t place cs (written w.bytes (more around w.components t))
 prefix-nested around allowed t place cs w so_far = extends-more NEST_TAIL around allowed t place cs w next-18 so_far
 
-pub prefix-with-nested : (around : Around) (allowed : Option ℕ) (t : Term) (place : ℕ) (cs : List Candidate) (w : Written)
+pub prefix-with-nested : (around : Around) (allowed : Option ℕ) (t : Term) (place : ℕ) (cs : List Component) (w : Written)
     → SoFarWith around allowed t place cs w → ExtendsWith around allowed t place cs (written w.bytes (more around w.components t))
 prefix-with-nested around allowed t place cs w so_far items last args are two =
     extends-more NEST_TAIL around allowed (instance t items) place cs (written (w.bytes ++ in_I_and_E args.bytes) args.components) next-18

@@ -10,12 +10,13 @@ use Rattle.cpp_grammar.specs.Grammar.{in_ranges, among, is_in, pick, number_of_k
 use Rattle.cpp_grammar.specs.Table.{abi, rule_of}
 use Rattle.cpp_grammar.specs.Term.{RefQualifier, any_value, lvalue_only, rvalue_only, Term, in_std, instance}
 use Rattle.cpp_grammar.specs.Values as value
-use Rattle.cpp_grammar.specs.Values.{Candidate, State, Around, Value, nothing_there, letter, signed, adjusted, tree, piece, named, tree_of, piece_of, letter_of, text_of, signed_of, adjustment_of, qualifiers_of, ref_of, mark_of, is_listed, is_there, normal, part}
+use Rattle.cpp_grammar.specs.Values.{State, Around, Value, nothing_there, letter, signed, adjusted, tree, piece, named, tree_of, piece_of, letter_of, text_of, signed_of, adjustment_of, qualifiers_of, ref_of, mark_of, is_listed, is_there, normal, part}
 use Rattle.cpp_grammar.specs.References.{with_prefix}
 use Rattle.cpp_grammar.specs.Between.{between, after, inside, applied, no_items, named_so_far, listed_so_far}
 use Rattle.cpp_grammar.specs.Meaning.{meaning}
 use Rattle.cpp_grammar.specs.Unfolding as unfolding_
 use Rattle.cpp_grammar.specs.Unfolding.{opening, close, byte_of}
+use Rattle.cpp_press_laws.specs.Components.{Component}
 use Rattle.cpp_press_laws.specs.Subtrees.{Written, written, ReadsAt, Is}
 use Rattle.cpp_press_laws.proofs.ReadBack.Reading.{passes-by, row-last, takes-byte, takes-none, empty-reads}
 use Rattle.cpp_press_laws.proofs.ReadBack.Types.{AreOnly, one-part, then-part, then-last, whole-same}
@@ -26,7 +27,7 @@ use Rattle.cpp_press_laws.proofs.ReadBack.Names.{alone-arguments, name-with}
 -- ## Whole names
 
 -- a piece in std
-pub std-name : (around : Around) (allowed : Option ℕ) (p : Term) (last : Value) (place : ℕ) (cs : List Candidate) (first args : Written)
+pub std-name : (around : Around) (allowed : Option ℕ) (p : Term) (last : Value) (place : ℕ) (cs : List Component) (first args : Written)
     → ReadsAt around allowed (OfKind UNQUALIFIED) (Is (piece p)) (place + 1 + 1) cs first
     → ReadsAt (after (in_std p) false around) allowed (OfKind MAYBE_ARGUMENTS) (Is last) (place + 1 + 1 + length first.bytes) first.components args
     → ReadsAt around allowed (OfKind COMPLETE_NAME) (Is (tree (applied (in_std p) last) false)) place cs
@@ -41,7 +42,7 @@ std-name around allowed p last place cs first args one two =
     (λ began s. refl) one two)
 
 -- arguments of a name that is a component already, or never is one
-pub listed-arguments : (k : ℕ) (around : Around) (allowed : Option ℕ) (t items : Term) (last : Value) (place : ℕ) (cs : List Candidate)
+pub listed-arguments : (k : ℕ) (around : Around) (allowed : Option ℕ) (t items : Term) (last : Value) (place : ℕ) (cs : List Component)
     (w : Written) → TakesRule abi k (rule_of Production.Arguments) (73 ∷ []) → no_items last ≡ items
     → ReadsAt (inside around) allowed (OfKind ARGUMENT_LIST) (Is last) (place + 1) cs w
     → ReadsAt (after t true around) allowed (OfKind k) (Is (tree items true)) place cs (written (73 ∷ (w.bytes ++ (69 ∷ []))) w.components)
@@ -51,7 +52,7 @@ listed-arguments k around allowed t items last place cs w takes are one =
     (λ s same packs. record { state = s; goes = refl; candidates = same; packs = packs }) one
 
 -- an abbreviation or a reference, and its arguments
-pub abbreviated-name : (around : Around) (allowed : Option ℕ) (t items : Term) (place : ℕ) (cs : List Candidate) (first args : Written)
+pub abbreviated-name : (around : Around) (allowed : Option ℕ) (t items : Term) (place : ℕ) (cs : List Component) (first args : Written)
     → ReadsAt around allowed (OfKind ABBREVIATION) (Is (tree t true)) (place + 1 + 0) cs first
     → ReadsAt (after t true around) allowed (OfKind ARGUMENTS) (Is (tree items true)) (place + 1 + 0 + length first.bytes) first.components args
     → ReadsAt around allowed (OfKind COMPLETE_NAME) (Is (tree (instance t items) false)) place cs (written (83 ∷ (first.bytes ++ args.bytes)) args.components)
@@ -82,7 +83,7 @@ ref_bytes any_value = []
 ref_bytes lvalue_only = 82 ∷ []
 ref_bytes rvalue_only = 79 ∷ []
 
-ref-reads : (around : Around) (allowed : Option ℕ) (ref : RefQualifier) (place : ℕ) (cs : List Candidate)
+ref-reads : (around : Around) (allowed : Option ℕ) (ref : RefQualifier) (place : ℕ) (cs : List Component)
     → ReadsAt around allowed (OfKind MAYBE_REF) (Is (ref_value ref)) place cs (written (ref_bytes ref) cs)
 unfolding choose alternatives pick is_in in_ranges among kinds may_be_empty
 ref-reads around allowed any_value place cs = empty-reads around allowed MAYBE_REF Kind.MaybeRef place cs refl refl
@@ -91,7 +92,7 @@ ref-reads around allowed rvalue_only place cs = mark-reads around allowed MAYBE_
 
 -- a name between N and E, with the letters of its encoding
 pub nested-name : (k : ℕ) (around : Around) (allowed : Option ℕ) (t : Term) (listed restrict volatile const : Bool) (ref : RefQualifier)
-    (place : ℕ) (cs : List Candidate) (w : Written) → TakesRule abi k (rule_of Production.NestedName) (78 ∷ [])
+    (place : ℕ) (cs : List Component) (w : Written) → TakesRule abi k (rule_of Production.NestedName) (78 ∷ [])
     → ReadsAt around allowed (OfKind NEST) (Is (tree t listed)) (place + 1 + length (mark_bytes restrict 114) + length (mark_bytes volatile 86) +
     length (mark_bytes const 75) + length (ref_bytes ref)) cs w
     → ReadsAt around allowed (OfKind k) (Is (named t (record { restrict = restrict; volatile = volatile; const = const }) ref)) place cs
@@ -148,7 +149,7 @@ nested-name k around allowed t listed restrict volatile const ref place cs w tak
         ∙ ap (λ x. Ok (found (named t (record { restrict = a; volatile = b; const = d }) x) s)) (marks q)
 
 -- a name between N and E as a type
-pub nested-type : (k : ℕ) (around : Around) (allowed : Option ℕ) (t : Term) (listed : Bool) (place : ℕ) (cs : List Candidate) (w : Written)
+pub nested-type : (k : ℕ) (around : Around) (allowed : Option ℕ) (t : Term) (listed : Bool) (place : ℕ) (cs : List Component) (w : Written)
     → TakesRule abi k (rule_of Production.NestedType) (78 ∷ [])
     → ReadsAt around allowed (OfKind NEST) (Is (tree t listed)) (place + 1) cs w
     → ReadsAt around allowed (OfKind k) (Is (tree t listed)) place cs (written (78 ∷ w.bytes) w.components)
@@ -158,7 +159,7 @@ nested-type k around allowed t listed place cs w takes one =
     (λ f s. refl) (λ began s. refl) one
 
 -- a piece in std as a type
-pub std-type : (around : Around) (allowed : Option ℕ) (p : Term) (place : ℕ) (cs : List Candidate) (w : Written)
+pub std-type : (around : Around) (allowed : Option ℕ) (p : Term) (place : ℕ) (cs : List Component) (w : Written)
     → ReadsAt around allowed (OfKind SOURCE_OR_LOCAL) (Is (piece p)) (place + 1) cs w
     → ReadsAt around allowed (OfKind TYPE_AFTER_S) (Is (tree (in_std p) false)) place cs (written (116 ∷ w.bytes) w.components)
 unfolding choose alternatives pick is_in in_ranges among kinds is_chain parts_of number_of_kind between opening close unfolding_.behind meaning piece_of part
@@ -167,7 +168,7 @@ std-type around allowed p place cs w one =
     (takes-byte TYPE_AFTER_S Kind.TypeAfterS Production.StdType 116 refl refl (omega arith) refl) refl (λ s. refl) (λ f s. refl) (λ began s. refl) one
 
 -- what stands behind an S as a type, and its arguments
-pub type-with-arguments : (k : ℕ) (around : Around) (allowed : Option ℕ) (t items : Term) (listed : Bool) (place : ℕ) (cs : List Candidate)
+pub type-with-arguments : (k : ℕ) (around : Around) (allowed : Option ℕ) (t items : Term) (listed : Bool) (place : ℕ) (cs : List Component)
     (first args : Written) → TakesRule abi k (rule_of Production.TypeWithS) (83 ∷ [])
     → ReadsAt around allowed (OfKind TYPE_AFTER_S) (Is (tree t listed)) (place + 1) cs first
     → ReadsAt (after t listed around) allowed (OfKind MAYBE_ARGUMENTS) (Is (tree items true)) (place + 1 + length first.bytes) first.components args

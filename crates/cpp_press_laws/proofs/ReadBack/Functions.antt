@@ -16,18 +16,19 @@ use Rattle.cpp_grammar.specs.Table.{abi, rule_of}
 use Rattle.cpp_grammar.specs.Term.{RefQualifier, any_value, lvalue_only, rvalue_only, Term, parameter, lvalue, rvalue, vector, function_type, qualified, nil, list}
 use Rattle.cpp_grammar.specs.Scope.{count, element, length_if_pack}
 use Rattle.cpp_grammar.specs.Values as value
-use Rattle.cpp_grammar.specs.Values.{Candidate, State, Around, Value, nothing_there, letter, tree, signature, tree_of, ref_of, text_of, is_there, normal, part}
+use Rattle.cpp_grammar.specs.Values.{State, Around, Value, nothing_there, letter, tree, signature, tree_of, ref_of, text_of, is_there, normal, part}
 use Rattle.cpp_grammar.specs.References.{appended, with_packs, parameter_named}
 use Rattle.cpp_grammar.specs.Between.{between, after, applied, listed_so_far, parameter_so_far, index_of}
 use Rattle.cpp_grammar.specs.Meaning.{meaning, listed_value, qualified_by, function_of, with_item, signature_or, parameters}
 use Rattle.cpp_grammar.specs.Unfolding as unfolding_
 use Rattle.cpp_grammar.specs.Unfolding.{opening, close, byte_of}
+use Rattle.cpp_press_laws.specs.Components.{components_of, Component}
 use Rattle.cpp_press_laws.specs.Texts.{ordinal}
 use Rattle.cpp_press_laws.specs.Fits.{PacksFit}
 use Rattle.cpp_press_laws.specs.Spellable.{AreSpellableDigits}
 use Rattle.cpp_press_laws.specs.Subtrees.{greatest, Written, written, ReadsAt, Is}
 use Rattle.cpp_press_laws.proofs.ReadBack.Tokens.{digits_token, ordinal_digits, ordinal_token, ordinal-spelled, ordinal-is-token, ordinal-value}
-use Rattle.cpp_press_laws.proofs.ReadBack.Reading.{PassesAt, row-last, takes-byte, takes-none, fixed-reads, empty-reads, number-reads}
+use Rattle.cpp_press_laws.proofs.ReadBack.Reading.{appended-same, PassesAt, row-last, takes-byte, takes-none, fixed-reads, empty-reads, number-reads}
 use Rattle.cpp_press_laws.proofs.ReadBack.References.{packs-fit}
 use Rattle.cpp_press_laws.proofs.ReadBack.Types.{AreOnly, same-written, one-part, no-part, more, then-part, then-last, whole-same, whole-more}
 use Rattle.cpp_press_laws.proofs.ReadBack.Solids.{two-parts}
@@ -61,7 +62,7 @@ named-in around place k s new arguments scoped below goes =
     ∙ ap (λ r. r >>= λ t. Ok (appended around (parameter k) t)) goes
 
 -- what is known of a parameter behind its number
-pub parameter-passes : (p : Production) (around : Around) (allowed : Option ℕ) (at k : ℕ) (cs : List Candidate) → IsInScope around allowed k
+pub parameter-passes : (p : Production) (around : Around) (allowed : Option ℕ) (at k : ℕ) (cs : List Component) → IsInScope around allowed k
     → ((s : State) → between p around at (value.text (ordinal_digits k) ∷ []) s ≡ parameter_so_far around at
     (index_of (value.text (ordinal_digits k))) [] s)
     → PassesAt p around allowed at (value.text (ordinal_digits k) ∷ []) cs (after (parameter k) true around) allowed
@@ -74,17 +75,17 @@ parameter-passes p around allowed at k cs is goes s same packs =
       goes = goes s
           ∙ ap (λ n. parameter_named around at n s >>= λ t. listed_so_far around (parameter n) [] t) (ordinal-value k is.small)
           ∙ ap (λ r. r >>= λ t. listed_so_far around (parameter k) [] t) (named-in around at k s f.state is.arguments is.scoped is.below f.goes);
-      candidates = ap (λ l. more around l (parameter k)) (f.candidates ∙ same);
+      candidates = appended-same around (parameter k) f.state (ap components_of f.candidates ∙ same);
       packs = f.packs_are;
     }
 
-pub parameter-solid : (kind : ℕ) (around : Around) (allowed : Option ℕ) (k place : ℕ) (cs : List Candidate) → IsInScope around allowed k
+pub parameter-solid : (kind : ℕ) (around : Around) (allowed : Option ℕ) (k place : ℕ) (cs : List Component) → IsInScope around allowed k
     → TakesRule abi kind (rule_of Production.Parameter) (84 ∷ [])
     → ReadsAt around allowed (OfKind kind) (Is (tree (parameter k) true)) place cs (written (84 ∷ ordinal k) (more around cs (parameter k)))
 unfolding choose alternatives pick is_in in_ranges among kinds is_chain parts_of number_of_kind may_be_empty between opening close unfolding_.behind meaning applied tree_of is_there part byte_of
 parameter-solid kind around allowed k place cs is takes =
     let digits : Written = written (((ordinal_token k).before ++ ordinal_digits k) ++ (95 ∷ [])) cs in
-    let after_it : List Candidate = more around cs (parameter k) in
+    let after_it : List Component = more around cs (parameter k) in
     let inner : Around = after (parameter k) true around in
     same-written around allowed (OfKind kind) (Is (tree (parameter k) true)) place cs after_it (84 ∷ (digits.bytes ++ [])) (84 ∷ ordinal k)
     (ap (λ l. 84 ∷ l) (append-nil digits.bytes ∙ ordinal-spelled k))
@@ -103,7 +104,7 @@ parameter-solid kind around allowed k place cs is takes =
 
 -- ## Marks
 
-pub mark-reads : (around : Around) (allowed : Option ℕ) (k : ℕ) (kind : Kind) (byte place : ℕ) (cs : List Candidate)
+pub mark-reads : (around : Around) (allowed : Option ℕ) (k : ℕ) (kind : Kind) (byte place : ℕ) (cs : List Component)
     → slice_get kinds k ≡ Some kind → choose kind byte ≡ Some Production.Mark → byte < 256
     → ReadsAt around allowed (OfKind k) (Is (letter byte)) place cs (written (byte ∷ []) cs)
 unfolding is_chain parts_of opening close unfolding_.behind meaning byte_of
@@ -120,7 +121,7 @@ abbrev pub mark_bytes : Bool → (byte : ℕ) → List ℕ
 mark_bytes true byte = byte ∷ []
 mark_bytes false byte = []
 
-pub maybe-mark-reads : (around : Around) (allowed : Option ℕ) (k : ℕ) (kind : Kind) (byte place : ℕ) (cs : List Candidate)
+pub maybe-mark-reads : (around : Around) (allowed : Option ℕ) (k : ℕ) (kind : Kind) (byte place : ℕ) (cs : List Component)
     → slice_get kinds k ≡ Some kind → choose kind byte ≡ Some Production.Mark → byte < 256
     → may_be_empty kind ≡ true → (b : Bool) → ReadsAt around allowed (OfKind k) (Is (mark_value b byte)) place cs (written (mark_bytes b byte) cs)
 maybe-mark-reads around allowed k kind byte place cs at chosen small may true = mark-reads around allowed k kind byte place cs at chosen small
@@ -131,7 +132,7 @@ maybe-mark-reads around allowed k kind byte place cs at chosen small may false =
 abbrev pub qualified_with : (restrict volatile const : Bool) → Term → Term
 qualified_with restrict volatile const t = qualified (record { restrict = restrict; volatile = volatile; const = const }) t
 
-pub const-reads : (around : Around) (allowed : Option ℕ) (k : ℕ) (t : Term) (place : ℕ) (cs : List Candidate) (w : Written)
+pub const-reads : (around : Around) (allowed : Option ℕ) (k : ℕ) (t : Term) (place : ℕ) (cs : List Component) (w : Written)
     → TakesRule abi k (rule_of Production.ConstType) (75 ∷ [])
     → ReadsAt around allowed (OfKind PLAIN) (Is (tree t true)) (place + 1) cs w
     → ReadsAt around allowed (OfKind k) (Is (tree (qualified_with false false true t) true)) place cs
@@ -143,7 +144,7 @@ const-reads around allowed k t place cs w takes one =
     (λ f s. refl) (λ began s. refl) (then-last Production.ConstType (75 ∷ []) around allowed place (OfKind PLAIN) [] (tree t true) (place + 1) cs w
     (λ s. refl) one)
 
-pub volatile-reads : (around : Around) (allowed : Option ℕ) (k : ℕ) (const : Bool) (t : Term) (place : ℕ) (cs : List Candidate) (w : Written)
+pub volatile-reads : (around : Around) (allowed : Option ℕ) (k : ℕ) (const : Bool) (t : Term) (place : ℕ) (cs : List Component) (w : Written)
     → TakesRule abi k (rule_of Production.VolatileType) (86 ∷ [])
     → ReadsAt around allowed (OfKind PLAIN) (Is (tree t true)) (place + 1 + length (mark_bytes const 75)) cs w
     → ReadsAt around allowed (OfKind k) (Is (tree (qualified_with false true const t) true)) place cs
@@ -166,7 +167,7 @@ volatile-reads around allowed k const t place cs w takes one =
     means true began s = refl
     means false began s = refl
 
-pub restrict-reads : (around : Around) (allowed : Option ℕ) (k : ℕ) (volatile const : Bool) (t : Term) (place : ℕ) (cs : List Candidate)
+pub restrict-reads : (around : Around) (allowed : Option ℕ) (k : ℕ) (volatile const : Bool) (t : Term) (place : ℕ) (cs : List Component)
     (w : Written) → TakesRule abi k (rule_of Production.RestrictType) (114 ∷ [])
     → ReadsAt around allowed (OfKind PLAIN) (Is (tree t true)) (place + 1 + length (mark_bytes volatile 86) + length (mark_bytes const 75)) cs w
     → ReadsAt around allowed (OfKind k) (Is (tree (qualified_with true volatile const t) true)) place cs
@@ -200,7 +201,7 @@ restrict-reads around allowed k volatile const t place cs w takes one =
 
 -- ## Behind Dv
 
-pub vector-behind-d : (around : Around) (allowed : Option ℕ) (digits : List ℕ) (t : Term) (place : ℕ) (cs : List Candidate) (w : Written)
+pub vector-behind-d : (around : Around) (allowed : Option ℕ) (digits : List ℕ) (t : Term) (place : ℕ) (cs : List Component) (w : Written)
     → AreSpellableDigits Digits digits
     → ReadsAt around allowed (OfKind TYPE) (Is (tree t true)) (place + 1 + length ((digits_token digits).before ++ digits ++ []) + 1) cs w
     → ReadsAt around allowed (OfKind AFTER_D) (Is (tree (vector digits t) false)) place cs
@@ -223,14 +224,14 @@ vector-behind-d around allowed digits t place cs w good one =
 -- ## Function types
 
 -- what is left of a function type's parameters: its end, and the mark before it
-pub rest-ends : (around : Around) (allowed : Option ℕ) (place : ℕ) (cs : List Candidate)
+pub rest-ends : (around : Around) (allowed : Option ℕ) (place : ℕ) (cs : List Component)
     → ReadsAt around allowed (OfKind FUNCTION_REST) (Is (signature nil any_value)) place cs (written (69 ∷ []) cs)
 unfolding choose alternatives pick is_in in_ranges among kinds is_chain parts_of opening close unfolding_.behind meaning
 rest-ends around allowed place cs =
     no-part Production.RestEnd FUNCTION_REST (69 ∷ []) around allowed place (signature nil any_value) cs
     (takes-byte FUNCTION_REST Kind.FunctionRest Production.RestEnd 69 refl refl (omega arith) refl) refl (λ f s. refl) (λ began s. refl)
 
-pub rest-ends-lvalue : (around : Around) (allowed : Option ℕ) (place : ℕ) (cs : List Candidate)
+pub rest-ends-lvalue : (around : Around) (allowed : Option ℕ) (place : ℕ) (cs : List Component)
     → ReadsAt around allowed (OfKind FUNCTION_REST) (Is (signature nil lvalue_only)) place cs (written (82 ∷ 69 ∷ []) cs)
 unfolding choose alternatives pick is_in in_ranges among kinds is_chain parts_of number_of_kind between opening close unfolding_.behind meaning signature_or part
 rest-ends-lvalue around allowed place cs =
@@ -239,7 +240,7 @@ rest-ends-lvalue around allowed place cs =
     (no-part Production.RefEnd AFTER_R (69 ∷ []) around allowed (place + 1) nothing_there cs
     (takes-byte AFTER_R Kind.AfterR Production.RefEnd 69 refl refl (omega arith) refl) refl (λ f s. refl) (λ began s. refl))
 
-pub rest-ends-rvalue : (around : Around) (allowed : Option ℕ) (place : ℕ) (cs : List Candidate)
+pub rest-ends-rvalue : (around : Around) (allowed : Option ℕ) (place : ℕ) (cs : List Component)
     → ReadsAt around allowed (OfKind FUNCTION_REST) (Is (signature nil rvalue_only)) place cs (written (79 ∷ 69 ∷ []) cs)
 unfolding choose alternatives pick is_in in_ranges among kinds is_chain parts_of number_of_kind between opening close unfolding_.behind meaning signature_or part
 rest-ends-rvalue around allowed place cs =
@@ -249,7 +250,7 @@ rest-ends-rvalue around allowed place cs =
     (takes-byte AFTER_O Kind.AfterO Production.RefEnd 69 refl refl (omega arith) refl) refl (λ f s. refl) (λ began s. refl))
 
 -- one more parameter, which doesn't begin with an R or an O
-pub rest-item : (around : Around) (allowed : Option ℕ) (t items : Term) (ref : RefQualifier) (place : ℕ) (cs : List Candidate) (first rest : Written)
+pub rest-item : (around : Around) (allowed : Option ℕ) (t items : Term) (ref : RefQualifier) (place : ℕ) (cs : List Component) (first rest : Written)
     → ReadsAt around allowed (OfKind ITEM_BUT_REF) (Is (tree t true)) (place + 0) cs first
     → ReadsAt around allowed (OfKind FUNCTION_REST) (Is (signature items ref)) (place + 0 + length first.bytes) first.components rest
     → ReadsAt around allowed (OfKind FUNCTION_REST) (Is (signature (list t items) ref)) place cs (written (first.bytes ++ rest.bytes) rest.components)
@@ -261,7 +262,7 @@ rest-item around allowed t items ref place cs first rest one two =
     (λ began s. refl) one two
 
 -- a parameter that is a reference which is spelled out becomes a component before those behind it
-pub rest-lvalue : (around : Around) (allowed : Option ℕ) (t items : Term) (ref : RefQualifier) (place : ℕ) (cs : List Candidate)
+pub rest-lvalue : (around : Around) (allowed : Option ℕ) (t items : Term) (ref : RefQualifier) (place : ℕ) (cs : List Component)
     (first rest : Written)
     → ReadsAt around allowed (OfKind TYPE) (Is (tree t true)) (place + 1 + 0) cs first
     → ReadsAt around allowed (OfKind FUNCTION_REST) (Is (signature items ref)) (place + 1 + 0 + length first.bytes)
@@ -284,13 +285,13 @@ rest-lvalue around allowed t items ref place cs first rest one two =
     (λ s same packs. record {
       state = appended around (lvalue t) s;
       goes = refl;
-      candidates = ap (λ l. more around l (lvalue t)) same;
+      candidates = appended-same around (lvalue t) s same;
       packs =
           packs;
     })
     two (λ v h. ap (λ x. tree (lvalue t) true ∷ x ∷ []) h))))
 
-pub rest-rvalue : (around : Around) (allowed : Option ℕ) (t items : Term) (ref : RefQualifier) (place : ℕ) (cs : List Candidate)
+pub rest-rvalue : (around : Around) (allowed : Option ℕ) (t items : Term) (ref : RefQualifier) (place : ℕ) (cs : List Component)
     (first rest : Written)
     → ReadsAt around allowed (OfKind TYPE) (Is (tree t true)) (place + 1 + 0) cs first
     → ReadsAt around allowed (OfKind FUNCTION_REST) (Is (signature items ref)) (place + 1 + 0 + length first.bytes)
@@ -313,7 +314,7 @@ rest-rvalue around allowed t items ref place cs first rest one two =
     (λ s same packs. record {
       state = appended around (rvalue t) s;
       goes = refl;
-      candidates = ap (λ l. more around l (rvalue t)) same;
+      candidates = appended-same around (rvalue t) s same;
       packs =
           packs;
     })
@@ -321,7 +322,7 @@ rest-rvalue around allowed t items ref place cs first rest one two =
 
 -- a function type, from its return type and its parameters
 pub function-solid : (around : Around) (allowed : Option ℕ) (c_linkage : Bool) (returned items : Term) (ref : RefQualifier) (place : ℕ)
-    (cs : List Candidate) (first rest : Written)
+    (cs : List Component) (first rest : Written)
     → ReadsAt around allowed (OfKind TYPE) (Is (tree returned true)) (place + 1 + length (mark_bytes c_linkage 89)) cs first
     → ReadsAt around allowed (OfKind FUNCTION_REST) (Is (signature items ref)) (place + 1 + length (mark_bytes c_linkage 89) + length first.bytes)
     first.components rest
@@ -352,7 +353,7 @@ function-solid around allowed c_linkage returned items ref place cs first rest o
     means false began s = refl
 
 pub noexcept-behind-d : (around : Around) (allowed : Option ℕ) (c_linkage : Bool) (returned items : Term) (ref : RefQualifier) (place : ℕ)
-    (cs : List Candidate) (first rest : Written)
+    (cs : List Component) (first rest : Written)
     → ReadsAt around allowed (OfKind TYPE) (Is (tree returned true)) (place + 1 + 1 + length (mark_bytes c_linkage 89)) cs first
     → ReadsAt around allowed (OfKind FUNCTION_REST) (Is (signature items ref)) (place + 1 + 1 + length (mark_bytes c_linkage 89) + length first.bytes)
     first.components rest

@@ -8,22 +8,23 @@ use Rattle.cpp_grammar.specs.declared.production.Production.{Production}
 use Rattle.cpp_grammar.specs.KindNumbers.{ENCODING, INTEGER, ARGUMENT_LIST, PACK_LIST, ADDRESS, LITERAL, BIT, LITERAL_AFTER_D, MAYBE_ZERO, LITERAL_TYPE}
 use Rattle.cpp_grammar.specs.Grammar.{in_ranges, among, is_in, pick, number_of_kind, alternatives, choose, kinds, parts_of, is_chain, may_be_empty}
 use Rattle.cpp_grammar.specs.Term.{Signed, Term, builtin, integer, boolean, null_pointer, encoding_literal, address_of, pack, list}
-use Rattle.cpp_grammar.specs.Values.{Candidate, Around, Value, nothing_there, letter, signed, tree, tree_of, letter_of, signed_of, is_listed, part}
+use Rattle.cpp_grammar.specs.Values.{Around, Value, nothing_there, letter, signed, tree, tree_of, letter_of, signed_of, is_listed, part}
 use Rattle.cpp_grammar.specs.References.{appended, with_type}
 use Rattle.cpp_grammar.specs.Between.{between, no_items}
 use Rattle.cpp_grammar.specs.Meaning.{meaning}
 use Rattle.cpp_grammar.specs.Unfolding as unfolding_
 use Rattle.cpp_grammar.specs.Unfolding.{opening, close, byte_of}
+use Rattle.cpp_press_laws.specs.Components.{Component}
 use Rattle.cpp_press_laws.specs.Spellable.{IsSpellableNumber}
 use Rattle.cpp_press_laws.specs.Subtrees.{Written, written, ReadsAt, Is}
-use Rattle.cpp_press_laws.proofs.ReadBack.Reading.{RowAt, passes-by, row-part, row-last, takes-byte, takes-none, fixed-reads, empty-reads}
+use Rattle.cpp_press_laws.proofs.ReadBack.Reading.{appended-same, RowAt, passes-by, row-part, row-last, takes-byte, takes-none, fixed-reads, empty-reads}
 use Rattle.cpp_press_laws.proofs.ReadBack.Types.{AreOnly, one-part, more, then-part, then-last, whole-same}
 use Rattle.cpp_press_laws.proofs.ReadBack.Solids.{two-parts}
 use Rattle.cpp_press_laws.proofs.ReadBack.Functions.{mark-reads}
 
 -- ## Literals
 
-pub boolean-literal : (around : Around) (allowed : Option ℕ) (truth : Bool) (place : ℕ) (cs : List Candidate)
+pub boolean-literal : (around : Around) (allowed : Option ℕ) (truth : Bool) (place : ℕ) (cs : List Component)
     → ReadsAt around allowed (OfKind LITERAL) (Is (tree (boolean truth) true)) place cs (written (98 ∷ cond truth 49 48 ∷ []) cs)
 unfolding choose alternatives pick is_in in_ranges among kinds is_chain parts_of number_of_kind between opening close unfolding_.behind meaning letter_of part
 boolean-literal around allowed true place cs =
@@ -35,7 +36,7 @@ boolean-literal around allowed false place cs =
     (takes-byte LITERAL Kind.Literal Production.BoolLiteral 98 refl refl (omega arith) refl) refl (λ s. refl) (λ f s. refl) (λ began s. refl)
     (mark-reads around allowed BIT Kind.Bit 48 (place + 1) cs refl refl (omega arith))
 
-pub null-literal : (around : Around) (allowed : Option ℕ) (place : ℕ) (cs : List Candidate)
+pub null-literal : (around : Around) (allowed : Option ℕ) (place : ℕ) (cs : List Component)
     → ReadsAt around allowed (OfKind LITERAL) (Is (tree null_pointer true)) place cs (written (68 ∷ 110 ∷ []) cs)
 unfolding choose alternatives pick is_in in_ranges among kinds is_chain parts_of number_of_kind may_be_empty between opening close unfolding_.behind meaning part
 null-literal around allowed place cs =
@@ -47,7 +48,7 @@ null-literal around allowed place cs =
     (empty-reads around allowed MAYBE_ZERO Kind.MaybeZero (place + 1 + 1) cs refl refl))
 
 -- a literal of a builtin type of two letters
-pub char-literal : (around : Around) (allowed : Option ℕ) (byte : ℕ) (n : Signed) (place : ℕ) (cs : List Candidate) → byte < 256
+pub char-literal : (around : Around) (allowed : Option ℕ) (byte : ℕ) (n : Signed) (place : ℕ) (cs : List Component) → byte < 256
     → choose Kind.LiteralAfterD byte ≡ Some Production.CharLiteral → IsSpellableNumber n
     → (w : Written) → ReadsAt around allowed (OfKind INTEGER) (Is (signed n)) (place + 1 + 1) cs w
     → ReadsAt around allowed (OfKind LITERAL) (Is (tree (integer (builtin (68 ∷ byte ∷ [])) n) true)) place cs (written (68 ∷ byte ∷ w.bytes) w.components)
@@ -61,7 +62,7 @@ char-literal around allowed byte n place cs small chosen good w one =
     (takes-byte LITERAL_AFTER_D Kind.LiteralAfterD Production.CharLiteral byte refl chosen small refl) refl (λ s. refl) (λ f s. refl) (λ began s. refl) one)
 
 -- an integer whose type becomes a component in front of its number
-pub integer-literal : (around : Around) (allowed : Option ℕ) (t : Term) (n : Signed) (place : ℕ) (cs : List Candidate) (first rest : Written)
+pub integer-literal : (around : Around) (allowed : Option ℕ) (t : Term) (n : Signed) (place : ℕ) (cs : List Component) (first rest : Written)
     → ReadsAt around allowed (OfKind LITERAL_TYPE) (Is (tree t false)) (place + 0) cs first
     → ReadsAt around allowed (OfKind INTEGER) (Is (signed n)) (place + 0 + length first.bytes) (more around first.components t) rest
     → ReadsAt around allowed (OfKind LITERAL) (Is (tree (integer t n) true)) place cs (written (first.bytes ++ rest.bytes) rest.components)
@@ -74,11 +75,11 @@ integer-literal around allowed t n place cs first rest one two =
     (AreOnly (tree t false ∷ signed n ∷ [])) (place + 0) cs first rest (λ s. refl) one
     (row-last Production.IntegerLiteral [] around around allowed allowed place (OfKind INTEGER) (tree t false ∷ []) (tree t false ∷ []) (Is (signed n))
     (AreOnly (tree t false ∷ signed n ∷ [])) (place + 0 + length first.bytes) first.components (more around first.components t) rest
-    (λ s same packs. record { state = appended around t s; goes = refl; candidates = ap (λ l. more around l t) same; packs = packs })
+    (λ s same packs. record { state = appended around t s; goes = refl; candidates = appended-same around t s same; packs = packs })
     two (λ v h. ap (λ x. tree t false ∷ x ∷ []) h)))
 
 -- one whose type is a component already, or never is one
-pub integer-literal-same : (around : Around) (allowed : Option ℕ) (t : Term) (n : Signed) (place : ℕ) (cs : List Candidate) (first rest : Written)
+pub integer-literal-same : (around : Around) (allowed : Option ℕ) (t : Term) (n : Signed) (place : ℕ) (cs : List Component) (first rest : Written)
     → ReadsAt around allowed (OfKind LITERAL_TYPE) (Is (tree t true)) (place + 0) cs first
     → ReadsAt around allowed (OfKind INTEGER) (Is (signed n)) (place + 0 + length first.bytes) first.components rest
     → ReadsAt around allowed (OfKind LITERAL) (Is (tree (integer t n) true)) place cs (written (first.bytes ++ rest.bytes) rest.components)
@@ -89,7 +90,7 @@ integer-literal-same around allowed t n place cs first rest one two =
     (takes-none LITERAL Kind.Literal Production.IntegerLiteral 80 refl refl (omega arith) refl) refl (λ s. refl) (λ s. refl) (λ f s. refl)
     (λ began s. refl) one two
 
-pub encoding-literal : (around : Around) (allowed : Option ℕ) (e : Term) (place : ℕ) (cs : List Candidate) (w : Written)
+pub encoding-literal : (around : Around) (allowed : Option ℕ) (e : Term) (place : ℕ) (cs : List Component) (w : Written)
     → ReadsAt around allowed (OfKind ENCODING) (Is (tree e true)) (place + 1 + 1) cs w
     → ReadsAt around allowed (OfKind LITERAL) (Is (tree (encoding_literal e) true)) place cs (written (95 ∷ 90 ∷ w.bytes) w.components)
 unfolding choose alternatives pick is_in in_ranges among kinds is_chain parts_of number_of_kind between opening close unfolding_.behind meaning tree_of part
@@ -103,7 +104,7 @@ encoding-literal around allowed e place cs w one =
 -- ## Literals in a list
 
 -- a literal between L and E, and the arguments behind it
-pub literal-argument : (around : Around) (allowed : Option ℕ) (t items : Term) (last : Value) (place : ℕ) (cs : List Candidate)
+pub literal-argument : (around : Around) (allowed : Option ℕ) (t items : Term) (last : Value) (place : ℕ) (cs : List Component)
     (first rest : Written) → no_items last ≡ items
     → ReadsAt around allowed (OfKind LITERAL) (Is (tree t true)) (place + 1) cs first
     → ReadsAt around allowed (OfKind ARGUMENT_LIST) (Is last) (place + 1 + length first.bytes + 1) first.components rest
@@ -123,7 +124,7 @@ literal-argument around allowed t items last place cs first rest are one two =
     (then-last Production.LiteralArgument (76 ∷ []) around allowed place (OfKind ARGUMENT_LIST) (tree t true ∷ nothing_there ∷ []) last
     (place + 1 + length first.bytes + 1) first.components rest (λ s. refl) two)))
 
-pub literal-element : (around : Around) (allowed : Option ℕ) (t items : Term) (last : Value) (place : ℕ) (cs : List Candidate)
+pub literal-element : (around : Around) (allowed : Option ℕ) (t items : Term) (last : Value) (place : ℕ) (cs : List Component)
     (first rest : Written) → no_items last ≡ items
     → ReadsAt around allowed (OfKind LITERAL) (Is (tree t true)) (place + 1) cs first
     → ReadsAt around allowed (OfKind PACK_LIST) (Is last) (place + 1 + length first.bytes + 1) first.components rest
@@ -144,7 +145,7 @@ literal-element around allowed t items last place cs first rest are one two =
     (place + 1 + length first.bytes + 1) first.components rest (λ s. refl) two)))
 
 -- a pack between J and E, and the arguments behind it
-pub pack-argument : (around : Around) (allowed : Option ℕ) (elements items : Term) (inside_ last : Value) (place : ℕ) (cs : List Candidate)
+pub pack-argument : (around : Around) (allowed : Option ℕ) (elements items : Term) (inside_ last : Value) (place : ℕ) (cs : List Component)
     (first rest : Written) → no_items inside_ ≡ elements → no_items last ≡ items
     → ReadsAt around allowed (OfKind PACK_LIST) (Is inside_) (place + 1) cs first
     → ReadsAt around allowed (OfKind ARGUMENT_LIST) (Is last) (place + 1 + length first.bytes + 1) first.components rest
@@ -176,7 +177,7 @@ pack-argument around allowed elements items inside_ last place cs first rest are
 -- ## Addresses
 
 -- an encoding's address
-pub address-reads : (around : Around) (allowed : Option ℕ) (e : Term) (place : ℕ) (cs : List Candidate) (w : Written)
+pub address-reads : (around : Around) (allowed : Option ℕ) (e : Term) (place : ℕ) (cs : List Component) (w : Written)
     → ReadsAt around allowed (OfKind ENCODING) (Is (tree e true)) (place + 1 + 1 + 1) cs w
     → ReadsAt around allowed (OfKind ADDRESS) (Is (tree (address_of e) true)) place cs (written (76 ∷ 95 ∷ 90 ∷ (w.bytes ++ (69 ∷ 69 ∷ []))) w.components)
 unfolding choose alternatives pick is_in in_ranges among kinds is_chain parts_of number_of_kind between opening close unfolding_.behind meaning tree_of part
@@ -201,7 +202,7 @@ address-reads around allowed e place cs w one =
     nothing_there (end + 1) w.components (written (69 ∷ []) w.components) (λ s. refl)
     (fixed-reads around allowed 69 (end + 1) w.components))))))
 
-pub address-argument : (around : Around) (allowed : Option ℕ) (t items : Term) (last : Value) (place : ℕ) (cs : List Candidate)
+pub address-argument : (around : Around) (allowed : Option ℕ) (t items : Term) (last : Value) (place : ℕ) (cs : List Component)
     (first rest : Written) → no_items last ≡ items
     → ReadsAt around allowed (OfKind ADDRESS) (Is (tree t true)) (place + 1 + 1 + 1) cs first
     → ReadsAt around allowed (OfKind ARGUMENT_LIST) (Is last) (place + 1 + 1 + 1 + length first.bytes) first.components rest
@@ -225,7 +226,7 @@ address-argument around allowed t items last place cs first rest are one two =
     (then-last Production.AddressArgument (88 ∷ []) around allowed place (OfKind ARGUMENT_LIST) (nothing_there ∷ nothing_there ∷ tree t true ∷ []) last
     (place + 1 + 1 + 1 + length first.bytes) first.components rest (λ s. refl) two))))
 
-pub address-element : (around : Around) (allowed : Option ℕ) (t items : Term) (last : Value) (place : ℕ) (cs : List Candidate)
+pub address-element : (around : Around) (allowed : Option ℕ) (t items : Term) (last : Value) (place : ℕ) (cs : List Component)
     (first rest : Written) → no_items last ≡ items
     → ReadsAt around allowed (OfKind ADDRESS) (Is (tree t true)) (place + 1 + 1 + 1) cs first
     → ReadsAt around allowed (OfKind PACK_LIST) (Is last) (place + 1 + 1 + 1 + length first.bytes) first.components rest

@@ -15,11 +15,12 @@ use Rattle.cpp_grammar.specs.KindNumbers.{ANONYMOUS, ITEM, ITEMS}
 use Rattle.cpp_grammar.specs.Grammar.{in_ranges, among, is_in, pick, number_of_kind, alternatives, choose, kinds, parts_of, is_chain}
 use Rattle.cpp_grammar.specs.Term.{Term, lambda, unnamed, list}
 use Rattle.cpp_grammar.specs.Values as value
-use Rattle.cpp_grammar.specs.Values.{Candidate, State, Around, Value, nothing_there, tree, piece, tree_of, text_of, local_number, part}
+use Rattle.cpp_grammar.specs.Values.{State, Around, Value, nothing_there, tree, piece, tree_of, text_of, local_number, part}
 use Rattle.cpp_grammar.specs.Between.{between, in_signature, no_items}
 use Rattle.cpp_grammar.specs.Meaning.{meaning, parameters}
 use Rattle.cpp_grammar.specs.Unfolding as unfolding_
 use Rattle.cpp_grammar.specs.Unfolding.{last_token, number_tested, opening, close, byte_of}
+use Rattle.cpp_press_laws.specs.Components.{Component}
 use Rattle.cpp_press_laws.specs.Texts.{ordinal}
 use Rattle.cpp_press_laws.specs.Subtrees.{greatest, Written, written, ReadsAt, Is}
 use Rattle.cpp_press_laws.proofs.ReadBack.Tokens.{ordinal_digits, ordinal_token, ordinal-spelled, ordinal-is-token, ordinal-value}
@@ -58,7 +59,7 @@ last-digits (fixed x) (branch r u f) byte t digits = refl
 last-digits (fixed x) empty byte t digits = refl
 last-digits (fixed x) (fixed y) byte t digits = refl
 
-pub unnamed-reads : (around : Around) (allowed : Option ℕ) (j place : ℕ) (cs : List Candidate) → j < greatest → nat_lt (j + 1) (2 ^ 64) ≡ true
+pub unnamed-reads : (around : Around) (allowed : Option ℕ) (j place : ℕ) (cs : List Component) → j < greatest → nat_lt (j + 1) (2 ^ 64) ≡ true
     → ReadsAt around allowed (OfKind ANONYMOUS) (Is (piece (unnamed (j + 1)))) place cs (written (116 ∷ ordinal j) cs)
 unfolding choose alternatives pick is_in in_ranges among kinds is_chain parts_of between opening close unfolding_.behind meaning text_of part last_token row-last number-reads byte_of
 unnamed-reads around allowed j place cs small below =
@@ -76,7 +77,7 @@ unnamed-reads around allowed j place cs small below =
     (closes-same Production.Unnamed 116 around allowed place (AreOnly (value.text (ordinal_digits j) ∷ [])) cs (piece (unnamed (j + 1)))
     (λ values good began s. rw good (ap (λ n. Ok (found (piece (unnamed n)) s)) (number-kept j small)))))
 
-pub lambda-reads : (around : Around) (allowed : Option ℕ) (t items : Term) (last : Value) (j place : ℕ) (cs : List Candidate)
+pub lambda-reads : (around : Around) (allowed : Option ℕ) (t items : Term) (last : Value) (j place : ℕ) (cs : List Component)
     (first rest : Written) → no_items last ≡ items → j < greatest → nat_lt (j + 1) (2 ^ 64) ≡ true
     → ReadsAt (in_signature around) allowed (OfKind ITEM) (Is (tree t true)) (place + 1) cs first
     → ReadsAt (in_signature around) allowed (OfKind ITEMS) (Is last) (place + 1 + length first.bytes) first.components rest

@@ -10,9 +10,10 @@ use Rattle.cpp_grammar.specs.KindNumbers.{COMPLETE_NAME, UNQUALIFIED, COMPONENT,
 use Rattle.cpp_grammar.specs.Grammar.{in_ranges, among, is_in, pick, alternatives, choose, kinds, is_chain}
 use Rattle.cpp_grammar.specs.Table.{abi, rule_of}
 use Rattle.cpp_grammar.specs.Term.{Term, source, operator, literal_operator, constructor, destructor, lambda, unnamed, list}
-use Rattle.cpp_grammar.specs.Values.{Candidate, Around, Value, tree, piece}
+use Rattle.cpp_grammar.specs.Values.{Around, Value, tree, piece}
 use Rattle.cpp_grammar.specs.Between.{in_signature, after, extended, applied, no_items}
 use Rattle.cpp_grammar.specs.Meaning.{parameters}
+use Rattle.cpp_press_laws.specs.Components.{Component}
 use Rattle.cpp_press_laws.specs.Texts.{counted, ordinal}
 use Rattle.cpp_press_laws.specs.Spellable.{IsSpellableName, IsOperator}
 use Rattle.cpp_press_laws.specs.Subtrees.{greatest, Written, written, ReadsAt, Is}
@@ -129,19 +130,19 @@ std-type-rule _ h = absurd (let e : false ≡ true = h in cc)
 -- ## What a piece is read as
 
 -- a name of a piece and what stands behind it
-abbrev pub NamesAt : Around → Option ℕ → (k : ℕ) → (p : Term) → (place : ℕ) → List Candidate → Written → Type 0
+abbrev pub NamesAt : Around → Option ℕ → (k : ℕ) → (p : Term) → (place : ℕ) → List Component → Written → Type 0
 NamesAt around allowed k p place cs w =
     (last : Value) (rest : Written)
     → ReadsAt (after (extended around.prefix p) false around) allowed (OfKind MAYBE_ARGUMENTS) (Is last) (place + length w.bytes) w.components rest
     → ReadsAt around allowed (OfKind k) (Is (tree (applied (extended around.prefix p) last) false)) place cs
     (written (w.bytes ++ rest.bytes) rest.components)
 
-pub record PieceReads (around : Around) (allowed : Option ℕ) (p : Term) (place : ℕ) (cs : List Candidate) (w : Written) : Type 0 where
+pub record PieceReads (around : Around) (allowed : Option ℕ) (p : Term) (place : ℕ) (cs : List Component) (w : Written) : Type 0 where
   pub names : (k : ℕ) → NameRule k p → NamesAt around allowed k p place cs w
   pub pieces : (k : ℕ) → PieceRule k p → ReadsAt around allowed (OfKind k) (Is (piece p)) place cs w
   pub begins : begins_name p ≡ true → SoFar around allowed (extended around.prefix p) false 17 place cs w
 
-pub source-reads : (around : Around) (allowed : Option ℕ) (internal : Bool) (name : List ℕ) (place : ℕ) (cs : List Candidate)
+pub source-reads : (around : Around) (allowed : Option ℕ) (internal : Bool) (name : List ℕ) (place : ℕ) (cs : List Component)
     → IsSpellableName name
     → PieceReads around allowed (source internal name) place cs (written (cond internal (codes "L") [] ++ counted name) cs)
 source-reads around allowed true name place cs good = record {
@@ -160,7 +161,7 @@ source-reads around allowed false name place cs good = record {
 }
 
 -- an operator, from its reading as one
-operators-read : (around : Around) (allowed : Option ℕ) (p : Term) (place : ℕ) (cs : List Candidate) (w : Written)
+operators-read : (around : Around) (allowed : Option ℕ) (p : Term) (place : ℕ) (cs : List Component) (w : Written)
     → ((k : ℕ) → NameRule k p → TakesRule abi k (rule_of Production.OperatorName) []) → ((k : ℕ) → PieceRule k p → k ≡ 14)
     → begins_name p ≡ false
     → ReadsAt around allowed (OfKind OPERATOR) (Is (piece p)) (place + 0) cs w → PieceReads around allowed p place cs w
@@ -173,21 +174,21 @@ operators-read around allowed p place cs w rule fourteen none one = record {
   begins = λ h. absurd (let e : false ≡ true = sym none ∙ h in cc);
 }
 
-pub operator-piece-reads : (around : Around) (allowed : Option ℕ) (a b place : ℕ) (cs : List Candidate) → a < 256 → b < 256 → IsOperator a b
+pub operator-piece-reads : (around : Around) (allowed : Option ℕ) (a b place : ℕ) (cs : List Component) → a < 256 → b < 256 → IsOperator a b
     → PieceReads around allowed (operator a b) place cs (written (a ∷ b ∷ []) cs)
 unfolding begins_name
 operator-piece-reads around allowed a b place cs small also is =
     operators-read around allowed (operator a b) place cs (written (a ∷ b ∷ []) cs) (λ k takes. takes) (λ k h. h) refl
     (operator-reads around allowed a b (place + 0) cs small also is)
 
-pub literal-operator-piece-reads : (around : Around) (allowed : Option ℕ) (name : List ℕ) (place : ℕ) (cs : List Candidate)
+pub literal-operator-piece-reads : (around : Around) (allowed : Option ℕ) (name : List ℕ) (place : ℕ) (cs : List Component)
     → IsSpellableName name → PieceReads around allowed (literal_operator name) place cs (written (codes "li" ++ counted name) cs)
 unfolding begins_name
 literal-operator-piece-reads around allowed name place cs good =
     operators-read around allowed (literal_operator name) place cs (written (108 ∷ 105 ∷ counted name) cs) (λ k takes. takes) (λ k h. h) refl
     (literal-operator-reads around allowed name (place + 0) cs good)
 
-pub constructor-piece-reads : (around : Around) (allowed : Option ℕ) (digit place : ℕ) (cs : List Candidate) → digit < 256
+pub constructor-piece-reads : (around : Around) (allowed : Option ℕ) (digit place : ℕ) (cs : List Component) → digit < 256
     → choose Kind.ConstructorDigit digit ≡ Some Production.Mark
     → PieceReads around allowed (constructor digit) place cs (written (codes "C" ++ digit ∷ []) cs)
 unfolding begins_name kinds
@@ -203,7 +204,7 @@ constructor-piece-reads around allowed digit place cs small chosen = record {
   begins = λ h. absurd (let e : false ≡ true = h in cc);
 }
 
-pub destructor-piece-reads : (around : Around) (allowed : Option ℕ) (digit place : ℕ) (cs : List Candidate) → digit < 256
+pub destructor-piece-reads : (around : Around) (allowed : Option ℕ) (digit place : ℕ) (cs : List Component) → digit < 256
     → choose Kind.DestructorDigit digit ≡ Some Production.Mark
     → PieceReads around allowed (destructor digit) place cs (written (codes "D" ++ digit ∷ []) cs)
 unfolding begins_name kinds
@@ -222,7 +223,7 @@ destructor-piece-reads around allowed digit place cs small chosen = record {
 -- ## Lambdas and unnamed types
 
 -- a local type's name, from its reading behind the U
-local-type-reads : (around : Around) (allowed : Option ℕ) (p : Term) (place : ℕ) (cs : List Candidate) (w : Written)
+local-type-reads : (around : Around) (allowed : Option ℕ) (p : Term) (place : ℕ) (cs : List Component) (w : Written)
     → ((k : ℕ) → NameRule k p → TakesRule abi k (rule_of Production.LocalTypeName) (85 ∷ []))
     → ((k : ℕ) → PieceRule k p → TakesRule abi k (rule_of Production.LocalTypePiece) (85 ∷ []))
     → ReadsAt around allowed (OfKind ANONYMOUS) (Is (piece p)) (place + 1) cs w
@@ -244,7 +245,7 @@ number-small k is = omega (arith, is.0, ltb-true k (2 ^ 64) is.1)
 number-tested : (k : ℕ) → IsLocalNumber k → nat_lt (k - 1 + 1) (2 ^ 64) ≡ true
 number-tested k is = subst (λ n. nat_lt n (2 ^ 64) ≡ true) (sym (number-back k is.0)) is.1
 
-pub unnamed-piece-reads : (around : Around) (allowed : Option ℕ) (k place : ℕ) (cs : List Candidate) → IsLocalNumber k
+pub unnamed-piece-reads : (around : Around) (allowed : Option ℕ) (k place : ℕ) (cs : List Component) → IsLocalNumber k
     → PieceReads around allowed (unnamed k) place cs (written (codes "Ut" ++ ordinal (k - 1)) cs)
 unnamed-piece-reads around allowed k place cs is =
     local-type-reads around allowed (unnamed k) place cs (written (116 ∷ ordinal (k - 1)) cs) (λ j takes. takes) (λ j takes. takes)
@@ -253,7 +254,7 @@ unnamed-piece-reads around allowed k place cs is =
     (unnamed-reads around allowed (k - 1) (place + 1) cs (number-small k is) (number-tested k is)))
 
 -- items of an encoding or of a lambda that stand for its parameters
-pub record ItemsRead (around : Around) (allowed : Option ℕ) (t : Term) (place : ℕ) (cs : List Candidate) (w : Written) : Type 0 where
+pub record ItemsRead (around : Around) (allowed : Option ℕ) (t : Term) (place : ℕ) (cs : List Component) (w : Written) : Type 0 where
   pub first : Term
   pub items : Term
   pub last : Value
@@ -266,7 +267,7 @@ pub record ItemsRead (around : Around) (allowed : Option ℕ) (t : Term) (place 
   pub reads_one : ReadsAt around allowed (OfKind ITEM) (Is (tree first true)) place cs one
   pub reads_rest : ReadsAt around allowed (OfKind ITEMS) (Is last) (place + length one.bytes) one.components rest
 
-pub lambda-piece-reads : (around : Around) (allowed : Option ℕ) (ps : Term) (k place : ℕ) (cs : List Candidate) (w : Written)
+pub lambda-piece-reads : (around : Around) (allowed : Option ℕ) (ps : Term) (k place : ℕ) (cs : List Component) (w : Written)
     → IsLocalNumber k
     → ItemsRead (in_signature around) allowed ps (place + 2) cs w
     → PieceReads around allowed (lambda ps k) place cs (written (codes "Ul" ++ (w.bytes ++ (codes "E" ++ ordinal (k - 1)))) w.components)

@@ -11,18 +11,19 @@ use Rattle.cpp_grammar.specs.Grammar.{in_ranges, among, is_in, pick, number_of_k
 use Rattle.cpp_grammar.specs.Table.{abi, rule_of}
 use Rattle.cpp_grammar.specs.Term.{Term, source, constructor, destructor}
 use Rattle.cpp_grammar.specs.Values as value
-use Rattle.cpp_grammar.specs.Values.{Candidate, State, Prefix, behind, prefix_tree, prefix_listed, Around, Value, nothing_there, letter, tree, piece, tree_of, piece_of, letter_of, text_of, is_there, part}
+use Rattle.cpp_grammar.specs.Values.{State, Prefix, behind, prefix_tree, prefix_listed, Around, Value, nothing_there, letter, tree, piece, tree_of, piece_of, letter_of, text_of, is_there, part}
 use Rattle.cpp_grammar.specs.References.{appended, with_prefix}
 use Rattle.cpp_grammar.specs.Between.{Going, between, after, inside, extended, applied, no_items, named_so_far, piece_so_far}
 use Rattle.cpp_grammar.specs.Meaning.{meaning}
 use Rattle.cpp_grammar.specs.Unfolding as unfolding_
 use Rattle.cpp_grammar.specs.Unfolding.{opening, close, byte_of}
 use Rattle.cpp_grammar.proofs.Alone.{arguments_alone, rest_alone}
+use Rattle.cpp_press_laws.specs.Components.{Component}
 use Rattle.cpp_press_laws.specs.Texts.{counted}
 use Rattle.cpp_press_laws.specs.Spellable.{IsSpellableName}
 use Rattle.cpp_press_laws.specs.Subtrees.{Written, written, ReadsAt, Is}
 use Rattle.cpp_press_laws.proofs.ReadBack.Tokens.{name_token, name-spelled, name-is-token}
-use Rattle.cpp_press_laws.proofs.ReadBack.Reading.{RowAt, passes-by, row-part, row-last, takes-byte, empty-reads, name-reads}
+use Rattle.cpp_press_laws.proofs.ReadBack.Reading.{appended-same, RowAt, passes-by, row-part, row-last, takes-byte, empty-reads, name-reads}
 use Rattle.cpp_press_laws.proofs.ReadBack.Types.{AreOnly, same-written, no-part, more, then-part, whole-same}
 use Rattle.cpp_press_laws.proofs.ReadBack.Arguments.{arguments-read}
 
@@ -30,7 +31,7 @@ use Rattle.cpp_press_laws.proofs.ReadBack.Arguments.{arguments-read}
 
 -- a name that has been made from a piece, and the arguments behind it
 pub name-with : (p : Production) (k : ℕ) (taken : List ℕ) (around : Around) (allowed : Option ℕ) (place : ℕ) (x : Sym) (u : Value) (t : Term)
-    (last : Value) (cs : List Candidate) (first rest : Written)
+    (last : Value) (cs : List Component) (first rest : Written)
     → TakesRule abi k (rule_of p) taken → parts_of p ≡ x ∷ OfKind MAYBE_ARGUMENTS ∷ []
     → ((s : State) → ◌≡◌ {A = Going} (between p around place [] s) (Ok (record { context = around; values = []; state = s })))
     → ((s : State) → ◌≡◌ {A = Going} (between p around place (u ∷ []) s) (Ok (record {
@@ -54,13 +55,13 @@ name-with p k taken around allowed place x u t last cs first rest takes parts go
     (λ v h. ap (λ y. tree t false ∷ y ∷ []) h)))
 
 -- no arguments
-pub no-arguments : (around : Around) (allowed : Option ℕ) (place : ℕ) (cs : List Candidate)
+pub no-arguments : (around : Around) (allowed : Option ℕ) (place : ℕ) (cs : List Component)
     → ReadsAt around allowed (OfKind MAYBE_ARGUMENTS) (Is nothing_there) place cs (written [] cs)
 unfolding kinds may_be_empty
 no-arguments around allowed place cs = empty-reads around allowed MAYBE_ARGUMENTS Kind.MaybeArguments place cs refl refl
 
 -- what is read behind a name is read where no tags may come, too
-kind-reads : (around : Around) (allowed : Option ℕ) (x y : Sym) (Q : Value → Type 0) (place : ℕ) (cs : List Candidate) (w : Written)
+kind-reads : (around : Around) (allowed : Option ℕ) (x y : Sym) (Q : Value → Type 0) (place : ℕ) (cs : List Component) (w : Written)
     → ((t : Shape) → IsTree abi x t → IsTree abi y t) → ReadsAt around allowed x Q place cs w → ReadsAt around allowed y Q place cs w
 kind-reads around allowed x y Q place cs w is one s same packs =
     let r = one s same packs in record {
@@ -75,16 +76,16 @@ kind-reads around allowed x y Q place cs w is one s same packs =
       packs = r.packs;
     }
 
-pub alone-arguments : (around : Around) (allowed : Option ℕ) (Q : Value → Type 0) (place : ℕ) (cs : List Candidate) (w : Written)
+pub alone-arguments : (around : Around) (allowed : Option ℕ) (Q : Value → Type 0) (place : ℕ) (cs : List Component) (w : Written)
     → ReadsAt around allowed (OfKind MAYBE_ARGUMENTS) Q place cs w → ReadsAt around allowed (OfKind ARGUMENTS_ALONE) Q place cs w
 alone-arguments around allowed Q place cs w one = kind-reads around allowed (OfKind MAYBE_ARGUMENTS) (OfKind ARGUMENTS_ALONE) Q place cs w arguments_alone one
 
-pub alone-rest : (around : Around) (allowed : Option ℕ) (Q : Value → Type 0) (place : ℕ) (cs : List Candidate) (w : Written)
+pub alone-rest : (around : Around) (allowed : Option ℕ) (Q : Value → Type 0) (place : ℕ) (cs : List Component) (w : Written)
     → ReadsAt around allowed (OfKind NEST_REST) Q place cs w → ReadsAt around allowed (OfKind NEST_REST_ALONE) Q place cs w
 alone-rest around allowed Q place cs w one = kind-reads around allowed (OfKind NEST_REST) (OfKind NEST_REST_ALONE) Q place cs w rest_alone one
 
 -- the name so far becomes a component in front of its arguments
-pub some-arguments : (around : Around) (allowed : Option ℕ) (t items : Term) (last : Value) (place : ℕ) (cs : List Candidate) (w : Written)
+pub some-arguments : (around : Around) (allowed : Option ℕ) (t items : Term) (last : Value) (place : ℕ) (cs : List Component) (w : Written)
     → no_items last ≡ items
     → ReadsAt (inside around) allowed (OfKind ARGUMENT_LIST) (Is last) (place + 1) (more around cs t) w
     → ReadsAt (after t false around) allowed (OfKind MAYBE_ARGUMENTS) (Is (tree items true)) place cs (written (73 ∷ (w.bytes ++ (69 ∷ []))) w.components)
@@ -92,10 +93,10 @@ unfolding choose alternatives pick is_in in_ranges among kinds is_chain between 
 some-arguments around allowed t items last place cs w are one =
     arguments-read (after t false around) allowed 42 items last place cs (more around cs t) w
     (takes-byte MAYBE_ARGUMENTS Kind.MaybeArguments Production.Arguments 73 refl refl (omega arith) refl) are
-    (λ s same packs. record { state = appended around t s; goes = refl; candidates = ap (λ l. more around l t) same; packs = packs }) one
+    (λ s same packs. record { state = appended around t s; goes = refl; candidates = appended-same around t s same; packs = packs }) one
 
 -- a name of a source piece, with what is behind it
-pub source-name : (k : ℕ) (around : Around) (allowed : Option ℕ) (name : List ℕ) (last : Value) (place : ℕ) (cs : List Candidate)
+pub source-name : (k : ℕ) (around : Around) (allowed : Option ℕ) (name : List ℕ) (last : Value) (place : ℕ) (cs : List Component)
     (rest : Written) → TakesRule abi k (rule_of Production.SourceName) [] → IsSpellableName name
     → ReadsAt (after (extended around.prefix (source false name)) false around) allowed (OfKind MAYBE_ARGUMENTS) (Is last) (place + 0 + length (counted name))
     cs rest
@@ -109,7 +110,7 @@ source-name k around allowed name last place cs rest takes good one =
     (name-spelled name) (name-reads around allowed (name_token name) (place + 0) cs (name-is-token name good)))
     one
 
-pub internal-name : (k : ℕ) (around : Around) (allowed : Option ℕ) (name : List ℕ) (last : Value) (place : ℕ) (cs : List Candidate)
+pub internal-name : (k : ℕ) (around : Around) (allowed : Option ℕ) (name : List ℕ) (last : Value) (place : ℕ) (cs : List Component)
     (rest : Written) → TakesRule abi k (rule_of Production.InternalName) (76 ∷ []) → IsSpellableName name
     → ReadsAt (after (extended around.prefix (source true name)) false around) allowed (OfKind MAYBE_ARGUMENTS) (Is last) (place + 1 + length (counted name))
     cs rest
@@ -124,7 +125,7 @@ internal-name k around allowed name last place cs rest takes good one =
     one
 
 -- a name of an operator
-pub operator-name : (k : ℕ) (around : Around) (allowed : Option ℕ) (p : Term) (last : Value) (place : ℕ) (cs : List Candidate)
+pub operator-name : (k : ℕ) (around : Around) (allowed : Option ℕ) (p : Term) (last : Value) (place : ℕ) (cs : List Component)
     (first rest : Written) → TakesRule abi k (rule_of Production.OperatorName) []
     → ReadsAt around allowed (OfKind OPERATOR) (Is (piece p)) (place + 0) cs first
     → ReadsAt (after (extended around.prefix p) false around) allowed (OfKind MAYBE_ARGUMENTS) (Is last) (place + 0 + length first.bytes) first.components rest
@@ -136,7 +137,7 @@ operator-name k around allowed p last place cs first rest takes one two =
     (λ s. refl) (λ s. refl) (λ f s. refl) (λ began s. refl) one two
 
 -- a lambda's or an unnamed type's name
-pub local-type-name : (k : ℕ) (around : Around) (allowed : Option ℕ) (p : Term) (last : Value) (place : ℕ) (cs : List Candidate)
+pub local-type-name : (k : ℕ) (around : Around) (allowed : Option ℕ) (p : Term) (last : Value) (place : ℕ) (cs : List Component)
     (first rest : Written) → TakesRule abi k (rule_of Production.LocalTypeName) (85 ∷ [])
     → ReadsAt around allowed (OfKind ANONYMOUS) (Is (piece p)) (place + 1) cs first
     → ReadsAt (after (extended around.prefix p) false around) allowed (OfKind MAYBE_ARGUMENTS) (Is last) (place + 1 + length first.bytes) first.components rest
@@ -147,7 +148,7 @@ local-type-name k around allowed p last place cs first rest takes one two =
     name-with Production.LocalTypeName k (85 ∷ []) around allowed place (OfKind ANONYMOUS) (piece p) (extended around.prefix p) last cs first rest takes
     refl (λ s. refl) (λ s. refl) (λ f s. refl) (λ began s. refl) one two
 
-pub constructor-name : (around : Around) (allowed : Option ℕ) (digit : ℕ) (last : Value) (place : ℕ) (cs : List Candidate) (first rest : Written)
+pub constructor-name : (around : Around) (allowed : Option ℕ) (digit : ℕ) (last : Value) (place : ℕ) (cs : List Component) (first rest : Written)
     → ReadsAt around allowed (OfKind CONSTRUCTOR_DIGIT) (Is (letter digit)) (place + 1) cs first
     → ReadsAt (after (extended around.prefix (constructor digit)) false around) allowed (OfKind MAYBE_ARGUMENTS) (Is last) (place + 1 + length first.bytes)
     first.components rest
@@ -160,7 +161,7 @@ constructor-name around allowed digit last place cs first rest one two =
     (takes-byte COMPONENT Kind.Component Production.Constructor 67 refl refl (omega arith) refl) refl (λ s. refl) (λ s. refl) (λ f s. refl)
     (λ began s. refl) one two
 
-pub destructor-name : (around : Around) (allowed : Option ℕ) (digit : ℕ) (last : Value) (place : ℕ) (cs : List Candidate) (first rest : Written)
+pub destructor-name : (around : Around) (allowed : Option ℕ) (digit : ℕ) (last : Value) (place : ℕ) (cs : List Component) (first rest : Written)
     → ReadsAt around allowed (OfKind DESTRUCTOR_DIGIT) (Is (letter digit)) (place + 1) cs first
     → ReadsAt (after (extended around.prefix (destructor digit)) false around) allowed (OfKind MAYBE_ARGUMENTS) (Is last) (place + 1 + length first.bytes)
     first.components rest
@@ -176,13 +177,13 @@ destructor-name around allowed digit last place cs first rest one two =
 -- ## Between N and E
 
 -- A name so far, between N and E: whatever is read behind it in its scope, is read as the whole from the N on.
-abbrev pub SoFar : Around → Option ℕ → (t : Term) → (listed : Bool) → (k : ℕ) → (place : ℕ) → List Candidate → Written → Type 0
+abbrev pub SoFar : Around → Option ℕ → (t : Term) → (listed : Bool) → (k : ℕ) → (place : ℕ) → List Component → Written → Type 0
 SoFar around allowed t listed k place cs w =
     (v : Value) (rest : Written) → ReadsAt (after t listed around) allowed (OfKind k) (Is v) (place + length w.bytes) w.components rest
     → ReadsAt around allowed (OfKind NEST) (Is v) place cs (written (w.bytes ++ rest.bytes) rest.components)
 
 -- A prefix, which is a component: a piece is read behind it as a longer name, and then what is left.
-abbrev pub Extends : Around → Option ℕ → (t : Term) → (place : ℕ) → List Candidate → Written → Type 0
+abbrev pub Extends : Around → Option ℕ → (t : Term) → (place : ℕ) → List Component → Written → Type 0
 Extends around allowed t place cs w =
     (u : Term) (v : Value) (one rest : Written) → ReadsAt (after t true around) allowed (OfKind COMPONENT) (Is (tree u false)) (place + length w.bytes)
     w.components one
@@ -190,7 +191,7 @@ Extends around allowed t place cs w =
     → ReadsAt around allowed (OfKind NEST) (Is v) place cs (written (w.bytes ++ (one.bytes ++ rest.bytes)) rest.components)
 
 -- the end of a name
-pub nest-ends : (around : Around) (allowed : Option ℕ) (t : Term) (listed : Bool) (place : ℕ) (cs : List Candidate)
+pub nest-ends : (around : Around) (allowed : Option ℕ) (t : Term) (listed : Bool) (place : ℕ) (cs : List Component)
     → ReadsAt (after t listed around) allowed (OfKind NEST_TAIL) (Is (tree t listed)) place cs (written (69 ∷ []) cs)
 unfolding choose alternatives pick is_in in_ranges among kinds is_chain parts_of opening close unfolding_.behind meaning after prefix_tree prefix_listed
 nest-ends around allowed t listed place cs =
@@ -198,7 +199,7 @@ nest-ends around allowed t listed place cs =
     (takes-byte NEST_TAIL Kind.NestTail Production.NestEnd 69 refl refl (omega arith) refl) refl (λ f s. refl) (λ began s. refl)
 
 -- one more piece, in front of which the name so far becomes a component
-pub nest-next : (k : ℕ) (around : Around) (allowed : Option ℕ) (t u : Term) (v : Value) (place : ℕ) (cs : List Candidate) (one rest : Written)
+pub nest-next : (k : ℕ) (around : Around) (allowed : Option ℕ) (t u : Term) (v : Value) (place : ℕ) (cs : List Component) (one rest : Written)
     → TakesRule abi k (rule_of Production.NestNext) []
     → ReadsAt (after t true around) allowed (OfKind COMPONENT) (Is (tree u false)) (place + 0) (more around cs t) one
     → ReadsAt (after u false around) allowed (OfKind NEST_TAIL) (Is v) (place + 0 + length one.bytes) one.components rest
@@ -209,7 +210,7 @@ nest-next k around allowed t u v place cs one rest takes first second =
     (written (one.bytes ++ rest.bytes) rest.components) takes refl (λ f s. refl) (λ began s. refl)
     (row-part Production.NestNext [] (after t false around) (after t true around) allowed allowed place (OfKind COMPONENT) (OfKind NEST_TAIL ∷ []) [] []
     (Is (tree u false)) (AreOnly (tree u false ∷ v ∷ [])) (place + 0) cs (more around cs t) one rest
-    (λ s same packs. record { state = appended around t s; goes = refl; candidates = ap (λ l. more around l t) same; packs = packs }) first
+    (λ s same packs. record { state = appended around t s; goes = refl; candidates = appended-same around t s same; packs = packs }) first
     (λ packs h. h)
     (λ z h. subst (λ x. RowAt Production.NestNext [] (after t false around) allowed place (OfKind NEST_TAIL ∷ []) (x ∷ [])
     (AreOnly (tree u false ∷ v ∷ [])) (place + 0 + length one.bytes) one.components rest) (sym h)
@@ -219,7 +220,7 @@ nest-next k around allowed t u v place cs one rest takes first second =
     (tree u false ∷ []) (λ s. refl)) second (λ y i. ap (λ q. tree u false ∷ q ∷ []) i))))
 
 -- behind a name that is a component already, or never is one
-pub nest-next-same : (k : ℕ) (around : Around) (allowed : Option ℕ) (t u : Term) (v : Value) (place : ℕ) (cs : List Candidate)
+pub nest-next-same : (k : ℕ) (around : Around) (allowed : Option ℕ) (t u : Term) (v : Value) (place : ℕ) (cs : List Component)
     (one rest : Written) → TakesRule abi k (rule_of Production.NestNext) []
     → ReadsAt (after t true around) allowed (OfKind COMPONENT) (Is (tree u false)) (place + 0) cs one
     → ReadsAt (after u false around) allowed (OfKind NEST_TAIL) (Is v) (place + 0 + length one.bytes) one.components rest
@@ -239,7 +240,7 @@ nest-next-same k around allowed t u v place cs one rest takes first second =
     (tree u false ∷ []) (λ s. refl)) second (λ y i. ap (λ q. tree u false ∷ q ∷ []) i))))
 
 -- a longer name so far, of a prefix and a piece
-pub so-far-within : (around : Around) (allowed : Option ℕ) (t u : Term) (place : ℕ) (cs : List Candidate) (w one : Written)
+pub so-far-within : (around : Around) (allowed : Option ℕ) (t u : Term) (place : ℕ) (cs : List Component) (w one : Written)
     → Extends around allowed t place cs w
     → ReadsAt (after t true around) allowed (OfKind COMPONENT) (Is (tree u false)) (place + length w.bytes) w.components one
     → SoFar around allowed u false 18 place cs (written (w.bytes ++ one.bytes) one.components)
@@ -251,7 +252,7 @@ so-far-within around allowed t u place cs w one extends first v rest second =
     (omega (arith, length-append w.bytes one.bytes)) second))
 
 -- a name so far becomes a prefix
-pub extends-more : (k : ℕ) (around : Around) (allowed : Option ℕ) (t : Term) (place : ℕ) (cs : List Candidate) (w : Written)
+pub extends-more : (k : ℕ) (around : Around) (allowed : Option ℕ) (t : Term) (place : ℕ) (cs : List Component) (w : Written)
     → TakesRule abi k (rule_of Production.NestNext) []
     → SoFar around allowed t false k place cs w → Extends around allowed t place cs (written w.bytes (more around w.components t))
 extends-more k around allowed t place cs w takes so_far u v one rest first second =
@@ -260,7 +261,7 @@ extends-more k around allowed t place cs w takes so_far u v one rest first secon
     (subst (λ q. ReadsAt (after t true around) allowed (OfKind COMPONENT) (Is (tree u false)) q (more around w.components t) one) (omega arith) first)
     (subst (λ q. ReadsAt (after u false around) allowed (OfKind NEST_TAIL) (Is v) q one.components rest) (omega arith) second))
 
-pub extends-same : (k : ℕ) (around : Around) (allowed : Option ℕ) (t : Term) (place : ℕ) (cs : List Candidate) (w : Written)
+pub extends-same : (k : ℕ) (around : Around) (allowed : Option ℕ) (t : Term) (place : ℕ) (cs : List Component) (w : Written)
     → TakesRule abi k (rule_of Production.NestNext) []
     → SoFar around allowed t true k place cs w → Extends around allowed t place cs w
 extends-same k around allowed t place cs w takes so_far u v one rest first second =
@@ -270,7 +271,7 @@ extends-same k around allowed t place cs w takes so_far u v one rest first secon
     (subst (λ q. ReadsAt (after u false around) allowed (OfKind NEST_TAIL) (Is v) q one.components rest) (omega arith) second))
 
 -- a whole name between N and E
-pub nest-whole : (around : Around) (allowed : Option ℕ) (t : Term) (place : ℕ) (cs : List Candidate) (w : Written)
+pub nest-whole : (around : Around) (allowed : Option ℕ) (t : Term) (place : ℕ) (cs : List Component) (w : Written)
     → SoFar around allowed t false 18 place cs w
     → ReadsAt around allowed (OfKind NEST) (Is (tree t false)) place cs (written (w.bytes ++ (69 ∷ [])) w.components)
 nest-whole around allowed t place cs w so_far = so_far (tree t false) (written (69 ∷ []) w.components)

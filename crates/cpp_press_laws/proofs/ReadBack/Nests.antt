@@ -12,17 +12,18 @@ use Rattle.cpp_grammar.specs.Grammar.{in_ranges, among, is_in, pick, number_of_k
 use Rattle.cpp_grammar.specs.Table.{abi, rule_of}
 use Rattle.cpp_grammar.specs.Term.{Term, source, in_std, instance, parameter}
 use Rattle.cpp_grammar.specs.Values as value
-use Rattle.cpp_grammar.specs.Values.{Candidate, State, behind, prefix_tree, prefix_listed, Around, Value, nothing_there, tree, piece, tree_of, piece_of, text_of, is_there, part}
+use Rattle.cpp_grammar.specs.Values.{State, behind, prefix_tree, prefix_listed, Around, Value, nothing_there, tree, piece, tree_of, piece_of, text_of, is_there, part}
 use Rattle.cpp_grammar.specs.References.{appended, with_prefix}
 use Rattle.cpp_grammar.specs.Between.{Going, between, after, inside, extended, applied, no_items, named_so_far, listed_so_far, piece_so_far}
 use Rattle.cpp_grammar.specs.Meaning.{meaning}
 use Rattle.cpp_grammar.specs.Unfolding as unfolding_
 use Rattle.cpp_grammar.specs.Unfolding.{opening, close, byte_of}
+use Rattle.cpp_press_laws.specs.Components.{Component}
 use Rattle.cpp_press_laws.specs.Texts.{counted, ordinal}
 use Rattle.cpp_press_laws.specs.Spellable.{IsSpellableName}
 use Rattle.cpp_press_laws.specs.Subtrees.{Written, written, ReadsAt, Is}
 use Rattle.cpp_press_laws.proofs.ReadBack.Tokens.{name_token, name-spelled, name-is-token, ordinal_digits, ordinal_token, ordinal-spelled, ordinal-is-token}
-use Rattle.cpp_press_laws.proofs.ReadBack.Reading.{RowAt, PassesAt, passes-by, row-part, row-last, takes-byte, takes-none, fixed-reads, name-reads, number-reads, first-reads}
+use Rattle.cpp_press_laws.proofs.ReadBack.Reading.{appended-same, RowAt, PassesAt, passes-by, row-part, row-last, takes-byte, takes-none, fixed-reads, name-reads, number-reads, first-reads}
 use Rattle.cpp_press_laws.proofs.ReadBack.Types.{AreOnly, same-written, one-part, more, then-part, whole-same}
 use Rattle.cpp_press_laws.proofs.ReadBack.Functions.{IsInScope, parameter-passes}
 use Rattle.cpp_press_laws.proofs.ReadBack.Names.{alone-rest, SoFar, Extends}
@@ -31,7 +32,7 @@ use Rattle.cpp_press_laws.proofs.ReadBack.Names.{alone-rest, SoFar, Extends}
 
 -- a first part, of which the name so far is made, and what is read behind it
 pub first-with : (p : Production) (k m : ℕ) (taken : List ℕ) (around : Around) (allowed : Option ℕ) (place : ℕ) (x : Sym) (u : Value) (t : Term)
-    (listed : Bool) (v : Value) (cs middle : List Candidate) (first rest : Written)
+    (listed : Bool) (v : Value) (cs middle : List Component) (first rest : Written)
     → TakesRule abi k (rule_of p) taken → parts_of p ≡ x ∷ OfKind m ∷ []
     → ((s : State) → ◌≡◌ {A = Going} (between p around place [] s) (Ok (record { context = around; values = []; state = s })))
     → PassesAt p around allowed place (u ∷ []) first.components (after t listed around) allowed (tree t listed ∷ []) middle
@@ -48,7 +49,7 @@ first-with p k m taken around allowed place x u t listed v cs middle first rest 
     (AreOnly (tree t listed ∷ v ∷ [])) (place + length taken + length first.bytes) first.components middle rest
     passes two (λ z h. ap (λ y. tree t listed ∷ y ∷ []) h)))
 
-pub nest-source : (around : Around) (allowed : Option ℕ) (name : List ℕ) (place : ℕ) (cs : List Candidate) → IsSpellableName name
+pub nest-source : (around : Around) (allowed : Option ℕ) (name : List ℕ) (place : ℕ) (cs : List Component) → IsSpellableName name
     → SoFar around allowed (extended around.prefix (source false name)) false 17 place cs (written (counted name) cs)
 unfolding choose alternatives pick is_in in_ranges among kinds is_chain parts_of number_of_kind between opening close unfolding_.behind meaning piece_so_far named_so_far text_of part
 nest-source around allowed name place cs good v rest second =
@@ -63,7 +64,7 @@ nest-source around allowed name place cs good v rest second =
     (name-spelled name) (name-reads around allowed (name_token name) (place + 0) cs (name-is-token name good)))
     (subst (λ q. ReadsAt (after (extended around.prefix (source false name)) false around) allowed (OfKind NEST_REST) (Is v) q cs rest) (omega arith) second)
 
-pub nest-internal : (around : Around) (allowed : Option ℕ) (name : List ℕ) (place : ℕ) (cs : List Candidate) → IsSpellableName name
+pub nest-internal : (around : Around) (allowed : Option ℕ) (name : List ℕ) (place : ℕ) (cs : List Component) → IsSpellableName name
     → SoFar around allowed (extended around.prefix (source true name)) false 17 place cs (written (76 ∷ counted name) cs)
 unfolding choose alternatives pick is_in in_ranges among kinds is_chain parts_of number_of_kind between opening close unfolding_.behind meaning piece_so_far named_so_far text_of part
 nest-internal around allowed name place cs good v rest second =
@@ -78,7 +79,7 @@ nest-internal around allowed name place cs good v rest second =
     (name-spelled name) (name-reads around allowed (name_token name) (place + 1) cs (name-is-token name good)))
     (subst (λ q. ReadsAt (after (extended around.prefix (source true name)) false around) allowed (OfKind NEST_REST) (Is v) q cs rest) (omega arith) second)
 
-pub nest-local-type : (around : Around) (allowed : Option ℕ) (p : Term) (place : ℕ) (cs : List Candidate) (first : Written)
+pub nest-local-type : (around : Around) (allowed : Option ℕ) (p : Term) (place : ℕ) (cs : List Component) (first : Written)
     → ReadsAt around allowed (OfKind ANONYMOUS) (Is (piece p)) (place + 1) cs first
     → SoFar around allowed (extended around.prefix p) false 17 place cs (written (85 ∷ first.bytes) first.components)
 unfolding choose alternatives pick is_in in_ranges among kinds is_chain parts_of number_of_kind between opening close unfolding_.behind meaning piece_so_far named_so_far piece_of part
@@ -91,7 +92,7 @@ nest-local-type around allowed p place cs first one v rest second =
     (λ f s. refl) (λ began s. refl) one
     (subst (λ q. ReadsAt (after (extended around.prefix p) false around) allowed (OfKind NEST_REST) (Is v) q first.components rest) (omega arith) second)
 
-pub nest-parameter : (around : Around) (allowed : Option ℕ) (k place : ℕ) (cs : List Candidate) → IsInScope around allowed k
+pub nest-parameter : (around : Around) (allowed : Option ℕ) (k place : ℕ) (cs : List Component) → IsInScope around allowed k
     → SoFar around allowed (parameter k) true 17 place cs (written (84 ∷ ordinal k) (more around cs (parameter k)))
 unfolding choose alternatives pick is_in in_ranges among kinds is_chain parts_of number_of_kind between opening close unfolding_.behind meaning part
 nest-parameter around allowed k place cs is v rest second =
@@ -107,7 +108,7 @@ nest-parameter around allowed k place cs is v rest second =
     (subst (λ q. ReadsAt (after (parameter k) true around) allowed (OfKind NEST_REST) (Is v) q (more around cs (parameter k)) rest) (omega arith) second))
 
 -- an abbreviation or a reference behind an S
-pub nest-behind-s : (around : Around) (allowed : Option ℕ) (t : Term) (place : ℕ) (cs : List Candidate) (first : Written)
+pub nest-behind-s : (around : Around) (allowed : Option ℕ) (t : Term) (place : ℕ) (cs : List Component) (first : Written)
     → ReadsAt around allowed (OfKind ABBREVIATION) (Is (tree t true)) (place + 1 + 0) cs first
     → SoFar around allowed t true 17 place cs (written (83 ∷ first.bytes) first.components)
 unfolding choose alternatives pick is_in in_ranges among kinds is_chain parts_of number_of_kind between opening close unfolding_.behind meaning listed_so_far tree_of part
@@ -123,7 +124,7 @@ nest-behind-s around allowed t place cs first one v rest second =
     (subst (λ q. ReadsAt (after t true around) allowed (OfKind NEST_REST) (Is v) q first.components rest) (omega arith) second)))
 
 -- a piece in std, with or without arguments
-pub nest-std : (around : Around) (allowed : Option ℕ) (p : Term) (last : Value) (place : ℕ) (cs : List Candidate) (first args : Written)
+pub nest-std : (around : Around) (allowed : Option ℕ) (p : Term) (last : Value) (place : ℕ) (cs : List Component) (first args : Written)
     → ReadsAt around allowed (OfKind UNQUALIFIED) (Is (piece p)) (place + 1 + 1) cs first
     → ReadsAt (after (in_std p) false around) allowed (OfKind MAYBE_ARGUMENTS) (Is last) (place + 1 + 1 + length first.bytes) first.components args
     → SoFar around allowed (applied (in_std p) last) false 18 place cs (written (83 ∷ 116 ∷ (first.bytes ++ args.bytes)) args.components)
@@ -161,12 +162,12 @@ nest-std around allowed p last place cs first args one two v rest third =
 -- ## Arguments behind a first part
 
 -- what a name so far becomes in front of its arguments
-abbrev pub listed_now : Around → Bool → List Candidate → Term → List Candidate
+abbrev pub listed_now : Around → Bool → List Component → Term → List Component
 listed_now around true cs t = cs
 listed_now around false cs t = more around cs t
 
 -- arguments, in front of which the name so far becomes a component, and a piece behind them, in front of which the instance does
-pub nest-arguments : (around : Around) (allowed : Option ℕ) (t items : Term) (listed : Bool) (last : Value) (place : ℕ) (cs : List Candidate)
+pub nest-arguments : (around : Around) (allowed : Option ℕ) (t items : Term) (listed : Bool) (last : Value) (place : ℕ) (cs : List Component)
     (w args : Written) → no_items last ≡ items
     → SoFar around allowed t listed 17 place cs w
     → ReadsAt (inside around) allowed (OfKind ARGUMENT_LIST) (Is last) (place + length w.bytes + 1) (listed_now around listed w.components t) args
@@ -177,7 +178,7 @@ nest-arguments around allowed t items listed last place cs w args are so_far one
     let here : Around = after t listed around in
     let whole : Term = instance t items in
     let at : ℕ = place + length w.bytes in
-    let made : List Candidate = more around args.components whole in
+    let made : List Component = more around args.components whole in
     same-written around allowed (OfKind NEST) (Is v) place cs rest.components (w.bytes ++ (73 ∷ (args.bytes ++ (69 ∷ (comp.bytes ++ rest.bytes)))))
     ((w.bytes ++ (73 ∷ (args.bytes ++ (69 ∷ [])))) ++ (comp.bytes ++ rest.bytes))
     (joined w.bytes args.bytes (comp.bytes ++ rest.bytes))
@@ -199,7 +200,7 @@ nest-arguments around allowed t items listed last place cs w args are so_far one
     (row-part Production.NestArguments (73 ∷ []) here (after whole true around) allowed allowed at (OfKind COMPONENT) (OfKind NEST_TAIL ∷ [])
     (last ∷ nothing_there ∷ []) (tree whole true ∷ nothing_there ∷ []) (Is (tree u false))
     (AreOnly (tree whole true ∷ nothing_there ∷ tree u false ∷ v ∷ [])) (at + 1 + length args.bytes + 1) args.components made comp rest
-    (λ s same packs. record { state = appended around whole s; goes = rw are refl; candidates = ap (λ l. more around l whole) same; packs = packs })
+    (λ s same packs. record { state = appended around whole s; goes = rw are refl; candidates = appended-same around whole s same; packs = packs })
     (subst (λ q. ReadsAt (after whole true around) allowed (OfKind COMPONENT) (Is (tree u false)) q made comp) (omega (arith, long)) third) (λ packs h. h)
     (λ y i. subst (λ x. RowAt Production.NestArguments (73 ∷ []) here allowed at (OfKind NEST_TAIL ∷ []) (tree whole true ∷ nothing_there ∷ x ∷ [])
     (AreOnly (tree whole true ∷ nothing_there ∷ tree u false ∷ v ∷ [])) (at + 1 + length args.bytes + 1 + length comp.bytes) comp.components
@@ -222,4 +223,4 @@ nest-arguments around allowed t items listed last place cs w args are so_far one
     begins : (b : Bool) (at : ℕ) → PassesAt Production.NestArguments (after t b around) allowed at [] w.components (inside around) allowed []
         (listed_now around b w.components t)
     begins true at s same packs = record { state = s; goes = refl; candidates = same; packs = packs }
-    begins false at s same packs = record { state = appended around t s; goes = refl; candidates = ap (λ l. more around l t) same; packs = packs }
+    begins false at s same packs = record { state = appended around t s; goes = refl; candidates = appended-same around t s same; packs = packs }

@@ -7,7 +7,8 @@ use Rattle.cpp_grammar.specs.declared.production.Production.{Production}
 use Rattle.cpp_grammar.specs.KindNumbers.{SOLID, FUNCTION_REST}
 use Rattle.cpp_grammar.specs.Grammar.{in_ranges, among, is_in, pick, alternatives, choose, kinds, is_chain}
 use Rattle.cpp_grammar.specs.Term.{RefQualifier, any_value, lvalue_only, rvalue_only, Term, builtin, nil, list}
-use Rattle.cpp_grammar.specs.Values.{Candidate, Around, signature}
+use Rattle.cpp_grammar.specs.Values.{Around, signature}
+use Rattle.cpp_press_laws.specs.Components.{Component}
 use Rattle.cpp_press_laws.specs.Texts.{mark_letter}
 use Rattle.cpp_press_laws.specs.Pressing.{ways_of, type_ways}
 use Rattle.cpp_press_laws.specs.Subtrees.{Written, written, ReadsAt, Is}
@@ -17,11 +18,11 @@ use Rattle.cpp_press_laws.proofs.ReadBack.Functions.{rest-ends, rest-ends-lvalue
 use Rattle.cpp_press_laws.proofs.ReadBack.Solids.{builtin-solid}
 
 -- what is left of a function type's parameters, with these items and this mark
-abbrev pub RestReads : Around → Option ℕ → (items : Term) → RefQualifier → (place : ℕ) → List Candidate → Written → Type 0
+abbrev pub RestReads : Around → Option ℕ → (items : Term) → RefQualifier → (place : ℕ) → List Component → Written → Type 0
 RestReads around allowed items ref place cs w = ReadsAt around allowed (OfKind FUNCTION_REST) (Is (signature items ref)) place cs w
 
 -- its end
-pub end-reads : (around : Around) (allowed : Option ℕ) (ref : RefQualifier) (place : ℕ) (cs : List Candidate)
+pub end-reads : (around : Around) (allowed : Option ℕ) (ref : RefQualifier) (place : ℕ) (cs : List Component)
     → RestReads around allowed nil ref place cs (written (mark_letter ref ++ codes "E") cs)
 unfolding mark_letter
 end-reads around allowed any_value place cs = rest-ends around allowed place cs
@@ -29,7 +30,7 @@ end-reads around allowed lvalue_only place cs = rest-ends-lvalue around allowed 
 end-reads around allowed rvalue_only place cs = rest-ends-rvalue around allowed place cs
 
 -- no parameters
-pub none-read : (around : Around) (allowed : Option ℕ) (ref : RefQualifier) (place : ℕ) (cs : List Candidate)
+pub none-read : (around : Around) (allowed : Option ℕ) (ref : RefQualifier) (place : ℕ) (cs : List Component)
     → RestReads around allowed (list (builtin (118 ∷ [])) nil) ref place cs (written (118 ∷ (mark_letter ref ++ codes "E")) cs)
 unfolding choose alternatives pick is_in in_ranges among kinds is_chain ways_of type_ways
 none-read around allowed ref place cs =

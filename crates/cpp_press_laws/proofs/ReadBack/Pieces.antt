@@ -9,11 +9,12 @@ use Rattle.cpp_grammar.specs.Grammar.{in_ranges, among, is_in, pick, number_of_k
 use Rattle.cpp_grammar.specs.Table.{abi, rule_of}
 use Rattle.cpp_grammar.specs.Term.{Term, source, operator, literal_operator}
 use Rattle.cpp_grammar.specs.Values as value
-use Rattle.cpp_grammar.specs.Values.{Candidate, State, Around, Value, nothing_there, letter, tree, piece, tree_of, piece_of, letter_of, text_of, local_number, part}
+use Rattle.cpp_grammar.specs.Values.{State, Around, Value, nothing_there, letter, tree, piece, tree_of, piece_of, letter_of, text_of, local_number, part}
 use Rattle.cpp_grammar.specs.Between.{between}
 use Rattle.cpp_grammar.specs.Meaning.{meaning, operator_or_literal}
 use Rattle.cpp_grammar.specs.Unfolding as unfolding_
 use Rattle.cpp_grammar.specs.Unfolding.{last_token, number_tested, opening, close, byte_of}
+use Rattle.cpp_press_laws.specs.Components.{Component}
 use Rattle.cpp_press_laws.specs.Texts.{counted}
 use Rattle.cpp_press_laws.specs.Spellable.{IsSpellableName, IsOperator}
 use Rattle.cpp_press_laws.specs.Subtrees.{Written, written, ReadsAt, Is}
@@ -24,13 +25,13 @@ use Rattle.cpp_press_laws.proofs.ReadBack.Functions.{mark-reads}
 
 -- ## Names
 
-name-token-reads : (around : Around) (allowed : Option ℕ) (name : List ℕ) (place : ℕ) (cs : List Candidate) → IsSpellableName name
+name-token-reads : (around : Around) (allowed : Option ℕ) (name : List ℕ) (place : ℕ) (cs : List Component) → IsSpellableName name
     → ReadsAt around allowed Name (Is (value.text name)) place cs (written (counted name) cs)
 name-token-reads around allowed name place cs good =
     same-written around allowed Name (Is (value.text name)) place cs cs ((name_token name).before ++ name ++ []) (counted name)
     (name-spelled name) (name-reads around allowed (name_token name) place cs (name-is-token name good))
 
-pub source-piece : (k : ℕ) (around : Around) (allowed : Option ℕ) (name : List ℕ) (place : ℕ) (cs : List Candidate)
+pub source-piece : (k : ℕ) (around : Around) (allowed : Option ℕ) (name : List ℕ) (place : ℕ) (cs : List Component)
     → TakesRule abi k (rule_of Production.SourcePiece) [] → IsSpellableName name
     → ReadsAt around allowed (OfKind k) (Is (piece (source false name))) place cs (written (counted name) cs)
 unfolding parts_of between opening close unfolding_.behind meaning text_of part
@@ -39,7 +40,7 @@ source-piece k around allowed name place cs takes good =
     takes refl (λ s. refl) (λ f s. refl) (λ began s. refl)
     (name-token-reads around allowed name (place + 0) cs good)
 
-pub internal-piece : (k : ℕ) (around : Around) (allowed : Option ℕ) (name : List ℕ) (place : ℕ) (cs : List Candidate)
+pub internal-piece : (k : ℕ) (around : Around) (allowed : Option ℕ) (name : List ℕ) (place : ℕ) (cs : List Component)
     → TakesRule abi k (rule_of Production.InternalPiece) (76 ∷ []) → IsSpellableName name
     → ReadsAt around allowed (OfKind k) (Is (piece (source true name))) place cs (written (76 ∷ counted name) cs)
 unfolding parts_of between opening close unfolding_.behind meaning text_of part
@@ -48,7 +49,7 @@ internal-piece k around allowed name place cs takes good =
     (written (counted name) cs) takes refl (λ s. refl) (λ f s. refl) (λ began s. refl)
     (name-token-reads around allowed name (place + 1) cs good)
 
-pub local-type-piece : (k : ℕ) (around : Around) (allowed : Option ℕ) (p : Term) (place : ℕ) (cs : List Candidate) (w : Written)
+pub local-type-piece : (k : ℕ) (around : Around) (allowed : Option ℕ) (p : Term) (place : ℕ) (cs : List Component) (w : Written)
     → TakesRule abi k (rule_of Production.LocalTypePiece) (85 ∷ [])
     → ReadsAt around allowed (OfKind ANONYMOUS) (Is (piece p)) (place + 1) cs w
     → ReadsAt around allowed (OfKind k) (Is (piece p)) place cs (written (85 ∷ w.bytes) w.components)
@@ -57,7 +58,7 @@ local-type-piece k around allowed p place cs w takes one =
     one-part Production.LocalTypePiece k (85 ∷ []) around allowed place (OfKind ANONYMOUS) (piece p) (piece p) cs w takes refl (λ s. refl) (λ f s. refl)
     (λ began s. refl) one
 
-pub operator-piece : (around : Around) (allowed : Option ℕ) (p : Term) (place : ℕ) (cs : List Candidate) (w : Written)
+pub operator-piece : (around : Around) (allowed : Option ℕ) (p : Term) (place : ℕ) (cs : List Component) (w : Written)
     → ReadsAt around allowed (OfKind OPERATOR) (Is (piece p)) (place + 0) cs w → ReadsAt around allowed (OfKind UNQUALIFIED) (Is (piece p)) place cs w
 unfolding choose alternatives pick is_in in_ranges among kinds is_chain parts_of number_of_kind between opening close unfolding_.behind meaning part
 operator-piece around allowed p place cs w one =
@@ -66,7 +67,7 @@ operator-piece around allowed p place cs w one =
 
 -- ## Operators
 
-pub operator-reads : (around : Around) (allowed : Option ℕ) (first second place : ℕ) (cs : List Candidate) → first < 256 → second < 256
+pub operator-reads : (around : Around) (allowed : Option ℕ) (first second place : ℕ) (cs : List Component) → first < 256 → second < 256
     → IsOperator first second
     → ReadsAt around allowed (OfKind OPERATOR) (Is (piece (operator first second))) place cs (written (first ∷ second ∷ []) cs)
 unfolding kinds byte_of
@@ -77,7 +78,7 @@ operator-reads around allowed first second place cs small also is =
     (is.means around place)
     (mark-reads around allowed is.number is.kind second (place + 1) cs is.at is.marked also)
 
-pub literal-operator-reads : (around : Around) (allowed : Option ℕ) (name : List ℕ) (place : ℕ) (cs : List Candidate) → IsSpellableName name
+pub literal-operator-reads : (around : Around) (allowed : Option ℕ) (name : List ℕ) (place : ℕ) (cs : List Component) → IsSpellableName name
     → ReadsAt around allowed (OfKind OPERATOR) (Is (piece (literal_operator name))) place cs (written (108 ∷ 105 ∷ counted name) cs)
 unfolding choose alternatives pick is_in in_ranges among kinds is_chain parts_of number_of_kind between opening close unfolding_.behind meaning operator_or_literal text_of part
 literal-operator-reads around allowed name place cs good =

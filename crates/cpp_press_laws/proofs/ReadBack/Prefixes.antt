@@ -8,7 +8,8 @@ use Rattle.cpp_grammar.specs.KindNumbers.{NEST_REST, NEST_TAIL, ABBREVIATION}
 use Rattle.cpp_grammar.specs.Grammar.{in_ranges, among, is_in, pick, alternatives, choose, kinds, is_chain}
 use Rattle.cpp_grammar.specs.Table.{abi, rule_of}
 use Rattle.cpp_grammar.specs.Term.{Term}
-use Rattle.cpp_grammar.specs.Values.{Candidate, Around, tree}
+use Rattle.cpp_grammar.specs.Values.{Around, tree}
+use Rattle.cpp_press_laws.specs.Components.{Component}
 use Rattle.cpp_press_laws.specs.Subtrees.{Written, written, ReadsAt, Is}
 use Rattle.cpp_press_laws.proofs.ReadBack.Reading.{takes-none}
 use Rattle.cpp_press_laws.proofs.ReadBack.Names.{Extends, extends-same}
@@ -24,7 +25,7 @@ unfolding choose alternatives pick is_in in_ranges among kinds is_chain
 next-18 = takes-none NEST_TAIL Kind.NestTail Production.NestNext 48 refl refl (omega arith) refl
 
 -- an abbreviation or a reference as a prefix
-pub extends-behind-s : (around : Around) (allowed : Option ℕ) (t : Term) (place : ℕ) (cs : List Candidate) (first : Written)
+pub extends-behind-s : (around : Around) (allowed : Option ℕ) (t : Term) (place : ℕ) (cs : List Component) (first : Written)
     → ReadsAt around allowed (OfKind ABBREVIATION) (Is (tree t true)) (place + 1 + 0) cs first
     → Extends around allowed t place cs (written (83 ∷ first.bytes) first.components)
 extends-behind-s around allowed t place cs first one =

@@ -22,6 +22,7 @@ use Rattle.cpp_grammar.specs.Unfolding.{cpp, opening, close, byte_of}
 use Rattle.cpp_grammar.proofs.Alone.{list_first}
 use Rattle.cpp_grammar.proofs.Choosing.{rule_at_kind, empty_at_kind}
 use Rattle.cpp_grammar.proofs.ClosedTrees.{at_number, its_symbols}
+use Rattle.cpp_press_laws.specs.Components.{Component, components_of}
 use Rattle.cpp_press_laws.specs.Subtrees.{Written, written, IsAllowed, Reads, ReadsAt}
 
 -- the same for the parts that are left of a production that began at a place in a state, behind parts that are known
@@ -34,19 +35,34 @@ pub record ReadsRow (p : Production) (taken : List ℕ) (around : Around) (allow
   pub good : Q values
   pub state : State
   pub unfolds : unfold_forest cpp (standing (rule_of p) taken at around began) known place forest start ≡ Ok (found values state)
-  pub candidates : state.candidates ≡ w.components
+  pub candidates : components_of state.candidates ≡ w.components
   pub packs : IsAllowed allowed state.packs
 
 abbrev pub RowAt : Production → (taken : List ℕ) → Around → Option ℕ → (at : ℕ) → List Sym → (known : List Value) → (List Value → Type 0)
-    → (place : ℕ) → List Candidate → Written → Type 0
+    → (place : ℕ) → List Component → Written → Type 0
 RowAt p taken around allowed at symbols known Q place components w =
-    (began s : State) → s.candidates ≡ components → IsAllowed allowed s.packs → ReadsRow p taken around allowed at began symbols known Q place s w
+    (began s : State) → components_of s.candidates ≡ components → IsAllowed allowed s.packs → ReadsRow p taken around allowed at began symbols known Q place s w
+
+-- ## Candidates as components
+
+components-append : (cs ds : List Candidate) → components_of (cs ++ ds) ≡ components_of cs ++ components_of ds
+unfolding components_of
+components-append [] ds = refl
+components-append (c ∷ cs) ds = ap (λ l. record { tree = c.tree; encoding = c.encoding } ∷ l) (components-append cs ds)
+
+-- one more candidate is one more component
+pub appended-same : {components : List Component} (around : Around) (t : Term) (s : State) → components_of s.candidates ≡ components
+    → components_of (appended around t s).candidates ≡ components ++ record { tree = t; encoding = around.encoding } ∷ []
+unfolding appended components_of
+appended-same around t s same =
+    components-append s.candidates (record { tree = t; encoding = around.encoding; in_lambda = around.in_lambda } ∷ [])
+    ∙ ap (λ l. l ++ record { tree = t; encoding = around.encoding } ∷ []) same
 
 -- ## Rows
 
 -- nothing is left
 pub row-ends : (p : Production) (taken : List ℕ) (around : Around) (allowed : Option ℕ) (at : ℕ) (known : List Value) (place : ℕ)
-    (components : List Candidate)
+    (components : List Component)
     → RowAt p taken around allowed at [] known (λ values. values ≡ known) place components (written [] components)
 row-ends p taken around allowed at known place components began s same packs = record {
   forest = shape.nothing;
@@ -61,20 +77,20 @@ row-ends p taken around allowed at known place components began s same packs = r
 }
 
 -- what is done before the next part: what surrounds it, the values so far, and the state
-pub record Passes (p : Production) (around : Around) (allowed : Option ℕ) (at : ℕ) (known : List Value) (components : List Candidate)
-    (inner : Around) (inside : Option ℕ) (passed : List Value) (middle : List Candidate) (s : State) : Type 0 where
+pub record Passes (p : Production) (around : Around) (allowed : Option ℕ) (at : ℕ) (known : List Value) (components : List Component)
+    (inner : Around) (inside : Option ℕ) (passed : List Value) (middle : List Component) (s : State) : Type 0 where
   pub state : State
   pub goes : ◌≡◌ {A = Going} (between p around at known s) (Ok (record { context = inner; values = passed; state = state }))
-  pub candidates : state.candidates ≡ middle
+  pub candidates : components_of state.candidates ≡ middle
   pub packs : IsAllowed inside state.packs
 
-abbrev pub PassesAt : Production → Around → Option ℕ → (at : ℕ) → (known : List Value) → List Candidate → (inner : Around) → (inside : Option ℕ)
-    → (passed : List Value) → (middle : List Candidate) → Type 0
+abbrev pub PassesAt : Production → Around → Option ℕ → (at : ℕ) → (known : List Value) → List Component → (inner : Around) → (inside : Option ℕ)
+    → (passed : List Value) → (middle : List Component) → Type 0
 PassesAt p around allowed at known components inner inside passed middle =
-    (s : State) → s.candidates ≡ components → IsAllowed allowed s.packs → Passes p around allowed at known components inner inside passed middle s
+    (s : State) → components_of s.candidates ≡ components → IsAllowed allowed s.packs → Passes p around allowed at known components inner inside passed middle s
 
 -- nothing is done to the state
-pub passes-by : (p : Production) (around : Around) (allowed : Option ℕ) (at : ℕ) (known : List Value) (components : List Candidate)
+pub passes-by : (p : Production) (around : Around) (allowed : Option ℕ) (at : ℕ) (known : List Value) (components : List Component)
     (inner : Around) (passed : List Value)
     → ((s : State) → ◌≡◌ {A = Going} (between p around at known s) (Ok (record { context = inner; values = passed; state = s })))
     → PassesAt p around allowed at known components inner allowed passed components
@@ -103,7 +119,7 @@ row-joined p taken around inner allowed inside at began s middle symbol symbols 
 -- a part, and then what is left
 unfoldable pub row-part : (p : Production) (taken : List ℕ) (around inner : Around) (allowed inside : Option ℕ) (at : ℕ) (symbol : Sym)
     (symbols : List Sym) (known passed : List Value) (Q : Value → Type 0) (R : List Value → Type 0) (place : ℕ)
-    (components middle : List Candidate) (first rest : Written)
+    (components middle : List Component) (first rest : Written)
     → PassesAt p around allowed at known components inner inside passed middle
     → ReadsAt inner inside symbol Q place middle first
     → ((packs : Option ℕ) → IsAllowed inside packs → IsAllowed allowed packs)
@@ -118,11 +134,11 @@ row-part p taken around inner allowed inside at symbol symbols known passed Q R 
 
 -- the last part
 unfoldable pub row-last : (p : Production) (taken : List ℕ) (around inner : Around) (allowed inside : Option ℕ) (at : ℕ) (symbol : Sym)
-    (known passed : List Value) (Q : Value → Type 0) (R : List Value → Type 0) (place : ℕ) (components middle : List Candidate) (w : Written)
+    (known passed : List Value) (Q : Value → Type 0) (R : List Value → Type 0) (place : ℕ) (components middle : List Component) (w : Written)
     → PassesAt p around allowed at known components inner inside passed middle
     → ReadsAt inner inside symbol Q place middle w
     → ((v : Value) → Q v → R (passed ++ v ∷ []))
-    → (began s : State) → s.candidates ≡ components → IsAllowed allowed s.packs
+    → (began s : State) → components_of s.candidates ≡ components → IsAllowed allowed s.packs
     → ReadsRow p taken around inside at began (symbol ∷ []) known R place s w
 unfolding cpp
 row-last p taken around inner allowed inside at symbol known passed Q R place components middle w goes one good began s same packs =
@@ -168,23 +184,23 @@ takes-none k kind p byte at chosen small chain = record {
 
 -- What a production means, whose parts have these values: its value, and what becomes of the state.
 pub record Closes (p : Production) (byte : ℕ) (around : Around) (allowed inside : Option ℕ) (place : ℕ) (values : List Value)
-    (middle components : List Candidate) (Q : Value → Type 0) (began s : State) : Type 0 where
+    (middle components : List Component) (Q : Value → Type 0) (began s : State) : Type 0 where
   pub value : Value
   pub good : Q value
   pub state : State
   pub closes : close p byte around place began values s ≡ Ok (found value state)
-  pub candidates : state.candidates ≡ components
+  pub candidates : components_of state.candidates ≡ components
   pub packs : IsAllowed allowed state.packs
 
 abbrev pub ClosesAt : Production → (byte : ℕ) → Around → (allowed inside : Option ℕ) → (place : ℕ) → (R : List Value → Type 0)
-    → (middle components : List Candidate) → (Value → Type 0) → Type 0
+    → (middle components : List Component) → (Value → Type 0) → Type 0
 ClosesAt p byte around allowed inside place R middle components Q =
-    (values : List Value) → R values → (began s : State) → IsAllowed allowed began.packs → s.candidates ≡ middle → IsAllowed inside s.packs
+    (values : List Value) → R values → (began s : State) → IsAllowed allowed began.packs → components_of s.candidates ≡ middle → IsAllowed inside s.packs
     → Closes p byte around allowed inside place values middle components Q began s
 
 -- nothing becomes of the state
 pub closes-same : (p : Production) (byte : ℕ) (around : Around) (allowed : Option ℕ) (place : ℕ) (R : List Value → Type 0)
-    (components : List Candidate) (v : Value)
+    (components : List Component) (v : Value)
     → ((values : List Value) → R values → (began s : State) → close p byte around place began values s ≡ Ok (found v s))
     → ClosesAt p byte around allowed allowed place R components components (λ w. w ≡ v)
 closes-same p byte around allowed place R components v means values good began s first same packs =
@@ -192,7 +208,7 @@ closes-same p byte around allowed place R components v means values good began s
 
 -- a tree becomes a component
 pub closes-more : (p : Production) (byte : ℕ) (around : Around) (allowed : Option ℕ) (place : ℕ) (R : List Value → Type 0)
-    (components : List Candidate) (v : Value) (t : Term)
+    (components : List Component) (v : Value) (t : Term)
     → ((values : List Value) → R values → (began s : State) → close p byte around place began values s ≡ Ok (found v (appended around t s)))
     → ClosesAt p byte around allowed allowed place R components (components ++ record { tree = t; encoding = around.encoding } ∷ []) (λ w. w ≡ v)
 unfolding appended
@@ -201,17 +217,17 @@ closes-more p byte around allowed place R components v t means values good began
   good = refl;
   state = appended around t s;
   closes = means values good began s;
-  candidates = ap (λ cs. cs ++ record { tree = t; encoding = around.encoding } ∷ []) same;
+  candidates = appended-same around t s same;
   packs = packs;
 }
 
 -- A production is read from its parts, which it may test before them.
 pub production-opened : (p : Production) (k : ℕ) (taken : List ℕ) (around : Around) (allowed inside : Option ℕ) (place : ℕ)
-    (R : List Value → Type 0) (Q : Value → Type 0) (start components : List Candidate) (symbols : List Sym) (parts : Written)
+    (R : List Value → Type 0) (Q : Value → Type 0) (start components : List Component) (symbols : List Sym) (parts : Written)
     → TakesRule abi k (rule_of p) taken → parts_of p ≡ symbols
-    → (row : (began s : State) → s.candidates ≡ start → IsAllowed allowed s.packs
+    → (row : (began s : State) → components_of s.candidates ≡ start → IsAllowed allowed s.packs
     → ReadsRow p taken around inside place began symbols [] R (place + length taken) s parts)
-    → ((s : State) (same : s.candidates ≡ start) (packs : IsAllowed allowed s.packs) → opening p (row s s same packs).forest place s ≡ Ok s)
+    → ((s : State) (same : components_of s.candidates ≡ start) (packs : IsAllowed allowed s.packs) → opening p (row s s same packs).forest place s ≡ Ok s)
     → ClosesAt p (byte_of taken) around allowed inside place R parts.components components Q
     → ReadsAt around allowed (OfKind k) Q place start (written (taken ++ parts.bytes) components)
 unfolding cpp
@@ -232,9 +248,9 @@ production-opened p k taken around allowed inside place R Q start components sym
 
 -- A production is read from its parts.
 pub production-reads : (p : Production) (k : ℕ) (taken : List ℕ) (around : Around) (allowed inside : Option ℕ) (place : ℕ)
-    (R : List Value → Type 0) (Q : Value → Type 0) (start components : List Candidate) (symbols : List Sym) (parts : Written)
+    (R : List Value → Type 0) (Q : Value → Type 0) (start components : List Component) (symbols : List Sym) (parts : Written)
     → TakesRule abi k (rule_of p) taken → parts_of p ≡ symbols
-    → ((began s : State) → s.candidates ≡ start → IsAllowed allowed s.packs
+    → ((began s : State) → components_of s.candidates ≡ start → IsAllowed allowed s.packs
     → ReadsRow p taken around inside place began symbols [] R (place + length taken) s parts)
     → ((f : Forest) (s : State) → opening p f place s ≡ Ok s)
     → ClosesAt p (byte_of taken) around allowed inside place R parts.components components Q
@@ -245,7 +261,7 @@ production-reads p k taken around allowed inside place R Q start components symb
 
 -- ## Parts without a row, and tokens
 
-unfoldable pub fixed-reads : (around : Around) (allowed : Option ℕ) (byte place : ℕ) (components : List Candidate)
+unfoldable pub fixed-reads : (around : Around) (allowed : Option ℕ) (byte place : ℕ) (components : List Component)
     → ReadsAt around allowed (Byte byte) (λ v. v ≡ nothing_there) place components (written (byte ∷ []) components)
 unfolding cpp
 fixed-reads around allowed byte place components s same packs = record {
@@ -260,7 +276,7 @@ fixed-reads around allowed byte place components s same packs = record {
   packs = packs;
 }
 
-pub empty-reads : (around : Around) (allowed : Option ℕ) (k : ℕ) (kind : Kind) (place : ℕ) (components : List Candidate)
+pub empty-reads : (around : Around) (allowed : Option ℕ) (k : ℕ) (kind : Kind) (place : ℕ) (components : List Component)
     → slice_get kinds k ≡ Some kind → may_be_empty kind ≡ true
     → ReadsAt around allowed (OfKind k) (λ v. v ≡ nothing_there) place components (written [] components)
 unfolding cpp
@@ -276,7 +292,7 @@ empty-reads around allowed k kind place components at may s same packs = record 
   packs = packs;
 }
 
-pub name-reads : (around : Around) (allowed : Option ℕ) (t : Token) (place : ℕ) (components : List Candidate) → IsName Cpp t
+pub name-reads : (around : Around) (allowed : Option ℕ) (t : Token) (place : ℕ) (components : List Component) → IsName Cpp t
     → ReadsAt around allowed Name (λ v. v ≡ text t.own) place components (written (bytes_of t) components)
 unfolding cpp abi
 name-reads around allowed t place components is s same packs = record {
@@ -291,7 +307,7 @@ name-reads around allowed t place components is s same packs = record {
   packs = packs;
 }
 
-unfoldable pub number-reads : (around : Around) (allowed : Option ℕ) (kind : NumberKind) (t : Token) (place : ℕ) (components : List Candidate)
+unfoldable pub number-reads : (around : Around) (allowed : Option ℕ) (kind : NumberKind) (t : Token) (place : ℕ) (components : List Component)
     → IsNumberToken kind t
     → ReadsAt around allowed (Number kind) (λ v. v ≡ text t.own) place components (written (bytes_of t) components)
 unfolding cpp
@@ -308,7 +324,7 @@ number-reads around allowed kind t place components is s same packs = record {
 }
 
 -- what is read as arguments is read so from the first one on
-pub first-reads : (around : Around) (allowed : Option ℕ) (Q : Value → Type 0) (place : ℕ) (components : List Candidate) (w : Written)
+pub first-reads : (around : Around) (allowed : Option ℕ) (Q : Value → Type 0) (place : ℕ) (components : List Component) (w : Written)
     → ReadsAt around allowed (OfKind ARGUMENT_LIST) Q place components w → ReadsAt around allowed (OfKind ARGUMENTS_FIRST) Q place components w
 first-reads around allowed Q place components w one s same packs =
     let r = one s same packs in record {

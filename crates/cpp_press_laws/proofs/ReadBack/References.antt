@@ -1,5 +1,5 @@
 -- A reference that pressing writes is read as the tree that it stands for.
-use Rattle.std.proofs.Common.{◌≡◌, ℕ, suc, ◌+◌, ◌-◌, ◌<◌, ◌≤◌, inl, inr, length, List, [], ◌∷◌, ◌++◌, Option, Some, None, Bool, true, false, Ok, refl, ap, arith, sym, subst, ◌∙◌}
+use Rattle.std.proofs.Common.{◌≡◌, ℕ, zero, suc, ◌+◌, ◌-◌, ◌<◌, ◌≤◌, inl, inr, length, List, [], ◌∷◌, ◌++◌, Option, Some, None, Bool, true, false, Ok, refl, ap, arith, sym, subst, ◌∙◌}
 use Rattle.std.specs.Prelude.{slice_get, not, ◌&&◌, ◌||◌, nat_eq, Result, Err}
 use Rattle.std.proofs.lemmas.Bool.{eq-eqb, and_parts}
 use Rattle.sym_core.specs.declared.refusal.Refusal.{Refusal}
@@ -20,7 +20,7 @@ use Rattle.cpp_grammar.specs.References.{with_packs, packs_in, substituted}
 use Rattle.cpp_grammar.specs.Between.{between}
 use Rattle.cpp_grammar.specs.Unfolding.{opening, close}
 use Rattle.cpp_press_laws.specs.Same.{same_tree}
-use Rattle.cpp_press_laws.specs.Components.{is_same, first_equal, seq_id}
+use Rattle.cpp_press_laws.specs.Components.{Component, components_of, is_same, first_equal, seq_id}
 use Rattle.cpp_press_laws.specs.Fits.{PacksFit, MayBeReferred}
 use Rattle.cpp_press_laws.specs.Subtrees.{greatest, written, IsAllowed, ReadsAt}
 use Rattle.cpp_press_laws.proofs.Components.Sameness.{equal-tree}
@@ -70,14 +70,14 @@ packs-fit around allowed (Some m) place s (inr (under, same)) before = go s.pack
 -- ## What is found
 
 -- the component that a reference names
-pub record IsFirst (encoding : ℕ) (own : Term) (cs : List Candidate) (number : ℕ) : Type 0 where
-  pub component : Candidate
+pub record IsFirst (encoding : ℕ) (own : Term) (cs : List Component) (number : ℕ) : Type 0 where
+  pub component : Component
   pub there : slice_get cs number ≡ Some component
   pub few : number < length cs
   pub same : component.tree ≡ own
   pub scoped : is_open own && not (nat_eq component.encoding encoding) ≡ false
 
-found-same : (encoding : ℕ) (own : Term) (c : Candidate) → is_same encoding own c ≡ true
+found-same : (encoding : ℕ) (own : Term) (c : Component) → is_same encoding own c ≡ true
     → (c.tree ≡ own) × (is_open own && not (nat_eq c.encoding encoding) ≡ false)
 unfolding is_same
 found-same encoding own c h =
@@ -89,7 +89,7 @@ found-same encoding own c h =
     go true false k = cc
     go false b k = refl
 
-pub found-first : (encoding : ℕ) (own : Term) (from number : ℕ) (cs : List Candidate) → first_equal encoding own from cs ≡ Some number
+pub found-first : (encoding : ℕ) (own : Term) (from number : ℕ) (cs : List Component) → first_equal encoding own from cs ≡ Some number
     → (k : ℕ) × (number ≡ from + k) × IsFirst encoding own cs k
 unfolding first_equal
 found-first encoding own from number [] h = cc
@@ -114,6 +114,24 @@ found-first encoding own from number (c ∷ cs) h = go (is_same encoding own c) 
             scoped = later.2.scoped;
           },
         )
+
+-- the reader's candidate at the place of a component
+record IsAt (candidates : List Candidate) (number : ℕ) (component : Component) : Type 0 where
+  pub candidate : Candidate
+  pub there : slice_get candidates number ≡ Some candidate
+  pub tree_is : candidate.tree ≡ component.tree
+  pub encoding_is : candidate.encoding ≡ component.encoding
+
+candidate-at : (cs : List Candidate) (number : ℕ) (component : Component) → slice_get (components_of cs) number ≡ Some component
+    → IsAt cs number component
+unfolding components_of
+candidate-at [] number component h = absurd cc
+candidate-at (c ∷ cs) zero component h =
+    let same : record { tree = c.tree; encoding = c.encoding } ≡ component = cc in
+    record { candidate = c; there = refl; tree_is = ap (λ k. k.tree) same; encoding_is = ap (λ k. k.encoding) same }
+candidate-at (c ∷ cs) (suc number) component h =
+    let later = candidate-at cs number component h in
+    record { candidate = later.candidate; there = later.there; tree_is = later.tree_is; encoding_is = later.encoding_is }
 
 -- ## References
 
@@ -146,7 +164,7 @@ reference-state around allowed place own c s may same scoped before =
     go false b d h k = refl
 
 -- behind the S
-pub number-refers : (around : Around) (allowed : Option ℕ) (own : Term) (number place : ℕ) (cs : List Candidate) → length cs ≤ greatest
+pub number-refers : (around : Around) (allowed : Option ℕ) (own : Term) (number place : ℕ) (cs : List Component) → length cs ≤ greatest
     → MayBeReferred around allowed own
     → IsFirst around.encoding own cs number
     → ReadsAt around allowed (OfKind ABBREVIATION) (λ v. v ≡ tree own true) place cs (written (seq_id number ++ 95 ∷ []) cs)
@@ -162,15 +180,16 @@ number-refers around allowed own number place cs few may first =
     (λ v h. ap (λ w. w ∷ []) h))
     (λ f s. refl)
     (λ values good began s before same packs.
-    let r = reference-state around allowed (place - 1) own first.component s may first.same first.scoped packs in
-    let there : slice_get s.candidates (counted_value Seq36 (seq_id number)) ≡ Some first.component =
-    ap (λ l. slice_get l (counted_value Seq36 (seq_id number))) same ∙ ap (λ n. slice_get cs n)
-    (seq-value number (omega (arith, few, first.few))) ∙ first.there in
+    let at = candidate-at s.candidates number first.component (ap (λ l. slice_get l number) same ∙ first.there) in
+    let r = reference-state around allowed (place - 1) own at.candidate s may (at.tree_is ∙ first.same)
+    (ap (λ e. is_open own && not (nat_eq e around.encoding)) at.encoding_is ∙ first.scoped) packs in
+    let there : slice_get s.candidates (counted_value Seq36 (seq_id number)) ≡ Some at.candidate =
+    ap (λ n. slice_get s.candidates n) (seq-value number (omega (arith, few, first.few))) ∙ at.there in
     record {
       value = tree own true;
       good = refl;
       state = r.0;
       closes = rw (good, there) r.1;
-      candidates = r.2 ∙ same;
+      candidates = ap components_of r.2 ∙ same;
       packs = r.3;
     })

@@ -10,14 +10,14 @@ use Rattle.cpp_grammar.specs.KindNumbers.{ABBREVIATION, TYPE, PLAIN, ITEM, ITEM_
 use Rattle.cpp_grammar.specs.Grammar.{in_ranges, among, is_in, pick, number_of_kind, alternatives, choose, kinds, parts_of, is_chain}
 use Rattle.cpp_grammar.specs.Table.{abi, rule_of}
 use Rattle.cpp_grammar.specs.Term.{RefQualifier, Signed, Term, integer, list}
-use Rattle.cpp_grammar.specs.Values.{Candidate, Around, tree, part}
+use Rattle.cpp_grammar.specs.Values.{Around, tree, part}
 use Rattle.cpp_grammar.specs.References.{is_function_type}
 use Rattle.cpp_grammar.specs.Between.{between}
 use Rattle.cpp_grammar.specs.Meaning.{meaning}
 use Rattle.cpp_grammar.specs.Unfolding as unfolding_
 use Rattle.cpp_grammar.specs.Unfolding.{opening, close}
 use Rattle.cpp_press_laws.specs.Texts.{signed_text}
-use Rattle.cpp_press_laws.specs.Components.{Spelling, first_equal, seq_id, reference, ended, spelled_out, component}
+use Rattle.cpp_press_laws.specs.Components.{Component, Spelling, first_equal, seq_id, reference, ended, spelled_out, component}
 use Rattle.cpp_press_laws.specs.Spellable.{IsSpellableNumber}
 use Rattle.cpp_press_laws.specs.Subtrees.{greatest, Written, written, ReadsAt, Is, HasRoom}
 use Rattle.cpp_press_laws.proofs.ReadBack.Reading.{takes-none, takes-byte}
@@ -32,7 +32,7 @@ use Rattle.cpp_press_laws.specs.Fits.{Slot, any_type, bare_type, item_type, para
 
 -- ## Room
 
-pub room-first : (first rest : Spelling) (place : ℕ) (cs : List Candidate) → Keeps rest → HasRoom ((first and rest) place cs)
+pub room-first : (first rest : Spelling) (place : ℕ) (cs : List Component) → Keeps rest → HasRoom ((first and rest) place cs)
     → HasRoom (first place cs)
 room-first first rest place cs keeps room =
     let f : Written = first place cs in
@@ -42,7 +42,7 @@ room-first first rest place cs keeps room =
       few = omega (arith, room.few, keeps.kept at f.components);
     }
 
-pub room-rest : (first rest : Spelling) (place : ℕ) (cs : List Candidate) → HasRoom ((first and rest) place cs)
+pub room-rest : (first rest : Spelling) (place : ℕ) (cs : List Component) → HasRoom ((first and rest) place cs)
     → HasRoom (rest (place + length (first place cs).bytes) (first place cs).components)
 room-rest first rest place cs room =
     let f : Written = first place cs in
@@ -51,10 +51,10 @@ room-rest first rest place cs room =
       few = room.few;
     }
 
-pub few-before : (spelling : Spelling) (place : ℕ) (cs : List Candidate) → Keeps spelling → HasRoom (spelling place cs) → length cs ≤ greatest
+pub few-before : (spelling : Spelling) (place : ℕ) (cs : List Component) → Keeps spelling → HasRoom (spelling place cs) → length cs ≤ greatest
 few-before spelling place cs keeps room = omega (arith, keeps.kept place cs, room.few)
 
-spelled-room : (n : ℕ) (own : Term) (spelling : Spelling) (place : ℕ) (cs : List Candidate) → HasRoom (spelled_out n own spelling place cs)
+spelled-room : (n : ℕ) (own : Term) (spelling : Spelling) (place : ℕ) (cs : List Component) → HasRoom (spelled_out n own spelling place cs)
     → HasRoom (spelling place cs)
 unfolding spelled_out ended
 spelled-room n own spelling place cs room =
@@ -64,7 +64,7 @@ spelled-room n own spelling place cs room =
       few = omega (arith, room.few, length-append w.components (record { tree = own; encoding = n } ∷ []));
     }
 
-pub room-component : (n : ℕ) (own : Term) (spelling : Spelling) (place : ℕ) (cs : List Candidate) → first_equal n own 0 cs ≡ None
+pub room-component : (n : ℕ) (own : Term) (spelling : Spelling) (place : ℕ) (cs : List Component) → first_equal n own 0 cs ≡ None
     → HasRoom (component n own spelling place cs) → HasRoom (spelling place cs)
 unfolding component
 room-component n own spelling place cs none room =
@@ -76,7 +76,7 @@ room-component n own spelling place cs none room =
 -- ## Where types stand
 
 -- What is written is read as a type: as a parameter of a function type with those behind it, and as a literal's with its number.
-abbrev pub ReadsAs : Slot → Around → Option ℕ → Term → (place : ℕ) → List Candidate → Written → Type 0
+abbrev pub ReadsAs : Slot → Around → Option ℕ → Term → (place : ℕ) → List Component → Written → Type 0
 ReadsAs any_type around allowed t place cs w = ReadsAt around allowed (OfKind TYPE) (Is (tree t true)) place cs w
 ReadsAs bare_type around allowed t place cs w = ReadsAt around allowed (OfKind PLAIN) (Is (tree t true)) place cs w
 ReadsAs item_type around allowed t place cs w = ReadsAt around allowed (OfKind ITEM) (Is (tree t true)) place cs w
@@ -93,12 +93,12 @@ solid_kind literal_type = 51
 solid_kind _ = 34
 
 -- how types become what is read: a component or an abbreviation behind an S, and what is spelled out
-pub record InSlot (around : Around) (allowed : Option ℕ) (t : Term) (solid : ℕ) (reads : ℕ → List Candidate → Written → Type 0) : Type 0 where
-  pub behind_s : (place : ℕ) (cs : List Candidate) (w : Written) → ReadsAt around allowed (OfKind ABBREVIATION) (Is (tree t true)) (place + 1) cs w
+pub record InSlot (around : Around) (allowed : Option ℕ) (t : Term) (solid : ℕ) (reads : ℕ → List Component → Written → Type 0) : Type 0 where
+  pub behind_s : (place : ℕ) (cs : List Component) (w : Written) → ReadsAt around allowed (OfKind ABBREVIATION) (Is (tree t true)) (place + 1) cs w
       → reads place cs (written (83 ∷ w.bytes) w.components)
-  pub adds : (place : ℕ) (cs : List Candidate) (w : Written) → ReadsAt around allowed (OfKind solid) (Is (tree t false)) place cs w
+  pub adds : (place : ℕ) (cs : List Component) (w : Written) → ReadsAt around allowed (OfKind solid) (Is (tree t false)) place cs w
       → reads place cs (written w.bytes (more around w.components t))
-  pub keeps : (place : ℕ) (cs : List Candidate) (w : Written) → ReadsAt around allowed (OfKind solid) (Is (tree t true)) place cs w
+  pub keeps : (place : ℕ) (cs : List Component) (w : Written) → ReadsAt around allowed (OfKind solid) (Is (tree t true)) place cs w
       → reads place cs w
 
 in-kind : (k : ℕ) (around : Around) (allowed : Option ℕ) (t : Term) → HasTypes around allowed k t
@@ -113,7 +113,7 @@ in-kind k around allowed t has = record {
 }
 
 -- a parameter of a function type that begins with neither an R nor an O
-pub in-rest : (around : Around) (allowed : Option ℕ) (t : Term) (place : ℕ) (cs : List Candidate) (w : Written)
+pub in-rest : (around : Around) (allowed : Option ℕ) (t : Term) (place : ℕ) (cs : List Component) (w : Written)
     → ReadsAt around allowed (OfKind ITEM_BUT_REF) (Is (tree t true)) place cs w → ReadsAs parameter_type around allowed t place cs w
 in-rest around allowed t place cs w one items ref rest two =
     rest-item around allowed t items ref place cs w rest
@@ -130,7 +130,7 @@ in-parameter around allowed t =
     }
 
 -- the type of a literal
-literal-keeps : (around : Around) (allowed : Option ℕ) (t : Term) (place : ℕ) (cs : List Candidate) (w : Written)
+literal-keeps : (around : Around) (allowed : Option ℕ) (t : Term) (place : ℕ) (cs : List Component) (w : Written)
     → ReadsAt around allowed (OfKind LITERAL_TYPE) (Is (tree t true)) place cs w → ReadsAs literal_type around allowed t place cs w
 literal-keeps around allowed t place cs w one n good =
     integer-literal-same around allowed t n place cs w (written (signed_text n) w.components)
@@ -138,7 +138,7 @@ literal-keeps around allowed t place cs w one n good =
     (integer-reads around allowed n (place + 0 + length w.bytes) w.components good)
 
 -- an abbreviation or a reference as a type behind an S
-pub behind-s : (around : Around) (allowed : Option ℕ) (t : Term) (place : ℕ) (cs : List Candidate) (w : Written)
+pub behind-s : (around : Around) (allowed : Option ℕ) (t : Term) (place : ℕ) (cs : List Component) (w : Written)
     → ReadsAt around allowed (OfKind ABBREVIATION) (Is (tree t true)) place cs w → ReadsAt around allowed (OfKind TYPE_AFTER_S) (Is (tree t true)) place cs w
 unfolding choose alternatives pick is_in in_ranges among kinds is_chain parts_of number_of_kind between opening close unfolding_.behind meaning part
 behind-s around allowed t place cs w one =
@@ -184,14 +184,14 @@ in-slot literal_type around allowed t h = in-literal around allowed t
 -- ## Components
 
 -- what a reference, or an abbreviation, becomes behind an S
-abbrev pub BehindS : Around → Option ℕ → Term → (ℕ → List Candidate → Written → Type 0) → Type 0
+abbrev pub BehindS : Around → Option ℕ → Term → (ℕ → List Component → Written → Type 0) → Type 0
 BehindS around allowed t reads =
-    (place : ℕ) (cs : List Candidate) (w : Written) → ReadsAt around allowed (OfKind ABBREVIATION) (Is (tree t true)) (place + 1) cs w
+    (place : ℕ) (cs : List Component) (w : Written) → ReadsAt around allowed (OfKind ABBREVIATION) (Is (tree t true)) (place + 1) cs w
     → reads place cs (written (83 ∷ w.bytes) w.components)
 
 -- a component: a reference where an equal one stands before, or else its own spelling
-pub component-in : (around : Around) (allowed : Option ℕ) (own : Term) (reads : ℕ → List Candidate → Written → Type 0) (place : ℕ)
-    (cs : List Candidate) (spelling : Spelling) → BehindS around allowed own reads → length cs ≤ greatest → MayBeReferred around allowed own
+pub component-in : (around : Around) (allowed : Option ℕ) (own : Term) (reads : ℕ → List Component → Written → Type 0) (place : ℕ)
+    (cs : List Component) (spelling : Spelling) → BehindS around allowed own reads → length cs ≤ greatest → MayBeReferred around allowed own
     → (IsFirst around own cs → reads place cs (written (spelling place cs).bytes (more around (spelling place cs).components own)))
     → reads place cs (component around.encoding own spelling place cs)
 unfolding component reference spelled_out ended
@@ -211,8 +211,8 @@ component-in around allowed own reads place cs spelling behind few may out = go 
         (spelling place cs).bytes)) (out is)
 
 -- a component that fits
-pub fitting-in : (around : Around) (allowed : Option ℕ) (own : Term) (reads : ℕ → List Candidate → Written → Type 0) (place : ℕ)
-    (cs : List Candidate) (spelling : Spelling) (spelled : Fitting) → BehindS around allowed own reads
+pub fitting-in : (around : Around) (allowed : Option ℕ) (own : Term) (reads : ℕ → List Component → Written → Type 0) (place : ℕ)
+    (cs : List Component) (spelling : Spelling) (spelled : Fitting) → BehindS around allowed own reads
     → Keeps spelling
     → HasRoom (component around.encoding own spelling place cs) → as_component own spelled around allowed place cs
     → (spelled around allowed place cs → HasRoom (spelling place cs)

@@ -11,11 +11,12 @@ use Rattle.cpp_grammar.specs.Grammar.{in_ranges, among, is_in, pick, number_of_k
 use Rattle.cpp_grammar.specs.Table.{abi, rule_of}
 use Rattle.cpp_grammar.specs.Term.{Signed, Adjustment, non_virtual, by_table, adjusting, covariant, Term, symbol, special, thunk, of_name, local, string_literal}
 use Rattle.cpp_grammar.specs.Values as value
-use Rattle.cpp_grammar.specs.Values.{Candidate, State, Around, Value, nothing_there, signed, adjusted, tree, named, tree_of, text_of, signed_of, adjustment_of, qualifiers_of, ref_of, normal, part}
+use Rattle.cpp_grammar.specs.Values.{State, Around, Value, nothing_there, signed, adjusted, tree, named, tree_of, text_of, signed_of, adjustment_of, qualifiers_of, ref_of, normal, part}
 use Rattle.cpp_grammar.specs.Between.{between, in_name, in_types, after, extended, no_items}
 use Rattle.cpp_grammar.specs.Meaning.{meaning, encoding_of, discriminator_of}
 use Rattle.cpp_grammar.specs.Unfolding as unfolding_
 use Rattle.cpp_grammar.specs.Unfolding.{opening, close, byte_of}
+use Rattle.cpp_press_laws.specs.Components.{Component}
 use Rattle.cpp_press_laws.specs.Spellable.{AreSpellableDigits, AreSuffixBytes}
 use Rattle.cpp_press_laws.specs.Subtrees.{Written, written, ReadsAt, Is}
 use Rattle.cpp_press_laws.proofs.ReadBack.Tokens.{digits_token}
@@ -24,7 +25,7 @@ use Rattle.cpp_press_laws.proofs.ReadBack.Types.{AreOnly, one-part, no-part, the
 
 -- ## Local names
 
-pub string-literal-reads : (around : Around) (allowed : Option ℕ) (place : ℕ) (cs : List Candidate)
+pub string-literal-reads : (around : Around) (allowed : Option ℕ) (place : ℕ) (cs : List Component)
     → ReadsAt around allowed (OfKind ENTITY) (Is (tree (extended around.prefix string_literal) true)) place cs (written (115 ∷ []) cs)
 unfolding choose alternatives pick is_in in_ranges among kinds is_chain parts_of opening close unfolding_.behind meaning
 string-literal-reads around allowed place cs =
@@ -41,12 +42,12 @@ unfolding discriminator_of
 discriminator-kept None = refl
 discriminator-kept (Some digits) = refl
 
-pub no-discriminator : (around : Around) (allowed : Option ℕ) (place : ℕ) (cs : List Candidate)
+pub no-discriminator : (around : Around) (allowed : Option ℕ) (place : ℕ) (cs : List Component)
     → ReadsAt around allowed (OfKind MAYBE_DISCRIMINATOR) (Is nothing_there) place cs (written [] cs)
 unfolding kinds may_be_empty
 no-discriminator around allowed place cs = empty-reads around allowed MAYBE_DISCRIMINATOR Kind.MaybeDiscriminator place cs refl refl
 
-pub one-digit : (around : Around) (allowed : Option ℕ) (byte place : ℕ) (cs : List Candidate) → byte < 256
+pub one-digit : (around : Around) (allowed : Option ℕ) (byte place : ℕ) (cs : List Component) → byte < 256
     → choose Kind.DiscriminatorRest byte ≡ Some Production.OneDigit
     → ReadsAt around allowed (OfKind MAYBE_DISCRIMINATOR) (Is (value.text (byte ∷ []))) place cs (written (95 ∷ byte ∷ []) cs)
 unfolding choose alternatives pick is_in in_ranges among kinds is_chain parts_of number_of_kind between opening close unfolding_.behind meaning part byte_of
@@ -57,7 +58,7 @@ one-digit around allowed byte place cs small chosen =
     (no-part Production.OneDigit DISCRIMINATOR_REST (byte ∷ []) around allowed (place + 1) (value.text (byte ∷ [])) cs
     (takes-byte DISCRIMINATOR_REST Kind.DiscriminatorRest Production.OneDigit byte refl chosen small refl) refl (λ f s. refl) (λ began s. refl))
 
-pub many-digits : (around : Around) (allowed : Option ℕ) (digits : List ℕ) (place : ℕ) (cs : List Candidate) → AreSpellableDigits Digits digits
+pub many-digits : (around : Around) (allowed : Option ℕ) (digits : List ℕ) (place : ℕ) (cs : List Component) → AreSpellableDigits Digits digits
     → ReadsAt around allowed (OfKind MAYBE_DISCRIMINATOR) (Is (value.text digits)) place cs
     (written (95 ∷ 95 ∷ (((digits_token digits).before ++ digits ++ []) ++ (95 ∷ []))) cs)
 unfolding choose alternatives pick is_in in_ranges among kinds is_chain parts_of number_of_kind between opening close unfolding_.behind meaning text_of part
@@ -79,7 +80,7 @@ many-digits around allowed digits place cs good =
 
 -- an entity in the scope of an encoding, as a type
 pub local-type : (k : ℕ) (around : Around) (allowed : Option ℕ) (e entity : Term) (listed : Bool) (d : Option (List ℕ)) (place : ℕ)
-    (cs : List Candidate) (first second third : Written) → TakesRule abi k (rule_of Production.LocalType) (90 ∷ [])
+    (cs : List Component) (first second third : Written) → TakesRule abi k (rule_of Production.LocalType) (90 ∷ [])
     → ReadsAt around allowed (OfKind ENCODING) (Is (tree e true)) (place + 1) cs first
     → ReadsAt (after e true around) allowed (OfKind TYPE_ENTITY) (Is (tree entity listed)) (place + 1 + length first.bytes + 1) first.components second
     → ReadsAt (after e true around) allowed (OfKind MAYBE_DISCRIMINATOR) (Is (discriminator_value d)) (place + 1 + length first.bytes + 1 + length second.bytes)
@@ -106,7 +107,7 @@ local-type k around allowed e entity listed d place cs first second third takes 
     (discriminator_value d) (at_e + 1 + length second.bytes) second.components third (λ s. refl) three))))
 
 -- and as an encoding's own name, with the qualifiers of the entity
-pub local-name : (around : Around) (allowed : Option ℕ) (e : Term) (entity : Value) (d : Option (List ℕ)) (place : ℕ) (cs : List Candidate)
+pub local-name : (around : Around) (allowed : Option ℕ) (e : Term) (entity : Value) (d : Option (List ℕ)) (place : ℕ) (cs : List Component)
     (first second third : Written)
     → ReadsAt around allowed (OfKind ENCODING) (Is (tree e true)) (place + 1) cs first
     → ReadsAt (after e true around) allowed (OfKind ENTITY) (Is entity) (place + 1 + length first.bytes + 1) first.components second
@@ -138,7 +139,7 @@ local-name around allowed e entity d place cs first second third one two three =
 -- ## Encodings
 
 -- a name and its items
-pub encoding-reads : (around : Around) (allowed : Option ℕ) (name last : Value) (place : ℕ) (cs : List Candidate) (first rest : Written)
+pub encoding-reads : (around : Around) (allowed : Option ℕ) (name last : Value) (place : ℕ) (cs : List Component) (first rest : Written)
     → ReadsAt (in_name place) allowed (OfKind COMPLETE_NAME) (Is name) (place + 0) cs first
     → ReadsAt (in_types place (tree_of name)) allowed (OfKind ITEMS) (Is last) (place + 0 + length first.bytes) first.components rest
     → ReadsAt around allowed (OfKind ENCODING) (Is (tree (encoding_of name (no_items last)) true)) place cs
@@ -153,7 +154,7 @@ encoding-reads around allowed name last place cs first rest one two =
     (last-in Production.Encoding [] around (in_types place (tree_of name)) allowed place (OfKind ITEMS) (name ∷ []) last
     (place + 0 + length first.bytes) first.components rest (λ s. refl) two))
 
-pub guard-reads : (around : Around) (allowed : Option ℕ) (name : Value) (place : ℕ) (cs : List Candidate) (w : Written)
+pub guard-reads : (around : Around) (allowed : Option ℕ) (name : Value) (place : ℕ) (cs : List Component) (w : Written)
     → ReadsAt (in_name place) allowed (OfKind COMPLETE_NAME) (Is name) (place + 1 + 1) cs w
     → ReadsAt around allowed (OfKind ENCODING) (Is (tree (of_name 86 (tree_of name) (qualifiers_of name) (ref_of name)) true)) place cs
     (written (71 ∷ 86 ∷ w.bytes) w.components)
@@ -169,7 +170,7 @@ guard-reads around allowed name place cs w one =
     (λ s. refl) one))
 
 -- what begins with a T
-pub special-reads : (around : Around) (allowed : Option ℕ) (v : Value) (place : ℕ) (cs : List Candidate) (w : Written)
+pub special-reads : (around : Around) (allowed : Option ℕ) (v : Value) (place : ℕ) (cs : List Component) (w : Written)
     → ReadsAt (in_name place) allowed (OfKind SPECIAL) (Is v) (place + 1) cs w
     → ReadsAt around allowed (OfKind ENCODING) (Is v) place cs (written (84 ∷ w.bytes) w.components)
 unfolding choose alternatives pick is_in in_ranges among kinds is_chain parts_of number_of_kind between opening close unfolding_.behind meaning part
@@ -178,7 +179,7 @@ special-reads around allowed v place cs w one =
     (takes-byte ENCODING Kind.Encoding Production.Special 84 refl refl (omega arith) refl) refl (λ f s. refl) (λ began s. refl)
     (last-in Production.Special (84 ∷ []) around (in_name place) allowed place (OfKind SPECIAL) [] v (place + 1) cs w (λ s. refl) one)
 
-pub special-type : (around : Around) (allowed : Option ℕ) (byte : ℕ) (t : Term) (place : ℕ) (cs : List Candidate) (w : Written) → byte < 256
+pub special-type : (around : Around) (allowed : Option ℕ) (byte : ℕ) (t : Term) (place : ℕ) (cs : List Component) (w : Written) → byte < 256
     → choose Kind.Special byte ≡ Some Production.SpecialType
     → ReadsAt around allowed (OfKind TYPE) (Is (tree t true)) (place + 1) cs w
     → ReadsAt around allowed (OfKind SPECIAL) (Is (tree (special byte t) true)) place cs (written (byte ∷ w.bytes) w.components)
@@ -189,7 +190,7 @@ special-type around allowed byte t place cs w small chosen one =
 
 -- ## Thunks
 
-pub non-virtual-thunk : (around : Around) (allowed : Option ℕ) (n : Signed) (e : Term) (place : ℕ) (cs : List Candidate) (number w : Written)
+pub non-virtual-thunk : (around : Around) (allowed : Option ℕ) (n : Signed) (e : Term) (place : ℕ) (cs : List Component) (number w : Written)
     → ReadsAt around allowed (OfKind INTEGER) (Is (signed n)) (place + 1) cs number
     → ReadsAt around allowed (OfKind ENCODING) (Is (tree e true)) (place + 1 + length number.bytes + 1) number.components w
     → ReadsAt around allowed (OfKind SPECIAL) (Is (tree (thunk (adjusting (non_virtual n)) e) true)) place cs
@@ -209,7 +210,7 @@ non-virtual-thunk around allowed n e place cs number w one two =
     (then-last Production.NonVirtualThunk (104 ∷ []) around allowed place (OfKind ENCODING) (signed n ∷ nothing_there ∷ []) (tree e true)
     (place + 1 + length number.bytes + 1) number.components w (λ s. refl) two)))
 
-pub virtual-thunk : (around : Around) (allowed : Option ℕ) (n m : Signed) (e : Term) (place : ℕ) (cs : List Candidate) (first second w : Written)
+pub virtual-thunk : (around : Around) (allowed : Option ℕ) (n m : Signed) (e : Term) (place : ℕ) (cs : List Component) (first second w : Written)
     → ReadsAt around allowed (OfKind INTEGER) (Is (signed n)) (place + 1) cs first
     → ReadsAt around allowed (OfKind INTEGER) (Is (signed m)) (place + 1 + length first.bytes + 1) first.components second
     → ReadsAt around allowed (OfKind ENCODING) (Is (tree e true)) (place + 1 + length first.bytes + 1 + length second.bytes + 1) second.components w
@@ -239,7 +240,7 @@ virtual-thunk around allowed n m e place cs first second w one two three =
 
 -- ## Symbols
 
-pub symbol-reads : (e : Term) (suffix : Value) (place : ℕ) (around : Around) (allowed : Option ℕ) (cs : List Candidate) (w rest : Written)
+pub symbol-reads : (e : Term) (suffix : Value) (place : ℕ) (around : Around) (allowed : Option ℕ) (cs : List Component) (w rest : Written)
     → ReadsAt around allowed (OfKind ENCODING) (Is (tree e true)) (place + 1 + 1) cs w
     → ReadsAt around allowed (OfKind MAYBE_SUFFIX) (Is suffix) (place + 1 + 1 + length w.bytes) w.components rest
     → ReadsAt around allowed (OfKind SYMBOL) (Is (tree (symbol e (text_of suffix)) true)) place cs
@@ -260,7 +261,7 @@ symbol-reads e suffix place around allowed cs w rest one two =
 
 -- ## Covariant thunks
 
-pub non-virtual-offset : (around : Around) (allowed : Option ℕ) (n : Signed) (place : ℕ) (cs : List Candidate) (number : Written)
+pub non-virtual-offset : (around : Around) (allowed : Option ℕ) (n : Signed) (place : ℕ) (cs : List Component) (number : Written)
     → ReadsAt around allowed (OfKind INTEGER) (Is (signed n)) (place + 1) cs number
     → ReadsAt around allowed (OfKind CALL_OFFSET) (Is (adjusted (non_virtual n))) place cs (written (104 ∷ (number.bytes ++ (95 ∷ []))) number.components)
 unfolding choose alternatives pick is_in in_ranges among kinds is_chain parts_of number_of_kind between opening close unfolding_.behind meaning signed_of part
@@ -274,7 +275,7 @@ non-virtual-offset around allowed n place cs number one =
     (place + 1 + length number.bytes) number.components (written (95 ∷ []) number.components) (λ s. refl)
     (fixed-reads around allowed 95 (place + 1 + length number.bytes) number.components)))
 
-pub virtual-offset : (around : Around) (allowed : Option ℕ) (n m : Signed) (place : ℕ) (cs : List Candidate) (first second : Written)
+pub virtual-offset : (around : Around) (allowed : Option ℕ) (n m : Signed) (place : ℕ) (cs : List Component) (first second : Written)
     → ReadsAt around allowed (OfKind INTEGER) (Is (signed n)) (place + 1) cs first
     → ReadsAt around allowed (OfKind INTEGER) (Is (signed m)) (place + 1 + length first.bytes + 1) first.components second
     → ReadsAt around allowed (OfKind CALL_OFFSET) (Is (adjusted (by_table n m))) place cs
@@ -298,7 +299,7 @@ virtual-offset around allowed n m place cs first second one two =
     second.components (written (95 ∷ []) second.components) (λ s. refl)
     (fixed-reads around allowed 95 b second.components)))))
 
-pub covariant-thunk : (around : Around) (allowed : Option ℕ) (this result : Adjustment) (e : Term) (place : ℕ) (cs : List Candidate)
+pub covariant-thunk : (around : Around) (allowed : Option ℕ) (this result : Adjustment) (e : Term) (place : ℕ) (cs : List Component)
     (first second w : Written)
     → ReadsAt around allowed (OfKind CALL_OFFSET) (Is (adjusted this)) (place + 1) cs first
     → ReadsAt around allowed (OfKind CALL_OFFSET) (Is (adjusted result)) (place + 1 + length first.bytes) first.components second
@@ -329,7 +330,7 @@ unfolding text_of
 suffix-kept [] = refl
 suffix-kept (b ∷ bs) = refl
 
-suffix-more : (around : Around) (allowed : Option ℕ) (bs : List ℕ) (place : ℕ) (cs : List Candidate) → AreSuffixBytes bs
+suffix-more : (around : Around) (allowed : Option ℕ) (bs : List ℕ) (place : ℕ) (cs : List Component) → AreSuffixBytes bs
     → ReadsAt around allowed (OfKind SUFFIX_MORE) (Is (suffix_value bs)) place cs (written bs cs)
 unfolding kinds may_be_empty is_chain parts_of number_of_kind between opening close unfolding_.behind meaning part byte_of
 suffix-more around allowed [] place cs good = empty-reads around allowed SUFFIX_MORE Kind.SuffixMore place cs refl refl
@@ -339,12 +340,12 @@ suffix-more around allowed (b ∷ bs) place cs good =
     (λ began s. ap (λ l. Ok (found (value.text (b ∷ l)) s)) (suffix-kept bs))
     (suffix-more around allowed bs (place + 1) cs good.2)
 
-pub no-suffix : (around : Around) (allowed : Option ℕ) (place : ℕ) (cs : List Candidate)
+pub no-suffix : (around : Around) (allowed : Option ℕ) (place : ℕ) (cs : List Component)
     → ReadsAt around allowed (OfKind MAYBE_SUFFIX) (Is nothing_there) place cs (written [] cs)
 unfolding kinds may_be_empty
 no-suffix around allowed place cs = empty-reads around allowed MAYBE_SUFFIX Kind.MaybeSuffix place cs refl refl
 
-pub suffix-reads : (around : Around) (allowed : Option ℕ) (b : ℕ) (bs : List ℕ) (place : ℕ) (cs : List Candidate) → b < 256
+pub suffix-reads : (around : Around) (allowed : Option ℕ) (b : ℕ) (bs : List ℕ) (place : ℕ) (cs : List Component) → b < 256
     → choose Kind.SuffixFirst b ≡ Some Production.SuffixByte → AreSuffixBytes bs
     → ReadsAt around allowed (OfKind MAYBE_SUFFIX) (Is (value.text (46 ∷ b ∷ bs))) place cs (written (46 ∷ b ∷ bs) cs)
 unfolding choose alternatives pick is_in in_ranges among kinds is_chain parts_of number_of_kind between opening close unfolding_.behind meaning text_of part byte_of

@@ -12,13 +12,13 @@ use Rattle.cpp_grammar.specs.Grammar.{in_ranges, among, is_in, pick, number_of_k
 use Rattle.cpp_grammar.specs.Table.{abi, rule_of}
 use Rattle.cpp_grammar.specs.Term.{Term, instance, parameter}
 use Rattle.cpp_grammar.specs.Values as value
-use Rattle.cpp_grammar.specs.Values.{Candidate, Around, Value, tree, tree_of, is_there, part}
+use Rattle.cpp_grammar.specs.Values.{Around, Value, tree, tree_of, is_there, part}
 use Rattle.cpp_grammar.specs.Between.{between, after, inside, applied, no_items}
 use Rattle.cpp_grammar.specs.Meaning.{meaning}
 use Rattle.cpp_grammar.specs.Unfolding as unfolding_
 use Rattle.cpp_grammar.specs.Unfolding.{opening, close}
 use Rattle.cpp_press_laws.specs.Texts.{ordinal}
-use Rattle.cpp_press_laws.specs.Components.{Spelling, first_equal, seq_id, reference, referred}
+use Rattle.cpp_press_laws.specs.Components.{Component, Spelling, first_equal, seq_id, reference, referred}
 use Rattle.cpp_press_laws.specs.Subtrees.{greatest, Written, written, ReadsAt, Is, HasRoom}
 use Rattle.cpp_press_laws.proofs.ReadBack.Tokens.{ordinal_digits, ordinal_token, ordinal-spelled, ordinal-is-token}
 use Rattle.cpp_press_laws.proofs.ReadBack.Reading.{row-last, takes-byte, number-reads}
@@ -84,7 +84,7 @@ TemplateKind false k = k ≡ 8
 -- ## Behind an S
 
 -- arguments behind what is written are read as an instance with them
-abbrev pub InstancedAt : Around → Option ℕ → (k : ℕ) → (t : Term) → (place : ℕ) → List Candidate → Written → Type 0
+abbrev pub InstancedAt : Around → Option ℕ → (k : ℕ) → (t : Term) → (place : ℕ) → List Component → Written → Type 0
 InstancedAt around allowed k t place cs w =
     (items : Term) (last : Value) (args : Written) → no_items last ≡ items
     → ElementsRead around allowed last (place + length w.bytes) w.components args
@@ -104,7 +104,7 @@ unfolding choose alternatives pick is_in in_ranges among kinds is_chain
 takes-43 = takes-byte ARGUMENTS Kind.Arguments Production.Arguments 73 refl refl (omega arith) refl
 
 pub instanced-behind-s : (typed : Bool) (k : ℕ) (around : Around) (allowed : Option ℕ) (t : Term) → TemplateKind typed k → (place : ℕ)
-    (cs : List Candidate) (w : Written) → ReadsAt around allowed (OfKind ABBREVIATION) (Is (tree t true)) (place + 1) cs w
+    (cs : List Component) (w : Written) → ReadsAt around allowed (OfKind ABBREVIATION) (Is (tree t true)) (place + 1) cs w
     → InstancedAt around allowed k t place cs (written (83 ∷ w.bytes) w.components)
 instanced-behind-s true k around allowed t rules place cs w one items last args are two =
     type-with-arguments k around allowed t items true place cs w (written (in_I_and_E args.bytes) args.components) rules.with_s
@@ -120,14 +120,14 @@ instanced-behind-s false k around allowed t eight place cs w one items last args
     (subst (λ q. ReadsAt (inside around) allowed (OfKind ARGUMENT_LIST) (Is last) q w.components args) (omega arith) two)))
 
 -- a parameter with arguments
-pub parameter-instanced : (kind : ℕ) (around : Around) (allowed : Option ℕ) (k place : ℕ) (cs : List Candidate) → IsInScope around allowed k
+pub parameter-instanced : (kind : ℕ) (around : Around) (allowed : Option ℕ) (k place : ℕ) (cs : List Component) → IsInScope around allowed k
     → TakesRule abi kind (rule_of Production.Parameter) (84 ∷ [])
     → InstancedAt around allowed kind (parameter k) place cs (written (84 ∷ ordinal k) (more around cs (parameter k)))
 unfolding parts_of number_of_kind between opening close unfolding_.behind meaning applied tree_of is_there part
 parameter-instanced kind around allowed k place cs is takes items last args are one =
     let digits : Written = written (((ordinal_token k).before ++ ordinal_digits k) ++ (95 ∷ [])) cs in
     let behind : Written = written (in_I_and_E args.bytes) args.components in
-    let after_it : List Candidate = more around cs (parameter k) in
+    let after_it : List Component = more around cs (parameter k) in
     let inner : Around = after (parameter k) true around in
     let all : List Value = tree (parameter k) true ∷ tree items true ∷ [] in
     same-written around allowed (OfKind kind) (Is (tree (instance (parameter k) items) false)) place cs args.components
@@ -153,11 +153,11 @@ of_elements elements = text (codes "I") and elements and text (codes "E")
 -- where elements fit they are read
 abbrev pub ReadElements : Around → Option ℕ → (last : Value) → Fitting → (elements : Spelling) → Type 0
 ReadElements around allowed last arguments elements =
-    (place : ℕ) (cs : List Candidate) → arguments around allowed place cs → HasRoom (elements (place + 1) cs)
+    (place : ℕ) (cs : List Component) → arguments around allowed place cs → HasRoom (elements (place + 1) cs)
     → ElementsRead around allowed last place cs (elements (place + 1) cs)
 
 -- the arguments have room behind whatever is written
-pub elements-room : (first elements : Spelling) (place : ℕ) (cs : List Candidate) → HasRoom ((first and of_elements elements) place cs)
+pub elements-room : (first elements : Spelling) (place : ℕ) (cs : List Component) → HasRoom ((first and of_elements elements) place cs)
     → HasRoom (elements (place + length (first place cs).bytes + 1) (first place cs).components)
 elements-room first elements place cs room =
     let w : Written = first place cs in
@@ -171,7 +171,7 @@ elements-room first elements place cs room =
 
 -- A template name that fits before arguments: they stand behind a reference, or behind its spelling.
 pub template-reads : (typed : Bool) (k : ℕ) (around : Around) (allowed : Option ℕ) (t : Term) → TemplateKind typed k → (place : ℕ)
-    (cs : List Candidate) (spelled : Fitting) (front : ℕ → Spelling) (arguments : Fitting) (elements other : Spelling) (items : Term)
+    (cs : List Component) (spelled : Fitting) (front : ℕ → Spelling) (arguments : Fitting) (elements other : Spelling) (items : Term)
     (last : Value)
     (R : Written → Type 0)
     → ((w : Written) → ReadsAt around allowed (OfKind k) (Is (tree (instance t items) false)) place cs w → R w)

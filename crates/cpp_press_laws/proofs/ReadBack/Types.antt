@@ -13,12 +13,13 @@ use Rattle.cpp_grammar.specs.KindNumbers.{ABBREVIATION, TYPE, PLAIN, ITEM, ITEM_
 use Rattle.cpp_grammar.specs.Grammar.{in_ranges, among, is_in, pick, number_of_kind, alternatives, choose, kinds, parts_of, is_chain, may_be_empty}
 use Rattle.cpp_grammar.specs.Table.{abi, rule_of}
 use Rattle.cpp_grammar.specs.Term.{Term}
-use Rattle.cpp_grammar.specs.Values.{Candidate, State, Around, Value, nothing_there, tree, tree_of, is_listed, is_there, part}
+use Rattle.cpp_grammar.specs.Values.{State, Around, Value, nothing_there, tree, tree_of, is_listed, is_there, part}
 use Rattle.cpp_grammar.specs.References.{appended, is_function_type, with_type, with_unqualified}
 use Rattle.cpp_grammar.specs.Between.{Going, between, after, applied}
 use Rattle.cpp_grammar.specs.Meaning.{meaning, listed_value}
 use Rattle.cpp_grammar.specs.Unfolding as unfolding_
 use Rattle.cpp_grammar.specs.Unfolding.{opening, close, byte_of}
+use Rattle.cpp_press_laws.specs.Components.{Component}
 use Rattle.cpp_press_laws.specs.Subtrees.{Written, written, ReadsAt, Is}
 use Rattle.cpp_press_laws.proofs.ReadBack.Reading.{RowAt, passes-by, row-part, row-last, row-ends, takes-byte, takes-none, closes-same, closes-more, production-reads, empty-reads}
 
@@ -26,7 +27,7 @@ abbrev pub AreOnly : List Value → List Value → Type 0
 AreOnly vs ws = ws ≡ vs
 
 -- equal bytes are read alike
-pub same-written : (around : Around) (allowed : Option ℕ) (symbol : Sym) (Q : Value → Type 0) (place : ℕ) (cs after : List Candidate)
+pub same-written : (around : Around) (allowed : Option ℕ) (symbol : Sym) (Q : Value → Type 0) (place : ℕ) (cs after : List Component)
     (bytes others : List ℕ) → bytes ≡ others
     → ReadsAt around allowed symbol Q place cs (written bytes after) → ReadsAt around allowed symbol Q place cs (written others after)
 same-written around allowed symbol Q place cs after bytes others same = subst (λ l. ReadsAt around allowed symbol Q place cs (written l after)) same
@@ -34,7 +35,7 @@ same-written around allowed symbol Q place cs after bytes others same = subst (�
 -- ## A production with one part, in the same surroundings
 
 pub one-part : (p : Production) (k : ℕ) (taken : List ℕ) (around : Around) (allowed : Option ℕ) (place : ℕ) (symbol : Sym) (u v : Value)
-    (cs : List Candidate) (w : Written)
+    (cs : List Component) (w : Written)
     → TakesRule abi k (rule_of p) taken → parts_of p ≡ symbol ∷ []
     → ((s : State) → ◌≡◌ {A = Going} (between p around place [] s) (Ok (record { context = around; values = []; state = s })))
     → ((f : Forest) (s : State) → opening p f place s ≡ Ok s)
@@ -49,7 +50,7 @@ one-part p k taken around allowed place symbol u v cs w takes parts goes opens m
     (closes-same p (byte_of taken) around allowed place (AreOnly (u ∷ [])) w.components v (λ values good began s. rw good (means began s)))
 
 -- a production without parts
-pub no-part : (p : Production) (k : ℕ) (taken : List ℕ) (around : Around) (allowed : Option ℕ) (place : ℕ) (v : Value) (cs : List Candidate)
+pub no-part : (p : Production) (k : ℕ) (taken : List ℕ) (around : Around) (allowed : Option ℕ) (place : ℕ) (v : Value) (cs : List Component)
     → TakesRule abi k (rule_of p) taken → parts_of p ≡ []
     → ((f : Forest) (s : State) → opening p f place s ≡ Ok s)
     → ((began s : State) → close p (byte_of taken) around place began [] s ≡ Ok (found v s))
@@ -65,7 +66,7 @@ no-part p k taken around allowed place v cs takes parts opens means =
 
 -- a part in surroundings of its own, where nothing is done to the values and the state, and then what is left
 unfoldable pub then-in : (p : Production) (taken : List ℕ) (around inner : Around) (allowed : Option ℕ) (at : ℕ) (x : Sym) (symbols : List Sym)
-    (known : List Value) (u : Value) (R : List Value → Type 0) (place : ℕ) (cs : List Candidate) (first rest : Written)
+    (known : List Value) (u : Value) (R : List Value → Type 0) (place : ℕ) (cs : List Component) (first rest : Written)
     → ((s : State) → ◌≡◌ {A = Going} (between p around at known s) (Ok (record { context = inner; values = known; state = s })))
     → ReadsAt inner allowed x (Is u) place cs first
     → RowAt p taken around allowed at symbols (known ++ u ∷ []) R (place + length first.bytes) first.components rest
@@ -77,7 +78,7 @@ then-in p taken around inner allowed at x symbols known u R place cs first rest 
     more_parts)
 
 unfoldable pub last-in : (p : Production) (taken : List ℕ) (around inner : Around) (allowed : Option ℕ) (at : ℕ) (x : Sym) (known : List Value)
-    (u : Value) (place : ℕ) (cs : List Candidate) (w : Written)
+    (u : Value) (place : ℕ) (cs : List Component) (w : Written)
     → ((s : State) → ◌≡◌ {A = Going} (between p around at known s) (Ok (record { context = inner; values = known; state = s })))
     → ReadsAt inner allowed x (Is u) place cs w
     → RowAt p taken around allowed at (x ∷ []) known (AreOnly (known ++ u ∷ [])) place cs w
@@ -87,7 +88,7 @@ last-in p taken around inner allowed at x known u place cs w goes one =
 
 -- in the same surroundings
 pub then-part : (p : Production) (taken : List ℕ) (around : Around) (allowed : Option ℕ) (at : ℕ) (x : Sym) (symbols : List Sym)
-    (known : List Value) (u : Value) (R : List Value → Type 0) (place : ℕ) (cs : List Candidate) (first rest : Written)
+    (known : List Value) (u : Value) (R : List Value → Type 0) (place : ℕ) (cs : List Component) (first rest : Written)
     → ((s : State) → ◌≡◌ {A = Going} (between p around at known s) (Ok (record { context = around; values = known; state = s })))
     → ReadsAt around allowed x (Is u) place cs first
     → RowAt p taken around allowed at symbols (known ++ u ∷ []) R (place + length first.bytes) first.components rest
@@ -95,7 +96,7 @@ pub then-part : (p : Production) (taken : List ℕ) (around : Around) (allowed :
 then-part p taken around allowed = then-in p taken around around allowed
 
 pub then-last : (p : Production) (taken : List ℕ) (around : Around) (allowed : Option ℕ) (at : ℕ) (x : Sym) (known : List Value) (u : Value)
-    (place : ℕ) (cs : List Candidate) (w : Written)
+    (place : ℕ) (cs : List Component) (w : Written)
     → ((s : State) → ◌≡◌ {A = Going} (between p around at known s) (Ok (record { context = around; values = known; state = s })))
     → ReadsAt around allowed x (Is u) place cs w
     → RowAt p taken around allowed at (x ∷ []) known (AreOnly (known ++ u ∷ [])) place cs w
@@ -103,7 +104,7 @@ then-last p taken around allowed = last-in p taken around around allowed
 
 -- a production that leaves the state as it is, from its row
 pub whole-same : (p : Production) (k : ℕ) (taken : List ℕ) (around : Around) (allowed : Option ℕ) (place : ℕ) (values : List Value) (v : Value)
-    (cs : List Candidate) (symbols : List Sym) (w : Written)
+    (cs : List Component) (symbols : List Sym) (w : Written)
     → TakesRule abi k (rule_of p) taken → parts_of p ≡ symbols
     → ((f : Forest) (s : State) → opening p f place s ≡ Ok s)
     → ((began s : State) → close p (byte_of taken) around place began values s ≡ Ok (found v s))
@@ -115,7 +116,7 @@ whole-same p k taken around allowed place values v cs symbols w takes parts open
 
 -- a production that makes a component
 pub whole-more : (p : Production) (k : ℕ) (taken : List ℕ) (around : Around) (allowed : Option ℕ) (place : ℕ) (values : List Value) (v : Value)
-    (t : Term) (cs : List Candidate) (symbols : List Sym) (w : Written)
+    (t : Term) (cs : List Component) (symbols : List Sym) (w : Written)
     → TakesRule abi k (rule_of p) taken → parts_of p ≡ symbols
     → ((f : Forest) (s : State) → opening p f place s ≡ Ok s)
     → ((began s : State) → close p (byte_of taken) around place began values s ≡ Ok (found v (appended around t s)))
@@ -129,14 +130,14 @@ whole-more p k taken around allowed place values v t cs symbols w takes parts op
 
 -- ## Types by their kinds
 
-abbrev pub more : Around → List Candidate → Term → List Candidate
+abbrev pub more : Around → List Component → Term → List Component
 more around cs t = cs ++ record { tree = t; encoding = around.encoding } ∷ []
 
 -- What a kind of types makes of what it has in it: a tree becomes a component, unless it is one already or never is one.
 pub record Wraps (around : Around) (allowed : Option ℕ) (k inner : ℕ) (taken : List ℕ) (t : Term) : Type 0 where
-  pub adds : (place : ℕ) (cs : List Candidate) (w : Written) → ReadsAt around allowed (OfKind inner) (Is (tree t false)) (place + length taken) cs w
+  pub adds : (place : ℕ) (cs : List Component) (w : Written) → ReadsAt around allowed (OfKind inner) (Is (tree t false)) (place + length taken) cs w
       → ReadsAt around allowed (OfKind k) (Is (tree t true)) place cs (written (taken ++ w.bytes) (more around w.components t))
-  pub keeps : (place : ℕ) (cs : List Candidate) (w : Written) → ReadsAt around allowed (OfKind inner) (Is (tree t true)) (place + length taken) cs w
+  pub keeps : (place : ℕ) (cs : List Component) (w : Written) → ReadsAt around allowed (OfKind inner) (Is (tree t true)) (place + length taken) cs w
       → ReadsAt around allowed (OfKind k) (Is (tree t true)) place cs (written (taken ++ w.bytes) w.components)
 
 -- The kinds of types: they have a solid type behind no byte of its own, and what begins with a D.
@@ -170,7 +171,7 @@ wraps p around allowed k inner taken t takes parts goes opens makes same = recor
 -- one around the other, where the inner adds nothing
 wraps-both : (around : Around) (allowed : Option ℕ) (k between_ inner : ℕ) (taken : List ℕ) (t : Term)
     → Wraps around allowed k between_ taken t
-    → ((listed : Bool) (place : ℕ) (cs : List Candidate) (w : Written)
+    → ((listed : Bool) (place : ℕ) (cs : List Component) (w : Written)
     → ReadsAt around allowed (OfKind inner) (Is (tree t listed)) (place + 0) cs w
     → ReadsAt around allowed (OfKind between_) (Is (tree t listed)) place cs w)
     → Wraps around allowed k inner taken t
@@ -181,7 +182,7 @@ wraps-both around allowed k between_ inner taken t outer through = record {
       (subst (λ q. ReadsAt around allowed (OfKind inner) (Is (tree t true)) q cs w) (omega arith) one));
 }
 
-item-is-type : (around : Around) (allowed : Option ℕ) (t : Term) (listed : Bool) (place : ℕ) (cs : List Candidate) (w : Written)
+item-is-type : (around : Around) (allowed : Option ℕ) (t : Term) (listed : Bool) (place : ℕ) (cs : List Component) (w : Written)
     → ReadsAt around allowed (OfKind AFTER_D) (Is (tree t listed)) (place + 0) cs w
     → ReadsAt around allowed (OfKind ITEM_AFTER_D) (Is (tree t listed)) place cs w
 unfolding choose alternatives pick is_in in_ranges among kinds is_chain parts_of number_of_kind between opening close unfolding_.behind meaning part
@@ -240,7 +241,7 @@ types-29 around allowed t other = record {
 }
 
 -- a function type right under qualifiers
-pub function-under-qualifiers : (around : Around) (allowed : Option ℕ) (t : Term) (place : ℕ) (cs : List Candidate) (w : Written)
+pub function-under-qualifiers : (around : Around) (allowed : Option ℕ) (t : Term) (place : ℕ) (cs : List Component) (w : Written)
     → is_function_type t ≡ true
     → ReadsAt around allowed (OfKind SOLID) (Is (tree t false)) (place + 0) cs w → ReadsAt around allowed (OfKind PLAIN) (Is (tree t true)) place cs w
 unfolding choose alternatives pick is_in in_ranges among kinds is_chain parts_of number_of_kind between opening close unfolding_.behind meaning listed_value with_unqualified tree_of part is_function_type
@@ -248,7 +249,7 @@ function-under-qualifiers around allowed t place cs w is one =
     one-part Production.QualifiedPlain 29 [] around allowed place (OfKind SOLID) (tree t false) (tree t true) cs w
     (takes-none PLAIN Kind.Plain Production.QualifiedPlain 80 refl refl (omega arith) refl) refl (λ s. refl) (λ f s. refl) (λ began s. rw is refl) one
 
-pub noexcept-under-qualifiers : (around : Around) (allowed : Option ℕ) (t : Term) (place : ℕ) (cs : List Candidate) (w : Written)
+pub noexcept-under-qualifiers : (around : Around) (allowed : Option ℕ) (t : Term) (place : ℕ) (cs : List Component) (w : Written)
     → is_function_type t ≡ true
     → ReadsAt around allowed (OfKind AFTER_D) (Is (tree t false)) (place + 1) cs w
     → ReadsAt around allowed (OfKind PLAIN) (Is (tree t true)) place cs (written (68 ∷ w.bytes) w.components)
@@ -260,7 +261,7 @@ noexcept-under-qualifiers around allowed t place cs w is one =
 -- ## What begins with an S
 
 -- a name behind S, without arguments
-pub solid-with-s : (k : ℕ) (around : Around) (allowed : Option ℕ) (place : ℕ) (t : Term) (listed : Bool) (cs : List Candidate) (w : Written)
+pub solid-with-s : (k : ℕ) (around : Around) (allowed : Option ℕ) (place : ℕ) (t : Term) (listed : Bool) (cs : List Component) (w : Written)
     → TakesRule abi k (rule_of Production.TypeWithS) (83 ∷ [])
     → ReadsAt around allowed (OfKind TYPE_AFTER_S) (Is (tree t listed)) (place + 1) cs w
     → ReadsAt around allowed (OfKind k) (Is (tree t listed)) place cs (written (83 ∷ w.bytes) w.components)
@@ -291,7 +292,7 @@ solid-with-s k around allowed place t listed cs w takes one =
     listed-kept false s = refl
 
 -- an abbreviation or a reference behind S, as a type
-pub type-behind-s : (k : ℕ) (around : Around) (allowed : Option ℕ) (place : ℕ) (t : Term) (cs : List Candidate) (w : Written)
+pub type-behind-s : (k : ℕ) (around : Around) (allowed : Option ℕ) (place : ℕ) (t : Term) (cs : List Component) (w : Written)
     → HasTypes around allowed k t
     → ReadsAt around allowed (OfKind ABBREVIATION) (Is (tree t true)) (place + 0 + 1 + 0) cs w
     → ReadsAt around allowed (OfKind k) (Is (tree t true)) place cs (written (83 ∷ w.bytes) w.components)

@@ -18,7 +18,7 @@ use Rattle.cpp_press_laws.specs.Texts.{decimal, counted, ordinal, signed_text, q
 use Rattle.cpp_press_laws.specs.Components.{is_same, first_equal, seq_id}
 use Rattle.cpp_press_laws.specs.Pressing.{is_operator, is_encoding, is_one_piece}
 use Rattle.cpp_press_laws.specs.MarkedComponents as marks
-use Rattle.cpp_press_laws.specs.MarkedComponents.{Component}
+use Rattle.cpp_press_laws.specs.MarkedComponents.{Marked}
 use Rattle.cpp_press_laws.specs.MarkedPressing as marked
 use Rattle.cpp_press_laws.specs.Apart.{marked_components}
 
@@ -30,7 +30,7 @@ pub record Row : Type 0 where
 abbrev pub compares : String → String → Row
 compares symbol wanted = record { symbol = codes symbol; wanted = codes wanted }
 
-unfoldable pub letters : List Component → List ℕ
+unfoldable pub letters : List Marked → List ℕ
 letters [] = []
 letters (c ∷ cs) = cond c.was_compared 99 110 ∷ letters cs
 

@@ -12,7 +12,7 @@ use Rattle.cpp_grammar.specs.Table.{abi}
 use Rattle.cpp_grammar.specs.Term.{Term}
 use Rattle.cpp_grammar.specs.Unfolding.{unfold_cpp}
 use Rattle.cpp_grammar.specs.Widened.{widened}
-use Rattle.cpp_grammar.proofs.Growing.{abi_either}
+use Rattle.cpp_grammar.proofs.Growing.{abi_either, wide_either}
 use Rattle.cpp_grammar.proofs.Staying.{meaning_stays}
 use Rattle.cpp_grammar.proofs.Widening.{spell_widened}
 use Rattle.cpp_grammar.proofs.WidenedMeaning.{meaning_widened}
@@ -21,7 +21,7 @@ use Rattle.cpp_grammar.proofs.laws.abi_answers_stay.Goals as goal
 
 -- the widened shape stands for what the shape does
 widened_stays : (shape : Tree) (t : Term) → IsTree abi (Kind 0) shape → unfold_cpp shape ≡ Ok t → unfold_wide (widened shape) ≡ Ok t
-widened_stays shape t is e = meaning_stays (widened shape) t (meaning_widened shape (abi_either (Kind 0) shape is) ∙ e)
+widened_stays shape t is e = meaning_stays (widened shape) t (wide_either (Kind 0) (widened shape) (wide_tree shape is)) (meaning_widened shape (abi_either (Kind 0) shape is) ∙ e)
 
 pub returns-clause-reads : goal.returns-clause-reads
 returns-clause-reads c = λ s t h. (widened h.0, wide_tree h.0 h.1, spell_widened h.0 ∙ h.2, sym (widened_stays h.0 t h.1 (sym h.3)))

@@ -2,7 +2,8 @@ use Rattle.std.proofs.Common.{◌≡◌, ℕ, List, Bool, true, false, ap, sym, 
 use Rattle.std.specs.Prelude.{get_or, cond}
 use Rattle.cpp_grammar.specs.Scope.{is_open}
 use Rattle.cpp_layout.specs.Layout.{ReadSymbol, table_of}
-use Rattle.cpp_tree.specs.Nodes.{tree_at, trees}
+use Rattle.cpp_tree.specs.Nodes.{tree_at, trees, free_is, has_free}
+use Rattle.cpp_tree.proofs.FreeParameters.{node-open}
 use Rattle.cpp_press.specs.declared.components.Likeness.{Likeness}
 use Rattle.cpp_press.specs.Tasks.{plain_at}
 use Rattle.cpp_press.specs.Places.{likeness_of}
@@ -15,14 +16,14 @@ likeness-is y ns node e number b same is =
     ap {A = ℕ} {B = Likeness} (λ m. record { number = m; encoding = cond b e 0 }) same
     ∙ ap {A = Bool} {B = Likeness} (λ d. record { number = get_or ns node 0; encoding = cond d e 0 }) is
 
-pub returns-then-entry : goal.returns-then-entry
-returns-then-entry c =
+pub returns-then-is_open : goal.returns-then-is_open
+returns-then-is_open c =
     let y = c.args.symbol.now in
     likeness-is y c.args.numbering.now c.args.node c.args.encoding c.number_of-number.result true c.number_of-number.ensures.number
-    (sym c.if-entry.true ∙ ap (λ e. e.is_open) c.entry.ensures ∙ (c.requires.table.each c.args.node c.requires.node).free ∙ open-erased (tree_at (trees (table_of y)) c.args.node))
+    (sym c.if-is_open.true ∙ c.is_open.ensures ∙ ap (λ e. has_free (free_is e.free)) c.entry.ensures ∙ node-open (table_of y) c.args.node c.requires.table c.requires.node ∙ open-erased (tree_at (trees (table_of y)) c.args.node))
 
-pub returns-else-entry : goal.returns-else-entry
-returns-else-entry c =
+pub returns-else-is_open : goal.returns-else-is_open
+returns-else-is_open c =
     let y = c.args.symbol.now in
     likeness-is y c.args.numbering.now c.args.node c.args.encoding c.number_of-number.result false c.number_of-number.ensures.number
-    (sym c.if-entry.false ∙ ap (λ e. e.is_open) c.entry.ensures ∙ (c.requires.table.each c.args.node c.requires.node).free ∙ open-erased (tree_at (trees (table_of y)) c.args.node))
+    (sym c.if-is_open.false ∙ c.is_open.ensures ∙ ap (λ e. has_free (free_is e.free)) c.entry.ensures ∙ node-open (table_of y) c.args.node c.requires.table c.requires.node ∙ open-erased (tree_at (trees (table_of y)) c.args.node))

@@ -1,6 +1,5 @@
 use Rattle.std.proofs.Common.{ap, sym, ◌∙◌}
 use Rattle.std.specs.BTreeMap.{get}
-use Rattle.cpp_term.specs.Erased.{erase}
 use Rattle.cpp_press.specs.Tasks.{plain_at}
 use Rattle.cpp_press.specs.Spelled.{is_compared}
 use Rattle.cpp_press.specs.Standings.{compared}
@@ -14,11 +13,11 @@ returns-then-is_compared c =
     let t = plain_at y c.args.node in
     c.compared.ensures ∙ ap compared (c.first.ensures ∙ ap (get likeness_cmp c.args.components.now.first) c.likeness_of.ensures)
     ∙ compared-way c.args.way t (get likeness_cmp c.args.components.now.first (likeness_of y c.args.numbering.now c.args.node c.args.encoding))
-    (ap (λ u. is_compared c.args.way u) (ap erase c.stored.ensures.tree) ∙ sym (c.is_compared.ensures y) ∙ c.if-is_compared.true)
+    (ap (λ u. is_compared c.args.way u) c.stored.ensures.tree ∙ sym (c.is_compared.ensures y) ∙ c.if-is_compared.true)
 
 pub returns-else-is_compared : goal.returns-else-is_compared
 returns-else-is_compared c =
     let y = c.args.symbol.now in
     let t = plain_at y c.args.node in
     uncompared-way c.args.way t (get likeness_cmp c.args.components.now.first (likeness_of y c.args.numbering.now c.args.node c.args.encoding))
-    (ap (λ u. is_compared c.args.way u) (ap erase c.stored.ensures.tree) ∙ sym (c.is_compared.ensures y) ∙ c.if-is_compared.false)
+    (ap (λ u. is_compared c.args.way u) c.stored.ensures.tree ∙ sym (c.is_compared.ensures y) ∙ c.if-is_compared.false)

@@ -1,6 +1,5 @@
 use Rattle.std.proofs.Common.{ap, sym, ◌∙◌}
 use Rattle.std.specs.BTreeMap.{get}
-use Rattle.cpp_term.specs.Erased.{erase}
 use Rattle.cpp_press.specs.Tasks.{plain_at}
 use Rattle.cpp_press.specs.Spelled.{is_name}
 use Rattle.cpp_press.specs.Standings.{compared}
@@ -14,11 +13,11 @@ returns-then-is_name c =
     let t = plain_at y c.args.name in
     c.compared.ensures ∙ ap compared (c.first.ensures ∙ ap (get likeness_cmp c.args.components.now.first) c.likeness_of.ensures)
     ∙ compared-name t (get likeness_cmp c.args.components.now.first (likeness_of y c.args.numbering.now c.args.name c.args.encoding))
-    (ap (λ u. is_name u) (ap erase c.stored.ensures.tree) ∙ sym (c.is_name.ensures y) ∙ c.if-is_name.true)
+    (ap (λ u. is_name u) c.stored.ensures.tree ∙ sym (c.is_name.ensures y) ∙ c.if-is_name.true)
 
 pub returns-else-is_name : goal.returns-else-is_name
 returns-else-is_name c =
     let y = c.args.symbol.now in
     let t = plain_at y c.args.name in
     uncompared-name t (get likeness_cmp c.args.components.now.first (likeness_of y c.args.numbering.now c.args.name c.args.encoding))
-    (ap (λ u. is_name u) (ap erase c.stored.ensures.tree) ∙ sym (c.is_name.ensures y) ∙ c.if-is_name.false)
+    (ap (λ u. is_name u) c.stored.ensures.tree ∙ sym (c.is_name.ensures y) ∙ c.if-is_name.false)

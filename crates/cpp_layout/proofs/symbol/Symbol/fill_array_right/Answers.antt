@@ -1,7 +1,7 @@
 use Rattle.cpp_layout.proofs.Growing.{array-right, fills, part-text, starts}
-use Rattle.cpp_layout.specs.Layout.{context_of, table_of}
-use Rattle.cpp_tree.specs.Nodes.{bytes_at, tree_at, trees}
+use Rattle.cpp_layout.specs.Layout.{context_of, tree_shown}
+use Rattle.cpp_tree.specs.Nodes.{bytes_at}
 use Rattle.cpp_layout.proofs.symbol.Symbol.fill_array_right.Goals as goal
 
 pub returns-clause-shows : goal.returns-clause-shows
-returns-clause-shows g c = fills c.args.self.now c.args.ctx.detail _ _ _ (c.push_text-2.ensures.shows _ _ _ (part-text c.args.self.now c.args.ctx.detail _ _ _ (c.push_bytes.ensures.shows _ _ _ (c.push_text.ensures.shows _ _ _ (c.push_item.ensures.shows _ _ (starts c.args.self.now c.args.ctx.detail _)))))) (array-right (context_of c.args.ctx) (tree_at (trees (table_of c.args.self.now)) c.args.element) (bytes_at c.args.self.now.bytes c.args.digits))
+returns-clause-shows g c = fills c.args.self.now c.args.ctx.detail _ _ _ (c.push_text-2.ensures.shows _ _ _ (part-text c.args.self.now c.args.ctx.detail _ _ _ (c.push_bytes.ensures.shows _ _ _ (c.push_text.ensures.shows _ _ _ (c.push_item.ensures.shows _ _ (starts c.args.self.now c.args.ctx.detail _)))))) (array-right (context_of c.args.ctx) (tree_shown c.args.self.now c.args.ctx c.args.element) (bytes_at c.args.self.now.bytes c.args.digits))

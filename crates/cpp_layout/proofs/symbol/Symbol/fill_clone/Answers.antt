@@ -3,4 +3,4 @@ use Rattle.cpp_layout.proofs.Growing.{fills, starts}
 use Rattle.cpp_layout.proofs.symbol.Symbol.fill_clone.Goals as goal
 
 pub returns-clause-shows : goal.returns-clause-shows
-returns-clause-shows g c = fills c.args.self.now c.args.detail _ _ _ (c.push_either.ensures.shows _ _ _ (c.push_item.ensures.shows _ _ (starts c.args.self.now c.args.detail _))) (clone-whole c.args.letter _)
+returns-clause-shows g c = fills c.args.self.now c.args.detail _ _ _ (c.push_either.ensures.shows _ _ _ (c.push_closed.ensures.shows _ _ (starts c.args.self.now c.args.detail _))) (clone-whole c.args.letter _)

@@ -1,58 +1,15 @@
-use Rattle.std.proofs.Common.{[], ap, arith, sym, ◌∙◌, ◌∷◌}
-use Rattle.cpp_layout.proofs.Growing.{fills, form-expand, starts}
-use Rattle.cpp_layout.specs.Layout.{context_of, form_of, table_of, tree_in}
-use Rattle.cpp_term.specs.Parts.{left_parts, parts_in, right_parts}
-use Rattle.cpp_tree.specs.Nodes.{tree_at, trees}
-use Rattle.sym_print.specs.Unfold.{text}
+use Rattle.std.proofs.Common.{ap, ◌∙◌}
+use Rattle.cpp_term.specs.Parts.{parts_in}
+use Rattle.cpp_layout.specs.Layout.{context_of, form_of, tree_in, tree_shown}
+use Rattle.cpp_layout.proofs.Growing.{fills, told-so}
 use Rattle.cpp_layout.proofs.symbol.Symbol.fill_form.Goals as goal
 
-pub returns-in-0-clause-shows : goal.returns-in-0-clause-shows
-unfolding parts_in
-returns-in-0-clause-shows g c = fills c.args.self.now c.args.ctx.detail _ _ _ c.fill_left.ensures.shows (ap (λ f. parts_in c.args.ctx.detail (context_of c.args.ctx) (form_of f c.args.at) (tree_in f (tree_at (trees (table_of c.args.self.now)) c.args.node))) (sym c.in-0.is))
-
-pub returns-in-1-clause-shows : goal.returns-in-1-clause-shows
-unfolding parts_in
-returns-in-1-clause-shows g c = fills c.args.self.now c.args.ctx.detail _ _ _ c.fill_right.ensures.shows (ap (λ f. parts_in c.args.ctx.detail (context_of c.args.ctx) (form_of f c.args.at) (tree_in f (tree_at (trees (table_of c.args.self.now)) c.args.node))) (sym c.in-1.is))
-
-pub returns-in-2-clause-shows : goal.returns-in-2-clause-shows
-unfolding parts_in
-returns-in-2-clause-shows g c = fills c.args.self.now c.args.ctx.detail _ _ _ c.fill_first_of.ensures.shows (ap (λ f. parts_in c.args.ctx.detail (context_of c.args.ctx) (form_of f c.args.at) (tree_in f (tree_at (trees (table_of c.args.self.now)) c.args.node))) (sym c.in-2.is))
-
-pub returns-in-3-clause-shows : goal.returns-in-3-clause-shows
-unfolding parts_in
-returns-in-3-clause-shows g c = fills c.args.self.now c.args.ctx.detail _ _ _ c.fill_more_of.ensures.shows (ap (λ f. parts_in c.args.ctx.detail (context_of c.args.ctx) (form_of f c.args.at) (tree_in f (tree_at (trees (table_of c.args.self.now)) c.args.node))) (sym c.in-3.is))
-
-pub returns-in-4-clause-shows : goal.returns-in-4-clause-shows
-unfolding parts_in
-returns-in-4-clause-shows g c = fills c.args.self.now c.args.ctx.detail _ _ _ c.fill_low.ensures.shows (ap (λ f. parts_in c.args.ctx.detail (context_of c.args.ctx) (form_of f c.args.at) (tree_in f (tree_at (trees (table_of c.args.self.now)) c.args.node))) (sym c.in-4.is))
-
-pub returns-in-5-clause-shows : goal.returns-in-5-clause-shows
-unfolding parts_in
-returns-in-5-clause-shows g c = fills c.args.self.now c.args.ctx.detail _ _ _ c.fill_base.ensures.shows (ap (λ f. parts_in c.args.ctx.detail (context_of c.args.ctx) (form_of f c.args.at) (tree_in f (tree_at (trees (table_of c.args.self.now)) c.args.node))) (sym c.in-5.is))
-
-pub returns-in-6-clause-shows : goal.returns-in-6-clause-shows
-unfolding parts_in
-returns-in-6-clause-shows g c = fills c.args.self.now c.args.ctx.detail _ _ _ c.fill_own_piece.ensures.shows (ap (λ f. parts_in c.args.ctx.detail (context_of c.args.ctx) (form_of f c.args.at) (tree_in f (tree_at (trees (table_of c.args.self.now)) c.args.node))) (sym c.in-6.is))
-
-pub returns-in-7-clause-shows : goal.returns-in-7-clause-shows
-unfolding parts_in
-returns-in-7-clause-shows g c = fills c.args.self.now c.args.ctx.detail _ _ _ c.fill_full.ensures.shows (ap (λ f. parts_in c.args.ctx.detail (context_of c.args.ctx) (form_of f c.args.at) (tree_in f (tree_at (trees (table_of c.args.self.now)) c.args.node))) (sym c.in-7.is))
-
-pub returns-in-8-clause-shows : goal.returns-in-8-clause-shows
-unfolding parts_in
-returns-in-8-clause-shows g c = fills c.args.self.now c.args.ctx.detail _ _ _ c.fill_bare_of.ensures.shows (ap (λ f. parts_in c.args.ctx.detail (context_of c.args.ctx) (form_of f c.args.at) (tree_in f (tree_at (trees (table_of c.args.self.now)) c.args.node))) (sym c.in-8.is))
-
-pub returns-in-9-clause-shows : goal.returns-in-9-clause-shows
-unfolding parts_in
-returns-in-9-clause-shows g c = fills c.args.self.now c.args.ctx.detail _ _ _ c.fill_root.ensures.shows (ap (λ f. parts_in c.args.ctx.detail (context_of c.args.ctx) (form_of f c.args.at) (tree_in f (tree_at (trees (table_of c.args.self.now)) c.args.node))) (sym c.in-9.is))
-
-pub returns-in-10-clause-shows : goal.returns-in-10-clause-shows
-unfolding parts_in left_parts
-returns-in-10-clause-shows g c = fills c.args.self.now c.args.ctx.detail _ _ _ (c.push_some.ensures.shows _ _ _ (starts c.args.self.now c.args.ctx.detail _)) (ap (λ t. text t ∷ []) c.builtin_with_d.ensures.text ∙ ap (λ f. parts_in c.args.ctx.detail (context_of c.args.ctx) (form_of f c.args.at) (tree_in f (tree_at (trees (table_of c.args.self.now)) c.args.node))) (sym c.in-10.is))
-
-pub returns-in-11-clause-shows : goal.returns-in-11-clause-shows
-unfolding parts_in right_parts
-returns-in-11-clause-shows g c = fills c.args.self.now c.args.ctx.detail _ _ _ (starts c.args.self.now c.args.ctx.detail _) (ap (λ f. parts_in c.args.ctx.detail (context_of c.args.ctx) (form_of f c.args.at) (tree_in f (tree_at (trees (table_of c.args.self.now)) c.args.node))) (sym c.in-11.is))
-
-pub returns-in_default-clause-shows : goal.returns-in_default-clause-shows
-returns-in_default-clause-shows g c = fills c.args.self.now c.args.ctx.detail _ _ _ c.fill_expand.ensures.shows (form-expand c.args.form c.args.at (tree_at (trees (table_of c.args.self.now)) c.args.node) c.args.ctx.detail (context_of c.args.ctx) (omega (arith, c.in_default)))
+pub returns-clause-shows : goal.returns-clause-shows
+returns-clause-shows g c =
+    let place = c.place-place.result in
+    let said = c.place-place.ensures in
+    let form = form_of c.args.form c.args.at in
+    let shown = tree_in c.args.form (tree_shown c.args.self.now place.ctx place.node) in
+    fills c.args.self.now c.args.ctx.detail _ _ _ (told-so c.args.self.now place.ctx.detail c.args.ctx.detail _ _ said.detail c.fill_own.ensures.shows)
+    (ap (λ d. parts_in d (context_of place.ctx) form shown) said.detail ∙ ap (λ x. parts_in c.args.ctx.detail x form shown) said.index
+    ∙ ap (λ t. parts_in c.args.ctx.detail (context_of c.args.ctx) form (tree_in c.args.form t)) said.tree)

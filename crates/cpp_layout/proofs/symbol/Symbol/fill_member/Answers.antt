@@ -1,8 +1,7 @@
 use Rattle.std.proofs.Common.{sym}
 use Rattle.cpp_layout.proofs.Growing.{fills, member-whole, starts}
-use Rattle.cpp_layout.specs.Layout.{context_of, table_of}
-use Rattle.cpp_tree.specs.Nodes.{tree_at, trees}
+use Rattle.cpp_layout.specs.Layout.{context_of, tree_shown}
 use Rattle.cpp_layout.proofs.symbol.Symbol.fill_member.Goals as goal
 
 pub returns-clause-shows : goal.returns-clause-shows
-returns-clause-shows g c = fills c.args.self.now c.args.ctx.detail _ _ _ (c.push_item-2.ensures.shows _ _ (c.push_either.ensures.shows _ _ _ (c.push_item.ensures.shows _ _ (c.push_text.ensures.shows _ _ _ (starts c.args.self.now c.args.ctx.detail _))))) (member-whole (context_of c.args.ctx) (tree_at (trees (table_of c.args.self.now)) c.args.class) (tree_at (trees (table_of c.args.self.now)) c.args.member) c.is_function-is_function.result (sym c.is_function-is_function.ensures))
+returns-clause-shows g c = fills c.args.self.now c.args.ctx.detail _ _ _ (c.push_item-2.ensures.shows _ _ (c.push_either.ensures.shows _ _ _ (c.push_item.ensures.shows _ _ (c.push_text.ensures.shows _ _ _ (starts c.args.self.now c.args.ctx.detail _))))) (member-whole (context_of c.args.ctx) (tree_shown c.args.self.now c.args.ctx c.args.class) (tree_shown c.args.self.now c.args.ctx c.args.member) c.is_function-is_function.result (sym c.is_function-is_function.ensures))

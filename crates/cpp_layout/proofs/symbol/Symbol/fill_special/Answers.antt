@@ -9,4 +9,4 @@ use Rattle.cpp_grammar.specs.Items as heads
 use Rattle.cpp_layout.proofs.symbol.Symbol.fill_special.Goals as goal
 
 pub returns-clause-shows : goal.returns-clause-shows
-returns-clause-shows g c = fills c.args.self.now c.args.detail _ _ _ (c.push_some.ensures.shows _ _ _ (c.push_item-2.ensures.shows _ _ (c.push_item.ensures.shows _ _ (starts c.args.self.now c.args.detail _)))) (ap (λ t. text t ∷ as_item heads.left items.closed (tree_at (trees (table_of c.args.self.now)) c.args.ty) ∷ as_item heads.right items.closed (tree_at (trees (table_of c.args.self.now)) c.args.ty) ∷ []) c.special.ensures.text)
+returns-clause-shows g c = fills c.args.self.now c.args.detail _ _ _ (c.push_some.ensures.shows _ _ _ (c.push_closed-2.ensures.shows _ _ (c.push_closed.ensures.shows _ _ (starts c.args.self.now c.args.detail _)))) (ap (λ t. text t ∷ as_item heads.left items.closed (tree_at (trees (table_of c.args.self.now)) c.args.ty) ∷ as_item heads.right items.closed (tree_at (trees (table_of c.args.self.now)) c.args.ty) ∷ []) c.special.ensures.text)

@@ -1,12 +1,13 @@
-use Rattle.std.proofs.Common.{ap, sym}
+use Rattle.std.proofs.Common.{ap, sym, ◌∙◌}
 use Rattle.cpp_layout.proofs.Naming.{entity-other}
 use Rattle.cpp_term.specs.Parts.{entity_of}
 use Rattle.cpp_tree.specs.Nodes.{tree_of}
+use Rattle.cpp_term.specs.Reargued.{reargued}
 use Rattle.cpp_layout.proofs.symbol.Symbol.own_entity.Goals as goal
 
 pub returns-in-OfDefault-clause-tree : goal.returns-in-OfDefault-clause-tree
-unfolding tree_of entity_of
-returns-in-OfDefault-clause-tree c = sym (ap entity_of c.in-OfDefault.ensures.tree)
+unfolding tree_of entity_of reargued
+returns-in-OfDefault-clause-tree c = sym (ap entity_of c.in-OfDefault.ensures.tree) ∙ ap entity_of c.place-place.ensures.tree
 
 pub returns-in_default-clause-tree : goal.returns-in_default-clause-tree
-returns-in_default-clause-tree c = entity-other _ _ _ c.stored.result _ c.stored.ensures.tree c.in_default.not-OfDefault
+returns-in_default-clause-tree c = entity-other _ _ _ _ c.stored.result c.stored.ensures.own _ c.stored.ensures.tree c.in_default.not-OfDefault ∙ ap entity_of c.place-place.ensures.tree

@@ -1,7 +1,12 @@
-use Rattle.std.proofs.Common.{◌∙◌, ap}
-use Rattle.cpp_layout.specs.Layout.{table_of, context_of}
-use Rattle.cpp_tree.proofs.Trees.{packs_in}
+use Rattle.std.proofs.Common.{ap, subst, ◌≡◌, ◌∙◌}
+use Rattle.cpp_tree.specs.Nodes.{over, placed_tree, trees}
+use Rattle.cpp_term.specs.Items.{packs_of}
+use Rattle.cpp_term.specs.Scope.{pack_length}
+use Rattle.cpp_layout.specs.Layout.{table_of}
 use Rattle.cpp_layout.proofs.symbol.Symbol.packs.Goals as goal
 
 pub returns : goal.returns
-returns c = ap (λ e. e.packs) c.entry.ensures ∙ packs_in (table_of c.args.self.now) c.args.node (context_of c.args.ctx) c.requires.table c.requires.node
+unfolding placed_tree packs_of
+returns c =
+    subst (λ ts. c.packs.result ≡ pack_length (placed_tree ts (record { node = c.args.node; under = c.args.ctx.argument })))
+    (ap (λ b. trees (over b c.self.inside.nodes)) c.deref.ensures.value ∙ ap (λ y. trees (table_of y)) c.self.view_is) c.packs.ensures

@@ -1,7 +1,11 @@
-use Rattle.std.proofs.Common.{◌∙◌, ap}
-use Rattle.cpp_layout.specs.Layout.{table_of, context_of}
-use Rattle.cpp_tree.proofs.Trees.{empty_in}
+use Rattle.std.proofs.Common.{ap, subst, ◌≡◌, ◌∙◌}
+use Rattle.cpp_tree.specs.Nodes.{over, placed_tree, trees}
+use Rattle.cpp_term.specs.Items as items
+use Rattle.cpp_layout.specs.Layout.{context_of, table_of}
 use Rattle.cpp_layout.proofs.symbol.Symbol.prints_nothing.Goals as goal
 
 pub returns : goal.returns
-returns c = ap (λ e. e.is_empty) c.entry.ensures ∙ empty_in (table_of c.args.self.now) c.args.node (context_of c.args.ctx) c.requires.table c.requires.node
+unfolding placed_tree
+returns c =
+    subst (λ ts. c.prints_nothing.result ≡ items.is_empty (context_of c.args.ctx) (placed_tree ts (record { node = c.args.node; under = c.args.ctx.argument })))
+    (ap (λ b. trees (over b c.self.inside.nodes)) c.deref.ensures.value ∙ ap (λ y. trees (table_of y)) c.self.view_is) (c.prints_nothing.ensures (context_of c.args.ctx))

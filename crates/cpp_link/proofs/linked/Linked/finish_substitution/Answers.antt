@@ -9,12 +9,15 @@ use Rattle.cpp_link.specs.Making.{state_of}
 use Rattle.cpp_link.specs.Parts.{trees_in, values_in, around_of}
 use Rattle.cpp_link.proofs.Finishing.{ends_few, few_adds}
 use Rattle.cpp_link.proofs.Rescoped.{wide_put_right, wide_closing_refused}
-use Rattle.cpp_link.proofs.Viewing.{open_there}
+use Rattle.cpp_link.proofs.Viewing.{open_there, kept_closed}
 use Rattle.cpp_link.proofs.linked.Linked.finish_substitution.Goals as goal
 
 pub substitute_rescoped-requires-clause-there : goal.substitute_rescoped-requires-clause-there
 substitute_rescoped-requires-clause-there c =
     open_there c.args.symbol.now c.args.self.now c.args.frame.now c.args.parts.now.items _ c.requires.open (rw c.deref.ensures.value (rest_all c.args.parts.now.items c.args.frame.now.base))
+
+pub substitute_rescoped-requires-clause-closed : goal.substitute_rescoped-requires-clause-closed
+substitute_rescoped-requires-clause-closed c = kept_closed c.args.symbol.now c.args.self.now c.args.frame.now.kept _ c.requires.open.at.kept.surrounds
 
 pub returns-in_err-made-clause-closes : goal.returns-in_err-made-clause-closes
 returns-in_err-made-clause-closes c =

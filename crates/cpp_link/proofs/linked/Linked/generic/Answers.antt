@@ -32,13 +32,13 @@ one p (v ∷ w ∷ vs) is e = absurd (omega (arith, e))
 one _ known is e = absurd (false≢true is)
 
 pub returns-then-is_argument-clause-of : goal.returns-then-is_argument-clause-of
-returns-then-is_argument-clause-of c p is = made p (Node.GenericParameter c.generic_number.result) true false false c.args.self.now.packs is
+returns-then-is_argument-clause-of c p is = made p (Node.Parameter c.generic_number.result 3) true false false c.args.self.now.packs is
 
 pub returns-then-is_argument-clause-makes : goal.returns-then-is_argument-clause-makes
 returns-then-is_argument-clause-makes c p known is e = one p known is e
 
 pub returns-clause-of : goal.returns-clause-of
-returns-clause-of c p is = made p (Node.GenericParameter c.generic_number.result) true true true c.args.self.now.packs is
+returns-clause-of c p is = made p (Node.Parameter c.generic_number.result 3) true true true c.args.self.now.packs is
 
 pub returns-clause-makes : goal.returns-clause-makes
 returns-clause-makes c p known is e = one p known is e

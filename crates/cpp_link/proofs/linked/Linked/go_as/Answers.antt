@@ -8,7 +8,7 @@ use Rattle.cpp_link.specs.Stepping.{IsStepOf, nodes_of_step}
 use Rattle.cpp_link.proofs.NodeCount.{made_before_part}
 use Rattle.cpp_link.proofs.GoingOn.{goes_right, refused_right, adds_right, steps_few, refused_few}
 use Rattle.cpp_link.proofs.Rooms.{same_room, roomy_ok, roomy_refused}
-use Rattle.cpp_link.proofs.Viewing.{open_there}
+use Rattle.cpp_link.proofs.Viewing.{open_there, kept_closed}
 use Rattle.cpp_link.proofs.linked.Linked.go_as.Goals as goal
 
 pub step-requires-clause-table : goal.step-requires-clause-table
@@ -16,6 +16,9 @@ step-requires-clause-table c = c.requires.open.at.holds.table
 
 pub step-requires-clause-kept : goal.step-requires-clause-kept
 step-requires-clause-kept c = c.requires.open.at.kept.surrounds.there
+
+pub step-requires-clause-closed : goal.step-requires-clause-closed
+step-requires-clause-closed c = kept_closed c.args.symbol.now c.args.self.now c.args.frame.now.kept _ c.requires.open.at.kept.surrounds
 
 pub step-requires-clause-there : goal.step-requires-clause-there
 step-requires-clause-there c =

@@ -19,6 +19,10 @@ use Rattle.cpp_link.proofs.Rescoped.{generic_is, wide_goes_right, no_pack}
 use Rattle.cpp_link.proofs.Viewing.{open_there}
 use Rattle.cpp_link.proofs.linked.Linked.go_generic.Goals as goal
 
+pub generic-step-requires-clause-digits : goal.generic-step-requires-clause-digits
+generic-step-requires-clause-digits c =
+    c.text-digits.ensures.there (open_there c.args.symbol.now c.args.self.now c.args.frame.now c.args.parts.now.items _ c.requires.open (rw c.deref.ensures.value (rest_all c.args.parts.now.items c.args.frame.now.base)))
+
 pub take_step-requires-clause-of : goal.take_step-requires-clause-of
 take_step-requires-clause-of c =
     let frame = c.args.frame.now in

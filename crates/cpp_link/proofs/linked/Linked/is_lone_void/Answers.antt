@@ -8,6 +8,7 @@ use Rattle.cpp_link.proofs.linked.Linked.is_lone_void.Goals as goal
 
 pub returns : goal.returns
 returns c =
-    let v : is_void (tree_at (trees_in c.args.symbol.now c.args.self.now.nodes) c.args.first) ≡ void_node c.node-item.result = ap is_void c.node-item.ensures.tree ∙ void_is _ _ _ c.node-item.result in
-    let n : is_nil (tree_at (trees_in c.args.symbol.now c.args.self.now.nodes) c.args.rest) ≡ nil_node c.node-others.result = ap is_nil c.node-others.ensures.tree ∙ nil_is _ _ _ c.node-others.result in
+    let ts = trees_in c.args.symbol.now c.args.self.now.nodes in
+    let v : is_void (tree_at ts c.args.first) ≡ void_node c.opened-item.result.node = ap is_void c.opened-item.ensures.tree ∙ void_is _ _ _ _ c.opened-item.result.node c.opened-item.ensures.own in
+    let n : is_nil (tree_at ts c.args.rest) ≡ nil_node c.opened-others.result.node = ap is_nil c.opened-others.ensures.tree ∙ nil_is _ _ _ _ c.opened-others.result.node c.opened-others.ensures.own in
     rw (v, n) c.is_lone.ensures

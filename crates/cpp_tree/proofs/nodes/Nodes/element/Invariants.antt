@@ -1,13 +1,15 @@
 -- The element that is wanted is the one at the place that is left, of the list that is left.
 use Rattle.std.proofs.Common.{◌≡◌, ◌<◌, length}
 use Rattle.cpp_term.specs.Scope.{element}
-use Rattle.cpp_tree.specs.Nodes.{over, tree_at, trees}
+use Rattle.cpp_tree.specs.Nodes.{over, trees, placed_tree, IsThereBelow}
 use Rattle.cpp_tree.proofs.nodes.Nodes.element.Given as goal
 
 abbrev pub invariant-runs : goal.invariant-runs
 invariant-runs l =
-    (l.cell < length l.self.nodes)
-    × (element (tree_at (trees (over l.symbol l.self)) l.cell) l.left ≡ element (tree_at (trees (over l.symbol l.self)) l.list) l.k)
+    let ts = trees (over l.symbol l.self) in
+    (l.cell < length l.self.nodes) × IsThereBelow (length l.self.nodes) l.under
+    × (element (placed_tree ts (record { node = l.cell; under = l.under })) l.left
+    ≡ element (placed_tree ts (record { node = l.initial.cell; under = l.initial.under })) l.k)
 
 abbrev pub decreases-runs : goal.decreases-runs
 decreases-runs l = l.left

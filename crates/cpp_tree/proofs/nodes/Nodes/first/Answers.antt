@@ -1,17 +1,25 @@
-use Rattle.std.proofs.Common.{arith, ap, sym, ◌∙◌}
-use Rattle.cpp_tree.specs.Nodes.{over}
-use Rattle.cpp_tree.proofs.Trees.{cell_is, element_first, element_none}
+use Rattle.std.proofs.Common.{arith, sym, ap, ◌∙◌}
+use Rattle.cpp_term.specs.Scope.{element}
+use Rattle.cpp_tree.specs.Nodes.{over, trees}
+use Rattle.cpp_tree.proofs.Trees.{cell_is, cell_first, cell_none, placed-alone}
 use Rattle.cpp_tree.proofs.nodes.Nodes.first.Goals as goal
 
 pub returns-in-Cell : goal.returns-in-Cell
 returns-in-Cell c =
-    let cell = cell_is (over c.args.symbol.now c.args.self.now) c.args.list c.in-Cell.first c.in-Cell.rest c.requires.table c.requires.list (ap (λ e. e.node) (sym c.entry.ensures) ∙ c.in-Cell.is) in
-    record { tree = element_first _ _ _ cell.0; below = omega (arith, cell.1, c.requires.list) }
+    let y = over c.args.symbol.now c.args.self.now in
+    let inside = c.settled-settled.ensures.below.0 in
+    let is = sym c.node.ensures.is ∙ c.in-Cell.is in
+    record {
+      tree = cell_first y c.settled-settled.result c.in-Cell.first c.in-Cell.rest c.requires.table inside is ∙ ap (λ t. element t 0) c.settled-settled.ensures.tree;
+      below = (omega (arith, (cell_is y c.settled-settled.result.node c.in-Cell.first c.in-Cell.rest c.requires.table inside is).1, inside), c.settled-settled.ensures.below.1);
+    }
 
 pub returns-in_default : goal.returns-in_default
 returns-in_default c =
     let y = over c.args.symbol.now c.args.self.now in
     record {
-      tree = c.requires.table.no_tree ∙ sym (element_none y c.args.list 0 c.requires.table c.requires.list (λ first rest is. c.in_default.not-Cell first rest (ap (λ e. e.node) c.entry.ensures ∙ is)));
-      below = omega (arith, c.requires.table.fixed);
+      tree = placed-alone (trees y) 0 ∙ c.requires.table.no_tree
+          ∙ sym (cell_none y c.settled-settled.result 0 c.requires.table c.settled-settled.ensures.below.0 c.settled-settled.ensures.flat (λ first rest is. c.in_default.not-Cell first rest (c.node.ensures.is ∙ is)))
+          ∙ ap (λ t. element t 0) c.settled-settled.ensures.tree;
+      below = (omega (arith, c.requires.table.fixed), tt);
     }

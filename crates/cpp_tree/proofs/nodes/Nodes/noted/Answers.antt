@@ -25,11 +25,11 @@ returns-in_default c =
       not_memberpointer = c.in_default.not-MemberPointer;
       not_functiontype = c.in_default.not-FunctionType;
       not_qualified = c.in_default.not-Qualified;
-      not_genericparameter = c.in_default.not-GenericParameter;
       not_vector = c.in_default.not-Vector;
       not_complex = c.in_default.not-Complex;
       not_expansion = c.in_default.not-Expansion;
       not_integer = c.in_default.not-Integer;
       not_pack = c.in_default.not-Pack;
       not_cell = c.in_default.not-Cell;
+      not_again = c.in_default.not-Again;
     })

@@ -1,8 +1,9 @@
-use Rattle.std.proofs.Common.{ap, ◌+◌, ◌∙◌, ◌||◌, ◌&&◌}
+use Rattle.std.proofs.Common.{ap, ◌+◌, ◌∙◌, ◌&&◌}
 use Rattle.cpp_grammar.specs.Scope.{first_of}
 use Rattle.cpp_tree.specs.Nodes.{entry_at}
 use Rattle.cpp_tree.specs.declared.compact.Words.{Words}
 use Rattle.cpp_tree.specs.Compact.{kept}
+use Rattle.cpp_tree.specs.Notes.{both_free, of_cell}
 use Rattle.cpp_tree.proofs.Compacting.{over-two-is}
 use Rattle.cpp_tree.proofs.nodes.Nodes.noted_cell.Goals as goal
 
@@ -11,10 +12,10 @@ returns c =
     let e = entry_at c.args.self.now.nodes c.args.first in
     let f = entry_at c.args.self.now.nodes c.args.rest in
     let packs = first_of e.packs f.packs in
-    let is_open = e.is_open || f.is_open in
-    let is_generic = e.is_generic || f.is_generic in
-    over-two-is c.args.node (c.at-one.result.is_empty && c.at-other.result.is_empty) Words.Elements (c.entry-count.result.count + 1) c.run_to.result c.noted_over_two.result c.at-one.result c.at-other.result e f c.at-one.ensures c.at-other.ensures c.noted_over_two.ensures
-    ∙ ap (λ x. kept c.args.node packs is_open is_generic (x.is_empty && c.at-other.result.is_empty) Words.Elements (c.entry-count.result.count + 1) c.run_to.result) c.at-one.ensures
-    ∙ ap (λ x. kept c.args.node packs is_open is_generic (e.is_empty && x.is_empty) Words.Elements (c.entry-count.result.count + 1) c.run_to.result) c.at-other.ensures
-    ∙ ap (λ n. kept c.args.node packs is_open is_generic (e.is_empty && f.is_empty) Words.Elements (n + 1) c.run_to.result) (ap (λ x. x.count) (c.entry-count.ensures ∙ c.at-other.ensures))
-    ∙ ap (λ n. kept c.args.node packs is_open is_generic (e.is_empty && f.is_empty) Words.Elements (f.count + 1) n) c.run_to.ensures
+    let free = both_free e.free f.free in
+    let depends = of_cell e.by_argument f.by_argument in
+    over-two-is c.args.node (c.at-one.result.is_empty && c.at-other.result.is_empty) (λ l m. of_cell l m) c.of_cell.result Words.Elements (c.entry-count.result.count + 1) c.run_to.result c.noted_over_two.result c.at-one.result c.at-other.result e f c.at-one.ensures c.at-other.ensures c.of_cell.ensures c.noted_over_two.ensures
+    ∙ ap (λ x. kept c.args.node packs free (x.is_empty && c.at-other.result.is_empty) depends Words.Elements (c.entry-count.result.count + 1) c.run_to.result) c.at-one.ensures
+    ∙ ap (λ x. kept c.args.node packs free (e.is_empty && x.is_empty) depends Words.Elements (c.entry-count.result.count + 1) c.run_to.result) c.at-other.ensures
+    ∙ ap (λ n. kept c.args.node packs free (e.is_empty && f.is_empty) depends Words.Elements (n + 1) c.run_to.result) (ap (λ x. x.count) (c.entry-count.ensures ∙ c.at-other.ensures))
+    ∙ ap (λ n. kept c.args.node packs free (e.is_empty && f.is_empty) depends Words.Elements (f.count + 1) n) c.run_to.ensures

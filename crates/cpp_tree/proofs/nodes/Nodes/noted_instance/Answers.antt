@@ -1,7 +1,7 @@
-use Rattle.std.proofs.Common.{ap, ◌∙◌, false, Some, not, ◌||◌}
+use Rattle.std.proofs.Common.{ap, ◌∙◌, false, Some, not}
 use Rattle.cpp_grammar.specs.Scope.{first_of}
 use Rattle.cpp_tree.specs.Nodes.{entry_at}
-use Rattle.cpp_tree.specs.Notes.{is_structor_node}
+use Rattle.cpp_tree.specs.Notes.{both_free, is_structor_node, joined, itself}
 use Rattle.cpp_tree.specs.Compact.{with_arguments}
 use Rattle.cpp_tree.proofs.Compacting.{over-two-is}
 use Rattle.cpp_tree.proofs.nodes.Nodes.noted_instance.Goals as goal
@@ -11,8 +11,9 @@ returns c =
     let e = entry_at c.args.self.now.nodes c.args.template in
     let f = entry_at c.args.self.now.nodes c.args.arguments in
     let packs = first_of e.packs f.packs in
-    let is_open = e.is_open || f.is_open in
-    let is_generic = e.is_generic || f.is_generic in
-    over-two-is c.args.node false c.of_instance.result c.args.arguments 0 c.noted_over_two.result c.at-held.result c.at.result e f c.at-held.ensures c.at.ensures c.noted_over_two.ensures
-    ∙ c.of_instance.ensures c.args.node packs is_open is_generic c.args.arguments
-    ∙ ap (λ x. with_arguments c.args.node packs is_open is_generic (Some c.args.arguments) (not (is_structor_node x.node))) c.at-held.ensures
+    let free = both_free e.free f.free in
+    let depends = joined e.by_argument f.by_argument in
+    over-two-is c.args.node false joined c.joined.result c.of_instance.result c.args.arguments 0 c.noted_over_two.result c.at-held.result c.at-other.result e f c.at-held.ensures c.at-other.ensures c.joined.ensures c.noted_over_two.ensures
+    ∙ c.of_instance.ensures c.args.node packs free depends c.args.arguments
+    ∙ ap (λ x. with_arguments c.args.node packs free depends (Some (itself c.args.arguments)) (not (is_structor_node x)))
+    (c.node.ensures.is ∙ ap (λ p. (entry_at c.args.self.now.nodes p.node).node) c.resolved-place.ensures.is)

@@ -1,18 +1,12 @@
 use Rattle.std.proofs.Common.{◌∙◌}
-use Rattle.cpp_tree.specs.Nodes.{entry_at}
-use Rattle.cpp_tree.specs.declared.compact.Words.{Words}
-use Rattle.cpp_tree.proofs.Compacting.{over-is, lambda-alone, conversion-alone, other-alone}
+use Rattle.cpp_tree.proofs.Compacting.{lambda-alone, conversion-alone, other-alone}
 use Rattle.cpp_tree.proofs.nodes.Nodes.noted_piece.Goals as goal
 
 pub returns-in-Lambda : goal.returns-in-Lambda
-returns-in-Lambda c =
-    lambda-alone c.args.self.now.nodes c.args.node c.args.piece c.noted_over.result c.in-Lambda.parameters c.in-Lambda.number c.in-Lambda.is
-    (over-is c.args.node Words.Plain 0 c.noted_over.result c.at.result (entry_at c.args.self.now.nodes c.in-Lambda.parameters) c.at.ensures c.noted_over.ensures)
+returns-in-Lambda c = c.noted_type.ensures ∙ lambda-alone c.args.self.now.nodes c.args.node c.args.piece c.in-Lambda.parameters c.in-Lambda.number c.in-Lambda.is
 
 pub returns-in-Conversion : goal.returns-in-Conversion
-returns-in-Conversion c =
-    over-is c.args.node Words.Plain 0 c.noted_over-in-Conversion.result c.at-in-Conversion.result (entry_at c.args.self.now.nodes c.in-Conversion.ty) c.at-in-Conversion.ensures c.noted_over-in-Conversion.ensures
-    ∙ conversion-alone c.args.self.now.nodes c.args.node c.args.piece c.in-Conversion.ty c.in-Conversion.is
+returns-in-Conversion c = c.noted_type-in-Conversion.ensures ∙ conversion-alone c.args.self.now.nodes c.args.node c.args.piece c.in-Conversion.ty c.in-Conversion.is
 
 pub returns-in_default : goal.returns-in_default
 returns-in_default c = c.bare.ensures ∙ other-alone c.args.self.now.nodes c.args.node c.args.piece c.in_default.not-Lambda c.in_default.not-Conversion

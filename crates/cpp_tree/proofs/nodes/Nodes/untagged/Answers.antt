@@ -1,17 +1,19 @@
-use Rattle.std.proofs.Common.{arith, ap, sym, ◌∙◌, Some, None}
-use Rattle.cpp_tree.specs.Nodes.{over, untagged_is}
-use Rattle.cpp_tree.proofs.Trees.{untagged_at}
+use Rattle.std.proofs.Common.{sym, ap, ◌∙◌}
+use Rattle.cpp_term.specs.Scope.{without_tags}
+use Rattle.cpp_tree.specs.Nodes.{over, trees, tree_at}
+use Rattle.cpp_tree.proofs.Trees.{placed-none, placed-some, over-some, there-below, untagged-over}
 use Rattle.cpp_tree.proofs.nodes.Nodes.untagged.Goals as goal
 
-pub returns-in-Some-clause-tree : goal.returns-in-Some-clause-tree
-unfolding untagged_is
-returns-in-Some-clause-tree c = (untagged_at (over c.args.symbol.now c.args.self.now) c.args.name (Some c.in-Some.inner) c.requires.table c.requires.name (ap (λ e. e.untagged) (sym c.entry.ensures) ∙ c.in-Some.is)).0
+pub returns-in-None : goal.returns-in-None
+returns-in-None c = record {
+  tree = c.untagged_node-inner.ensures.tree ∙ ap without_tags (sym (placed-none (trees (over c.args.symbol.now c.args.self.now)) c.args.name c.in-None.is));
+  below = c.untagged_node-inner.ensures.below;
+}
 
-pub returns-in-Some-clause-below : goal.returns-in-Some-clause-below
-returns-in-Some-clause-below c =
-    let at = untagged_at (over c.args.symbol.now c.args.self.now) c.args.name (Some c.in-Some.inner) c.requires.table c.requires.name (ap (λ e. e.untagged) (sym c.entry.ensures) ∙ c.in-Some.is) in
-    omega (arith, at.1, c.requires.name)
-
-pub returns-in-None-clause-tree : goal.returns-in-None-clause-tree
-unfolding untagged_is
-returns-in-None-clause-tree c = (untagged_at (over c.args.symbol.now c.args.self.now) c.args.name None c.requires.table c.requires.name (ap (λ e. e.untagged) (sym c.entry.ensures) ∙ c.in-None.is)).0
+pub returns-in-Some : goal.returns-in-Some
+returns-in-Some c =
+    let ts = trees (over c.args.symbol.now c.args.self.now) in
+    record {
+      tree = over-some ts c.in-Some.argument c.untagged_node-inner.result _ c.untagged_node-inner.ensures.tree ∙ untagged-over (tree_at ts c.in-Some.argument) (tree_at ts c.args.name.node) ∙ ap without_tags (sym (placed-some ts c.args.name c.in-Some.argument c.in-Some.is));
+      below = (c.untagged_node-inner.ensures.below.0, there-below _ c.args.name.under c.in-Some.argument c.in-Some.is c.requires.name.1);
+    }

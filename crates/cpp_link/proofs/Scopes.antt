@@ -1,0 +1,241 @@
+-- The arguments that are named are those of a name in which no parameter is free: none is free in them, nor in one of them.
+use Rattle.std.proofs.Common.{◌≡◌, refl, sym, ◌∙◌, ap, subst, ℕ, ◌-◌, zero, suc, List, [], ◌∷◌, Bool, true, false, ◌||◌, Option, Some, None, Result, Ok, Err}
+use Rattle.std.specs.Prelude.{IfSome, IfOk}
+use Rattle.std.proofs.lemmas.Bool.{true≢false}
+use Rattle.sym_core.specs.declared.refusal.Refusal.{Refusal}
+use Rattle.sym_link.specs.Reading.{Next, ◌>>=◌}
+use Rattle.cpp_grammar.specs.declared.production.Production.{Production}
+use Rattle.cpp_term.specs.Term.{Term, instance, local, of_default, list, parameter}
+use Rattle.cpp_term.specs.Scope.{is_open, arguments_of, element}
+use Rattle.cpp_term.specs.Items.{auto}
+use Rattle.cpp_grammar.specs.Rescoping.{generic_number}
+use Rattle.cpp_term.specs.Values.{State, Around, Value, tree, tree_of}
+use Rattle.cpp_term.specs.References.{parameter_named}
+use Rattle.cpp_term.specs.Between.{Going, closed_arguments, in_name, in_types, in_signature, under_expansion, after, inside, named_so_far, listed_so_far, piece_so_far, tag_so_far, parameter_so_far, argument_so_far, argument_at, index_of, next, between}
+use Rattle.cpp_term.specs.Rescoping.{parameter_here, argument_here, generic_so_far, between_wide}
+use Rattle.cpp_link.specs.Parts.{IsClosed}
+use Rattle.cpp_term.proofs.Notes.{or_left, or_right}
+
+-- ## Arguments
+
+arguments_closed : (t : Term) → is_open t ≡ false → IfSome (arguments_of t) (λ a. is_open a ≡ false)
+unfolding is_open arguments_of
+arguments_closed (instance template arguments) closed = or_right (is_open template) (is_open arguments) closed
+arguments_closed (local encoding entity discriminator) closed = arguments_closed entity closed
+arguments_closed (of_default digits entity) closed = arguments_closed entity closed
+arguments_closed _ closed = tt
+
+pub none_closed : (t : Term) → is_open t ≡ true → closed_arguments t ≡ None
+unfolding closed_arguments
+none_closed t is = ap (λ b. elim b as (λ _. Option Term) [ true ↦ None | false ↦ arguments_of t ]) is
+
+pub some_closed : (t : Term) → is_open t ≡ false → closed_arguments t ≡ arguments_of t
+unfolding closed_arguments
+some_closed t is = ap (λ b. elim b as (λ _. Option Term) [ true ↦ None | false ↦ arguments_of t ]) is
+
+-- no parameter is free in an argument of a name in which none is
+pub argument_closed : (t a : Term) → is_open t ≡ false → arguments_of t ≡ Some a → is_open a ≡ false
+argument_closed t a closed is = subst (λ o. IfSome o (λ x. is_open x ≡ false)) is (arguments_closed t closed)
+
+pub closed_are : (t : Term) → IfSome (closed_arguments t) (λ a. is_open a ≡ false)
+unfolding closed_arguments
+closed_are t = by (is_open t) refl
+  where
+    by : (b : Bool) → is_open t ≡ b → IfSome (elim b as (λ _. Option Term) [ true ↦ None | false ↦ arguments_of t ]) (λ a. is_open a ≡ false)
+    by true is = tt
+    by false is = arguments_closed t is
+
+pub element_closed : (t : Term) (k : ℕ) → is_open t ≡ false → is_open (element t k) ≡ false
+unfolding is_open element
+element_closed (list first rest) zero closed = or_left (is_open first) (is_open rest) closed
+element_closed (list first rest) (suc k) closed = element_closed rest k (or_right (is_open first) (is_open rest) closed)
+element_closed _ k closed = refl
+
+-- ## What surrounds the next part
+
+abbrev GoesClosed : Going → Type 0
+GoesClosed going = IfOk going (λ n. IsClosed n.context)
+
+parameter_closed : (around : Around) (place k : ℕ) (vs : List Value) (state : State) → IsClosed around → GoesClosed (parameter_so_far around place k vs state)
+unfolding parameter_so_far listed_so_far after
+parameter_closed around place k vs state closed = by (parameter_named around place k state)
+  where
+    by : (r : Result State Refusal) → GoesClosed (r >>= λ s. listed_so_far around (parameter k (argument_at around k)) vs s)
+    by (Ok s) = closed
+    by (Err e) = tt
+
+lone_closed : (around : Around) (place k : ℕ) (state : State) → IsClosed around → GoesClosed (argument_so_far around place k state)
+unfolding argument_so_far
+lone_closed around place k state closed = by (parameter_named around place k state)
+  where
+    by : (r : Result State Refusal) → GoesClosed (r >>= λ s. next (tree (parameter k (argument_at around k)) true ∷ []) around (record s { candidates = state.candidates }))
+    by (Ok s) = closed
+    by (Err e) = tt
+
+goes_closed : (p : Production) (around : Around) (place : ℕ) (vs : List Value) (state : State) → IsClosed around → GoesClosed (between p around place vs state)
+unfolding between in_name in_types in_signature under_expansion after inside named_so_far listed_so_far piece_so_far tag_so_far
+goes_closed Production.Encoding around place [] state closed = tt
+goes_closed Production.Encoding around place (name ∷ vs) state closed = closed_are (tree_of name)
+goes_closed Production.Special around place vs state closed = tt
+goes_closed Production.Guard around place vs state closed = tt
+goes_closed Production.OtherSpecial around place vs state closed = tt
+goes_closed Production.Lambda around place vs state closed = tt
+goes_closed Production.Parameter around place (v ∷ []) state closed = parameter_closed around place (index_of v) [] state closed
+goes_closed Production.NestParameter around place (v ∷ []) state closed = parameter_closed around place (index_of v) [] state closed
+goes_closed Production.Parameter around place [] state closed = closed
+goes_closed Production.Parameter around place (v ∷ w ∷ vs) state closed = closed
+goes_closed Production.NestParameter around place [] state closed = closed
+goes_closed Production.NestParameter around place (v ∷ w ∷ vs) state closed = closed
+goes_closed Production.LocalName around place [] state closed = closed
+goes_closed Production.LocalName around place (v ∷ vs) state closed = closed
+goes_closed Production.LocalType around place [] state closed = closed
+goes_closed Production.LocalType around place (v ∷ vs) state closed = closed
+goes_closed Production.InternalName around place [] state closed = closed
+goes_closed Production.InternalName around place (v ∷ []) state closed = closed
+goes_closed Production.InternalName around place (v ∷ w ∷ vs) state closed = closed
+goes_closed Production.SourceName around place [] state closed = closed
+goes_closed Production.SourceName around place (v ∷ []) state closed = closed
+goes_closed Production.SourceName around place (v ∷ w ∷ vs) state closed = closed
+goes_closed Production.LocalTypeName around place [] state closed = closed
+goes_closed Production.LocalTypeName around place (v ∷ []) state closed = closed
+goes_closed Production.LocalTypeName around place (v ∷ w ∷ vs) state closed = closed
+goes_closed Production.OperatorName around place [] state closed = closed
+goes_closed Production.OperatorName around place (v ∷ []) state closed = closed
+goes_closed Production.OperatorName around place (v ∷ w ∷ vs) state closed = closed
+goes_closed Production.OtherOperatorName around place [] state closed = closed
+goes_closed Production.OtherOperatorName around place (v ∷ []) state closed = closed
+goes_closed Production.OtherOperatorName around place (v ∷ w ∷ vs) state closed = closed
+goes_closed Production.OperatorNameWithC around place [] state closed = closed
+goes_closed Production.OperatorNameWithC around place (v ∷ []) state closed = closed
+goes_closed Production.OperatorNameWithC around place (v ∷ w ∷ vs) state closed = closed
+goes_closed Production.Conversion around place [] state closed = closed
+goes_closed Production.Conversion around place (v ∷ vs) state closed = closed
+goes_closed Production.Constructor around place [] state closed = closed
+goes_closed Production.Constructor around place (v ∷ []) state closed = closed
+goes_closed Production.Constructor around place (v ∷ w ∷ vs) state closed = closed
+goes_closed Production.Destructor around place [] state closed = closed
+goes_closed Production.Destructor around place (v ∷ []) state closed = closed
+goes_closed Production.Destructor around place (v ∷ w ∷ vs) state closed = closed
+goes_closed Production.StdName around place [] state closed = closed
+goes_closed Production.StdName around place (v ∷ []) state closed = closed
+goes_closed Production.StdName around place (v ∷ w ∷ vs) state closed = closed
+goes_closed Production.AbbreviatedName around place [] state closed = closed
+goes_closed Production.AbbreviatedName around place (v ∷ []) state closed = closed
+goes_closed Production.AbbreviatedName around place (v ∷ w ∷ vs) state closed = closed
+goes_closed Production.NestStd around place [] state closed = closed
+goes_closed Production.NestStd around place (v ∷ []) state closed = closed
+goes_closed Production.NestStd around place (v ∷ w ∷ []) state closed = closed
+goes_closed Production.NestStd around place (v ∷ w ∷ x ∷ vs) state closed = closed
+goes_closed Production.NestAbbreviated around place [] state closed = closed
+goes_closed Production.NestAbbreviated around place (v ∷ []) state closed = closed
+goes_closed Production.NestAbbreviated around place (v ∷ w ∷ vs) state closed = closed
+goes_closed Production.NestTemplate around place [] state closed = closed
+goes_closed Production.NestTemplate around place (v ∷ []) state closed = closed
+goes_closed Production.NestTemplate around place (v ∷ w ∷ vs) state closed = closed
+goes_closed Production.NestInternal around place [] state closed = closed
+goes_closed Production.NestInternal around place (v ∷ []) state closed = closed
+goes_closed Production.NestInternal around place (v ∷ w ∷ vs) state closed = closed
+goes_closed Production.NestSource around place [] state closed = closed
+goes_closed Production.NestSource around place (v ∷ []) state closed = closed
+goes_closed Production.NestSource around place (v ∷ w ∷ vs) state closed = closed
+goes_closed Production.NestLocalType around place [] state closed = closed
+goes_closed Production.NestLocalType around place (v ∷ []) state closed = closed
+goes_closed Production.NestLocalType around place (v ∷ w ∷ vs) state closed = closed
+goes_closed Production.NestArguments around place [] state closed = closed
+goes_closed Production.NestArguments around place (v ∷ []) state closed = closed
+goes_closed Production.NestArguments around place (v ∷ w ∷ []) state closed = closed
+goes_closed Production.NestArguments around place (v ∷ w ∷ x ∷ []) state closed = closed
+goes_closed Production.NestArguments around place (v ∷ w ∷ x ∷ y ∷ vs) state closed = closed
+goes_closed Production.NestInstance around place [] state closed = closed
+goes_closed Production.NestInstance around place (v ∷ []) state closed = closed
+goes_closed Production.NestInstance around place (v ∷ w ∷ []) state closed = closed
+goes_closed Production.NestInstance around place (v ∷ w ∷ x ∷ vs) state closed = closed
+goes_closed Production.NestTag around place [] state closed = closed
+goes_closed Production.NestTag around place (v ∷ []) state closed = closed
+goes_closed Production.NestTag around place (v ∷ w ∷ vs) state closed = closed
+goes_closed Production.NestNext around place [] state closed = closed
+goes_closed Production.NestNext around place (v ∷ []) state closed = closed
+goes_closed Production.NestNext around place (v ∷ w ∷ vs) state closed = closed
+goes_closed Production.Holder around place [] state closed = closed
+goes_closed Production.Holder around place (v ∷ []) state closed = closed
+goes_closed Production.Holder around place (v ∷ w ∷ vs) state closed = closed
+goes_closed Production.Tag around place [] state closed = closed
+goes_closed Production.Tag around place (v ∷ []) state closed = closed
+goes_closed Production.Tag around place (v ∷ w ∷ vs) state closed = closed
+goes_closed Production.TypeTag around place [] state closed = closed
+goes_closed Production.TypeTag around place (v ∷ []) state closed = closed
+goes_closed Production.TypeTag around place (v ∷ w ∷ vs) state closed = closed
+goes_closed Production.Arguments around place [] state closed = closed
+goes_closed Production.Arguments around place (v ∷ vs) state closed = closed
+goes_closed Production.PackArgument around place [] state closed = closed
+goes_closed Production.PackArgument around place (v ∷ []) state closed = closed
+goes_closed Production.PackArgument around place (v ∷ w ∷ vs) state closed = closed
+goes_closed Production.TaggedStdType around place [] state closed = closed
+goes_closed Production.TaggedStdType around place (v ∷ []) state closed = closed
+goes_closed Production.TaggedStdType around place (v ∷ w ∷ vs) state closed = closed
+goes_closed Production.TypeWithS around place [] state closed = closed
+goes_closed Production.TypeWithS around place (v ∷ []) state closed = closed
+goes_closed Production.TypeWithS around place (v ∷ w ∷ vs) state closed = closed
+goes_closed Production.LvalueItem around place [] state closed = closed
+goes_closed Production.LvalueItem around place (v ∷ []) state closed = closed
+goes_closed Production.LvalueItem around place (v ∷ w ∷ vs) state closed = closed
+goes_closed Production.RvalueItem around place [] state closed = closed
+goes_closed Production.RvalueItem around place (v ∷ []) state closed = closed
+goes_closed Production.RvalueItem around place (v ∷ w ∷ vs) state closed = closed
+goes_closed Production.IntegerLiteral around place [] state closed = closed
+goes_closed Production.IntegerLiteral around place (v ∷ []) state closed = closed
+goes_closed Production.IntegerLiteral around place (v ∷ w ∷ vs) state closed = closed
+goes_closed Production.ValueOf around place vs state closed = tt
+goes_closed Production.OfConcept around place vs state closed = tt
+goes_closed Production.ParameterArgument around place [] state closed = closed
+goes_closed Production.ParameterArgument around place (v ∷ []) state closed = parameter_closed around (place - 1) (index_of v) [] state closed
+goes_closed Production.ParameterArgument around place (v ∷ w ∷ vs) state closed = closed
+goes_closed Production.ParameterExpression around place [] state closed = closed
+goes_closed Production.ParameterExpression around place (v ∷ []) state closed = lone_closed around place (index_of v) state closed
+goes_closed Production.ParameterExpression around place (v ∷ w ∷ vs) state closed = closed
+goes_closed Production.BoundedArray around place [] state closed = closed
+goes_closed Production.BoundedArray around place (v ∷ []) state closed = lone_closed around place (index_of v) state closed
+goes_closed Production.BoundedArray around place (v ∷ w ∷ vs) state closed = closed
+goes_closed _ around place vs state closed = closed
+
+-- what surrounds the next part is closed too
+pub between_closed : (p : Production) (around : Around) (place : ℕ) (vs : List Value) (state : State) (n : Next Value State Around) → between p around place vs state ≡ Ok n → IsClosed around → IsClosed n.context
+between_closed p around place vs state n is closed = subst (λ going. GoesClosed going) is (goes_closed p around place vs state closed)
+
+here_closed : (around : Around) (place k : ℕ) (state : State) → IsClosed around → GoesClosed (parameter_here around place k [] state)
+unfolding parameter_here generic_so_far listed_so_far after
+here_closed around place k state closed = by around.in_lambda
+  where
+    by : (b : Bool) → GoesClosed (elim b as (λ _. Going) [ true ↦ generic_so_far around k [] state | false ↦ parameter_so_far around place k [] state ])
+    by true = closed
+    by false = parameter_closed around place k [] state closed
+
+argument_here_closed : (around : Around) (place k : ℕ) (state : State) → IsClosed around → GoesClosed (argument_here around place k state)
+unfolding argument_here
+argument_here_closed around place k state closed = by around.in_lambda
+  where
+    by : (b : Bool) → GoesClosed (elim b as (λ _. Going) [ true ↦ next (tree (parameter (generic_number k) auto) true ∷ []) around state | false ↦ argument_so_far around place k state ])
+    by true = closed
+    by false = lone_closed around place k state closed
+
+wide_goes_closed : (p : Production) (around : Around) (place : ℕ) (vs : List Value) (state : State) → IsClosed around → GoesClosed (between_wide p around place vs state)
+unfolding between_wide
+wide_goes_closed Production.Parameter around place (v ∷ []) state closed = here_closed around place (index_of v) state closed
+wide_goes_closed Production.NestParameter around place (v ∷ []) state closed = here_closed around place (index_of v) state closed
+wide_goes_closed Production.Parameter around place [] state closed = goes_closed Production.Parameter around place [] state closed
+wide_goes_closed Production.Parameter around place (v ∷ w ∷ vs) state closed = goes_closed Production.Parameter around place (v ∷ w ∷ vs) state closed
+wide_goes_closed Production.NestParameter around place [] state closed = goes_closed Production.NestParameter around place [] state closed
+wide_goes_closed Production.NestParameter around place (v ∷ w ∷ vs) state closed = goes_closed Production.NestParameter around place (v ∷ w ∷ vs) state closed
+wide_goes_closed Production.ParameterArgument around place [] state closed = goes_closed Production.ParameterArgument around place [] state closed
+wide_goes_closed Production.ParameterArgument around place (v ∷ []) state closed = here_closed around (place - 1) (index_of v) state closed
+wide_goes_closed Production.ParameterArgument around place (v ∷ w ∷ vs) state closed = goes_closed Production.ParameterArgument around place (v ∷ w ∷ vs) state closed
+wide_goes_closed Production.ParameterExpression around place [] state closed = goes_closed Production.ParameterExpression around place [] state closed
+wide_goes_closed Production.ParameterExpression around place (v ∷ []) state closed = argument_here_closed around place (index_of v) state closed
+wide_goes_closed Production.ParameterExpression around place (v ∷ w ∷ vs) state closed = goes_closed Production.ParameterExpression around place (v ∷ w ∷ vs) state closed
+wide_goes_closed Production.BoundedArray around place [] state closed = goes_closed Production.BoundedArray around place [] state closed
+wide_goes_closed Production.BoundedArray around place (v ∷ []) state closed = argument_here_closed around place (index_of v) state closed
+wide_goes_closed Production.BoundedArray around place (v ∷ w ∷ vs) state closed = goes_closed Production.BoundedArray around place (v ∷ w ∷ vs) state closed
+wide_goes_closed p around place vs state closed = goes_closed p around place vs state closed
+
+pub wide_between_closed : (p : Production) (around : Around) (place : ℕ) (vs : List Value) (state : State) (n : Next Value State Around) → between_wide p around place vs state ≡ Ok n → IsClosed around → IsClosed n.context
+wide_between_closed p around place vs state n is closed = subst (λ going. GoesClosed going) is (wide_goes_closed p around place vs state closed)
