@@ -100,6 +100,11 @@ else
     leave allocations "of the library's calls: \`rt run\` in crates/check_rows builds the program that makes them"
 fi
 try colliding tests/colliding.py "$symfilt"
+if command -v llvm-dwarfdump >/dev/null; then
+    try truth tests/truth.py "$symfilt"
+else
+    leave truth "llvm-dwarfdump isn't installed"
+fi
 try callers tests/callers.sh ${symbols[@]+"${symbols[@]}"}
 if ! command -v dpkg >/dev/null; then
     leave packages "dpkg isn't installed"
