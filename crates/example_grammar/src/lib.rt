@@ -7,8 +7,6 @@ use sym_shape::{ByteRange, Choice, END, Grammar, Rule, Sym, choose, symbol_at};
 
 #[cfg(test)]
 mod tests;
-#[cfg(test)]
-mod tokens;
 
 const SYMBOL: u16 = 0;
 
