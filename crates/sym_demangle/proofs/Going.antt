@@ -1,0 +1,129 @@
+-- How a linker goes on by a driver's steps.
+use Rattle.std.proofs.Common.{◌≡◌, ◌∙◌, ap, subst, ℕ, ◌+◌, ◌*◌, ◌≤◌, List, length, Bool, true, false, Option, Some, Result, Ok, Err, arith}
+use Rattle.std.specs.Prelude.{None}
+use Rattle.sym_core.specs.declared.refusal.Refusal.{Refusal}
+use Rattle.sym_shape.specs.declared.rule.Row.{Row}
+use Rattle.sym_shape.specs.Table.{Table}
+use Rattle.sym_shape.specs.Tree.{Tree}
+use Rattle.sym_link.specs.declared.language.Frame.{Frame}
+use Rattle.sym_link.specs.Linking.{View}
+use Rattle.sym_link.specs.Stepping.{link_steps}
+use Rattle.sym_link.specs.Following.{IsDriving, IsStepTo, IsDone, meaning_of}
+use Rattle.sym_link.proofs.Starting.{driving_few}
+use Rattle.sym_demangle.specs.Standing.{IsLinker}
+use Rattle.sym_demangle.proofs.Keeping.{never_done}
+
+-- the steps and rows of a linker are few
+pub few_of : {N P K V S C : Type 0} (g : Table) (view : View N P K V S C) (s : List ℕ) (rows : List Row) (read : ℕ) (nodes : N) (steps : ℕ) (refused : Option Refusal) (next : ℕ)
+    (frames : List (Frame K)) (parts : List P) (done : Bool) → IsLinker g view s rows read nodes steps refused next frames parts done
+    → (read + steps ≤ 32 * length s + 48) × (length rows ≤ 4 * length s + 4)
+few_of g view s rows read nodes steps refused next frames parts done is =
+    (omega (arith, driving_few view s rows is.shape nodes steps refused next frames parts is.driving, is.few.steps_few, is.few.rows_few), is.few.rows_few)
+
+-- a driver that was given bytes and rows that are the linker's
+pub driving_same : {N P K V S C : Type 0} (view : List ℕ → View N P K V S C) (d s : List ℕ) (rs rows : List Row) (shape : Tree) (nodes : N) (steps : ℕ) (refused : Option Refusal) (next : ℕ)
+    (frames : List (Frame K)) (parts : List P) → d ≡ s → rs ≡ rows → IsDriving (view d) d rs shape nodes steps refused next frames parts
+    → IsDriving (view s) s rows shape nodes steps refused next frames parts
+driving_same view d s rs rows shape nodes steps refused next frames parts same same_rows driving =
+    subst (λ b. IsDriving (view b) b rows shape nodes steps refused next frames parts) same
+    (subst (λ r. IsDriving (view d) d r shape nodes steps refused next frames parts) same_rows driving)
+
+-- what the symbol means is there
+done_same : {N P K V S C : Type 0} (view : List ℕ → View N P K V S C) (d s : List ℕ) (rs rows : List Row) (shape : Tree) (nodes : N) (parts : List P) → d ≡ s → rs ≡ rows
+    → IsDone (view d) d rs (meaning_of (view d) shape) nodes parts → IsDone (view s) s rows (meaning_of (view s) shape) nodes parts
+done_same view d s rs rows shape nodes parts same same_rows done =
+    subst (λ b. IsDone (view b) b rows (meaning_of (view b) shape) nodes parts) same
+    (subst (λ r. IsDone (view d) d r (meaning_of (view d) shape) nodes parts) same_rows done)
+
+-- a linker that isn't done goes on
+pub goes_on : {N P K V S C : Type 0} (g : Table) (view : List ℕ → View N P K V S C) (d s : List ℕ) (rs rows : List Row) (read : ℕ) (nodes new : N) (steps new_steps : ℕ)
+    (refused new_refused : Option Refusal) (next new_next : ℕ) (frames new_frames : List (Frame K)) (parts new_parts : List P) (done : Bool)
+    (is : IsLinker g (view s) s rows read nodes steps refused next frames parts done) → done ≡ false → d ≡ s → rs ≡ rows
+    → IsDriving (view d) d rs is.shape new new_steps new_refused new_next new_frames new_parts
+    → IsLinker g (view s) s rows read new new_steps new_refused new_next new_frames new_parts done
+goes_on g view d s rs rows read nodes new steps new_steps refused new_refused next new_next frames new_frames parts new_parts done is isnt same same_rows driving = record {
+  shape = is.shape;
+  is_tree = is.is_tree;
+  is_shape = is.is_shape;
+  fits = is.fits;
+  few = is.few;
+  driving = driving_same view d s rs rows is.shape new new_steps new_refused new_next new_frames new_parts same same_rows driving;
+  ended = λ over. absurd (never_done done over isnt);
+  all_steps = λ over. absurd (never_done done over isnt);
+}
+
+-- one that has run is done
+pub has_run : {N P K V S C : Type 0} (g : Table) (view : List ℕ → View N P K V S C) (d s : List ℕ) (rs rows : List Row) (read : ℕ) (nodes new : N) (steps new_steps : ℕ)
+    (refused new_refused : Option Refusal) (next new_next : ℕ) (frames new_frames : List (Frame K)) (parts new_parts : List P) (done : Bool)
+    (is : IsLinker g (view s) s rows read nodes steps refused next frames parts done) → d ≡ s → rs ≡ rows
+    → IsDriving (view d) d rs is.shape new new_steps new_refused new_next new_frames new_parts
+    → IsDone (view d) d rs (meaning_of (view d) is.shape) new new_parts → new_steps ≡ link_steps is.shape
+    → IsLinker g (view s) s rows read new new_steps new_refused new_next new_frames new_parts true
+has_run g view d s rs rows read nodes new steps new_steps refused new_refused next new_next frames new_frames parts new_parts done is same same_rows driving ended counted = record {
+  shape = is.shape;
+  is_tree = is.is_tree;
+  is_shape = is.is_shape;
+  fits = is.fits;
+  few = is.few;
+  driving = driving_same view d s rs rows is.shape new new_steps new_refused new_next new_frames new_parts same same_rows driving;
+  ended = λ over. done_same view d s rs rows is.shape new new_parts same same_rows ended;
+  all_steps = λ over. counted;
+}
+
+-- a step that is answered by true or false
+answered : {N P K V S C : Type 0} (view : View N P K V S C) (s : List ℕ) (rows : List Row) (shape : Tree) (nodes : N) (steps new_steps : ℕ) (refused new_refused : Option Refusal) (parts : List P)
+    (result : Result Bool Refusal) (done over : Bool) → result ≡ Ok done → done ≡ over → IsStepTo view s rows shape nodes steps new_steps refused new_refused parts result
+    → IsStepTo view s rows shape nodes steps new_steps refused new_refused parts (Ok over)
+answered view s rows shape nodes steps new_steps refused new_refused parts result done over is same to =
+    let ok : Bool → Result Bool Refusal = λ b. Ok b in
+    subst (λ r. IsStepTo view s rows shape nodes steps new_steps refused new_refused parts r) (is ∙ ap ok same) to
+
+-- one that is answered by true is done
+pub has_stepped : {N P K V S C : Type 0} (g : Table) (view : List ℕ → View N P K V S C) (d s : List ℕ) (rs rows : List Row) (read : ℕ) (nodes new : N) (steps new_steps : ℕ)
+    (refused new_refused : Option Refusal) (next new_next : ℕ) (frames new_frames : List (Frame K)) (parts new_parts : List P) (was done : Bool) (result : Result Bool Refusal)
+    (is : IsLinker g (view s) s rows read nodes steps refused next frames parts was) → d ≡ s → rs ≡ rows → result ≡ Ok done
+    → IsDriving (view d) d rs is.shape new new_steps new_refused new_next new_frames new_parts
+    → IsStepTo (view d) d rs is.shape new steps new_steps refused new_refused new_parts result
+    → IsLinker g (view s) s rows read new new_steps new_refused new_next new_frames new_parts done
+has_stepped g view d s rs rows read nodes new steps new_steps refused new_refused next new_next frames new_frames parts new_parts was done result is same same_rows ok driving to = record {
+  shape = is.shape;
+  is_tree = is.is_tree;
+  is_shape = is.is_shape;
+  fits = is.fits;
+  few = is.few;
+  driving = driving_same view d s rs rows is.shape new new_steps new_refused new_next new_frames new_parts same same_rows driving;
+  ended = λ over. done_same view d s rs rows is.shape new new_parts same same_rows (answered (view d) d rs is.shape new steps new_steps refused new_refused new_parts result done true ok over to).0;
+  all_steps = λ over. let to_end = answered (view d) d rs is.shape new steps new_steps refused new_refused new_parts result done true ok over to in omega (arith, to_end.1, to_end.3);
+}
+
+-- a step that is answered by false is counted
+pub counts_step : {N P K V S C : Type 0} (view : View N P K V S C) (s : List ℕ) (rows : List Row) (shape : Tree) (nodes : N) (steps new_steps : ℕ) (refused new_refused : Option Refusal)
+    (parts : List P) (result : Result Bool Refusal) (done : Bool) → result ≡ Ok done → done ≡ false
+    → IsStepTo view s rows shape nodes steps new_steps refused new_refused parts result → new_steps ≡ steps + 1
+counts_step view s rows shape nodes steps new_steps refused new_refused parts result done is over to =
+    (answered view s rows shape nodes steps new_steps refused new_refused parts result done false is over to).0
+
+-- and one that is answered by true isn't
+pub counts_none : {N P K V S C : Type 0} (view : View N P K V S C) (s : List ℕ) (rows : List Row) (shape : Tree) (nodes : N) (steps new_steps : ℕ) (refused new_refused : Option Refusal)
+    (parts : List P) (result : Result Bool Refusal) (done : Bool) → result ≡ Ok done → done ≡ true
+    → IsStepTo view s rows shape nodes steps new_steps refused new_refused parts result → new_steps ≡ steps
+counts_none view s rows shape nodes steps new_steps refused new_refused parts result done is over to =
+    (answered view s rows shape nodes steps new_steps refused new_refused parts result done true is over to).1
+
+-- no refusal is kept where a step is answered
+pub stays_open : {N P K V S C : Type 0} (view : View N P K V S C) (s : List ℕ) (rows : List Row) (shape : Tree) (nodes : N) (steps new_steps : ℕ) (refused new_refused : Option Refusal)
+    (parts : List P) (result : Result Bool Refusal) (done : Bool) → result ≡ Ok done
+    → IsStepTo view s rows shape nodes steps new_steps refused new_refused parts result → new_refused ≡ None
+stays_open view s rows shape nodes steps new_steps refused new_refused parts result true is to =
+    (subst (λ r. IsStepTo view s rows shape nodes steps new_steps refused new_refused parts r) is to).2
+stays_open view s rows shape nodes steps new_steps refused new_refused parts result false is to =
+    (subst (λ r. IsStepTo view s rows shape nodes steps new_steps refused new_refused parts r) is to).1
+
+-- the first step that refuses is counted, and its refusal kept
+pub counts_refusal : {N P K V S C : Type 0} (view : View N P K V S C) (s : List ℕ) (rows : List Row) (shape : Tree) (nodes : N) (steps new_steps : ℕ) (refused new_refused : Option Refusal)
+    (parts : List P) (result : Result Bool Refusal) (e : Refusal) → result ≡ Err e → refused ≡ None
+    → IsStepTo view s rows shape nodes steps new_steps refused new_refused parts result → (new_steps ≡ steps + 1) × (new_refused ≡ Some e)
+counts_refusal view s rows shape nodes steps new_steps refused new_refused parts result e is none to =
+    let refuses = subst (λ r. IsStepTo view s rows shape nodes steps new_steps refused new_refused parts r) is to in
+    let first = subst (λ o. IsStepTo view s rows shape nodes steps new_steps o new_refused parts (Err e)) none refuses in
+    (first.1, first.2)

@@ -1,0 +1,34 @@
+-- A refusal that is kept or isn't, and answers that can't be.
+use Rattle.std.proofs.Common.{◌≡◌, sym, ◌∙◌, Bool, true, false, Option, Some, Result, Ok, Err}
+use Rattle.std.specs.Prelude.{None}
+use Rattle.sym_core.specs.declared.refusal.Refusal.{Refusal}
+
+-- a refusal isn't kept and not kept
+pub never_both : (kept : Option Refusal) (e : Refusal) → kept ≡ Some e → kept ≡ None → ⊥
+never_both kept e some none =
+    let same : ◌≡◌ {A = Option Refusal} None (Some e) = sym none ∙ some in
+    cc
+
+-- a refusal is no answer
+pub never_ok : (A : Type 0) (e : Refusal) (a : A) → ◌≡◌ {A = Result A Refusal} (Err e) (Ok a) → ⊥
+never_ok A e a is = cc
+
+-- an answer is no refusal
+pub never_err : (A : Type 0) (a : A) (e : Refusal) → ◌≡◌ {A = Result A Refusal} (Ok a) (Err e) → ⊥
+never_err A a e is = cc
+
+-- true isn't false
+pub never_false : ◌≡◌ {A = Result Bool Refusal} (Ok true) (Ok false) → ⊥
+never_false is =
+    let same : true ≡ false = cc in
+    cc
+
+-- what is done and isn't
+pub never_done : (done : Bool) → done ≡ true → done ≡ false → ⊥
+never_done done is isnt =
+    let same : true ≡ false = sym is ∙ isnt in
+    cc
+
+-- what answers alike is alike
+pub same_answer : (done over : Bool) → ◌≡◌ {A = Result Bool Refusal} (Ok done) (Ok over) → done ≡ over
+same_answer done over is = cc
