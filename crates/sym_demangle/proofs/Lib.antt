@@ -4,3 +4,4 @@ pub mod Reasons
 pub mod Feeding
 mod Keeping
 mod Going
+mod Rows

@@ -316,9 +316,11 @@ pub returns-in-Ok-clause-moved : goal.returns-in-Ok-clause-moved
 returns-in-Ok-clause-moved g c is =
     let i = c.self.inside in
     let inv = c.self.invariant in
-    let over = same_answer c.in-Ok.done false is in
-    (counts_step (g.M.Linked.Linking.view c.deref.result.now) c.deref.result.now c.rows.result.now inv.shape c.step.new.language i.driver.steps c.step.new.self.steps i.driver.refused c.step.new.self.refused c.step.new.self.parts.items c.step.result c.in-Ok.done c.in-Ok.is over
-    (c.step.ensures.answers inv.shape (rw (c.deref.ensures.value, c.rows.ensures) inv.is_shape) (rw (c.deref.ensures.value, c.rows.ensures) inv.driving)) ∙ ap (λ (v : Progress). v.steps + 1) c.self.view_is, over)
+    let over = same_answer c.in-Ok.done false is in (
+      counts_step (g.M.Linked.Linking.view c.deref.result.now) c.deref.result.now c.rows.result.now inv.shape c.step.new.language i.driver.steps c.step.new.self.steps i.driver.refused c.step.new.self.refused c.step.new.self.parts.items c.step.result c.in-Ok.done c.in-Ok.is over
+          (c.step.ensures.answers inv.shape (rw (c.deref.ensures.value, c.rows.ensures) inv.is_shape) (rw (c.deref.ensures.value, c.rows.ensures) inv.driving)) ∙ ap (λ (v : Progress). v.steps + 1) c.self.view_is,
+      over,
+    )
 
 pub returns-in-Ok-clause-done : goal.returns-in-Ok-clause-done
 returns-in-Ok-clause-done g c is = same_answer c.in-Ok.done true is
