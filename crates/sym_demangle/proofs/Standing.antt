@@ -16,7 +16,7 @@ use Rattle.sym_link.specs.declared.language.Frame.{Frame}
 use Rattle.sym_link.specs.Linking.{View}
 use Rattle.sym_link.specs.Driving.{Fails}
 use Rattle.sym_link.specs.Stepping.{link_steps}
-use Rattle.sym_link.specs.Following.{IsShape, IsDriving, IsStepTo, meaning_of}
+use Rattle.sym_link.specs.Following.{IsDriving, IsStepTo, meaning_of}
 use Rattle.sym_link.proofs.Starting.{driving_few}
 use Rattle.sym_link.proofs.Driving.{driving_on}
 use Rattle.sym_demangle.specs.Mangled.{Mangled, IsRefused}

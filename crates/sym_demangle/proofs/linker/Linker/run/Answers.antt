@@ -1,4 +1,4 @@
-use Rattle.std.proofs.Common.{refl, ℕ, List, Err, sym, ◌∙◌, subst, ap, arith, length, ◌+◌}
+use Rattle.std.proofs.Common.{refl, ℕ, List, Err, sym, ◌∙◌, subst, ap, arith, length}
 use Rattle.sym_link.proofs.Starting.{driving_few}
 use Rattle.sym_shape.specs.Tree.{spell}
 use Rattle.sym_link.specs.Driving.{Fails}
