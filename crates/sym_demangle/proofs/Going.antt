@@ -11,7 +11,7 @@ use Rattle.sym_link.specs.Stepping.{link_steps}
 use Rattle.sym_link.specs.Following.{IsDriving, IsStepTo, IsDone, meaning_of}
 use Rattle.sym_link.proofs.Starting.{driving_few}
 use Rattle.sym_demangle.specs.Standing.{IsLinker}
-use Rattle.sym_demangle.proofs.Keeping.{never_done}
+use Rattle.sym_shape.proofs.Keeping.{never_done}
 
 -- the steps and rows of a linker are few
 pub few_of : {N P K V S C : Type 0} (g : Table) (view : View N P K V S C) (s : List ℕ) (rows : List Row) (read : ℕ) (nodes : N) (steps : ℕ) (refused : Option Refusal) (next : ℕ)

@@ -2,6 +2,5 @@ pub mod Standing
 pub mod Answering
 pub mod Reasons
 pub mod Feeding
-mod Keeping
 mod Going
 mod Rows

@@ -13,3 +13,4 @@ pub mod Driving
 pub mod Passing
 pub mod Room
 pub mod Tally
+mod Never

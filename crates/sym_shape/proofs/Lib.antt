@@ -17,3 +17,4 @@ pub mod Growth
 pub mod Frames
 pub mod Deciding
 pub mod Limits
+pub mod Keeping

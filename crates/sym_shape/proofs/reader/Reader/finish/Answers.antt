@@ -1,4 +1,4 @@
-use Rattle.std.proofs.Common.{ap, ◌∙◌}
+use Rattle.std.proofs.Common.{ap, sym, ◌∙◌}
 use Rattle.sym_shape.specs.Fed.{Fed}
 use Rattle.sym_shape.proofs.Feeding.{fed_rows, same_rows, fed_steps, same_steps}
 use Rattle.sym_shape.proofs.reader.Reader.finish.Goals as goal
@@ -16,3 +16,6 @@ returns-in-None-clause-steps g c =
     let view = c.self.view_is in
     let steps = fed_steps g.G.Grammar.listed g.G.Grammar.table g.met.G.Grammar.lawful inside.bytes.items inside.ended inside.ready inside.refused inside.parse c.in-None.is (ap (λ (v : Fed). v.ready) view ∙ c.requires) c.self.invariant in
     same_steps g.G.Grammar.table inside.bytes.items c.args.self.bytes inside.parse.steps c.of.result.steps (ap (λ (v : Fed). v.bytes) view) c.of.ensures.steps steps
+
+pub returns-in-Some-clause-refused : goal.returns-in-Some-clause-refused
+returns-in-Some-clause-refused g c = sym (ap (λ (v : Fed). v.refused) c.self.view_is) ∙ c.in-Some.is

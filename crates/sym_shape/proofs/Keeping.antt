@@ -32,3 +32,9 @@ never_done done is isnt =
 -- what answers alike is alike
 pub same_answer : (done over : Bool) → ◌≡◌ {A = Result Bool Refusal} (Ok done) (Ok over) → done ≡ over
 same_answer done over is = cc
+
+-- nor false true
+pub never_true : ◌≡◌ {A = Result Bool Refusal} (Ok false) (Ok true) → ⊥
+never_true is =
+    let same : false ≡ true = cc in
+    cc
