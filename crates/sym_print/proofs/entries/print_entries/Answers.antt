@@ -96,3 +96,101 @@ loop-next-preserved g c =
       omega (arith, c.take_last.ensures.capacity, c.loop-next.invariant.7),
       omega (arith, c.write_text.ensures.room, c.loop-next.invariant.8),
     )
+
+pub returns-in_err-open_item-in-Sub-clause-paid : goal.returns-in_err-open_item-in-Sub-clause-paid
+returns-in_err-open_item-in-Sub-clause-paid g c = omega (arith, (ap (λ (m : Meter). m.spent) (c.in_err-open_item-in-Sub.ensures.err).1), c.loop-next.invariant.4)
+
+pub returns-in_err-open_item-in-Sub-clause-stack_paid : goal.returns-in_err-open_item-in-Sub-clause-stack_paid
+returns-in_err-open_item-in-Sub-clause-stack_paid g c = c.open_item.ensures.paid
+
+pub returns-in_err-open_item-in-Sub-clause-may_come : goal.returns-in_err-open_item-in-Sub-clause-may_come
+returns-in_err-open_item-in-Sub-clause-may_come g c = c.open_item.ensures.may_come
+
+pub returns-in_err-open_item-in-Sub-clause-text : goal.returns-in_err-open_item-in-Sub-clause-text
+returns-in_err-open_item-in-Sub-clause-text g c = ap (λ t. c.loop-next.text.items ++ t) c.open_item.ensures.text ∙ c.loop-next.invariant.1
+
+pub returns-in_err-open_item-in-Sub-clause-cost : goal.returns-in_err-open_item-in-Sub-clause-cost
+returns-in_err-open_item-in-Sub-clause-cost g c = omega (arith, c.open_item.ensures.cost, c.loop-next.invariant.2)
+
+pub returns-in_err-open_item-in-Sub-clause-steps : goal.returns-in_err-open_item-in-Sub-clause-steps
+returns-in_err-open_item-in-Sub-clause-steps g c = omega (arith, c.open_item.ensures.remaining, c.loop-next.invariant.3)
+
+pub returns-in_err-open_item-in-Sub-clause-limit : goal.returns-in_err-open_item-in-Sub-clause-limit
+returns-in_err-open_item-in-Sub-clause-limit g c = omega (arith, c.open_item.ensures.limit, c.loop-next.invariant.6)
+
+pub returns-in_err-open_item-in-Sub-clause-entry_room : goal.returns-in_err-open_item-in-Sub-clause-entry_room
+returns-in_err-open_item-in-Sub-clause-entry_room g c = omega (arith, c.open_item.ensures.room, c.loop-next.invariant.7)
+
+pub returns-in_err-open_item-in-Sub-clause-text_room : goal.returns-in_err-open_item-in-Sub-clause-text_room
+returns-in_err-open_item-in-Sub-clause-text_room g c = c.loop-next.invariant.8
+
+pub returns-in_err-open_item-in-Sub-clause-own : goal.returns-in_err-open_item-in-Sub-clause-own
+returns-in_err-open_item-in-Sub-clause-own g c =
+    let p = err_from_is_err_and c.from_residual.result c.from_residual.ensures.1 in
+    rw (p.1, p.2) c.in_err-open_item-in-Sub.ensures.own
+
+pub returns-in_err-write_text-in_default-next-clause-paid : goal.returns-in_err-write_text-in_default-next-clause-paid
+returns-in_err-write_text-in_default-next-clause-paid g c = c.write_text.ensures.paid
+
+pub returns-in_err-write_text-in_default-next-clause-stack_paid : goal.returns-in_err-write_text-in_default-next-clause-stack_paid
+returns-in_err-write_text-in_default-next-clause-stack_paid g c = omega (arith, (ap (λ (m : Meter). m.spent) (c.in_err-write_text-in_default-next.ensures.err).1), c.loop-next.invariant.5)
+
+pub returns-in_err-write_text-in_default-next-clause-may_come : goal.returns-in_err-write_text-in_default-next-clause-may_come
+returns-in_err-write_text-in_default-next-clause-may_come g c = c.loop-next.invariant.0
+
+pub returns-in_err-write_text-in_default-next-clause-limit : goal.returns-in_err-write_text-in_default-next-clause-limit
+returns-in_err-write_text-in_default-next-clause-limit g c = omega (arith, c.write_text.ensures.limit, c.loop-next.invariant.6)
+
+pub returns-in_err-write_text-in_default-next-clause-entry_room : goal.returns-in_err-write_text-in_default-next-clause-entry_room
+returns-in_err-write_text-in_default-next-clause-entry_room g c = c.loop-next.invariant.7
+
+pub returns-in_err-write_text-in_default-next-clause-text_room : goal.returns-in_err-write_text-in_default-next-clause-text_room
+returns-in_err-write_text-in_default-next-clause-text_room g c = omega (arith, c.write_text.ensures.room, c.loop-next.invariant.8)
+
+pub returns-in_err-write_text-in_default-next-clause-own : goal.returns-in_err-write_text-in_default-next-clause-own
+returns-in_err-write_text-in_default-next-clause-own g c =
+    let p = err_from_is_err_and c.from_residual-in_err-write_text-in_default-next.result c.from_residual-in_err-write_text-in_default-next.ensures.1 in
+    rw (p.1, p.2) c.in_err-write_text-in_default-next.ensures.own
+
+pub returns-clause-paid : goal.returns-clause-paid
+returns-clause-paid g c = c.loop-next.invariant.4
+
+pub returns-clause-stack_paid : goal.returns-clause-stack_paid
+returns-clause-stack_paid g c = c.loop-next.invariant.5
+
+pub returns-clause-may_come : goal.returns-clause-may_come
+returns-clause-may_come g c = c.loop-next.invariant.0
+
+pub returns-clause-text : goal.returns-clause-text
+returns-clause-text g c = c.loop-next.invariant.1
+
+pub returns-clause-cost : goal.returns-clause-cost
+returns-clause-cost g c = c.loop-next.invariant.2
+
+pub returns-clause-steps : goal.returns-clause-steps
+returns-clause-steps g c = c.loop-next.invariant.3
+
+pub returns-clause-limit : goal.returns-clause-limit
+returns-clause-limit g c = c.loop-next.invariant.6
+
+pub returns-clause-entry_room : goal.returns-clause-entry_room
+returns-clause-entry_room g c = c.loop-next.invariant.7
+
+pub returns-clause-text_room : goal.returns-clause-text_room
+returns-clause-text_room g c = c.loop-next.invariant.8
+
+pub returns-clause-own : goal.returns-clause-own
+returns-clause-own g c = tt
+
+pub loop-next-preserved-in-Continue-1 : goal.loop-next-preserved-in-Continue-1
+loop-next-preserved-in-Continue-1 g c = (
+  c.open_item.ensures.may_come,
+  ap (λ t. c.loop-next.text.items ++ t) c.open_item.ensures.text ∙ c.loop-next.invariant.1,
+  omega (arith, c.open_item.ensures.cost, c.loop-next.invariant.2),
+  omega (arith, c.open_item.ensures.remaining, c.loop-next.invariant.3),
+  omega (arith, c.in_ok-open_item-in-Sub.ensures.spent, c.loop-next.invariant.4),
+  c.open_item.ensures.paid,
+  omega (arith, c.open_item.ensures.limit, c.loop-next.invariant.6),
+  omega (arith, c.open_item.ensures.room, c.loop-next.invariant.7),
+  c.loop-next.invariant.8,
+)
