@@ -244,9 +244,10 @@ def time_functions(name, copy):
     for at, file in files:
         # (a module's file is written as its check ends, and at one job they are checked one after the other)
         seconds, last = (at - last) * took / lasted, at
-        found = re.match(r"Rattle-\w+-proofs\.(.*)\.(\w+)\.oantt", file)
-        is_part = found and found.group(2) in PARTS
-        function, part = found.groups() if is_part else (file.removesuffix(".oantt"), "")
+        names, part = file.removesuffix(".oantt").partition("-proofs.")[2].split("."), ""
+        while len(names) > 1 and names[-1] in PARTS:
+            part = names.pop()
+        function = ".".join(names) if part else file.removesuffix(".oantt")
         by_function[function][{"Lts": "code", "Proof": "goals"}.get(part, "rest" if part else "files")] += seconds
     goals, columns = goals_by_text(crate), ["code", "goals", "rest", "files"]
     print(f"{'seconds':>8}" + "".join(f"{it:>8}" for it in columns) + "  clauses x ways out")
