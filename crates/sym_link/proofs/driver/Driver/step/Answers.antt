@@ -1,4 +1,6 @@
-use Rattle.std.proofs.Common.{refl, ◌∙◌}
+use Rattle.std.proofs.Common.{refl, ◌∙◌, arith, Bool, true, false}
+use Rattle.sym_core.specs.declared.refusal.Refusal.TheVariants.{Memory as memory}
+use Rattle.sym_shape.proofs.Keeping.{never_both, never_ok, never_err, never_true}
 use Rattle.sym_link.proofs.Driving.{driving_on, step_moved, step_done, step_refused, refused_answer, none_kept}
 use Rattle.sym_link.specs.Linking.{TokenTakesMemory, all_lists}
 use Rattle.sym_link.proofs.Room.{room_same, only_refused}
@@ -51,3 +53,93 @@ returns-in-Err-clause-full g c none =
     rw (c.refuse.ensures.frames, c.refuse.ensures.parts)
     (only_refused (TokenTakesMemory view c.args.symbol.now) (TokenTakesMemory view c.args.symbol.now) before before after_move c.in-Err.refusal (λ more. more) (room_same before)
     (λ is. c.advance-moved.ensures.full (c.in-Err.is ∙ is)))
+
+pub returns-in-Some-clause-driving : goal.returns-in-Some-clause-driving
+returns-in-Some-clause-driving g c tree is driving = driving
+
+pub returns-in-Some-clause-nodes : goal.returns-in-Some-clause-nodes
+returns-in-Some-clause-nodes g c = omega arith
+
+pub returns-in-Some-clause-language : goal.returns-in-Some-clause-language
+returns-in-Some-clause-language g c is = absurd (never_ok Bool c.in-Some.refusal true is)
+
+pub returns-in-Some-clause-frames : goal.returns-in-Some-clause-frames
+returns-in-Some-clause-frames g c is = absurd (never_ok Bool c.in-Some.refusal true is)
+
+pub returns-in-Some-clause-parts : goal.returns-in-Some-clause-parts
+returns-in-Some-clause-parts g c is = absurd (never_ok Bool c.in-Some.refusal true is)
+
+pub returns-in-Some-clause-next : goal.returns-in-Some-clause-next
+returns-in-Some-clause-next g c is = absurd (never_ok Bool c.in-Some.refusal true is)
+
+pub returns-in-Some-clause-closed : goal.returns-in-Some-clause-closed
+returns-in-Some-clause-closed g c is = absurd (never_ok Bool c.in-Some.refusal true is)
+
+pub returns-in-Some-clause-begun : goal.returns-in-Some-clause-begun
+returns-in-Some-clause-begun g c is = absurd (never_ok Bool c.in-Some.refusal true is)
+
+pub returns-in-Some-clause-over : goal.returns-in-Some-clause-over
+returns-in-Some-clause-over g c none = absurd (never_both c.args.self.now.refused c.in-Some.refusal c.in-Some.is none)
+
+pub returns-in-Some-clause-again : goal.returns-in-Some-clause-again
+returns-in-Some-clause-again g c = rw c.in-Some.is (refl, refl)
+
+pub returns-in-Some-clause-full : goal.returns-in-Some-clause-full
+returns-in-Some-clause-full g c none = absurd (never_both c.args.self.now.refused c.in-Some.refusal c.in-Some.is none)
+
+pub returns-in-Some-behind-clause-language : goal.returns-in-Some-behind-clause-language
+returns-in-Some-behind-clause-language g c is = absurd (never_true is)
+
+pub returns-in-Some-behind-clause-frames : goal.returns-in-Some-behind-clause-frames
+returns-in-Some-behind-clause-frames g c is = absurd (never_true is)
+
+pub returns-in-Some-behind-clause-parts : goal.returns-in-Some-behind-clause-parts
+returns-in-Some-behind-clause-parts g c is = absurd (never_true is)
+
+pub returns-in-Some-behind-clause-next : goal.returns-in-Some-behind-clause-next
+returns-in-Some-behind-clause-next g c is = absurd (never_true is)
+
+pub returns-in-Some-behind-clause-closed : goal.returns-in-Some-behind-clause-closed
+returns-in-Some-behind-clause-closed g c is = absurd (never_true is)
+
+pub returns-in-Some-behind-clause-begun : goal.returns-in-Some-behind-clause-begun
+returns-in-Some-behind-clause-begun g c is = absurd (never_true is)
+
+pub returns-in-Some-behind-clause-again : goal.returns-in-Some-behind-clause-again
+returns-in-Some-behind-clause-again g c = rw (none_kept c.args.self.now.refused c.in_default.not-Some) tt
+
+pub returns-in-Some-behind-clause-keeps : goal.returns-in-Some-behind-clause-keeps
+returns-in-Some-behind-clause-keeps g c = c.advance-moved.ensures.keeps
+
+pub returns-in-Some-behind-clause-full : goal.returns-in-Some-behind-clause-full
+returns-in-Some-behind-clause-full g c none is = absurd (never_err Bool false memory is)
+
+pub returns-in-None-clause-again : goal.returns-in-None-clause-again
+returns-in-None-clause-again g c = rw (none_kept c.args.self.now.refused c.in_default.not-Some) tt
+
+pub returns-in-None-clause-keeps : goal.returns-in-None-clause-keeps
+returns-in-None-clause-keeps g c = c.advance-moved.ensures.keeps
+
+pub returns-in-None-clause-full : goal.returns-in-None-clause-full
+returns-in-None-clause-full g c none is = absurd (never_err Bool true memory is)
+
+pub returns-in-Err-clause-language : goal.returns-in-Err-clause-language
+returns-in-Err-clause-language g c is = absurd (never_ok Bool c.in-Err.refusal true is)
+
+pub returns-in-Err-clause-frames : goal.returns-in-Err-clause-frames
+returns-in-Err-clause-frames g c is = absurd (never_ok Bool c.in-Err.refusal true is)
+
+pub returns-in-Err-clause-parts : goal.returns-in-Err-clause-parts
+returns-in-Err-clause-parts g c is = absurd (never_ok Bool c.in-Err.refusal true is)
+
+pub returns-in-Err-clause-next : goal.returns-in-Err-clause-next
+returns-in-Err-clause-next g c is = absurd (never_ok Bool c.in-Err.refusal true is)
+
+pub returns-in-Err-clause-closed : goal.returns-in-Err-clause-closed
+returns-in-Err-clause-closed g c is = absurd (never_ok Bool c.in-Err.refusal true is)
+
+pub returns-in-Err-clause-begun : goal.returns-in-Err-clause-begun
+returns-in-Err-clause-begun g c is = absurd (never_ok Bool c.in-Err.refusal true is)
+
+pub returns-in-Err-clause-again : goal.returns-in-Err-clause-again
+returns-in-Err-clause-again g c = rw (none_kept c.args.self.now.refused c.in_default.not-Some) tt
