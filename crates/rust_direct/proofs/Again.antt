@@ -16,7 +16,7 @@ use Rattle.rust_direct.specs.Notes.{home, IsNote, NotesEnded, NotedAs, IsNumbere
 use Rattle.rust_direct.specs.Written.{Writes, piece}
 use Rattle.rust_direct.specs.Stands.{AreNotesOf}
 use Rattle.rust_direct.specs.Awaits.{Awaits, IsEnded}
-use Rattle.rust_direct.proofs.Kept.{notes-written, piece-found}
+use Rattle.rust_direct.proofs.Kept.{keeps-written, piece-found}
 use Rattle.rust_direct.proofs.MovesOfTypes.{path-referred}
 use Rattle.rust_direct.proofs.PathsRead.{path-says, stands-written}
 
@@ -60,7 +60,7 @@ pub path-repeated : (s : List ℕ) (old middle : Direct) (from n end k : ℕ) (n
     → IsEnded s (record middle { at = end }) old.at from note.forms note.forms
 path-repeated s old middle from n end k note awaits letter number numbered noted is from_is writes =
     let r = awaits.awaited in
-    let found = note-found old awaits.state (n + 2) k note awaits.notes numbered noted in
+    let found = note-found old awaits.state (n + 2) k note awaits.keeps.0 numbered noted in
     let own = found.2 in
     let said = path-said note.forms found.0 own.bytes is own.says in
     let p = said.0 in
@@ -71,7 +71,7 @@ path-repeated s old middle from n end k note awaits letter number numbered noted
     let told = path-says note.forms p bytes is said.2 in
     record {
       before = awaits.state;
-      notes = notes-written old middle bytes awaits.state write awaits.notes;
+      keeps = keeps-written s old middle bytes awaits.state write awaits.keeps;
       os = r.os;
       v = a_path p;
       front = old.text.list.items;

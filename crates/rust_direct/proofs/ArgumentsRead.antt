@@ -20,9 +20,9 @@ use Rattle.rust_direct.specs.Holes.{Comes, Expects, within, Wanted, path, other_
 use Rattle.rust_direct.specs.Prints.{PathPrints, TypePrints, opening}
 use Rattle.rust_direct.specs.Says.{PathHas, Holds, has_form, is_type, form_of, is_path}
 use Rattle.rust_direct.specs.Written.{Writes, Pushes}
-use Rattle.rust_direct.specs.Stands.{Stands, IsWriting, AreNotesOf, parked_of, separator_of}
+use Rattle.rust_direct.specs.Stands.{Stands, IsWriting, Keeps, parked_of, separator_of}
 use Rattle.rust_direct.specs.Awaits.{Awaits, AwaitsPath, AwaitsArgument, Arrives, IsEnded}
-use Rattle.rust_direct.proofs.Kept.{notes-written, reverse-last}
+use Rattle.rust_direct.proofs.Kept.{keeps-same, keeps-written, reverse-last}
 use Rattle.rust_direct.proofs.Moves.{expects-moved}
 use Rattle.rust_direct.proofs.MovesOfArguments.{generic_awaits, generic-opens, generic-goes-on, type_awaits, argument-opens, argument-goes-on, lifetime-goes-on, arguments-close}
 use Rattle.rust_direct.proofs.MovesOfTypes.{basic-comes}
@@ -35,14 +35,14 @@ use Rattle.rust_direct.proofs.PathsRead.{form-held, path-says, stands-written, w
 -- the path is expected that arguments belong to
 pub generic-begun : (s : List ℕ) (old new : Direct) (is_value : Bool) → AwaitsPath s old → StandsAt s old.at (73 ∷ [])
     → new.waiting.list.items ≡ old.waiting.list.items ++ opens.Generic is_value old.at ∷ []
-    → new.at ≡ old.at + 1 → new.text ≡ old.text → new.aside ≡ old.aside → new.is_aside ≡ old.is_aside → new.notes ≡ old.notes
-    → new.numbers ≡ old.numbers → Awaits s new false
-generic-begun s old new is_value awaits letter waiting at text aside is_aside notes numbers =
+    → new.waiting.room ≡ old.waiting.room → new.at ≡ old.at + 1 → new.text ≡ old.text → new.aside ≡ old.aside → new.is_aside ≡ old.is_aside
+    → new.notes ≡ old.notes → new.numbers ≡ old.numbers → Awaits s new false
+generic-begun s old new is_value awaits letter waiting room at text aside is_aside notes numbers =
     let a = awaits.1 in
     let r = a.awaited in
     record {
       state = within Production.Generic a.state;
-      notes = rw (text, aside, is_aside, notes, numbers) a.notes;
+      keeps = keeps-same s old new a.state text aside is_aside notes numbers room a.keeps;
       awaited = record {
         wanted = path;
         is_for = refl;
@@ -57,8 +57,8 @@ generic-begun s old new is_value awaits letter waiting at text aside is_aside no
 
 -- ## Something waits from here on
 
-pub notes-pushed : (old new : Direct) (entry : Open) (st : State) → Pushes old new entry → AreNotesOf old st → AreNotesOf new st
-notes-pushed old new entry st p h = rw (p.text, p.aside, p.is_aside, p.notes, p.numbers) h
+pub keeps-pushed : (s : List ℕ) (old new : Direct) (entry : Open) (st : State) → Pushes old new entry → Keeps s old st → Keeps s new st
+keeps-pushed s old new entry st p h = keeps-same s old new st p.text p.aside p.is_aside p.notes p.numbers p.room h
 
 pub parked-pushed : (old new : Direct) (entry : Open) → Pushes old new entry → parked_of new ≡ parked_of old
 parked-pushed old new entry p = rw (p.aside, p.is_aside) refl
@@ -82,7 +82,7 @@ generic-read s old middle new is_value place from f arrives is writes pushes =
     let goes = waits.1 p old.at arrives.state (subst (λ v. Comes s r.os v old.at arrives.state) held.1 r.comes) in
     record {
       state = arrives.state;
-      notes = notes-pushed middle new entry arrives.state pushes (notes-written old middle (opening is_value) arrives.state writes arrives.notes);
+      keeps = keeps-pushed s middle new entry arrives.state pushes (keeps-written s old middle (opening is_value) arrives.state writes arrives.keeps);
       is_before = record {
         place = place;
         from = from;
@@ -137,7 +137,7 @@ basic-read s old middle from letter end awaits stands filled from_is end_is writ
     let told : Holds forms.Typed (a_type t) bytes = (t, refl, prints) in
     record {
       before = awaits.state;
-      notes = notes-written (record old { at = end }) middle bytes awaits.state writes awaits.notes;
+      keeps = keeps-written s (record old { at = end }) middle bytes awaits.state writes awaits.keeps;
       os = r.os;
       v = a_type t;
       front = old.text.list.items;
@@ -168,7 +168,7 @@ argument-awaited s w is_first p =
     let st = within g.production p.state in
     record {
       state = within Production.TypeArgument p.state;
-      notes = p.notes;
+      keeps = p.keeps;
       is_before = record {
         wanted = type;
         is_for = refl;
@@ -211,7 +211,7 @@ argument-read s old new place from here is_value f arrives is pushes =
     let entry = opens.Argument place from is_value in
     record {
       state = arrives.state;
-      notes = notes-pushed old new entry arrives.state pushes arrives.notes;
+      keeps = keeps-pushed s old new entry arrives.state pushes arrives.keeps;
       is_before = record {
         place = place;
         from = from;
@@ -240,7 +240,7 @@ argument-separated s old new p writes =
     let l = p.is_before in
     record {
       state = p.state;
-      notes = notes-written old new (codes ", ") p.state writes p.notes;
+      keeps = keeps-written s old new (codes ", ") p.state writes p.keeps;
       before = old.text.list.items;
       written = writes.text;
       listing = record {
@@ -268,7 +268,7 @@ argument-separated s old new p writes =
 pub argument-first : (s : List ℕ) (w : Direct) → IsWriting s w (steps.Arguments true) → AwaitsArgument s w true
 argument-first s w p = record {
   state = p.state;
-  notes = p.notes;
+  keeps = p.keeps;
   before = w.text.list.items;
   written = sym (append-nil w.text.list.items);
   listing = p.is_before;
@@ -283,7 +283,7 @@ lifetime-read s old middle is_first end p letter mark end_is writes =
     let separator = separator_of is_first in
     record {
       state = p.state;
-      notes = notes-written (record old { at = end }) middle (codes "'_") p.state writes p.notes;
+      keeps = keeps-written s (record old { at = end }) middle (codes "'_") p.state writes p.keeps;
       is_before = record {
         place = l.place;
         from = l.from;
@@ -319,9 +319,10 @@ closed front own opened bytes = append_assoc front (own ++ opened ++ bytes) (cod
 arguments-written : (s : List ℕ) (old popped middle : Direct) (is_first : Bool) (p : IsWriting s old (steps.Arguments is_first))
     → StandsAt s old.at (69 ∷ []) → reverse popped.waiting.list.items ≡ p.is_before.rest
     → popped.text ≡ old.text → popped.aside ≡ old.aside → popped.is_aside ≡ old.is_aside → popped.notes ≡ old.notes → popped.numbers ≡ old.numbers
+    → popped.waiting.room ≡ old.waiting.room
     → popped.at ≡ old.at + 1 → Writes popped middle (codes ">")
     → IsEnded s middle p.is_before.place p.is_before.from (form_of p.is_before.is_value) (form_of p.is_before.is_value)
-arguments-written s old popped middle is_first p stands rest text aside is_aside notes numbers at writes =
+arguments-written s old popped middle is_first p stands rest text aside is_aside notes numbers room at writes =
     let l = p.is_before in
     let made = tree.generic l.p (l.made tree.no_arguments) in
     let bytes = l.own ++ opening l.is_value ++ l.bytes ++ codes ">" in
@@ -330,7 +331,7 @@ arguments-written s old popped middle is_first p stands rest text aside is_aside
     let told = path-says (form_of l.is_value) made bytes form.1 form.0 in
     record {
       before = p.state;
-      notes = notes-written popped middle (codes ">") p.state writes (rw (text, aside, is_aside, notes, numbers) p.notes);
+      keeps = keeps-written s popped middle (codes ">") p.state writes (keeps-same s old popped p.state text aside is_aside notes numbers room p.keeps);
       os = l.outer;
       v = a_path made;
       front = l.front;
@@ -347,8 +348,9 @@ pub arguments-read : (s : List ℕ) (old popped middle : Direct) (is_first is_va
     → IsWriting s old (steps.Arguments is_first) → StandsAt s old.at (69 ∷ [])
     → old.waiting.list.items ≡ popped.waiting.list.items ++ option_to_list o → o ≡ Some (opens.Argument place from is_value)
     → popped.text ≡ old.text → popped.aside ≡ old.aside → popped.is_aside ≡ old.is_aside → popped.notes ≡ old.notes → popped.numbers ≡ old.numbers
+    → popped.waiting.room ≡ old.waiting.room
     → popped.at ≡ old.at + 1 → Writes popped middle (codes ">") → IsEnded s middle place from (form_of is_value) (form_of is_value)
-arguments-read s old popped middle is_first is_value place from o p stands items is text aside is_aside notes numbers at writes =
+arguments-read s old popped middle is_first is_value place from o p stands items is text aside is_aside notes numbers room at writes =
     let l = p.is_before in
     let entry = opens.Argument place from is_value in
     let e : entry ∷ reverse popped.waiting.list.items ≡ opens.Argument l.place l.from l.is_value ∷ l.rest =
@@ -360,4 +362,4 @@ arguments-read s old popped middle is_first is_value place from o p stands items
     subst (λ k. IsEnded s middle k from (form_of is_value) (form_of is_value)) same_place
     (subst (λ k. IsEnded s middle l.place k (form_of is_value) (form_of is_value)) same_from
     (subst (λ b. IsEnded s middle l.place l.from (form_of b) (form_of b)) same_value
-    (arguments-written s old popped middle is_first p stands same_rest text aside is_aside notes numbers at writes)))
+    (arguments-written s old popped middle is_first p stands same_rest text aside is_aside notes numbers room at writes)))

@@ -16,14 +16,14 @@ use Rattle.rust_direct.specs.Says.{Holds, has_form}
 use Rattle.rust_direct.specs.Written.{Writes, Pushes, Opens}
 use Rattle.rust_direct.specs.Stands.{Stands, IsWriting, parked_of}
 use Rattle.rust_direct.specs.Awaits.{Awaits, Arrives, IsEnded}
-use Rattle.rust_direct.proofs.Kept.{notes-written}
+use Rattle.rust_direct.proofs.Kept.{keeps-written}
 use Rattle.rust_direct.proofs.Moves.{expects-moved}
 use Rattle.rust_direct.proofs.MovesOfBounds.{bound_awaits, dyn-opens, bound-opens, bound-goes-on, bounds-close}
 use Rattle.rust_direct.proofs.PrintedBounds.{no-bounds-begin, bound-begins, dyn-prints}
 use Rattle.rust_direct.proofs.PathsRead.{stands-written, form-held}
-use Rattle.rust_direct.proofs.ArgumentsRead.{notes-pushed, parked-pushed, turned}
+use Rattle.rust_direct.proofs.ArgumentsRead.{keeps-pushed, parked-pushed, turned}
 use Rattle.rust_direct.proofs.TypesRead.{type-expected}
-use Rattle.rust_direct.proofs.Opened.{notes-opened, stands-opened}
+use Rattle.rust_direct.proofs.Opened.{keeps-opened, stands-opened}
 
 -- the first bound of a `dyn` is expected
 pub dyn-begun : (s : List ℕ) (old new : Direct) (from behind : ℕ) → Awaits s old true → StandsAt s old.at (68 ∷ []) → behind ≡ old.at + 1
@@ -36,7 +36,7 @@ dyn-begun s old new from behind a letter next from_is opened =
     let os = bound_awaits (old.at + 1) st goes.inner in
     record {
       state = within Production.BoundsMore st;
-      notes = notes-opened old new (codes "dyn ") entry behind a.state opened a.notes;
+      keeps = keeps-opened s old new (codes "dyn ") entry behind a.state opened a.keeps;
       is_before = record {
         wanted = path;
         is_for = refl;
@@ -82,7 +82,7 @@ bound-read s old middle new place from here f arrives is writes pushes =
     let entry = opens.Dyn place from in
     record {
       state = within Production.BoundsMore st;
-      notes = notes-pushed middle new entry arrives.state pushes (notes-written old middle (codes " + ") arrives.state writes arrives.notes);
+      keeps = keeps-pushed s middle new entry arrives.state pushes (keeps-written s old middle (codes " + ") arrives.state writes arrives.keeps);
       is_before = record {
         wanted = path;
         is_for = refl;
@@ -123,7 +123,7 @@ dyn-read s old place from here end f arrives letter lifetime digits is end_is =
     (whole, refl, dyn-prints made own (bound-begins waits.2 waits.4 waits.3 p r.bytes waits.6 held.2)) in
     record {
       before = arrives.state;
-      notes = arrives.notes;
+      keeps = arrives.keeps;
       os = waits.0;
       v = a_type whole;
       front = waits.1;

@@ -17,13 +17,13 @@ use Rattle.rust_direct.specs.Written.{Writes, Notes, Pushes}
 use Rattle.rust_direct.specs.Constants.{sign_text, IsHexAt, IsConstantAt, BeginsInteger, WritesConstant}
 use Rattle.rust_direct.specs.Stands.{Stands, IsWriting, parked_of, separator_of}
 use Rattle.rust_direct.specs.Awaits.{Awaits, AwaitsArgument, Arrives, IsEnded}
-use Rattle.rust_direct.proofs.Kept.{notes-written, notes-noted}
+use Rattle.rust_direct.proofs.Kept.{keeps-written, keeps-noted}
 use Rattle.rust_direct.proofs.Moves.{expects-moved}
 use Rattle.rust_direct.proofs.MovesOfConstants.{false-comes, true-comes, placeholder-comes, constant-goes-on, array-opens}
 use Rattle.rust_direct.proofs.PrintedSpecials.{integer-prints, false-prints, true-prints, placeholder-prints, constant-begins}
 use Rattle.rust_direct.proofs.PrintedTypes.{array-prints}
 use Rattle.rust_direct.proofs.PathsRead.{stands-written}
-use Rattle.rust_direct.proofs.ArgumentsRead.{notes-pushed, parked-pushed, parked-written, turned, type-held, joined}
+use Rattle.rust_direct.proofs.ArgumentsRead.{keeps-pushed, parked-pushed, parked-written, turned, type-held, joined}
 use Rattle.rust_direct.proofs.TypesRead.{type-expected}
 use Rattle.rust_direct.proofs.SpecialsRead.{writes-both}
 
@@ -64,8 +64,8 @@ constant-read s old two three is_first place from end awaits stands place_is fro
     let separator = separator_of is_first in
     record {
       state = with_ended place (a_constant c) st;
-      notes = notes-noted two three place from forms.Unnamed st (a_constant c) old.text.list.items own notes
-          (notes-written old two own st writes awaits.notes) writes.text from_is tt;
+      keeps = keeps-noted s two three place from forms.Unnamed st (a_constant c) old.text.list.items own notes
+          (keeps-written s old two own st writes awaits.keeps) writes.text from_is tt;
       is_before = record {
         place = l.place;
         from = l.from;
@@ -104,7 +104,7 @@ array-begun s old middle new from end awaits stands from_is end_is writes pushes
     let entry = opens.Array old.at from in
     record {
       state = within goes.production st;
-      notes = notes-pushed middle new entry st pushes (notes-written (record old { at = end }) middle (codes "[") st writes awaits.notes);
+      keeps = keeps-pushed s middle new entry st pushes (keeps-written s (record old { at = end }) middle (codes "[") st writes awaits.keeps);
       is_before = record {
         wanted = type;
         is_for = refl;
@@ -148,9 +148,9 @@ array-read s old one two three four place from here begins end f arrives is firs
     let told : Holds forms.Typed (a_type made) bytes = (made, refl, array-prints t r.bytes c own held.2 wrote.shows) in
     record {
       before = after;
-      notes = notes-written (record three { at = end }) four (codes "]") after last
-          (notes-noted two three old.at begins forms.Unnamed st (a_constant c) one.text.list.items own notes
-          (notes-written one two own st wrote.writes (notes-written old one (codes "; ") st first arrives.notes)) wrote.writes.text begins_is tt);
+      keeps = keeps-written s (record three { at = end }) four (codes "]") after last
+          (keeps-noted s two three old.at begins forms.Unnamed st (a_constant c) one.text.list.items own notes
+          (keeps-written s one two own st wrote.writes (keeps-written s old one (codes "; ") st first arrives.keeps)) wrote.writes.text begins_is tt);
       os = waits.0;
       v = a_type made;
       front = waits.1;

@@ -14,20 +14,21 @@ use Rattle.rust_direct.specs.Says.{Holds, is_type, is_path}
 use Rattle.rust_direct.specs.Written.{Writes, Pushes}
 use Rattle.rust_direct.specs.Stands.{Stands, IsWriting, parked_of}
 use Rattle.rust_direct.specs.Awaits.{AwaitsPath, AwaitsImplType, Arrives, IsEnded}
-use Rattle.rust_direct.proofs.Kept.{notes-written, notes-turned}
+use Rattle.rust_direct.proofs.Kept.{keeps-written, keeps-turned}
 use Rattle.rust_direct.proofs.MovesOfTypes.{impl-opens}
 use Rattle.rust_direct.proofs.PrintedPaths.{impl-prints}
 use Rattle.rust_direct.proofs.PathsRead.{path-held, path-says, stands-written, waits-too}
 use Rattle.rust_direct.proofs.Again.{path-needs}
-use Rattle.rust_direct.proofs.ArgumentsRead.{type-held, notes-pushed, parked-pushed, turned}
+use Rattle.rust_direct.proofs.ArgumentsRead.{type-held, keeps-pushed, parked-pushed, turned}
 use Rattle.rust_direct.proofs.Opened.{wrapped}
 
 -- the path of an impl is expected, which isn't shown
 pub impl-begun : (s : List ℕ) (old new : Direct) (count end : ℕ) (plain : Bool) → AwaitsPath s old → StandsAt s old.at (77 ∷ [])
     → IsDisambiguatorAt s (old.at + 1) count end → old.is_aside ≡ false → new.waiting.list.items ≡ old.waiting.list.items ++ opens.Impl old.at ∷ []
+    → new.waiting.room ≡ old.waiting.room
     → new.text ≡ old.aside → new.aside ≡ old.text → new.is_aside ≡ not old.is_aside → new.notes ≡ old.notes → new.numbers ≡ old.numbers → new.at ≡ end
     → IsWriting s new (steps.Path plain)
-impl-begun s old new count end plain awaits letter counted shown waiting text aside is_aside notes numbers at =
+impl-begun s old new count end plain awaits letter counted shown waiting room text aside is_aside notes numbers at =
     let a = awaits.1 in
     let r = a.awaited in
     let goes = impl-opens s r.wanted r.os old.at a.state count end r.awaits letter counted in
@@ -36,8 +37,7 @@ impl-begun s old new count end plain awaits letter counted shown waiting text as
     let none : parked_of old ≡ [] = ap (λ b. cond b old.aside.list.items []) shown in
     record {
       state = within goes.production a.state;
-      notes = rw (text, aside, is_aside, notes, numbers)
-          (notes-turned old.is_aside old.text.list.items old.aside.list.items old.notes.list.items old.numbers.items a.state.ended a.notes);
+      keeps = keeps-turned s old new a.state text aside is_aside notes numbers room a.keeps;
       is_before = record {
         wanted = path;
         is_for = refl;
@@ -69,8 +69,7 @@ impl-path-read s old shown place here f arrives is hidden text aside is_aside no
     let without : parked_of shown ≡ [] = ap (λ b. cond b shown.aside.list.items []) (is_aside ∙ ap not hidden) in
     record {
       state = arrives.state;
-      notes = rw (text, aside, is_aside, notes, numbers)
-          (notes-turned old.is_aside old.text.list.items old.aside.list.items old.notes.list.items old.numbers.items arrives.state.ended arrives.notes);
+      keeps = keeps-turned s old shown arrives.state text aside is_aside notes numbers (ap (λ l. l.room) waiting) arrives.keeps;
       outer = waits.0;
       made = waits.1 q;
       prints = λ value t bytes prints. waits.2 value q t bytes none prints;
@@ -85,7 +84,7 @@ impl-typed s old middle new place from a from_is writes pushes =
     let entry = opens.Wrap place from closings.Angle in
     record {
       state = within a.goes.production a.state;
-      notes = notes-pushed middle new entry a.state pushes (notes-written old middle (codes "<") a.state writes a.notes);
+      keeps = keeps-pushed s middle new entry a.state pushes (keeps-written s old middle (codes "<") a.state writes a.keeps);
       is_before = record {
         wanted = type;
         is_for = refl;
@@ -119,7 +118,7 @@ angle-read s old middle place from here f arrives is writes =
     let told = path-says forms.Alike holds.0 bytes refl holds.2 in
     record {
       before = arrives.state;
-      notes = notes-written old middle (codes ">") arrives.state writes arrives.notes;
+      keeps = keeps-written s old middle (codes ">") arrives.state writes arrives.keeps;
       os = waits.0;
       v = a_path holds.0;
       front = waits.1;

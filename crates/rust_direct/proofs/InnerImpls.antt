@@ -14,7 +14,7 @@ use Rattle.rust_direct.specs.Stands.{Stands, IsWriting, IsUnbegun, parked_of}
 use Rattle.rust_direct.specs.Awaits.{AwaitsPath, AwaitsImplType, AwaitsTraitType, Arrives}
 use Rattle.rust_direct.proofs.Again.{path-needs}
 use Rattle.rust_direct.proofs.MovesOfTypes.{impl-opens, trait-opens}
-use Rattle.rust_direct.proofs.Opened.{notes-opened, stands-opened}
+use Rattle.rust_direct.proofs.Opened.{keeps-opened, stands-opened}
 use Rattle.rust_direct.proofs.PathsRead.{path-held}
 use Rattle.rust_direct.proofs.PrintedPaths.{impl-prints, trait-prints}
 
@@ -42,7 +42,7 @@ inner-impl-begun s old new count end plain awaits letter counted unbegun opened 
     let goes = impl-opens s r.wanted r.os old.at a.state count end r.awaits letter counted in
     record {
       state = within goes.production a.state;
-      notes = notes-opened old new [] entry end a.state opened a.notes;
+      keeps = keeps-opened s old new [] entry end a.state opened a.keeps;
       is_before = record {
         wanted = path;
         is_for = refl;
@@ -69,7 +69,7 @@ inner-impl-path-read s w place here f arrives is =
     let none = path-needs f q r.bytes held.2 in
     record {
       state = arrives.state;
-      notes = arrives.notes;
+      keeps = arrives.keeps;
       outer = waits.0;
       made = waits.1 q;
       prints = λ value t bytes prints. waits.2 value q t bytes none prints;
@@ -88,7 +88,7 @@ inner-trait-begun s old new count end plain awaits letter counted unbegun opened
     let goes = trait-opens s r.wanted r.os old.at a.state count end r.awaits letter counted in
     record {
       state = within goes.production a.state;
-      notes = notes-opened old new [] entry end a.state opened a.notes;
+      keeps = keeps-opened s old new [] entry end a.state opened a.keeps;
       is_before = record {
         wanted = path;
         is_for = refl;
@@ -114,7 +114,7 @@ inner-trait-path-read s w place here f arrives is =
     let waits = r.stands in
     record {
       state = arrives.state;
-      notes = arrives.notes;
+      keeps = arrives.keeps;
       outer = waits.0;
       made = waits.1 q;
       prints = waits.2 q (path-needs f q r.bytes held.2);

@@ -2,7 +2,7 @@
 use Rattle.std.proofs.Common.{◌≡◌, ◌≢◌, ℕ, zero, suc, ◌+◌, ◌-◌, ◌<◌, ◌≤◌, length, List, [], ◌∷◌, ◌++◌, take, drop, reverse, slice_get, Bool, true, false, not, Option, Some, None, refl, ap, sym, ◌∙◌, subst, arith, append_assoc, append-nil, inl, inr}
 use Rattle.std.specs.Prelude.{slice_set, replicate, if◌then◌else◌}
 use Rattle.std.proofs.lemmas.Bool.{eq-eqb, ne_eqb, cases_eq}
-use Rattle.std.proofs.lemmas.List.{length-append, reverse-append}
+use Rattle.std.proofs.lemmas.List.{length-append, length-set, reverse-append}
 use Rattle.std.proofs.Math.Seq.{drop-append_seam, take-append_seam}
 use Rattle.rust_grammar.specs.Value.{Value, Ended, State}
 use Rattle.rust_grammar.specs.Unfold.{ended_at}
@@ -11,7 +11,7 @@ use Rattle.rust_direct.specs.declared.open.Forms.{Forms}
 use Rattle.rust_direct.specs.declared.direct.Direct.{Direct}
 use Rattle.rust_direct.specs.Says.{Says}
 use Rattle.rust_direct.specs.Notes.{home, IsNote, NotedAs, IsNumbered, AreNotes}
-use Rattle.rust_direct.specs.Stands.{AreNotesOf}
+use Rattle.rust_direct.specs.Stands.{AreNotesOf, AreRooms, HasRooms, Keeps}
 use Rattle.rust_direct.specs.Written.{Writes, Notes}
 use Rattle.rust_direct.specs.Holes.{with_ended}
 
@@ -54,7 +54,7 @@ notes-stay is_aside text aside more notes numbers ended p =
     λ place. numbered-stays is_aside text aside more notes (ended_at ended place) (slice_get numbers place) (p place)
 
 -- the same of a writer
-pub notes-written : (old new : Direct) (bytes : List ℕ) (st : State) → Writes old new bytes → AreNotesOf old st → AreNotesOf new st
+notes-written : (old new : Direct) (bytes : List ℕ) (st : State) → Writes old new bytes → AreNotesOf old st → AreNotesOf new st
 notes-written old new bytes st writes p =
     rw (writes.text, writes.aside, writes.is_aside, writes.notes, writes.numbers)
     (notes-stay old.is_aside old.text.list.items old.aside.list.items bytes old.notes.list.items old.numbers.items st.ended p)
@@ -80,7 +80,7 @@ numbered-turned is_aside text aside notes v None p = tt
 numbered-turned is_aside text aside notes v (Some zero) p = tt
 numbered-turned is_aside text aside notes v (Some (suc k)) p = noted-turned is_aside text aside (slice_get notes k) v p
 
-pub notes-turned : (is_aside : Bool) (text aside : List ℕ) (notes : List Note) (numbers : List ℕ) (ended : List Ended)
+notes-turned : (is_aside : Bool) (text aside : List ℕ) (notes : List Note) (numbers : List ℕ) (ended : List Ended)
     → AreNotes is_aside text aside notes numbers ended → AreNotes (not is_aside) aside text notes numbers ended
 notes-turned is_aside text aside notes numbers ended p =
     λ place. numbered-turned is_aside text aside notes (ended_at ended place) (slice_get numbers place) (p place)
@@ -152,7 +152,7 @@ notes-more is_aside text aside notes numbers ended n place v p inside is other =
         (numbered-more is_aside text aside notes n (ended_at ended other) (slice_get numbers other) (p other)))
 
 -- the same of a writer
-pub notes-noted : (old new : Direct) (place from : ℕ) (forms : Forms) (st : State) (v : Value) (front bytes : List ℕ) → Notes old new place from forms
+notes-noted : (old new : Direct) (place from : ℕ) (forms : Forms) (st : State) (v : Value) (front bytes : List ℕ) → Notes old new place from forms
     → AreNotesOf old st → old.text.list.items ≡ front ++ bytes → from ≡ length front → Says forms v bytes → AreNotesOf new (with_ended place v st)
 notes-noted old new place from forms st v front bytes noted p written from_is says =
     rw (noted.text, noted.aside, noted.is_aside, noted.notes, noted.numbers)
@@ -189,6 +189,52 @@ none-noted is_aside text aside n ended = λ place. zeros n place (ended_at ended
     zeros zero place v = tt
     zeros (suc n) zero v = tt
     zeros (suc n) (suc place) v = zeros n place v
+
+-- ## Rooms, and all that is kept
+
+-- the rooms stay so where the lists have the same
+pub rooms-same : (s : List ℕ) (old new : Direct) → new.text.room ≡ old.text.room → new.aside.room ≡ old.aside.room → new.notes.room ≡ old.notes.room
+    → length new.numbers.items ≡ length old.numbers.items → new.waiting.room ≡ old.waiting.room → HasRooms s old → HasRooms s new
+rooms-same s old new text aside notes numbers waiting p = rw (text, aside, notes, numbers, waiting) p
+
+-- nothing changes but what is open, and its room stays
+pub keeps-same : (s : List ℕ) (old new : Direct) (st : State) → new.text ≡ old.text → new.aside ≡ old.aside → new.is_aside ≡ old.is_aside
+    → new.notes ≡ old.notes → new.numbers ≡ old.numbers → new.waiting.room ≡ old.waiting.room → Keeps s old st → Keeps s new st
+keeps-same s old new st text aside is_aside notes numbers waiting p = rw (text, aside, is_aside, notes, numbers, waiting) p
+
+-- more is written
+pub keeps-written : (s : List ℕ) (old new : Direct) (bytes : List ℕ) (st : State) → Writes old new bytes → Keeps s old st → Keeps s new st
+keeps-written s old new bytes st w p = (
+  notes-written old new bytes st w p.0,
+  rooms-same s old new w.room (ap (λ l. l.room) w.aside) (ap (λ l. l.room) w.notes) (ap (λ l. length l.items) w.numbers)
+      (ap (λ l. l.room) w.waiting) p.1,
+)
+
+-- the other text is written to
+pub keeps-turned : (s : List ℕ) (old new : Direct) (st : State) → new.text ≡ old.aside → new.aside ≡ old.text → new.is_aside ≡ not old.is_aside
+    → new.notes ≡ old.notes → new.numbers ≡ old.numbers → new.waiting.room ≡ old.waiting.room → Keeps s old st → Keeps s new st
+keeps-turned s old new st text aside is_aside notes numbers waiting p =
+    let rooms : AreRooms s old.aside.room old.text.room old.notes.room (length old.numbers.items) old.waiting.room = record {
+      text_is_within = p.1.aside_is_within;
+      aside_is_within = p.1.text_is_within;
+      notes_are_within = p.1.notes_are_within;
+      numbers_are_within = p.1.numbers_are_within;
+      waiting_is_within = p.1.waiting_is_within;
+    } in
+    rw (text, aside, is_aside, notes, numbers, waiting) (
+      notes-turned old.is_aside old.text.list.items old.aside.list.items old.notes.list.items old.numbers.items st.ended p.0,
+      rooms,
+    )
+
+-- something is noted
+pub keeps-noted : (s : List ℕ) (old new : Direct) (place from : ℕ) (forms : Forms) (st : State) (v : Value) (front bytes : List ℕ)
+    → Notes old new place from forms → Keeps s old st → old.text.list.items ≡ front ++ bytes → from ≡ length front → Says forms v bytes
+    → Keeps s new (with_ended place v st)
+keeps-noted s old new place from forms st v front bytes n p written from_is says = (
+  notes-noted old new place from forms st v front bytes n p.0 written from_is says,
+  rooms-same s old new (ap (λ l. l.room) n.text) (ap (λ l. l.room) n.aside) n.room
+      (ap length n.numbers ∙ length-set old.numbers.items place (length old.notes.list.items + 1)) (ap (λ l. l.room) n.waiting) p.1,
+)
 
 -- ## What is open
 

@@ -1,19 +1,21 @@
 -- A text is written, and something waits for what comes behind it.
-use Rattle.std.proofs.Common.{◌≡◌, ℕ, List, ◌∷◌, ◌++◌, reverse, ap, ◌∙◌, append_assoc}
+use Rattle.std.proofs.Common.{◌≡◌, ℕ, List, ◌∷◌, ◌++◌, length, reverse, ap, ◌∙◌, append_assoc}
 use Rattle.rust_grammar.specs.Value.{State}
 use Rattle.rust_direct.specs.declared.open.Open.{Open}
 use Rattle.rust_direct.specs.declared.direct.Direct.{Direct}
 use Rattle.rust_direct.specs.Holes.{Opened}
 use Rattle.rust_direct.specs.Written.{Opens}
-use Rattle.rust_direct.specs.Stands.{Stands, AreNotesOf, parked_of}
-use Rattle.rust_direct.proofs.Kept.{notes-stay}
+use Rattle.rust_direct.specs.Stands.{Stands, Keeps, parked_of}
+use Rattle.rust_direct.proofs.Kept.{notes-stay, rooms-same}
 use Rattle.rust_direct.proofs.PathsRead.{waits-too}
 
-pub notes-opened : (old new : Direct) (bytes : List ℕ) (entry : Open) (at : ℕ) (st : State) → Opens old new bytes entry at → AreNotesOf old st
-    → AreNotesOf new st
-notes-opened old new bytes entry at st o p =
-    rw (o.text, o.aside, o.is_aside, o.notes, o.numbers)
-    (notes-stay old.is_aside old.text.list.items old.aside.list.items bytes old.notes.list.items old.numbers.items st.ended p)
+pub keeps-opened : (s : List ℕ) (old new : Direct) (bytes : List ℕ) (entry : Open) (at : ℕ) (st : State) → Opens old new bytes entry at
+    → Keeps s old st → Keeps s new st
+keeps-opened s old new bytes entry at st o p = (
+  rw (o.text, o.aside, o.is_aside, o.notes, o.numbers)
+      (notes-stay old.is_aside old.text.list.items old.aside.list.items bytes old.notes.list.items old.numbers.items st.ended p.0),
+  rooms-same s old new o.room (ap (λ l. l.room) o.aside) (ap (λ l. l.room) o.notes) (ap (λ l. length l.items) o.numbers) o.waiting_room p.1,
+)
 
 pub stands-opened : (s : List ℕ) (old new : Direct) (bytes : List ℕ) (entry : Open) (at : ℕ) (os : List Opened) → Opens old new bytes entry at
     → Stands s (entry ∷ reverse old.waiting.list.items) os (old.text.list.items ++ bytes) (parked_of old)

@@ -19,7 +19,7 @@ use Rattle.rust_direct.specs.Says.{PathHas, HaveRoom, Says, Holds, has_form, is_
 use Rattle.rust_direct.specs.Written.{Writes, Notes}
 use Rattle.rust_direct.specs.Stands.{Stands, IsWriting, parked_of}
 use Rattle.rust_direct.specs.Awaits.{Awaits, AwaitsPath, Arrives, IsEnded, IsEndedWithRoom}
-use Rattle.rust_direct.proofs.Kept.{notes-written, notes-noted, reverse-last}
+use Rattle.rust_direct.proofs.Kept.{keeps-same, keeps-written, keeps-noted, reverse-last}
 use Rattle.rust_direct.proofs.Moves.{expects-moved, identifier-comes, crate-comes, nest_awaits, nest-opens, nest-goes-on}
 use Rattle.rust_direct.proofs.PrintedPaths.{crate-prints, nested-prints, nested-room, unnamed-prints}
 
@@ -79,7 +79,7 @@ pub ended-writing : (s : List ℕ) (old new : Direct) (place from : ℕ) (noted 
     → IsWriting s new (steps.Value from f)
 ended-writing s old new place from noted f p n = record {
   state = with_ended place p.v p.before;
-  notes = notes-noted old new place from noted p.before p.v p.front p.bytes n p.notes p.written p.from_is p.says;
+  keeps = keeps-noted s old new place from noted p.before p.v p.front p.bytes n p.keeps p.written p.from_is p.says;
   is_before = record {
     os = p.os;
     v = p.v;
@@ -106,7 +106,7 @@ crate-ended s old middle from count behind_ name end awaits letter counted named
     let told = path-says forms.Alike p name refl has in
     record {
       before = a.state;
-      notes = notes-written old middle name a.state writes a.notes;
+      keeps = keeps-written s old middle name a.state writes a.keeps;
       os = r.os;
       v = a_path p;
       front = old.text.list.items;
@@ -123,14 +123,14 @@ crate-ended s old middle from count behind_ name end awaits letter counted named
 
 pub nest-begun : (s : List ℕ) (old new : Direct) (b : ℕ) → AwaitsPath s old → StandsAt s old.at (78 ∷ [])
     → StandsAt s (old.at + 1) (b ∷ []) → is_namespace b ≡ true → new.waiting.list.items ≡ old.waiting.list.items ++ opens.Nest b old.at ∷ []
-    → new.at ≡ old.at + 1 + 1 → new.text ≡ old.text → new.aside ≡ old.aside → new.is_aside ≡ old.is_aside → new.notes ≡ old.notes
-    → new.numbers ≡ old.numbers → Awaits s new false
-nest-begun s old new b awaits letter there is waiting at text aside is_aside notes numbers =
+    → new.waiting.room ≡ old.waiting.room → new.at ≡ old.at + 1 + 1 → new.text ≡ old.text → new.aside ≡ old.aside → new.is_aside ≡ old.is_aside
+    → new.notes ≡ old.notes → new.numbers ≡ old.numbers → Awaits s new false
+nest-begun s old new b awaits letter there is waiting room at text aside is_aside notes numbers =
     let a = awaits.1 in
     let r = a.awaited in
     record {
       state = within Production.Nested a.state;
-      notes = rw (text, aside, is_aside, notes, numbers) a.notes;
+      keeps = keeps-same s old new a.state text aside is_aside notes numbers room a.keeps;
       awaited = record {
         wanted = path;
         is_for = refl;
@@ -182,7 +182,8 @@ nest-named s old middle last letter place from f count behind_ name end arrives 
     let told = path-says f made (r.bytes ++ codes "::" ++ name) is has in
     let ended : IsEnded s (record last { at = end }) place from f f = record {
       before = arrives.state;
-      notes = notes-written middle last name arrives.state second (notes-written old middle (codes "::") arrives.state first arrives.notes);
+      keeps = keeps-written s middle last name arrives.state second
+          (keeps-written s old middle (codes "::") arrives.state first arrives.keeps);
       os = waits.0;
       v = a_path made;
       front = r.front;
@@ -227,9 +228,9 @@ pub unnamed-read : (s : List ℕ) (old noted taken : Direct) (place from : ℕ) 
     → IsEndedWithRoom s old place from f → Notes old noted place from f
     → noted.waiting.list.items ≡ taken.waiting.list.items ++ option_to_list o → o ≡ Some (opens.Nest letter outer)
     → taken.text ≡ noted.text → taken.aside ≡ noted.aside → taken.is_aside ≡ noted.is_aside → taken.notes ≡ noted.notes
-    → taken.numbers ≡ noted.numbers → taken.at ≡ noted.at → 97 ≤ letter → IsNameAt s taken.at [] end
+    → taken.numbers ≡ noted.numbers → taken.waiting.room ≡ noted.waiting.room → taken.at ≡ noted.at → 97 ≤ letter → IsNameAt s taken.at [] end
     → IsEnded s (record taken { at = end }) outer from f f
-unnamed-read s old noted taken place from f o letter outer end h n items is text aside is_aside notes numbers at lower named =
+unnamed-read s old noted taken place from f o letter outer end h n items is text aside is_aside notes numbers room at lower named =
     let e = h.ended in
     let st = with_ended place e.v e.before in
     let turned : reverse old.waiting.list.items ≡ opens.Nest letter outer ∷ reverse taken.waiting.list.items =
@@ -244,8 +245,8 @@ unnamed-read s old noted taken place from f o letter outer end h n items is text
     let told = path-says f made e.bytes (is-of-path f h.p e.bytes h.has) (unnamed-has f letter h.p e.bytes 0 lower h.has h.room) in
     record {
       before = st;
-      notes = rw (text, aside, is_aside, notes, numbers)
-          (notes-noted old noted place from f e.before e.v e.front e.bytes n e.notes e.written e.from_is e.says);
+      keeps = keeps-same s noted (record taken { at = end }) st text aside is_aside notes numbers room
+          (keeps-noted s old noted place from f e.before e.v e.front e.bytes n e.keeps e.written e.from_is e.says);
       os = waits.0;
       v = a_path made;
       front = e.front;
@@ -261,10 +262,10 @@ unnamed-read s old noted taken place from f o letter outer end h n items is text
 -- ## What is expected
 
 pub plain-awaited : (s : List ℕ) (w : Direct) (is_value : Bool) → IsWriting s w (steps.Path is_value) → Awaits s w false
-plain-awaited s w is_value p = record { state = p.state; notes = p.notes; awaited = p.is_before }
+plain-awaited s w is_value p = record { state = p.state; keeps = p.keeps; awaited = p.is_before }
 
 pub type-awaited : (s : List ℕ) (w : Direct) → IsWriting s w steps.Type → Awaits s w true
-type-awaited s w p = record { state = p.state; notes = p.notes; awaited = p.is_before }
+type-awaited s w p = record { state = p.state; keeps = p.keeps; awaited = p.is_before }
 
 pub type-path-awaited : (s : List ℕ) (w : Direct) → IsWriting s w steps.Type → AwaitsPath s w
 type-path-awaited s w p = (true, type-awaited s w p)

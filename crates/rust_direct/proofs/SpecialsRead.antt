@@ -15,7 +15,7 @@ use Rattle.rust_direct.specs.Says.{PathHas, is_path}
 use Rattle.rust_direct.specs.Written.{Writes}
 use Rattle.rust_direct.specs.Specials.{behind_colon, special_text}
 use Rattle.rust_direct.specs.Awaits.{Arrives, IsEnded}
-use Rattle.rust_direct.proofs.Kept.{notes-written}
+use Rattle.rust_direct.proofs.Kept.{keeps-written}
 use Rattle.rust_direct.proofs.Moves.{identifier-comes}
 use Rattle.rust_direct.proofs.PathsRead.{path-held, path-says, stands-written}
 use Rattle.rust_direct.proofs.PrintedSpecials.{special-prints}
@@ -25,6 +25,7 @@ use Rattle.rust_direct.proofs.PrintedSpecials.{special-prints}
 pub writes-none : (w : Direct) → Writes w w []
 writes-none w = record {
   text = sym (append-nil w.text.list.items);
+  room = refl;
   aside = refl;
   is_aside = refl;
   notes = refl;
@@ -37,6 +38,7 @@ writes-none w = record {
 pub writes-both : (old middle new : Direct) (a b : List ℕ) → Writes old middle a → Writes middle new b → Writes old new (a ++ b)
 writes-both old middle new a b first second = record {
   text = second.text ∙ ap (λ l. l ++ b) first.text ∙ append_assoc old.text.list.items a b;
+  room = second.room ∙ first.room;
   aside = second.aside ∙ first.aside;
   is_aside = second.is_aside ∙ first.is_aside;
   notes = second.notes ∙ first.notes;
@@ -95,7 +97,7 @@ special-read s old middle letter place from f count behind_ name namespace end a
     let told = path-says f made (r.bytes ++ own) is (special-has f letter p r.bytes count name is upper held.2) in
     record {
       before = arrives.state;
-      notes = notes-written old middle own arrives.state writes arrives.notes;
+      keeps = keeps-written s old middle own arrives.state writes arrives.keeps;
       os = waits.0;
       v = a_path made;
       front = r.front;

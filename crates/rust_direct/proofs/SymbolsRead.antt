@@ -2,7 +2,7 @@
 use Rattle.std.proofs.Common.{◌≡◌, ℕ, ◌+◌, ◌-◌, ◌/◌, ◌≤◌, List, [], ◌∷◌, ◌++◌, length, take, drop, reverse, Bool, true, false, not, Ok, refl, ap, sym, subst, ◌∙◌, arith, append_assoc, append-nil, codes, nat_le, cond}
 use Rattle.std.specs.Prelude.{replicate}
 use Rattle.std.proofs.lemmas.Bool.{leb-true}
-use Rattle.std.proofs.lemmas.List.{length-append, length-drop, take_rest}
+use Rattle.std.proofs.lemmas.List.{length-append, length-drop, length-replicate, take_rest}
 use Rattle.sym_print.specs.declared.detail.Detail.TheVariants as details
 use Rattle.sym_print.specs.Unshared.{text_of}
 use Rattle.sym_print.proofs.Answering.{text_within-ok}
@@ -21,9 +21,9 @@ use Rattle.rust_direct.specs.Holes.{Comes, within, path, other_path, IsSuffix, E
 use Rattle.rust_direct.specs.Prints.{PathPrints}
 use Rattle.rust_direct.specs.Says.{has_form, is_path}
 use Rattle.rust_direct.specs.Written.{Writes}
-use Rattle.rust_direct.specs.Stands.{Stands, IsWriting, IsWhole, parked_of}
-use Rattle.rust_direct.specs.Awaits.{Arrives, IsSymbolEnded}
-use Rattle.rust_direct.proofs.Kept.{notes-written, notes-turned, none-noted}
+use Rattle.rust_direct.specs.Stands.{Stands, IsWriting, IsWhole, HasRooms, parked_of}
+use Rattle.rust_direct.specs.Awaits.{IsFresh, Arrives, IsSymbolEnded}
+use Rattle.rust_direct.proofs.Kept.{keeps-written, keeps-turned, none-noted}
 use Rattle.rust_direct.proofs.MovesOfSymbols.{symbol-starts}
 use Rattle.rust_direct.proofs.PathsRead.{path-held, form-held, waits-too}
 
@@ -41,21 +41,43 @@ whole-answer s text limit len whole is within_ =
 
 -- ## The beginning
 
-pub symbol-begun : (s : List ℕ) (w : Direct) (n : ℕ) → StandsAt s 0 (95 ∷ 82 ∷ []) → w.text.list.items ≡ [] → w.is_aside ≡ false
-    → w.notes.list.items ≡ [] → w.numbers.items ≡ replicate n 0 → w.waiting.list.items ≡ opens.Symbol ∷ [] → w.at ≡ 2
+-- the lists have the rooms that they were given, and a number for each byte
+rooms-begun : (s : List ℕ) (old new : Direct) (n : ℕ) → new.text ≡ old.text → new.aside ≡ old.aside → new.notes ≡ old.notes
+    → new.numbers.items ≡ replicate n 0 → new.waiting.room ≡ old.waiting.room → n ≤ length s → HasRooms s old → HasRooms s new
+rooms-begun s old new n text aside notes numbers waiting few p =
+    let many : length new.numbers.items ≡ n = ap length numbers ∙ length-replicate n 0 in
+    record {
+      text_is_within = rw text p.text_is_within;
+      aside_is_within = rw aside p.aside_is_within;
+      notes_are_within = rw notes p.notes_are_within;
+      numbers_are_within = rw many few;
+      waiting_is_within = rw waiting p.waiting_is_within;
+    }
+
+pub symbol-begun : (s : List ℕ) (old w : Direct) (n : ℕ) → StandsAt s 0 (95 ∷ 82 ∷ []) → IsFresh s old → w.text ≡ old.text → w.aside ≡ old.aside
+    → w.is_aside ≡ old.is_aside → w.notes ≡ old.notes → w.numbers.items ≡ replicate n 0 → n ≤ length s
+    → w.waiting.list.items ≡ old.waiting.list.items ++ opens.Symbol ∷ [] → w.waiting.room ≡ old.waiting.room → w.at ≡ 2
     → IsWriting s w (steps.Path true)
-symbol-begun s w n starts text shown notes numbers waiting at =
+symbol-begun s old w n starts fresh text aside shown notes numbers few waiting room at =
     let first = symbol-starts s starts in
+    let none : w.notes.list.items ≡ [] = ap (λ l. l.list.items) notes ∙ fresh.notes in
+    let waits : w.waiting.list.items ≡ opens.Symbol ∷ [] = waiting ∙ ap (λ l. l ++ opens.Symbol ∷ []) fresh.waiting in
     record {
       state = within Production.Symbol at_first;
-      notes = rw (notes, numbers) (none-noted w.is_aside w.text.list.items w.aside.list.items n []);
+      keeps = (
+        rw (none, numbers) (none-noted w.is_aside w.text.list.items w.aside.list.items n []),
+        rooms-begun s old w n text aside notes numbers room few fresh.rooms,
+      );
       is_before = record {
         wanted = path;
         is_for = refl;
         os = first.0;
         awaits = rw at first.1;
-        stands = subst (λ ws. Stands s (reverse ws) first.0 w.text.list.items (parked_of w)) (sym waiting)
-            (text, ap (λ b. cond b w.aside.list.items []) shown, first.2);
+        stands = subst (λ ws. Stands s (reverse ws) first.0 w.text.list.items (parked_of w)) (sym waits) (
+          ap (λ l. l.list.items) text ∙ fresh.text,
+          ap (λ b. cond b w.aside.list.items []) (shown ∙ fresh.shown),
+          first.2,
+        );
       };
     }
 
@@ -69,7 +91,7 @@ path-ended s w from f arrives is =
     let waits = r.stands in
     record {
       state = arrives.state;
-      notes = arrives.notes;
+      keeps = arrives.keeps;
       p = held.0;
       prints = subst (λ l. PathPrints true held.0 l) (sym (r.written ∙ ap (λ l. l ++ r.bytes) waits.0)) held.2;
       ends = (waits.2 held.0 w.at arrives.state (subst (λ v. Comes s r.os v w.at arrives.state) held.1 r.comes)).none;
@@ -77,9 +99,9 @@ path-ended s w from f arrives is =
 
 -- the path of the crate that asked for it is expected
 pub other-begun : (s : List ℕ) (old new : Direct) (from : ℕ) (f : Forms) (is_value : Bool) → Arrives s old opens.Symbol from f → has_form true f ≡ true
-    → old.is_aside ≡ false → new.waiting.list.items ≡ old.waiting.list.items ++ opens.Other ∷ [] → new.text ≡ old.aside → new.aside ≡ old.text
+    → old.is_aside ≡ false → new.waiting.list.items ≡ old.waiting.list.items ++ opens.Other ∷ [] → new.waiting.room ≡ old.waiting.room → new.text ≡ old.aside → new.aside ≡ old.text
     → new.is_aside ≡ not old.is_aside → new.notes ≡ old.notes → new.numbers ≡ old.numbers → new.at ≡ old.at → IsWriting s new (steps.Path is_value)
-other-begun s old new from f is_value arrives is shown waiting text aside is_aside notes numbers at =
+other-begun s old new from f is_value arrives is shown waiting room text aside is_aside notes numbers at =
     let r = arrives.read in
     let held = form-held true f r.v r.bytes is r.holds in
     let waits = r.stands in
@@ -88,8 +110,7 @@ other-begun s old new from f is_value arrives is shown waiting text aside is_asi
     ap (λ b. cond b new.aside.list.items []) (is_aside ∙ ap not shown) ∙ ap (λ t. t.list.items) aside in
     record {
       state = within Production.Symbol arrives.state;
-      notes = rw (text, aside, is_aside, notes, numbers)
-          (notes-turned old.is_aside old.text.list.items old.aside.list.items old.notes.list.items old.numbers.items arrives.state.ended arrives.notes);
+      keeps = keeps-turned s old new arrives.state text aside is_aside notes numbers room arrives.keeps;
       is_before = record {
         wanted = other_path;
         is_for = refl;
@@ -107,15 +128,15 @@ other-begun s old new from f is_value arrives is shown waiting text aside is_asi
 -- it is read, and the symbol may end
 pub other-read : (s : List ℕ) (old new : Direct) (from : ℕ) (f : Forms) → Arrives s old opens.Other from f → is_path f ≡ true
     → old.is_aside ≡ true → new.text ≡ old.aside → new.aside ≡ old.text
-    → new.is_aside ≡ not old.is_aside → new.notes ≡ old.notes → new.numbers ≡ old.numbers → new.at ≡ old.at → IsSymbolEnded s new
-other-read s old new from f arrives is hidden text aside is_aside notes numbers at =
+    → new.is_aside ≡ not old.is_aside → new.notes ≡ old.notes → new.numbers ≡ old.numbers → new.waiting ≡ old.waiting → new.at ≡ old.at
+    → IsSymbolEnded s new
+other-read s old new from f arrives is hidden text aside is_aside notes numbers waiting at =
     let r = arrives.read in
     let held = path-held f r.v r.bytes is r.holds in
     let waits = r.stands in
     record {
       state = arrives.state;
-      notes = rw (text, aside, is_aside, notes, numbers)
-          (notes-turned old.is_aside old.text.list.items old.aside.list.items old.notes.list.items old.numbers.items arrives.state.ended arrives.notes);
+      keeps = keeps-turned s old new arrives.state text aside is_aside notes numbers (ap (λ l. l.room) waiting) arrives.keeps;
       p = waits.0;
       prints = subst (λ l. PathPrints true waits.0 l)
           (ap (λ b. cond b old.aside.list.items []) hidden ∙ ap (λ t. t.list.items) (sym text)) waits.1;
@@ -139,7 +160,7 @@ ends-plain s w p at_end =
     let whole = p.ends.ends at_end in
     record {
       state = p.state;
-      notes = p.notes;
+      keeps = p.keeps;
       is_before = record {
         whole = record { path = p.p; instantiating = whole.0; suffix = [] };
         stands = whole.1;
@@ -182,9 +203,9 @@ ends-suffixed s suffix w first second last p inside is is_suffix one two three =
     three.text ∙ ap (λ l. l ++ codes ")") (two.text ∙ ap (λ l. l ++ suffix) one.text) in
     record {
       state = p.state;
-      notes = notes-written second last (codes ")") p.state three
-          (notes-written first second suffix p.state two
-          (notes-written w first (codes " (") p.state one p.notes));
+      keeps = keeps-written s second last (codes ")") p.state three
+          (keeps-written s first second suffix p.state two
+          (keeps-written s w first (codes " (") p.state one p.keeps));
       is_before = subst (λ l. IsWhole s l) (sym text)
           (whole-suffixed s w.text.list.items p.p w.at suffix p.prints p.ends there.0 there.1 is_suffix);
     }

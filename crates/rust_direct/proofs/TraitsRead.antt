@@ -13,23 +13,23 @@ use Rattle.rust_direct.specs.Says.{PathHas, is_type, is_path, has_form}
 use Rattle.rust_direct.specs.Written.{Writes, Pushes, Opens}
 use Rattle.rust_direct.specs.Stands.{Stands, IsWriting, parked_of}
 use Rattle.rust_direct.specs.Awaits.{AwaitsPath, AwaitsTraitType, Arrives, IsEnded}
-use Rattle.rust_direct.proofs.Kept.{notes-written, notes-turned}
+use Rattle.rust_direct.proofs.Kept.{keeps-written, keeps-turned}
 use Rattle.rust_direct.proofs.MovesOfTypes.{trait-opens, definition-opens}
 use Rattle.rust_direct.proofs.PrintedPaths.{trait-prints, definition-prints}
 use Rattle.rust_direct.proofs.PathsRead.{path-held, form-held, path-says, stands-written, waits-too}
 use Rattle.rust_direct.proofs.Again.{path-needs}
-use Rattle.rust_direct.proofs.ArgumentsRead.{type-held, notes-pushed, parked-pushed, turned}
-use Rattle.rust_direct.proofs.Opened.{notes-opened, stands-opened, wrapped}
+use Rattle.rust_direct.proofs.ArgumentsRead.{type-held, keeps-pushed, parked-pushed, turned}
+use Rattle.rust_direct.proofs.Opened.{keeps-opened, stands-opened, wrapped}
 
 -- ## Impls
 
 -- the path of an impl of a trait is expected, which isn't shown
 pub trait-begun : (s : List ℕ) (old new : Direct) (count end : ℕ) (plain : Bool) → AwaitsPath s old → StandsAt s old.at (88 ∷ [])
     → IsDisambiguatorAt s (old.at + 1) count end → old.is_aside ≡ false
-    → new.waiting.list.items ≡ old.waiting.list.items ++ opens.TraitImpl old.at ∷ []
+    → new.waiting.list.items ≡ old.waiting.list.items ++ opens.TraitImpl old.at ∷ [] → new.waiting.room ≡ old.waiting.room
     → new.text ≡ old.aside → new.aside ≡ old.text → new.is_aside ≡ not old.is_aside → new.notes ≡ old.notes → new.numbers ≡ old.numbers → new.at ≡ end
     → IsWriting s new (steps.Path plain)
-trait-begun s old new count end plain awaits letter counted shown waiting text aside is_aside notes numbers at =
+trait-begun s old new count end plain awaits letter counted shown waiting room text aside is_aside notes numbers at =
     let a = awaits.1 in
     let r = a.awaited in
     let goes = trait-opens s r.wanted r.os old.at a.state count end r.awaits letter counted in
@@ -38,8 +38,7 @@ trait-begun s old new count end plain awaits letter counted shown waiting text a
     let none : parked_of old ≡ [] = ap (λ b. cond b old.aside.list.items []) shown in
     record {
       state = within goes.production a.state;
-      notes = rw (text, aside, is_aside, notes, numbers)
-          (notes-turned old.is_aside old.text.list.items old.aside.list.items old.notes.list.items old.numbers.items a.state.ended a.notes);
+      keeps = keeps-turned s old new a.state text aside is_aside notes numbers room a.keeps;
       is_before = record {
         wanted = path;
         is_for = refl;
@@ -70,8 +69,7 @@ trait-path-read s old shown place here f arrives is hidden text aside is_aside n
     let without : parked_of shown ≡ [] = ap (λ b. cond b shown.aside.list.items []) (is_aside ∙ ap not hidden) in
     record {
       state = arrives.state;
-      notes = rw (text, aside, is_aside, notes, numbers)
-          (notes-turned old.is_aside old.text.list.items old.aside.list.items old.notes.list.items old.numbers.items arrives.state.ended arrives.notes);
+      keeps = keeps-turned s old shown arrives.state text aside is_aside notes numbers (ap (λ l. l.room) waiting) arrives.keeps;
       outer = waits.0;
       made = waits.1 q;
       prints = waits.2 q (path-needs f q r.bytes held.2);
@@ -86,7 +84,7 @@ trait-typed s old middle new place from a from_is writes pushes =
     let entry = opens.Implementing place from in
     record {
       state = within a.goes.production a.state;
-      notes = notes-pushed middle new entry a.state pushes (notes-written old middle (codes "<") a.state writes a.notes);
+      keeps = keeps-pushed s middle new entry a.state pushes (keeps-written s old middle (codes "<") a.state writes a.keeps);
       is_before = record {
         wanted = type;
         is_for = refl;
@@ -118,7 +116,7 @@ definition-begun s old new from behind awaits letter next from_is opened =
     let goes = definition-opens s r.wanted r.os old.at a.state r.awaits letter in
     record {
       state = within goes.production a.state;
-      notes = notes-opened old new (codes "<") entry behind a.state opened a.notes;
+      keeps = keeps-opened s old new (codes "<") entry behind a.state opened a.keeps;
       is_before = record {
         wanted = type;
         is_for = refl;
@@ -151,7 +149,7 @@ implementing-read s old middle new place from here f plain arrives is writes pus
     let mark = codes "<" ++ r.bytes ++ codes " as " in
     record {
       state = within goes.production arrives.state;
-      notes = notes-pushed middle new entry arrives.state pushes (notes-written old middle (codes " as ") arrives.state writes arrives.notes);
+      keeps = keeps-pushed s middle new entry arrives.state pushes (keeps-written s old middle (codes " as ") arrives.state writes arrives.keeps);
       is_before = record {
         wanted = path;
         is_for = refl;
@@ -186,7 +184,7 @@ implemented-read s old middle place from here f arrives is writes =
     let told = path-says forms.Alike made bytes refl has in
     record {
       before = arrives.state;
-      notes = notes-written old middle (codes ">") arrives.state writes arrives.notes;
+      keeps = keeps-written s old middle (codes ">") arrives.state writes arrives.keeps;
       os = waits.0;
       v = a_path made;
       front = waits.1;

@@ -15,13 +15,13 @@ use Rattle.rust_direct.specs.Says.{Holds, is_type}
 use Rattle.rust_direct.specs.Written.{Writes, Pushes, Opens}
 use Rattle.rust_direct.specs.Stands.{Stands, IsWriting, TypesCount, tuple_end, parked_of}
 use Rattle.rust_direct.specs.Awaits.{Awaits, Arrives, IsEnded}
-use Rattle.rust_direct.proofs.Kept.{notes-written}
+use Rattle.rust_direct.proofs.Kept.{keeps-written}
 use Rattle.rust_direct.proofs.MovesOfArguments.{more_awaits, tuple-opens, element-opens, element-goes-on, types-close}
 use Rattle.rust_direct.proofs.PrintedTypes.{no-types-begin, types-begin, tuple-prints}
 use Rattle.rust_direct.proofs.PathsRead.{stands-written}
-use Rattle.rust_direct.proofs.ArgumentsRead.{type-held, notes-pushed, parked-pushed, turned}
+use Rattle.rust_direct.proofs.ArgumentsRead.{type-held, keeps-pushed, parked-pushed, turned}
 use Rattle.rust_direct.proofs.TypesRead.{type-expected}
-use Rattle.rust_direct.proofs.Opened.{notes-opened, stands-opened}
+use Rattle.rust_direct.proofs.Opened.{keeps-opened, stands-opened}
 
 -- the first type of a tuple is expected
 pub tuple-begun : (s : List ℕ) (old new : Direct) (from behind : ℕ) → Awaits s old true → StandsAt s old.at (84 ∷ []) → behind ≡ old.at + 1
@@ -34,7 +34,7 @@ tuple-begun s old new from behind a letter next from_is opened =
     let os = more_awaits (old.at + 1) st goes.inner in
     record {
       state = within Production.TypesMore st;
-      notes = notes-opened old new (codes "(") entry behind a.state opened a.notes;
+      keeps = keeps-opened s old new (codes "(") entry behind a.state opened a.keeps;
       is_before = record {
         wanted = type;
         is_for = refl;
@@ -87,7 +87,7 @@ element-read s old middle new place from here is_first f arrives is writes pushe
     let entry = opens.Tuple place from false in
     record {
       state = within Production.TypesMore st;
-      notes = notes-pushed middle new entry arrives.state pushes (notes-written old middle (codes ", ") arrives.state writes arrives.notes);
+      keeps = keeps-pushed s middle new entry arrives.state pushes (keeps-written s old middle (codes ", ") arrives.state writes arrives.keeps);
       is_before = record {
         wanted = type;
         is_for = refl;
@@ -130,7 +130,8 @@ tuple-read s old middle place from here end is_first f arrives letter is end_is 
     let told : Holds forms.Typed (a_type whole) bytes = (whole, refl, prints) in
     record {
       before = arrives.state;
-      notes = notes-written (record old { at = end }) middle (tuple_end is_first) arrives.state writes arrives.notes;
+      keeps = keeps-written s (record old { at = end }) middle (tuple_end is_first) arrives.state writes
+          arrives.keeps;
       os = waits.0;
       v = a_type whole;
       front = waits.1;

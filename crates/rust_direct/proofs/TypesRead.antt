@@ -16,7 +16,7 @@ use Rattle.rust_direct.specs.Says.{Says, Holds, is_type}
 use Rattle.rust_direct.specs.Notes.{home}
 use Rattle.rust_direct.specs.Written.{Writes, piece}
 use Rattle.rust_direct.specs.Awaits.{Awaits, IsEnded}
-use Rattle.rust_direct.proofs.Kept.{notes-written, piece-found}
+use Rattle.rust_direct.proofs.Kept.{keeps-written, piece-found}
 use Rattle.rust_direct.proofs.MovesOfTypes.{type-referred}
 use Rattle.rust_direct.proofs.PrintedTypes.{path-is-type}
 use Rattle.rust_direct.proofs.PathsRead.{stands-written}
@@ -56,7 +56,7 @@ pub type-repeated : (s : List ℕ) (old middle : Direct) (from n end k : ℕ) (n
     → IsEnded s (record middle { at = end }) old.at from note.forms forms.Typed
 type-repeated s old middle from n end k note awaits letter number numbered noted is from_is writes =
     let r = awaits.awaited in
-    let found = note-found old awaits.state (n + 2) k note awaits.notes numbered noted in
+    let found = note-found old awaits.state (n + 2) k note awaits.keeps.0 numbered noted in
     let own = found.2 in
     let said = type-said note.forms found.0 own.bytes is own.says in
     let t = said.0 in
@@ -68,7 +68,7 @@ type-repeated s old middle from n end k note awaits letter number numbered noted
     let holds : Holds forms.Typed (a_type t) bytes = (t, refl, said.2) in
     record {
       before = awaits.state;
-      notes = notes-written old middle bytes awaits.state write awaits.notes;
+      keeps = keeps-written s old middle bytes awaits.state write awaits.keeps;
       os = r.os;
       v = a_type t;
       front = old.text.list.items;

@@ -17,13 +17,13 @@ use Rattle.rust_direct.specs.Says.{Holds, is_type}
 use Rattle.rust_direct.specs.Written.{Writes, Opens}
 use Rattle.rust_direct.specs.Stands.{Stands, IsWriting, WrapHolds, closing_text, closing_forms, parked_of}
 use Rattle.rust_direct.specs.Awaits.{Awaits, Arrives, IsEnded}
-use Rattle.rust_direct.proofs.Kept.{notes-written}
+use Rattle.rust_direct.proofs.Kept.{keeps-written}
 use Rattle.rust_direct.proofs.MovesOfTypes.{shared-opens, mutable-opens, const-opens, mut-opens, slice-opens}
 use Rattle.rust_direct.proofs.PrintedTypes.{shared-prints, mutable-prints, const-prints, mut-prints, slice-prints}
 use Rattle.rust_direct.proofs.PathsRead.{stands-written}
 use Rattle.rust_direct.proofs.ArgumentsRead.{type-held}
 use Rattle.rust_direct.proofs.TypesRead.{type-expected}
-use Rattle.rust_direct.proofs.Opened.{notes-opened, stands-opened, wrapped}
+use Rattle.rust_direct.proofs.Opened.{keeps-opened, stands-opened, wrapped}
 
 -- what is made of a type begins here
 wrap-begun : (s : List ℕ) (old new : Direct) (mark : List ℕ) (closing : Closing) (made : tree.Ty → Value) (at : ℕ) (entry : Open) (a : Awaits s old true)
@@ -33,7 +33,7 @@ wrap-begun s old new mark closing made at entry a goes holds is opened =
     let r = a.awaited in
     record {
       state = within goes.production a.state;
-      notes = notes-opened old new mark entry at a.state opened a.notes;
+      keeps = keeps-opened s old new mark entry at a.state opened a.keeps;
       is_before = record {
         wanted = type;
         is_for = refl;
@@ -111,7 +111,7 @@ typed-read s old middle place from here f closing typed arrives is writes =
     let holds : Holds forms.Typed (waits.3 held.0) bytes = subst (λ k. Holds k (waits.3 held.0) bytes) typed (waits.6 held.0 r.bytes held.2) in
     record {
       before = arrives.state;
-      notes = notes-written old middle (closing_text closing) arrives.state writes arrives.notes;
+      keeps = keeps-written s old middle (closing_text closing) arrives.state writes arrives.keeps;
       os = waits.0;
       v = waits.3 held.0;
       front = waits.1;
@@ -131,6 +131,7 @@ pub bare-read : (s : List ℕ) (old : Direct) (place from here : ℕ) (f : Forms
 bare-read s old place from here f arrives is =
     typed-read s old old place from here f closings.Nothing refl arrives is (record {
       text = sym (append-nil old.text.list.items);
+      room = refl;
       aside = refl;
       is_aside = refl;
       notes = refl;

@@ -8,21 +8,22 @@ use Rattle.rust_direct.specs.declared.direct.Direct.{Direct}
 use Rattle.rust_direct.specs.Holes.{Opened, Comes, with_ended, EndsSymbol, TypeGoesOn, ImplementingGoesOn}
 use Rattle.rust_direct.specs.Prints.{PathPrints, TypePrints}
 use Rattle.rust_direct.specs.Says.{Says, Holds, PathHas, HaveRoom}
-use Rattle.rust_direct.specs.Stands.{Stands, TraitPrints, IsAwaited, IsRead, IsListing, separator_of, AreNotesOf, parked_of}
+use Rattle.rust_direct.specs.Stands.{Stands, TraitPrints, IsAwaited, IsRead, IsListing, separator_of, HasRooms, Keeps, parked_of}
 
--- nothing is written yet
-pub record IsFresh (w : Direct) : Type 0 where
+-- nothing is written yet, and no list has too much room
+pub record IsFresh (s : List ℕ) (w : Direct) : Type 0 where
   pub text : w.text.list.items ≡ []
   pub aside : w.aside.list.items ≡ []
   pub shown : w.is_aside ≡ false
   pub notes : w.notes.list.items ≡ []
   pub numbers : w.numbers.items ≡ []
   pub waiting : w.waiting.list.items ≡ []
+  pub rooms : HasRooms s w
 
 -- a path, or a type, is expected
 pub record Awaits (s : List ℕ) (w : Direct) (for_type : Bool) : Type 0 where
   pub state : State
-  pub notes : AreNotesOf w state
+  pub keeps : Keeps s w state
   pub awaited : IsAwaited s w state for_type
 
 abbrev pub AwaitsPath : (s : List ℕ) → Direct → Type 0
@@ -31,13 +32,13 @@ AwaitsPath s w = (for_type : Bool) × Awaits s w for_type
 -- A path or a type is read, and what waited for it is taken out.
 pub record Arrives (s : List ℕ) (w : Direct) (entry : Open) (from : ℕ) (forms : Forms) : Type 0 where
   pub state : State
-  pub notes : AreNotesOf w state
+  pub keeps : Keeps s w state
   pub read : IsRead s w state (entry ∷ reverse w.waiting.list.items) from forms
 
 -- What began at a place is read, which is to be noted.
 pub record IsEnded (s : List ℕ) (w : Direct) (place from : ℕ) (noted forms : Forms) : Type 0 where
   pub before : State
-  pub notes : AreNotesOf w before
+  pub keeps : Keeps s w before
   pub os : List Opened
   pub v : Value
   pub front : List ℕ
@@ -60,7 +61,7 @@ pub record IsEndedWithRoom (s : List ℕ) (w : Direct) (place from : ℕ) (forms
 -- The path of an impl is read, which isn't shown: its type is expected, in angles.
 pub record AwaitsImplType (s : List ℕ) (w : Direct) (place : ℕ) : Type 0 where
   pub state : State
-  pub notes : AreNotesOf w state
+  pub keeps : Keeps s w state
   pub outer : List Opened
   pub made : tree.Ty → tree.Path
   pub prints : (value : Bool) (t : tree.Ty) (bytes : List ℕ) → TypePrints t bytes → PathPrints value (made t) (codes "<" ++ bytes ++ codes ">")
@@ -70,7 +71,7 @@ pub record AwaitsImplType (s : List ℕ) (w : Direct) (place : ℕ) : Type 0 whe
 -- The same of an impl of a trait: behind its type the trait is expected.
 pub record AwaitsTraitType (s : List ℕ) (w : Direct) (place : ℕ) : Type 0 where
   pub state : State
-  pub notes : AreNotesOf w state
+  pub keeps : Keeps s w state
   pub outer : List Opened
   pub made : tree.Ty → tree.Path → tree.Path
   pub prints : TraitPrints made
@@ -80,7 +81,7 @@ pub record AwaitsTraitType (s : List ℕ) (w : Direct) (place : ℕ) : Type 0 wh
 -- the path of the symbol is read, and written
 pub record IsSymbolEnded (s : List ℕ) (w : Direct) : Type 0 where
   pub state : State
-  pub notes : AreNotesOf w state
+  pub keeps : Keeps s w state
   pub p : tree.Path
   pub prints : PathPrints true p w.text.list.items
   pub ends : EndsSymbol s p w.at
@@ -88,7 +89,7 @@ pub record IsSymbolEnded (s : List ℕ) (w : Direct) : Type 0 where
 -- an argument is expected, behind what separates it from the one before
 pub record AwaitsArgument (s : List ℕ) (w : Direct) (is_first : Bool) : Type 0 where
   pub state : State
-  pub notes : AreNotesOf w state
+  pub keeps : Keeps s w state
   pub before : List ℕ
   pub written : w.text.list.items ≡ before ++ separator_of is_first
   pub listing : IsListing s w before state is_first

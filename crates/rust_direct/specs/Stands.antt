@@ -1,5 +1,5 @@
 -- What a writer's lists say while a symbol is read: what is open waits for what comes next, and what was written is its text.
-use Rattle.std.specs.Prelude.{◌≡◌, ℕ, ◌*◌, ◌≤◌, List, [], ◌∷◌, ◌++◌, length, reverse, Bool, true, false, Ok, codes, cond}
+use Rattle.std.specs.Prelude.{◌≡◌, ℕ, ◌+◌, ◌*◌, ◌≤◌, List, [], ◌∷◌, ◌++◌, length, reverse, Bool, true, false, Ok, codes, cond}
 use Rattle.sym_print.specs.declared.detail.Detail.TheVariants.{Full}
 use Rattle.sym_print.specs.Unshared.{text_of, cost_of}
 use Rattle.sym_demangle.specs.Mangled.{StandsFor}
@@ -212,8 +212,24 @@ IsBefore s w st steps.Ended = IsWhole s w.text.list.items
 abbrev pub AreNotesOf : Direct → State → Type 0
 AreNotesOf w st = AreNotes w.is_aside w.text.list.items w.aside.list.items w.notes.list.items w.numbers.items st.ended
 
+-- No list has room for more than eight bytes of text for each byte of the symbol and a kilobyte, or for more entries than the symbol has
+-- bytes.
+pub record AreRooms (s : List ℕ) (text aside notes numbers waiting : ℕ) : Type 0 where
+  pub text_is_within : text ≤ 8 * length s + 1024
+  pub aside_is_within : aside ≤ 8 * length s + 1024
+  pub notes_are_within : notes ≤ length s
+  pub numbers_are_within : numbers ≤ length s
+  pub waiting_is_within : waiting ≤ length s
+
+abbrev pub HasRooms : (s : List ℕ) → Direct → Type 0
+HasRooms s w = AreRooms s w.text.room w.aside.room w.notes.room (length w.numbers.items) w.waiting.room
+
+-- what a writer keeps from step to step
+abbrev pub Keeps : (s : List ℕ) → Direct → State → Type 0
+Keeps s w st = AreNotesOf w st × HasRooms s w
+
 -- a writer that has come so far, and what comes next
 pub record IsWriting (s : List ℕ) (w : Direct) (step : Step) : Type 0 where
   pub state : State
-  pub notes : AreNotesOf w state
+  pub keeps : Keeps s w state
   pub is_before : IsBefore s w state step

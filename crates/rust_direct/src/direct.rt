@@ -13,5 +13,6 @@ pub struct Direct {
     pub(crate) numbers: Vec<u16>,
     pub(crate) waiting: Bounded<Open>,
     pub(crate) at: usize,
-    pub(crate) rounds: usize,
+    /// How many steps the last symbol took.
+    pub rounds: usize,
 }

@@ -4,7 +4,7 @@
 //! them, and paths with arguments are read so; of types basic ones, paths, references, raw pointers, slices, arrays, tuples and `dyn`;
 //! of constants integers, truth values and what isn't known; with back references to paths and types, the crate that asked for a
 //! symbol, and a suffix. A symbol with anything else in it is given up, and is to be read by its grammar: no answer depends on this
-//! crate, which one call in `rust_v0` (`mangling`) makes and may leave out.
+//! crate, which one module of `rust_v0` (`short_way`) takes step by step, and may leave out.
 #![tactic(auto)]
 
 mod arguments;
@@ -28,3 +28,4 @@ mod wraps;
 mod writing;
 
 pub use direct::Direct;
+pub use open::Step;

@@ -1,10 +1,8 @@
 // A symbol from its first byte to its last.
 
-ghost use Rattle.std.specs.Prelude.{◌≡◌, ◌≤◌, ◌+◌, ◌*◌, [], length, replicate, not, true, false, Ok};
+ghost use Rattle.std.specs.Prelude.{◌≡◌, ℕ, ◌≤◌, ◌+◌, ◌*◌, List, [], length, replicate, not};
 ghost use Rattle.std.specs.Option.{IfSome, OnSome};
 ghost use Rattle.sym_core.specs.Number.{FitsSymbol};
-ghost use Rattle.sym_print.specs.declared.detail.Detail.TheVariants as details;
-ghost use Rattle.rust_grammar.specs.Mangled.{IsAnswer};
 ghost use Rattle.rust_direct.specs.declared.open.Open.TheVariants as opens;
 ghost use Rattle.rust_direct.specs.Stands.{IsWriting};
 ghost use Rattle.rust_direct.specs.Awaits.{IsFresh, Arrives, IsSymbolEnded};
@@ -18,15 +16,6 @@ use sym_direct::{Bounded, byte_at};
 
 /// The longest symbol that is written so, in bytes: the lists stay small, and real symbols are shorter.
 const LONGEST: usize = 4_096;
-
-/// The most bytes of text that are written for each byte of a symbol, and those that are written anyway.
-const BYTES_A_BYTE: usize = 8;
-
-const BYTES_ANYWAY: usize = 1_024;
-
-/// The most steps that are taken for each byte of a symbol: each reads a byte, or ends what was read. Where a step reads on in a loop,
-/// as over the letters or the names of paths around others, each turn of that reads a byte of its own.
-const ROUNDS_A_BYTE: usize = 8;
 
 impl Direct {
     /// Lists that have no memory yet.
@@ -50,107 +39,24 @@ impl Direct {
         self.text.as_slice()
     }
 
-    /// Writes the text of a symbol in full, if the symbol is one that can be read so and the text costs at most a limit, and
-    /// answers whether it did. Where it didn't, nothing is known of the symbol.
-    ///
-    /// Whatever is answered, at most eight bytes for each of the symbol's and a kilobyte are written, and as many of what is not
-    /// shown, at most eight steps for each byte are taken, and no list has more entries than the symbol has bytes. The lists only
-    /// grow in a call.
-    pub fn write(&mut self, s: &[u8], limit: u32) -> bool
-        requires { FitsSymbol s.now }
-        ensures answer { result ≡ true → IsAnswer details.Full s.now limit (Ok self.new.text.list.items) }
-        ensures bytes { length self.new.text.list.items ≤ 8 * length s.now + 1024 }
-        ensures aside { length self.new.aside.list.items ≤ 8 * length s.now + 1024 }
-        ensures notes { length self.new.notes.list.items ≤ length s.now }
-        ensures numbers { length self.new.numbers.items ≤ length s.now }
-        ensures waiting { length self.new.waiting.list.items ≤ length s.now }
-        ensures rounds { self.new.rounds ≤ 8 * length s.now }
-    {
-        let size = s.len();
-        let bytes = BYTES_A_BYTE * size + BYTES_ANYWAY;
-        let shown = bytes.min(limit as usize / 4);
-        self.begin_lists(shown as u32, bytes as u32, size as u32);
-        let (is_written, rounds) = self.run(s, limit);
-        self.rounds = rounds;
-        // always: no step gives a list other room than it began with, which no clause of theirs says
-        if self.keeps_to(bytes, size) {
-            return is_written;
-        }
-        self.begin_lists(0, 0, 0);
-        false
-    }
-
-    /// Whether the lists have at most so many bytes and entries.
-    fn keeps_to(&self, bytes: usize, entries: usize) -> bool
-        ensures bytes { result ≡ true → length self.now.text.list.items ≤ bytes }
-        ensures aside { result ≡ true → length self.now.aside.list.items ≤ bytes }
-        ensures notes { result ≡ true → length self.now.notes.list.items ≤ entries }
-        ensures numbers { result ≡ true → length self.now.numbers.items ≤ entries }
-        ensures waiting { result ≡ true → length self.now.waiting.list.items ≤ entries }
-    {
-        if self.text.len() > bytes {
-            return false;
-        }
-        if self.aside.len() > bytes {
-            return false;
-        }
-        if self.notes.len() > entries {
-            return false;
-        }
-        if self.numbers.len() > entries {
-            return false;
-        }
-        self.waiting.len() <= entries
-    }
-
-    /// Empties the lists, and gives them room for so many bytes and entries.
-    fn begin_lists(&mut self, shown: u32, bytes: u32, entries: u32)
-        ensures text { self.new.text.list.items ≡ [] }
-        ensures aside { self.new.aside.list.items ≡ [] }
-        ensures shown { self.new.is_aside ≡ false }
-        ensures notes { self.new.notes.list.items ≡ [] }
-        ensures numbers { self.new.numbers.items ≡ [] }
-        ensures waiting { self.new.waiting.list.items ≡ [] }
+    /// Empties the lists, and gives them room for a symbol of so many bytes: for so much text that is shown, and for so much that isn't.
+    pub fn restart(&mut self, shown: u32, hidden: u32, size: u32)
+        requires shown { shown ≤ 8 * size + 1024 }
+        requires hidden { hidden ≤ 8 * size + 1024 }
+        ensures fresh { (s : List ℕ) → size ≤ length s → IsFresh s self.new }
         ensures rounds { self.new.rounds ≡ self.old.rounds }
     {
         self.text.begin(shown);
-        self.aside.begin(bytes);
+        self.aside.begin(hidden);
         self.is_aside = false;
-        self.notes.begin(entries);
+        self.notes.begin(size);
         self.numbers.clear();
-        self.waiting.begin(entries);
-    }
-
-    /// Takes steps up to the end of a symbol, and counts them.
-    fn run(&mut self, s: &[u8], limit: u32) -> (bool, usize)
-        requires fits { FitsSymbol s.now }
-        requires fresh { IsFresh self.old }
-        ensures answer { result.0 ≡ true → IsAnswer details.Full s.now limit (Ok self.new.text.list.items) }
-        ensures rounds { result.1 ≤ 8 * length s.now }
-    {
-        let Some(first) = self.begin(s) else {
-            return (false, 0);
-        };
-        let mut step = first;
-        let most = ROUNDS_A_BYTE * s.len();
-        let mut rounds = 0;
-        'steps: while rounds < most {
-            rounds += 1;
-            if let Step::Ended = step {
-                let is_within = self.text.len() <= limit as usize / 4;
-                return (is_within, rounds);
-            }
-            match self.take(s, step) {
-                Some(next) => step = next,
-                None => return (false, rounds),
-            }
-        }
-        (false, rounds)
+        self.waiting.begin(size);
     }
 
     /// Takes a step: an argument, its type, the path that this is, and the end of what waited for it, as far as they come.
     #[inline(always)]
-    fn take(&mut self, s: &[u8], step: Step) -> Option<Step>
+    pub fn take(&mut self, s: &[u8], step: Step) -> Option<Step>
         requires fits { FitsSymbol s.now }
         requires writing { IsWriting s.now self.old step }
         ensures { IfSome result (IsWriting s.now self.new) }
@@ -213,11 +119,11 @@ impl Direct {
         }
     }
 
-    /// The first bytes of a symbol.
+    /// Reads the first bytes of a symbol, if it isn't too long.
     // <symbol-name> = "_R" <path> [<instantiating-crate>] [<vendor-specific-suffix>]
-    fn begin(&mut self, s: &[u8]) -> Option<Step>
+    pub fn begin(&mut self, s: &[u8]) -> Option<Step>
         requires fits { FitsSymbol s.now }
-        requires fresh { IsFresh self.old }
+        requires fresh { IsFresh s.now self.old }
         ensures { IfSome result (IsWriting s.now self.new) }
     {
         if s.len() > LONGEST || byte_at(s, 0) != b'_' || byte_at(s, 1) != b'R' {

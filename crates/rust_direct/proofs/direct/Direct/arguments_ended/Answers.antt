@@ -7,5 +7,5 @@ pub ended-requires : goal.ended-requires
 ended-requires c =
     subst (λ f. IsEnded c.args.s.now c.push_byte.new.self c.in-Argument.place c.in-Argument.from f f) (sym c.form_of-forms.ensures)
     (arguments-read c.args.s.now c.args.self.now _ c.push_byte.new.self c.args._is_first c.in-Argument.is_value c.in-Argument.place c.in-Argument.from
-    c.pop.result c.requires.writing c.requires.letter c.pop.ensures.items (c.in_ok-place.was ∙ ap Some c.in-Argument.is) refl refl refl refl refl
+    c.pop.result c.requires.writing c.requires.letter c.pop.ensures.items (c.in_ok-place.was ∙ ap Some c.in-Argument.is) refl refl refl refl refl c.pop.ensures.room
     c.in_ok-self-in-Argument.ensures.1 c.in_ok-push_byte-in-Argument.ensures)

@@ -11,5 +11,5 @@ returns-clause-awaits c =
     let b = c.byte_at-letter.result in
     let is = tested c.is_namespace.result _ c.is_namespace.ensures c.if-not-is_namespace.false in
     nest-begun s c.args.self.now _ b c.requires.awaits c.requires.letter
-    (subst (λ k. StandsAt s k (b ∷ [])) c.in_ok-behind.ensures.1 (c.byte_at-letter.ensures (namespace-there b is))) is c.in_ok-push.ensures.items
+    (subst (λ k. StandsAt s k (b ∷ [])) c.in_ok-behind.ensures.1 (c.byte_at-letter.ensures (namespace-there b is))) is c.in_ok-push.ensures.items c.push.ensures.room
     (c.in_ok-self.ensures.1 ∙ ap (λ k. k + 1) c.in_ok-behind.ensures.1) refl refl refl refl refl

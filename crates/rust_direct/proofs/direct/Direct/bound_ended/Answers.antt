@@ -7,4 +7,4 @@ pub returns : goal.returns
 returns c =
     bound-read c.args.s.now c.args.self.now c.push.new.self _ c.args.place c.args.from c.args.here c.args.forms c.requires
     (tested c.has_form.result _ c.has_form.ensures c.if-not-has_form.false) c.in_ok-push.ensures
-    (record { waiting = c.in_ok-push-2.ensures.items; text = refl; aside = refl; is_aside = refl; notes = refl; numbers = refl; at = refl })
+    (record { waiting = c.in_ok-push-2.ensures.items; room = c.push-2.ensures.room; text = refl; aside = refl; is_aside = refl; notes = refl; numbers = refl; at = refl })

@@ -13,5 +13,5 @@ returns-in_ok-note-in-Nest-clause-writing c =
     let taken : Direct = record c.note.new.self { waiting = c.pop.new.self } in
     ended-writing s (record taken { at = name.end }) c.note-in-Nest.new.self c.in-Nest.place c.args.from c.args.forms c.args.forms
     (unnamed-read s c.args.self.now c.note.new.self taken c.args.parent c.args.from c.args.forms c.pop.result c.in-Nest.letter c.in-Nest.place name.end
-    c.requires.ended c.in_ok-note.ensures c.pop.ensures.items (c.in_ok-letter.was ∙ ap Some c.in-Nest.is) refl refl refl refl refl refl
+    c.requires.ended c.in_ok-note.ensures c.pop.ensures.items (c.in_ok-letter.was ∙ ap Some c.in-Nest.is) refl refl refl refl refl c.pop.ensures.room refl
     (omega (arith, c.if-letter-lt97.false)) named) c.in_ok-note-in-Nest.ensures
