@@ -61,8 +61,8 @@ fn key_of<'a>(symbol: &'a Symbol, firsts: &[u32], node: u32) -> Key<'a>
     }
 }
 
-/// Numbers the nodes of a Rust symbol, with one look-up in a map for each node. A tree that no node before has gets the
-/// next number, counted from 0.
+/// Numbers the nodes of a Rust symbol. A tree that no node before has gets the next number, counted from 0. Two look-ups are made for
+/// each node: one in an ordered map, by what the node has alike with those that equal it, and one of the first of these in a table.
 ///
 /// # Errors
 ///
