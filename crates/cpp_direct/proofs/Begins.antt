@@ -1,13 +1,7 @@
 -- The beginnings of symbols, and their answers.
-use Rattle.std.proofs.Common.{◌≡◌, ◌≢◌, ℕ, ◌+◌, ◌≤◌, ◌/◌, inl, length, List, [], ◌∷◌, ◌++◌, reverse, Bool, true, false, ◌&&◌, ◌||◌, nat_eq, nat_le, Ok, refl, ap, sym, subst, ◌∙◌, arith, codes, cond}
-use Rattle.std.proofs.lemmas.Bool.{false≢true, leb-true, eqb-true}
-use Rattle.sym_print.specs.declared.detail.Detail.TheVariants as details
-use Rattle.sym_print.proofs.Answering.{text_within-ok}
-use Rattle.sym_print.specs.Answer.{text_within}
-use Rattle.sym_demangle.specs.Mangled.{IsAnswer, StandsFor, shaped, answer_of_symbol}
+use Rattle.std.proofs.Common.{◌≡◌, ◌≢◌, ℕ, ◌+◌, inl, length, List, [], ◌∷◌, ◌++◌, reverse, Bool, true, false, ◌&&◌, ◌||◌, nat_eq, refl, ap, sym, subst, ◌∙◌, arith, codes, cond}
+use Rattle.std.proofs.lemmas.Bool.{false≢true, eqb-true}
 use Rattle.cpp_grammar.specs.declared.kind.Kind.{Kind}
-use Rattle.cpp_grammar.specs.Mangled.{cpp_mangled, wide_mangled}
-use Rattle.cpp_grammar.specs.Answer.{shown, root_item}
 use Rattle.cpp_grammar.specs.Term.{Term, Adjustment, non_virtual, by_table, adjusting, special, thunk}
 use Rattle.cpp_grammar.specs.Parts.{thunk_text}
 use Rattle.cpp_grammar.specs.Texts.{Naming, look_up, special_texts, same_bytes}
@@ -15,7 +9,7 @@ use Rattle.cpp_grammar.specs.Values.{State, Value, tree, named, tree_of, signed_
 use Rattle.cpp_grammar.specs.Between.{in_name, in_types, no_items}
 use Rattle.cpp_grammar.specs.Meaning.{encoding_of}
 use Rattle.cpp_grammar.specs.Unfolding.{first_around, first_state}
-use Rattle.cpp_direct.specs.Symbol.{Symbol, mangled_by, mangled_of}
+use Rattle.cpp_direct.specs.Symbol.{Symbol}
 use Rattle.cpp_direct.specs.declared.marks.MarkPlace.{MarkPlace}
 use Rattle.cpp_direct.specs.declared.open.Mark.{Mark}
 use Rattle.cpp_direct.specs.declared.open.Purpose.TheVariants as purposes
@@ -29,7 +23,7 @@ use Rattle.cpp_direct.specs.ItemBytes.{one_of, is_special_letter}
 use Rattle.cpp_direct.specs.Letters.{special_letters}
 use Rattle.cpp_direct.specs.Marks.{IsMarkPlace, has_const, called_on}
 use Rattle.cpp_direct.specs.Prints.{Shows}
-use Rattle.cpp_direct.specs.Stands.{AreCandidates, Encoded, EndsBehind, EncodedBehind, AwaitsItems, IsScoped, IsWhole, Stands, IsWriting, qualifiers}
+use Rattle.cpp_direct.specs.Stands.{AreCandidates, Encoded, EndsBehind, EncodedBehind, AwaitsItems, IsScoped, Stands, IsWriting, qualifiers}
 use Rattle.cpp_direct.specs.Ways.{IsFresh, AwaitsEncoding, AwaitsNest}
 use Rattle.cpp_direct.specs.Written.{Writes, Reads}
 use Rattle.cpp_direct.proofs.FoundTokens.{reads-then}
@@ -37,23 +31,6 @@ use Rattle.cpp_direct.proofs.Moves.{stands-join}
 use Rattle.cpp_direct.proofs.MovesOfEncodings.{symbol-starts, encoding-opens, special-opens, thunk-opens, virtual-thunk-opens, name-nested}
 use Rattle.cpp_direct.proofs.PrintedSymbols.{thunk-shows}
 use Rattle.cpp_direct.proofs.Scopes.{none-scoped}
-
--- ## Answers
-
--- what a symbol stands for is answered by its text, if that is short enough
-answer-by : (wide : Bool) (s text : List ℕ) (t : Term) (limit : ℕ) → StandsFor (mangled_by wide) s (Ok t)
-    → Ok text ≡ text_within limit (shown details.Full (root_item t)) → IsAnswer (mangled_by wide) details.Full s limit (Ok text)
-answer-by true s text t limit stands is = shaped stands.0 stands.1 stands.2 (is ∙ ap (λ r. answer_of_symbol wide_mangled details.Full limit r) stands.3)
-answer-by false s text t limit stands is = shaped stands.0 stands.1 stands.2 (is ∙ ap (λ r. answer_of_symbol cpp_mangled details.Full limit r) stands.3)
-
--- the text of a whole symbol that is short enough is its answer
-pub whole-answer : (s : Symbol) (text : List ℕ) (limit len : ℕ) → IsWhole s text → len ≡ length text → nat_le len (limit / 4) ≡ true
-    → IsAnswer (mangled_of s) details.Full s.bytes limit (Ok text)
-whole-answer s text limit len whole is within =
-    let parts = shown details.Full (root_item whole.whole) in
-    let short : len ≤ limit / 4 = leb-true len (limit / 4) within in
-    answer-by s.is_wide s.bytes text whole.whole limit whole.stands
-    (sym (text_within-ok limit parts text (sym whole.text_is) (omega (arith, whole.cost, short, is))))
 
 -- ## Encodings
 

@@ -1,6 +1,11 @@
 // The lists of a writer.
 
+ghost use Rattle.std.specs.Prelude.{◌≡◌, ◌+◌, ◌*◌, ◌≤◌, [], length};
+ghost use Rattle.sym_core.specs.Number.{FitsSymbol};
+
 use crate::open::{Arguments, Candidate, Nest, Open};
+use crate::symbols::{NO_NEST, NOWHERE};
+use std::alloc::Global;
 use sym_direct::Bounded;
 
 /// The lists with which texts are written, one after the other.
@@ -14,5 +19,60 @@ pub struct Direct {
     /// the elements of a pack of such types, if this is the only one
     pub(crate) argument: Arguments,
     pub(crate) at: usize,
+    /// the steps that the last symbol took
     pub(crate) rounds: usize,
+}
+
+impl Direct {
+    /// Lists that have no memory yet.
+    pub fn new(alloc: Global) -> Direct {
+        Direct {
+            text: Bounded::new(alloc),
+            candidates: Bounded::new(alloc),
+            waiting: Bounded::new(alloc),
+            nest: NO_NEST,
+            argument: NOWHERE,
+            at: 0,
+            rounds: 0,
+        }
+    }
+
+    /// The text that was written last.
+    pub fn text(&self) -> &[u8]
+        ensures { result.now ≡ self.now.text.list.items }
+    {
+        self.text.as_slice()
+    }
+
+    /// Empties the lists, and gives them the room that they have while a symbol is written: the text so many bytes, at most eight for
+    /// each of the symbol's and a kilobyte, and the others an entry for each byte.
+    #[inline(always)]
+    pub fn restart(&mut self, s: &[u8], bytes: u32)
+        requires fits { FitsSymbol s.now }
+        requires bytes { bytes ≤ 8 * length s.now + 1024 }
+        ensures text { self.new.text.list.items ≡ [] }
+        ensures candidates { self.new.candidates.list.items ≡ [] }
+        ensures open { self.new.waiting.list.items ≡ [] }
+        ensures text_room { self.new.text.room ≡ bytes }
+        ensures candidate_room { self.new.candidates.room ≡ length s.now }
+        ensures open_room { self.new.waiting.room ≡ length s.now }
+    {
+        let entries = s.len() as u32;
+        self.text.begin(bytes);
+        self.candidates.begin(entries);
+        self.waiting.begin(entries);
+    }
+
+    /// A symbol is done, after so many steps: the candidates and what stood open are forgotten.
+    #[inline(always)]
+    pub fn forget(&mut self, rounds: usize)
+        ensures text { self.new.text ≡ self.old.text }
+        ensures candidates { self.new.candidates.list.items ≡ [] }
+        ensures open { self.new.waiting.list.items ≡ [] }
+        ensures rounds { self.new.rounds ≡ rounds }
+    {
+        self.candidates.begin(0);
+        self.waiting.begin(0);
+        self.rounds = rounds;
+    }
 }

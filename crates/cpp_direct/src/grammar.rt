@@ -3,7 +3,7 @@
 ghost use Rattle.std.specs.Prelude.{Bool, true, false};
 
 /// A grammar of C++ symbols.
-pub(crate) trait Grammar {
+pub trait Grammar {
     /// Whether it is the wide one, which has what compilers write beside the ABI's symbols.
     const IS_WIDE: bool;
 
@@ -11,7 +11,7 @@ pub(crate) trait Grammar {
 }
 
 /// The grammar of the ABI's symbols.
-pub(crate) struct Abi;
+pub struct Abi;
 
 impl Grammar for Abi {
     const IS_WIDE: bool = false;
@@ -20,7 +20,7 @@ impl Grammar for Abi {
 }
 
 /// The wide grammar.
-pub(crate) struct Wide;
+pub struct Wide;
 
 impl Grammar for Wide {
     const IS_WIDE: bool = true;

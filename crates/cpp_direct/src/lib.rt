@@ -8,7 +8,7 @@
 //! template, or its first four arguments, by themselves or behind pointers, references and const, or expand a pack of
 //! at most four types; and by the wide grammar the constructors and destructors, the types `N S .. I .. E` and the ABI
 //! tags of that. A symbol with anything else in it is given up, and is to be read by its grammar: no answer depends on
-//! this crate, which one call in `itanium` (`mangling`, `wide`) makes and may leave out.
+//! this crate. Step by step it writes a text, and `itanium` (`short_way`) takes the steps, within the bounds that it sets.
 #![tactic(auto)]
 
 mod arrays;
@@ -32,3 +32,6 @@ mod unscoped;
 mod writing;
 
 pub use direct::Direct;
+pub use grammar::{Abi, Grammar, Wide};
+pub use names::are_name_bytes;
+pub use open::Step;

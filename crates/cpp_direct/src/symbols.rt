@@ -1,40 +1,22 @@
 // A symbol from its first byte to its last.
 
-ghost use Rattle.std.specs.Prelude.{◌≡◌, ◌≢◌, ◌≤◌, ◌+◌, ◌*◌, ◌∷◌, [], length, true, false, Ok};
+ghost use Rattle.std.specs.Prelude.{◌≡◌, ◌≢◌, ◌+◌, ◌∷◌, [], true, false};
 ghost use Rattle.std.specs.Option.{IfSome};
-ghost use Rattle.sym_core.specs.Number.{FitsSymbol};
-ghost use Rattle.sym_print.specs.declared.detail.Detail.TheVariants as details;
-ghost use Rattle.sym_demangle.specs.Mangled.{IsAnswer};
 ghost use Rattle.cpp_direct.specs.Holes.{StandsAt};
 ghost use Rattle.cpp_direct.specs.Names.{IsReadable};
 ghost use Rattle.cpp_direct.specs.Stands.{IsWriting, encoding_place};
 ghost use Rattle.cpp_direct.specs.Bytes.{is_local};
 ghost use Rattle.cpp_direct.specs.Ways.{IsFresh, AwaitsEncoding, IsNameEnded, IsFrontRead, AwaitsParameters, IsParameterEnded, IsEncodingEnded, IsSymbolEnded};
-ghost use Rattle.cpp_direct.specs.Symbol.{mangled_by, symbol_by};
+ghost use Rattle.cpp_direct.specs.Symbol.{symbol_by};
 
 use crate::direct::Direct;
-use crate::grammar::{Abi, Grammar, Wide};
+use crate::grammar::Grammar;
 use crate::marks::mark_at;
-use crate::names::are_name_bytes;
 use crate::open::{Argument, Arguments, Mark, Nest, Open, Purpose, Step};
 use crate::tokens::{byte_at, is_local, is_suffix, may_end};
-use std::alloc::Global;
-use sym_direct::Bounded;
-
-/// The longest symbol that is written so, in bytes: the lists stay small, and real symbols are shorter.
-const LONGEST: usize = 4_096;
-
-/// The most bytes of text that are written for each byte of a symbol, and those that are written anyway. Of 725,558 real symbols 70
-/// have longer texts.
-const BYTES_A_BYTE: usize = 8;
-
-const BYTES_ANYWAY: usize = 1_024;
-
-/// The most steps that are taken for each byte of a symbol: each reads a byte, or ends what was read.
-const ROUNDS_A_BYTE: usize = 8;
 
 /// Before the first nested name.
-const NO_NEST: Nest = Nest {
+pub const NO_NEST: Nest = Nest {
     from: 0,
     class_from: 0,
     class_to: 0,
@@ -87,131 +69,9 @@ fn encoding_place(s: &[u8], from: u32) -> u16
 }
 
 impl Direct {
-    /// Lists that have no memory yet.
-    pub fn new(alloc: Global) -> Direct {
-        Direct {
-            text: Bounded::new(alloc),
-            candidates: Bounded::new(alloc),
-            waiting: Bounded::new(alloc),
-            nest: NO_NEST,
-            argument: NOWHERE,
-            at: 0,
-            rounds: 0,
-        }
-    }
-
-    /// The text that was written last.
-    pub fn text(&self) -> &[u8]
-        ensures { result.now ≡ self.now.text.list.items }
-    {
-        self.text.as_slice()
-    }
-
-    /// Writes the text of a symbol in full, by the wide grammar or by the default, if the symbol is one that can be read so and the
-    /// text costs at most a limit, and answers whether it did. Where it didn't, nothing is known of the symbol.
-    ///
-    /// Whatever is answered, at most eight bytes for each of the symbol's and a kilobyte are written, at most eight steps for each
-    /// byte are taken, and no list has more entries than the symbol has bytes. Text and candidates only grow, up to the end of an
-    /// instance of a function template, where what was written up to its return type is taken away.
-    // at the one call, which knows the grammar, so that the other one's steps aren't there
+    /// Takes a step: reads on, and writes the text of what it read, or gives the symbol up.
     #[inline(always)]
-    pub fn write(&mut self, s: &[u8], limit: u32, is_wide: bool) -> bool
-        requires { FitsSymbol s.now }
-        ensures answer { result ≡ true → IsAnswer (mangled_by is_wide) details.Full s.now limit (Ok self.new.text.list.items) }
-        ensures bytes { length self.new.text.list.items ≤ 8 * length s.now + 1024 }
-        ensures candidates { length self.new.candidates.list.items ≤ length s.now }
-        ensures waiting { length self.new.waiting.list.items ≤ length s.now }
-        ensures rounds { self.new.rounds ≤ 8 * length s.now }
-    {
-        let size = s.len();
-        let bytes = BYTES_A_BYTE * size + BYTES_ANYWAY;
-        let shown = bytes.min(limit as usize / 4);
-        self.begin_lists(shown as u32, size as u32);
-        let mut rounds = 0;
-        let is_written = self.run_by(s, limit, is_wide, &mut rounds);
-        self.rounds = rounds;
-        // always: no step gives a list more room than it began with, which no clause of theirs says
-        if self.keeps_to(bytes, size) {
-            return is_written;
-        }
-        self.begin_lists(0, 0);
-        false
-    }
-
-    /// Whether the lists have at most so many bytes and entries.
-    fn keeps_to(&self, bytes: usize, entries: usize) -> bool
-        ensures bytes { result ≡ true → length self.now.text.list.items ≤ bytes }
-        ensures candidates { result ≡ true → length self.now.candidates.list.items ≤ entries }
-        ensures waiting { result ≡ true → length self.now.waiting.list.items ≤ entries }
-    {
-        if self.text.len() > bytes {
-            return false;
-        }
-        if self.candidates.len() > entries {
-            return false;
-        }
-        self.waiting.len() <= entries
-    }
-
-    /// Empties the lists, and gives them room for so many bytes and entries.
-    fn begin_lists(&mut self, bytes: u32, entries: u32)
-        ensures text { self.new.text.list.items ≡ [] }
-        ensures candidates { self.new.candidates.list.items ≡ [] }
-        ensures open { self.new.waiting.list.items ≡ [] }
-        ensures rounds { self.new.rounds ≡ self.old.rounds }
-    {
-        self.text.begin(bytes);
-        self.candidates.begin(entries);
-        self.waiting.begin(entries);
-    }
-
-    /// Takes steps up to the end of a symbol by the wide grammar or by that of the ABI, and counts them.
-    #[inline(always)]
-    fn run_by(&mut self, s: &[u8], limit: u32, is_wide: bool, rounds: &mut usize) -> bool
-        requires fits { FitsSymbol s.now }
-        requires fresh { IsFresh self.old }
-        requires none { rounds.old ≡ 0 }
-        ensures answer { result ≡ true → IsAnswer (mangled_by is_wide) details.Full s.now limit (Ok self.new.text.list.items) }
-        ensures rounds { rounds.new ≤ 8 * length s.now }
-    {
-        if is_wide {
-            return self.run::<Wide>(s, limit, rounds);
-        }
-        self.run::<Abi>(s, limit, rounds)
-    }
-
-    /// Takes steps up to the end of a symbol by a grammar, and counts them.
-    fn run<G: Grammar>(&mut self, s: &[u8], limit: u32, rounds: &mut usize) -> bool
-        requires fits { FitsSymbol s.now }
-        requires fresh { IsFresh self.old }
-        requires none { rounds.old ≡ 0 }
-        ensures answer { result ≡ true → IsAnswer (mangled_by G.IS_WIDE) details.Full s.now limit (Ok self.new.text.list.items) }
-        ensures rounds { rounds.new ≤ 8 * length s.now }
-    {
-        if s.len() > LONGEST || !are_name_bytes(s) {
-            return false;
-        }
-        let Some(first) = self.begin::<G>(s) else {
-            return false;
-        };
-        let mut step = first;
-        let most = ROUNDS_A_BYTE * s.len();
-        'steps: while *rounds < most {
-            *rounds += 1;
-            if let Step::Ended = step {
-                return self.text.end() <= limit / 4;
-            }
-            match self.take::<G>(s, step) {
-                Some(next) => step = next,
-                None => return false,
-            }
-        }
-        false
-    }
-
-    /// Takes a step.
-    #[inline(always)]
-    fn take<G: Grammar>(&mut self, s: &[u8], step: Step) -> Option<Step>
+    pub fn take<G: Grammar>(&mut self, s: &[u8], step: Step) -> Option<Step>
         requires fits { IsReadable s.now }
         requires writing { IsWriting (symbol_by G.IS_WIDE s.now) self.old step }
         ensures { IfSome result (IsWriting (symbol_by G.IS_WIDE s.now) self.new) }
@@ -234,9 +94,9 @@ impl Direct {
         }
     }
 
-    /// The first bytes of a symbol.
+    /// Reads the first bytes of a symbol, for which the lists have begun, or gives it up.
     // <mangled-name> ::= _Z <encoding>
-    fn begin<G: Grammar>(&mut self, s: &[u8]) -> Option<Step>
+    pub fn begin<G: Grammar>(&mut self, s: &[u8]) -> Option<Step>
         requires fits { IsReadable s.now }
         requires fresh { IsFresh self.old }
         ensures { IfSome result (IsWriting (symbol_by G.IS_WIDE s.now) self.new) }

@@ -4,6 +4,7 @@
 mod demangling;
 mod grammar;
 mod mangling;
+mod short_way;
 mod wide;
 
 pub use cpp_layout::{

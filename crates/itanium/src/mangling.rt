@@ -19,6 +19,7 @@ ghost use Rattle.cpp_link.specs.NodeCount.{cpp_counted, nodes_of_shape};
 ghost use Rattle.itanium.specs.Whole.{HasWhole};
 
 use crate::grammar::Abi;
+use crate::short_way::write;
 use cpp_direct::Direct;
 use cpp_layout::{Context, Detail, Symbol};
 use cpp_link::linked::Linked;
@@ -155,7 +156,7 @@ impl Mangling for Abi {
         requires { FitsSymbol symbol.now }
         ensures { result ≡ true → IsAnswer details.Full symbol.now limit (Ok direct.new.text.list.items) }
     {
-        direct.write(symbol, limit, false)
+        write(direct, symbol, limit, false)
     }
 
     #[inline(always)]

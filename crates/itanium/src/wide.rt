@@ -17,6 +17,7 @@ ghost use Rattle.cpp_link.specs.LinkRescoping.{wide_counted, wide_nodes_of_shape
 
 use crate::grammar::Wide;
 use crate::mangling::finished;
+use crate::short_way::write;
 use cpp_direct::Direct;
 use cpp_layout::{Context, Detail, Symbol};
 use cpp_link::part::Part;
@@ -120,7 +121,7 @@ impl Mangling for Wide {
         requires { FitsSymbol symbol.now }
         ensures { result ≡ true → IsAnswer wide_mangled details.Full symbol.now limit (Ok direct.new.text.list.items) }
     {
-        direct.write(symbol, limit, true)
+        write(direct, symbol, limit, true)
     }
 
     #[inline(always)]

@@ -1,11 +1,11 @@
 -- The writer has come to the step that is next, and has taken no more than it may.
 use Rattle.std.specs.Prelude.{◌≤◌, ◌-◌, ◌*◌, length}
-use Rattle.cpp_direct.specs.Symbol.{symbol_by}
 use Rattle.cpp_direct.specs.Stands.{IsWriting}
-use Rattle.cpp_direct.proofs.direct.Direct.run.Given as goal
+use Rattle.cpp_direct.specs.Symbol.{symbol_by}
+use Rattle.itanium.proofs.short_way.run.Given as goal
 
 abbrev pub invariant-steps : goal.invariant-steps
-invariant-steps g l = IsWriting (symbol_by g.G.Grammar.IS_WIDE l.s) l.self l.step × (l.rounds ≤ 8 * length l.s)
+invariant-steps g l = IsWriting (symbol_by g.G.Grammar.IS_WIDE l.s) l.direct l.step × (l.rounds ≤ 8 * length l.s)
 
 abbrev pub decreases-steps : goal.decreases-steps
-decreases-steps g l = l.most - l.rounds
+decreases-steps g l = l.last - l.rounds

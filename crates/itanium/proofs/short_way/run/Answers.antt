@@ -1,17 +1,15 @@
 use Rattle.std.proofs.Common.{subst, arith}
-use Rattle.cpp_direct.specs.Symbol.{symbol_by}
 use Rattle.cpp_direct.specs.Stands.{IsBefore}
-use Rattle.cpp_direct.proofs.Begins.{whole-answer}
-use Rattle.cpp_direct.proofs.direct.Direct.run.Goals as goal
+use Rattle.cpp_direct.specs.Symbol.{symbol_by}
+use Rattle.itanium.proofs.short_way.run.Goals as goal
 
 pub steps-init : goal.steps-init
 steps-init g c = (c.in-Some.ensures, omega (arith, c.requires.none))
 
-pub returns-in-Ended-clause-answer : goal.returns-in-Ended-clause-answer
-returns-in-Ended-clause-answer g c within =
-    whole-answer (symbol_by g.G.Grammar.IS_WIDE c.args.s.now) c.steps.self.text.list.items c.args.limit c.end.result
-    (subst (λ k. IsBefore (symbol_by g.G.Grammar.IS_WIDE c.args.s.now) c.steps.self c.steps.invariant.0.state k) c.in-Ended.is c.steps.invariant.0.is_before)
-    c.end.ensures within
+pub returns-in-Ended-clause-whole : goal.returns-in-Ended-clause-whole
+returns-in-Ended-clause-whole g c within =
+    subst (λ k. IsBefore (symbol_by g.G.Grammar.IS_WIDE c.args.s.now) c.steps.direct c.steps.invariant.0.state k) c.in-Ended.is
+    c.steps.invariant.0.is_before
 
 pub begin-requires-clause-fits : goal.begin-requires-clause-fits
 begin-requires-clause-fits g c = record { fits = c.requires.fits; plain = c.are_name_bytes.ensures c.if-not-are_name_bytes.false }

@@ -1,0 +1,98 @@
+// The short way: a symbol's text, written while its bytes are read.
+
+ghost use Rattle.std.specs.Prelude.{◌≡◌, ◌≤◌, ◌+◌, ◌*◌, length, true, Ok};
+ghost use Rattle.sym_core.specs.Number.{FitsSymbol};
+ghost use Rattle.sym_print.specs.declared.detail.Detail.TheVariants as details;
+ghost use Rattle.sym_demangle.specs.Mangled.{IsAnswer};
+ghost use Rattle.cpp_direct.specs.Stands.{IsWhole};
+ghost use Rattle.cpp_direct.specs.Symbol.{mangled_by, symbol_by};
+ghost use Rattle.cpp_direct.specs.Ways.{IsFresh};
+
+use cpp_direct::{Abi, Direct, Grammar, Step, Wide, are_name_bytes};
+
+/// The longest symbol that is written so, in bytes: the lists stay small, and real symbols are shorter.
+const LONGEST: usize = 4_096;
+
+/// The most bytes of text that are written for each byte of a symbol, and those that are written anyway. Of 725,558 real symbols 70
+/// have longer texts.
+const BYTES_A_BYTE: usize = 8;
+
+const BYTES_ANYWAY: usize = 1_024;
+
+/// The most steps that are taken for each byte of a symbol: each reads a byte, or ends what was read.
+const ROUNDS_A_BYTE: usize = 8;
+
+/// Writes the text of a symbol in full, by the wide grammar or by the default, if the symbol is one that can be read so and the
+/// text costs at most a limit, and answers whether it did. Where it didn't, nothing is known of the symbol.
+///
+/// Whatever is answered, at most eight bytes for each of the symbol's and a kilobyte are written, at most eight steps for each
+/// byte are taken, and no list has more entries than the symbol has bytes: no list has room for more. Text and candidates only
+/// grow, up to the end of an instance of a function template, where what was written up to its return type is taken away.
+// at the one call, which knows the grammar, so that the other one's steps aren't there
+#[inline(always)]
+pub fn write(direct: &mut Direct, s: &[u8], limit: u32, is_wide: bool) -> bool
+    requires { FitsSymbol s.now }
+    ensures answer { result ≡ true → IsAnswer (mangled_by is_wide) details.Full s.now limit (Ok direct.new.text.list.items) }
+    ensures bytes { length direct.new.text.list.items ≤ 8 * length s.now + 1024 }
+    ensures candidates { length direct.new.candidates.list.items ≤ length s.now }
+    ensures waiting { length direct.new.waiting.list.items ≤ length s.now }
+    ensures rounds { direct.new.rounds ≤ 8 * length s.now }
+{
+    let bytes = BYTES_A_BYTE * s.len() + BYTES_ANYWAY;
+    let most = bytes.min(limit as usize / 4) as u32;
+    direct.restart(s, most);
+    let mut rounds = 0;
+    if run_by(direct, s, most, is_wide, &mut rounds) {
+        direct.forget(rounds);
+        return true;
+    }
+    direct.restart(s, 0);
+    direct.forget(rounds);
+    false
+}
+
+/// Takes steps up to the end of a symbol by the wide grammar or by that of the ABI, and counts them.
+#[inline(always)]
+fn run_by(direct: &mut Direct, s: &[u8], most: u32, is_wide: bool, rounds: &mut usize) -> bool
+    requires fits { FitsSymbol s.now }
+    requires fresh { IsFresh direct.old }
+    requires none { rounds.old ≡ 0 }
+    ensures whole { result ≡ true → IsWhole (symbol_by is_wide s.now) direct.new.text.list.items }
+    ensures within { result ≡ true → length direct.new.text.list.items ≤ most }
+    ensures rounds { rounds.new ≤ 8 * length s.now }
+{
+    if is_wide {
+        return run::<Wide>(direct, s, most, rounds);
+    }
+    run::<Abi>(direct, s, most, rounds)
+}
+
+/// Takes steps up to the end of a symbol by a grammar, and counts them. Its text has at most so many bytes.
+fn run<G: Grammar>(direct: &mut Direct, s: &[u8], most: u32, rounds: &mut usize) -> bool
+    requires fits { FitsSymbol s.now }
+    requires fresh { IsFresh direct.old }
+    requires none { rounds.old ≡ 0 }
+    ensures whole { result ≡ true → IsWhole (symbol_by G.IS_WIDE s.now) direct.new.text.list.items }
+    ensures within { result ≡ true → length direct.new.text.list.items ≤ most }
+    ensures rounds { rounds.new ≤ 8 * length s.now }
+{
+    if s.len() > LONGEST || !are_name_bytes(s) {
+        return false;
+    }
+    let Some(first) = direct.begin::<G>(s) else {
+        return false;
+    };
+    let mut step = first;
+    let last = ROUNDS_A_BYTE * s.len();
+    'steps: while *rounds < last {
+        *rounds += 1;
+        if let Step::Ended = step {
+            return direct.text().len() <= most as usize;
+        }
+        match direct.take::<G>(s, step) {
+            Some(next) => step = next,
+            None => return false,
+        }
+    }
+    false
+}
