@@ -10,6 +10,7 @@ pub mod Meanings
 pub mod NodeCount
 pub mod Noted
 pub mod Places
+pub mod Printing
 pub mod Reading
 pub mod Referring
 pub mod Rows

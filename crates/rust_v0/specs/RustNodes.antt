@@ -55,6 +55,15 @@ pub record GoesOn (old new : RustNodes) : Type 0 where
   pub nodes : Grows old.nodes new.nodes
   pub places : length old.targets.items ≤ length new.targets.items
 
+-- something may be printed to the text list, and nothing else has changed
+pub record Prints (old new : RustNodes) : Type 0 where
+  pub nodes : new.nodes.nodes ≡ old.nodes.nodes
+  pub ended : new.targets.items ≡ old.targets.items
+  pub grows : Grows old.nodes new.nodes
+  pub stays : (s : List ℕ) → IsTable s old.nodes → IsTable s new.nodes
+  pub node_room : new.nodes.node_room ≡ old.nodes.node_room
+  pub text_room : old.nodes.text_room ≤ new.nodes.text_room
+
 -- the text list is paid for by so many bytes, and begins with the decimal of zero
 pub record IsPaid (linked : RustNodes) (bytes : ℕ) : Type 0 where
   pub begun : first_nodes ≤ length linked.nodes.nodes

@@ -15,7 +15,7 @@ ghost use Rattle.rust_grammar.specs.Unfold.{value16 as value_of_hex, value62 as 
 ghost use Rattle.rust_grammar.specs.Value.{a_name};
 ghost use Rattle.rust_v0.specs.PartValues.{IsNumber, IsPart};
 ghost use Rattle.rust_v0.specs.Made.{ground};
-ghost use Rattle.rust_v0.specs.RustNodes.{most_text};
+ghost use Rattle.rust_v0.specs.RustNodes.{most_text, Prints};
 ghost use Rattle.rust_v0.specs.declared.tokens.TokenSort.TheVariants as sorts;
 
 use crate::nodes::RustNodes;
@@ -121,16 +121,11 @@ impl RustNodes {
         requires zero { HasZero self.old.nodes.text }
         ensures within { IfOk result (λ span. IsWithin span self.new.nodes.text) }
         ensures printed { IfOk result (λ span. bytes_at self.new.nodes.text span ≡ signed_text (minus && nat_lt 0 magnitude) magnitude) }
-        ensures nodes { self.new.nodes.nodes ≡ self.old.nodes.nodes }
-        ensures ended { self.new.targets.items ≡ self.old.targets.items }
-        ensures grows { Grows self.old.nodes self.new.nodes }
-        ensures stays { (s : List ℕ) → IsTable s self.old.nodes → IsTable s self.new.nodes }
+        ensures prints { Prints self.old self.new }
         ensures none { OnOk result (magnitude ≡ 0 → self.new.nodes.text ≡ self.old.nodes.text) }
         ensures few { OnOk result (length self.new.nodes.text ≤ length self.old.nodes.text + length (signed_text minus magnitude)) }
         ensures memory { IfErr result (λ e. e ≡ refusals.Memory) }
         ensures full { OnErr result ((0 < magnitude) × (self.old.nodes.text_room < length self.new.nodes.text + length (signed_text minus magnitude))) }
-        ensures node_room { self.new.nodes.node_room ≡ self.old.nodes.node_room }
-        ensures text_room { self.old.nodes.text_room ≤ self.new.nodes.text_room }
     {
         if magnitude == 0 {
             return Ok(Span { from: 0, to: 1 });
@@ -146,14 +141,9 @@ impl RustNodes {
         requires zero { HasZero self.old.nodes.text }
         ensures part { IfOk result (λ part. IsPart (ground symbol.now self.new.nodes) part (an_integer_of minus (value_of_hex (bytes_at symbol.now own)))) }
         ensures memory { AreDigitsOf Hex (bytes_at symbol.now own) → IfErr result (λ e. e ≡ refusals.Memory) }
-        ensures nodes { self.new.nodes.nodes ≡ self.old.nodes.nodes }
-        ensures ended { self.new.targets.items ≡ self.old.targets.items }
-        ensures grows { Grows self.old.nodes self.new.nodes }
-        ensures stays { (s : List ℕ) → IsTable s self.old.nodes → IsTable s self.new.nodes }
+        ensures prints { Prints self.old self.new }
         ensures few { OnOk result (length self.new.nodes.text ≤ length self.old.nodes.text + 4 * (own.to - own.from)) }
         ensures full { IfErr result (λ e. e ≡ refusals.Memory → self.old.nodes.text_room < length self.new.nodes.text + 4 * (own.to - own.from)) }
-        ensures node_room { self.new.nodes.node_room ≡ self.old.nodes.node_room }
-        ensures text_room { self.old.nodes.text_room ≤ self.new.nodes.text_room }
     {
         let bytes = &symbol[own.from as usize..own.to as usize];
         if !are_digits(NumberKind::Hex, bytes) {
@@ -182,15 +172,10 @@ impl RustNodes {
         requires room { length self.old.nodes.text + 4 * length symbol.now + 10 < 2 ^ 32 }
         ensures part { IfOk result (λ part. IsPart (ground symbol.now self.new.nodes) part (a_name (record { punycode = true; bytes = bytes_at symbol.now own }))) }
         ensures memory { AreNameBytes Rust (bytes_at symbol.now own) → IfErr result (λ e. e ≡ refusals.Memory) }
-        ensures nodes { self.new.nodes.nodes ≡ self.old.nodes.nodes }
-        ensures ended { self.new.targets.items ≡ self.old.targets.items }
-        ensures grows { Grows self.old.nodes self.new.nodes }
-        ensures stays { (s : List ℕ) → IsTable s self.old.nodes → IsTable s self.new.nodes }
+        ensures prints { Prints self.old self.new }
         ensures few { OnOk result (length self.new.nodes.text ≤ length self.old.nodes.text + 4 * (own.to - own.from) + 8) }
         ensures full { IfErr result (λ e. e ≡ refusals.Memory → IsDecoded true (bytes_at symbol.now own)
             ⊎ (self.old.nodes.text_room < length self.new.nodes.text + (own.to - own.from) + 10)) }
-        ensures node_room { self.new.nodes.node_room ≡ self.old.nodes.node_room }
-        ensures text_room { self.old.nodes.text_room ≤ self.new.nodes.text_room }
     {
         let bytes = &symbol[own.from as usize..own.to as usize];
         if !are_name_bytes(NameClass::Rust, bytes) {

@@ -1,4 +1,4 @@
-use Rattle.std.proofs.Common.{refl, ◌≡◌, ◌∙◌, ◌-◌, ◌&&◌, sym, subst, ap, arith, length, take, drop}
+use Rattle.std.proofs.Common.{◌≡◌, ◌∙◌, ◌-◌, ◌&&◌, sym, subst, ap, arith, length, take, drop}
 use Rattle.std.specs.Prelude.{nat_lt}
 use Rattle.std.proofs.lemmas.Result.{err_from_is_err_and}
 use Rattle.sym_core.specs.Number.{AreDigits}
@@ -6,16 +6,16 @@ use Rattle.sym_core.specs.declared.NumberKind.TheVariants.{Hex}
 use Rattle.sym_core.specs.Printed.{signed_text}
 use Rattle.sym_link.proofs.Lists.{span_length}
 use Rattle.rust_tree.specs.Nodes.{HasNoZero}
-use Rattle.rust_tree.proofs.Trees.{grows-same}
+use Rattle.rust_v0.proofs.Printing.{prints-none}
 use Rattle.rust_grammar.specs.Unfold.{value16}
 use Rattle.rust_v0.proofs.Integers.{digits_behind, digits_left, digits_pay, text_few}
 use Rattle.rust_v0.proofs.nodes.RustNodes.integer.Goals as goal
 
-pub returns-then-not-are_digits-clause-grows : goal.returns-then-not-are_digits-clause-grows
-returns-then-not-are_digits-clause-grows c = grows-same c.args.self.now.nodes c.args.self.now.nodes refl
+pub returns-then-not-are_digits-clause-prints : goal.returns-then-not-are_digits-clause-prints
+returns-then-not-are_digits-clause-prints c = prints-none c.args.self.now
 
-pub returns-in-None-clause-grows : goal.returns-in-None-clause-grows
-returns-in-None-clause-grows c = grows-same c.args.self.now.nodes c.args.self.now.nodes refl
+pub returns-in-None-clause-prints : goal.returns-in-None-clause-prints
+returns-in-None-clause-prints c = prints-none c.args.self.now
 
 pub returns-in_ok-printed-in-Some-clause-part : goal.returns-in_ok-printed-in-Some-clause-part
 returns-in_ok-printed-in-Some-clause-part c =

@@ -1,12 +1,12 @@
-use Rattle.std.proofs.Common.{refl, ◌-◌, length, take, drop}
+use Rattle.std.proofs.Common.{◌-◌, length, take, drop}
 use Rattle.std.proofs.lemmas.Result.{err_from_is_err_and}
 use Rattle.sym_link.proofs.Lists.{span_length}
 use Rattle.rust_v0.proofs.Undecoded.{undecoded_few}
-use Rattle.rust_tree.proofs.Trees.{grows-same}
+use Rattle.rust_v0.proofs.Printing.{prints-none}
 use Rattle.rust_v0.proofs.nodes.RustNodes.punycode_name.Goals as goal
 
-pub returns-then-not-are_name_bytes-clause-grows : goal.returns-then-not-are_name_bytes-clause-grows
-returns-then-not-are_name_bytes-clause-grows c = grows-same c.args.self.now.nodes c.args.self.now.nodes refl
+pub returns-then-not-are_name_bytes-clause-prints : goal.returns-then-not-are_name_bytes-clause-prints
+returns-then-not-are_name_bytes-clause-prints c = prints-none c.args.self.now
 
 pub returns-in_err-printed-clause-full : goal.returns-in_err-printed-clause-full
 returns-in_err-printed-clause-full c =
