@@ -1,11 +1,12 @@
 -- How the nodes that have been made are what the reading of a symbol says.
-use Rattle.std.specs.Prelude.{◌≡◌, ◌⊎◌, ℕ, ◌+◌, ◌-◌, ◌*◌, ◌≤◌, ◌<◌, List, [], ◌∷◌, true, length, get_or, slice_get, Option, Some, None, Err, nat_le, if◌then◌else◌}
+use Rattle.std.specs.Prelude.{◌≡◌, ◌⊎◌, ℕ, ◌+◌, ◌-◌, ◌*◌, ◌≤◌, ◌<◌, List, [], ◌∷◌, true, length, get_or, slice_get, Option, Some, None, Result, Err, IfErr, nat_le, if◌then◌else◌}
 use Rattle.sym_core.specs.Printed.{IsDecoded}
 use Rattle.sym_link.specs.Linking.{View}
 use Rattle.rust_tree.specs.Symbol as tree
 use Rattle.rust_tree.specs.Tree.{Tree, of_type}
 use Rattle.rust_tree.specs.Nodes.{most_bound, IsTable, Grows, IsPath, IsConstant}
-use Rattle.sym_core.specs.declared.refusal.Refusal.TheVariants.{BadReference}
+use Rattle.sym_core.specs.declared.refusal.Refusal.{Refusal}
+use Rattle.sym_core.specs.declared.refusal.Refusal.TheVariants.{BadReference, Memory}
 use Rattle.rust_grammar.specs.declared.production.Production.{Production}
 use Rattle.rust_grammar.specs.declared.production.Production.TheVariants as rules
 use Rattle.rust_v0.specs.declared.nodes.Target.{Target}
@@ -63,6 +64,15 @@ pub record Prints (old new : RustNodes) : Type 0 where
   pub stays : (s : List ℕ) → IsTable s old.nodes → IsTable s new.nodes
   pub node_room : new.nodes.node_room ≡ old.nodes.node_room
   pub text_room : old.nodes.text_room ≤ new.nodes.text_room
+
+-- A node may be added, and nothing else. Where memory is refused for it, the list of nodes had no room for one more.
+pub record AddsOne {X : Type 0} (old new : RustNodes) (result : Result X Refusal) : Type 0 where
+  pub grows : GoesOn old new
+  pub one : length new.nodes.nodes ≤ length old.nodes.nodes + 1
+  pub text : new.nodes.text ≡ old.nodes.text
+  pub full : IfErr result (λ e. e ≡ Memory → old.nodes.node_room < length new.nodes.nodes + 1)
+  pub node_room : old.nodes.node_room ≤ new.nodes.node_room
+  pub text_room : new.nodes.text_room ≡ old.nodes.text_room
 
 -- the text list is paid for by so many bytes, and begins with the decimal of zero
 pub record IsPaid (linked : RustNodes) (bytes : ℕ) : Type 0 where

@@ -13,7 +13,7 @@ ghost use Rattle.rust_grammar.specs.Productions.{is_reference, makes_part};
 ghost use Rattle.rust_v0.specs.CodeSemantics as semantics;
 ghost use Rattle.rust_v0.specs.CodeSemantics.{Outcome, of_node};
 ghost use Rattle.rust_v0.specs.Made.{MadeGives, ground};
-ghost use Rattle.rust_v0.specs.RustNodes.{v0_view, Keeps, GoesOn, IsNoted, IsPaid, first_nodes, refers_to, refers_by};
+ghost use Rattle.rust_v0.specs.RustNodes.{v0_view, Keeps, AddsOne, IsNoted, IsPaid, first_nodes, refers_to, refers_by};
 ghost use Rattle.sym_link.specs.Linking.{Gives};
 ghost use Rattle.sym_link.specs.Driving.{AreAll};
 ghost use Rattle.sym_core.specs.Number.{FitsSymbol};
@@ -172,13 +172,8 @@ impl RustNodes {
         requires room { length self.old.nodes.nodes + 1 < 2 ^ 32 }
         ensures gives { (at : At) (read : Meaning) → at.place ≡ place → place < length self.old.targets.items → Keeps at.symbol self.old at.ended
             → MadeGives at.symbol self.old.nodes at (Ok (Made.Node node)) read → Gives (v0_view at.symbol) self.new (semantics.as_part result) read }
-        ensures grows { GoesOn self.old self.new }
-        ensures one { length self.new.nodes.nodes ≤ length self.old.nodes.nodes + 1 }
+        ensures adds { AddsOne self.old self.new result }
         ensures more { OnOk result (length self.new.nodes.nodes ≡ length self.old.nodes.nodes + 1) }
-        ensures text { self.new.nodes.text ≡ self.old.nodes.text }
-        ensures full { IfErr result (λ e. e ≡ refusals.Memory → self.old.nodes.node_room < length self.new.nodes.nodes + 1) }
-        ensures node_room { self.old.nodes.node_room ≤ self.new.nodes.node_room }
-        ensures text_room { self.new.nodes.text_room ≡ self.old.nodes.text_room }
     {
         let number = self.nodes.push(node)?;
         let (added, target) = placed(node, number);
@@ -307,13 +302,8 @@ impl RustNodes {
         requires never { IfErr made (λ e. e ≢ refusals.Memory) }
         ensures gives { (at : At) (read : Meaning) (meant : Outcome) → of_node made ≡ meant → at.place ≡ place → place < length self.old.targets.items → Keeps at.symbol self.old at.ended
             → MadeGives at.symbol self.old.nodes at meant read → Gives (v0_view at.symbol) self.new (semantics.as_part result) read }
-        ensures grows { GoesOn self.old self.new }
-        ensures one { length self.new.nodes.nodes ≤ length self.old.nodes.nodes + 1 }
+        ensures adds { AddsOne self.old self.new result }
         ensures more { OnOk result (length self.new.nodes.nodes ≡ length self.old.nodes.nodes + 1) }
-        ensures text { self.new.nodes.text ≡ self.old.nodes.text }
-        ensures full { IfErr result (λ e. e ≡ refusals.Memory → self.old.nodes.node_room < length self.new.nodes.nodes + 1) }
-        ensures node_room { self.old.nodes.node_room ≤ self.new.nodes.node_room }
-        ensures text_room { self.new.nodes.text_room ≡ self.old.nodes.text_room }
     {
         match made {
             Ok(node) => self.add(place, node),
@@ -333,13 +323,8 @@ impl RustNodes {
         ensures gives { (at : At) (read : Meaning) → is_reference production ≡ false → makes_part production ≡ false
             → at.place ≡ site.place → site.byte ≡ slice_index at.symbol at.place → site.place < length self.old.targets.items → Keeps at.symbol self.old at.ended
             → MadeGives at.symbol self.old.nodes at (semantics.made production at.symbol at.place at.bound parts.now) read → Gives (v0_view at.symbol) self.new (semantics.as_part result) read }
-        ensures grows { GoesOn self.old self.new }
-        ensures one { length self.new.nodes.nodes ≤ length self.old.nodes.nodes + 1 }
+        ensures adds { AddsOne self.old self.new result }
         ensures more { OnOk result (length self.new.nodes.nodes ≡ length self.old.nodes.nodes + 1) }
-        ensures text { self.new.nodes.text ≡ self.old.nodes.text }
-        ensures full { IfErr result (λ e. e ≡ refusals.Memory → self.old.nodes.node_room < length self.new.nodes.nodes + 1) }
-        ensures node_room { self.old.nodes.node_room ≤ self.new.nodes.node_room }
-        ensures text_room { self.new.nodes.text_room ≡ self.old.nodes.text_room }
     {
         let place = site.place;
         match production {

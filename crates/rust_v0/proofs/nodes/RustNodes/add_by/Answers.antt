@@ -1,6 +1,6 @@
-use Rattle.std.proofs.Common.{refl}
-use Rattle.rust_v0.proofs.Meanings.{goes_on_same}
+use Rattle.std.proofs.Common.{rules}
+use Rattle.rust_v0.proofs.Printing.{adds-none}
 use Rattle.rust_v0.proofs.nodes.RustNodes.add_by.Goals as goal
 
-pub returns-in_default-clause-grows : goal.returns-in_default-clause-grows
-returns-in_default-clause-grows c = goes_on_same c.args.self.now c.args.self.now refl refl
+pub returns-in_default-clause-adds : goal.returns-in_default-clause-adds
+returns-in_default-clause-adds c = adds-none c.args.self.now _ (search rules)

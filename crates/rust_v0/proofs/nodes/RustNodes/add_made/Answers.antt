@@ -1,6 +1,6 @@
-use Rattle.std.proofs.Common.{refl}
-use Rattle.rust_v0.proofs.Meanings.{goes_on_same}
+use Rattle.std.proofs.Common.{rules}
+use Rattle.rust_v0.proofs.Printing.{adds-none}
 use Rattle.rust_v0.proofs.nodes.RustNodes.add_made.Goals as goal
 
-pub returns-in-Err-clause-grows : goal.returns-in-Err-clause-grows
-returns-in-Err-clause-grows c = goes_on_same c.args.self.now c.args.self.now refl refl
+pub returns-in-Err-clause-adds : goal.returns-in-Err-clause-adds
+returns-in-Err-clause-adds c = adds-none c.args.self.now _ (search rules)
