@@ -53,7 +53,7 @@ Expects s kind around os at state = ExpectsSym s (OfKind (number_of_kind kind)) 
 
 -- a tree as a candidate that is made here
 abbrev pub candidate : Around → Term → Candidate
-candidate around t = record { tree = t; encoding = around.encoding; in_lambda = around.in_lambda }
+candidate around t = record { tree = t; encoding = around.encoding; in_lambda = around.in_lambda; is_held = false }
 
 -- one more candidate, made here
 abbrev pub with_candidate : Around → Term → State → State

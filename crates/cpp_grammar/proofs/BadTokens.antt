@@ -10,12 +10,12 @@ use Rattle.sym_link.specs.Reading.{Found, Next, Open, ◌>>=◌}
 use Rattle.sym_link.specs.Unfold.{found, alone, standing, unfold_tree, unfold_forest}
 use Rattle.sym_demangle.specs.Mangled.{IsBadToken}
 use Rattle.cpp_grammar.specs.declared.production.Production.{Production}
-use Rattle.cpp_grammar.specs.Term.{Term, parameter}
+use Rattle.cpp_grammar.specs.Term.{Term, holder, parameter}
 use Rattle.cpp_grammar.specs.Scope.{count, element, length_if_pack, is_open, pack_length, Free, none_free, one_free, several_free, free_in}
-use Rattle.cpp_grammar.specs.Values.{Candidate, State, Around, Value, tree, text_of, part, local_number}
+use Rattle.cpp_grammar.specs.Values.{Candidate, State, Around, prefix_tree, Value, tree, text_of, part, local_number}
 use Rattle.cpp_grammar.specs.References.{appended, with_packs, packs_in, substituted, parameter_named}
 use Rattle.cpp_grammar.specs.Between.{named_so_far, listed_so_far, piece_so_far, tag_so_far, parameter_so_far, index_of, between, next, argument_so_far}
-use Rattle.cpp_grammar.specs.Rescoping.{generic_so_far, parameter_here, is_foreign, in_scope, with_free, restated, substituted_wide, between_wide, close_wide, cpp_wide, unfold_wide, argument_here, generic_number}
+use Rattle.cpp_grammar.specs.Rescoping.{generic_so_far, parameter_here, is_foreign, in_scope, with_free, restated, substituted_wide, numbered, is_counted_alike, with_holder, is_instance, holder_so_far, between_wide, close_wide, cpp_wide, unfold_wide, argument_here, generic_number}
 use Rattle.cpp_grammar.proofs.Ways.{Way, reading_by, abi_way, wide_way}
 use Rattle.cpp_grammar.specs.Unfolding.{last_token, number_tested, opening, close, production_at, byte_of, cpp, first_around, first_state, first_tree, unfold_cpp}
 
@@ -105,6 +105,7 @@ between_bad Production.Parameter around place (v ∷ []) state = parameter_bad a
 between_bad Production.ParameterArgument around place (v ∷ []) state = parameter_bad around (place - 1) (index_of v) [] state
 between_bad Production.ParameterExpression around place (v ∷ []) state = argument_bad around place (index_of v) state
 between_bad Production.BoundedArray around place (v ∷ []) state = argument_bad around place (index_of v) state
+between_bad Production.Holder around place (v ∷ []) state = tt
 between_bad Production.Symbol around place [] state = tt
 between_bad _ around place [] state = tt
 between_bad _ around place (v ∷ []) state = tt
@@ -185,6 +186,28 @@ wide_substituted_bad around place (Some c) state = go (is_foreign around c)
     go true = restated_bad around place c.tree state
     go false = substituted_bad around place (Some c) state
 
+numbered_bad : (around : Around) (place number : ℕ) (state : State) → IsBad (numbered around place number state)
+unfolding numbered
+numbered_bad around place number state = go (is_counted_alike state.candidates number)
+  where
+    go : (b : Bool) → IsBad {A = Found Value State} (elim b [
+      | true ↦ substituted_wide around place (slice_get state.candidates number) state
+      | false ↦ Err (BadReference place)
+    ])
+    go true = wide_substituted_bad around place (slice_get state.candidates number) state
+    go false = tt
+
+holder_bad : (around : Around) (place : ℕ) (state : State) → IsBad (holder_so_far around place state)
+unfolding holder_so_far listed_so_far
+holder_bad around place state = go (is_instance (prefix_tree around.prefix))
+  where
+    go : (b : Bool) → IsBad {A = Next Value State Around} (elim b [
+      | true ↦ Err (BadReference place)
+      | false ↦ listed_so_far around (holder (prefix_tree around.prefix)) [] (with_holder around (holder (prefix_tree around.prefix)) state)
+    ])
+    go true = tt
+    go false = tt
+
 wide_between_bad : (p : Production) (around : Around) (place : ℕ) (vs : List Value) (state : State) → IsBad (between_wide p around place vs state)
 unfolding between_wide
 wide_between_bad Production.NestParameter around place (v ∷ []) state = here_bad around place (index_of v) state
@@ -192,11 +215,12 @@ wide_between_bad Production.Parameter around place (v ∷ []) state = here_bad a
 wide_between_bad Production.ParameterArgument around place (v ∷ []) state = here_bad around (place - 1) (index_of v) state
 wide_between_bad Production.ParameterExpression around place (v ∷ []) state = argument_here_bad around place (index_of v) state
 wide_between_bad Production.BoundedArray around place (v ∷ []) state = argument_here_bad around place (index_of v) state
+wide_between_bad Production.Holder around place (v ∷ []) state = holder_bad around place state
 wide_between_bad p around place vs state = between_bad p around place vs state
 
 wide_close_bad : (p : Production) (byte : ℕ) (around : Around) (place : ℕ) (began : State) (vs : List Value) (state : State) → IsBad (close_wide p byte around place began vs state)
 unfolding close_wide
-wide_close_bad Production.Substitution byte around place began vs state = wide_substituted_bad around (place - 1) (slice_get state.candidates (counted_value Seq36 (text_of (part vs 0)))) state
+wide_close_bad Production.Substitution byte around place began vs state = numbered_bad around (place - 1) (counted_value Seq36 (text_of (part vs 0))) state
 wide_close_bad Production.Lambda byte around place began vs state = tt
 wide_close_bad p byte around place began vs state = close_bad p byte around place began vs state
 

@@ -1,9 +1,10 @@
 -- What is done between the parts of a production keeps to what is closed.
-use Rattle.std.proofs.Common.{◌≡◌, refl, sym, ◌∙◌, subst, ℕ, ◌-◌, List, [], ◌∷◌, Bool, true, false, None, Ok}
+use Rattle.std.proofs.Common.{◌≡◌, refl, sym, ◌∙◌, subst, ℕ, ◌-◌, List, [], ◌∷◌, Bool, true, false, None, Result, Ok, Err}
+use Rattle.sym_core.specs.declared.refusal.Refusal.TheVariants.{BadReference}
 use Rattle.std.proofs.lemmas.Bool.{true≢false}
 use Rattle.sym_link.specs.Reading.{Next}
 use Rattle.cpp_grammar.specs.declared.production.Production.{Production}
-use Rattle.cpp_grammar.specs.Rescoping.{generic_number, generic_so_far, parameter_here, argument_here, between_wide}
+use Rattle.cpp_grammar.specs.Rescoping.{generic_number, generic_so_far, parameter_here, argument_here, with_holder, is_instance, holder_so_far, between_wide}
 use Rattle.cpp_grammar.specs.Term.{Term, in_std, instance, holder, parameter, lvalue, rvalue, pack, source, operator, constructor, destructor}
 use Rattle.cpp_grammar.specs.Scope.{is_open}
 use Rattle.cpp_grammar.specs.Values.{State, Around, prefix_tree, Value, tree, tree_of, piece_of, is_listed, letter_of, text_of}
@@ -11,7 +12,7 @@ use Rattle.cpp_grammar.specs.References.{appended, with_type, with_prefix, param
 use Rattle.cpp_grammar.specs.Between.{in_signature, under_expansion, after, inside, extended, applied, no_items, Going, named_so_far, listed_so_far, piece_so_far, with_tag, tag_so_far, parameter_so_far, argument_so_far, index_of, next, between}
 use Rattle.cpp_grammar.proofs.Ways.{has_signature}
 use Rattle.cpp_grammar.proofs.ClosedValues.{all_where, Good, AllGood, GoodPrefix, held, good_tree, good_piece, good_no_items, good_applied, good_instance, good_extended, good_prefix}
-use Rattle.cpp_grammar.proofs.ClosedStates.{Bare, Within, Grows, grows_same, grows_one, with_prefix_grows, with_type_grows, parameter_good, parameter_grows, ok_same, behind_bind}
+use Rattle.cpp_grammar.proofs.ClosedStates.{Bare, Within, Grows, grows_same, grows_one, grows_held, with_prefix_grows, with_type_grows, parameter_good, parameter_grows, ok_same, behind_bind}
 
 -- what surrounds a part, which stands in the same encoding
 pub record Fits (own : Bool) (around inner : Around) : Type 0 where
@@ -169,10 +170,7 @@ between_goes own Production.NestNext around place [] state n at stays apart pre 
     (fits_after own around (prefix_tree around.prefix) true (good_prefix (Bare own around) around.prefix pre)) e
 between_goes own Production.NestNext around place (v ∷ []) state n at stays apart pre all e =
     goes own around at state (v ∷ []) (after (tree_of v) false around) state n all (grows_same own around at state state refl) (fits_after own around (tree_of v) false (good_tree _ v all.0)) e
-between_goes own Production.Holder around place (v ∷ []) state n at stays apart pre all e =
-    let g = good_prefix (Bare own around) around.prefix pre in
-    let held : Good (Bare own around) (holder (prefix_tree around.prefix)) = record { closed = g.closed; scopes = g.scopes } in
-    named_goes own around at state (holder (prefix_tree around.prefix)) true [] state n held tt (grows_same own around at state state refl) e
+between_goes own Production.Holder around place (v ∷ []) state n at stays apart pre all e = let clash : ◌≡◌ {A = Going} (Err (BadReference place)) (Ok n) = e in absurd cc
 between_goes own Production.Arguments around place [] state n at stays apart pre all e = goes own around at state [] (inside around) (with_prefix around state) n tt (with_prefix_grows own around at state pre) (fits_inside own around) e
 between_goes own Production.PackArgument around place (v ∷ []) state n at stays apart pre all e =
     let g = good_no_items (Bare own around) v (good_tree _ v all.0) in
@@ -252,6 +250,20 @@ argument_here_goes around place at state k n pre e = go around.in_lambda refl e
         goes true around at state (tree named true ∷ []) around state n (good, tt) (grows_same true around at state state refl) (fits_same true around pre) h
     go false is h = argument_goes true around place at state k n pre h
 
+holder_goes : (around : Around) (place at : ℕ) (state : State) (n : Next Value State Around) → GoodPrefix (Bare true around) around.prefix → holder_so_far around place state ≡ Ok n → GoesOn true around at state n
+unfolding holder_so_far listed_so_far is_open
+holder_goes around place at state n pre e = go (is_instance (prefix_tree around.prefix)) e
+  where
+    named : Term
+    named = holder (prefix_tree around.prefix)
+
+    go : (b : Bool) → ◌≡◌ {A = Going} (elim b [ true ↦ Err (BadReference place) | false ↦ listed_so_far around named [] (with_holder around named state) ]) (Ok n) → GoesOn true around at state n
+    go true h = let clash : ◌≡◌ {A = Going} (Err (BadReference place)) (Ok n) = h in absurd cc
+    go false h =
+        let g = good_prefix (Bare true around) around.prefix pre in
+        let good : Good (Bare true around) named = record { closed = g.closed; scopes = g.scopes } in
+        named_goes true around at state named true [] (with_holder around named state) n good tt (grows_held true around at named state good) h
+
 pub wide_goes : (production : Production) (around : Around) (place : ℕ) (vs : List Value) (state : State) (n : Next Value State Around) (at : ℕ) → StaysInside production →
     GoodPrefix (Bare true around) around.prefix → AllGood (Within true production around) vs → between_wide production around place vs state ≡ Ok n → Goes true (Within true production around) around at state n
 unfolding between_wide
@@ -261,5 +273,6 @@ wide_goes Production.ParameterExpression around place (v ∷ []) state n at stay
     within true Production.ParameterExpression around at state n (argument_here_goes around place at state (index_of v) n pre e)
 wide_goes Production.BoundedArray around place (v ∷ []) state n at stays pre all e =
     within true Production.BoundedArray around at state n (argument_here_goes around place at state (index_of v) n pre e)
+wide_goes Production.Holder around place (v ∷ []) state n at stays pre all e = within true Production.Holder around at state n (holder_goes around place at state n pre e)
 wide_goes Production.NestParameter around place (v ∷ []) state n at stays pre all e = here_within Production.NestParameter around place at state (index_of v) n e
 wide_goes p around place vs state n at stays pre all e = goes_within true p around place vs state n at stays pre all e

@@ -14,7 +14,7 @@ use Rattle.sym_core.specs.declared.NumberKind.TheVariants.{Seq36}
 use Rattle.sym_core.specs.Value.{counted_value}
 use Rattle.cpp_grammar.specs.Values.{Candidate, State, Around, prefix_tree, prefix_listed, Value, letter, tree, piece, is_listed, text_of, local_number, part, tree_of}
 use Rattle.cpp_grammar.specs.References.{appended, is_function_type, with_type, with_unqualified, with_prefix, with_packs, packs_in, substituted, parameter_named}
-use Rattle.cpp_grammar.specs.Rescoping.{lambda_with, with_own, is_foreign, in_scope, with_free, restated, substituted_wide, close_wide}
+use Rattle.cpp_grammar.specs.Rescoping.{lambda_with, with_own, with_holder, is_counted_alike, is_foreign, in_scope, with_free, restated, substituted_wide, numbered, close_wide}
 use Rattle.cpp_grammar.specs.Meaning.{parameters, meaning}
 use Rattle.cpp_grammar.specs.Unfolding as unfolding_
 use Rattle.cpp_grammar.specs.Unfolding.{close}
@@ -84,7 +84,15 @@ grows_same own around end old new same = record { more = []; is = same ∙ sym (
 pub grows_one : (own : Bool) (around : Around) (end : ℕ) (t : Term) (state : State) → Good (Bare own around) t → Grows own around end state (appended around t state)
 unfolding appended
 grows_one own around end t state good = record {
-  more = record { tree = t; encoding = around.encoding; in_lambda = around.in_lambda } ∷ [];
+  more = record { tree = t; encoding = around.encoding; in_lambda = around.in_lambda; is_held = false } ∷ [];
+  is = refl;
+  each = (record { scopes = good.scopes; place = inl (refl, λ none outside. good.closed (none, outside)) }, tt);
+}
+
+pub grows_held : (own : Bool) (around : Around) (end : ℕ) (t : Term) (state : State) → Good (Bare own around) t → Grows own around end state (with_holder around t state)
+unfolding with_holder
+grows_held own around end t state good = record {
+  more = record { tree = t; encoding = around.encoding; in_lambda = around.in_lambda; is_held = true } ∷ [];
   is = refl;
   each = (record { scopes = good.scopes; place = inl (refl, λ none outside. good.closed (none, outside)) }, tt);
 }
@@ -379,6 +387,17 @@ wide_substituted_good around place at n state r all e = go (slice_get state.cand
     go None is h = let clash : ◌≡◌ {A = Result (Found Value State) Refusal} (Err (BadReference place)) (Ok r) = h in absurd cc
     go (Some c) is h = wide_named_good around place at c state r (old_get true around at state.candidates n c all is) h
 
+numbered_good : (around : Around) (place at n : ℕ) (state : State) (r : Found Value State) → AllOld true around at state.candidates → numbered around place n state ≡ Ok r → IsNamed around state r
+unfolding numbered
+numbered_good around place at n state r all e = go (is_counted_alike state.candidates n) e
+  where
+    go : (b : Bool) → ◌≡◌ {A = Result (Found Value State) Refusal} (elim b [
+      | true ↦ substituted_wide around place (slice_get state.candidates n) state
+      | false ↦ Err (BadReference place)
+    ]) (Ok r) → IsNamed around state r
+    go true h = wide_substituted_good around place at n state r all h
+    go false h = let clash : ◌≡◌ {A = Result (Found Value State) Refusal} (Err (BadReference place)) (Ok r) = h in absurd cc
+
 -- a lambda has no free parameters: it is told apart by whether its signature has some
 lambda_good : (s : Type 0) (t : Term) (number : ℕ) → ScopesAreClosed t → Good s (lambda_with t number)
 unfolding lambda_with is_open
@@ -410,7 +429,7 @@ pub wide_close_good : (production : Production) (byte : ℕ) (around : Around) (
     close_wide production byte around place began vs state ≡ Ok r → Comes true around end state r
 unfolding close close_wide unfolding_.behind meaning has_signature
 wide_close_good Production.Substitution byte around place began vs state r end old pre all name e =
-    let both = wide_substituted_good around (place - 1) end (counted_value Seq36 (text_of (part vs 0))) state r old e in
+    let both = numbered_good around (place - 1) end (counted_value Seq36 (text_of (part vs 0))) state r old e in
     record { good = both.0; grows = grows_same true around end state r.state both.1 }
 wide_close_good Production.Lambda byte around place began vs state r end old pre all name e = lambda_comes byte around vs state r end pre all e
 wide_close_good Production.ValueOf byte around place began vs state r end old pre all name e = letter_comes byte around state r end e

@@ -264,6 +264,7 @@ opens_apart Production.Lambda o = absurd (false≢true o)
 opens_apart Production.ParameterArgument o = absurd (false≢true o)
 opens_apart Production.ParameterExpression o = absurd (false≢true o)
 opens_apart Production.BoundedArray o = absurd (false≢true o)
+opens_apart Production.Holder o = absurd (false≢true o)
 opens_apart _ o = refl
 
 -- ## Encodings

@@ -30,7 +30,7 @@ use Rattle.cpp_grammar.specs.Between.{in_name, in_types, in_signature, under_exp
 use Rattle.cpp_grammar.specs.Meaning.{parameters, meaning}
 use Rattle.cpp_grammar.specs.Unfolding as unfolding_
 use Rattle.cpp_grammar.specs.Unfolding.{opening, close, production_at, byte_of, cpp, first_around, first_state, first_tree, unfold_cpp}
-use Rattle.cpp_grammar.specs.Rescoping.{generic_so_far, parameter_here, lambda_with, with_own, is_foreign, restated, substituted_wide, between_wide, close_wide, cpp_wide, unfold_wide, argument_here, generic_number}
+use Rattle.cpp_grammar.specs.Rescoping.{generic_so_far, parameter_here, lambda_with, with_own, has_held, is_counted_alike, is_foreign, restated, substituted_wide, numbered, holder_so_far, between_wide, close_wide, cpp_wide, unfold_wide, argument_here, generic_number}
 use Rattle.cpp_grammar.proofs.Widening.{either_sound}
 use Rattle.cpp_grammar.proofs.Choosing.{kinds_numbered, number_at, either_rule_at, is_either_kind}
 use Rattle.cpp_grammar.proofs.ClosedValues.{held}
@@ -59,16 +59,23 @@ are_closed p around = is_shut p || (not (opens p) && around.in_lambda)
 
 abbrev AllHaveNone : List Candidate → Type 0
 AllHaveNone [] = Unit {0}
-AllHaveNone (c ∷ cs) = (c.in_lambda ≡ true → HasNone c.tree) × AllHaveNone cs
+AllHaveNone (c ∷ cs) = (c.in_lambda ≡ true → HasNone c.tree) × (c.is_held ≡ false) × AllHaveNone cs
 
-one_more : (cs : List Candidate) (c : Candidate) → AllHaveNone cs → (c.in_lambda ≡ true → HasNone c.tree) → AllHaveNone (cs ++ (c ∷ []))
-one_more [] c all one = (one, tt)
-one_more (d ∷ cs) c all one = (all.0, one_more cs c all.1 one)
+one_more : (cs : List Candidate) (c : Candidate) → AllHaveNone cs → (c.in_lambda ≡ true → HasNone c.tree) → c.is_held ≡ false → AllHaveNone (cs ++ (c ∷ []))
+one_more [] c all one unheld = (one, unheld, tt)
+one_more (d ∷ cs) c all one unheld = (all.0, all.1, one_more cs c all.2 one unheld)
 
 one_of : (cs : List Candidate) (n : ℕ) (c : Candidate) → AllHaveNone cs → slice_get cs n ≡ Some c → c.in_lambda ≡ true → HasNone c.tree
 one_of [] n c all e = absurd cc
 one_of (d ∷ cs) zero c all e = let same : d ≡ c = cc in subst (λ x. x.in_lambda ≡ true → HasNone x.tree) same all.0
-one_of (d ∷ cs) (suc n) c all e = one_of cs n c all.1 e
+one_of (d ∷ cs) (suc n) c all e = one_of cs n c all.2 e
+
+-- so all compilers count them alike
+none_held : (cs : List Candidate) (count : ℕ) → AllHaveNone cs → has_held cs count ≡ false
+unfolding has_held
+none_held [] count all = refl
+none_held (c ∷ cs) zero all = refl
+none_held (c ∷ cs) (suc count) all = ap (λ b. b || has_held cs count) all.1 ∙ none_held cs count all.2
 
 all_then : (vs ws : List Value) → AllNone vs → AllNone ws → AllNone (vs ++ ws)
 all_then [] ws f g = g
@@ -87,7 +94,7 @@ record NextHasNone (b special : Bool) (n : Next Value State Around) : Type 0 whe
 
 appended_none : (around : Around) (t : Term) (state : State) → (around.in_lambda ≡ true → HasNone t) → AllHaveNone state.candidates → AllHaveNone (appended around t state).candidates
 unfolding appended
-appended_none around t state g all = one_more state.candidates (record { tree = t; encoding = around.encoding; in_lambda = around.in_lambda }) all g
+appended_none around t state g all = one_more state.candidates (record { tree = t; encoding = around.encoding; in_lambda = around.in_lambda; is_held = false }) all g refl
 
 prefixed_none : (around : Around) (state : State) → Settled around → AllHaveNone state.candidates → AllHaveNone (with_prefix around state).candidates
 unfolding with_prefix
@@ -281,7 +288,7 @@ between_none Production.NestNext around place [] state settled all cs = record {
   candidates = prefixed_none around state settled cs;
 }
 between_none Production.NestNext around place (v ∷ []) state settled all cs = record { inside = λ l. l; values = all; context = after_none around (tree_of v) false settled (λ l. none_tree v (all l).0); candidates = cs }
-between_none Production.Holder around place (v ∷ []) state settled all cs = named_none around (holder (prefix_tree around.prefix)) true [] state settled (λ l. none_prefix around.prefix (settled.prefix l)) (λ l. tt) cs
+between_none Production.Holder around place (v ∷ []) state settled all cs = tt
 between_none Production.Arguments around place [] state settled all cs = record { inside = λ l. l; values = λ l. tt; context = inside_none around settled; candidates = prefixed_none around state settled cs }
 between_none Production.PackArgument around place (v ∷ []) state settled all cs = record { inside = λ l. l; values = λ l. (none_no_items v (none_tree v (all l).0), tt); context = settled; candidates = cs }
 between_none Production.Lambda around place vs state settled all cs = record { values = all; inside = λ l. refl; context = signature_none around; candidates = cs }
@@ -370,6 +377,7 @@ between_stays Production.NestParameter around place (v ∷ []) state n settled e
 between_stays Production.ParameterArgument around place (v ∷ []) state n settled e = here_stays around (place - 1) (index_of v) state n settled e
 between_stays Production.ParameterExpression around place (v ∷ []) state n settled e = argument_stays around place (index_of v) state n settled e
 between_stays Production.BoundedArray around place (v ∷ []) state n settled e = argument_stays around place (index_of v) state n settled e
+between_stays Production.Holder around place (v ∷ []) state n settled e = let clash : ◌≡◌ {A = Going} (Err (BadReference place)) (Ok n) = e in absurd cc
 between_stays _ around place vs state n settled e = e
 
 -- what isn't refused isn't foreign
@@ -421,10 +429,15 @@ record Closes (around : Around) (wide : Result (Found Value State) Refusal) (r :
   candidates : AllHaveNone r.state.candidates
 
 substituted_stays : (around : Around) (place n : ℕ) (state : State) (r : Found Value State) → AllHaveNone state.candidates → substituted around place (slice_get state.candidates n) state ≡ Ok r →
-    Closes around (substituted_wide around place (slice_get state.candidates n) state) r
-unfolding substituted substituted_wide
-substituted_stays around place n state r cs e = go (slice_get state.candidates n) refl e
+    Closes around (numbered around place n state) r
+unfolding substituted substituted_wide numbered is_counted_alike
+substituted_stays around place n state r cs e = counted (has_held state.candidates (n + 2)) (none_held state.candidates (n + 2) cs) (go (slice_get state.candidates n) refl e)
   where
+    counted : (b : Bool) → b ≡ false → Closes around (substituted_wide around place (slice_get state.candidates n) state) r
+        → Closes around (elim (not b) [ true ↦ substituted_wide around place (slice_get state.candidates n) state | false ↦ Err (BadReference place) ]) r
+    counted true h closes = absurd (true≢false h)
+    counted false h closes = closes
+
     go : (o : Option Candidate) → slice_get state.candidates n ≡ o → substituted around place o state ≡ Ok r → Closes around (substituted_wide around place o state) r
     go None is h = let clash : ◌≡◌ {A = Result (Found Value State) Refusal} (Err (BadReference place)) (Ok r) = h in absurd cc
     go (Some c) is h =

@@ -40,6 +40,7 @@ differs Production.Substitution = true
 differs Production.ParameterArgument = true
 differs Production.ParameterExpression = true
 differs Production.BoundedArray = true
+differs Production.Holder = true
 differs _ = false
 
 -- the productions whose parts stand in a signature: lambdas, and what is declared of an argument
@@ -66,6 +67,7 @@ plain_between Production.NestParameter apart around place vs state = absurd (tru
 plain_between Production.ParameterArgument apart around place vs state = absurd (true≢false apart)
 plain_between Production.ParameterExpression apart around place vs state = absurd (true≢false apart)
 plain_between Production.BoundedArray apart around place vs state = absurd (true≢false apart)
+plain_between Production.Holder apart around place vs state = absurd (true≢false apart)
 plain_between _ apart around place vs state = refl
 
 plain_close : (p : Production) → differs p ≡ false → (byte : ℕ) (around : Around) (place : ℕ) (began : State) (vs : List Value) (state : State) →

@@ -1,13 +1,14 @@
 -- What surrounds the parts of a production, and what is done before each of them.
 -- A name grows from part to part: each piece is added to the name so far, and a name to which something is added is a
 -- candidate, unless it is one already or never is one.
-use Rattle.std.specs.Prelude.{ℕ, ◌-◌, List, [], ◌∷◌, Bool, true, false, None, Result, Ok}
+use Rattle.std.specs.Prelude.{ℕ, ◌-◌, List, [], ◌∷◌, Bool, true, false, None, Result, Ok, Err}
 use Rattle.sym_core.specs.declared.refusal.Refusal.{Refusal}
+use Rattle.sym_core.specs.declared.refusal.Refusal.TheVariants.{BadReference}
 use Rattle.sym_core.specs.declared.NumberKind.TheVariants.{Decimal}
 use Rattle.sym_core.specs.Value.{counted_value}
 use Rattle.sym_link.specs.Reading.{Next, ◌>>=◌}
 use Rattle.cpp_grammar.specs.declared.production.Production.{Production}
-use Rattle.cpp_grammar.specs.Term.{Term, alone, within, in_std, instance, holder, tagged, parameter, lvalue, rvalue, pack, source, operator, constructor, destructor, nil}
+use Rattle.cpp_grammar.specs.Term.{Term, alone, within, in_std, instance, tagged, parameter, lvalue, rvalue, pack, source, operator, constructor, destructor, nil}
 use Rattle.cpp_grammar.specs.Scope.{arguments_of, is_structor}
 use Rattle.cpp_grammar.specs.Values.{State, Prefix, outermost, behind, Around, prefix_tree, Value, nothing_there, tree, named, tree_of, piece_of, is_listed, is_there, letter_of, text_of}
 use Rattle.cpp_grammar.specs.References.{appended, with_type, with_prefix, parameter_named}
@@ -129,8 +130,8 @@ between Production.NestInstance around place (arguments ∷ e ∷ []) state = na
 between Production.NestTag around place (v ∷ []) state = tag_so_far around (text_of v) state
 between Production.NestNext around place [] state = next [] (after (prefix_tree around.prefix) true around) (with_prefix around state)
 between Production.NestNext around place (component ∷ []) state = next (component ∷ []) (after (tree_of component) false around) state
--- what holds a component is its prefix, and never a candidate
-between Production.Holder around place (v ∷ []) state = listed_so_far around (holder (prefix_tree around.prefix)) [] state
+-- the ABI's grammar has no M in a name
+between Production.Holder around place (v ∷ []) state = Err (BadReference place)
 -- a name without its tags is no candidate
 between Production.Tag around place (v ∷ []) state = tag_so_far around (text_of v) state
 between Production.TypeTag around place (v ∷ []) state = tag_so_far around (text_of v) state

@@ -11,7 +11,7 @@ use Rattle.cpp_grammar.specs.Values.{Candidate, State, Around, prefix_tree, pref
 -- ## Candidates
 
 unfoldable pub appended : Around → Term → State → State
-appended around t state = record state { candidates = state.candidates ++ (record { tree = t; encoding = around.encoding; in_lambda = around.in_lambda } ∷ []) }
+appended around t state = record state { candidates = state.candidates ++ (record { tree = t; encoding = around.encoding; in_lambda = around.in_lambda; is_held = false } ∷ []) }
 
 unfoldable pub is_function_type : Term → Bool
 is_function_type (function_type c_linkage noexcept ref returned parameters) = true

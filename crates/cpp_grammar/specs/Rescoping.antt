@@ -1,7 +1,7 @@
 -- The reading of the wide grammar (ABI 5.1.8, 5.1.10). It differs from that of the ABI's grammar in the parameters of a lambda's
--- signature, which are the lambda's own, and in substitutions of trees that were made where their parameters mean others than those
--- that are meant where they are named.
-use Rattle.std.specs.Prelude.{ℕ, ◌-◌, ◌^◌, List, [], ◌∷◌, Bool, true, false, not, ◌||◌, ◌&&◌, nat_eq, nat_lt, cond, slice_get, Option, Some, None, Result, Ok, Err}
+-- signature, which are the lambda's own, in substitutions of trees that were made where their parameters mean others than those
+-- that are meant where they are named, and in names with an M, from which on not all compilers count alike.
+use Rattle.std.specs.Prelude.{ℕ, zero, suc, ◌+◌, ◌-◌, ◌^◌, List, [], ◌∷◌, ◌++◌, Bool, true, false, not, ◌||◌, ◌&&◌, nat_eq, nat_lt, cond, slice_get, Option, Some, None, Result, Ok, Err}
 use Rattle.sym_core.specs.declared.refusal.Refusal.{Refusal}
 use Rattle.sym_core.specs.declared.refusal.Refusal.TheVariants.{BadReference}
 use Rattle.sym_core.specs.declared.NumberKind.TheVariants.{Seq36}
@@ -10,9 +10,9 @@ use Rattle.sym_shape.specs.Tree.{Tree}
 use Rattle.sym_link.specs.Reading.{Found, Reading, ◌>>=◌}
 use Rattle.sym_link.specs.Unfold.{found, unfold_tree}
 use Rattle.cpp_grammar.specs.declared.production.Production.{Production}
-use Rattle.cpp_grammar.specs.Term.{Term, parameter, lambda, generic_lambda}
+use Rattle.cpp_grammar.specs.Term.{Term, instance, holder, parameter, lambda, generic_lambda}
 use Rattle.cpp_grammar.specs.Scope.{count, is_open, Free, none_free, one_free, several_free, free_in, pack_length}
-use Rattle.cpp_grammar.specs.Values.{Candidate, State, Around, Value, nothing_there, tree, piece, text, text_of, part}
+use Rattle.cpp_grammar.specs.Values.{Candidate, State, Around, prefix_tree, Value, nothing_there, tree, piece, text, text_of, part}
 use Rattle.cpp_grammar.specs.References.{appended, with_packs, substituted}
 use Rattle.cpp_grammar.specs.Between.{Going, next, listed_so_far, parameter_so_far, argument_so_far, index_of, between}
 use Rattle.cpp_grammar.specs.Meaning.{meaning}
@@ -49,6 +49,39 @@ lambda_with parameters number = elim (is_open parameters) [ true ↦ generic_lam
 unfoldable pub with_own : Value → Value
 with_own (piece (lambda parameters number)) = piece (lambda_with parameters number)
 with_own v = v
+
+-- ## Names with an M
+
+-- What stands in the initializer of a variable or of a data member has that one's name, with an M behind it, as its prefix. Some
+-- compilers count that name among the candidates and some don't, and a symbol doesn't tell by which one it was made. So from that
+-- candidate on, the last one before the M, no number is known to name the same tree by all of them. Here the name is a candidate, and
+-- is one again with its M, as a mark of that.
+
+unfoldable pub with_holder : Around → Term → State → State
+with_holder around t state = record state { candidates = state.candidates ++ (record { tree = t; encoding = around.encoding; in_lambda = around.in_lambda; is_held = true } ∷ []) }
+
+-- whether there is a name with its M among the first candidates, which are so many
+unfoldable pub has_held : List Candidate → ℕ → Bool
+has_held [] count = false
+has_held (c ∷ cs) zero = false
+has_held (c ∷ cs) (suc count) = c.is_held || has_held cs count
+
+-- Whether all compilers count alike up to the candidate of this number: neither it nor one before it has its M, nor has the next one,
+-- which would be it again.
+unfoldable pub is_counted_alike : List Candidate → (number : ℕ) → Bool
+is_counted_alike candidates number = not (has_held candidates (number + 2))
+
+unfoldable pub is_instance : Term → Bool
+is_instance (instance template arguments) = true
+is_instance _ = false
+
+-- Behind arguments an M is refused: not all compilers count the name of their template either, and what the arguments name by its
+-- number has been read by then.
+unfoldable pub holder_so_far : Around → (place : ℕ) → State → Going
+holder_so_far around place state = elim (is_instance (prefix_tree around.prefix)) [
+  | true ↦ Err (BadReference place)
+  | false ↦ let t = holder (prefix_tree around.prefix) in listed_so_far around t [] (with_holder around t state)
+]
 
 -- ## Substitutions
 
@@ -88,6 +121,13 @@ substituted_wide around place (Some c) state = elim (is_foreign around c) [
   | false ↦ substituted around place (Some c) state
 ]
 
+-- nor is a number named that not all compilers count alike
+unfoldable pub numbered : Around → (place : ℕ) → (number : ℕ) → State → Result (Found Value State) Refusal
+numbered around place number state = elim (is_counted_alike state.candidates number) [
+  | true ↦ substituted_wide around place (slice_get state.candidates number) state
+  | false ↦ Err (BadReference place)
+]
+
 -- ## The unfolding
 
 unfoldable pub between_wide : Production → Around → (place : ℕ) → List Value → State → Going
@@ -96,11 +136,12 @@ between_wide Production.NestParameter around place (v ∷ []) state = parameter_
 between_wide Production.ParameterArgument around place (v ∷ []) state = parameter_here around (place - 1) (index_of v) [] state
 between_wide Production.ParameterExpression around place (v ∷ []) state = argument_here around place (index_of v) state
 between_wide Production.BoundedArray around place (v ∷ []) state = argument_here around place (index_of v) state
+between_wide Production.Holder around place (v ∷ []) state = holder_so_far around place state
 between_wide production around place vs state = between production around place vs state
 
 unfoldable pub close_wide : Production → (byte : ℕ) → Around → (place : ℕ) → (began : State) → List Value → State → Result (Found Value State) Refusal
 close_wide Production.Substitution byte around place began vs state =
-    substituted_wide around (place - 1) (slice_get state.candidates (counted_value Seq36 (text_of (part vs 0)))) state
+    numbered around (place - 1) (counted_value Seq36 (text_of (part vs 0))) state
 close_wide Production.Lambda byte around place began vs state = Ok (found (with_own (meaning Production.Lambda byte around vs)) state)
 close_wide production byte around place began vs state = close production byte around place began vs state
 

@@ -1,13 +1,85 @@
 -- One more candidate.
-use Rattle.std.proofs.Common.{◌≡◌, refl, ap, ℕ, ◌<◌, List, [], ◌∷◌, ◌++◌}
+use Rattle.std.proofs.Common.{◌≡◌, refl, ap, sym, ◌∙◌, arith, ℕ, zero, suc, ◌+◌, ◌-◌, ◌<◌, ◌≤◌, List, [], ◌∷◌, ◌++◌, length, Bool, true, false, ◌||◌, Option, Some, None}
+use Rattle.std.specs.Prelude.{slice_get}
 use Rattle.cpp_term.specs.Term.{Term}
+use Rattle.cpp_term.specs.Rescoping.{has_held}
+use Rattle.cpp_term.specs.Values as values
 use Rattle.cpp_link.specs.declared.part.Candidate.{Candidate}
-use Rattle.cpp_link.specs.Parts.{candidate_of, candidates_of, AreCandidatesThere}
+use Rattle.cpp_link.specs.Parts.{candidate_of, candidates_of, is_apart_behind, AreNodesThere, AreCounted, AreCandidatesThere}
 
 pub candidates_push : (ts : List Term) (cs : List Candidate) (c : Candidate) → candidates_of ts (cs ++ c ∷ []) ≡ candidates_of ts cs ++ candidate_of ts c ∷ []
 candidates_push ts [] c = refl
 candidates_push ts (d ∷ cs) c = ap (λ ds. candidate_of ts d ∷ ds) (candidates_push ts cs c)
 
-pub there_push : (n : ℕ) (cs : List Candidate) (c : Candidate) → AreCandidatesThere n cs → c.node < n → AreCandidatesThere n (cs ++ c ∷ [])
-there_push n [] c there below = (below, tt)
-there_push n (d ∷ cs) c there below = (there.0, there_push n cs c there.1 below)
+nodes_push : (n : ℕ) (cs : List Candidate) (c : Candidate) → AreNodesThere n cs → c.node < n → AreNodesThere n (cs ++ c ∷ [])
+nodes_push n [] c there below = (below, tt)
+nodes_push n (d ∷ cs) c there below = (there.0, nodes_push n cs c there.1 below)
+
+counted_push : (before : Bool) (cs : List Candidate) (c : Candidate) → AreCounted before cs → c.is_apart ≡ is_apart_behind before cs → AreCounted before (cs ++ c ∷ [])
+unfolding is_apart_behind
+counted_push before [] c counted apart = (apart, tt)
+counted_push before (d ∷ cs) c counted apart = (counted.0, counted_push (before || d.is_held) cs c counted.1 apart)
+
+pub there_push : (n : ℕ) (cs : List Candidate) (c : Candidate) → AreCandidatesThere n cs → c.node < n → c.is_apart ≡ is_apart_behind false cs → AreCandidatesThere n (cs ++ c ∷ [])
+there_push n cs c there below apart = (nodes_push n cs c there.0 below, counted_push false cs c there.1 apart)
+
+pub past_all : (cs : List Candidate) (k : ℕ) → slice_get cs k ≡ None → length cs ≤ k
+past_all [] k is = omega arith
+past_all (c ∷ cs) zero is = absurd cc
+past_all (c ∷ cs) (suc k) is = omega (arith, past_all cs k is)
+
+-- where there is none
+pub none_apart : (cs : List Candidate) → slice_get cs (length cs - 1) ≡ None → false ≡ is_apart_behind false cs
+unfolding is_apart_behind
+none_apart [] is = refl
+none_apart (c ∷ cs) is = absurd (omega (arith, past_all (c ∷ cs) (length (c ∷ cs) - 1) is))
+
+-- the last candidate tells whether it or one before it is a name with its M
+pub last_apart : (before : Bool) (cs : List Candidate) (c : Candidate) → AreCounted before cs → slice_get cs (length cs - 1) ≡ Some c → is_apart_behind before cs ≡ c.is_apart || c.is_held
+unfolding is_apart_behind
+last_apart before cs c counted is = go before cs (length cs - 1) counted (omega (arith, some_past cs (length cs - 1) c is)) is
+  where
+    some_past : (ds : List Candidate) (k : ℕ) (d : Candidate) → slice_get ds k ≡ Some d → k < length ds
+    some_past [] k d at = absurd cc
+    some_past (e ∷ ds) zero d at = omega arith
+    some_past (e ∷ ds) (suc k) d at = omega (arith, some_past ds k d at)
+
+    go : (b : Bool) (ds : List Candidate) (k : ℕ) → AreCounted b ds → k + 1 ≡ length ds → slice_get ds k ≡ Some c → is_apart_behind b ds ≡ c.is_apart || c.is_held
+    go b [] k all last at = absurd cc
+    go b (e ∷ []) zero all last at = let same : e ≡ c = cc in ap (λ a. a || e.is_held) (sym all.0) ∙ ap (λ x. x.is_apart || x.is_held) same
+    go b (e ∷ f ∷ ds) zero all last at = absurd (omega (arith, last))
+    go b (e ∷ ds) (suc k) all last at = go (b || e.is_held) ds k all.1 (omega (arith, last)) at
+
+none_counted : (cs : List values.Candidate) → has_held cs 0 ≡ false
+unfolding has_held
+none_counted [] = refl
+none_counted (c ∷ cs) = refl
+
+or_assoc : (a b c : Bool) → a || (b || c) ≡ (a || b) || c
+or_assoc true b c = refl
+or_assoc false b c = refl
+
+none_held : (a : Bool) (n : ℕ) (cs : List values.Candidate) → cs ≡ [] → a || has_held cs n ≡ a
+unfolding has_held
+none_held true n cs none = refl
+none_held false n cs none = rw none refl
+
+pub number_apart : (ts : List Term) (before : Bool) (cs : List Candidate) (number : ℕ) (c : Candidate) → AreCounted before cs → slice_get cs number ≡ Some c
+    → before || has_held (candidates_of ts cs) (number + 1) ≡ c.is_apart || c.is_held
+unfolding has_held
+number_apart ts before [] number c counted is = absurd cc
+number_apart ts before (d ∷ cs) zero c counted is =
+    let same : d ≡ c = cc in
+    ap (λ b. before || (d.is_held || b)) (none_counted (candidates_of ts cs)) ∙ first before d.is_held ∙ ap (λ b. b || d.is_held) (sym counted.0) ∙ ap (λ e. e.is_apart || e.is_held) same
+  where
+    first : (a b : Bool) → a || (b || false) ≡ a || b
+    first true b = refl
+    first false true = refl
+    first false false = refl
+number_apart ts before (d ∷ cs) (suc number) c counted is = or_assoc before d.is_held (has_held (candidates_of ts cs) (number + 1)) ∙ number_apart ts (before || d.is_held) cs number c counted.1 is
+
+pub all_apart : (ts : List Term) (before : Bool) (cs : List Candidate) (count : ℕ) → length cs ≤ count → before || has_held (candidates_of ts cs) count ≡ is_apart_behind before cs
+unfolding has_held is_apart_behind
+all_apart ts before [] count few = none_held before count [] refl
+all_apart ts before (c ∷ cs) zero few = absurd (omega (arith, few))
+all_apart ts before (c ∷ cs) (suc count) few = or_assoc before c.is_held (has_held (candidates_of ts cs) count) ∙ all_apart ts (before || c.is_held) cs count (omega (arith, few))

@@ -1,5 +1,6 @@
 -- Each production appends to the candidates what was pending or what it makes.
-use Rattle.std.proofs.Common.{◌≡◌, refl, ap, sym, ◌∙◌, subst, arith, ℕ, ◌+◌, ◌≤◌, List, [], ◌∷◌, length, Bool, true, false, not, ◌&&◌, cond, Ok}
+use Rattle.std.proofs.Common.{◌≡◌, refl, ap, sym, ◌∙◌, subst, arith, ℕ, ◌+◌, ◌≤◌, List, [], ◌∷◌, length, Bool, true, false, not, ◌&&◌, cond, Result, Ok, Err}
+use Rattle.sym_core.specs.declared.refusal.Refusal.TheVariants.{BadReference}
 use Rattle.std.specs.Prelude.{None}
 use Rattle.sym_core.specs.declared.NumberKind.TheVariants.{Decimal}
 use Rattle.sym_core.specs.Value.{counted_value}
@@ -12,7 +13,7 @@ use Rattle.cpp_grammar.specs.declared.production.Production.{Production}
 use Rattle.cpp_grammar.specs.KindNumbers.{INTEGER, UNQUALIFIED, NEST, NEST_AFTER_S, NEST_REST, NEST_REST_OR_END, NEST_REST_ALONE, ARGUMENTS_ALONE, NEST_TAIL, COMPONENT, HOLDER_MARK, HELD_COMPONENT, COMPONENT_AFTER_C, OPERATOR_AFTER_C, OTHER_OPERATOR, CONSTRUCTOR_DIGIT, DESTRUCTOR_DIGIT, ABBREVIATION, ANONYMOUS, ITEM_AFTER_D, AFTER_D, SOLID, TYPE_AFTER_S, TYPE_IN_STD, SOURCE_OR_LOCAL, MAYBE_TAGS, ARGUMENT_AFTER_T, SOLID_BUT_T, ANY_ARRAY, ARRAY_REST, MAYBE_ARGUMENTS, ARGUMENTS, ARGUMENTS_FIRST, LITERAL_TYPE, OPERATOR}
 use Rattle.cpp_grammar.specs.Grammar.{parts_of, number_of_kind}
 use Rattle.cpp_grammar.proofs.ClosedStates.{ok_same}
-use Rattle.cpp_term.specs.Term.{Term, source, operator, constructor, destructor, in_std, instance, holder, pack, lvalue, rvalue}
+use Rattle.cpp_term.specs.Term.{Term, source, operator, constructor, destructor, in_std, instance, pack, lvalue, rvalue}
 use Rattle.cpp_term.specs.Values.{State, Around, prefix_tree, prefix_listed, Value, nothing_there, tree, named, tree_of, piece_of, letter_of, text_of, is_listed, is_there, part}
 use Rattle.cpp_term.specs.References.{appended, with_type, with_unqualified, with_prefix}
 use Rattle.cpp_term.specs.Between.{Going, in_name, in_types, in_signature, under_expansion, after, inside, extended, applied, no_items, named_so_far, listed_so_far, piece_so_far, with_tag, tag_so_far, index_of, between}
@@ -363,24 +364,14 @@ nest-next around place = λ state next e. came (going [] (after (prefix_tree aro
         (rest-step Production.NestNext around place 18 0 1 state (v ∷ []) (tree_of v) false state (λ a w. refl) (λ w. refl) (omega arith)
         (λ w. same-closes Production.NestNext around place (v ∷ w ∷ []) w (λ u. refl) (λ byte began last. refl)))
 
--- what holds the component is no candidate; the component is one that is made
+-- the reading of the ABI's grammar has no name with its M
 holder-component : (around : Around) (place : ℕ) → Flow Production.Holder around place (OfKind HOLDER_MARK ∷ OfKind HELD_COMPONENT ∷ []) [] 0
-unfolding pending pending_around goes_on is_arguments is_component becomes_candidate between listed_so_far makes_before made_before makes_at_end made_at_end part leaves makes_name meaning close behind
+unfolding pending pending_around goes_on is_arguments is_component becomes_candidate between makes_before made_before makes_at_end made_at_end part leaves makes_name meaning close behind
 holder-component around place = λ state next e. came (going [] around state) next e
     (quiet (going [] around state) (omega arith) (λ v. refl) held)
   where
     held : (v : Value) → Flow Production.Holder around place (OfKind HELD_COMPONENT ∷ []) (v ∷ []) 0
-    held v = λ state next e. (
-        let t : Term = holder (prefix_tree around.prefix) in
-        came (going (tree t true ∷ []) (after t true around) state) next e (record {
-          over = 0;
-          few = omega arith;
-          later = λ w. record {
-            now = 1;
-            few = omega arith;
-            goes = λ byte began last one g. ended Production.Holder 0 1 last (found w last) one g (omega arith);
-          };
-        }))
+    held v = λ state next e. absurd (let clash : ◌≡◌ {A = Going} (Err (BadReference place)) (Ok next) = e in cc)
 
 nest-arguments : (around : Around) (place : ℕ)
     → Flow Production.NestArguments around place (OfKind ARGUMENTS_FIRST ∷ Byte 69 ∷ OfKind COMPONENT ∷ OfKind NEST_TAIL ∷ []) [] (unlisted_around around)

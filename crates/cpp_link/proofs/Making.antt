@@ -20,7 +20,7 @@ use Rattle.cpp_link.specs.declared.part.Candidate.{Candidate}
 use Rattle.cpp_link.specs.declared.part.Kept.{Kept}
 use Rattle.cpp_link.specs.declared.part.Part.{Part}
 use Rattle.cpp_link.specs.Making.{state_of, IsRare, IsCommon}
-use Rattle.cpp_link.specs.Parts.{trees_in, values_in, around_of, candidates_of, AreThere, IsKeptThere, AreCandidatesThere}
+use Rattle.cpp_link.specs.Parts.{trees_in, values_in, around_of, candidates_of, AreThere, IsKeptThere, AreNodesThere, AreCandidatesThere}
 use Rattle.cpp_link.specs.LinkReading.{link_meaning, link_close}
 use Rattle.cpp_link.specs.Reads.{with_candidate, maybe_candidate}
 use Rattle.cpp_link.specs.Staying.{values_stay, around_stays, candidates_stay, there_more}
@@ -36,7 +36,7 @@ candidate_at ts [] k = refl
 candidate_at ts (c ∷ cs) zero = refl
 candidate_at ts (c ∷ cs) (suc k) = candidate_at ts cs k
 
-pub candidate_there : (n : ℕ) (cs : List Candidate) (k : ℕ) → AreCandidatesThere n cs → IfSome (slice_get cs k) (λ c. c.node < n)
+pub candidate_there : (n : ℕ) (cs : List Candidate) (k : ℕ) → AreNodesThere n cs → IfSome (slice_get cs k) (λ c. c.node < n)
 candidate_there n [] k there = tt
 candidate_there n (c ∷ cs) zero there = there.0
 candidate_there n (c ∷ cs) (suc k) there = candidate_there n cs k there.1

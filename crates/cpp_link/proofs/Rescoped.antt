@@ -25,7 +25,7 @@ use Rattle.sym_core.specs.Value.{counted_value}
 use Rattle.sym_core.specs.declared.NumberKind.TheVariants.{Decimal}
 use Rattle.cpp_term.specs.Between.{Going, next, parameter_so_far, argument_so_far, index_of, between}
 use Rattle.cpp_term.specs.Unfolding.{cpp, behind}
-use Rattle.cpp_term.specs.Rescoping.{generic_so_far, parameter_here, argument_here, substituted_wide, lambda_with, with_own, between_wide, close_wide, cpp_wide}
+use Rattle.cpp_term.specs.Rescoping.{generic_so_far, parameter_here, argument_here, numbered, lambda_with, with_own, between_wide, close_wide, cpp_wide}
 use Rattle.cpp_term.proofs.Notes.{both}
 use Rattle.cpp_link.proofs.Scopes.{wide_between_closed}
 use Rattle.cpp_tree.specs.Nodes.{Stored, tree_at, piece_of}
@@ -35,7 +35,7 @@ use Rattle.cpp_link.specs.declared.part.Part.{Part}
 use Rattle.cpp_link.specs.declared.part.Kept.{Kept}
 use Rattle.cpp_link.specs.declared.part.Step.{Step}
 use Rattle.cpp_link.specs.LinkReading.{link_close, link_meaning, linked}
-use Rattle.cpp_link.specs.LinkRescoping.{link_close_wide, linked_wide, is_parameter, is_parameter_argument, generic_read, is_substitution, is_lambda_production, names_generic, named_by, substituted_nodes, wide_at_end, wide_view}
+use Rattle.cpp_link.specs.LinkRescoping.{link_close_wide, linked_wide, is_parameter, is_parameter_argument, generic_read, is_substitution, is_lambda_production, is_holder, names_generic, names_holder, number_in, named_by, substituted_nodes, wide_at_end, wide_view}
 use Rattle.cpp_link.specs.Making.{state_of}
 use Rattle.cpp_link.specs.NodeCount.{makes_before, makes_at_end}
 use Rattle.cpp_link.specs.Parts.{trees_in, value_of, values_of, value_in, values_in, is_lambda, around_of, candidates_of, packs_of, IsClosed, IsThere, AreCandidatesThere}
@@ -50,29 +50,29 @@ use Rattle.cpp_link.proofs.Within.{at_plain}
 
 -- ## Before a part
 
--- where no parameter of a lambda is named it goes as in the other reading
+-- where no parameter of a lambda is named, and no name with its M, it goes as in the other reading
 apart_between : (p : Production) (around : Around) (place : ℕ) (vs : List Value) (state : State) → names_generic p around.in_lambda (length vs) ≡ false
-    → between_wide p around place vs state ≡ between p around place vs state
-unfolding between_wide between is_parameter parameter_here argument_here
-apart_between Production.Parameter around place (v ∷ []) state apart = go around.in_lambda apart
+    → names_holder p (length vs) ≡ false → between_wide p around place vs state ≡ between p around place vs state
+unfolding between_wide between is_parameter is_holder parameter_here argument_here
+apart_between Production.Parameter around place (v ∷ []) state apart unheld = go around.in_lambda apart
   where
     go : (b : Bool) → (b && true && nat_eq (length (v ∷ [])) 1) ≡ false
         → elim b [ true ↦ generic_so_far around (index_of v) [] state | false ↦ parameter_so_far around place (index_of v) [] state ] ≡ parameter_so_far around place (index_of v) [] state
     go true e = absurd (true≢false e)
     go false e = refl
-apart_between Production.NestParameter around place (v ∷ []) state apart = go around.in_lambda apart
+apart_between Production.NestParameter around place (v ∷ []) state apart unheld = go around.in_lambda apart
   where
     go : (b : Bool) → (b && true && nat_eq (length (v ∷ [])) 1) ≡ false
         → elim b [ true ↦ generic_so_far around (index_of v) [] state | false ↦ parameter_so_far around place (index_of v) [] state ] ≡ parameter_so_far around place (index_of v) [] state
     go true e = absurd (true≢false e)
     go false e = refl
-apart_between Production.ParameterArgument around place (v ∷ []) state apart = go around.in_lambda apart
+apart_between Production.ParameterArgument around place (v ∷ []) state apart unheld = go around.in_lambda apart
   where
     go : (b : Bool) → (b && true && nat_eq (length (v ∷ [])) 1) ≡ false
         → elim b [ true ↦ generic_so_far around (index_of v) [] state | false ↦ parameter_so_far around (place - 1) (index_of v) [] state ] ≡ parameter_so_far around (place - 1) (index_of v) [] state
     go true e = absurd (true≢false e)
     go false e = refl
-apart_between Production.ParameterExpression around place (v ∷ []) state apart = go around.in_lambda apart
+apart_between Production.ParameterExpression around place (v ∷ []) state apart unheld = go around.in_lambda apart
   where
     own : Going
     own = next (tree (term.parameter (generic_number (index_of v)) auto) true ∷ []) around state
@@ -81,7 +81,7 @@ apart_between Production.ParameterExpression around place (v ∷ []) state apart
         → elim b [ true ↦ own | false ↦ argument_so_far around place (index_of v) state ] ≡ argument_so_far around place (index_of v) state
     go true e = absurd (true≢false e)
     go false e = refl
-apart_between Production.BoundedArray around place (v ∷ []) state apart = go around.in_lambda apart
+apart_between Production.BoundedArray around place (v ∷ []) state apart unheld = go around.in_lambda apart
   where
     own : Going
     own = next (tree (term.parameter (generic_number (index_of v)) auto) true ∷ []) around state
@@ -90,10 +90,11 @@ apart_between Production.BoundedArray around place (v ∷ []) state apart = go a
         → elim b [ true ↦ own | false ↦ argument_so_far around place (index_of v) state ] ≡ argument_so_far around place (index_of v) state
     go true e = absurd (true≢false e)
     go false e = refl
-apart_between p around place vs state apart = refl
+apart_between Production.Holder around place (v ∷ []) state apart unheld = absurd (true≢false unheld)
+apart_between p around place vs state apart unheld = refl
 
 -- what is done before the next part of the open rule of the reading, in terms of the frame
-wide_read_is : (s : List ℕ) (old : Linked) (frame : Frame Kept) (own : List Part) (rule : Open State Around) (known : List Value) (state : State) → IsAt (cpp_view s) s old frame own rule known state
+pub wide_read_is : (s : List ℕ) (old : Linked) (frame : Frame Kept) (own : List Part) (rule : Open State Around) (known : List Value) (state : State) → IsAt (cpp_view s) s old frame own rule known state
     → cpp_wide.between rule known state ≡ between_wide (production_at frame.rule) (around_of (trees_in s old.nodes) frame.kept) frame.place (values_in s old.nodes own) (state_of s old)
 unfolding cpp_wide
 wide_read_is s old frame own rule known state is =
@@ -108,12 +109,15 @@ wide_read_is s old frame own rule known state is =
 same_test : (m n : ℕ) (a b : Bool) (h k : ℕ) → m ≡ n → a ≡ b → h ≡ k → names_generic (production_at m) a h ≡ false → names_generic (production_at n) b k ≡ false
 same_test m n a b h k e f g is = rw (← e, ← f, ← g) is
 
--- What was done where no parameter of a lambda is named is what the wide reading says.
+same_holder : (m n h k : ℕ) → m ≡ n → h ≡ k → names_holder (production_at m) h ≡ false → names_holder (production_at n) k ≡ false
+same_holder m n h k e g is = rw (← e, ← g) is
+
+-- What was done where no parameter of a lambda is named, and no name with its M, is what the wide reading says.
 pub apart_goes : (s : List ℕ) (old new : Linked) (frame : Frame Kept) (parts new_parts : List Part) (held : ℕ) (result : Result Kept Refusal) → held ≡ length parts - frame.base
-    → names_generic (production_at frame.rule) (is_lambda frame.kept.scope) held ≡ false
+    → names_generic (production_at frame.rule) (is_lambda frame.kept.scope) held ≡ false → names_holder (production_at frame.rule) held ≡ false
     → GoesOn (cpp_view s) s (Surrounds s) old new frame parts new_parts result → GoesOn (wide_view s) s (Surrounds s) old new frame parts new_parts result
 unfolding cpp cpp_wide around_of
-apart_goes s old new frame parts new_parts held result counted apart goes rule known state is =
+apart_goes s old new frame parts new_parts held result counted apart unheld goes rule known state is =
     let at = at_plain s old frame (drop frame.base parts) rule known state is in
     let known_are = (parts_are s old (drop frame.base parts) known is.parts).1 in
     let many : held ≡ length known =
@@ -121,7 +125,8 @@ apart_goes s old new frame parts new_parts held result counted apart goes rule k
     let lambda : is_lambda frame.kept.scope ≡ rule.context.in_lambda = ap (λ (a : Around). a.in_lambda) is.kept.surrounds.is in
     subst (λ read. Goes (cpp_view s) (Surrounds s) new (take frame.base parts) new_parts result read)
     (sym (apart_between (production_at rule.rule.number) rule.context rule.place known state
-    (same_test frame.rule rule.rule.number (is_lambda frame.kept.scope) rule.context.in_lambda held (length known) is.number lambda many apart)))
+    (same_test frame.rule rule.rule.number (is_lambda frame.kept.scope) rule.context.in_lambda held (length known) is.number lambda many apart)
+    (same_holder frame.rule rule.rule.number held (length known) is.number many unheld)))
     (goes rule known state at)
 
 -- the step that was taken is that of the wide reading
@@ -172,7 +177,7 @@ apart_closes s old new frame parts new_parts result apart other closes rule know
 substitution_is : (s : List ℕ) (old : Linked) (frame : Frame Kept) (own : List Part) (rule : Open State Around) (known : List Value) (state : State) → IsAt (wide_view s) s old frame own rule known state
     → production_at frame.rule ≡ Production.Substitution
     → (linked_wide s).close rule known state
-    ≡ substituted_wide (around_of (trees_in s old.nodes) frame.kept) (frame.place - 1) (named_by (state_of s old) (values_in s old.nodes own)) (state_of s old)
+    ≡ numbered (around_of (trees_in s old.nodes) frame.kept) (frame.place - 1) (number_in (values_in s old.nodes own)) (state_of s old)
 unfolding link_close_wide close_wide
 substitution_is s old frame own rule known state is substitution =
     ap (λ p. link_close_wide s p (byte_of rule.taken) rule.context rule.place rule.before known state) (ap production_at (sym is.number) ∙ substitution)
@@ -181,14 +186,13 @@ substitution_is s old frame own rule known state is substitution =
   where
     same : (q p : ℕ) (code around : Around) (us vs : List Value) (cs : List values.Candidate) (packs : Option ℕ) (state : State)
         → q ≡ p → code ≡ around → us ≡ vs → cs ≡ state.candidates → packs ≡ state.packs
-        → substituted_wide around (p - 1) (named_by state vs) state
-        ≡ substituted_wide code (q - 1) (named_by (record { candidates = cs; packs = packs }) us) (record { candidates = cs; packs = packs })
+        → numbered around (p - 1) (number_in vs) state ≡ numbered code (q - 1) (number_in us) (record { candidates = cs; packs = packs })
     same q p code around us vs cs packs state place context known candidates packed = rw (place, context, known, candidates, packed) refl
 
 -- a part was put that stands for what a substitution stands for
 pub wide_put_right : (s : List ℕ) (old new : Linked) (frame : Frame Kept) (parts new_parts own : List Part) (made : Part) (done : Unit {0}) → own ≡ drop frame.base parts
     → production_at frame.rule ≡ Production.Substitution
-    → substituted_wide (around_of (trees_in s old.nodes) frame.kept) (frame.place - 1) (named_by (state_of s old) (values_in s old.nodes own)) (state_of s old) ≡ Ok (found (value_in s new.nodes made) (state_of s new))
+    → numbered (around_of (trees_in s old.nodes) frame.kept) (frame.place - 1) (number_in (values_in s old.nodes own)) (state_of s old) ≡ Ok (found (value_in s new.nodes made) (state_of s new))
     → IsThere s (length new.nodes.nodes) made → IsWhole s new → new_parts ≡ take frame.base parts ++ made ∷ []
     → ClosesAll (wide_view s) s old new frame parts new_parts (Ok done)
 wide_put_right s old new frame parts new_parts own made done same substitution closes there whole items rule known state is = (
@@ -198,7 +202,7 @@ wide_put_right s old new frame parts new_parts own made done same substitution c
     value_in s new.nodes made,
     state_of s new,
     substitution_is s old frame (drop frame.base parts) rule known state is substitution
-        ∙ ap (λ ps. substituted_wide (around_of (trees_in s old.nodes) frame.kept) (frame.place - 1) (named_by (state_of s old) (values_in s old.nodes ps)) (state_of s old)) (sym same) ∙ closes,
+        ∙ ap (λ ps. numbered (around_of (trees_in s old.nodes) frame.kept) (frame.place - 1) (number_in (values_in s old.nodes ps)) (state_of s old)) (sym same) ∙ closes,
     record { there = there; is = refl },
     record { table = whole.table; there = whole.there; candidates = refl; packs = refl },
   ),
@@ -207,12 +211,12 @@ wide_put_right s old new frame parts new_parts own made done same substitution c
 -- the refusal of a substitution is that of the wide reading
 pub wide_closing_refused : (s : List ℕ) (old new : Linked) (frame : Frame Kept) (parts new_parts own : List Part) (e : Refusal) → own ≡ drop frame.base parts
     → production_at frame.rule ≡ Production.Substitution
-    → Fails e (substituted_wide (around_of (trees_in s old.nodes) frame.kept) (frame.place - 1) (named_by (state_of s old) (values_in s old.nodes own)) (state_of s old))
+    → Fails e (numbered (around_of (trees_in s old.nodes) frame.kept) (frame.place - 1) (number_in (values_in s old.nodes own)) (state_of s old))
     → ClosesAll (wide_view s) s old new frame parts new_parts (Err e)
 wide_closing_refused s old new frame parts new_parts own e same substitution refused rule known state is =
     subst (λ read. Fails e read)
     (sym (substitution_is s old frame (drop frame.base parts) rule known state is substitution
-    ∙ ap (λ ps. substituted_wide (around_of (trees_in s old.nodes) frame.kept) (frame.place - 1) (named_by (state_of s old) (values_in s old.nodes ps)) (state_of s old)) (sym same)))
+    ∙ ap (λ ps. numbered (around_of (trees_in s old.nodes) frame.kept) (frame.place - 1) (number_in (values_in s old.nodes ps)) (state_of s old)) (sym same)))
     refused
 
 -- what comes of a lambda by the wide reading, in terms of the frame

@@ -3,16 +3,17 @@ use Rattle.std.proofs.Common.{◌≡◌, refl, sym, ◌∙◌, ap, subst, ℕ, �
 use Rattle.std.specs.Prelude.{IfSome, IfOk}
 use Rattle.std.proofs.lemmas.Bool.{true≢false}
 use Rattle.sym_core.specs.declared.refusal.Refusal.{Refusal}
+use Rattle.sym_core.specs.declared.refusal.Refusal.TheVariants.{BadReference}
 use Rattle.sym_link.specs.Reading.{Next, ◌>>=◌}
 use Rattle.cpp_grammar.specs.declared.production.Production.{Production}
-use Rattle.cpp_term.specs.Term.{Term, instance, local, of_default, list, parameter}
+use Rattle.cpp_term.specs.Term.{Term, instance, holder, local, of_default, list, parameter}
 use Rattle.cpp_term.specs.Scope.{is_open, arguments_of, element}
 use Rattle.cpp_term.specs.Items.{auto}
 use Rattle.cpp_grammar.specs.Rescoping.{generic_number}
-use Rattle.cpp_term.specs.Values.{State, Around, Value, tree, tree_of}
+use Rattle.cpp_term.specs.Values.{State, Around, prefix_tree, Value, tree, tree_of}
 use Rattle.cpp_term.specs.References.{parameter_named}
 use Rattle.cpp_term.specs.Between.{Going, closed_arguments, in_name, in_types, in_signature, under_expansion, after, inside, named_so_far, listed_so_far, piece_so_far, tag_so_far, parameter_so_far, argument_so_far, argument_at, index_of, next, between}
-use Rattle.cpp_term.specs.Rescoping.{parameter_here, argument_here, generic_so_far, between_wide}
+use Rattle.cpp_term.specs.Rescoping.{parameter_here, argument_here, generic_so_far, with_holder, is_instance, holder_so_far, between_wide}
 use Rattle.cpp_link.specs.Parts.{IsClosed}
 use Rattle.cpp_term.proofs.Notes.{or_left, or_right}
 
@@ -157,7 +158,7 @@ goes_closed Production.NestNext around place [] state closed = closed
 goes_closed Production.NestNext around place (v ∷ []) state closed = closed
 goes_closed Production.NestNext around place (v ∷ w ∷ vs) state closed = closed
 goes_closed Production.Holder around place [] state closed = closed
-goes_closed Production.Holder around place (v ∷ []) state closed = closed
+goes_closed Production.Holder around place (v ∷ []) state closed = tt
 goes_closed Production.Holder around place (v ∷ w ∷ vs) state closed = closed
 goes_closed Production.Tag around place [] state closed = closed
 goes_closed Production.Tag around place (v ∷ []) state closed = closed
@@ -218,6 +219,17 @@ argument_here_closed around place k state closed = by around.in_lambda
     by true = closed
     by false = lone_closed around place k state closed
 
+holder_closed : (around : Around) (place : ℕ) (state : State) → IsClosed around → GoesClosed (holder_so_far around place state)
+unfolding holder_so_far listed_so_far after
+holder_closed around place state closed = by (is_instance (prefix_tree around.prefix))
+  where
+    by : (b : Bool) → GoesClosed (elim b as (λ _. Going) [
+      | true ↦ Err (BadReference place)
+      | false ↦ listed_so_far around (holder (prefix_tree around.prefix)) [] (with_holder around (holder (prefix_tree around.prefix)) state)
+    ])
+    by true = tt
+    by false = closed
+
 wide_goes_closed : (p : Production) (around : Around) (place : ℕ) (vs : List Value) (state : State) → IsClosed around → GoesClosed (between_wide p around place vs state)
 unfolding between_wide
 wide_goes_closed Production.Parameter around place (v ∷ []) state closed = here_closed around place (index_of v) state closed
@@ -235,6 +247,9 @@ wide_goes_closed Production.ParameterExpression around place (v ∷ w ∷ vs) st
 wide_goes_closed Production.BoundedArray around place [] state closed = goes_closed Production.BoundedArray around place [] state closed
 wide_goes_closed Production.BoundedArray around place (v ∷ []) state closed = argument_here_closed around place (index_of v) state closed
 wide_goes_closed Production.BoundedArray around place (v ∷ w ∷ vs) state closed = goes_closed Production.BoundedArray around place (v ∷ w ∷ vs) state closed
+wide_goes_closed Production.Holder around place [] state closed = goes_closed Production.Holder around place [] state closed
+wide_goes_closed Production.Holder around place (v ∷ []) state closed = holder_closed around place state closed
+wide_goes_closed Production.Holder around place (v ∷ w ∷ vs) state closed = goes_closed Production.Holder around place (v ∷ w ∷ vs) state closed
 wide_goes_closed p around place vs state closed = goes_closed p around place vs state closed
 
 pub wide_between_closed : (p : Production) (around : Around) (place : ℕ) (vs : List Value) (state : State) (n : Next Value State Around) → between_wide p around place vs state ≡ Ok n → IsClosed around → IsClosed n.context

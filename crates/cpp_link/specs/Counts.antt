@@ -32,6 +32,7 @@ between_counts Production.Parameter around place (v ∷ []) state = parameter_co
 between_counts Production.ParameterArgument around place (v ∷ []) state = parameter_counts around (place - 1) (index_of v) [] state
 between_counts Production.ParameterExpression around place (v ∷ []) state = argument_counts around place (index_of v) state
 between_counts Production.BoundedArray around place (v ∷ []) state = argument_counts around place (index_of v) state
+between_counts Production.Holder around place (v ∷ []) state = tt
 between_counts Production.Symbol around place [] state = refl
 between_counts _ around place [] state = refl
 between_counts _ around place (v ∷ []) state = refl

@@ -65,6 +65,14 @@ unfoldable pub is_substitution : Production → Bool
 is_substitution Production.Substitution = true
 is_substitution _ = false
 
+unfoldable pub is_holder : Production → Bool
+is_holder Production.Holder = true
+is_holder _ = false
+
+-- before the part behind these a name becomes a candidate with its M
+abbrev pub names_holder : Production → (held : ℕ) → Bool
+names_holder p held = is_holder p && nat_eq held 1
+
 -- before the part behind these a parameter of a lambda is named
 abbrev pub names_generic : Production → (in_lambda : Bool) → (held : ℕ) → Bool
 names_generic p in_lambda held = in_lambda && is_parameter p && nat_eq held 1
@@ -83,9 +91,13 @@ unfoldable pub argument_read : List Term → Term → List Candidate → Result 
 argument_read ts t cs (Ok r) = Ok (found (tree (reargued (Some (tree_at ts r.0)) t) true) (record { candidates = cs; packs = r.1 }))
 argument_read ts t cs (Err e) = Err e
 
+-- the number of the candidate that a substitution with these parts names
+abbrev pub number_in : List Value → ℕ
+number_in known = counted_value Seq36 (text_of (part known 0))
+
 -- the candidate that a substitution with these parts names
 abbrev pub named_by : State → List Value → Option Candidate
-named_by state known = slice_get state.candidates (counted_value Seq36 (text_of (part known 0)))
+named_by state known = slice_get state.candidates (number_in known)
 
 -- ## What a symbol makes
 

@@ -1,5 +1,5 @@
 -- The values that parts stand for: functions of the nodes.
-use Rattle.std.specs.Prelude.{◌≡◌, ℕ, ◌<◌, List, [], ◌∷◌, map, Bool, true, false, Option, None, Some, IfSome}
+use Rattle.std.specs.Prelude.{◌≡◌, ℕ, ◌<◌, List, [], ◌∷◌, map, Bool, true, false, ◌||◌, Option, None, Some, IfSome}
 use Rattle.cpp_term.specs.Term as term
 use Rattle.cpp_term.specs.Term.{Term}
 use Rattle.cpp_term.specs.Scope.{is_open}
@@ -91,7 +91,7 @@ abbrev pub IsClosed : Around → Type 0
 IsClosed around = IfSome around.scope (λ a. is_open a ≡ false)
 
 abbrev pub candidate_of : List Term → Candidate → values.Candidate
-candidate_of ts c = record { tree = tree_at ts c.node; encoding = c.encoding; in_lambda = c.in_lambda }
+candidate_of ts c = record { tree = tree_at ts c.node; encoding = c.encoding; in_lambda = c.in_lambda; is_held = c.is_held }
 
 abbrev pub candidates_of : List Term → List Candidate → List values.Candidate
 candidates_of ts cs = map (candidate_of ts) cs
@@ -137,9 +137,22 @@ abbrev pub IsPrefixThere : ℕ → Prefix → Type 0
 IsPrefixThere n Prefix.Outermost = Unit {0}
 IsPrefixThere n (Prefix.Behind node listed) = node < n
 
+abbrev pub AreNodesThere : ℕ → List Candidate → Type 0
+AreNodesThere n [] = Unit {0}
+AreNodesThere n (c ∷ cs) = (c.node < n) × AreNodesThere n cs
+
+-- whether one of these candidates is a name with its M, or one before them
+unfoldable pub is_apart_behind : (before : Bool) → List Candidate → Bool
+is_apart_behind before [] = before
+is_apart_behind before (c ∷ cs) = is_apart_behind (before || c.is_held) cs
+
+-- each says whether one before it is
+abbrev pub AreCounted : (before : Bool) → List Candidate → Type 0
+AreCounted before [] = Unit {0}
+AreCounted before (c ∷ cs) = (c.is_apart ≡ before) × AreCounted (before || c.is_held) cs
+
 abbrev pub AreCandidatesThere : ℕ → List Candidate → Type 0
-AreCandidatesThere n [] = Unit {0}
-AreCandidatesThere n (c ∷ cs) = (c.node < n) × AreCandidatesThere n cs
+AreCandidatesThere n cs = AreNodesThere n cs × AreCounted false cs
 
 abbrev pub IsKeptThere : ℕ → Kept → Type 0
 IsKeptThere n kept = nodes.IsThereBelow n (scope_of kept) × IsPrefixThere n (name_of kept)

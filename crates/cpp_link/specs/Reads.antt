@@ -35,6 +35,10 @@ unfoldable pub function_node : Node → Bool
 function_node (Node.FunctionType c_linkage noexcept m returned parameters) = true
 function_node _ = false
 
+unfoldable pub instance_node : Node → Bool
+instance_node (Node.Instance template arguments) = true
+instance_node _ = false
+
 -- the first element and the others of a list that has some, and the argument under which both stand
 unfoldable pub cell_under : Node → Option ℕ → Option Split
 cell_under (Node.Cell first rest) under = Some (record { first = first; rest = rest; under = under })

@@ -1,7 +1,8 @@
 -- What is linked of a symbol by the wide grammar keeps to what every language does.
-use Rattle.std.proofs.Common.{◌≡◌, refl, ℕ, ◌-◌, suc, ◌≤◌, List, [], ◌∷◌, length, Bool, true, false, Result}
+use Rattle.std.proofs.Common.{◌≡◌, refl, ℕ, ◌-◌, suc, ◌≤◌, List, [], ◌∷◌, length, Bool, true, false, Result, Err}
 use Rattle.std.specs.Result.{IfOk}
 use Rattle.sym_core.specs.declared.refusal.Refusal.{Refusal}
+use Rattle.sym_core.specs.declared.refusal.Refusal.TheVariants.{BadReference}
 use Rattle.sym_link.specs.Reading.{Next}
 use Rattle.sym_link.specs.Linking.{View, IsLinking}
 use Rattle.sym_link.specs.Threads.{IsThreading}
@@ -9,12 +10,12 @@ use Rattle.sym_link.proofs.Tally.{tallied_laws, tallied_threads}
 use Rattle.cpp_grammar.specs.declared.production.Production.{Production}
 use Rattle.cpp_grammar.specs.Unfolding.{production_at}
 use Rattle.cpp_grammar.specs.Rescoping.{generic_number}
-use Rattle.cpp_term.specs.Term.{parameter}
+use Rattle.cpp_term.specs.Term.{holder, parameter}
 use Rattle.cpp_term.specs.Items.{auto}
-use Rattle.cpp_term.specs.Values.{State, Value, tree, Around}
+use Rattle.cpp_term.specs.Values.{State, Value, tree, Around, prefix_tree}
 use Rattle.cpp_term.specs.Between.{next, parameter_so_far, argument_so_far, listed_so_far, index_of}
 use Rattle.cpp_term.specs.Unfolding.{cpp}
-use Rattle.cpp_term.specs.Rescoping.{generic_so_far, parameter_here, argument_here, between_wide, cpp_wide}
+use Rattle.cpp_term.specs.Rescoping.{generic_so_far, parameter_here, argument_here, with_holder, is_instance, holder_so_far, between_wide, cpp_wide}
 use Rattle.cpp_link.specs.declared.linked.Linked.{Linked}
 use Rattle.cpp_link.specs.declared.part.Part.{Part}
 use Rattle.cpp_link.specs.declared.part.Kept.{Kept}
@@ -43,6 +44,17 @@ argument_here_counts around place k state = go around.in_lambda
     go true = refl
     go false = argument_counts around place k state
 
+holder_counts : (around : Around) (place : ℕ) (state : State) → IfOk (holder_so_far around place state) (λ next. length next.values ≡ 1)
+unfolding holder_so_far listed_so_far
+holder_counts around place state = go (is_instance (prefix_tree around.prefix))
+  where
+    go : (b : Bool) → IfOk {T = Next Value State Around} (elim b [
+      | true ↦ Err (BadReference place)
+      | false ↦ listed_so_far around (holder (prefix_tree around.prefix)) [] (with_holder around (holder (prefix_tree around.prefix)) state)
+    ]) (λ next. length next.values ≡ 1)
+    go true = tt
+    go false = refl
+
 wide_between_counts : (p : Production) (around : Around) (place : ℕ) (vs : List Value) (state : State) → IfOk (between_wide p around place vs state) (λ next. length next.values ≡ length vs)
 unfolding between_wide
 wide_between_counts Production.NestParameter around place (v ∷ []) state = here_counts around place (index_of v) [] state
@@ -50,6 +62,7 @@ wide_between_counts Production.Parameter around place (v ∷ []) state = here_co
 wide_between_counts Production.ParameterArgument around place (v ∷ []) state = here_counts around (place - 1) (index_of v) [] state
 wide_between_counts Production.ParameterExpression around place (v ∷ []) state = argument_here_counts around place (index_of v) state
 wide_between_counts Production.BoundedArray around place (v ∷ []) state = argument_here_counts around place (index_of v) state
+wide_between_counts Production.Holder around place (v ∷ []) state = holder_counts around place state
 wide_between_counts p around place vs state = between_counts p around place vs state
 
 -- ## The language

@@ -6,7 +6,7 @@ use Rattle.cpp_link.specs.declared.part.Part.{Part}
 use Rattle.cpp_link.specs.declared.part.Prefix.{Prefix}
 use Rattle.cpp_link.specs.declared.part.Kept.{Kept}
 use Rattle.cpp_link.specs.declared.part.Candidate.{Candidate}
-use Rattle.cpp_link.specs.Parts.{trees_in, value_of, values_of, value_in, values_in, prefix_of, scope_of, name_of, around_of, candidates_of, IsThere, AreThere, IsPrefixThere, IsKeptThere, AreCandidatesThere}
+use Rattle.cpp_link.specs.Parts.{trees_in, value_of, values_of, value_in, values_in, prefix_of, scope_of, name_of, around_of, candidates_of, IsThere, AreThere, IsPrefixThere, IsKeptThere, AreNodesThere, AreCandidatesThere}
 
 module _ (s : List ℕ) (old new : Stored) (stays : (i : ℕ) → i < length old.nodes → tree_at (trees_in s new) i ≡ tree_at (trees_in s old) i) where
   piece_stays : (p : Piece) → IsPieceBelow s (length old.nodes) p → piece_of s (trees_in s new) p ≡ piece_of s (trees_in s old) p
@@ -47,9 +47,12 @@ module _ (s : List ℕ) (old new : Stored) (stays : (i : ℕ) → i < length old
   unfolding around_of
   around_stays kept there = rw (arguments_stay (scope_of kept) there.0, prefix_stays (name_of kept) there.1) refl
 
+  all_stay : (cs : List Candidate) → AreNodesThere (length old.nodes) cs → candidates_of (trees_in s new) cs ≡ candidates_of (trees_in s old) cs
+  all_stay [] there = refl
+  all_stay (c ∷ cs) there = rw (stays c.node there.0, all_stay cs there.1) refl
+
   pub candidates_stay : (cs : List Candidate) → AreCandidatesThere (length old.nodes) cs → candidates_of (trees_in s new) cs ≡ candidates_of (trees_in s old) cs
-  candidates_stay [] there = refl
-  candidates_stay (c ∷ cs) there = rw (stays c.node there.0, candidates_stay cs there.1) refl
+  candidates_stay cs there = all_stay cs there.0
 
 -- what is there is there among more nodes
 pub there_more : (s : List ℕ) (m n : ℕ) (p : Part) → m ≤ n → IsThere s m p → IsThere s n p
@@ -70,9 +73,12 @@ there_more s m n (Part.Signed v) le there = there
 there_more s m n (Part.Adjusted a) le there = there
 there_more s m n _ le there = tt
 
+nodes_more : (m n : ℕ) (cs : List Candidate) → m ≤ n → AreNodesThere m cs → AreNodesThere n cs
+nodes_more m n [] le there = tt
+nodes_more m n (c ∷ cs) le there = (omega (arith, le, there.0), nodes_more m n cs le there.1)
+
 pub candidates_more : (m n : ℕ) (cs : List Candidate) → m ≤ n → AreCandidatesThere m cs → AreCandidatesThere n cs
-candidates_more m n [] le there = tt
-candidates_more m n (c ∷ cs) le there = (omega (arith, le, there.0), candidates_more m n cs le there.1)
+candidates_more m n cs le there = (nodes_more m n cs le there.0, there.1)
 
 pub kept_more : (m n : ℕ) (kept : Kept) → m ≤ n → IsKeptThere m kept → IsKeptThere n kept
 kept_more m n kept le there = (arguments (scope_of kept) there.0, prefix (name_of kept) there.1)

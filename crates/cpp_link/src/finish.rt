@@ -33,7 +33,7 @@ use sym_link::language::Frame;
 use sym_link::parts::put;
 
 /// The candidate of a number.
-fn numbered(candidates: &[Candidate], counted: Option<u64>) -> Option<Candidate>
+pub(crate) fn numbered(candidates: &[Candidate], counted: Option<u64>) -> Option<Candidate>
     ensures { (k : ℕ) → MatchOption counted (2 ^ 64 ≤ k) (λ v. v ≡ k) → result ≡ slice_get candidates.now k }
 {
     match counted {

@@ -7,6 +7,7 @@ pub mod between;
 pub mod closing;
 pub mod dispatch;
 pub mod finish;
+pub mod holders;
 pub mod language;
 pub mod linked;
 pub mod meaning;

@@ -1,11 +1,12 @@
 // What is linked of a symbol so far.
 
-ghost use Rattle.std.specs.Prelude.{◌≡◌, ℕ, ◌<◌, ◌≤◌, List, length, Option, Ok, IfErr, OnOk, OnErr};
+ghost use Rattle.std.specs.Prelude.{◌≡◌, ℕ, ◌<◌, ◌≤◌, ◌||◌, ◌∷◌, ◌++◌, [], false, List, length, Option, Ok, IfErr, OnOk, OnErr};
 ghost use Rattle.sym_core.specs.declared.refusal.Refusal.TheVariants as refusals;
 ghost use Rattle.sym_link.specs.Threads.{IsTaken};
 ghost use Rattle.cpp_term.specs.Unfolding.{first_state};
-ghost use Rattle.cpp_tree.specs.Nodes.{IsThereBelow};
-ghost use Rattle.cpp_link.specs.Parts.{trees_in, around_of, candidates_of, AreCandidatesThere};
+ghost use Rattle.cpp_term.specs.Term.{Term};
+ghost use Rattle.cpp_tree.specs.Nodes.{IsThereBelow, tree_at};
+ghost use Rattle.cpp_link.specs.Parts.{trees_in, is_lambda, around_of, candidates_of, is_apart_behind, AreCounted, AreCandidatesThere};
 ghost use Rattle.cpp_link.specs.Reads.{with_candidate};
 ghost use Rattle.cpp_link.specs.View.{Holds, IsPaid, cpp_view};
 ghost use Rattle.cpp_link.specs.Room.{KeepsRoom, LacksRoom};
@@ -23,6 +24,25 @@ pub struct Linked {
     pub nodes: Nodes,
     pub candidates: Vec<Candidate>,
     pub packs: Option<u32>,
+}
+
+/// Whether a candidate is a name with its `M`, or one before it is.
+pub(crate) fn is_apart(candidate: Candidate) -> bool
+    ensures { result ≡ candidate.is_apart || candidate.is_held }
+{
+    candidate.is_apart || candidate.is_held
+}
+
+/// Whether one of the candidates is a name with its `M`.
+#[inline(always)]
+pub(crate) fn has_holder(candidates: &[Candidate]) -> bool
+    requires counted { AreCounted false candidates.now }
+    ensures { result ≡ is_apart_behind false candidates.now }
+{
+    match candidates.last() {
+        Some(last) => is_apart(*last),
+        None => false,
+    }
 }
 
 impl Linked {
@@ -53,6 +73,40 @@ impl Linked {
         Ok(())
     }
 
+    /// A tree becomes a candidate, which may be a name with its `M`.
+    ///
+    /// # Errors
+    ///
+    /// `Memory` where the candidates couldn't grow.
+    #[inline(always)]
+    pub(crate) fn push_candidate(
+        &mut self,
+        kept: Kept,
+        node: u32,
+        is_held: bool,
+    ) -> Result<(), Refusal>
+        requires below { node < length self.old.nodes.nodes }
+        requires there { AreCandidatesThere (length self.old.nodes.nodes) self.old.candidates.items }
+        ensures nodes { self.new.nodes ≡ self.old.nodes }
+        ensures packs { self.new.packs ≡ self.old.packs }
+        ensures there { OnOk result (AreCandidatesThere (length self.old.nodes.nodes) self.new.candidates.items) }
+        ensures is { OnOk result ((ts : List Term) → candidates_of ts self.new.candidates.items
+            ≡ candidates_of ts self.old.candidates.items ++ record { tree = tree_at ts node; encoding = kept.encoding; in_lambda = is_lambda kept.scope; is_held = is_held } ∷ []) }
+        ensures memory { IfErr result (λ e. e ≡ refusals.Memory) }
+        ensures keeps { KeepsRoom self.old self.new }
+        ensures full { OnErr result (LacksRoom self.old self.new) }
+    {
+        let candidate = Candidate {
+            node,
+            encoding: kept.encoding,
+            in_lambda: kept.in_lambda(),
+            is_held,
+            is_apart: has_holder(&self.candidates),
+        };
+        push_part(&mut self.candidates, candidate)?;
+        Ok(())
+    }
+
     /// A tree becomes a candidate, or none does.
     ///
     /// # Errors
@@ -80,12 +134,7 @@ impl Linked {
         match candidate {
             None => Ok(()),
             Some(node) => {
-                let candidate = Candidate {
-                    node,
-                    encoding: kept.encoding,
-                    in_lambda: kept.in_lambda(),
-                };
-                push_part(&mut self.candidates, candidate)?;
+                self.push_candidate(kept, node, false)?;
                 Ok(())
             }
         }

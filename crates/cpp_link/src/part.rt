@@ -195,6 +195,10 @@ pub struct Candidate {
     pub node: u32,
     pub encoding: u32,
     pub in_lambda: bool,
+    /// Whether it's a name with its `M`.
+    pub is_held: bool,
+    /// Whether an earlier candidate is one.
+    pub is_apart: bool,
 }
 
 /// A node that isn't there again, and the argument under which its parts stand.

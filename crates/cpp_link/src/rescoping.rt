@@ -271,7 +271,7 @@ impl Linked {
     ///
     /// `BadReference` one byte before the place, at the `S`, where it may name no such candidate, `Memory` where the nodes couldn't
     /// grow.
-    fn substitute_rescoped(
+    pub(crate) fn substitute_rescoped(
         &mut self,
         symbol: &[u8],
         place: u32,
@@ -346,7 +346,7 @@ impl Linked {
     ///
     /// # Errors
     ///
-    /// Those of `substitute_rescoped`, and `Memory` where the list of parts couldn't grow.
+    /// Those of `substitute_counted`, and `Memory` where the list of parts couldn't grow.
     pub fn finish_substitution(
         &mut self,
         symbol: &[u8],
@@ -364,7 +364,7 @@ impl Linked {
         ensures pays { OnOk result ((at : ℕ) → Pays (cpp_view symbol.now) self.old self.new at at) }
         ensures roomy { IsRoomy self.old self.new parts.old parts.new result }
     {
-        let made = self.substitute_rescoped(symbol, frame.place, frame.kept, &parts[frame.base..])?;
+        let made = self.substitute_counted(symbol, frame.place, frame.kept, &parts[frame.base..])?;
         put(parts, frame.base, made)?;
         Ok(())
     }

@@ -107,7 +107,7 @@ impl Linked {
     /// The node of the name so far.
     #[tactic(auto, unfolding(crate::specs::Parts::prefix_in, crate::specs::Parts::prefix_of, cpp_term::specs::Values::prefix_tree))]
     #[inline(always)]
-    fn prefix_node(&self, symbol: &[u8], kept: Kept) -> u32
+    pub(crate) fn prefix_node(&self, symbol: &[u8], kept: Kept) -> u32
         requires table { IsTable (over symbol.now self.now.nodes) }
         requires kept { IsKeptThere (length self.now.nodes.nodes) kept }
         ensures is { tree_at (trees_in symbol.now self.now.nodes) result ≡ prefix_tree (prefix_of (trees_in symbol.now self.now.nodes) (name_of kept)) }
@@ -285,7 +285,7 @@ impl Linked {
         }
     }
 
-    /// What is done before the second part, of a production that is no parameter and no pack.
+    /// What is done before the second part, of a production that is no parameter, no pack and no name with its `M`.
     #[tactic(auto, unfolding(cpp_term::specs::Between::between, cpp_term::specs::Between::in_name, cpp_term::specs::Between::in_types, cpp_term::specs::Between::in_signature, cpp_term::specs::Between::under_expansion, cpp_term::specs::Between::after, cpp_term::specs::Between::inside, cpp_term::specs::Between::applied, cpp_term::specs::Between::piece_so_far, cpp_term::specs::Between::named_so_far, cpp_term::specs::Between::tag_so_far, cpp_term::specs::Between::listed_so_far, cpp_term::specs::Values::tree_of, crate::specs::Parts::around_of, crate::specs::Parts::prefix_of, cpp_tree::specs::Nodes::tree_if_there, cpp_tree::specs::Nodes::tree_of, cpp_tree::specs::Nodes::piece_of, crate::specs::Reads::goes_on, crate::specs::Reads::behind_first, crate::specs::Reads::named_if, crate::specs::Reads::appended_if, crate::specs::Reads::with_candidate, crate::specs::Owed::made_before, crate::specs::NodeCount::makes_before, crate::specs::Owed::made_before, crate::specs::NodeCount::std_before, crate::specs::NodeCount::one_if_there, crate::specs::NodeCount::pack_before))]
     fn step_second(
         &self,
@@ -304,6 +304,7 @@ impl Linked {
         requires expression { production ≡ productions.ParameterExpression → ⊥ }
         requires length { production ≡ productions.BoundedArray → ⊥ }
         requires pack { production ≡ productions.PackArgument → ⊥ }
+        requires holder { production ≡ productions.Holder → ⊥ }
         ensures is { (cs : List values.Candidate) → between production (around_of (trees_in symbol.now self.now.nodes) kept) place (value_in symbol.now self.now.nodes first ∷ []) (record { candidates = cs; packs = self.now.packs }) ≡ goes_on symbol.now self.now.nodes kept (value_in symbol.now self.now.nodes first ∷ []) cs self.now.packs result }
         ensures there { IsStepThere symbol.now (length self.now.nodes.thunks) (length self.now.nodes.nodes) result }
         ensures of { IsStepOf production 1 result }
@@ -403,13 +404,6 @@ impl Linked {
                 kept.prefix(),
                 Piece::Destructor(letter_of(first)),
             )),
-            Production::Holder => Step::Made {
-                node: Node::Holder(self.prefix_node(symbol, kept)),
-                listed: true,
-                is_name: true,
-                is_candidate: false,
-                packs: self.packs,
-            },
             Production::StdName => self.named(Node::InStd(self.piece_in(symbol, first))),
             Production::TaggedStdType => self.named(Node::InStd(self.piece_in(symbol, first))),
             Production::NestStd => self.named(Node::InStd(self.piece_in(symbol, first))),
@@ -650,7 +644,7 @@ impl Linked {
     ///
     /// # Errors
     ///
-    /// Those of a parameter.
+    /// Those of a parameter, and `BadReference` at an `M`, which the ABI's grammar doesn't have.
     #[tactic(auto, unfolding(cpp_term::specs::Between::between, cpp_term::specs::Between::index_of))]
     #[inline(always)]
     fn step_behind_first(
@@ -696,6 +690,7 @@ impl Linked {
                 self.parameter_argument(symbol, kept, place, digits)
             }
             Production::PackArgument => Ok(self.pack(symbol, first)),
+            Production::Holder => Err(Refusal::BadReference { at: place }),
             _ => Ok(self.step_second(symbol, production, place, kept, first)),
         }
     }

@@ -1,5 +1,5 @@
 // The moments at which the driver asks C++'s language by the wide grammar. What is done is what the ABI's grammar does, but for
-// lambdas, the parameters of their signatures, and substitutions.
+// lambdas, the parameters of their signatures, names with an `M`, and substitutions.
 
 ghost use Rattle.std.specs.Prelude.{◌≡◌, ℕ, ◌<◌, ◌≤◌, ◌∷◌, ◌++◌, [], List, length, drop, OnOk, OnErr};
 ghost use Rattle.sym_link.specs.Driving.{AreAll};
@@ -11,11 +11,12 @@ ghost use Rattle.cpp_link.specs.declared.part.Part.TheVariants as variants;
 ghost use Rattle.cpp_term.specs.Values.{Value, State, Around};
 ghost use Rattle.cpp_link.specs.Parts.{is_lambda};
 ghost use Rattle.cpp_link.specs.View.{Surrounds};
-ghost use Rattle.cpp_link.specs.LinkRescoping.{names_generic, wide_counted};
+ghost use Rattle.cpp_link.specs.LinkRescoping.{names_generic, names_holder, wide_counted};
 ghost use Rattle.cpp_link.specs.RescopingLaws.{wide_laws, wide_threads};
 ghost use Rattle.cpp_link.specs.declared.rescoping.Rescoping.{Rescoping};
 
 use crate::dispatch::production_of;
+use crate::holders::is_holder;
 use crate::language::OUTSIDE;
 use crate::part::{Kept, Part};
 use crate::rescoping::{Rescoping, is_lambda_production, is_parameter, is_substitution};
@@ -30,6 +31,13 @@ fn names_generic(production: Production, kept: Kept, held: usize) -> bool
     ensures { result ≡ names_generic production (is_lambda kept.scope) held }
 {
     kept.in_lambda() && is_parameter(production) && held == 1
+}
+
+/// Whether before the part behind so many a name becomes a candidate with its `M`.
+fn names_holder(production: Production, held: usize) -> bool
+    ensures { result ≡ names_holder production held }
+{
+    is_holder(production) && held == 1
 }
 
 impl Threading for Rescoping {
@@ -73,12 +81,13 @@ impl Threading for Rescoping {
         ensures keeps { KeepsRoom (wide_counted symbol.now) self.old self.new parts.old parts.new }
         ensures full { NeedsRoom (wide_counted symbol.now) self.old self.new parts.old parts.new result }
     {
-        if names_generic(
-            production_of(frame.rule),
-            frame.kept,
-            parts.len() - frame.base,
-        ) {
+        let production = production_of(frame.rule);
+        let held = parts.len() - frame.base;
+        if names_generic(production, frame.kept, held) {
             return self.linked.go_generic(symbol, frame, parts);
+        }
+        if names_holder(production, held) {
+            return self.linked.go_holder(symbol, frame, parts);
         }
         self.linked.go_on(symbol, frame, parts)
     }

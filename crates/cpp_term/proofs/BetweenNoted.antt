@@ -9,7 +9,7 @@ use Rattle.sym_core.specs.declared.NumberKind.TheVariants.{Decimal, Seq36}
 use Rattle.sym_core.specs.Value.{counted_value}
 use Rattle.sym_link.specs.Reading.{Next}
 use Rattle.cpp_grammar.specs.declared.production.Production.{Production}
-use Rattle.cpp_grammar.specs.Rescoping.{generic_number, generic_so_far, parameter_here, argument_here, lambda_with, with_own, substituted_wide, between_wide, close_wide}
+use Rattle.cpp_grammar.specs.Rescoping.{generic_number, generic_so_far, parameter_here, argument_here, lambda_with, with_own, with_holder, is_instance, holder_so_far, numbered, between_wide, close_wide}
 use Rattle.cpp_grammar.specs.Scope.{count, element, is_open, length_if_pack}
 use Rattle.cpp_grammar.specs.Term.{Term, lambda, generic_lambda, list, in_std, instance, holder, parameter, lvalue, rvalue, source, operator, constructor, destructor}
 use Rattle.cpp_grammar.specs.Values as leaf_
@@ -33,7 +33,7 @@ use Rattle.cpp_term.specs.Rescoping as wide_
 use Rattle.cpp_term.specs.Annotated.{Place, around_place, place_in, in_own, argument_in, annotate, noted_scope, noted_value, noted_values, noted_prefix, noted_around}
 use Rattle.cpp_term.proofs.Notes.{both, open_noted, closed_noted}
 use Rattle.cpp_term.proofs.MeaningNoted.{structor_noted, part_noted, tree_noted, piece_noted, text_noted, letter_noted, listed_noted, items_noted, applied_noted, text_part_, extended_noted, prefix_tree_noted, Inside, lambda_noted, meaning_noted}
-use Rattle.cpp_term.proofs.StatesNoted.{IsOutside, Settled, own_place, Alike, alike_bind, Same, Moves, moves_none, one_moves, type_moves, unqualified_moves, prefix_moves, Comes, get_noted, substituted_noted, wide_substituted_noted, parameter_noted}
+use Rattle.cpp_term.proofs.StatesNoted.{IsOutside, Settled, own_place, Alike, alike_bind, Same, Moves, moves_none, one_moves, type_moves, unqualified_moves, prefix_moves, Comes, get_noted, substituted_noted, wide_numbered_noted, held_moves, parameter_noted}
 
 -- what stands inside has the same scope, or none
 abbrev pub InScope : Around → Around → Type 0
@@ -230,8 +230,7 @@ between_noted own Production.TypeTag around place (v ∷ []) x y stays packs = t
 between_noted own Production.NestNext around place [] x y stays packs =
     after_goes own around x (with_prefix around x) y _ leaf_.nothing_there (prefix_tree around.prefix) _ true [] (prefix_tree_noted (around_place own around) around.prefix) (prefix_moves own around x y packs)
 between_noted own Production.NestNext around place (v ∷ []) x y stays packs = after_goes own around x x y y v (tree_of v) _ false (v ∷ []) (tree_noted (around_place own around) v) (moves_none own around x x y y refl refl packs)
-between_noted own Production.Holder around place (v ∷ []) x y stays packs =
-    named_goes own around x x y y (holder (prefix_tree around.prefix)) _ true [] [] (ap term_.holder (prefix_tree_noted (around_place own around) around.prefix)) refl (moves_none own around x x y y refl refl packs)
+between_noted own Production.Holder around place (v ∷ []) x y stays packs = refl
 between_noted own Production.Arguments around place [] x y stays packs = inside_goes own around x y packs
 between_noted own Production.PackArgument around place (v ∷ []) x y stays packs = record {
   values = ap (λ t. value_.tree (term_.pack t) true ∷ []) (items_noted (around_place own around) v);
@@ -377,6 +376,36 @@ argument_here_goes around x y place v settled packs = go around.in_lambda refl
     go true is = subst (λ k. Alike (Goes true s around x y) (next (leaf_.tree (parameter (generic_number (index_of v))) true ∷ []) around x) (named k)) (sym (index_noted s v)) (own_argument_goes around x y (index_of v) is settled packs)
     go false is = lone_parameter true around x y place v packs
 
+instance_noted : (s : Place) (t : Term) → wide_.is_instance (annotate s t) ≡ is_instance t
+unfolding is_instance wide_.is_instance annotate
+instance_noted s (instance template arguments) = refl
+instance_noted s _ = refl
+
+holder_goes : (around : Around) (x : State) (y : value_.State) (place : ℕ) → y.packs ≡ x.packs →
+    Alike (Goes true (around_place true around) around x y) (holder_so_far around place x) (wide_.holder_so_far (noted_around true around) place y)
+unfolding holder_so_far wide_.holder_so_far listed_so_far between_.listed_so_far noted_around noted_values annotate
+holder_goes around x y place packs =
+    go (is_instance (prefix_tree around.prefix)) (wide_.is_instance (value_.prefix_tree (noted_prefix s around.prefix))) (ap wide_.is_instance (prefix_tree_noted s around.prefix) ∙ instance_noted s (prefix_tree around.prefix))
+  where
+    s : Place
+    s = around_place true around
+
+    t : Term
+    t = holder (prefix_tree around.prefix)
+
+    u : term_.Term
+    u = term_.holder (value_.prefix_tree (noted_prefix s around.prefix))
+
+    go : (b e : Bool) → e ≡ b → Alike (Goes true s around x y)
+        (elim b [ true ↦ Err (BadReference place) | false ↦ listed_so_far around t [] (with_holder around t x) ])
+        (elim e [ true ↦ Err (BadReference place) | false ↦ between_.listed_so_far (noted_around true around) u [] (wide_.with_holder (noted_around true around) u y) ])
+    go true true f = refl
+    go false false f =
+        let same = ap term_.holder (prefix_tree_noted s around.prefix) in
+        named_goes true around x (with_holder around t x) y (wide_.with_holder (noted_around true around) u y) t u true [] [] same refl (held_moves true around t u x y packs same)
+    go true false f = absurd cc
+    go false true f = absurd cc
+
 pub wide_between_noted : (production : Production) (around : Around) (place : ℕ) (vs : List Value) (x : State) (y : value_.State) → StaysInside production → Settled around → y.packs ≡ x.packs →
     Alike (Goes true (parts_place true production around) around x y) (between_wide production around place vs x)
     (wide_.between_wide production (noted_around true around) place (noted_values (parts_place true production around) vs) y)
@@ -396,6 +425,9 @@ wide_between_noted Production.ParameterExpression around place (v ∷ w ∷ vs) 
 wide_between_noted Production.BoundedArray around place [] x y stays settled packs = between_noted true Production.BoundedArray around place [] x y stays packs
 wide_between_noted Production.BoundedArray around place (v ∷ []) x y stays settled packs = argument_here_goes around x y place v settled packs
 wide_between_noted Production.BoundedArray around place (v ∷ w ∷ vs) x y stays settled packs = between_noted true Production.BoundedArray around place (v ∷ w ∷ vs) x y stays packs
+wide_between_noted Production.Holder around place [] x y stays settled packs = between_noted true Production.Holder around place [] x y stays packs
+wide_between_noted Production.Holder around place (v ∷ []) x y stays settled packs = holder_goes around x y place packs
+wide_between_noted Production.Holder around place (v ∷ w ∷ vs) x y stays settled packs = between_noted true Production.Holder around place (v ∷ w ∷ vs) x y stays packs
 wide_between_noted p around place vs x y stays settled packs = between_noted true p around place vs x y stays packs
 
 -- a lambda is told apart alike, and what stands in its signature is under its own parameters
@@ -423,10 +455,8 @@ pub wide_close_noted : (production : Production) (byte : ℕ) (around : Around) 
     Alike (Comes true around x y) (close_wide production byte around place began vs x) (wide_.close_wide production byte (noted_around true around) place first (noted_values (parts_place true production around) vs) y)
 unfolding close unfolded_.close close_wide wide_.close_wide parts_place has_signature meaning noted_.meaning unfolding_.behind unfolded_.behind noted_value
 wide_close_noted Production.Substitution byte around place began first vs x y h settled same e =
-    subst (λ bytes. Alike (Comes true around x y) (substituted_wide around (place - 1) (slice_get x.candidates (counted_value Seq36 (text_of (part vs 0)))) x)
-    (wide_.substituted_wide (noted_around true around) (place - 1) (slice_get y.candidates (counted_value Seq36 bytes)) y)) (sym (text_part_ (around_place true around) vs 0))
-    (wide_substituted_noted around (place - 1) (slice_get x.candidates (counted_value Seq36 (text_of (part vs 0)))) (slice_get y.candidates (counted_value Seq36 (text_of (part vs 0)))) x y settled same.packs
-    (get_noted true around x.candidates y.candidates (counted_value Seq36 (text_of (part vs 0))) same.all))
+    subst (λ bytes. Alike (Comes true around x y) (numbered around (place - 1) (counted_value Seq36 (text_of (part vs 0))) x) (wide_.numbered (noted_around true around) (place - 1) (counted_value Seq36 bytes) y))
+    (sym (text_part_ (around_place true around) vs 0)) (wide_numbered_noted around (place - 1) (counted_value Seq36 (text_of (part vs 0))) x y settled same)
 wide_close_noted Production.Lambda byte around place began first vs x y h settled same e =
     record { value = own_lambda (around_place true around) byte around (noted_around true around) vs; moves = moves_none true around x x y y refl refl same.packs }
 wide_close_noted Production.ValueOf byte around place began first vs x y h settled same e = record { value = refl; moves = moves_none true around x x y y refl refl same.packs }

@@ -152,6 +152,7 @@ encodings_apart Production.Substitution h = absurd (false≢true h)
 encodings_apart Production.ParameterArgument h = absurd (false≢true h)
 encodings_apart Production.ParameterExpression h = absurd (false≢true h)
 encodings_apart Production.BoundedArray h = absurd (false≢true h)
+encodings_apart Production.Holder h = absurd (false≢true h)
 encodings_apart _ h = refl
 
 special_apart : (p : Production) → in_special p ≡ true → has_signature p ≡ false

@@ -1,5 +1,5 @@
 -- What runs along with the bytes, annotated: the candidates of an encoding by its scope, and closed ones in any way.
-use Rattle.std.proofs.Common.{◌≡◌, refl, ap, sym, ◌∙◌, subst, ℕ, zero, suc, List, [], ◌∷◌, ◌++◌, Bool, true, false, not, ◌||◌, ◌&&◌, nat_eq, nat_lt, slice_get, Option, Some, None, Result, Ok, Err}
+use Rattle.std.proofs.Common.{◌≡◌, refl, ap, sym, ◌∙◌, subst, ℕ, zero, suc, ◌+◌, List, [], ◌∷◌, ◌++◌, Bool, true, false, not, ◌||◌, ◌&&◌, nat_eq, nat_lt, slice_get, Option, Some, None, Result, Ok, Err}
 use Rattle.std.proofs.lemmas.Bool.{eqb-true, true≢false, false≢true}
 use Rattle.std.proofs.lemmas.List.{append_assoc, append-nil}
 use Rattle.sym_core.specs.declared.refusal.Refusal.{Refusal}
@@ -11,7 +11,7 @@ use Rattle.cpp_grammar.specs.Scope.{count, element, is_open, length_if_pack, pac
 use Rattle.cpp_grammar.specs.Values as leaf_
 use Rattle.cpp_grammar.specs.Values.{Around, Prefix, prefix_tree, prefix_listed, Value, State, Candidate, tree_of, is_listed}
 use Rattle.cpp_grammar.specs.References.{appended, is_function_type, with_type, with_unqualified, with_prefix, with_packs, packs_in, substituted, parameter_named}
-use Rattle.cpp_grammar.specs.Rescoping.{is_foreign, in_scope, with_free, restated, substituted_wide}
+use Rattle.cpp_grammar.specs.Rescoping.{with_holder, has_held, is_counted_alike, is_foreign, in_scope, with_free, restated, substituted_wide, numbered}
 use Rattle.cpp_term.specs.Term as term_
 use Rattle.cpp_term.specs.Scope as scope_
 use Rattle.cpp_term.specs.Values as value_
@@ -48,6 +48,7 @@ pub record IsNoted (own : Bool) (around : Around) (c : Candidate) (d : value_.Ca
   pub like : d.tree ≡ annotate by c.tree
   pub closed : is_open c.tree ≡ false → d.tree ≡ annotate nowhere c.tree
   pub in_lambda : d.in_lambda ≡ c.in_lambda
+  pub is_held : d.is_held ≡ c.is_held
   pub here : c.encoding ≡ around.encoding → around.in_lambda ≡ false → (own ≡ true → c.in_lambda ≡ false) → d.tree ≡ annotate (around_place own around) c.tree
 
 abbrev pub AllNoted : (own : Bool) → Around → List Candidate → List value_.Candidate → Type 0
@@ -98,11 +99,23 @@ pub one_moves : (own : Bool) (around : Around) (t : Term) (u : term_.Term) (x : 
     Moves own around x y (appended around t x) (noted_.appended (noted_around own around) u y)
 unfolding appended noted_.appended noted_around
 one_moves own around t u x y packs is = record {
-  more = record { tree = t; encoding = around.encoding; in_lambda = around.in_lambda } ∷ [];
-  others = record { tree = u; encoding = around.encoding; in_lambda = around.in_lambda } ∷ [];
+  more = record { tree = t; encoding = around.encoding; in_lambda = around.in_lambda; is_held = false } ∷ [];
+  others = record { tree = u; encoding = around.encoding; in_lambda = around.in_lambda; is_held = false } ∷ [];
   is = refl;
   so = refl;
-  each = (record { encoding = refl; by = around_place own around; like = is; closed = λ h. is ∙ closed_noted (around_place own around) nowhere t h; in_lambda = refl; here = λ e f g. is }, tt);
+  each = (record { encoding = refl; by = around_place own around; like = is; closed = λ h. is ∙ closed_noted (around_place own around) nowhere t h; in_lambda = refl; is_held = refl; here = λ e f g. is }, tt);
+  packs = packs;
+}
+
+pub held_moves : (own : Bool) (around : Around) (t : Term) (u : term_.Term) (x : State) (y : value_.State) → y.packs ≡ x.packs → u ≡ annotate (around_place own around) t →
+    Moves own around x y (with_holder around t x) (wide_.with_holder (noted_around own around) u y)
+unfolding with_holder wide_.with_holder noted_around
+held_moves own around t u x y packs is = record {
+  more = record { tree = t; encoding = around.encoding; in_lambda = around.in_lambda; is_held = true } ∷ [];
+  others = record { tree = u; encoding = around.encoding; in_lambda = around.in_lambda; is_held = true } ∷ [];
+  is = refl;
+  so = refl;
+  each = (record { encoding = refl; by = around_place own around; like = is; closed = λ h. is ∙ closed_noted (around_place own around) nowhere t h; in_lambda = refl; is_held = refl; here = λ e f g. is }, tt);
   packs = packs;
 }
 
@@ -385,7 +398,7 @@ restated_noted around place by t x y settled packs = go around.in_lambda refl
     go false is = subst (λ f. Alike (Comes true around x y) (with_free (free_in t) around place t x) (wide_.with_free f (noted_around true around) place (annotate by t) y)) (sym (free_noted by t))
         (free_noted_bad (free_in t) around place by t x y refl packs)
 
-pub wide_substituted_noted : (around : Around) (place : ℕ) (o : Option Candidate) (p : Option value_.Candidate) (x : State) (y : value_.State) → Settled around → y.packs ≡ x.packs → AreNoted true around o p →
+wide_substituted_noted : (around : Around) (place : ℕ) (o : Option Candidate) (p : Option value_.Candidate) (x : State) (y : value_.State) → Settled around → y.packs ≡ x.packs → AreNoted true around o p →
     Alike (Comes true around x y) (substituted_wide around place o x) (wide_.substituted_wide (noted_around true around) place p y)
 unfolding substituted_wide wide_.substituted_wide is_foreign
 wide_substituted_noted around place None None x y settled packs n = refl
@@ -406,3 +419,27 @@ wide_substituted_noted around place (Some c) (Some d) x y settled packs n = go (
     go false false f is = substituted_noted true around place (Some c) (Some d) x y packs n (λ opens o. outside (is_open c.tree) around.in_lambda c.in_lambda (not (nat_eq c.encoding around.encoding)) is opens)
     go true false f is = absurd cc
     go false true f is = absurd cc
+
+held_noted : (own : Bool) (around : Around) (cs : List Candidate) (ds : List value_.Candidate) (count : ℕ) → AllNoted own around cs ds → wide_.has_held ds count ≡ has_held cs count
+unfolding has_held wide_.has_held
+held_noted own around [] [] count all = refl
+held_noted own around (c ∷ cs) (d ∷ ds) zero all = refl
+held_noted own around (c ∷ cs) (d ∷ ds) (suc count) all = both (λ a b. a || b) all.0.is_held (held_noted own around cs ds count all.1)
+held_noted own around [] (d ∷ ds) count all = absurd all
+held_noted own around (c ∷ cs) [] count all = absurd all
+
+-- compilers count the ones as they count the others
+pub wide_numbered_noted : (around : Around) (place number : ℕ) (x : State) (y : value_.State) → Settled around → Same true around x y →
+    Alike (Comes true around x y) (numbered around place number x) (wide_.numbered (noted_around true around) place number y)
+unfolding numbered wide_.numbered is_counted_alike wide_.is_counted_alike
+wide_numbered_noted around place number x y settled same =
+    go (has_held x.candidates (number + 2)) (wide_.has_held y.candidates (number + 2)) (held_noted true around x.candidates y.candidates (number + 2) same.all)
+  where
+    go : (b e : Bool) → e ≡ b → Alike (Comes true around x y)
+        (elim (not b) [ true ↦ substituted_wide around place (slice_get x.candidates number) x | false ↦ Err (BadReference place) ])
+        (elim (not e) [ true ↦ wide_.substituted_wide (noted_around true around) place (slice_get y.candidates number) y | false ↦ Err (BadReference place) ])
+    go true true f = refl
+    go false false f =
+        wide_substituted_noted around place (slice_get x.candidates number) (slice_get y.candidates number) x y settled same.packs (get_noted true around x.candidates y.candidates number same.all)
+    go true false f = absurd cc
+    go false true f = absurd cc

@@ -88,7 +88,7 @@ unfolding in_name
 all_name own around at [] [] lt old all = tt
 all_name own around at (c ∷ cs) (d ∷ ds) lt old all =
     let less : c.encoding < at = elim old.0.place [ inl same ↦ omega (arith, same, lt) | inr before ↦ before ] in
-    (record { encoding = all.0.encoding; in_lambda = all.0.in_lambda; by = all.0.by; like = all.0.like; closed = all.0.closed; here = λ h f g. absurd (omega (arith, h, less)) }, all_name own around at cs ds lt old.1 all.1)
+    (record { encoding = all.0.encoding; in_lambda = all.0.in_lambda; is_held = all.0.is_held; by = all.0.by; like = all.0.like; closed = all.0.closed; here = λ h f g. absurd (omega (arith, h, less)) }, all_name own around at cs ds lt old.1 all.1)
 all_name own around at [] (d ∷ ds) lt old all = absurd all
 all_name own around at (c ∷ cs) [] lt old all = absurd all
 
@@ -99,6 +99,7 @@ all_types own at b name (c ∷ cs) (d ∷ ds) old all = (
   record {
     encoding = all.0.encoding;
     in_lambda = all.0.in_lambda;
+    is_held = all.0.is_held;
     by = all.0.by;
     like = all.0.like;
     closed = all.0.closed;
@@ -113,7 +114,7 @@ all_out : (own : Bool) (around inner : Around) (at end : ℕ) (cs : List Candida
 all_out own around inner at end [] [] is lt new all = tt
 all_out own around inner at end (c ∷ cs) (d ∷ ds) is lt new all =
     let more : around.encoding < c.encoding = elim new.0.place [ inl here ↦ omega (arith, here.0, is, lt) | inr deep ↦ omega (arith, deep.0, is, lt) ] in
-    (record { encoding = all.0.encoding; in_lambda = all.0.in_lambda; by = all.0.by; like = all.0.like; closed = all.0.closed; here = λ h f g. absurd (omega (arith, h, more)) }, all_out own around inner at end cs ds is lt new.1 all.1)
+    (record { encoding = all.0.encoding; in_lambda = all.0.in_lambda; is_held = all.0.is_held; by = all.0.by; like = all.0.like; closed = all.0.closed; here = λ h f g. absurd (omega (arith, h, more)) }, all_out own around inner at end cs ds is lt new.1 all.1)
 all_out own around inner at end [] (d ∷ ds) is lt new all = absurd all
 all_out own around inner at end (c ∷ cs) [] is lt new all = absurd all
 

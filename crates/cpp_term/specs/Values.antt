@@ -4,12 +4,13 @@ use Rattle.cpp_term.specs.Term.{Term, absent}
 use Rattle.cpp_grammar.specs.Term.{Qualifiers, RefQualifier, any_value, lvalue_only, rvalue_only, Signed, Adjustment, non_virtual}
 use Rattle.cpp_grammar.specs.Values.{unqualified}
 
--- a tree that a substitution may name, the place where the encoding begins in which it was made, and whether it was made in a
--- lambda's signature of that encoding, or in what is declared of an argument
+-- a tree that a substitution may name, the place where the encoding begins in which it was made, whether it was made in a
+-- lambda's signature of that encoding, or in what is declared of an argument, and whether it's a name with its M
 pub record Candidate : Type 0 where
   pub tree : Term
   pub encoding : ℕ
   pub in_lambda : Bool
+  pub is_held : Bool
 
 -- What runs along with the bytes: the candidates so far, and the length of the packs that the innermost expansion has
 -- named so far.

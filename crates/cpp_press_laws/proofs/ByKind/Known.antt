@@ -6,6 +6,7 @@ use Rattle.std.proofs.lemmas.Bool.Decides.{nat_tests}
 use Rattle.sym_core.specs.Number.{AreDigitsOf}
 use Rattle.sym_shape.specs.declared.rule.Rule.{Rule}
 use Rattle.sym_shape.specs.declared.rule.Sym.{Sym}
+use Rattle.sym_core.specs.declared.refusal.Refusal.TheVariants.{BadReference}
 use Rattle.sym_shape.specs.declared.rule.Sym.TheVariants.{Kind as OfKind, Name, Number, Byte}
 use Rattle.sym_shape.specs.Law.{IsSymbol, AreSymbols}
 use Rattle.sym_shape.specs.Tree.{Tree as Shape, Forest, branch, grown, spell, IsTree, AreTrees}
@@ -297,7 +298,7 @@ lambdas-go Production.NestArguments around place (v ∷ w ∷ []) state n bare e
 lambdas-go Production.NestArguments around place (v ∷ w ∷ x ∷ []) state n bare e = bare-next _ _ state n bare e
 lambdas-go Production.NestInstance around place [] state n bare e = bare-next (inside around) [] (with_prefix around state) n bare e
 lambdas-go Production.NestInstance around place (v ∷ w ∷ []) state n bare e = bare-next _ _ state n bare e
-lambdas-go Production.Holder around place (v ∷ []) state n bare e = bare-next _ _ state n bare e
+lambdas-go Production.Holder around place (v ∷ []) state n bare e = let clash : ◌≡◌ {A = Going} (Err (BadReference place)) (Ok n) = e in absurd cc
 lambdas-go Production.NestTag around place (v ∷ []) state n bare e = bare-next _ _ state n bare e
 lambdas-go Production.Tag around place (v ∷ []) state n bare e = bare-next _ _ state n bare e
 lambdas-go Production.TypeTag around place (v ∷ []) state n bare e = bare-next _ _ state n bare e

@@ -170,7 +170,7 @@ between-outside Production.NestArguments around place (v ∷ w ∷ x ∷ []) sta
 between-outside Production.NestInstance around place [] state next no_ outside e =
     goes state _ _ (with_prefix around state) next outside (prefix-kept around state) e
 between-outside Production.NestInstance around place (v ∷ w ∷ []) state next no_ outside e = goes state _ _ state next outside refl e
-between-outside Production.Holder around place (v ∷ []) state next no_ outside e = goes state _ _ state next outside refl e
+between-outside Production.Holder around place (v ∷ []) state next no_ outside e = let clash : ◌≡◌ {A = Going} (Err (BadReference place)) (Ok next) = e in absurd cc
 between-outside Production.NestTag around place (v ∷ []) state next no_ outside e = goes state _ _ state next outside refl e
 between-outside Production.Tag around place (v ∷ []) state next no_ outside e = goes state _ _ state next outside refl e
 between-outside Production.TypeTag around place (v ∷ []) state next no_ outside e = goes state _ _ state next outside refl e

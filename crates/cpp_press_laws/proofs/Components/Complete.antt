@@ -162,10 +162,10 @@ each-others read pressed (c ∷ cs) components others more among = (
 
 -- one more on both sides
 pub among-ended : (read pressed : ℕ) (in_lambda : Bool) (t : Term) (cs : List Candidate) (components : List Component) → IsComponent t → StandAmong read pressed cs components
-    → StandAmong read pressed (cs ++ record { tree = t; encoding = read; in_lambda = in_lambda } ∷ []) (components ++ record { tree = t; encoding = pressed } ∷ [])
+    → StandAmong read pressed (cs ++ record { tree = t; encoding = read; in_lambda = in_lambda; is_held = false } ∷ []) (components ++ record { tree = t; encoding = pressed } ∷ [])
 among-ended read pressed in_lambda t cs components is among =
     let own : List Component = record { tree = t; encoding = pressed } ∷ [] in
-    let named : List Candidate = record { tree = t; encoding = read; in_lambda = in_lambda } ∷ [] in (
+    let named : List Candidate = record { tree = t; encoding = read; in_lambda = in_lambda; is_held = false } ∷ [] in (
       each-append read pressed cs named (components ++ own)
           (each-others read pressed cs components (components ++ own) (λ x c has. has-before pressed x components own has) among.0)
           ((is, λ may. has-itself pressed t components), tt),
@@ -174,9 +174,9 @@ among-ended read pressed in_lambda t cs components is among =
 
 -- one more candidate that stands already
 pub among-known : (read pressed : ℕ) (in_lambda : Bool) (t : Term) (cs : List Candidate) (components : List Component) → IsComponent t → Has pressed t components
-    → StandAmong read pressed cs components → StandAmong read pressed (cs ++ record { tree = t; encoding = read; in_lambda = in_lambda } ∷ []) components
+    → StandAmong read pressed cs components → StandAmong read pressed (cs ++ record { tree = t; encoding = read; in_lambda = in_lambda; is_held = false } ∷ []) components
 among-known read pressed in_lambda t cs components is has among =
-    let named : List Candidate = record { tree = t; encoding = read; in_lambda = in_lambda } ∷ [] in
+    let named : List Candidate = record { tree = t; encoding = read; in_lambda = in_lambda; is_held = false } ∷ [] in
     (each-append read pressed cs named components among.0 ((is, λ may. has), tt), omega (arith, among.1, length-append cs named))
 
 -- these were made in encodings that begin before a place

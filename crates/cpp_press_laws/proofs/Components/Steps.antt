@@ -15,12 +15,12 @@ use Rattle.cpp_press_laws.proofs.Components.Complete.{Complete, complete-has, no
 -- among those behind the component that it is.
 pub component-among : (read n : ℕ) (in_lambda : Bool) (t : Term) (spelling : Spelling) → IsComponent t → KeepsTo Unit n (Whole t) spelling → (place : ℕ)
     (cs : List Component) (candidates : List Candidate) → n ≤ place → Complete cs → StandAmong read n candidates (spelling place cs).components
-    → StandAmong read n (candidates ++ record { tree = t; encoding = read; in_lambda = in_lambda } ∷ []) (component n t spelling place cs).components
+    → StandAmong read n (candidates ++ record { tree = t; encoding = read; in_lambda = in_lambda; is_held = false } ∷ []) (component n t spelling place cs).components
 unfolding component reference spelled_out ended
 component-among read n in_lambda t spelling is keeps place cs candidates le complete among = go (first_equal n t 0 cs) refl
   where
     go : (o : Option ℕ) → first_equal n t 0 cs ≡ o
-        → StandAmong read n (candidates ++ record { tree = t; encoding = read; in_lambda = in_lambda } ∷ []) (spell.Pressed.components (elim o as
+        → StandAmong read n (candidates ++ record { tree = t; encoding = read; in_lambda = in_lambda; is_held = false } ∷ []) (spell.Pressed.components (elim o as
         (λ _. spell.Pressed Component)
         [ Some number ↦ reference number place cs | None ↦ spelled_out n t spelling place cs ]))
     go (Some number) found =

@@ -87,7 +87,7 @@ ended-fitted around t F s old new is stands whole one = record {
         may = p.may;
         complete = (tree-ended n t cs (s n place cs).components (whole n allowed place cs p.fits front.complete)).complete;
         among = among-ended around.encoding n around.in_lambda t new.candidates (s n place cs).components is p.among;
-        functions = functions-append around.scope around.encoding new.candidates (record { tree = t; encoding = around.encoding; in_lambda = around.in_lambda } ∷ [])
+        functions = functions-append around.scope around.encoding new.candidates (record { tree = t; encoding = around.encoding; in_lambda = around.in_lambda; is_held = false } ∷ [])
             p.functions (λ may. stands, tt);
       });
 }

@@ -203,7 +203,7 @@ component-fitted around t F s old new is keeps function whole one = record {
         may = p.may;
         complete = whole n allowed place cs (p.may, λ first. p.fits) front.complete;
         among = component-among around.encoding n around.in_lambda t (s n) is (keeps n) place cs new.candidates front.later front.complete p.among;
-        functions = functions-append around.scope around.encoding new.candidates (record { tree = t; encoding = around.encoding; in_lambda = around.in_lambda } ∷ [])
+        functions = functions-append around.scope around.encoding new.candidates (record { tree = t; encoding = around.encoding; in_lambda = around.in_lambda; is_held = false } ∷ [])
             p.functions (λ may. function n allowed place cs p.fits, tt);
       });
 }

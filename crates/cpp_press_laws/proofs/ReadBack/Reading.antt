@@ -55,7 +55,7 @@ pub appended-same : {components : List Component} (around : Around) (t : Term) (
     → components_of (appended around t s).candidates ≡ components ++ record { tree = t; encoding = around.encoding } ∷ []
 unfolding appended components_of
 appended-same around t s same =
-    components-append s.candidates (record { tree = t; encoding = around.encoding; in_lambda = around.in_lambda } ∷ [])
+    components-append s.candidates (record { tree = t; encoding = around.encoding; in_lambda = around.in_lambda; is_held = false } ∷ [])
     ∙ ap (λ l. l ++ record { tree = t; encoding = around.encoding } ∷ []) same
 
 -- ## Rows

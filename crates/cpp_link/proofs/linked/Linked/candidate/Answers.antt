@@ -19,4 +19,4 @@ pub returns-clause-there : goal.returns-clause-there
 returns-clause-there c =
     let k : ℕ = counted_value Seq36 (bytes_at c.args.symbol.now c.args.digits) in
     let same = c.numbered.ensures k c.value36-counted.ensures ∙ ap (λ cs. slice_get cs k) c.deref.ensures.value in
-    subst (λ o. IfSome o (λ d. d.node < length c.args.self.now.nodes.nodes)) (sym same) (candidate_there _ c.args.self.now.candidates.items k c.requires.candidates)
+    subst (λ o. IfSome o (λ d. d.node < length c.args.self.now.nodes.nodes)) (sym same) (candidate_there _ c.args.self.now.candidates.items k c.requires.candidates.0)

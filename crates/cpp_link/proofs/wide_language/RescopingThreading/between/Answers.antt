@@ -3,7 +3,7 @@ use Rattle.sym_link.specs.Tally.{tallied_view}
 use Rattle.sym_link.proofs.Tally.{between_tallied}
 use Rattle.cpp_link.specs.declared.rescoping.Rescoping.{Rescoping}
 use Rattle.cpp_link.specs.View.{Surrounds}
-use Rattle.cpp_link.specs.LinkRescoping.{names_generic, wide_view, wide_makes}
+use Rattle.cpp_link.specs.LinkRescoping.{names_generic, names_holder, wide_view, wide_makes}
 use Rattle.cpp_link.specs.Parts.{is_lambda}
 use Rattle.cpp_link.proofs.Rescoped.{apart_goes, wide_before_read}
 use Rattle.cpp_link.proofs.Rooms.{roomy_keeps, roomy_full}
@@ -20,6 +20,16 @@ returns-then-names_generic-clause-goes c =
     (between_tallied (wide_view s) wide_makes s (Surrounds s) old.linked new.linked frame c.args.parts.now.items c.go_generic.new.parts.items c.go_generic.result
     (wide_before_read s old.linked new.linked frame c.args.parts.now.items c.go_generic.result c.requires.room.paid.begun c.go_generic.ensures.makes) c.go_generic.ensures.goes)
 
+pub returns-then-names_holder-clause-goes : goal.returns-then-names_holder-clause-goes
+returns-then-names_holder-clause-goes c =
+    let s = c.args.symbol.now in
+    let old = c.args.self.now in
+    let new : Rescoping = record { linked = c.go_holder.new.self } in
+    let frame = c.args.frame.now in
+    goes_within (tallied_view (wide_view s) wide_makes) s old new (Surrounds s) frame c.args.parts.now.items c.go_holder.new.parts.items c.go_holder.result
+    (between_tallied (wide_view s) wide_makes s (Surrounds s) old.linked new.linked frame c.args.parts.now.items c.go_holder.new.parts.items c.go_holder.result
+    (wide_before_read s old.linked new.linked frame c.args.parts.now.items c.go_holder.result c.requires.room.paid.begun c.go_holder.ensures.makes) c.go_holder.ensures.goes)
+
 pub returns-clause-goes : goal.returns-clause-goes
 returns-clause-goes c =
     let s = c.args.symbol.now in
@@ -27,8 +37,9 @@ returns-clause-goes c =
     let new : Rescoping = record { linked = c.go_on.new.self } in
     let frame = c.args.frame.now in
     let held : ℕ = c.len.result - frame.base in
-    let apart = ap (λ p. names_generic p (is_lambda frame.kept.scope) held) (sym c.production_of.ensures) ∙ sym c.names_generic.ensures ∙ c.if-names_generic.false in
+    let apart = ap (λ p. names_generic p (is_lambda frame.kept.scope) held) (sym c.production_of-production.ensures) ∙ sym c.names_generic.ensures ∙ c.if-names_generic.false in
+    let unheld = ap (λ p. names_holder p held) (sym c.production_of-production.ensures) ∙ sym c.names_holder.ensures ∙ c.if-names_holder.false in
     goes_within (tallied_view (wide_view s) wide_makes) s old new (Surrounds s) frame c.args.parts.now.items c.go_on.new.parts.items c.go_on.result
     (between_tallied (wide_view s) wide_makes s (Surrounds s) old.linked new.linked frame c.args.parts.now.items c.go_on.new.parts.items c.go_on.result
     (wide_before_read s old.linked new.linked frame c.args.parts.now.items c.go_on.result c.requires.room.paid.begun c.go_on.ensures.makes)
-    (apart_goes s old.linked new.linked frame c.args.parts.now.items c.go_on.new.parts.items held c.go_on.result (ap (λ n. n - frame.base) (c.len.ensures ∙ c.args.parts.now.ok.0)) apart c.go_on.ensures.goes))
+    (apart_goes s old.linked new.linked frame c.args.parts.now.items c.go_on.new.parts.items held c.go_on.result (ap (λ n. n - frame.base) (c.len.ensures ∙ c.args.parts.now.ok.0)) apart unheld c.go_on.ensures.goes))
