@@ -176,7 +176,7 @@ going vs around state = record { values = vs; context = around; state = state }
 
 pub appended-one : (around : Around) (t : Term) (state : State) → length (appended around t state).candidates ≡ length state.candidates + 1
 unfolding appended
-appended-one around t state = length-append state.candidates (record { tree = t; encoding = around.encoding; in_lambda = around.in_lambda } ∷ [])
+appended-one around t state = length-append state.candidates (record { tree = t; encoding = around.encoding; in_lambda = around.in_lambda; is_held = false } ∷ [])
 
 pub typed-one : (around : Around) (v : Value) (state : State) → length
     (with_type around v state).candidates ≤ length state.candidates + unlisted v

@@ -218,7 +218,9 @@ numbered_apart around place number state is =
 pub alike_by_next : (ts : List Term) (cs : List Candidate) (number : ℕ) (next : Candidate) → AreCounted false cs → slice_get cs (number + 1) ≡ Some next
     → is_counted_alike (candidates_of ts cs) number ≡ not (next.is_apart || next.is_held)
 unfolding is_counted_alike
-alike_by_next ts cs number next counted is = ap (λ b. not b) (ap (λ k. has_held (candidates_of ts cs) k) (omega arith) ∙ number_apart ts false cs (number + 1) next counted is)
+alike_by_next ts cs number next counted is =
+    let two : number + 2 ≡ number + 1 + 1 = omega arith in
+    ap (λ b. not b) (ap (λ k. has_held (candidates_of ts cs) k) two ∙ number_apart ts false cs (number + 1) next counted is)
 
 pub alike_by_last : (ts : List Term) (cs : List Candidate) (number : ℕ) → slice_get cs (number + 1) ≡ None → is_counted_alike (candidates_of ts cs) number ≡ not (is_apart_behind false cs)
 unfolding is_counted_alike
