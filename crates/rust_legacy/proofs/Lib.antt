@@ -1,0 +1,9 @@
+pub mod Rows
+pub mod Digits
+pub mod Names
+pub mod Texts
+pub mod Writing
+pub mod Paths
+pub mod Legacy
+pub mod Bounds
+pub mod Short

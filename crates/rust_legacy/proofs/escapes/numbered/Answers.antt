@@ -1,0 +1,10 @@
+use Rattle.std.proofs.Common.{◌-◌, length, take, drop, subst, sym}
+use Rattle.sym_core.specs.Number.{AreDigits}
+use Rattle.sym_core.specs.declared.NumberKind.TheVariants.{Hex}
+use Rattle.rust_legacy.proofs.Digits.{digits-front}
+use Rattle.rust_legacy.proofs.escapes.numbered.Goals as goal
+
+pub value16-requires : goal.value16-requires
+value16-requires c =
+    let rest = take (length c.args.bytes.now - 2) (drop 2 c.args.bytes.now) in
+    (subst (λ n. AreDigits Hex (take n rest)) (sym c.digits_in-count.ensures.count) (digits-front Hex rest), tt)

@@ -1,0 +1,22 @@
+-- Whichever names they are: what is written, and what the rest of them show, are the whole; so are what is spent and what is left to spend.
+use Rattle.std.proofs.Common.{◌≡◌, ◌≤◌, ◌-◌, ◌+◌, ◌++◌, ℕ, List, []}
+use Rattle.sym_print.specs.Unshared.{text_of}
+use Rattle.rust_legacy.specs.Path.{AreNames}
+use Rattle.rust_legacy.specs.Text.{front_at, names_parts}
+use Rattle.rust_legacy.specs.Writing.{Keeps}
+use Rattle.rust_legacy.proofs.Paths.{names_cost}
+use Rattle.rust_legacy.proofs.text.write_names.Given as goal
+
+abbrev pub invariant-loop-at : goal.invariant-loop-at
+invariant-loop-at l =
+    record {
+      low : 3 ≤ l.at;
+      high : l.at ≤ l.hash;
+      goes : (names : List (List ℕ)) → AreNames l.symbol 3 l.hash names → (rest : List (List ℕ)) × AreNames l.symbol l.at l.hash rest
+          × (l.out.items ++ text_of (names_parts (front_at l.at) rest) ≡ l.fn.out.items ++ text_of (names_parts [] names))
+          × (l.left + names_cost [] names ≡ l.limit + names_cost (front_at l.at) rest);
+      keeps : Keeps l.fn.out l.out;
+    }
+
+abbrev pub decreases-loop-at : goal.decreases-loop-at
+decreases-loop-at l = l.hash - l.at

@@ -1,0 +1,10 @@
+use Rattle.std.proofs.Common.{◌≡◌, ◌≤◌, ◌-◌, ◌+◌, length, drop}
+use Rattle.std.specs.List.{prefix_len}
+use Rattle.rust_legacy.specs.Tokens.{is_plain}
+use Rattle.rust_legacy.proofs.tokens.plain_in.Given as goal
+
+abbrev pub invariant-loop-at : goal.invariant-loop-at
+invariant-loop-at l = (l.at ≤ length l.bytes) × (l.at + prefix_len is_plain (drop l.at l.bytes) ≡ prefix_len is_plain l.bytes)
+
+abbrev pub decreases-loop-at : goal.decreases-loop-at
+decreases-loop-at l = length l.bytes - l.at

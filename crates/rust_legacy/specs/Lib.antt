@@ -1,0 +1,4 @@
+pub mod Path
+pub mod Tokens
+pub mod Text
+pub mod Writing

@@ -1,0 +1,12 @@
+//! Legacy Rust names: which symbols are, and the path that one stands for.
+#![tactic(auto)]
+
+mod escapes;
+mod laws;
+pub mod path;
+mod text;
+mod tokens;
+
+pub use laws::legacy_texts_are_short;
+pub use path::{PathPlace, path_of};
+pub use text::push_text;
