@@ -27,32 +27,47 @@ pub struct PathPlace {
 }
 
 // For each byte whether it may stand in a legacy name: letters, digits, `_`, `.` and `$`.
-static LEGACY_BYTES: [u8; 256] = *b"\
-    00000000000000000000000000000000\
-    00001000000000101111111111000000\
-    01111111111111111111111111100001\
-    01111111111111111111111111100000\
-    00000000000000000000000000000000\
-    00000000000000000000000000000000\
-    00000000000000000000000000000000\
-    00000000000000000000000000000000";
+static LEGACY_BYTES: [bool; 256] = [
+    false, false, false, false, false, false, false, false, false, false, false, false, false,
+    false, false, false, false, false, false, false, false, false, false, false, false, false,
+    false, false, false, false, false, false, false, false, false, false, true, false, false,
+    false, false, false, false, false, false, false, true, false, true, true, true, true, true,
+    true, true, true, true, true, false, false, false, false, false, false, false, true, true,
+    true, true, true, true, true, true, true, true, true, true, true, true, true, true, true, true,
+    true, true, true, true, true, true, true, true, false, false, false, false, true, false, true,
+    true, true, true, true, true, true, true, true, true, true, true, true, true, true, true, true,
+    true, true, true, true, true, true, true, true, true, false, false, false, false, false, false,
+    false, false, false, false, false, false, false, false, false, false, false, false, false,
+    false, false, false, false, false, false, false, false, false, false, false, false, false,
+    false, false, false, false, false, false, false, false, false, false, false, false, false,
+    false, false, false, false, false, false, false, false, false, false, false, false, false,
+    false, false, false, false, false, false, false, false, false, false, false, false, false,
+    false, false, false, false, false, false, false, false, false, false, false, false, false,
+    false, false, false, false, false, false, false, false, false, false, false, false, false,
+    false, false, false, false, false, false, false, false, false, false, false, false, false,
+    false, false, false, false, false, false, false, false, false, false, false, false, false,
+    false, false, false, false, false, false, false, false, false, false,
+];
 
 /// Whether a byte may stand in a legacy name.
+#[inline(always)]
 fn is_legacy_byte(byte: u8) -> bool
     ensures { result ≡ is_legacy_byte byte }
 {
-    LEGACY_BYTES[byte as usize] == b'1'
+    LEGACY_BYTES[byte as usize]
 }
 
-/// Whether each byte may stand in a legacy name.
+/// Whether each byte may stand in a legacy name. All are looked at, with no branch for each.
 fn are_legacy_bytes(bytes: &[u8]) -> bool
     ensures { result ≡ list_all is_legacy_byte bytes.now }
 {
+    let mut are = true;
     let mut at = 0;
-    while at < bytes.len() && is_legacy_byte(bytes[at]) {
+    while at < bytes.len() {
+        are = are & is_legacy_byte(bytes[at]);
         at += 1;
     }
-    at == bytes.len()
+    are
 }
 
 /// Whether a byte is a decimal digit.

@@ -1,10 +1,10 @@
-use Rattle.std.proofs.Common.{◌≡◌, ◌≤◌, ◌-◌, length, drop}
+use Rattle.std.proofs.Common.{◌≡◌, ◌≤◌, ◌-◌, ◌&&◌, length, drop}
 use Rattle.std.specs.List.{list_all}
 use Rattle.rust_legacy.specs.Path.{is_legacy_byte}
 use Rattle.rust_legacy.proofs.path.are_legacy_bytes.Given as goal
 
 abbrev pub invariant-loop-at : goal.invariant-loop-at
-invariant-loop-at l = (l.at ≤ length l.bytes) × (list_all is_legacy_byte (drop l.at l.bytes) ≡ list_all is_legacy_byte l.bytes)
+invariant-loop-at l = (l.at ≤ length l.bytes) × ((l.are && list_all is_legacy_byte (drop l.at l.bytes)) ≡ list_all is_legacy_byte l.bytes)
 
 abbrev pub decreases-loop-at : goal.decreases-loop-at
 decreases-loop-at l = length l.bytes - l.at
