@@ -1,0 +1,6 @@
+//! Legacy Rust names as symbols of C++: each is one, and is read without a refusal.
+#![tactic(auto)]
+
+mod laws;
+
+pub use laws::legacy_names_are_read;
