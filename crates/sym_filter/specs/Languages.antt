@@ -11,6 +11,7 @@ use Rattle.cpp_grammar.specs.Term.{Term}
 use Rattle.cpp_layout.specs.Layout as cpp
 use Rattle.cpp_link.specs.LinkRescoping.{are_wide_nodes}
 use Rattle.cpp_link.specs.NodeCount as cpp_count
+use Rattle.rust_legacy.specs.Text.{legacy_answer}
 use Rattle.rust_tree.specs.Counts.{IsRead}
 use Rattle.rust_tree.specs.Layout.{ReadSymbol}
 use Rattle.rust_tree.specs.Symbol.{Symbol}
@@ -40,6 +41,13 @@ answer_of limit detail kind symbol = language_answer limit detail kind.lang symb
 -- with C++ by the wide grammar
 abbrev pub wide_answer_of : ℕ → Detail → Kind → List ℕ → Result (List ℕ) Refusal
 wide_answer_of limit detail kind symbol = language_answer_by wide_mangled limit detail kind.lang symbol
+
+-- where legacy Rust names, each of which is a C++ symbol, are the paths that they stand for
+abbrev pub legacy_answer_of : ℕ → Detail → Kind → List ℕ → Result (List ℕ) Refusal
+legacy_answer_of limit detail kind symbol = legacy_answer limit symbol (answer_of limit detail kind symbol)
+
+abbrev pub legacy_wide_answer_of : ℕ → Detail → Kind → List ℕ → Result (List ℕ) Refusal
+legacy_wide_answer_of limit detail kind symbol = legacy_answer limit symbol (wide_answer_of limit detail kind symbol)
 
 -- the underscore that a word has before its symbol
 abbrev pub underscore_of : (skip : ℕ) → List ℕ

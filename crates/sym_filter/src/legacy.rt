@@ -1,0 +1,96 @@
+// Legacy Rust names, as the paths that they stand for, before both manglings.
+ghost use Rattle.std.specs.Prelude.{◌≡◌, IfSome};
+ghost use Rattle.sym_core.specs.Number.{FitsSymbol};
+ghost use Rattle.rust_legacy.specs.Text.{legacy_answer};
+ghost use Rattle.sym_filter.specs.Demangled.{IsAppended, IsDemangled};
+ghost use Rattle.sym_filter.specs.Languages.{AreCountsBy, language_answer_by};
+
+use crate::demangler::{Demangled, Demangler};
+use crate::kinds::{Kind, Lang};
+use crate::languages::{Cpp, Languages, Lists};
+use rust_legacy::{path_of, push_text};
+use std::alloc::{AllocError, Global};
+use sym_core::{Counts, Refusal};
+
+/// Both manglings, where a legacy Rust name, which is a C++ symbol too, has its path's text, at the limit of the others. The detail
+/// changes nothing in that text. The counts of such a name are those of the C++ symbol.
+#[derive(Clone, Copy, Drop)]
+pub struct Legacy<C: Cpp> {
+    pub languages: Languages<C>,
+}
+
+impl<C: Cpp> Demangler for Legacy<C> {
+    type Lists = Lists<C>;
+
+    ghost answer = { λ legacy kind symbol. legacy_answer legacy.languages.limit symbol (language_answer_by C.mangled legacy.languages.limit legacy.languages.detail kind.lang symbol) };
+
+    ghost are_counts = { λ legacy lang symbol counts. AreCountsBy (record { mangled = C.mangled; IsRead = C.is_read; bytes_of = C.bytes_of; whole_of = C.whole_of; are_nodes = C.are_nodes; nodes_a_byte = C.nodes_a_byte }) lang symbol counts };
+
+    fn lists(&self, alloc: Global) -> Result<Lists<C>, AllocError> {
+        self.languages.lists(alloc)
+    }
+
+    fn read_ahead(&self, lists: &mut Lists<C>, lang: Lang, front: &[u8]) {
+        self.languages.read_ahead(lists, lang, front);
+    }
+
+    fn demangle(
+        &self,
+        lists: &mut Lists<C>,
+        kind: Kind,
+        symbol: &[u8],
+        out: &mut Vec<u8>,
+    ) -> Demangled {
+        let Some(place) = path_of(symbol) else {
+            return self.languages.demangle(lists, kind, symbol, out);
+        };
+        // each legacy name is read as C++, so this is want of memory
+        let Some(counts) = counts_of(&self.languages, lists, kind, symbol, out) else {
+            return Demangled::Refused(Refusal::Memory);
+        };
+        match push_text(symbol, place, self.languages.limit, out) {
+            Ok(()) => Demangled::Text(counts),
+            Err(refusal) => match refusal {
+                Refusal::TooLong => Demangled::TooLong(counts),
+                // want of memory is all else that a path is refused for
+                _ => Demangled::Refused(Refusal::Memory),
+            },
+        }
+    }
+
+    fn append(
+        &self,
+        lists: &mut Lists<C>,
+        kind: Kind,
+        symbol: &[u8],
+        out: &mut Vec<u8>,
+    ) -> Result<(), Refusal> {
+        match path_of(symbol) {
+            None => self.languages.append(lists, kind, symbol, out),
+            Some(place) => push_text(symbol, place, self.languages.limit, out),
+        }
+    }
+}
+
+/// The counts of a symbol that is read.
+fn counts_of<C: Cpp>(
+    languages: &Languages<C>,
+    lists: &mut Lists<C>,
+    kind: Kind,
+    symbol: &[u8],
+    out: &mut Vec<u8>,
+) -> Option<Counts>
+    requires { FitsSymbol symbol.now }
+    ensures counts { IfSome result (λ counts. AreCountsBy (record { mangled = C.mangled; IsRead = C.is_read; bytes_of = C.bytes_of; whole_of = C.whole_of; are_nodes = C.are_nodes; nodes_a_byte = C.nodes_a_byte }) kind.lang symbol.now counts) }
+    ensures same { out.new.items ≡ out.old.items }
+{
+    let len = out.len();
+    match languages.demangle(lists, kind, symbol, out) {
+        Demangled::Text(counts) => {
+            out.truncate(len);
+            Some(counts)
+        }
+        Demangled::TooLong(counts) => Some(counts),
+        Demangled::Refused(_) => None,
+    }
+}
