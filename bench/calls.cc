@@ -36,9 +36,9 @@ static std::vector<std::string> symbols;
 static std::string all;          /* a line each */
 static std::string joined;       /* without the ends of the lines */
 static std::vector<size_t> ends; /* where each ends there */
-static unsigned char room[1 << 20];
-/* room for what one call answers for all of them, which isn't filled */
-static std::unique_ptr<unsigned char[]> large;
+static char buffer[1 << 20];
+/* a buffer for what one call answers for all of them, which isn't filled */
+static std::unique_ptr<char[]> large;
 static size_t large_size;
 
 static double now()
@@ -57,39 +57,39 @@ struct Call {
 static size_t text_by_text()
 {
     size_t bytes = 0;
-    symdemangle_answer answer;
+    symdemangle_result result;
     for (const std::string &s : symbols)
-        if (symdemangle_text((const uint8_t *)s.data(), s.size(), 1000000, 0, room, sizeof room, &answer) == SYMDEMANGLE_OK)
-            bytes += answer.length;
+        if (symdemangle_text(s.data(), s.size(), 1000000, 0, buffer, sizeof buffer, &result) == SYMDEMANGLE_OK)
+            bytes += result.length;
     return bytes;
 }
 
 static size_t many_texts()
 {
-    static std::vector<symdemangle_told> answers(symbols.size());
+    static std::vector<symdemangle_result> results(symbols.size());
     size_t bytes = 0;
-    if (symdemangle_texts((const uint8_t *)joined.data(), joined.size(), ends.data(), ends.size(), 1000000, 0, large.get(), large_size,
-                          answers.data(), answers.size()) == SYMDEMANGLE_OK)
-        for (const symdemangle_told &told : answers)
-            bytes += told.status == SYMDEMANGLE_OK ? told.length : 0;
+    if (symdemangle_texts(joined.data(), joined.size(), ends.data(), ends.size(), 1000000, 0, large.get(), large_size, results.data()) ==
+        SYMDEMANGLE_OK)
+        for (const symdemangle_result &result : results)
+            bytes += result.status == SYMDEMANGLE_OK ? result.length : 0;
     return bytes;
 }
 
 static size_t pressed()
 {
     size_t bytes = 0;
-    symdemangle_answer answer;
+    symdemangle_result result;
     for (const std::string &s : symbols)
-        if (symdemangle_press((const uint8_t *)s.data(), s.size(), room, sizeof room, &answer) == SYMDEMANGLE_OK)
-            bytes += answer.length;
+        if (symdemangle_press(s.data(), s.size(), 0, buffer, sizeof buffer, &result) == SYMDEMANGLE_OK)
+            bytes += result.length;
     return bytes;
 }
 
 static size_t filtered()
 {
-    symdemangle_answer answer;
-    uint32_t status = symdemangle_filter((const uint8_t *)all.data(), all.size(), 1000000, 0, large.get(), large_size, &answer);
-    return status == SYMDEMANGLE_OK ? answer.length - symbols.size() : 0;
+    symdemangle_result result;
+    uint32_t status = symdemangle_filter(all.data(), all.size(), 1000000, 0, large.get(), large_size, nullptr, &result);
+    return status == SYMDEMANGLE_OK ? result.length - symbols.size() : 0;
 }
 
 /* The bytes of the texts of a demangler that allocates them. */
@@ -142,7 +142,7 @@ int main(int count, char **arguments)
         ends.push_back((joined += line).size());
     }
     large_size = all.size() * 8 + 1;
-    large.reset(new unsigned char[large_size]);
+    large.reset(new char[large_size]);
     if (count == 2)
         for (const Call &call : calls)
             time_of(call);

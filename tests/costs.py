@@ -23,30 +23,30 @@ LIMIT = 1_000_000
 FULL, WIDE_FULL = 0, 4
 
 
-class Told(ctypes.Structure):
+class Result(ctypes.Structure):
     """What the library tells of a symbol with its status."""
 
-    _fields_ = [("length", ctypes.c_size_t), ("place", ctypes.c_uint32)]
+    _fields_ = [("length", ctypes.c_size_t), ("offset", ctypes.c_uint32), ("status", ctypes.c_uint32)]
 
 
 class Library:
-    """The library's call for a text, with a room for it."""
+    """The library's call for a text, with a buffer for it."""
 
-    def __init__(self, path, detail):
-        self.detail = detail
+    def __init__(self, path, flags):
+        self.flags = flags
         self.call = ctypes.CDLL(path).symdemangle_text
         self.call.restype = ctypes.c_uint32
         self.call.argtypes = [
             ctypes.c_char_p, ctypes.c_size_t, ctypes.c_uint32, ctypes.c_uint32,
-            ctypes.c_void_p, ctypes.c_size_t, ctypes.POINTER(Told),
+            ctypes.c_void_p, ctypes.c_size_t, ctypes.POINTER(Result),
         ]
-        self.room = ctypes.create_string_buffer(LIMIT)
+        self.buffer = ctypes.create_string_buffer(LIMIT)
 
     def answer(self, symbol, limit):
-        """The status at a limit, and the text or the place that comes with it."""
-        told = Told()
-        status = self.call(symbol, len(symbol), limit, self.detail, self.room, LIMIT, ctypes.byref(told))
-        return status, self.room[: told.length] if status == OK else told.place
+        """The status at a limit, and the text or the offset that comes with it."""
+        result = Result()
+        status = self.call(symbol, len(symbol), limit, self.flags, self.buffer, LIMIT, ctypes.byref(result))
+        return status, self.buffer[: result.length] if status == OK else result.offset
 
 
 def wanted(answer):

@@ -35,6 +35,7 @@ trap 'rm -rf "$packed"' EXIT
 files() {
     cat <<LIST
 644 callers/c/symdemangle.h include/symdemangle.h
+644 callers/c/symdemangle.hpp include/symdemangle.hpp
 644 callers/c/symdemangle_arena.h include/symdemangle_arena.h
 644 $packed/libsymdemangle.a $libdir/libsymdemangle.a
 644 $packed/libsymdemangle_arena.a $libdir/libsymdemangle_arena.a
@@ -68,7 +69,7 @@ version() {
     sed -n 's/^#define SYMDEMANGLE_VERSION_[A-Z]* \([0-9]*\)$/\1/p' callers/c/symdemangle.h | paste -sd .
 }
 real=libsymdemangle.so.$(version)
-name=${real%.*.*}
+case $(version) in 0.*) name=${real%.*} ;; *) name=${real%.*.*} ;; esac
 
 if [ $mode = uninstall ]; then
     files | while read -r _ _ to; do rm -f "$root/$to"; done

@@ -23,36 +23,43 @@ number() { # number NAME : one of the header's version
 }
 major=$(number MAJOR) minor=$(number MINOR) patch=$(number PATCH)
 version=$major.$minor.$patch
+# While the first number is 0 the second says what a program can run with.
+abi=$major
+[ "$major" != 0 ] || abi=$major.$minor
 
 compile() { # compile NAME STANDARD : an object of a C file of callers/archive
     ${CC:-cc} -std="$2" -O2 -fPIC -Wall -Wextra -Wpedantic -Werror -fdebug-prefix-map="$PWD"=. -Icallers/c \
         -c "callers/archive/$1.c" -o "$parts/$1.o"
 }
 compile functions c99
+compile strings c99
 compile arena c11
 
-# One object, in which calls from one part to another are bound, and whose only names are those of the header.
-one_object() { # one_object NAME MEMORY
-    ld -r -o "$parts/$1.o" --whole-archive "$proved" "$parts/functions.o" "$2" --no-whole-archive
-    objcopy --wildcard --keep-global-symbol='symdemangle_*' "$parts/$1.o"
-    rm -f "$out/lib$1.a"
-    ar rcsD "$out/lib$1.a" "$parts/$1.o"
+# One object, in which calls from one part to another are bound, and whose only names are those of the header: the proved calls
+# end in _of.
+one_object() { # one_object NAME PART..
+    name=$1
+    shift
+    ld -r -o "$parts/$name.o" --whole-archive "$proved" "$parts/functions.o" "$@" --no-whole-archive
+    objcopy --wildcard --keep-global-symbol='symdemangle_*' --keep-global-symbol='!symdemangle_*_of' "$parts/$name.o"
+    rm -f "$out/lib$name.a"
+    ar rcsD "$out/lib$name.a" "$parts/$name.o"
 }
-one_object symdemangle "$heap"
+one_object symdemangle "$parts/strings.o" "$heap"
 one_object symdemangle_arena "$parts/arena.o"
 
 shared=libsymdemangle.so.$version
-${CC:-cc} -shared -o "$out/$shared" -Wl,-soname,libsymdemangle.so."$major" \
+${CC:-cc} -shared -o "$out/$shared" -Wl,-soname,libsymdemangle.so."$abi" \
     -Wl,--version-script=callers/archive/names.map -Wl,--gc-sections -Wl,-z,relro -Wl,-z,now -Wl,-z,defs -Wl,--build-id=sha1 \
     "$parts/symdemangle.o"
 strip --strip-unneeded "$out/$shared"
-ln -sf "$shared" "$out/libsymdemangle.so.$major"
-ln -sf "libsymdemangle.so.$major" "$out/libsymdemangle.so"
+ln -sf "$shared" "$out/libsymdemangle.so.$abi"
+ln -sf "libsymdemangle.so.$abi" "$out/libsymdemangle.so"
 
 fill() { # fill FILE NAME : a template of callers/archive with what it names
     include=$(realpath -m --relative-to="$prefix/$libdir/cmake/symdemangle" "$prefix/include")
     sed -e "s|@PREFIX@|$prefix|g" -e "s|@LIBDIR@|$libdir|g" -e "s|@NAME@|$2|g" -e "s|@VERSION@|$version|g" \
-        -e "s|@MAJOR@|$major|g" -e "s|@MINOR@|$minor|g" -e "s|@INCLUDE@|$include|g" "callers/archive/$1"
+        -e "s|@MAJOR@|$major|g" -e "s|@MINOR@|$minor|g" -e "s|@ABI@|$abi|g" -e "s|@INCLUDE@|$include|g" "callers/archive/$1"
 }
 fill symdemangle.pc.in symdemangle >"$out/symdemangle.pc"
 fill symdemangle.pc.in symdemangle_arena >"$out/symdemangle_arena.pc"

@@ -84,7 +84,8 @@ Description: demangler for C++ and Rust symbols, proved, with bounded time and m
  header, a library for signal handlers, and a crate for cargo.
 CONTROL
 printf 'activate-noawait ldconfig\n' >"$deb/DEBIAN/triggers"
-printf 'libsymdemangle %s symfilt (>= %s)\n' "${version%%.*}" "$version" >"$deb/DEBIAN/shlibs"
+abi=$(readlink "$deb/usr/lib/x86_64-linux-gnu/libsymdemangle.so")
+printf 'libsymdemangle %s symfilt (>= %s)\n' "${abi#libsymdemangle.so.}" "$version" >"$deb/DEBIAN/shlibs"
 (cd "$deb" && find usr -type f | sort | xargs md5sum >DEBIAN/md5sums)
 find "$deb" -depth -exec touch -h -d "@$SOURCE_DATE_EPOCH" {} +
 dpkg-deb --root-owner-group -Zxz --build "$deb" "$out/symfilt_${version}-1_amd64.deb" >/dev/null

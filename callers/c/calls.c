@@ -2,251 +2,319 @@
 #include "symdemangle.h"
 
 #include <stdio.h>
+#include <stdlib.h>
 #include <string.h>
 
-static uint8_t room[64];
+static char buffer[64];
 static int failed;
 
-static void check(int holds, const char *what, const char *symbol)
+static void check(int holds, const char *what, const char *name)
 {
     if (!holds) {
-        printf("%s: %s\n", what, symbol);
+        printf("%s: %s\n", what, name);
         failed = 1;
     }
 }
 
-static const uint8_t *bytes(const char *text)
-{
-    return (const uint8_t *)text;
-}
-
-/* Behind what was written the room is as it was. */
+/* What follows the bytes that were written is as it was. */
 static int is_kept(size_t from)
 {
-    for (size_t k = from; k < sizeof room; k++)
-        if (room[k] != '#')
+    for (size_t k = from; k < sizeof buffer; k++)
+        if (buffer[k] != '#')
             return 0;
     return 1;
 }
 
-static void has_text(const char *symbol, uint32_t limit, uint32_t detail, const char *text)
+static void has_text(const char *name, uint32_t limit, uint32_t flags, const char *text)
 {
-    symdemangle_answer answer;
+    symdemangle_result result;
     size_t length = strlen(text);
-    memset(room, '#', sizeof room);
-    uint32_t status = symdemangle_text(bytes(symbol), strlen(symbol), limit, detail, room, sizeof room, &answer);
-    check(status == SYMDEMANGLE_OK && answer.length == length && answer.place == 0, "status of a text", symbol);
-    check(memcmp(room, text, length) == 0 && is_kept(length), "text", symbol);
-    memset(room, '#', sizeof room);
-    status = symdemangle_text(bytes(symbol), strlen(symbol), limit, detail, room, length, &answer);
-    check(status == SYMDEMANGLE_OK && memcmp(room, text, length) == 0 && is_kept(length), "room that just fits", symbol);
-    memset(room, '#', sizeof room);
-    status = symdemangle_text(bytes(symbol), strlen(symbol), limit, detail, room, length - 1, &answer);
-    check(status == SYMDEMANGLE_ROOM && answer.length == length && is_kept(0), "room that is too small", symbol);
-    status = symdemangle_text(bytes(symbol), strlen(symbol), limit, detail, NULL, 0, &answer);
-    check(status == SYMDEMANGLE_ROOM && answer.length == length, "no room", symbol);
+    memset(buffer, '#', sizeof buffer);
+    uint32_t status = symdemangle_text(name, strlen(name), limit, flags, buffer, sizeof buffer, &result);
+    check(status == SYMDEMANGLE_OK && result.status == status && result.length == length && result.offset == 0, "status of a text", name);
+    check(memcmp(buffer, text, length) == 0 && is_kept(length), "text", name);
+    memset(buffer, '#', sizeof buffer);
+    status = symdemangle_text(name, strlen(name), limit, flags, buffer, length, &result);
+    check(status == SYMDEMANGLE_OK && memcmp(buffer, text, length) == 0 && is_kept(length), "buffer that just fits", name);
+    memset(buffer, '#', sizeof buffer);
+    status = symdemangle_text(name, strlen(name), limit, flags, buffer, length - 1, &result);
+    check(status == SYMDEMANGLE_BUFFER && result.status == status && result.length == length && is_kept(0), "buffer that is too small", name);
+    status = symdemangle_text(name, strlen(name), limit, flags, NULL, 0, &result);
+    check(status == SYMDEMANGLE_BUFFER && result.length == length, "no buffer", name);
 }
 
-static void is_refused(const char *symbol, uint32_t limit, uint32_t detail, uint32_t wanted, uint32_t place)
+static void is_refused(const char *name, uint32_t limit, uint32_t flags, uint32_t wanted, uint32_t offset)
 {
-    symdemangle_answer answer;
-    memset(room, '#', sizeof room);
-    uint32_t status = symdemangle_text(bytes(symbol), strlen(symbol), limit, detail, room, sizeof room, &answer);
-    check(status == wanted && answer.length == 0 && answer.place == place && is_kept(0), "refusal", symbol);
+    symdemangle_result result;
+    memset(buffer, '#', sizeof buffer);
+    uint32_t status = symdemangle_text(name, strlen(name), limit, flags, buffer, sizeof buffer, &result);
+    check(status == wanted && result.status == wanted && result.length == 0 && result.offset == offset && is_kept(0), "refusal", name);
 }
 
 static void texts(void)
 {
-    has_text("_RNvC3foo3bar", 11, SYMDEMANGLE_FULL, "foo::bar");
-    has_text("_RNvMC3fooINtB2_1AhE3baz", 99, SYMDEMANGLE_FULL, "<foo::A<u8>>::baz");
+    has_text("_RNvC3foo3bar", 11, 0, "foo::bar");
+    has_text("_RNvMC3fooINtB2_1AhE3baz", 99, 0, "<foo::A<u8>>::baz");
     has_text("_RNvMC3fooINtB2_1AhE3baz", 99, SYMDEMANGLE_BRIEF, "<foo::A>::baz");
-    has_text("_Z1fIJicEEvDpT_", 56, SYMDEMANGLE_FULL, "void f<int, char>(int, char)");
+    has_text("_Z1fIJicEEvDpT_", 56, 0, "void f<int, char>(int, char)");
     has_text("_Z1fIJicEEvDpT_", 99, SYMDEMANGLE_BRIEF, "void f(int, char)");
     has_text("_Z1fIJicEEvDpT_", 99, SYMDEMANGLE_NO_PARAMETERS, "f<int, char>");
-    has_text("_Z1fIJicEEvDpT_", 99, SYMDEMANGLE_BRIEF_NO_PARAMETERS, "f");
+    has_text("_Z1fIJicEEvDpT_", 99, SYMDEMANGLE_BRIEF + SYMDEMANGLE_NO_PARAMETERS, "f");
     has_text("_RNvMC3fooINtB2_1AhE3baz", 99, SYMDEMANGLE_NO_PARAMETERS, "<foo::A<u8>>::baz");
-    is_refused("_RNvC3foo3bar", 10, SYMDEMANGLE_FULL, SYMDEMANGLE_TOO_LONG, 0);
-    is_refused("_RNvC3foo3bar", 0, SYMDEMANGLE_FULL, SYMDEMANGLE_TOO_LONG, 0);
-    is_refused("_RNvC3fo", 99, SYMDEMANGLE_FULL, SYMDEMANGLE_MALFORMED, 8);
-    is_refused("_RNvB_3foo", 99, SYMDEMANGLE_FULL, SYMDEMANGLE_BAD_REFERENCE, 4);
-    is_refused("_RNvCszzzzzzzzzzz_3foo3bar", 99, SYMDEMANGLE_FULL, SYMDEMANGLE_BAD_VALUE, 5);
-    is_refused("_Z1fv", 5, SYMDEMANGLE_FULL, SYMDEMANGLE_TOO_LONG, 0);
-    is_refused("_Z1fQ", 99, SYMDEMANGLE_FULL, SYMDEMANGLE_MALFORMED, 4);
-    is_refused("_Z1fS_", 99, SYMDEMANGLE_FULL, SYMDEMANGLE_BAD_REFERENCE, 4);
-    is_refused("_ZN1AUt18446744073709551614_E", 99, SYMDEMANGLE_FULL, SYMDEMANGLE_BAD_VALUE, 5);
-    is_refused("_RNvC3foo3bar", 99, 8, SYMDEMANGLE_DETAIL, 0);
+    has_text("_Z1fv", 99, SYMDEMANGLE_ASCII_WORDS, "f()");
+    is_refused("_RNvC3foo3bar", 10, 0, SYMDEMANGLE_TOO_LONG, 0);
+    is_refused("_RNvC3foo3bar", 0, 0, SYMDEMANGLE_TOO_LONG, 0);
+    is_refused("_RNvC3fo", 99, 0, SYMDEMANGLE_MALFORMED, 8);
+    is_refused("_RNvB_3foo", 99, 0, SYMDEMANGLE_BAD_REFERENCE, 4);
+    is_refused("_RNvCszzzzzzzzzzz_3foo3bar", 99, 0, SYMDEMANGLE_BAD_VALUE, 5);
+    is_refused("_Z1fv", 5, 0, SYMDEMANGLE_TOO_LONG, 0);
+    is_refused("_Z1fQ", 99, 0, SYMDEMANGLE_MALFORMED, 4);
+    is_refused("_Z1fS_", 99, 0, SYMDEMANGLE_BAD_REFERENCE, 4);
+    is_refused("_ZN1AUt18446744073709551614_E", 99, 0, SYMDEMANGLE_BAD_VALUE, 5);
+    is_refused("_RNvC3foo3bar", 99, 64, SYMDEMANGLE_FLAGS, 0);
+    is_refused("_RNvC3foo3bar", 99, 0x80000000u, SYMDEMANGLE_FLAGS, 0);
+    is_refused("main", 99, 64, SYMDEMANGLE_FLAGS, 0);
 }
 
 static void wide_texts(void)
 {
     has_text("_ZN1AC4Ev", 11, SYMDEMANGLE_WIDE, "A::A()");
-    has_text("_ZN1AC5IiEET_", 28, SYMDEMANGLE_WIDE + SYMDEMANGLE_FULL, "A::A<int>(int)");
+    has_text("_ZN1AC5IiEET_", 28, SYMDEMANGLE_WIDE, "A::A<int>(int)");
     has_text("_ZN1AC5IiEET_", 99, SYMDEMANGLE_WIDE + SYMDEMANGLE_BRIEF, "A::A(int)");
     has_text("_ZN1AC5IiEET_", 99, SYMDEMANGLE_WIDE + SYMDEMANGLE_NO_PARAMETERS, "A::A<int>");
-    has_text("_ZN1AC5IiEET_", 99, SYMDEMANGLE_WIDE + SYMDEMANGLE_BRIEF_NO_PARAMETERS, "A::A");
+    has_text("_ZN1AC5IiEET_", 99, SYMDEMANGLE_WIDE + SYMDEMANGLE_BRIEF + SYMDEMANGLE_NO_PARAMETERS, "A::A");
     has_text("_Z1fIJicEEvDpT_", 56, SYMDEMANGLE_WIDE, "void f<int, char>(int, char)");
     has_text("_RNvMC3fooINtB2_1AhE3baz", 99, SYMDEMANGLE_WIDE + SYMDEMANGLE_BRIEF, "<foo::A>::baz");
     is_refused("_ZN1AC4Ev", 10, SYMDEMANGLE_WIDE, SYMDEMANGLE_TOO_LONG, 0);
-    is_refused("_ZN1AC4Ev", 99, SYMDEMANGLE_FULL, SYMDEMANGLE_MALFORMED, 6);
+    is_refused("_ZN1AC4Ev", 99, 0, SYMDEMANGLE_MALFORMED, 6);
     is_refused("_ZN1AC6Ev", 99, SYMDEMANGLE_WIDE, SYMDEMANGLE_MALFORMED, 6);
 }
 
-/* The same call for a word: what it answers, and where the place is counted from. */
-static void is_word(const char *word, uint32_t detail, uint32_t wanted, uint32_t place, const char *text)
+static void names_of_other_kinds(void)
 {
-    symdemangle_answer answer;
-    size_t length = strlen(text);
-    memset(room, '#', sizeof room);
-    uint32_t status = symdemangle_word(bytes(word), strlen(word), 99, detail, room, sizeof room, &answer);
-    check(status == wanted && answer.length == length && answer.place == place, "status of a word", word);
-    check(memcmp(room, text, length) == 0 && is_kept(length), "text of a word", word);
+    has_text("__Z1fv", 99, SYMDEMANGLE_UNDERSCORE, "f()");
+    has_text("_Z1fv", 99, SYMDEMANGLE_UNDERSCORE, "f()");
+    has_text("__RNvC3foo3bar", 99, SYMDEMANGLE_UNDERSCORE, "foo::bar");
+    has_text("__ZN1AC4Ev", 99, SYMDEMANGLE_UNDERSCORE + SYMDEMANGLE_WIDE, "A::A()");
+    is_refused("__Z1fQ", 99, SYMDEMANGLE_UNDERSCORE, SYMDEMANGLE_MALFORMED, 5);
+    is_refused("__RNvB_3foo", 99, SYMDEMANGLE_UNDERSCORE, SYMDEMANGLE_BAD_REFERENCE, 5);
+    is_refused("__ZN1AC6Ev", 99, SYMDEMANGLE_UNDERSCORE + SYMDEMANGLE_WIDE, SYMDEMANGLE_MALFORMED, 7);
+    is_refused("__Z1fv", 99, 0, SYMDEMANGLE_NO_SYMBOL, 0);
+    is_refused("__RNvC3foo3bar", 99, SYMDEMANGLE_WIDE, SYMDEMANGLE_NO_SYMBOL, 0);
+    is_refused("___Z1fv", 99, SYMDEMANGLE_UNDERSCORE, SYMDEMANGLE_NO_SYMBOL, 0);
+    is_refused("main", 99, SYMDEMANGLE_UNDERSCORE, SYMDEMANGLE_NO_SYMBOL, 0);
+    is_refused("_", 99, 0, SYMDEMANGLE_NO_SYMBOL, 0);
+    is_refused("", 99, SYMDEMANGLE_UNDERSCORE, SYMDEMANGLE_NO_SYMBOL, 0);
+    is_refused("_Z", 99, 0, SYMDEMANGLE_MALFORMED, 2);
 }
 
-static void words(void)
+static void is_told(const symdemangle_result *told, uint32_t status, size_t length, uint32_t offset, const char *name)
 {
-    is_word("_Z1fv", SYMDEMANGLE_FULL, SYMDEMANGLE_OK, 0, "f()");
-    is_word("__Z1fv", SYMDEMANGLE_FULL, SYMDEMANGLE_OK, 0, "f()");
-    is_word("_RNvC3foo3bar", SYMDEMANGLE_FULL, SYMDEMANGLE_OK, 0, "foo::bar");
-    is_word("__RNvC3foo3bar", SYMDEMANGLE_FULL, SYMDEMANGLE_OK, 0, "foo::bar");
-    is_word("_Z1fQ", SYMDEMANGLE_FULL, SYMDEMANGLE_MALFORMED, 4, "");
-    is_word("__Z1fQ", SYMDEMANGLE_FULL, SYMDEMANGLE_MALFORMED, 5, "");
-    is_word("__RNvB_3foo", SYMDEMANGLE_FULL, SYMDEMANGLE_BAD_REFERENCE, 5, "");
-    is_word("_ZN1AC4Ev", SYMDEMANGLE_FULL, SYMDEMANGLE_MALFORMED, 6, "");
-    is_word("__ZN1AC4Ev", SYMDEMANGLE_WIDE, SYMDEMANGLE_OK, 0, "A::A()");
-    is_word("__ZN1AC6Ev", SYMDEMANGLE_WIDE, SYMDEMANGLE_MALFORMED, 7, "");
-    is_word("___Z1fv", SYMDEMANGLE_FULL, SYMDEMANGLE_NO_SYMBOL, 0, "");
-    is_word("main", SYMDEMANGLE_FULL, SYMDEMANGLE_NO_SYMBOL, 0, "");
-    is_word("_", SYMDEMANGLE_FULL, SYMDEMANGLE_NO_SYMBOL, 0, "");
-    is_word("", SYMDEMANGLE_FULL, SYMDEMANGLE_NO_SYMBOL, 0, "");
-}
-
-static void is_told(const symdemangle_told *told, uint32_t status, size_t length, uint32_t place, const char *symbol)
-{
-    check(told->status == status && told->length == length && told->place == place, "one of many", symbol);
+    check(told->status == status && told->length == length && told->offset == offset, "one of many", name);
 }
 
 static void many(void)
 {
-    static const char symbols[] = "_Z1fv_RNvC3foo3bar_Z1fQ_RNvC3foo3baz";
-    static const size_t ends[] = {5, 18, 23, 36}, falling[] = {5, 4}, beyond[] = {5, 99};
-    static const symdemangle_told untold = {9, 9, 9};
-    symdemangle_told told[4];
-    size_t length = sizeof symbols - 1;
-    memset(room, '#', sizeof room);
-    check(symdemangle_texts(bytes(symbols), length, ends, 4, 99, 0, room, sizeof room, told, 4) == SYMDEMANGLE_OK, "many", "");
+    static const char names[] = "_Z1fv_RNvC3foo3bar_Z1fQmain_RNvC3foo3baz";
+    static const size_t ends[] = {5, 18, 23, 27, 40}, falling[] = {5, 4}, beyond[] = {5, 99};
+    static const symdemangle_result untold = {9, 9, 9};
+    symdemangle_result told[5];
+    size_t length = sizeof names - 1;
+    memset(buffer, '#', sizeof buffer);
+    check(symdemangle_texts(names, length, ends, 5, 99, 0, buffer, sizeof buffer, told) == SYMDEMANGLE_OK, "many", "");
     is_told(&told[0], SYMDEMANGLE_OK, 3, 0, "_Z1fv");
     is_told(&told[1], SYMDEMANGLE_OK, 8, 0, "_RNvC3foo3bar");
     is_told(&told[2], SYMDEMANGLE_MALFORMED, 0, 4, "_Z1fQ");
-    is_told(&told[3], SYMDEMANGLE_OK, 8, 0, "_RNvC3foo3baz");
-    check(memcmp(room, "f()foo::barfoo::baz", 19) == 0 && is_kept(19), "texts of many", "");
-    memset(room, '#', sizeof room);
-    check(symdemangle_texts(bytes(symbols), 18, ends, 2, 99, 0, room, 7, told, 2) == SYMDEMANGLE_OK, "many in a small room", "");
+    is_told(&told[3], SYMDEMANGLE_NO_SYMBOL, 0, 0, "main");
+    is_told(&told[4], SYMDEMANGLE_OK, 8, 0, "_RNvC3foo3baz");
+    check(memcmp(buffer, "f()foo::barfoo::baz", 19) == 0 && is_kept(19), "texts of many", "");
+    memset(buffer, '#', sizeof buffer);
+    check(symdemangle_texts(names, 18, ends, 2, 99, 0, buffer, 7, told) == SYMDEMANGLE_OK, "many in a small buffer", "");
     is_told(&told[0], SYMDEMANGLE_OK, 3, 0, "_Z1fv");
-    is_told(&told[1], SYMDEMANGLE_ROOM, 8, 0, "_RNvC3foo3bar");
-    check(memcmp(room, "f()", 3) == 0 && is_kept(3), "what fits of many", "");
-    memset(room, '#', sizeof room);
+    is_told(&told[1], SYMDEMANGLE_BUFFER, 8, 0, "_RNvC3foo3bar");
+    check(memcmp(buffer, "f()", 3) == 0 && is_kept(3), "what fits of many", "");
+    memset(buffer, '#', sizeof buffer);
     told[0] = told[1] = untold;
-    check(symdemangle_texts(bytes(symbols), length, falling, 2, 99, 0, room, sizeof room, told, 2) == SYMDEMANGLE_ENDS, "ends that fall", "");
-    check(symdemangle_texts(bytes(symbols), length, beyond, 2, 99, 0, room, sizeof room, told, 2) == SYMDEMANGLE_ENDS, "an end past the bytes", "");
-    check(symdemangle_texts(bytes(symbols), length, ends, 2, 99, 0, room, sizeof room, told, 1) == SYMDEMANGLE_ENDS, "an answer too few", "");
-    check(symdemangle_texts(bytes(symbols), length, ends, 2, 99, 8, room, sizeof room, told, 2) == SYMDEMANGLE_DETAIL, "a detail of many", "");
-    check(symdemangle_texts(bytes(symbols), length, NULL, 2, 99, 0, room, sizeof room, told, 2) == SYMDEMANGLE_NULL, "null ends", "");
-    check(symdemangle_texts(bytes(symbols), length, ends, 2, 99, 0, room, sizeof room, NULL, 2) == SYMDEMANGLE_NULL, "null answers", "");
-    check(told[0].status == 9 && told[1].place == 9 && is_kept(0), "answers that are kept", "");
-    check(symdemangle_texts(NULL, 0, NULL, 0, 99, 0, NULL, 0, NULL, 0) == SYMDEMANGLE_OK, "none of many", "");
+    check(symdemangle_texts(names, length, falling, 2, 99, 0, buffer, sizeof buffer, told) == SYMDEMANGLE_ENDS, "ends that go down", "");
+    check(symdemangle_texts(names, length, beyond, 2, 99, 0, buffer, sizeof buffer, told) == SYMDEMANGLE_ENDS, "an end past the bytes", "");
+    check(symdemangle_texts(names, length, ends, 2, 99, 64, buffer, sizeof buffer, told) == SYMDEMANGLE_FLAGS, "flags of many", "");
+    check(symdemangle_texts(names, length, NULL, 2, 99, 0, buffer, sizeof buffer, told) == SYMDEMANGLE_NULL, "null ends", "");
+    check(symdemangle_texts(names, length, ends, 2, 99, 0, buffer, sizeof buffer, NULL) == SYMDEMANGLE_NULL, "null results", "");
+    check(told[0].status == 9 && told[1].offset == 9 && is_kept(0), "results that are kept", "");
+    check(symdemangle_texts(NULL, 0, NULL, 0, 99, 0, NULL, 0, NULL) == SYMDEMANGLE_OK, "none of many", "");
 }
 
-static void many_wide(void)
+static void many_of_other_kinds(void)
 {
-    static const char symbols[] = "_ZN1AC4Ev_Z1fv";
-    static const size_t ends[] = {9, 14};
-    symdemangle_told told[2];
-    memset(room, '#', sizeof room);
-    check(symdemangle_texts(bytes(symbols), 14, ends, 2, 99, SYMDEMANGLE_WIDE, room, sizeof room, told, 2) == SYMDEMANGLE_OK, "many, wide", "");
+    static const char names[] = "_ZN1AC4Ev_Z1fv__Z1fQ";
+    static const size_t ends[] = {9, 14, 20};
+    symdemangle_result told[3];
+    memset(buffer, '#', sizeof buffer);
+    check(symdemangle_texts(names, 20, ends, 3, 99, SYMDEMANGLE_WIDE + SYMDEMANGLE_UNDERSCORE, buffer, sizeof buffer, told) == SYMDEMANGLE_OK,
+          "many, wide", "");
     is_told(&told[0], SYMDEMANGLE_OK, 6, 0, "_ZN1AC4Ev");
     is_told(&told[1], SYMDEMANGLE_OK, 3, 0, "_Z1fv");
-    check(memcmp(room, "A::A()f()", 9) == 0 && is_kept(9), "texts of many, wide", "");
+    is_told(&told[2], SYMDEMANGLE_MALFORMED, 0, 5, "__Z1fQ");
+    check(memcmp(buffer, "A::A()f()", 9) == 0 && is_kept(9), "texts of many, wide", "");
 }
 
-static void bad_arguments(void)
+static void filters_to(const char *log, uint32_t flags, const char *text, unsigned words, unsigned replaced)
 {
-    symdemangle_answer answer = {9, 9};
+    symdemangle_result result;
+    symdemangle_tally tally = {9, 9, 9};
+    size_t length = strlen(text);
+    memset(buffer, '#', sizeof buffer);
+    uint32_t status = symdemangle_filter(log, strlen(log), 99, flags, buffer, sizeof buffer, &tally, &result);
+    check(status == SYMDEMANGLE_OK && result.status == status && result.length == length && result.offset == 0, "filter", log);
+    check(memcmp(buffer, text, length) == 0 && is_kept(length), "filtered text", log);
+    check(tally.words == words && tally.replaced == replaced && tally.refused == words - replaced, "tally", log);
+    tally.words = 9;
+    memset(buffer, '#', sizeof buffer);
+    status = symdemangle_filter(log, strlen(log), 99, flags, buffer, length - 1, &tally, &result);
+    check(status == SYMDEMANGLE_BUFFER && result.length == length && tally.words == 9 && is_kept(0), "filter without room", log);
+    status = symdemangle_filter(log, strlen(log), 99, flags, buffer, sizeof buffer, NULL, &result);
+    check(status == SYMDEMANGLE_OK && memcmp(buffer, text, length) == 0, "filter without a tally", log);
+}
+
+static void filtered_texts(void)
+{
+    symdemangle_result result;
+    symdemangle_tally tally = {9, 9, 9};
+    filters_to("at _RNvC3foo3bar. (_RNvC3fo) _Z1fv.", 0, "at foo::bar. (_RNvC3fo) f().", 3, 2);
+    filters_to("_ZN1AC4Ev __Z1fv", SYMDEMANGLE_WIDE, "A::A() f()", 2, 2);
+    filters_to("\xe2\x80\x98_Z1fv\xe2\x80\x99 _Z1gv", 0, "\xe2\x80\x98_Z1fv\xe2\x80\x99 g()", 1, 1);
+    filters_to("\xe2\x80\x98_Z1fv\xe2\x80\x99 _Z1gv", SYMDEMANGLE_ASCII_WORDS, "\xe2\x80\x98" "f()\xe2\x80\x99 g()", 2, 2);
+    check(symdemangle_filter("a", 1, 99, 64, buffer, sizeof buffer, &tally, &result) == SYMDEMANGLE_FLAGS && tally.words == 9, "flags of a filter", "");
+    check(symdemangle_filter(NULL, 0, 99, 0, NULL, 0, &tally, &result) == SYMDEMANGLE_OK && result.length == 0 && tally.words == 0, "empty text", "");
+}
+
+static void has_counts(const char *name, uint32_t flags, uint32_t rows, uint32_t nodes, uint32_t steps)
+{
+    symdemangle_result result;
     symdemangle_counts counts = {9, 9, 9};
-    memset(room, '#', sizeof room);
-    check(symdemangle_text(NULL, 0, 99, 0, room, sizeof room, &answer) == SYMDEMANGLE_MALFORMED && is_kept(0), "no bytes", "");
-    check(symdemangle_text(NULL, 1, 99, 0, room, sizeof room, &answer) == SYMDEMANGLE_NULL && is_kept(0), "null symbol", "");
-    check(symdemangle_text(bytes("_R"), 2, 99, 0, NULL, 1, &answer) == SYMDEMANGLE_NULL, "null room", "");
-    check(symdemangle_text(bytes("_R"), 2, 99, 0, room, 1, NULL) == SYMDEMANGLE_NULL && is_kept(0), "null answer", "");
-    check(symdemangle_word(NULL, 0, 99, 0, room, 1, &answer) == SYMDEMANGLE_NO_SYMBOL && is_kept(0), "empty word", "");
-    check(symdemangle_word(NULL, 1, 99, 0, room, 1, &answer) == SYMDEMANGLE_NULL && is_kept(0), "null word", "");
-    check(symdemangle_word(bytes("main"), 4, 99, 0, room, 1, NULL) == SYMDEMANGLE_NULL && is_kept(0), "null answer of a word", "");
-    check(symdemangle_version() == SYMDEMANGLE_VERSION, "version", "");
-    check(symdemangle_filter(NULL, 0, 99, 0, NULL, 0, &answer) == SYMDEMANGLE_OK && answer.length == 0, "empty text", "");
-    check(symdemangle_count(bytes("_R"), 2, NULL, &answer) == SYMDEMANGLE_NULL, "null counts", "");
-    check(symdemangle_count(bytes("_R"), 2, &counts, &answer) == SYMDEMANGLE_MALFORMED && answer.place == 2 && counts.rows == 9,
-          "counts of what is refused", "_R");
+    check(symdemangle_count(name, strlen(name), flags, &counts, &result) == SYMDEMANGLE_OK && result.status == 0 && result.offset == 0, "counts", name);
+    check(counts.rows == rows && counts.nodes == nodes && counts.steps == steps, "numbers of the counts", name);
 }
 
-static void other_calls(void)
+static void is_uncounted(const char *name, uint32_t flags, uint32_t status, uint32_t offset)
 {
-    symdemangle_answer answer;
+    symdemangle_result result;
+    symdemangle_counts counts = {9, 9, 9};
+    check(symdemangle_count(name, strlen(name), flags, &counts, &result) == status && result.status == status && result.offset == offset &&
+          counts.rows == 9 && counts.nodes == 9 && counts.steps == 9, "no counts", name);
+}
+
+static void counted(void)
+{
     symdemangle_counts counts;
-    const char *log = "at _RNvC3foo3bar. (_RNvC3fo) _Z1fv.";
-    const char *filtered = "at foo::bar. (_RNvC3fo) f().";
-    const char *wide_log = "_ZN1AC4Ev _Z1fv", *wide_filtered = "A::A() f()";
-    memset(room, '#', sizeof room);
-    check(symdemangle_filter(bytes(log), strlen(log), 99, 0, room, sizeof room, &answer) == SYMDEMANGLE_OK, "filter", log);
-    check(answer.length == strlen(filtered) && memcmp(room, filtered, answer.length) == 0 && is_kept(answer.length), "lines", log);
-    memset(room, '#', sizeof room);
-    check(symdemangle_filter(bytes(wide_log), strlen(wide_log), 99, SYMDEMANGLE_WIDE, room, sizeof room, &answer) == SYMDEMANGLE_OK,
-          "wide filter", wide_log);
-    check(answer.length == strlen(wide_filtered) && memcmp(room, wide_filtered, answer.length) == 0 && is_kept(answer.length),
-          "wide lines", wide_log);
-    check(symdemangle_count(bytes("_RNvMC3fooINtB2_1AhE3baz"), 24, &counts, &answer) == SYMDEMANGLE_OK, "counts", "");
-    check(counts.rows == 18 && counts.nodes == 11 && counts.steps == 56, "numbers of the counts", "_RNvMC3fooINtB2_1AhE3baz");
+    symdemangle_result result;
+    has_counts("_RNvMC3fooINtB2_1AhE3baz", 0, 18, 11, 56);
+    has_counts("_RNvMC3fooINtB2_1AhE3baz", SYMDEMANGLE_BRIEF, 18, 11, 56);
+    is_uncounted("_R", 0, SYMDEMANGLE_MALFORMED, 2);
+    is_uncounted("__R", SYMDEMANGLE_UNDERSCORE, SYMDEMANGLE_MALFORMED, 3);
+    is_uncounted("__R", 0, SYMDEMANGLE_NO_SYMBOL, 0);
+    is_uncounted("_ZN1AC4Ev", 0, SYMDEMANGLE_MALFORMED, 6);
+    is_uncounted("_Z1fv", 64, SYMDEMANGLE_FLAGS, 0);
+    check(symdemangle_count("_ZN1AC4Ev", 9, SYMDEMANGLE_WIDE, &counts, &result) == SYMDEMANGLE_OK, "wide counts", "_ZN1AC4Ev");
 }
 
-static void presses_to(const char *repeated, const char *pressed)
+static void presses_to(const char *repeated, uint32_t flags, const char *pressed)
 {
-    symdemangle_answer answer;
-    memset(room, '#', sizeof room);
-    check(symdemangle_press(bytes(repeated), strlen(repeated), room, sizeof room, &answer) == SYMDEMANGLE_OK, "press", repeated);
-    check(answer.length == strlen(pressed) && memcmp(room, pressed, answer.length) == 0 && is_kept(answer.length), "pressed", repeated);
+    symdemangle_result result;
+    memset(buffer, '#', sizeof buffer);
+    check(symdemangle_press(repeated, strlen(repeated), flags, buffer, sizeof buffer, &result) == SYMDEMANGLE_OK, "press", repeated);
+    check(result.length == strlen(pressed) && memcmp(buffer, pressed, result.length) == 0 && is_kept(result.length), "pressed", repeated);
 }
 
-/* Counted and pressed is what the usual grammar reads. */
-static void are_unread(const char *symbol, uint32_t place)
+static void is_unpressed(const char *name, uint32_t flags, uint32_t status, uint32_t offset)
 {
-    symdemangle_answer answer;
-    symdemangle_counts counts = {9, 9, 9};
-    memset(room, '#', sizeof room);
-    check(symdemangle_count(bytes(symbol), strlen(symbol), &counts, &answer) == SYMDEMANGLE_MALFORMED && answer.place == place, "count", symbol);
-    check(symdemangle_press(bytes(symbol), strlen(symbol), room, sizeof room, &answer) == SYMDEMANGLE_MALFORMED && answer.place == place && is_kept(0),
-          "press", symbol);
+    symdemangle_result result;
+    memset(buffer, '#', sizeof buffer);
+    check(symdemangle_press(name, strlen(name), flags, buffer, sizeof buffer, &result) == status && result.offset == offset && is_kept(0),
+          "press what is refused", name);
 }
 
 static void pressed_spellings(void)
 {
-    symdemangle_answer answer;
-    presses_to("_RINvC3foo3barNtC3foo1AE", "_RINvC3foo3barNtB2_1AE");
-    presses_to("_ZN3foo3barEN3foo3bazE", "_ZN3foo3barENS_3bazE");
-    presses_to("_ZN3foo3barENS_3bazE", "_ZN3foo3barENS_3bazE");
-    are_unread("_ZN1AC4Ev", 6);
-    memset(room, '#', sizeof room);
-    check(symdemangle_press(bytes("_Z1fS_"), 6, room, sizeof room, &answer) == SYMDEMANGLE_BAD_REFERENCE && answer.place == 4 && is_kept(0),
-          "press what is refused", "_Z1fS_");
+    presses_to("_RINvC3foo3barNtC3foo1AE", 0, "_RINvC3foo3barNtB2_1AE");
+    presses_to("_ZN3foo3barEN3foo3bazE", 0, "_ZN3foo3barENS_3bazE");
+    presses_to("_ZN3foo3barENS_3bazE", SYMDEMANGLE_BRIEF, "_ZN3foo3barENS_3bazE");
+    presses_to("__ZN3foo3barEN3foo3bazE", SYMDEMANGLE_UNDERSCORE, "__ZN3foo3barENS_3bazE");
+    is_unpressed("_ZN1AC4Ev", 0, SYMDEMANGLE_MALFORMED, 6);
+    is_unpressed("_Z1fS_", 0, SYMDEMANGLE_BAD_REFERENCE, 4);
+    is_unpressed("main", 0, SYMDEMANGLE_NO_SYMBOL, 0);
+    is_unpressed("_Z1fv", SYMDEMANGLE_WIDE, SYMDEMANGLE_FLAGS, 0);
+    is_unpressed("_Z1fv", 64, SYMDEMANGLE_FLAGS, 0);
+}
+
+static void bad_arguments(void)
+{
+    symdemangle_result result = {9, 9, 9};
+    symdemangle_counts counts;
+    memset(buffer, '#', sizeof buffer);
+    check(symdemangle_text(NULL, 0, 99, 0, buffer, sizeof buffer, &result) == SYMDEMANGLE_NO_SYMBOL && is_kept(0), "no bytes", "");
+    check(symdemangle_text(NULL, 1, 99, 0, buffer, sizeof buffer, &result) == SYMDEMANGLE_NULL && result.status == 9 && is_kept(0), "null name", "");
+    check(symdemangle_text("_R", 2, 99, 0, NULL, 1, &result) == SYMDEMANGLE_NULL, "null buffer", "");
+    check(symdemangle_text("_R", 2, 99, 0, buffer, 1, NULL) == SYMDEMANGLE_NULL && is_kept(0), "null result", "");
+    check(symdemangle_filter(NULL, 1, 99, 0, buffer, 1, NULL, &result) == SYMDEMANGLE_NULL, "null text", "");
+    check(symdemangle_filter("a", 1, 99, 0, buffer, 1, NULL, NULL) == SYMDEMANGLE_NULL && is_kept(0), "null result of a filter", "");
+    check(symdemangle_count("_R", 2, 0, NULL, &result) == SYMDEMANGLE_NULL, "null counts", "");
+    check(symdemangle_count("_R", 2, 0, &counts, NULL) == SYMDEMANGLE_NULL, "null result of counts", "");
+    check(symdemangle_press(NULL, 1, 0, buffer, 1, &result) == SYMDEMANGLE_NULL && is_kept(0), "null name to press", "");
+    check(symdemangle_version() == SYMDEMANGLE_VERSION, "version", "");
+}
+
+static void has_message(uint32_t status, const char *message)
+{
+    check(strcmp(symdemangle_message(status), message) == 0, "message", message);
+}
+
+static void messages(void)
+{
+    uint32_t status;
+    has_message(SYMDEMANGLE_OK, "done");
+    has_message(SYMDEMANGLE_MALFORMED, "malformed symbol");
+    has_message(SYMDEMANGLE_MEMORY, "out of memory");
+    has_message(SYMDEMANGLE_ENDS, "the ends of names are out of order");
+    has_message(SYMDEMANGLE_NO_SYMBOL, "not a symbol");
+    has_message(12, "an unknown status");
+    has_message(0xffffffffu, "an unknown status");
+    for (status = 0; status < 12; status++)
+        check(*symdemangle_message(status) != 0, "a message", "");
+}
+
+/* A C string of its own, short and long. */
+static void strings(void)
+{
+    static char name[5100];
+    char *text = symdemangle_string("_ZN3foo3barEPKc", SYMDEMANGLE_WIDE);
+    check(text && strcmp(text, "foo::bar(char const*)") == 0, "string", "_ZN3foo3barEPKc");
+    symdemangle_free(text);
+    memset(name, 'a', sizeof name);
+    memcpy(name, "_RNvC3foo5000", 13);
+    name[5013] = 0;
+    text = symdemangle_string(name, 0);
+    check(text && strlen(text) == 5005 && memcmp(text, "foo::aaa", 8) == 0, "long string", "");
+    symdemangle_free(text);
+    check(symdemangle_string("main", SYMDEMANGLE_UNDERSCORE) == NULL, "string", "main");
+    check(symdemangle_string("_Z1fv", 64) == NULL, "flags of a string", "");
+    check(symdemangle_string(NULL, 0) == NULL, "null string", "");
+    symdemangle_free(NULL);
 }
 
 int main(void)
 {
     texts();
     wide_texts();
-    words();
+    names_of_other_kinds();
     many();
-    many_wide();
-    bad_arguments();
-    other_calls();
+    many_of_other_kinds();
+    filtered_texts();
+    counted();
     pressed_spellings();
+    bad_arguments();
+    messages();
+    strings();
     puts(failed ? "FAILED" : "ok");
     return failed;
 }

@@ -9,7 +9,8 @@
 #include <execinfo.h>
 #include <unistd.h>
 
-static unsigned char block[128 << 10], room[4096], stack[64 << 10];
+static unsigned char block[128 << 10], stack[64 << 10];
+static char buffer[4096];
 
 static void print(const void *bytes, size_t length)
 {
@@ -19,12 +20,11 @@ static void print(const void *bytes, size_t length)
 
 static void print_name(const char *name)
 {
-    symdemangle_answer answer;
+    symdemangle_result result;
     size_t length = strlen(name);
-    uint32_t status = symdemangle_word(reinterpret_cast<const uint8_t *>(name), length, 100000, SYMDEMANGLE_FULL, room,
-                                       sizeof room, &answer);
+    uint32_t status = symdemangle_text(name, length, 100000, SYMDEMANGLE_WIDE, buffer, sizeof buffer, &result);
     if (status == SYMDEMANGLE_OK)
-        print(room, answer.length);
+        print(buffer, result.length);
     else
         print(name, length); // it isn't mangled, or refused
     print("\n", 1);

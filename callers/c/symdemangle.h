@@ -1,25 +1,54 @@
-/* Mangled C++ (Itanium ABI 5.1) and Rust (RFC 2603, v0) symbols: their texts within a limit on what a text costs, the work
-   that reading one takes, and their pressed spelling.
+/* The names that C++ and Rust compilers give to functions and data (Itanium C++ ABI 5.1; RFC 2603, "v0"), demangled within a limit
+   on what a text costs. A hostile name can't exhaust time or memory: the work of each call is bounded, and none recurses.
 
-   It needs C from C99 on, or C++ from C++11 on, and a library for 64-bit x86 Linux, the only machine that it is built for.
-   Each call is a function of the library, so other languages call them by the same names.
+   The shortest way, for a C string:
+
+       char *text = symdemangle_string("_ZN3foo3barEPKc", SYMDEMANGLE_WIDE);
+       puts(text ? text : "not a symbol");                    // foo::bar(char const*)
+       symdemangle_free(text);
+
+   Without an allocation for the text, with a reason where there is none; 4 KiB serve nearly all symbols, and a second call the
+   others:
+
+       char few[4096], *text = few;
+       symdemangle_result result;
+       size_t capacity = sizeof few;
+       while (symdemangle_text(name, length, SYMDEMANGLE_DEFAULT_LIMIT, SYMDEMANGLE_WIDE, text, capacity, &result)
+              == SYMDEMANGLE_BUFFER && text == few)
+           text = malloc(capacity = result.length);           // null is answered SYMDEMANGLE_NULL
+       if (result.status == SYMDEMANGLE_OK)
+           printf("%.*s\n", (int)result.length, text);
+       else
+           fprintf(stderr, "%s at byte %u\n", symdemangle_message(result.status), (unsigned)result.offset);
+       if (text != few)
+           free(text);
+
+   A call without a buffer, to learn the length first, does all the work, and the second call does it again.
+
+   Who has many names gives them to one call, symdemangle_texts. Who meets them one by one, as a profiler does, links
+   libsymdemangle_arena.a and lends it a block (symdemangle_arena.h): such a call takes 11 % fewer instructions, and no malloc.
+
+   It needs C from C99 on, or C++ from C++11 on (symdemangle.hpp has the same for std::string), and a library for 64-bit x86
+   Linux, the only machine that it is built for. Each call is a function of the library, so other languages call them by the
+   same names.
 
    What holds of every call:
-   - It answers one of the numbers of symdemangle_status. With any answer but SYMDEMANGLE_OK the room stays as it is.
-   - A symbol is bytes with a length, and needs no 0 byte. A text or a spelling gets no 0 byte behind it.
-   - Bytes, ends, texts and `room` may be null where their length is 0. Null with a length is SYMDEMANGLE_NULL, and so is an
-     `answer` or `counts` that is null.
+   - It answers one of the numbers of symdemangle_status. With any answer but SYMDEMANGLE_OK buffer, counts and tally stay as they
+     are; with it, what follows the text in the buffer does.
+   - A name is bytes with a length, and needs no 0 byte. A text gets no 0 byte after it; symdemangle_string alone takes a C string
+     and makes one.
+   - Bytes, ends, results and buffer may be null where their length is 0, and a tally always. Any other null is SYMDEMANGLE_NULL.
    - What is lent to one call doesn't overlap, and no other thread touches it during the call.
-   - Calls may run in several threads at once: they share nothing, and none keeps memory behind its end.
-   - None calls itself over what it is given: each used less than 16 KiB of the stack, malloc's part in it, whatever was tried.
+   - The calls are thread-safe: they share no state, and hold no memory after they return (but for what symdemangle_string makes).
+   - None recurses on its input; the most stack that was measured is below 16 KiB, malloc's part included.
    - They call malloc, realloc and free, so they must not run in a signal handler, nor in the forked child of a process that
      has threads. symdemangle_arena.h has the library that calls none of these.
 
    What stays, from one release to the next:
-   - With the same first two numbers of the version: the names here, their types, the numbers of the statuses and details, and
+   - With the same first two numbers of the version: the names here, their types, the numbers of the statuses and flags, and
      every text. A program that was linked with an earlier one of these may be run with a later one.
-   - A change of any of these changes the second number (the first, from 1.0 on), the shared library's name where an old program
-     wouldn't run with it, and stands in CHANGELOG.md. New calls and new statuses of new calls may come with any version. */
+   - A change of any of these changes the second number (the first, from 1.0 on), the shared library's name with it
+     (libsymdemangle.so.0.1), and is in CHANGELOG.md. New calls, flags, and statuses of these may come with any version. */
 #ifndef SYMDEMANGLE_H
 #define SYMDEMANGLE_H
 
@@ -33,6 +62,10 @@
 #define SYMDEMANGLE_VERSION                                                                                                    \
     (SYMDEMANGLE_VERSION_MAJOR * 1000000 + SYMDEMANGLE_VERSION_MINOR * 1000 + SYMDEMANGLE_VERSION_PATCH)
 
+/* What a text may cost where a caller has no limit of its own: its bytes, and 1 for each item that it is put together from. The
+   costliest of 353,228 real Rust symbols costs 12,204, so 25,000 is ample for names that someone else chose. */
+#define SYMDEMANGLE_DEFAULT_LIMIT 1000000
+
 #ifdef __cplusplus
 extern "C" {
 #endif
@@ -40,43 +73,38 @@ extern "C" {
 /* What a call answers; 1 to 5 are the refusals of a symbol. */
 enum symdemangle_status {
     SYMDEMANGLE_OK = 0,
-    SYMDEMANGLE_MALFORMED = 1,     /* `place`: how many bytes stand before the first one that no symbol has there */
-    SYMDEMANGLE_BAD_REFERENCE = 2, /* `place`: the same for the first reference that names nothing */
-    SYMDEMANGLE_BAD_VALUE = 3,     /* `place`: the same for the first number that is out of range */
+    SYMDEMANGLE_MALFORMED = 1,     /* `offset`: how many bytes are before the first one that no symbol has there */
+    SYMDEMANGLE_BAD_REFERENCE = 2, /* `offset`: the same for the first reference that names nothing */
+    SYMDEMANGLE_BAD_VALUE = 3,     /* `offset`: the same for the first number that is out of range */
     SYMDEMANGLE_TOO_LONG = 4,      /* the text costs more than the limit */
     SYMDEMANGLE_MEMORY = 5,        /* an allocation was refused */
-    SYMDEMANGLE_ROOM = 6,          /* `length`: how many bytes the room needs */
+    SYMDEMANGLE_BUFFER = 6,        /* `length`: how many bytes the buffer needs */
     SYMDEMANGLE_SIZE = 7,          /* the symbol has more than 16,777,216 bytes, and wasn't read */
-    SYMDEMANGLE_DETAIL = 8,        /* no detail has this number */
-    SYMDEMANGLE_NULL = 9,          /* a null pointer with a length, or a null answer */
-    SYMDEMANGLE_ENDS = 10,         /* of symdemangle_texts: the ends fall, or pass the bytes, or aren't as many as the texts */
-    SYMDEMANGLE_NO_SYMBOL = 11     /* of symdemangle_word: the word begins with none of _Z, _R, __Z and __R */
+    SYMDEMANGLE_FLAGS = 8,         /* a flag that isn't one of symdemangle_flags, or, of symdemangle_press, SYMDEMANGLE_WIDE */
+    SYMDEMANGLE_NULL = 9,          /* a null pointer with a length, or a null result or counts */
+    SYMDEMANGLE_ENDS = 10,         /* of symdemangle_texts: the ends go down, or pass the bytes */
+    SYMDEMANGLE_NO_SYMBOL = 11     /* the name begins with neither _Z nor _R */
 };
 
-/* How much of a symbol its text shows, and by which grammar C++ is read. The wide one has more of what compilers write, and a
-   later version may add to it; what has a text without it has the same text with it, at the same cost. */
-enum symdemangle_detail {
-    SYMDEMANGLE_FULL = 0,
-    SYMDEMANGLE_BRIEF = 1,                /* template and generic arguments are left out */
-    SYMDEMANGLE_NO_PARAMETERS = 2,        /* each C++ function is its name alone, without return type and parameters */
-    SYMDEMANGLE_BRIEF_NO_PARAMETERS = 3,  /* both */
-    SYMDEMANGLE_WIDE = 4                  /* added to one of these: C++ is read by the wide grammar, as with `symfilt --wide` */
+/* What is asked for, added together. One that says nothing to a call changes nothing in it. */
+enum symdemangle_flags {
+    SYMDEMANGLE_BRIEF = 1,         /* template and generic arguments are left out */
+    SYMDEMANGLE_NO_PARAMETERS = 2, /* each C++ function is its name alone, without return type and parameters */
+    SYMDEMANGLE_WIDE = 4,          /* newer and rarer C++ forms are read, too: recommended. What has a text without it has the
+                                      same text with it; a later version may read more */
+    SYMDEMANGLE_UNDERSCORE = 16,   /* a name may also begin with __Z or __R, as on macOS: its first underscore is dropped, and
+                                      `offset` counts it. symdemangle_filter always takes such words */
+    SYMDEMANGLE_ASCII_WORDS = 32   /* of symdemangle_filter: a word ends at a byte from 0x80, as at typographic quotes, and so
+                                      has no names with such bytes */
 };
 
-/* What comes with a status: of SYMDEMANGLE_OK the bytes that were written, of SYMDEMANGLE_ROOM those that are needed, else 0;
-   and where the first bad byte, reference or number stands, else 0. */
+/* What comes with a status: of SYMDEMANGLE_OK the bytes that were written, of SYMDEMANGLE_BUFFER those that are needed, else 0;
+   and where the first bad byte, reference or number is, else 0. `status` is what the call answered. */
 typedef struct {
     size_t length;
-    uint32_t place;
-} symdemangle_answer;
-
-/* What is told of one of many symbols: its status, SYMDEMANGLE_OK to SYMDEMANGLE_SIZE, and what comes with it as in
-   symdemangle_answer. */
-typedef struct {
-    size_t length;
-    uint32_t place;
+    uint32_t offset;
     uint32_t status;
-} symdemangle_told;
+} symdemangle_result;
 
 /* The work that a symbol of n bytes made: rows of its shape (at most 4n + 4), nodes of the table in which its parts are
    shared (4n + 8), and counted steps (32n + 48). */
@@ -86,61 +114,57 @@ typedef struct {
     uint32_t steps;
 } symdemangle_counts;
 
+/* How many words of a filtered text begin as symbols do, were replaced by a text, and were not. */
+typedef struct {
+    uint64_t words;
+    uint64_t replaced;
+    uint64_t refused;
+} symdemangle_tally;
+
 /* The version of the library that is there when the program runs, as SYMDEMANGLE_VERSION is that of the header. */
 uint32_t symdemangle_version(void);
 
-/* Writes the text of a symbol to the front of the room, if it costs at most `limit`: its bytes, and 1 for each item that it
-   is put together from. A symbol that begins with "_R" is read as Rust, any other as C++. SYMDEMANGLE_OK, _MALFORMED,
-   _BAD_REFERENCE, _BAD_VALUE, _TOO_LONG, _MEMORY, _ROOM, _SIZE, _DETAIL, _NULL. */
-uint32_t symdemangle_text(const uint8_t *symbol, size_t symbol_length, uint32_t limit, uint32_t detail, uint8_t *room,
-                          size_t room_length, symdemangle_answer *answer);
+/* A status in a few words, as "not a symbol": a constant string, for any number. */
+const char *symdemangle_message(uint32_t status);
 
-/* The same for the symbol of a word, as the program takes words: it begins _Z or _R, or __Z or __R, as on macOS, of which the
-   first underscore is dropped (`place` counts it). Any other word is SYMDEMANGLE_NO_SYMBOL. */
-uint32_t symdemangle_word(const uint8_t *word, size_t word_length, uint32_t limit, uint32_t detail, uint8_t *room,
-                          size_t room_length, symdemangle_answer *answer);
+/* Writes the text of a name to the front of the buffer, if it costs at most `limit`. A name that begins with "_Z" is read as C++,
+   one that begins with "_R" as Rust. SYMDEMANGLE_OK, _MALFORMED, _BAD_REFERENCE, _BAD_VALUE, _TOO_LONG, _MEMORY, _BUFFER, _SIZE,
+   _FLAGS, _NULL, _NO_SYMBOL. */
+uint32_t symdemangle_text(const char *name, size_t name_length, uint32_t limit, uint32_t flags, char *buffer, size_t capacity,
+                          symdemangle_result *result);
 
-/* The texts of many symbols, with one set of lists for all of them: the call for who has more than one. Symbol i stands in
-   `text` from ends[i - 1], of the first from 0, to ends[i]. What is told of it is as symdemangle_text would answer, in answers[i];
-   the texts of those with SYMDEMANGLE_OK stand in the room, one behind the other from its front. One for which no room is
-   left is told SYMDEMANGLE_ROOM, and later, shorter ones may still fit. SYMDEMANGLE_OK (each symbol is told, want of memory
-   too), _DETAIL, _ENDS, _NULL; with any answer but SYMDEMANGLE_OK `answers` stay as they are. */
-uint32_t symdemangle_texts(const uint8_t *text, size_t text_length, const size_t *ends, size_t ends_length, uint32_t limit,
-                           uint32_t detail, uint8_t *room, size_t room_length, symdemangle_told *answers,
-                           size_t answers_length);
+/* The same for a C string within SYMDEMANGLE_DEFAULT_LIMIT, as a new C string; null where the name has no text, is null, or where
+   memory runs out. libsymdemangle_arena.a doesn't have it. */
+char *symdemangle_string(const char *name, uint32_t flags);
+
+/* Gives back what symdemangle_string made; null is given back by doing nothing. */
+void symdemangle_free(char *string);
+
+/* The texts of many names, with one set of lists for all of them: the call for who has more than one. Name i is in `names` from
+   ends[i - 1], of the first from 0, to ends[i]. What symdemangle_text would answer for it is in results[i]; the texts of those with
+   SYMDEMANGLE_OK are in the buffer, one after the other from its front. One that finds too little of the buffer left is told
+   SYMDEMANGLE_BUFFER, and later, shorter ones may still fit. Here `ends` and `results` have `count` entries. SYMDEMANGLE_OK (each
+   name is told of, want of memory too), _FLAGS, _ENDS, _NULL; with any answer but SYMDEMANGLE_OK the results stay as they are. */
+uint32_t symdemangle_texts(const char *names, size_t names_length, const size_t *ends, size_t count, uint32_t limit,
+                           uint32_t flags, char *buffer, size_t capacity, symdemangle_result *results);
 
 /* Writes a text with each word that is a symbol replaced by its text, as the program's filter does: many symbols in one call,
-   with one set of lists for all of them. A word that is refused stays as it is. SYMDEMANGLE_OK, _MEMORY, _ROOM, _DETAIL,
-   _NULL. */
-uint32_t symdemangle_filter(const uint8_t *text, size_t text_length, uint32_t limit, uint32_t detail, uint8_t *room,
-                            size_t room_length, symdemangle_answer *answer);
+   with one set of lists for all of them. Words are runs of ASCII letters, digits, "_", ".", "$" and bytes from 0x80, without the
+   dots at their end; those of more than 65,536 bytes, and those that are refused, stay as they are. `tally` may be null.
+   SYMDEMANGLE_OK, _MEMORY, _BUFFER, _FLAGS, _NULL. */
+uint32_t symdemangle_filter(const char *text, size_t text_length, uint32_t limit, uint32_t flags, char *buffer, size_t capacity,
+                            symdemangle_tally *tally, symdemangle_result *result);
 
-/* The work that reading a symbol takes, which no limit bounds. It is read without what SYMDEMANGLE_WIDE adds. SYMDEMANGLE_OK,
-   _MALFORMED, _BAD_REFERENCE, _BAD_VALUE, _MEMORY, _SIZE, _NULL (also where `counts` is null); with any answer but
-   SYMDEMANGLE_OK the counts stay as they are. */
-uint32_t symdemangle_count(const uint8_t *symbol, size_t symbol_length, symdemangle_counts *counts, symdemangle_answer *answer);
+/* The work that reading a name's symbol takes, which no limit bounds. SYMDEMANGLE_OK, _MALFORMED, _BAD_REFERENCE, _BAD_VALUE,
+   _MEMORY, _SIZE, _FLAGS, _NULL, _NO_SYMBOL. */
+uint32_t symdemangle_count(const char *name, size_t name_length, uint32_t flags, symdemangle_counts *counts,
+                           symdemangle_result *result);
 
-/* Writes the pressed spelling of a symbol: the one in which each part that repeats is a reference, so that two symbols of the
-   same thing have the same bytes. It is read without what SYMDEMANGLE_WIDE adds. SYMDEMANGLE_OK, _MALFORMED, _BAD_REFERENCE,
-   _BAD_VALUE, _MEMORY, _ROOM, _SIZE, _NULL. */
-uint32_t symdemangle_press(const uint8_t *symbol, size_t symbol_length, uint8_t *room, size_t room_length,
-                           symdemangle_answer *answer);
-
-/* The same calls without the tests for null, as they are proved: no pointer is null, whatever its length. Programs that were
-   linked with them go on to run. */
-uint32_t symdemangle_text_of(const uint8_t *symbol, size_t symbol_length, uint32_t limit, uint32_t detail, uint8_t *room,
-                             size_t room_length, symdemangle_answer *answer);
-uint32_t symdemangle_word_of(const uint8_t *word, size_t word_length, uint32_t limit, uint32_t detail, uint8_t *room,
-                             size_t room_length, symdemangle_answer *answer);
-uint32_t symdemangle_texts_of(const uint8_t *text, size_t text_length, const size_t *ends, size_t ends_length, uint32_t limit,
-                              uint32_t detail, uint8_t *room, size_t room_length, symdemangle_told *answers,
-                              size_t answers_length);
-uint32_t symdemangle_filter_of(const uint8_t *text, size_t text_length, uint32_t limit, uint32_t detail, uint8_t *room,
-                               size_t room_length, symdemangle_answer *answer);
-uint32_t symdemangle_counts_of(const uint8_t *symbol, size_t symbol_length, symdemangle_counts *counts,
-                               symdemangle_answer *answer);
-uint32_t symdemangle_press_of(const uint8_t *symbol, size_t symbol_length, uint8_t *room, size_t room_length,
-                              symdemangle_answer *answer);
+/* Writes the pressed spelling of a name: the one in which each part that repeats is a reference, so that different spellings of the
+   same symbol become equal. An underscore that was dropped is before it again. SYMDEMANGLE_OK, _MALFORMED, _BAD_REFERENCE,
+   _BAD_VALUE, _MEMORY, _BUFFER, _SIZE, _FLAGS, _NULL, _NO_SYMBOL. */
+uint32_t symdemangle_press(const char *name, size_t name_length, uint32_t flags, char *buffer, size_t capacity,
+                           symdemangle_result *result);
 
 #ifdef __cplusplus
 }

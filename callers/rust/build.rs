@@ -1,30 +1,33 @@
-// Links the installed archive, or that of `rt lib` with the kit's allocator beside it.
+// Links the installed archive, libsymdemangle.a.
 //
-// SYMDEMANGLE_DIR names the folder of libsymdemangle.a; where it isn't set, the folders in which packages put it are looked through.
-// RATTLE_KIT names the kit, for an archive as `rt lib` makes it; an installed one has the allocator in it.
+// SYMDEMANGLE_DIR names its folder; where it isn't set, the folders in which packages put it are looked through.
 use std::env;
-use std::path::Path;
+use std::path::{Path, PathBuf};
+use std::process::exit;
 
 const USUAL: [&str; 4] = ["/usr/local/lib", "/usr/lib/x86_64-linux-gnu", "/usr/lib64", "/usr/lib"];
 
+fn has_archive(folder: &Path) -> bool {
+    folder.join("libsymdemangle.a").is_file()
+}
+
 fn main() {
-    for variable in ["SYMDEMANGLE_DIR", "RATTLE_KIT"] {
-        println!("cargo:rerun-if-env-changed={variable}");
+    println!("cargo:rerun-if-env-changed=SYMDEMANGLE_DIR");
+    // docs.rs has no library, and links nothing
+    if env::var_os("CARGO_FEATURE_UNLINKED").is_some() || env::var_os("DOCS_RS").is_some() {
+        return;
     }
-    let has_archive = |folder: &&&str| Path::new(folder).join("libsymdemangle.a").is_file();
-    let usual = USUAL.iter().find(has_archive).unwrap_or(&USUAL[0]);
-    let library = env::var("SYMDEMANGLE_DIR").unwrap_or_else(|_| usual.to_string());
-    let archive = Path::new(&library).join("libsymdemangle.a");
-    assert!(
-        archive.is_file(),
-        "no {}: SYMDEMANGLE_DIR has to name the folder of libsymdemangle.a",
-        archive.display()
-    );
-    println!("cargo:rustc-link-search=native={library}");
+    let folders: Vec<PathBuf> = match env::var_os("SYMDEMANGLE_DIR") {
+        Some(folder) => vec![folder.into()],
+        None => USUAL.iter().map(PathBuf::from).collect(),
+    };
+    let Some(folder) = folders.iter().find(|folder| has_archive(folder)) else {
+        eprintln!("symdemangle: there is no libsymdemangle.a in {folders:?}.");
+        eprintln!("Install the library (https://docs.rs/symdemangle says how), or name its folder: SYMDEMANGLE_DIR=/opt/symdemangle/lib.");
+        eprintln!("To check or to document code without it, build with the feature `unlinked` of this crate.");
+        exit(1);
+    };
+    println!("cargo:rustc-link-search=native={}", folder.display());
     println!("cargo:rustc-link-lib=static=symdemangle");
-    println!("cargo:rerun-if-changed={}", archive.display());
-    if let Ok(kit) = env::var("RATTLE_KIT") {
-        println!("cargo:rustc-link-search=native={kit}/c");
-        println!("cargo:rustc-link-lib=static=libc_c");
-    }
+    println!("cargo:rerun-if-changed={}", folder.join("libsymdemangle.a").display());
 }

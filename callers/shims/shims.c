@@ -1,7 +1,7 @@
 /* Calls of other demanglers over the library, with the conventions that programs already use: a program that was written for one
    of them is linked with this file, or started with it in LD_PRELOAD.
 
-     cc -shared -fPIC -O2 -DCXA -DCPLUS -DRUSTC shims.c -lsymdemangle -o shims.so
+     cc -shared -fPIC -O2 -DCXA -DCPLUS -DRUSTC shims.c -lsymdemangle -ldl -o shims.so
      LD_PRELOAD=./shims.so program
 
    Each is there where its macro is defined:
@@ -21,17 +21,23 @@
      `decltype(nullptr)`, a suffix as ` (.cold)` for ` [clone .cold]`.
    - What the library refuses, with C++ by its wide grammar, is answered as a name that isn't mangled, so it is shown as it stands;
      so is a text that costs more than a million.
-   - __cxa_demangle takes a type's name too (as `i`, `N2ns1AE` of std::type_info), one that the library reads as a typeinfo name.
-   - cplus_demangle's options are ignored: parameters are always shown (c++filt -p, DMGL_PARAMS), types alone are never read
-     (c++filt -t, DMGL_TYPES), nor names of Ada, D, Java, or of Rust's older mangling but as the names of C++ that they are.
-   - rustc_demangle answers 0 for Rust's older mangling, as for any name of C++.
-   - They call malloc, as the real ones do: none may run in a signal handler. */
+   - __cxa_demangle takes a type's name too (as `i`, `N2ns1AE` of std::type_info), one that the library reads as a typeinfo name;
+     so does cplus_demangle with DMGL_TYPES (c++filt -t).
+   - Of cplus_demangle's options DMGL_PARAMS, DMGL_TYPES and the styles are kept (c++filt -p, -t, -s); names of Ada, D and Java are
+     none here.
+   - They call malloc, as the real ones do: none may run in a signal handler.
+
+   With SYMDEMANGLE_NEXT=1 in the environment a name that CXA's or CPLUS's calls refuse, but for one whose text costs too much, is
+   handed on to the call of the same name that the program would have had without this file. What that then does is no longer
+   bounded. */
+#define _GNU_SOURCE
 #include "symdemangle.h"
 
+#include <dlfcn.h>
 #include <stdlib.h>
 #include <string.h>
 
-enum { LIMIT = 1000000, CPP = SYMDEMANGLE_WIDE + SYMDEMANGLE_FULL };
+enum { LIMIT = SYMDEMANGLE_DEFAULT_LIMIT };
 
 #if defined CXA || defined CPLUS
 char *__cxa_demangle(const char *mangled, char *buffer, size_t *size, int *status);
@@ -40,7 +46,7 @@ char *cplus_demangle_v3(const char *mangled, int options);
 
 /* Puts a text and a 0 into `buffer`, a block of malloc's of *size bytes, which grows where it has to, or into a new one if that is
    null; null where memory runs out, and the buffer is as it was. */
-static char *put(const uint8_t *text, size_t length, char *buffer, size_t *size)
+static char *put(const char *text, size_t length, char *buffer, size_t *size)
 {
     if (!buffer || *size <= length) {
         buffer = realloc(buffer, length + 1);
@@ -54,31 +60,28 @@ static char *put(const uint8_t *text, size_t length, char *buffer, size_t *size)
     return buffer;
 }
 
-/* The text of a symbol, put so; null with a status where there is none, and the buffer is as it was. */
-static char *text_of(const char *mangled, char *buffer, size_t *size, uint32_t *status)
+/* The text of a name, put so; null with a status where there is none, and the buffer is as it was. */
+static char *text_of(const char *mangled, uint32_t flags, char *buffer, size_t *size, uint32_t *status)
 {
-    symdemangle_answer answer;
-    uint8_t few[2048], *text = few;
-    const uint8_t *word = (const uint8_t *)mangled;
+    symdemangle_result result;
+    char few[2048], *text = few;
     size_t length = strlen(mangled);
-    *status = symdemangle_word(word, length, LIMIT, CPP, few, sizeof few, &answer);
-    if (*status == SYMDEMANGLE_ROOM) {
-        size_t room = answer.length;
-        text = malloc(room);
-        *status = text ? symdemangle_word(word, length, LIMIT, CPP, text, room, &answer) : SYMDEMANGLE_MEMORY;
+    *status = symdemangle_text(mangled, length, LIMIT, flags, few, sizeof few, &result);
+    if (*status == SYMDEMANGLE_BUFFER) {
+        size_t capacity = result.length;
+        text = malloc(capacity);
+        *status = text ? symdemangle_text(mangled, length, LIMIT, flags, text, capacity, &result) : SYMDEMANGLE_MEMORY;
     }
-    buffer = *status == SYMDEMANGLE_OK ? put(text, answer.length, buffer, size) : 0;
+    buffer = *status == SYMDEMANGLE_OK ? put(text, result.length, buffer, size) : 0;
     if (*status == SYMDEMANGLE_OK && !buffer)
         *status = SYMDEMANGLE_MEMORY;
     if (text != few)
         free(text);
     return buffer;
 }
-#endif
 
-#ifdef CXA
 /* The name of a type is read as that of its typeinfo name, whose text has these words before it. */
-static char *type_of(const char *name, char *buffer, size_t *size, uint32_t *status)
+static char *type_of(const char *name, uint32_t flags, char *buffer, size_t *size, uint32_t *status)
 {
     static const char words[] = "typeinfo name for ";
     size_t length = strlen(name), front = sizeof words - 1;
@@ -89,57 +92,111 @@ static char *type_of(const char *name, char *buffer, size_t *size, uint32_t *sta
     }
     memcpy(symbol, "_ZTS", 4);
     memcpy(symbol + 4, name, length + 1);
-    text = text_of(symbol, buffer, size, status);
+    text = text_of(symbol, flags, buffer, size, status);
     free(symbol);
     if (text)
         memmove(text, text + front, strlen(text) - front + 1);
     return text;
 }
 
+/* The call of this name that comes after this one, if what was refused is to be handed on; else null. */
+static void *next_of(const char *call, uint32_t status)
+{
+    const char *wanted = status == SYMDEMANGLE_TOO_LONG || status == SYMDEMANGLE_MEMORY ? 0 : getenv("SYMDEMANGLE_NEXT");
+    return wanted && strcmp(wanted, "1") == 0 ? dlsym(RTLD_NEXT, call) : 0;
+}
+#endif
+
+#ifdef CXA
 /* *status is 0 with a text; -1: no memory; -2: no mangled name; -3: a bad argument. */
 char *__cxa_demangle(const char *mangled, char *buffer, size_t *size, int *status)
 {
-    uint32_t answered = SYMDEMANGLE_NULL;
+    uint32_t answered = SYMDEMANGLE_NO_SYMBOL;
     char *text = 0;
-    int is_good = mangled && (size || !buffer);
-    if (is_good && mangled[0] == '_' && mangled[1] == 'Z')
-        text = text_of(mangled, buffer, size, &answered);
-    else if (is_good && mangled[0] != '_')
-        text = type_of(mangled, buffer, size, &answered);
+    if (!mangled || (buffer && !size)) {
+        if (status)
+            *status = -3;
+        return 0;
+    }
+    if (mangled[0] == '_' && mangled[1] == 'Z')
+        text = text_of(mangled, SYMDEMANGLE_WIDE, buffer, size, &answered);
+    else if (mangled[0] != '_')
+        text = type_of(mangled, SYMDEMANGLE_WIDE, buffer, size, &answered);
+    if (!text) {
+        char *(*next)(const char *, char *, size_t *, int *);
+        void *found = next_of("__cxa_demangle", answered);
+        memcpy(&next, &found, sizeof next);
+        if (found)
+            return next(mangled, buffer, size, status);
+    }
     if (status)
-        *status = text ? 0 : !is_good ? -3 : answered == SYMDEMANGLE_MEMORY ? -1 : -2;
+        *status = text ? 0 : answered == SYMDEMANGLE_MEMORY ? -1 : -2;
     return text;
 }
 #endif
 
 #ifdef CPLUS
-/* Null where the name isn't mangled. */
+/* The options of libiberty's demangle.h that say something here. */
+enum {
+    PARAMS = 1 << 0,
+    TYPES = 1 << 4,
+    AUTO = 1 << 8,
+    GNU_V3 = 1 << 14,
+    RUST = 1 << 17,
+    OTHER_STYLES = 1 << 2 | 1 << 15 | 1 << 16 /* Java, Ada, D */
+};
+
+static char *handed_on(const char *call, const char *mangled, int options, uint32_t status)
+{
+    char *(*next)(const char *, int);
+    void *found = next_of(call, status);
+    memcpy(&next, &found, sizeof next);
+    return found ? next(mangled, options) : 0;
+}
+
+/* Null where the name isn't mangled, or not in a style that is asked for; without a style each is. */
+static char *text_with(const char *call, const char *mangled, int options)
+{
+    int styles = options & (AUTO | GNU_V3 | RUST | OTHER_STYLES);
+    int any = !styles || styles & AUTO;
+    uint32_t flags = SYMDEMANGLE_WIDE | (options & PARAMS ? 0 : SYMDEMANGLE_NO_PARAMETERS), status = SYMDEMANGLE_NO_SYMBOL;
+    char *text = 0;
+    if (strncmp(mangled, "_R", 2) == 0) {
+        if (any || styles & RUST)
+            text = text_of(mangled, flags, 0, 0, &status);
+    } else if (strncmp(mangled, "_Z", 2) == 0) {
+        if (any || styles & GNU_V3)
+            text = text_of(mangled, flags, 0, 0, &status);
+    } else if (options & TYPES && (any || styles & GNU_V3)) {
+        text = type_of(mangled, flags, 0, 0, &status);
+    }
+    return text ? text : handed_on(call, mangled, options, status);
+}
+
 char *cplus_demangle(const char *mangled, int options)
 {
-    uint32_t answered;
-    (void)options;
-    return text_of(mangled, 0, 0, &answered);
+    return text_with("cplus_demangle", mangled, options);
 }
 
 char *cplus_demangle_v3(const char *mangled, int options)
 {
-    return cplus_demangle(mangled, options);
+    return text_with("cplus_demangle_v3", mangled, (options & ~(AUTO | RUST | OTHER_STYLES)) | GNU_V3);
 }
 #endif
 
 #ifdef RUSTC
 int rustc_demangle(const char *mangled, char *out, size_t out_size);
 
-/* 1 with the text and a 0 behind it in `out`; 0 where the name is none of Rust's or has no room. */
+/* 1 with the text and a 0 after it in `out`; 0 where the name is none of Rust's or has no room. */
 int rustc_demangle(const char *mangled, char *out, size_t out_size)
 {
-    symdemangle_answer answer;
-    const char *start = strncmp(mangled, "__R", 3) == 0 ? mangled + 1 : mangled;
-    if (!out_size || strncmp(start, "_R", 2) != 0)
+    symdemangle_result result;
+    int is_rust = strncmp(mangled, "_R", 2) == 0 || strncmp(mangled, "__R", 3) == 0;
+    if (!out_size || !is_rust)
         return 0;
-    if (symdemangle_text((const uint8_t *)start, strlen(start), LIMIT, SYMDEMANGLE_FULL, (uint8_t *)out, out_size - 1, &answer))
+    if (symdemangle_text(mangled, strlen(mangled), LIMIT, SYMDEMANGLE_UNDERSCORE, out, out_size - 1, &result))
         return 0;
-    out[answer.length] = 0;
+    out[result.length] = 0;
     return 1;
 }
 #endif

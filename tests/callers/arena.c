@@ -18,14 +18,14 @@
 enum { SYMBOLS = 300000, EDGE = 64, STACK = 64 << 10, SAID = 32 << 10, SMALL = 100000 };
 
 static int armed, size_given;
-static uint8_t room[1 << 20];
+static char buffer[1 << 20];
 #ifndef USUAL
 static uint8_t block[(4 << 20) + 2 * EDGE], stack[STACK];
 #endif
-static const uint8_t *symbols[SYMBOLS];
+static const char *symbols[SYMBOLS];
 static size_t lengths[SYMBOLS], most[SYMBOLS], count, deepest, size;
 static unsigned statuses[12];
-static uint8_t *out;
+static char *out;
 static size_t written;
 
 extern void *__libc_malloc(size_t);
@@ -71,56 +71,55 @@ static void fail(const char *why)
 
 static void each_text(void)
 {
-    symdemangle_answer answer;
+    symdemangle_result result;
     for (size_t i = 0; i < count; i++) {
         lend(size);
-        uint32_t status = symdemangle_text(symbols[i], lengths[i], 1000000, SYMDEMANGLE_FULL, room, sizeof room, &answer);
+        uint32_t status = symdemangle_text(symbols[i], lengths[i], 1000000, 0, buffer, sizeof buffer, &result);
         statuses[status]++;
         most[i] = taken();
-        memcpy(out + written, room, answer.length);
-        written += answer.length;
+        memcpy(out + written, buffer, result.length);
+        written += result.length;
         out[written++] = '\n';
     }
 }
 
 #ifndef USUAL
-static uint32_t one_call(int call, symdemangle_answer *answer)
+static uint32_t one_call(int call, symdemangle_result *result)
 {
     static const char symbol[] = "_ZN3foo3barEN3foo3bazEPNS_1AIiEE", log[] = "at _Z1fv. (_RNvC3foo3bar)";
     static const size_t ends[] = {5, 18};
     static const char both[] = "_Z1fv_RNvC3foo3bar";
     static symdemangle_counts counts;
-    static symdemangle_told told[2];
-    const uint8_t *s = (const uint8_t *)symbol;
+    static symdemangle_result told[2];
     size_t length = sizeof symbol - 1;
     switch (call) {
-    case 0: return symdemangle_text(s, length, 99, 0, room, sizeof room, answer);
-    case 1: return symdemangle_word(s, length, 99, 0, room, sizeof room, answer);
-    case 2: return symdemangle_filter((const uint8_t *)log, sizeof log - 1, 99, 0, room, sizeof room, answer);
-    case 3: return symdemangle_press(s, length, room, sizeof room, answer);
-    case 4: return symdemangle_count(s, length, &counts, answer);
+    case 0: return symdemangle_text(symbol, length, 99, 0, buffer, sizeof buffer, result);
+    case 1: return symdemangle_text(symbol, length, 99, SYMDEMANGLE_WIDE, buffer, sizeof buffer, result);
+    case 2: return symdemangle_filter(log, sizeof log - 1, 99, 0, buffer, sizeof buffer, NULL, result);
+    case 3: return symdemangle_press(symbol, length, 0, buffer, sizeof buffer, result);
+    case 4: return symdemangle_count(symbol, length, 0, &counts, result);
     default:
-        answer->length = 0;
-        if (symdemangle_texts((const uint8_t *)both, sizeof both - 1, ends, 2, 99, 0, room, sizeof room, told, 2))
+        result->length = 0;
+        if (symdemangle_texts(both, sizeof both - 1, ends, 2, 99, 0, buffer, sizeof buffer, told))
             return 99;
         return told[0].status ? told[0].status : told[1].status;
     }
 }
 
-/* The calls of the header in a block of each size: all that happens for want of room is status 5. */
+/* The calls of the header in a block of each size: all that happens for want of memory is status 5. */
 static void small_blocks(void)
 {
     for (int call = 0; call < 6; call++) {
         unsigned refused = 0, answered = 0;
         for (size_t bytes = 0; bytes < SMALL; bytes += bytes < 4096 ? 8 : 512) {
-            symdemangle_answer answer = {7, 7};
+            symdemangle_result result = {7, 7, 7};
             memset(block, 0xA5, SMALL + 2 * EDGE);
-            memset(room, '#', 200);
+            memset(buffer, '#', 200);
             lend(bytes);
-            uint32_t status = one_call(call, &answer);
+            uint32_t status = one_call(call, &result);
             if (status == SYMDEMANGLE_MEMORY) {
                 refused++;
-                if ((call < 5 && room[0] != '#') || answer.length)
+                if ((call < 5 && buffer[0] != '#') || result.length)
                     fail("a call without memory wrote");
                 if (answered)
                     fail("a larger block was refused");
@@ -137,8 +136,8 @@ static void small_blocks(void)
         if (!refused || !answered)
             fail("a call was never refused, or always");
         lend(0);
-        symdemangle_answer answer;
-        if (one_call(call, &answer) != SYMDEMANGLE_MEMORY)
+        symdemangle_result result;
+        if (one_call(call, &result) != SYMDEMANGLE_MEMORY)
             fail("a call without a block");
     }
 }
@@ -189,7 +188,7 @@ static void on_fault(int signal)
 
 int main(int words, char **word)
 {
-    static uint8_t all[64 << 20];
+    static char all[64 << 20];
     FILE *file = words > 1 ? fopen(word[1], "rb") : NULL;
     if (!file)
         fail("usage: arena FILE [SIZE]");

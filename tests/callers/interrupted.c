@@ -10,25 +10,25 @@
 
 enum { SYMBOLS = 30000 };
 
-static uint8_t all[16 << 20], room[1 << 16], other_room[1 << 16];
+static char all[16 << 20], buffer[1 << 16], other_buffer[1 << 16];
 static unsigned char block[1 << 17], other_block[1 << 17];
 static size_t starts[SYMBOLS + 1], count, next;
 static volatile unsigned long ticks;
 static volatile int wrong;
 
-static uint32_t text_of(size_t i, uint8_t *into, size_t length, symdemangle_answer *answer)
+static uint32_t text_of(size_t i, char *into, size_t capacity, symdemangle_result *result)
 {
-    return symdemangle_text(all + starts[i], starts[i + 1] - starts[i] - 1, 10000, SYMDEMANGLE_FULL, into, length, answer);
+    return symdemangle_text(all + starts[i], starts[i + 1] - starts[i] - 1, 10000, 0, into, capacity, result);
 }
 
 static void on_tick(int signal)
 {
-    symdemangle_answer answer;
+    symdemangle_result result;
     symdemangle_arena mine = {0, 0, 0, 0, 0};
     (void)signal;
     symdemangle_arena_swap(&mine);
     symdemangle_arena_set(other_block, sizeof other_block);
-    if (text_of(next++ % count, other_room, sizeof other_room, &answer) == SYMDEMANGLE_MEMORY)
+    if (text_of(next++ % count, other_buffer, sizeof other_buffer, &result) == SYMDEMANGLE_MEMORY)
         wrong = 1;
     ticks++;
     symdemangle_arena_swap(&mine);
@@ -50,13 +50,13 @@ int main(int words, char **word)
         setitimer(ITIMER_REAL, &each, NULL);
     }
     unsigned long sum = 0;
-    symdemangle_answer answer;
+    symdemangle_result result;
     symdemangle_arena_set(block, sizeof block);
     for (size_t done = 0; done < 20000; done++) {
-        uint32_t status = text_of(done % count, room, sizeof room, &answer);
+        uint32_t status = text_of(done % count, buffer, sizeof buffer, &result);
         sum = sum * 31 + status;
-        for (size_t j = 0; j < answer.length && !status; j++)
-            sum = sum * 31 + room[j];
+        for (size_t j = 0; j < result.length && !status; j++)
+            sum = sum * 31 + (unsigned char)buffer[j];
     }
     printf("%lx\n", sum);
     fprintf(stderr, "%lu calls from the handler\n", ticks);

@@ -8,29 +8,29 @@
 #include <stdlib.h>
 #include <string.h>
 
-enum { STACK = 256 << 10, ROOM = 1 << 20, FILL = 0xA5, SAID = 16 << 10 };
+enum { STACK = 256 << 10, CAPACITY = 1 << 20, FILL = 0xA5, SAID = 16 << 10 };
 
 static unsigned char stack[STACK] __attribute__((aligned(4096)));
-static uint8_t room[ROOM];
+static char buffer[CAPACITY];
 static struct {
-    const uint8_t *symbol;
+    const char *symbol;
     size_t length;
-    uint32_t detail;
+    uint32_t flags;
     int call;
 } job;
 
 static void *run(void *unused)
 {
-    symdemangle_answer answer;
+    symdemangle_result result;
     symdemangle_counts counts;
-    symdemangle_told told;
+    symdemangle_tally tally;
     switch (job.call) {
-    case 1: symdemangle_text(job.symbol, job.length, 1000000, job.detail, room, ROOM, &answer); break;
-    case 2: symdemangle_word(job.symbol, job.length, 1000000, job.detail | SYMDEMANGLE_BRIEF, room, ROOM, &answer); break;
-    case 3: symdemangle_texts(job.symbol, job.length, &job.length, 1, 1000000, job.detail, room, ROOM, &told, 1); break;
-    case 4: symdemangle_filter(job.symbol, job.length, 1000000, job.detail, room, ROOM, &answer); break;
-    case 5: symdemangle_count(job.symbol, job.length, &counts, &answer); break;
-    case 6: symdemangle_press(job.symbol, job.length, room, ROOM, &answer); break;
+    case 1: symdemangle_text(job.symbol, job.length, 1000000, job.flags, buffer, CAPACITY, &result); break;
+    case 2: symdemangle_text(job.symbol, job.length, 1000000, job.flags | SYMDEMANGLE_BRIEF, buffer, CAPACITY, &result); break;
+    case 3: symdemangle_texts(job.symbol, job.length, &job.length, 1, 1000000, job.flags, buffer, CAPACITY, &result); break;
+    case 4: symdemangle_filter(job.symbol, job.length, 1000000, job.flags, buffer, CAPACITY, &tally, &result); break;
+    case 5: symdemangle_count(job.symbol, job.length, job.flags, &counts, &result); break;
+    case 6: symdemangle_press(job.symbol, job.length, 0, buffer, CAPACITY, &result); break;
     }
     return unused;
 }
@@ -55,9 +55,9 @@ static size_t most[7], none;
 static void measure(const char *symbol, size_t length)
 {
     int call;
-    job.symbol = (const uint8_t *)symbol;
+    job.symbol = symbol;
     job.length = length;
-    for (job.detail = SYMDEMANGLE_FULL; job.detail <= SYMDEMANGLE_WIDE; job.detail += SYMDEMANGLE_WIDE)
+    for (job.flags = 0; job.flags <= SYMDEMANGLE_WIDE; job.flags += SYMDEMANGLE_WIDE)
         for (call = 1; call < 7; call++) {
             size_t bytes = used(call);
             if (bytes > most[call])
@@ -82,7 +82,7 @@ static void measure_repeated(const char *front, const char *part, size_t times, 
 
 int main(int words, char **files)
 {
-    static const char *const names[7] = {"", "text", "word", "texts", "filter", "count", "press"};
+    static const char *const names[7] = {"", "text", "brief text", "texts", "filter", "count", "press"};
     char line[1 << 16];
     int call, failed = 0;
     none = used(0);

@@ -12,29 +12,29 @@
 
 enum { SYMBOLS = 30000, THREADS = 8 };
 
-static uint8_t all[16 << 20];
+static char all[16 << 20];
 static size_t starts[SYMBOLS + 1], count;
 static unsigned long sums[THREADS];
 
 static void *calls(void *number)
 {
-    size_t length = 1 << 16;
-    uint8_t *room = malloc(length);
-    symdemangle_answer answer;
+    size_t capacity = 1 << 16;
+    char *buffer = malloc(capacity);
+    symdemangle_result result;
     unsigned long sum = 0;
 #ifdef ARENA
     void *block = malloc(1 << 20);
     symdemangle_arena_set(block, 1 << 20);
 #endif
-    for (size_t i = 0; i < count && room; i++) {
-        uint32_t status = symdemangle_text(all + starts[i], starts[i + 1] - starts[i] - 1, 10000, SYMDEMANGLE_FULL, room,
-                                           length, &answer);
+    for (size_t i = 0; i < count && buffer; i++) {
+        uint32_t status = symdemangle_text(all + starts[i], starts[i + 1] - starts[i] - 1, 10000, 0, buffer,
+                                           capacity, &result);
         sum = sum * 31 + status;
-        for (size_t j = 0; j < answer.length && !status; j++)
-            sum = sum * 31 + room[j];
+        for (size_t j = 0; j < result.length && !status; j++)
+            sum = sum * 31 + (unsigned char)buffer[j];
     }
     *(unsigned long *)number = sum;
-    free(room);
+    free(buffer);
 #ifdef ARENA
     free(block);
 #endif

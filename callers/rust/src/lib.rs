@@ -1,61 +1,86 @@
-//! Mangled C++ (Itanium ABI 5.1) and Rust (RFC 2603, v0) symbols: their texts within a limit on what a text costs, the work
-//! that reading one takes, and their pressed spelling, by a proved library.
+//! Mangled C++ (Itanium ABI 5.1) and Rust (RFC 2603, v0) names: their texts within a limit on what a text costs, the work that
+//! reading one takes, and their pressed spelling, by a proved library.
 //!
-//! A symbol that begins with `_R` is read as Rust, any other as C++. Names in a symbol are bytes, so texts are bytes too;
-//! [`demangle`] gives a `String` in which what isn't UTF-8 is replaced.
+//! A name that begins with `_R` is read as Rust, one that begins with `_Z` as C++; before either an underscore may be, as on macOS.
+//! Names in a symbol are bytes, so texts are bytes too; what shows itself has U+FFFD for what isn't UTF-8.
 //!
 //! ```
-//! assert_eq!(symdemangle::demangle("_RNvC3foo3bar").unwrap(), "foo::bar");
-//! assert_eq!(symdemangle::demangle("_ZN3foo3barEPKc").unwrap(), "foo::bar(char const*)");
-//! assert_eq!(symdemangle::Symbol::new("_RNvC3foo3bar").to_string(), "foo::bar");
-//! assert_eq!(symdemangle::Symbol::new("main").to_string(), "main");
+//! assert_eq!(symdemangle::demangle("_RNvC3foo3bar").to_string(), "foo::bar");
+//! assert_eq!(symdemangle::demangle("_ZN3foo3barEPKc").to_string(), "foo::bar(char const*)");
+//! assert_eq!(symdemangle::demangle("main").to_string(), "main");
+//! assert_eq!(symdemangle::try_demangle("main").unwrap_err().to_string(), "not a symbol");
+//!
+//! let brief = symdemangle::Options::default().brief(true).no_parameters(true);
+//! assert_eq!(brief.demangle("_Z1fIJicEEvDpT_").to_string(), "f");
 //! ```
+//!
+//! # The library
+//!
+//! The crate links `libsymdemangle.a`, which symfilt's packages and its `tools/install.sh --libraries PREFIX` install;
+//! `SYMDEMANGLE_DIR` names its folder where that isn't a usual one. The feature `unlinked` looks for none, to check or to document
+//! code without it. The crate needs `alloc` and not `std`.
 //!
 //! # Coming from `rustc-demangle`
 //!
 //! | `rustc_demangle` | here |
 //! |---|---|
-//! | `demangle(s)`, shown by `{}` or `{:#}` | [`Symbol::new`]`(s)`, shown by `{}` or `{:#}` |
+//! | `demangle(s)`, shown by `{}` or `{:#}` | [`demangle`]`(s)`, the same |
 //! | `try_demangle(s)` | [`try_demangle`]`(s)` |
-//! | `Demangle::as_str` | [`Symbol::as_str`] |
+//! | `Demangle::as_str` | [`Demangle::as_str`] |
 //! | `demangle_line(..)` | [`filter_into`] |
 //!
 //! `{:#}` leaves out hashes there, and so it does here: of v0 symbols (`_R..`) no text shows the hash of a crate, so both forms
 //! are the same; of Rust's older mangling (`_ZN..17h..E`) `{}` shows the last name, `::h` and 16 digits, and `{:#}` doesn't.
 //! What differs: C++ symbols are shown too; the older mangling's `$LT$` and `..` stay as they are, since it is read as the C++ name
-//! that it is; symbols without their underscore (`ZN..`, `R..`) aren't taken; a constant is shown without its type in both forms.
+//! that it is; symbols without their underscore (`ZN..`, `R..`) aren't taken; a constant is shown without its type in both forms;
+//! a suffix as `.llvm.42` is shown, in brackets.
 //!
 //! ```
-//! let older = symdemangle::Symbol::new("_ZN4core5panic17h0123456789abcdefE");
+//! let older = symdemangle::demangle("_ZN4core5panic17h0123456789abcdefE");
 //! assert_eq!(format!("{older}"), "core::panic::h0123456789abcdef");
 //! assert_eq!(format!("{older:#}"), "core::panic");
-//! assert!(symdemangle::try_demangle("main").is_err());
 //! ```
+#![no_std]
+#![warn(missing_docs)]
+
+extern crate alloc;
 
 mod library;
 
-use library::{Answer, Status, Told};
-use std::fmt;
+use alloc::borrow::Cow;
+use alloc::string::String;
+use alloc::vec::Vec;
+use core::fmt;
+use library::{Outcome, Status};
 
-/// The greatest cost of a text where none is named: its bytes, and 1 for each item that it is put together from.
+/// What a text may cost where nothing else is said: its bytes, and 1 for each item that it is put together from.
 pub const DEFAULT_LIMIT: u32 = 1_000_000;
 
-/// Why a symbol has no answer. `at` is the number of bytes before the first bad one.
+/// Why a name has no answer. `at` is the number of bytes before the first bad one.
 #[derive(Clone, Copy, Debug, PartialEq, Eq, Hash)]
 pub enum Error {
     /// No symbol has this byte there.
-    Malformed { at: u32 },
+    Malformed {
+        /// Its offset.
+        at: u32,
+    },
     /// A back reference, substitution or parameter that names nothing.
-    BadReference { at: u32 },
+    BadReference {
+        /// Its offset.
+        at: u32,
+    },
     /// A number out of range.
-    BadValue { at: u32 },
+    BadValue {
+        /// Its offset.
+        at: u32,
+    },
     /// The text costs more than the limit.
     TooLong,
     /// An allocation was refused.
     Memory,
     /// More than 16,777,216 bytes.
     TooManyBytes,
-    /// It begins as no symbol does, of [`try_demangle`].
+    /// It begins as no symbol does.
     NoSymbol,
 }
 
@@ -73,52 +98,165 @@ impl fmt::Display for Error {
     }
 }
 
-impl std::error::Error for Error {}
+impl core::error::Error for Error {}
 
-/// How much of a symbol its text shows.
-#[derive(Clone, Copy, Debug, Default, PartialEq, Eq, Hash)]
-pub enum Detail {
-    /// All of it.
-    #[default]
-    Full,
-    /// Generic arguments are left out.
-    Brief,
-    /// Each C++ function is its name alone, without its return type and parameters.
-    NoParameters,
-    /// Both.
-    BriefNoParameters,
+/// How names are read and shown. The default is what people want to read: all of a symbol, by the wide grammar, within
+/// [`DEFAULT_LIMIT`].
+#[derive(Clone, Copy, Debug, PartialEq, Eq, Hash)]
+#[must_use]
+pub struct Options {
+    brief: bool,
+    no_parameters: bool,
+    wide: bool,
+    ascii_words: bool,
+    limit: u32,
 }
 
-impl Detail {
-    /// The same, with C++ symbols read by the wide grammar.
-    pub fn wide(self) -> Options {
+impl Default for Options {
+    fn default() -> Options {
         Options {
-            detail: self,
+            brief: false,
+            no_parameters: false,
             wide: true,
+            ascii_words: false,
+            limit: DEFAULT_LIMIT,
         }
     }
 }
 
-/// How symbols are read and shown. A [`Detail`] by itself stands for the one with `wide: false`.
-#[derive(Clone, Copy, Debug, Default, PartialEq, Eq, Hash)]
-pub struct Options {
-    pub detail: Detail,
-    /// Whether C++ symbols are read by the wide grammar, which has more of what compilers write, and to which a later version
-    /// may add. What has a text without it has the same text with it, at the same cost.
-    pub wide: bool,
+impl Options {
+    /// Leaves out template and generic arguments.
+    pub const fn brief(self, brief: bool) -> Options {
+        Options { brief, ..self }
+    }
+
+    /// Shows each C++ function as its name alone, without its return type and parameters.
+    pub const fn no_parameters(self, no_parameters: bool) -> Options {
+        Options { no_parameters, ..self }
+    }
+
+    /// Reads newer and rarer C++ forms, too. What has a text without it has the same text with it, at the same cost; a later
+    /// version may read more.
+    pub const fn wide(self, wide: bool) -> Options {
+        Options { wide, ..self }
+    }
+
+    /// Ends words at bytes from 0x80, as at typographic quotes, where a text is filtered.
+    pub const fn ascii_words(self, ascii_words: bool) -> Options {
+        Options { ascii_words, ..self }
+    }
+
+    /// What a text may cost at most: its bytes, and 1 for each item that it is put together from.
+    pub const fn limit(self, limit: u32) -> Options {
+        Options { limit, ..self }
+    }
+
+    /// A name that shows itself so; one that has no text shows as it is.
+    pub fn demangle(self, name: &str) -> Demangle<'_> {
+        let text = self.text(name.as_bytes()).ok();
+        Demangle { name, text }
+    }
+
+    /// A name that has a text.
+    ///
+    /// # Errors
+    ///
+    /// Every [`Error`].
+    pub fn try_demangle(self, name: &str) -> Result<Demangle<'_>, Error> {
+        let text = Some(self.text(name.as_bytes())?);
+        Ok(Demangle { name, text })
+    }
+
+    /// The text of a name in a list of its own.
+    fn text(self, name: &[u8]) -> Result<Vec<u8>, Error> {
+        let mut text = Vec::new();
+        demangle_into(name, self, &mut text)?;
+        Ok(text)
+    }
 }
 
-impl From<Detail> for Options {
-    fn from(detail: Detail) -> Options {
-        Options {
-            detail,
-            wide: false,
+/// A name with its text, if it has one, by [`Options::default`]: it shows itself, and one without a text shows as it is.
+#[must_use]
+pub fn demangle(name: &str) -> Demangle<'_> {
+    Options::default().demangle(name)
+}
+
+/// A name that has a text, by [`Options::default`].
+///
+/// # Errors
+///
+/// Every [`Error`]; [`Error::NoSymbol`] for a name that isn't mangled.
+pub fn try_demangle(name: &str) -> Result<Demangle<'_>, Error> {
+    Options::default().try_demangle(name)
+}
+
+/// A name that shows itself by its text, or as it is where it has none.
+///
+/// `{:#}` is `{}` without the hash at the end of Rust's older mangling. Texts of v0 symbols have none.
+#[derive(Clone, Debug, PartialEq, Eq, Hash)]
+pub struct Demangle<'a> {
+    name: &'a str,
+    text: Option<Vec<u8>>,
+}
+
+impl<'a> Demangle<'a> {
+    /// The name as it was given.
+    #[must_use]
+    pub fn as_str(&self) -> &'a str {
+        self.name
+    }
+
+    /// The bytes of its text, if it has one.
+    #[must_use]
+    pub fn text(&self) -> Option<&[u8]> {
+        self.text.as_deref()
+    }
+}
+
+/// The hash at the end of a name of Rust's older mangling, 16 digits, and its suffix, which may be empty.
+fn hash_of(name: &str) -> Option<(&str, &str)> {
+    const HASH: &str = "17h";
+    let (name, suffix) = name.split_at(name.find("E.").map_or(name.len(), |at| at + 1));
+    let front = name.strip_suffix('E')?;
+    let at = front.len().checked_sub(HASH.len() + 16)?;
+    let hash = front.get(at..)?.strip_prefix(HASH)?;
+    let is_digit = |b| matches!(b, b'0'..=b'9' | b'a'..=b'f');
+    let is_path = name.starts_with("_ZN") || name.starts_with("__ZN");
+    (is_path && hash.bytes().all(is_digit)).then_some((hash, suffix))
+}
+
+/// A text as a path and the suffix after it, which the name ends with.
+fn without_suffix<'t>(text: &'t str, suffix: &str) -> (&'t str, &'t str) {
+    let shown = text.len().checked_sub(suffix.len() + 3).filter(|_| !suffix.is_empty());
+    match shown.and_then(|at| text.split_at_checked(at)) {
+        Some((path, end)) if end.get(2..end.len() - 1) == Some(suffix) => (path, end),
+        _ => (text, ""),
+    }
+}
+
+impl fmt::Display for Demangle<'_> {
+    fn fmt(&self, f: &mut fmt::Formatter<'_>) -> fmt::Result {
+        let Some(text) = &self.text else {
+            return f.write_str(self.name);
+        };
+        let text: Cow<'_, str> = String::from_utf8_lossy(text);
+        let Some((hash, suffix)) = hash_of(self.name) else {
+            return f.write_str(&text);
+        };
+        let (path, suffix) = without_suffix(&text, suffix);
+        let shown = path.strip_suffix(hash).and_then(|path| path.strip_suffix("::h"));
+        let path = shown.unwrap_or(path);
+        if f.alternate() {
+            write!(f, "{path}{suffix}")
+        } else {
+            write!(f, "{path}::h{hash}{suffix}")
         }
     }
 }
 
 /// The work that a symbol of n bytes made.
-#[derive(Clone, Copy, Debug, PartialEq, Eq, Hash)]
+#[repr(C)]
+#[derive(Clone, Copy, Debug, Default, PartialEq, Eq, Hash)]
 pub struct Counts {
     /// At most 4n + 4.
     pub rows: u32,
@@ -128,263 +266,142 @@ pub struct Counts {
     pub steps: u32,
 }
 
-/// Calls the library with a room that is large enough, and leaves in it what was written.
+/// How many words of a text begin as symbols do.
+#[repr(C)]
+#[derive(Clone, Copy, Debug, Default, PartialEq, Eq, Hash)]
+pub struct Tally {
+    /// All of them.
+    pub words: u64,
+    /// Those that were replaced by a text.
+    pub replaced: u64,
+    /// Those that stayed.
+    pub refused: u64,
+}
+
+/// Calls the library with a buffer that is large enough, and leaves in it what was written.
 fn write_into(
-    room: &mut Vec<u8>,
-    call: impl Fn(&mut [u8], &mut Answer) -> Status,
+    buffer: &mut Vec<u8>,
+    mut call: impl FnMut(&mut [u8]) -> Outcome,
 ) -> Result<(), Error> {
-    room.clear();
-    room.reserve(256);
+    buffer.clear();
+    buffer.reserve(256);
     loop {
-        room.resize(room.capacity(), 0);
-        let mut answer = Answer::default();
-        let status = call(room, &mut answer);
-        room.truncate(if status.is_ok() { answer.length } else { 0 });
-        if !status.needs_room() {
-            return status.outcome(&answer);
+        buffer.resize(buffer.capacity(), 0);
+        let outcome = call(buffer);
+        buffer.truncate(if outcome.status == Status::OK { outcome.length } else { 0 });
+        if outcome.status != Status::BUFFER {
+            return outcome.answer();
         }
-        room.reserve(answer.length);
+        buffer.reserve(outcome.length);
     }
 }
 
-/// Puts the text of a symbol into `room` in place of what it held, if it costs at most the limit. The room keeps its memory
-/// from one symbol to the next; where the symbol is refused it is empty.
+/// Puts the text of a name into `buffer` in place of what it held, if it costs at most the limit. The buffer keeps its memory
+/// from one name to the next; where the name is refused it is empty.
 ///
 /// # Errors
 ///
 /// Every [`Error`].
-pub fn demangle_into(
-    symbol: &[u8],
-    limit: u32,
-    options: impl Into<Options>,
-    room: &mut Vec<u8>,
-) -> Result<(), Error> {
-    let options = options.into();
-    write_into(room, |room, answer| {
-        library::text(symbol, limit, options, room, answer)
-    })
+pub fn demangle_into(name: &[u8], options: Options, buffer: &mut Vec<u8>) -> Result<(), Error> {
+    write_into(buffer, |buffer| library::text(name, options, buffer))
 }
 
-/// The text of a symbol, in full and within [`DEFAULT_LIMIT`].
-///
-/// # Errors
-///
-/// Every [`Error`].
-pub fn demangle(symbol: &str) -> Result<String, Error> {
-    let mut room = Vec::new();
-    demangle_into(symbol.as_bytes(), DEFAULT_LIMIT, Detail::Full, &mut room)?;
-    Ok(String::from_utf8_lossy(&room).into_owned())
-}
-
-/// Puts a text into `room` with each word that is a symbol replaced by its text, as the program's filter does. One set of lists
-/// serves all words; a word that is refused stays as it is.
+/// Puts a text into `buffer` with each word that is a symbol replaced by its text, as the program's filter does, and says how
+/// many such words it has. One set of lists serves all words; a word that is refused stays as it is.
 ///
 /// # Errors
 ///
 /// [`Error::Memory`].
-pub fn filter_into(
-    text: &[u8],
-    limit: u32,
-    options: impl Into<Options>,
-    room: &mut Vec<u8>,
-) -> Result<(), Error> {
-    let options = options.into();
-    write_into(room, |room, answer| {
-        library::filter(text, limit, options, room, answer)
-    })
+pub fn filter_into(text: &[u8], options: Options, buffer: &mut Vec<u8>) -> Result<Tally, Error> {
+    let mut tally = Tally::default();
+    write_into(buffer, |buffer| library::filter(text, options, buffer, &mut tally))?;
+    Ok(tally)
 }
 
-/// Puts the pressed spelling of a symbol into `room`: two symbols of the same thing have the same one. It takes no symbols that the
-/// wide grammar alone reads.
+/// Puts the pressed spelling of a name into `buffer`: different spellings of the same symbol have the same one. It takes no symbols
+/// that the wide grammar alone reads.
 ///
 /// # Errors
 ///
 /// Every [`Error`] but [`Error::TooLong`].
-pub fn press_into(symbol: &[u8], room: &mut Vec<u8>) -> Result<(), Error> {
-    write_into(room, |room, answer| library::press(symbol, room, answer))
+pub fn press_into(name: &[u8], buffer: &mut Vec<u8>) -> Result<(), Error> {
+    write_into(buffer, |buffer| library::press(name, buffer))
 }
 
-/// The work that reading a symbol takes, which no limit bounds. It counts no symbols that the wide grammar alone reads.
+/// The work that reading a name takes, which no limit bounds. Of the options the grammar alone says anything here.
 ///
 /// # Errors
 ///
 /// Every [`Error`] but [`Error::TooLong`].
-pub fn counts(symbol: &[u8]) -> Result<Counts, Error> {
-    let mut answer = Answer::default();
-    let mut counts = library::Counts::default();
-    library::count(symbol, &mut counts, &mut answer).outcome(&answer)?;
-    Ok(Counts {
-        rows: counts.rows,
-        nodes: counts.nodes,
-        steps: counts.steps,
-    })
+pub fn counts(name: &[u8], options: Options) -> Result<Counts, Error> {
+    let mut counts = Counts::default();
+    library::count(name, options, &mut counts).answer()?;
+    Ok(counts)
 }
 
-/// Symbols that are given to the library in one call, which makes its lists once for all of them.
+/// Names that are given to the library in one call, which makes its lists once for all of them.
 #[derive(Default)]
 struct Block<'a> {
-    symbols: Vec<&'a [u8]>,
-    text: Vec<u8>,
+    names: Vec<&'a [u8]>,
+    bytes: Vec<u8>,
     ends: Vec<usize>,
-    answers: Vec<Told>,
-    room: Vec<u8>,
-    /// For a symbol whose text has no place in `room`.
+    outcomes: Vec<Outcome>,
+    buffer: Vec<u8>,
+    /// For a name whose text has no place in `buffer`.
     alone: Vec<u8>,
 }
 
 impl<'a> Block<'a> {
-    const SYMBOLS: usize = 256;
+    const NAMES: usize = 256;
     const BYTES: usize = 1 << 16;
 
-    fn push(&mut self, symbol: &'a [u8]) {
-        self.symbols.push(symbol);
-        self.text.extend_from_slice(symbol);
-        self.ends.push(self.text.len());
+    fn push(&mut self, name: &'a [u8]) {
+        self.names.push(name);
+        self.bytes.extend_from_slice(name);
+        self.ends.push(self.bytes.len());
     }
 
     fn is_full(&self) -> bool {
-        self.symbols.len() >= Self::SYMBOLS || self.text.len() >= Self::BYTES
+        self.names.len() >= Self::NAMES || self.bytes.len() >= Self::BYTES
     }
 
     /// Lends `each` the texts in order, and empties the block.
-    fn answer(
-        &mut self,
-        limit: u32,
-        options: Options,
-        each: &mut impl FnMut(&'a [u8], Result<&[u8], Error>),
-    ) {
-        self.answers.resize(self.symbols.len(), Told::default());
-        self.room.resize(4 * Self::BYTES, 0);
-        let status = library::texts(&self.text, &self.ends, limit, options, &mut self.room, &mut self.answers);
-        debug_assert!(status.is_ok());
+    fn answer(&mut self, options: Options, each: &mut impl FnMut(&'a [u8], Result<&[u8], Error>)) {
+        self.outcomes.resize(self.names.len(), Outcome::default());
+        self.buffer.resize(4 * Self::BYTES, 0);
+        let status = library::texts(&self.bytes, &self.ends, options, &mut self.buffer, &mut self.outcomes);
+        debug_assert!(status == Status::OK);
         let mut from = 0;
-        for (symbol, told) in self.symbols.drain(..).zip(&self.answers) {
-            if told.status.needs_room() {
-                let answer = demangle_into(symbol, limit, options, &mut self.alone);
-                each(symbol, answer.map(|()| self.alone.as_slice()));
-            } else if let Err(error) = told.status.outcome_at(told.place) {
-                each(symbol, Err(error));
+        for (name, outcome) in self.names.drain(..).zip(&self.outcomes) {
+            if outcome.status == Status::BUFFER {
+                let answer = demangle_into(name, options, &mut self.alone);
+                each(name, answer.map(|()| self.alone.as_slice()));
+            } else if let Err(error) = outcome.answer() {
+                each(name, Err(error));
             } else {
-                each(symbol, Ok(&self.room[from..from + told.length]));
-                from += told.length;
+                each(name, Ok(&self.buffer[from..from + outcome.length]));
+                from += outcome.length;
             }
         }
-        self.text.clear();
+        self.bytes.clear();
         self.ends.clear();
     }
 }
 
-/// The texts of many symbols, in order: each is lent to `each` with its symbol. Some hundred symbols at a time are taken from
-/// the iterator and given to one call of the library, which makes its lists once for all of them: two thirds of the work of
+/// The texts of many names, in order: each is lent to `each` with its name. Some hundred names at a time are taken from the
+/// iterator and given to one call of the library, which makes its lists once for all of them: two thirds of the work of
 /// [`demangle_into`] for each.
 pub fn for_each_text<'a>(
-    symbols: impl IntoIterator<Item = &'a [u8]>,
-    limit: u32,
-    options: impl Into<Options>,
+    names: impl IntoIterator<Item = &'a [u8]>,
+    options: Options,
     mut each: impl FnMut(&'a [u8], Result<&[u8], Error>),
 ) {
-    let options = options.into();
     let mut block = Block::default();
-    for symbol in symbols {
-        block.push(symbol);
+    for name in names {
+        block.push(name);
         if block.is_full() {
-            block.answer(limit, options, &mut each);
+            block.answer(options, &mut each);
         }
     }
-    block.answer(limit, options, &mut each);
-}
-
-/// The texts of many symbols as an iterator, in full and within [`DEFAULT_LIMIT`].
-pub fn demangle_all<'a>(
-    symbols: impl IntoIterator<Item = &'a str>,
-) -> impl Iterator<Item = Result<String, Error>> {
-    symbols.into_iter().map(demangle)
-}
-
-/// The symbol of a word, where it has a text within [`DEFAULT_LIMIT`]: `_Z` or `_R`, or `__Z` or `__R` as on macOS.
-///
-/// # Errors
-///
-/// Every [`Error`]; [`Error::NoSymbol`] for a word that begins otherwise.
-pub fn try_demangle(word: &str) -> Result<Symbol<'_>, Error> {
-    let mut room = Vec::new();
-    word_into(word.as_bytes(), Options::default(), &mut room)?;
-    Ok(Symbol::new(word))
-}
-
-/// The same, put into a room.
-fn word_into(word: &[u8], options: Options, room: &mut Vec<u8>) -> Result<(), Error> {
-    write_into(room, |room, answer| {
-        library::word(word, DEFAULT_LIMIT, options, room, answer)
-    })
-}
-
-/// The hash at the end of a text, if the symbol is one of Rust's older mangling: `::h` and 16 digits, behind which its suffix may
-/// stand.
-fn hash_of(symbol: &str) -> Option<&str> {
-    const HASH: &str = "17h";
-    let name = &symbol[..symbol.find('.').unwrap_or(symbol.len())];
-    let front = name.strip_suffix('E')?;
-    let at = front.len().checked_sub(HASH.len() + 16)?;
-    let hash = front.get(at..)?.strip_prefix(HASH)?;
-    let is_digit = |b| matches!(b, b'0'..=b'9' | b'a'..=b'f');
-    hash.bytes().all(is_digit).then_some(hash)
-}
-
-/// The symbol of a word, which shows itself within [`DEFAULT_LIMIT`]. What is refused is shown as it stands.
-///
-/// `{:#}` is `{}` without the hash at the end of Rust's older mangling. Texts of v0 symbols have none.
-#[derive(Clone, Copy, Debug, PartialEq, Eq, Hash)]
-pub struct Symbol<'a> {
-    symbol: &'a str,
-    options: Options,
-}
-
-impl<'a> Symbol<'a> {
-    /// A symbol that is shown in full.
-    pub fn new(symbol: &'a str) -> Symbol<'a> {
-        Symbol {
-            symbol,
-            options: Options::default(),
-        }
-    }
-
-    /// The same symbol, shown brief.
-    pub fn brief(self) -> Symbol<'a> {
-        Symbol {
-            options: Options {
-                detail: Detail::Brief,
-                ..self.options
-            },
-            ..self
-        }
-    }
-
-    /// The same symbol, read by the wide grammar if it is C++.
-    pub fn wide(self) -> Symbol<'a> {
-        Symbol {
-            options: self.options.detail.wide(),
-            ..self
-        }
-    }
-
-    /// The symbol as it was given.
-    pub fn as_str(&self) -> &'a str {
-        self.symbol
-    }
-}
-
-impl fmt::Display for Symbol<'_> {
-    fn fmt(&self, f: &mut fmt::Formatter<'_>) -> fmt::Result {
-        let mut room = Vec::new();
-        if word_into(self.symbol.as_bytes(), self.options, &mut room).is_err() {
-            return f.write_str(self.symbol);
-        }
-        let text = String::from_utf8_lossy(&room);
-        let hash = hash_of(self.symbol).filter(|_| f.alternate());
-        match hash.and_then(|hash| text.rsplit_once(&format!("::h{hash}"))) {
-            Some((name, suffix)) => write!(f, "{name}{suffix}"),
-            None => f.write_str(&text),
-        }
-    }
+    block.answer(options, &mut each);
 }

@@ -1,53 +1,31 @@
-//! The library's calls, with slices in the place of pointers. `callers/c/symdemangle.h` has their contracts in words.
+//! The library's calls, with slices in the place of pointers. `symdemangle.h` has their contracts in words.
 
-use crate::{Detail, Error, Options};
+use crate::{Counts, Error, Options, Tally};
 
+/// What comes with a status.
 #[repr(C)]
-#[derive(Default)]
-pub struct Answer {
+#[derive(Clone, Copy, Default)]
+pub struct Outcome {
     pub length: usize,
-    pub place: u32,
-}
-
-#[repr(C)]
-#[derive(Default)]
-pub struct Counts {
-    pub rows: u32,
-    pub nodes: u32,
-    pub steps: u32,
-}
-
-/// What is told of one of many symbols.
-#[repr(C)]
-#[derive(Clone, Default)]
-pub struct Told {
-    pub length: usize,
-    pub place: u32,
+    pub offset: u32,
     pub status: Status,
 }
 
 /// What a call answered.
 #[repr(transparent)]
-#[derive(Clone, Copy, Default)]
+#[derive(Clone, Copy, Default, PartialEq, Eq)]
 pub struct Status(u32);
 
 impl Status {
-    pub fn is_ok(self) -> bool {
-        self.0 == 0
-    }
+    pub const OK: Status = Status(0);
+    pub const BUFFER: Status = Status(6);
+}
 
-    pub fn needs_room(self) -> bool {
-        self.0 == 6
-    }
-
-    /// What it means, of a call whose room was large enough.
-    pub fn outcome(self, answer: &Answer) -> Result<(), Error> {
-        self.outcome_at(answer.place)
-    }
-
-    /// The same, with the place of the first bad byte.
-    pub fn outcome_at(self, at: u32) -> Result<(), Error> {
-        match self.0 {
+impl Outcome {
+    /// What it means, of a call whose buffer was large enough and whose flags it knows.
+    pub fn answer(self) -> Result<(), Error> {
+        let at = self.offset;
+        match self.status.0 {
             0 => Ok(()),
             1 => Err(Error::Malformed { at }),
             2 => Err(Error::BadReference { at }),
@@ -62,171 +40,141 @@ impl Status {
 }
 
 unsafe extern "C" {
-    fn symdemangle_text_of(
-        symbol: *const u8,
-        symbol_length: usize,
+    fn symdemangle_text(
+        name: *const u8,
+        name_length: usize,
         limit: u32,
-        detail: u32,
-        room: *mut u8,
-        room_length: usize,
-        answer: *mut Answer,
-    ) -> u32;
-    fn symdemangle_word_of(
-        word: *const u8,
-        word_length: usize,
-        limit: u32,
-        detail: u32,
-        room: *mut u8,
-        room_length: usize,
-        answer: *mut Answer,
-    ) -> u32;
-    fn symdemangle_texts_of(
-        text: *const u8,
-        text_length: usize,
+        flags: u32,
+        buffer: *mut u8,
+        capacity: usize,
+        result: *mut Outcome,
+    ) -> Status;
+    fn symdemangle_texts(
+        names: *const u8,
+        names_length: usize,
         ends: *const usize,
-        ends_length: usize,
+        count: usize,
         limit: u32,
-        detail: u32,
-        room: *mut u8,
-        room_length: usize,
-        answers: *mut Told,
-        answers_length: usize,
-    ) -> u32;
-    fn symdemangle_filter_of(
+        flags: u32,
+        buffer: *mut u8,
+        capacity: usize,
+        results: *mut Outcome,
+    ) -> Status;
+    fn symdemangle_filter(
         text: *const u8,
         text_length: usize,
         limit: u32,
-        detail: u32,
-        room: *mut u8,
-        room_length: usize,
-        answer: *mut Answer,
-    ) -> u32;
-    fn symdemangle_counts_of(
-        symbol: *const u8,
-        symbol_length: usize,
+        flags: u32,
+        buffer: *mut u8,
+        capacity: usize,
+        tally: *mut Tally,
+        result: *mut Outcome,
+    ) -> Status;
+    fn symdemangle_count(
+        name: *const u8,
+        name_length: usize,
+        flags: u32,
         counts: *mut Counts,
-        answer: *mut Answer,
-    ) -> u32;
-    fn symdemangle_press_of(
-        symbol: *const u8,
-        symbol_length: usize,
-        room: *mut u8,
-        room_length: usize,
-        answer: *mut Answer,
-    ) -> u32;
+        result: *mut Outcome,
+    ) -> Status;
+    fn symdemangle_press(
+        name: *const u8,
+        name_length: usize,
+        flags: u32,
+        buffer: *mut u8,
+        capacity: usize,
+        result: *mut Outcome,
+    ) -> Status;
 }
 
-fn number(options: Options) -> u32 {
-    let detail = match options.detail {
-        Detail::Full => 0,
-        Detail::Brief => 1,
-        Detail::NoParameters => 2,
-        Detail::BriefNoParameters => 3,
-    };
-    let wide = if options.wide { 4 } else { 0 };
-    wide + detail
+const UNDERSCORE: u32 = 16;
+
+fn flags(options: Options) -> u32 {
+    let flag = |is_set, flag| if is_set { flag } else { 0 };
+    flag(options.brief, 1)
+        | flag(options.no_parameters, 2)
+        | flag(options.wide, 4)
+        | UNDERSCORE
+        | flag(options.ascii_words, 32)
 }
 
 // SAFETY, of each call below: a slice's pointer isn't null and is valid for its length; what is lent to be written is borrowed
 // alone, so it doesn't overlap with anything and no other thread touches it.
 
-pub fn text(
-    symbol: &[u8],
-    limit: u32,
-    options: Options,
-    room: &mut [u8],
-    answer: &mut Answer,
-) -> Status {
-    Status(unsafe {
-        symdemangle_text_of(
-            symbol.as_ptr(),
-            symbol.len(),
-            limit,
-            number(options),
-            room.as_mut_ptr(),
-            room.len(),
-            answer,
+pub fn text(name: &[u8], options: Options, buffer: &mut [u8]) -> Outcome {
+    let mut outcome = Outcome::default();
+    unsafe {
+        symdemangle_text(
+            name.as_ptr(),
+            name.len(),
+            options.limit,
+            flags(options),
+            buffer.as_mut_ptr(),
+            buffer.len(),
+            &mut outcome,
         )
-    })
+    };
+    outcome
 }
 
-pub fn word(
-    word: &[u8],
-    limit: u32,
-    options: Options,
-    room: &mut [u8],
-    answer: &mut Answer,
-) -> Status {
-    Status(unsafe {
-        symdemangle_word_of(
-            word.as_ptr(),
-            word.len(),
-            limit,
-            number(options),
-            room.as_mut_ptr(),
-            room.len(),
-            answer,
-        )
-    })
-}
-
-/// `ends` go up to the text's length, and are as many as the answers.
+/// `ends` go up to the length of `names`, and are as many as the outcomes.
 pub fn texts(
-    text: &[u8],
+    names: &[u8],
     ends: &[usize],
-    limit: u32,
     options: Options,
-    room: &mut [u8],
-    answers: &mut [Told],
+    buffer: &mut [u8],
+    outcomes: &mut [Outcome],
 ) -> Status {
-    Status(unsafe {
-        symdemangle_texts_of(
-            text.as_ptr(),
-            text.len(),
+    assert_eq!(ends.len(), outcomes.len());
+    unsafe {
+        symdemangle_texts(
+            names.as_ptr(),
+            names.len(),
             ends.as_ptr(),
             ends.len(),
-            limit,
-            number(options),
-            room.as_mut_ptr(),
-            room.len(),
-            answers.as_mut_ptr(),
-            answers.len(),
+            options.limit,
+            flags(options),
+            buffer.as_mut_ptr(),
+            buffer.len(),
+            outcomes.as_mut_ptr(),
         )
-    })
+    }
 }
 
-pub fn filter(
-    text: &[u8],
-    limit: u32,
-    options: Options,
-    room: &mut [u8],
-    answer: &mut Answer,
-) -> Status {
-    Status(unsafe {
-        symdemangle_filter_of(
+pub fn filter(text: &[u8], options: Options, buffer: &mut [u8], tally: &mut Tally) -> Outcome {
+    let mut outcome = Outcome::default();
+    unsafe {
+        symdemangle_filter(
             text.as_ptr(),
             text.len(),
-            limit,
-            number(options),
-            room.as_mut_ptr(),
-            room.len(),
-            answer,
+            options.limit,
+            flags(options),
+            buffer.as_mut_ptr(),
+            buffer.len(),
+            tally,
+            &mut outcome,
         )
-    })
+    };
+    outcome
 }
 
-pub fn count(symbol: &[u8], counts: &mut Counts, answer: &mut Answer) -> Status {
-    Status(unsafe { symdemangle_counts_of(symbol.as_ptr(), symbol.len(), counts, answer) })
+pub fn count(name: &[u8], options: Options, counts: &mut Counts) -> Outcome {
+    let mut outcome = Outcome::default();
+    unsafe { symdemangle_count(name.as_ptr(), name.len(), flags(options), counts, &mut outcome) };
+    outcome
 }
 
-pub fn press(symbol: &[u8], room: &mut [u8], answer: &mut Answer) -> Status {
-    Status(unsafe {
-        symdemangle_press_of(
-            symbol.as_ptr(),
-            symbol.len(),
-            room.as_mut_ptr(),
-            room.len(),
-            answer,
+pub fn press(name: &[u8], buffer: &mut [u8]) -> Outcome {
+    let mut outcome = Outcome::default();
+    unsafe {
+        symdemangle_press(
+            name.as_ptr(),
+            name.len(),
+            UNDERSCORE,
+            buffer.as_mut_ptr(),
+            buffer.len(),
+            &mut outcome,
         )
-    })
+    };
+    outcome
 }

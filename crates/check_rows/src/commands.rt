@@ -6,7 +6,7 @@ use std::alloc::Global;
 use std::str;
 use sym_command::{FAULT, Filtering, Run, run, run_over};
 use sym_core::Refusal;
-use sym_filter::{Letters, ListSink, ReaderSource};
+use sym_filter::{ListSink, ReaderSource};
 
 /// The words of a command line, the program's name first, as blanks keep them apart; `-` is none. There is no such line where
 /// they aren't text.
@@ -24,7 +24,7 @@ fn words_of<'a>(alloc: Global, field: &'a [u8]) -> Result<Option<Vec<&'a str>>, 
     Ok(Some(words))
 }
 
-/// Whether the static library filters a text to this one as is asked. Its words have any letters.
+/// Whether the static library filters a text to this one as is asked.
 fn library_says(
     alloc: Global,
     text: &[u8],
@@ -37,7 +37,7 @@ fn library_says(
         letters,
         wide,
     } = filtering;
-    Ok(letters == Letters::Ascii || library_filters(alloc, text, limit, detail, wide, wanted)?)
+    library_filters(alloc, text, limit, detail, letters, wide, wanted)
 }
 
 /// Whether the program with these options filters a text to this one.

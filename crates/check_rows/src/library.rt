@@ -1,123 +1,132 @@
-// The static library's calls: each into rooms of no byte, of too few, of just enough and of more, and each of their statuses.
+// The static library's calls: each into buffers of no byte, of too few, of just enough and of more, and each of their statuses.
 
 ghost use Rattle.sym_core.specs.Number.{FitsSymbol};
 
 use crate::answer::says;
 use crate::calls::broken;
 use std::alloc::{AllocError, Global};
-use sym_calls::answer::{
-    BAD_REFERENCE, BAD_VALUE, DETAIL, ENDS, MALFORMED, MEMORY, NO_SYMBOL, OK, ROOM, SIZE, TOO_LONG,
+use sym_calls::flags::{ASCII_WORDS, BRIEF, NO_PARAMETERS, UNDERSCORE, WIDE};
+use sym_calls::outcome::{
+    BAD_REFERENCE, BAD_VALUE, BUFFER, ENDS, FLAGS, MALFORMED, MEMORY, NO_SYMBOL, OK, SIZE, TOO_LONG,
 };
 use sym_calls::{
-    Answer, SymbolCounts, Told, counts_of, filter_of, press_of, text_of, texts_of, word_of,
+    Outcome, SymbolCounts, TextTally, counts_of, filter_of, press_of, text_of, texts_of,
 };
 use sym_core::{Counts, Refusal};
-use sym_filter::languages::Lists;
-use sym_filter::{Abi, Demangled, Demangler, Kind, Languages};
+use sym_filter::languages::{Cpp, Lists};
+use sym_filter::{Demangled, Demangler, Kind, Languages, Letters};
 use sym_print::Detail;
 
-/// What stands in a room before a call writes to it.
+/// What is in a buffer before a call writes to it.
 const UNWRITTEN: u8 = 0xa5;
 
-/// What stands in each number before a call tells it.
+/// What is in each number before a call tells it.
 const UNTOLD: u32 = 0xa5a5_a5a5;
 
-/// A number that is no detail.
-const NO_DETAIL: u32 = 8;
+/// A number that is no flag.
+const NO_FLAG: u32 = 64;
 
-/// A call that writes to a room.
+/// A call that writes to a buffer.
 #[derive(Clone, Copy)]
 enum Call {
     Text,
-    Word,
     Filter,
     Press,
 }
 
-/// A call with what it is given, but for the room.
+/// A call with what it is given, except for the buffer.
 #[derive(Clone, Copy)]
 struct Asked<'a> {
     call: Call,
     bytes: &'a [u8],
     limit: u32,
-    detail: u32,
+    flags: u32,
 }
 
 impl<'a> Asked<'a> {
-    fn new(call: Call, bytes: &'a [u8], limit: u32, detail: u32) -> Asked<'a> {
+    fn new(call: Call, bytes: &'a [u8], limit: u32, flags: u32) -> Asked<'a> {
         Asked {
             call,
             bytes,
             limit,
-            detail,
+            flags,
         }
     }
 }
 
-/// How a call ended: its status, what it told with that, and the room.
+/// How a call ended: its status, what it told with that, and the buffer.
 #[derive(Drop)]
 struct Ending {
     status: u32,
     length: usize,
-    place: u32,
-    room: Vec<u8>,
+    offset: u32,
+    buffer: Vec<u8>,
 }
 
-/// The number of a detail, with C++ by the wide grammar or the other.
-fn number_of(detail: Detail, wide: bool) -> u32 {
-    match (detail, wide) {
-        (Detail::Full, false) => 0,
-        (Detail::Brief, false) => 1,
-        (Detail::NoParameters, false) => 2,
-        (Detail::BriefNoParameters, false) => 3,
-        (Detail::Full, true) => 4,
-        (Detail::Brief, true) => 5,
-        (Detail::NoParameters, true) => 6,
-        (Detail::BriefNoParameters, true) => 7,
+/// The flags for a detail, with C++ by the wide grammar or the other.
+fn flags_of(detail: Detail, wide: bool) -> u32 {
+    let shown = match detail {
+        Detail::Full => 0,
+        Detail::Brief => BRIEF,
+        Detail::NoParameters => NO_PARAMETERS,
+        Detail::BriefNoParameters => BRIEF | NO_PARAMETERS,
+    };
+    if wide { shown | WIDE } else { shown }
+}
+
+/// Whether nothing was written to a buffer.
+fn is_unwritten(buffer: &[u8]) -> bool {
+    buffer.iter().all(|byte| *byte == UNWRITTEN)
+}
+
+/// A tally that nothing was told to.
+fn untallied() -> TextTally {
+    TextTally {
+        words: UNTOLD as u64,
+        replaced: UNTOLD as u64,
+        refused: UNTOLD as u64,
     }
 }
 
-/// Whether nothing was written to a room.
-fn is_unwritten(room: &[u8]) -> bool {
-    room.iter().all(|byte| *byte == UNWRITTEN)
-}
-
-/// An answer that nothing was told to.
-fn untold() -> Answer {
-    Answer {
-        length: UNTOLD as usize,
-        place: UNTOLD,
+/// Whether a tally is told with status 0 alone, and its words are those that were replaced and those that weren't.
+fn is_tallied(status: u32, tally: TextTally) -> bool {
+    let untold = UNTOLD as u64;
+    if status == OK {
+        tally.words == tally.replaced.wrapping_add(tally.refused)
+    } else {
+        tally.words == untold && tally.replaced == untold && tally.refused == untold
     }
 }
 
-/// How a call ends with a room of so many bytes.
+/// How a call ends with a buffer of so many bytes.
 ///
 /// # Errors
 ///
-/// `Memory` where the call tells that, or there is none for the room.
+/// `Memory` where the call tells that, or there is none for the buffer.
 fn end_of(alloc: Global, asked: Asked<'_>, len: usize) -> Result<Ending, Refusal> {
     let Asked {
         call,
         bytes,
         limit,
-        detail,
+        flags,
     } = asked;
-    let mut room = vec![in alloc; UNWRITTEN; len]?;
-    let mut answer = untold();
-    let status = match call {
-        Call::Text => text_of(alloc, bytes, limit, detail, &mut room, &mut answer),
-        Call::Word => word_of(alloc, bytes, limit, detail, &mut room, &mut answer),
-        Call::Filter => filter_of(alloc, bytes, limit, detail, &mut room, &mut answer),
-        Call::Press => press_of(alloc, bytes, &mut room, &mut answer),
+    let mut buffer = vec![in alloc; UNWRITTEN; len]?;
+    let mut tally = untallied();
+    let outcome = match call {
+        Call::Text => text_of(alloc, bytes, limit, flags, &mut buffer),
+        Call::Filter => filter_of(alloc, bytes, limit, flags, &mut buffer, &mut tally),
+        Call::Press => press_of(alloc, bytes, flags, &mut buffer),
     };
-    if status == MEMORY {
+    if outcome.status == MEMORY {
         return Err(Refusal::Memory);
     }
+    let is_sound = !matches!(call, Call::Filter) || is_tallied(outcome.status, tally);
     Ok(Ending {
-        status,
-        length: answer.length,
-        place: answer.place,
-        room,
+        // a tally that is wrong is no ending of any row
+        status: if is_sound { outcome.status } else { UNTOLD },
+        length: outcome.length,
+        offset: outcome.offset,
+        buffer,
     })
 }
 
@@ -127,70 +136,65 @@ fn tells(alloc: Global, asked: Asked<'_>, status: u32) -> Result<bool, Refusal> 
     Ok(
         ending.status == status
             && ending.length == 0
-            && ending.place == 0
-            && is_unwritten(&ending.room),
+            && ending.offset == 0
+            && is_unwritten(&ending.buffer),
     )
 }
 
-/// The refusal that a status and a place tell, if they tell one.
-fn refusal_of(status: u32, place: u32) -> Option<Refusal> {
+/// The refusal that a status and an offset tell, if they tell one.
+fn refusal_of(status: u32, offset: u32) -> Option<Refusal> {
     match status {
-        MALFORMED => Some(Refusal::Malformed { at: place }),
-        BAD_REFERENCE => Some(Refusal::BadReference { at: place }),
-        BAD_VALUE => Some(Refusal::BadValue { at: place }),
-        TOO_LONG if place == 0 => Some(Refusal::TooLong),
+        MALFORMED => Some(Refusal::Malformed { at: offset }),
+        BAD_REFERENCE => Some(Refusal::BadReference { at: offset }),
+        BAD_VALUE => Some(Refusal::BadValue { at: offset }),
+        TOO_LONG if offset == 0 => Some(Refusal::TooLong),
         _ => None,
     }
 }
 
-/// Whether a call with a room of so many bytes, which is too small, tells that it needs so many, and writes nothing.
-fn tells_room(
-    alloc: Global,
-    asked: Asked<'_>,
-    room: usize,
-    needed: usize,
-) -> Result<bool, Refusal> {
-    let ending = end_of(alloc, asked, room)?;
+/// Whether a call with a buffer of so many bytes, which is too small, tells that it needs so many, and writes nothing.
+fn tells_need(alloc: Global, asked: Asked<'_>, len: usize, needed: usize) -> Result<bool, Refusal> {
+    let ending = end_of(alloc, asked, len)?;
     Ok(
-        ending.status == ROOM
+        ending.status == BUFFER
             && ending.length == needed
-            && ending.place == 0
-            && is_unwritten(&ending.room),
+            && ending.offset == 0
+            && is_unwritten(&ending.buffer),
     )
 }
 
-/// The bytes that a call writes, which are so many: no more where there is more room, and none where there is a byte less.
+/// The bytes that a call writes, which are so many: no more where the buffer is larger, and none where it is a byte smaller.
 fn written(alloc: Global, asked: Asked<'_>, len: usize) -> Result<Vec<u8>, Refusal> {
     let exact = end_of(alloc, asked, len)?;
-    if exact.status != OK || exact.length != len || exact.place != 0 {
-        return broken(alloc, b"(room of just enough)");
+    if exact.status != OK || exact.length != len || exact.offset != 0 {
+        return broken(alloc, b"(buffer of just enough)");
     }
     let more = end_of(alloc, asked, len.saturating_add(2))?;
-    let is_front = match more.room.strip_prefix(exact.room.as_slice()) {
-        Some(behind) => is_unwritten(behind),
+    let is_front = match more.buffer.strip_prefix(exact.buffer.as_slice()) {
+        Some(rest) => is_unwritten(rest),
         None => false,
     };
-    if more.status != OK || more.length != len || more.place != 0 || !is_front {
-        return broken(alloc, b"(room of more)");
+    if more.status != OK || more.length != len || more.offset != 0 || !is_front {
+        return broken(alloc, b"(buffer of more)");
     }
-    if len > 0 && !tells_room(alloc, asked, len.saturating_sub(1), len)? {
-        return broken(alloc, b"(room of less)");
+    if len > 0 && !tells_need(alloc, asked, len.saturating_sub(1), len)? {
+        return broken(alloc, b"(buffer of less)");
     }
-    Ok(exact.room)
+    Ok(exact.buffer)
 }
 
-/// What a call answers: the bytes that it writes where there is room, or a refusal.
+/// What a call answers: the bytes that it writes where they fit, or a refusal.
 fn answered(alloc: Global, asked: Asked<'_>) -> Result<Vec<u8>, Refusal> {
     let first = end_of(alloc, asked, 0)?;
-    if first.status == OK || first.status == ROOM {
+    if first.status == OK || first.status == BUFFER {
         return written(alloc, asked, first.length);
     }
-    let Some(refusal) = refusal_of(first.status, first.place) else {
+    let Some(refusal) = refusal_of(first.status, first.offset) else {
         return broken(alloc, b"(a status)");
     };
     let again = end_of(alloc, asked, 8)?;
-    let same = again.status == first.status && again.place == first.place;
-    if !same || first.length != 0 || again.length != 0 || !is_unwritten(&again.room) {
+    let same = again.status == first.status && again.offset == first.offset;
+    if !same || first.length != 0 || again.length != 0 || !is_unwritten(&again.buffer) {
         return broken(alloc, b"(a refusal)");
     }
     Err(refusal)
@@ -202,8 +206,8 @@ fn call_says(alloc: Global, asked: Asked<'_>, wanted: &[u8]) -> Result<bool, Ref
     says(alloc, &answer, wanted)
 }
 
-/// A refusal of what stands behind a byte, by its place there.
-fn behind_a_byte(refusal: Refusal) -> Refusal {
+/// A refusal of what follows a byte, by its place there.
+fn after_a_byte(refusal: Refusal) -> Refusal {
     match refusal {
         Refusal::Malformed { at } => Refusal::Malformed {
             at: at.wrapping_sub(1),
@@ -219,32 +223,46 @@ fn behind_a_byte(refusal: Refusal) -> Refusal {
     }
 }
 
-/// Whether the call for words answers this for a symbol, as it stands and behind an underscore, and that there is none in a word
-/// without the symbol's first byte.
-fn word_says(
+/// Whether a call answers this for a name, as it is and after an underscore that is asked for, and tells that there is no symbol
+/// after one that isn't, nor without the name's first byte.
+fn name_says(
     alloc: Global,
-    symbol: &[u8],
+    call: Call,
+    name: &[u8],
     limit: u32,
-    detail: u32,
+    flags: u32,
     wanted: &[u8],
 ) -> Result<bool, Refusal> {
-    let asked = Asked::new(Call::Word, symbol, limit, detail);
-    if !call_says(alloc, asked, wanted)? {
+    if !call_says(alloc, Asked::new(call, name, limit, flags), wanted)? {
         return Ok(false);
     }
-    let mut word = Vec::from_slice(alloc, b"_")?;
-    word.extend_from_slice(symbol)?;
-    let asked = Asked::new(Call::Word, &word, limit, detail);
+    let mut longer = Vec::from_slice(alloc, b"_")?;
+    longer.extend_from_slice(name)?;
+    let asked = Asked::new(call, &longer, limit, flags | UNDERSCORE);
     let answer = match answered(alloc, asked) {
-        Ok(text) => Ok(text),
-        Err(refusal) => Err(behind_a_byte(refusal)),
+        Ok(text) => match call {
+            Call::Press => {
+                let symbol = text.strip_prefix(b"_".as_slice()).unwrap_or_default();
+                Ok(Vec::from_slice(alloc, symbol)?)
+            }
+            Call::Text | Call::Filter => Ok(text),
+        },
+        Err(refusal) => Err(after_a_byte(refusal)),
     };
     if !says(alloc, &answer, wanted)? {
         return Ok(false);
     }
-    let rest = symbol.get(1..).unwrap_or_default();
-    let asked = Asked::new(Call::Word, rest, limit, detail);
-    tells(alloc, asked, NO_SYMBOL)
+    let rest = name.get(1..).unwrap_or_default();
+    let other = flags | UNDERSCORE;
+    Ok(
+        tells(alloc, Asked::new(call, &longer, limit, flags), NO_SYMBOL)?
+            && tells(alloc, Asked::new(call, rest, limit, other), NO_SYMBOL)?,
+    )
+}
+
+/// Whether a name begins as a symbol does.
+fn is_named(name: &[u8]) -> bool {
+    name.starts_with(b"_Z") || name.starts_with(b"_R")
 }
 
 /// Counts that nothing was put into.
@@ -266,33 +284,34 @@ fn are_put(counts: SymbolCounts, wanted: Counts) -> bool {
     counts.rows == wanted.rows && counts.nodes == wanted.nodes && counts.steps == wanted.steps
 }
 
-/// Whether the call that counts puts the counts of a symbol that is read, and tells why another isn't.
+/// Whether the call that counts puts the counts of a symbol that is read, and tells why another isn't, with C++ by this grammar.
 ///
 /// # Errors
 ///
 /// `Memory` where a call tells that.
-pub fn library_counts(
+pub fn library_counts<C: Cpp>(
     alloc: Global,
-    lists: &mut Lists<Abi>,
+    cpp: C,
+    lists: &mut Lists<C>,
     kind: Kind,
     s: &[u8],
+    wide: bool,
 ) -> Result<bool, Refusal>
     requires { FitsSymbol s.now }
 {
     let languages = Languages {
         limit: 0,
         detail: Detail::Full,
-        cpp: Abi,
+        cpp,
     };
     let mut out = Vec::new(alloc);
     let wanted = languages.demangle(lists, kind, s, &mut out);
     let mut counts = uncounted();
-    let mut answer = untold();
-    let status = counts_of(alloc, s, &mut counts, &mut answer);
-    if status == MEMORY {
+    let outcome = counts_of(alloc, s, flags_of(Detail::Full, wide), &mut counts);
+    if outcome.status == MEMORY {
         return Err(Refusal::Memory);
     }
-    let is_told = status == OK && answer.place == 0;
+    let is_told = outcome.status == OK && outcome.offset == 0;
     match wanted {
         Demangled::Text(wanted) => Ok(is_told && are_put(counts, wanted)),
         Demangled::TooLong(wanted) => Ok(is_told && are_put(counts, wanted)),
@@ -300,74 +319,79 @@ pub fn library_counts(
             if refusal == Refusal::Memory {
                 return Err(refusal);
             }
-            Ok(is_uncounted(counts) && refusal_of(status, answer.place) == Some(refusal))
+            let told = refusal_of(outcome.status, outcome.offset);
+            let is_nameless = !is_named(s) && outcome.status == NO_SYMBOL;
+            Ok(is_uncounted(counts) && (is_nameless || told == Some(refusal)))
         }
     }
 }
 
-/// What nothing was told to of one of many symbols.
-fn untold_of_one() -> Told {
-    Told {
+/// What nothing was told to of one of many names.
+fn untold() -> Outcome {
+    Outcome {
         length: UNTOLD as usize,
-        place: UNTOLD,
+        offset: UNTOLD,
         status: UNTOLD,
     }
 }
 
-/// The status of the call over many symbols with so many answers, where it tells of none and writes nothing.
+/// The status of the call over many names with so many outcomes, where it tells of none and writes nothing.
 fn status_of_all(
     alloc: Global,
-    text: &[u8],
+    names: &[u8],
     ends: &[usize],
     count: usize,
-    detail: u32,
+    flags: u32,
 ) -> Result<Option<u32>, AllocError> {
-    let mut room = vec![in alloc; UNWRITTEN; 8]?;
-    let mut answers = vec![in alloc; untold_of_one(); count]?;
+    let mut buffer = vec![in alloc; UNWRITTEN; 8]?;
+    let mut outcomes = vec![in alloc; untold(); count]?;
     let limit = u32::MAX;
-    let status = texts_of(alloc, text, ends, limit, detail, &mut room, &mut answers);
-    let nothing = answers.iter().all(|told| {
-        told.status == UNTOLD && told.place == UNTOLD && told.length == UNTOLD as usize
+    let status = texts_of(alloc, names, ends, limit, flags, &mut buffer, &mut outcomes);
+    let nothing = outcomes.iter().all(|outcome| {
+        outcome.status == UNTOLD && outcome.offset == UNTOLD && outcome.length == UNTOLD as usize
     });
-    Ok((nothing && is_unwritten(&room)).then_some(status))
+    Ok((nothing && is_unwritten(&buffer)).then_some(status))
 }
 
-/// Whether the call over many symbols refuses ends that aren't as many as the answers, go down or pass the text, and a number of
-/// no detail.
-fn are_ends_refused(alloc: Global, s: &[u8], detail: u32) -> Result<bool, Refusal> {
+/// Whether the call over many names refuses ends that aren't as many as the outcomes, go down or pass the names, and a number of
+/// no flag.
+fn are_ends_refused(alloc: Global, s: &[u8], flags: u32) -> Result<bool, Refusal> {
     let len = s.len();
     let past = len.saturating_add(1);
     Ok(
-        status_of_all(alloc, s, &[len], 2, detail)? == Some(ENDS)
-            && status_of_all(alloc, s, &[len, len], 1, detail)? == Some(ENDS)
-            && status_of_all(alloc, s, &[past], 1, detail)? == Some(ENDS)
-            && status_of_all(alloc, s, &[1, 0], 2, detail)? == Some(ENDS)
-            && status_of_all(alloc, s, &[len], 1, NO_DETAIL)? == Some(DETAIL),
+        status_of_all(alloc, s, &[len], 2, flags)? == Some(ENDS)
+            && status_of_all(alloc, s, &[len, len], 1, flags)? == Some(ENDS)
+            && status_of_all(alloc, s, &[past], 1, flags)? == Some(ENDS)
+            && status_of_all(alloc, s, &[1, 0], 2, flags)? == Some(ENDS)
+            && status_of_all(alloc, s, &[len], 1, NO_FLAG)? == Some(FLAGS),
     )
 }
 
-/// Whether what is told of each of many symbols is what the call over one answers, over the room that is left.
+/// Whether what is told of each of many names is what the call over one answers, over what is left of the buffer.
 fn is_each_told(
     alloc: Global,
-    symbols: &[&[u8]],
+    names: &[&[u8]],
     limit: u32,
-    detail: u32,
-    room: &[u8],
-    answers: &[Told],
+    flags: u32,
+    buffer: &[u8],
+    outcomes: &[Outcome],
 ) -> Result<bool, Refusal> {
-    let mut left = room;
-    for (symbol, told) in symbols.iter().zip(answers) {
-        if told.status == MEMORY {
+    let mut left = buffer;
+    for (name, outcome) in names.iter().zip(outcomes) {
+        if outcome.status == MEMORY {
             return Err(Refusal::Memory);
         }
-        let asked = Asked::new(Call::Text, symbol, limit, detail);
+        let asked = Asked::new(Call::Text, name, limit, flags);
         let one = end_of(alloc, asked, left.len())?;
-        if told.status != one.status || told.length != one.length || told.place != one.place {
+        if outcome.status != one.status
+            || outcome.length != one.length
+            || outcome.offset != one.offset
+        {
             return Ok(false);
         }
-        if told.status == OK {
-            let (text, rest) = left.split_at(told.length.min(left.len()));
-            if !one.room.starts_with(text) {
+        if outcome.status == OK {
+            let (text, rest) = left.split_at(outcome.length.min(left.len()));
+            if !one.buffer.starts_with(text) {
                 return Ok(false);
             }
             left = rest;
@@ -376,47 +400,55 @@ fn is_each_told(
     Ok(is_unwritten(left))
 }
 
-/// Whether the call over many symbols answers for these what the call over one does, with a room of so many bytes.
+/// Whether the call over many names answers for these what the call over one does, with a buffer of so many bytes.
 fn texts_say(
     alloc: Global,
-    symbols: &[&[u8]],
+    names: &[&[u8]],
     limit: u32,
-    detail: u32,
+    flags: u32,
     len: usize,
 ) -> Result<bool, Refusal> {
-    let mut text = Vec::new(alloc);
+    let mut all = Vec::new(alloc);
     let mut ends: Vec<usize> = Vec::new(alloc);
-    for symbol in symbols {
-        text.extend_from_slice(symbol)?;
-        ends.push(text.len())?;
+    for name in names {
+        all.extend_from_slice(name)?;
+        ends.push(all.len())?;
     }
-    let mut room = vec![in alloc; UNWRITTEN; len]?;
-    let mut answers = vec![in alloc; untold_of_one(); symbols.len()]?;
-    let status = texts_of(alloc, &text, &ends, limit, detail, &mut room, &mut answers);
-    Ok(status == OK && is_each_told(alloc, symbols, limit, detail, &room, &answers)?)
+    let mut buffer = vec![in alloc; UNWRITTEN; len]?;
+    let mut outcomes = vec![in alloc; untold(); names.len()]?;
+    let status = texts_of(alloc, &all, &ends, limit, flags, &mut buffer, &mut outcomes);
+    Ok(status == OK && is_each_told(alloc, names, limit, flags, &buffer, &outcomes)?)
 }
 
-/// Whether the call over many symbols finds room for a symbol's text twice, and where a byte of that is missing once.
-fn many_say(alloc: Global, s: &[u8], limit: u32, detail: u32) -> Result<bool, Refusal> {
-    let asked = Asked::new(Call::Text, s, limit, detail);
+/// Whether the call over many names finds room for a name's text twice, and where a byte of that is missing once.
+fn many_say(alloc: Global, s: &[u8], limit: u32, flags: u32) -> Result<bool, Refusal> {
+    let asked = Asked::new(Call::Text, s, limit, flags);
     let first = end_of(alloc, asked, 0)?;
-    let symbols: [&[u8]; 3] = [s, b"", s];
+    let names: [&[u8]; 3] = [s, b"", s];
     let enough = first.length.saturating_mul(2);
     Ok(
-        texts_say(alloc, &symbols, limit, detail, enough)?
-            && texts_say(alloc, &symbols, limit, detail, enough.saturating_sub(1))?,
+        texts_say(alloc, &names, limit, flags, enough)?
+            && texts_say(alloc, &names, limit, flags, enough.saturating_sub(1))?,
     )
 }
 
-/// Whether the calls that are given a detail refuse a number of none.
-fn is_detail_refused(alloc: Global, s: &[u8], limit: u32, detail: u32) -> Result<bool, Refusal> {
-    let text = Asked::new(Call::Text, s, limit, detail);
-    let word = Asked::new(Call::Word, s, limit, detail);
-    let filter = Asked::new(Call::Filter, s, limit, detail);
-    Ok(tells(alloc, text, DETAIL)? && tells(alloc, word, DETAIL)? && tells(alloc, filter, DETAIL)?)
+/// Whether the calls refuse a number of no flag, and pressing what the wide grammar adds.
+fn are_flags_refused(alloc: Global, s: &[u8]) -> Result<bool, Refusal> {
+    let limit = u32::MAX;
+    let mut counts = uncounted();
+    let counted = counts_of(alloc, s, NO_FLAG, &mut counts);
+    Ok(
+        tells(alloc, Asked::new(Call::Text, s, limit, NO_FLAG), FLAGS)?
+            && tells(alloc, Asked::new(Call::Filter, s, limit, NO_FLAG), FLAGS)?
+            && tells(alloc, Asked::new(Call::Press, s, limit, NO_FLAG), FLAGS)?
+            && tells(alloc, Asked::new(Call::Press, s, limit, WIDE), FLAGS)?
+            && counted.status == FLAGS
+            && is_uncounted(counts),
+    )
 }
 
-/// Whether each call of the static library that gives a symbol's text answers this, with C++ by the wide grammar or the other.
+/// Whether each call of the static library that gives a symbol's text answers this, with C++ by the wide grammar or the other. A
+/// name that begins as no symbol does is told as that.
 ///
 /// # Errors
 ///
@@ -429,14 +461,15 @@ pub fn library_says(
     wide: bool,
     wanted: &[u8],
 ) -> Result<bool, Refusal> {
-    let detail = number_of(detail, wide);
-    let asked = Asked::new(Call::Text, s, limit, detail);
+    let flags = flags_of(detail, wide);
+    if !is_named(s) {
+        return tells(alloc, Asked::new(Call::Text, s, limit, flags), NO_SYMBOL);
+    }
     Ok(
-        call_says(alloc, asked, wanted)?
-            && word_says(alloc, s, limit, detail, wanted)?
-            && many_say(alloc, s, limit, detail)?
-            && is_detail_refused(alloc, s, limit, NO_DETAIL)?
-            && are_ends_refused(alloc, s, detail)?,
+        name_says(alloc, Call::Text, s, limit, flags, wanted)?
+            && many_say(alloc, s, limit, flags)?
+            && are_flags_refused(alloc, s)?
+            && are_ends_refused(alloc, s, flags)?,
     )
 }
 
@@ -446,10 +479,14 @@ pub fn library_says(
 ///
 /// `Memory` where the call tells that.
 pub fn library_presses(alloc: Global, s: &[u8], wanted: &[u8]) -> Result<bool, Refusal> {
-    call_says(alloc, Asked::new(Call::Press, s, 0, 0), wanted)
+    if !is_named(s) {
+        return tells(alloc, Asked::new(Call::Press, s, 0, 0), NO_SYMBOL);
+    }
+    name_says(alloc, Call::Press, s, 0, 0, wanted)
 }
 
-/// Whether the static library's call that filters a text answers this, with C++ by the wide grammar or the other.
+/// Whether the static library's call that filters a text answers this, where words have these letters, with C++ by the wide grammar
+/// or the other.
 ///
 /// # Errors
 ///
@@ -459,11 +496,16 @@ pub fn library_filters(
     text: &[u8],
     limit: u32,
     detail: Detail,
+    letters: Letters,
     wide: bool,
     wanted: &[u8],
 ) -> Result<bool, Refusal> {
-    let asked = Asked::new(Call::Filter, text, limit, number_of(detail, wide));
-    call_says(alloc, asked, wanted)
+    let shown = flags_of(detail, wide);
+    let flags = match letters {
+        Letters::Any => shown,
+        Letters::Ascii => shown | ASCII_WORDS,
+    };
+    call_says(alloc, Asked::new(Call::Filter, text, limit, flags), wanted)
 }
 
 /// Whether each call of the static library that reads a symbol tells that this one has too many bytes.
@@ -473,26 +515,36 @@ pub fn library_filters(
 /// `Memory` where a call tells that.
 pub fn is_told_oversize(alloc: Global, s: &[u8]) -> Result<bool, Refusal> {
     let limit = u32::MAX;
-    let symbols: [&[u8]; 3] = [b"_Z1fv", s, b"_Z1gv"];
+    let names: [&[u8]; 3] = [b"_Z1fv", s, b"_Z1gv"];
     let mut counts = uncounted();
-    let mut answer = untold();
-    let counted = counts_of(alloc, s, &mut counts, &mut answer);
+    let counted = counts_of(alloc, s, 0, &mut counts);
     Ok(
         tells(alloc, Asked::new(Call::Text, s, limit, 0), SIZE)?
-            && tells(alloc, Asked::new(Call::Word, s, limit, 0), SIZE)?
+            && tells(alloc, Asked::new(Call::Text, s, limit, UNDERSCORE), SIZE)?
             && tells(alloc, Asked::new(Call::Press, s, limit, 0), SIZE)?
-            && texts_say(alloc, &symbols, limit, 0, 6)?
-            && counted == SIZE
-            && answer.place == 0
+            && texts_say(alloc, &names, limit, 0, 6)?
+            && counted.status == SIZE
+            && counted.offset == 0
             && is_uncounted(counts),
     )
 }
 
-/// Whether the static library's call for words tells that this one begins as no symbol does.
+/// Whether the static library's calls for names tell that this one begins as no symbol does.
 ///
 /// # Errors
 ///
-/// `Memory` where the call tells that.
+/// `Memory` where a call tells that.
 pub fn is_told_nameless(alloc: Global, word: &[u8]) -> Result<bool, Refusal> {
-    tells(alloc, Asked::new(Call::Word, word, u32::MAX, 0), NO_SYMBOL)
+    let limit = u32::MAX;
+    Ok(
+        tells(
+            alloc,
+            Asked::new(Call::Text, word, limit, UNDERSCORE),
+            NO_SYMBOL,
+        )? && tells(
+            alloc,
+            Asked::new(Call::Press, word, limit, UNDERSCORE),
+            NO_SYMBOL,
+        )?,
+    )
 }

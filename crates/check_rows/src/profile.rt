@@ -90,7 +90,7 @@ impl Profile for Abi {
         Ok(
             fits(s)
                 && library_says(alloc, s, limit, detail, false, wanted)?
-                && library_counts(alloc, lists, kind, s)?,
+                && library_counts(alloc, Abi, lists, kind, s, false)?,
         )
     }
 
@@ -140,14 +140,18 @@ impl Profile for Wide {
 
     fn library_says(
         alloc: Global,
-        _lists: &mut Lists<Wide>,
-        _kind: Kind,
+        lists: &mut Lists<Wide>,
+        kind: Kind,
         s: &[u8],
         limit: u32,
         detail: Detail,
         wanted: &[u8],
     ) -> Result<bool, Refusal> {
-        library_says(alloc, s, limit, detail, true, wanted)
+        Ok(
+            fits(s)
+                && library_says(alloc, s, limit, detail, true, wanted)?
+                && library_counts(alloc, Wide, lists, kind, s, true)?,
+        )
     }
 
     fn is_unpressed(

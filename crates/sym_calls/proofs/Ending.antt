@@ -1,59 +1,118 @@
 -- How a call ends, by what was answered.
-use Rattle.std.proofs.Common.{◌≡◌, ◌≢◌, inl, inr, ℕ, Bool, true, false, cond, List, [], ◌++◌, length, Option, Some, Result, Ok, Err, refl, sym, ap, ap₂, subst, ◌∙◌}
+use Rattle.std.proofs.Common.{◌≡◌, ◌≢◌, ◌≤◌, inl, inr, ℕ, ◌+◌, ◌-◌, Bool, true, false, cond, List, [], ◌++◌, length, take, drop, Option, Some, None, Result, Ok, Err, refl, sym, ap, subst, ◌∙◌, arith}
 use Rattle.std.specs.Prelude.{nat_le}
-use Rattle.std.proofs.lemmas.Bool.{cond-true}
-use Rattle.std.proofs.KnownBytes.{Consumes-all}
+use Rattle.std.proofs.lemmas.List.{length-drop, take_all}
 use Rattle.sym_core.specs.declared.refusal.Refusal.{Refusal}
 use Rattle.sym_core.specs.declared.refusal.Refusal.TheVariants.{Malformed, BadReference, BadValue, TooLong, Memory}
-use Rattle.sym_print.specs.declared.detail.Detail.{Detail}
 use Rattle.sym_core.specs.declared.counts.Counts.{Counts}
-use Rattle.sym_filter.specs.Demangled.{IsAppended, IsDemangled}
-use Rattle.sym_filter.specs.declared.demangler.Demangled.{Demangled}
-use Rattle.sym_filter.specs.declared.demangler.Demangled.TheVariants as demangler
+use Rattle.sym_print.specs.declared.detail.Detail.{Detail}
+use Rattle.sym_filter.specs.Demangled.{IsAppended}
 use Rattle.sym_filter.specs.declared.kinds.Kind.{Kind}
-use Rattle.sym_filter.specs.declared.words.Tally.{Tally}
-use Rattle.sym_filter.specs.Languages.{answer_of, wide_answer_of, AreCountsOf}
-use Rattle.sym_filter.specs.Runs.{Answering, filtered}
-use Rattle.sym_filter.specs.Streams.{FiltersAll}
+use Rattle.sym_filter.specs.Kinds.{symbol_of}
+use Rattle.sym_filter.specs.Languages.{answer_of, wide_answer_of, pressed_of, AreCountsOf, AreWideCountsOf}
+use Rattle.sym_filter.specs.Runs.{Answering, filtered_at, tally_at}
 use Rattle.sym_calls.specs.declared.counting.SymbolCounts.{SymbolCounts}
-use Rattle.sym_calls.specs.declared.asked.Asked.{Asked}
-use Rattle.sym_calls.specs.Calls.{Ending, EndsAs, IsFound, Counted, answers_at, symbol_kind, refused, written, answered, symbol_told, text_told, filter_told}
+use Rattle.sym_calls.specs.declared.flags.Asked.{Asked}
+use Rattle.sym_calls.specs.declared.filtering.TextTally.{TextTally}
+use Rattle.sym_calls.specs.Calls.{CountingEndsAs, CountingEndsBy, Ending, EndsAs, IsCounted, IsTallied, NameCounted, Tallied, answered, answers_at, filter_told, named, name_told, numbers_of, press_told, refused, status_alone, text_told, told_of, written}
+
+-- what follows so many bytes, as a slice
+pub rest-of : (at : ℕ) (bytes : List ℕ) → take (length bytes - at) (drop at bytes) ≡ drop at bytes
+rest-of at bytes = take_all (length bytes - at) (drop at bytes) (omega (arith, length-drop at bytes))
+
+low-cond : (test : Bool) (a b : Ending) → a.status ≤ 6 → b.status ≤ 6 → (cond test a b).status ≤ 6
+low-cond true a b first second = first
+low-cond false a b first second = second
+
+written-low : (bytes buffer : List ℕ) → (written bytes buffer).status ≤ 6
+unfolding written
+written-low bytes buffer = low-cond (nat_le (length bytes) (length buffer)) _ _ (omega arith) (omega arith)
+
+-- an answer for a symbol may be one for want of memory
+answered-low : (answer : Result (List ℕ) Refusal) (skip : ℕ) (buffer : List ℕ) → (answered answer skip buffer).status ≤ 6
+unfolding answered refused
+answered-low (Ok bytes) skip buffer = written-low bytes buffer
+answered-low (Err (Malformed at)) skip buffer = omega arith
+answered-low (Err (BadReference at)) skip buffer = omega arith
+answered-low (Err (BadValue at)) skip buffer = omega arith
+answered-low (Err TooLong) skip buffer = omega arith
+answered-low (Err Memory) skip buffer = omega arith
 
 -- a refusal is what was answered, but for want of memory
-pub refusal-ends : (e : Refusal) (answer : Result (List ℕ) Refusal) (room : List ℕ) (found : Ending) → (e ≢ Memory → answer ≡ Err e) → found ≡ refused e room → EndsAs (answered answer room) room found
+refusal-ends : (e : Refusal) (answer : Result (List ℕ) Refusal) (skip : ℕ) (buffer : List ℕ) (found : Ending) → (e ≢ Memory → answer ≡ Err e) → found ≡ refused e skip buffer → EndsAs (answered answer skip buffer) buffer found
 unfolding answered refused
-refusal-ends Memory answer room found given is = inr is
-refusal-ends (Malformed at) answer room found given is = inl (is ∙ sym (ap (λ r. answered r room) (given (λ e. cc))))
-refusal-ends (BadReference at) answer room found given is = inl (is ∙ sym (ap (λ r. answered r room) (given (λ e. cc))))
-refusal-ends (BadValue at) answer room found given is = inl (is ∙ sym (ap (λ r. answered r room) (given (λ e. cc))))
-refusal-ends TooLong answer room found given is = inl (is ∙ sym (ap (λ r. answered r room) (given (λ e. cc))))
+refusal-ends Memory answer skip buffer found given is = inr (answered-low answer skip buffer, is)
+refusal-ends (Malformed at) answer skip buffer found given is = inl (is ∙ sym (ap (λ r. answered r skip buffer) (given (λ e. cc))))
+refusal-ends (BadReference at) answer skip buffer found given is = inl (is ∙ sym (ap (λ r. answered r skip buffer) (given (λ e. cc))))
+refusal-ends (BadValue at) answer skip buffer found given is = inl (is ∙ sym (ap (λ r. answered r skip buffer) (given (λ e. cc))))
+refusal-ends TooLong answer skip buffer found given is = inl (is ∙ sym (ap (λ r. answered r skip buffer) (given (λ e. cc))))
 
--- a text that was put into the room
-pub text-ends : (answer : Result (List ℕ) Refusal) (room bytes : List ℕ) (found : Ending) → answer ≡ Ok bytes → found ≡ written bytes room → EndsAs (answered answer room) room found
+-- a text that was appended to an empty list, and put into the buffer
+pub appended-ends : {A : Type 0} → (answer : Result (List ℕ) Refusal) (skip : ℕ) (buffer old new : List ℕ) (result : Result A Refusal) (done : A) (found : Ending) → old ≡ []
+    → result ≡ Ok done → IsAppended answer old new result → found ≡ written new buffer → EndsAs (answered answer skip buffer) buffer found
 unfolding answered
-text-ends answer room bytes found is put = inl (put ∙ sym (ap (λ r. answered r room) is))
+appended-ends answer skip buffer old new result done found empty ok is put =
+    let here = subst (λ r. IsAppended answer old new r) ok is in
+    inl (put ∙ sym (ap (λ r. answered r skip buffer) (here.1 ∙ ap (λ t. Ok t) (ap (λ o. o ++ here.0) (sym empty) ∙ sym here.2))))
 
--- what a demangler did, with a list that was empty
-pub is-found : (answer : Result (List ℕ) Refusal) (are_counts : Counts → Type 0) (old bytes : List ℕ) (demangled : Demangled) → old ≡ [] → IsDemangled answer are_counts old bytes demangled → IsFound answer bytes demangled
-unfolding IsFound
-is-found answer are_counts old bytes (demangler.Text counts) empty is = is.1.1 ∙ ap (λ t. Ok t) (ap (λ o. o ++ is.1.0) (sym empty) ∙ sym is.1.2)
-is-found answer are_counts old bytes (demangler.TooLong counts) empty is = is.1
-is-found answer are_counts old bytes (demangler.Refused refusal) empty is = λ other. (is.0 other).0
+-- a symbol that has no text
+pub not-appended-ends : {A : Type 0} → (answer : Result (List ℕ) Refusal) (skip : ℕ) (buffer old new : List ℕ) (result : Result A Refusal) (refusal : Refusal) (found : Ending)
+    → result ≡ Err refusal → IsAppended answer old new result → found ≡ refused refusal skip buffer → EndsAs (answered answer skip buffer) buffer found
+not-appended-ends answer skip buffer old new result refusal found err is told =
+    let here = subst (λ r. IsAppended answer old new r) err is in
+    refusal-ends refusal answer skip buffer found here.0 told
 
--- a text that costs too much
-pub too-long-ends : (answer : Result (List ℕ) Refusal) (room : List ℕ) (status length place : ℕ) → answer ≡ Err TooLong → status ≡ 4 → length ≡ 0 → place ≡ 0
-    → EndsAs (answered answer room) room (record { status = status; room = room; length = length; place = place })
-unfolding answered refused
-too-long-ends answer room status length place is s l p = inl (rw (s, l, p) (sym (ap (λ r. answered r room) is)))
+-- a name whose symbol is read
+pub name-ends : (answers : Answering) (asked : Asked) (name buffer : List ℕ) (kind : Kind) (found : Ending) → named asked.underscore name ≡ Ok kind
+    → EndsAs (answered (answers kind (symbol_of kind name)) kind.skip buffer) buffer found → EndsAs (name_told answers asked name buffer) buffer found
+unfolding told_of
+name-ends answers asked name buffer kind found is ends = subst (λ r. EndsAs (told_of answers r name buffer) buffer found) (sym is) ends
 
--- a call behind the tests of its detail and of the symbol's length
-pub told-behind : (test : Bool) (a b : Ending) (room : List ℕ) (found : Ending) → test ≡ true → EndsAs a room found → EndsAs (cond test a b) room found
-told-behind test a b room found is ends = subst (λ t. EndsAs t room found) (sym (cond-true test a b is)) ends
+-- one for whose lists there is no memory
+pub no-lists-end : (answers : Answering) (asked : Asked) (name buffer : List ℕ) (kind : Kind) (found : Ending) → named asked.underscore name ≡ Ok kind
+    → found ≡ status_alone 5 buffer → EndsAs (name_told answers asked name buffer) buffer found
+no-lists-end answers asked name buffer kind found is told = name-ends answers asked name buffer kind found is (inr (answered-low _ kind.skip buffer, told))
 
-pub fits-ends : (answers : Answering) (symbol room : List ℕ) (found : Ending) → nat_le (length symbol) 16777216 ≡ true
-    → EndsAs (answered (answers (symbol_kind symbol) symbol) room) room found → EndsAs (symbol_told answers symbol room) room found
-unfolding symbol_told
-fits-ends answers symbol room found fits ends = told-behind (nat_le (length symbol) 16777216) _ _ room found fits ends
+-- one that has no symbol, or a symbol of too many bytes
+pub no-name-ends : (answers : Answering) (asked : Asked) (name buffer : List ℕ) (status : ℕ) (found : Ending) → named asked.underscore name ≡ Err status
+    → found ≡ status_alone status buffer → EndsAs (name_told answers asked name buffer) buffer found
+unfolding told_of
+no-name-ends answers asked name buffer status found is told = inl (told ∙ sym (ap (λ r. told_of answers r name buffer) is))
+
+-- a call whose flags are some
+pub text-ends : (option : Option Asked) (asked : Asked) (limit : ℕ) (name buffer : List ℕ) (found : Ending) → option ≡ Some asked
+    → EndsAs (name_told (answers_at asked limit) asked name buffer) buffer found → EndsAs (text_told option limit name buffer) buffer found
+unfolding text_told
+text-ends option asked limit name buffer found is ends = subst (λ o. EndsAs (text_told o limit name buffer) buffer found) (sym is) ends
+
+pub press-ends : (option : Option Asked) (asked : Asked) (name buffer : List ℕ) (found : Ending) → option ≡ Some asked → asked.wide ≡ false
+    → EndsAs (name_told pressed_of asked name buffer) buffer found → EndsAs (press_told option name buffer) buffer found
+unfolding press_told
+press-ends option asked name buffer found is narrow ends =
+    subst (λ o. EndsAs (press_told o name buffer) buffer found) (sym is)
+    (subst (λ b. EndsAs (cond b (status_alone 8 buffer) (name_told pressed_of asked name buffer)) buffer found) (sym narrow) ends)
+
+pub filter-asked : (option : Option Asked) (asked : Asked) (limit : ℕ) (text buffer : List ℕ) (found : Ending) → option ≡ Some asked
+    → EndsAs (written (filtered_at asked.letters (answers_at asked limit) text) buffer) buffer found → EndsAs (filter_told option limit text buffer) buffer found
+unfolding filter_told
+filter-asked option asked limit text buffer found is ends = subst (λ o. EndsAs (filter_told o limit text buffer) buffer found) (sym is) ends
+
+pub tally-asked : (option : Option Asked) (asked : Asked) (limit : ℕ) (text : List ℕ) (old new : TextTally) (status : ℕ) → option ≡ Some asked
+    → Tallied (tally_at asked.letters (answers_at asked limit) text) old new status → IsTallied option limit text old new status
+unfolding IsTallied
+tally-asked option asked limit text old new status is tallied = subst (λ o. IsTallied o limit text old new status) (sym is) tallied
+
+pub counting-ends : (option : Option Asked) (asked : Asked) (kind : Kind) (name : List ℕ) (wide : Bool) (old new : SymbolCounts) (found : Ending) → option ≡ Some asked → asked.wide ≡ wide
+    → named asked.underscore name ≡ Ok kind → CountingEndsBy wide kind (symbol_of kind name) old new found → CountingEndsAs option name old new found
+unfolding CountingEndsAs NameCounted
+counting-ends option asked kind name wide old new found is same known ends =
+    subst (λ o. CountingEndsAs o name old new found) (sym is)
+    (subst (λ r. NameCounted asked.wide r name old new found) (sym known)
+    (subst (λ w. CountingEndsBy w kind (symbol_of kind name) old new found) (sym same) ends))
+
+-- a text for whose lists there is no memory
+pub no-filter-ends : (bytes buffer : List ℕ) (found : Ending) → found ≡ status_alone 5 buffer → EndsAs (written bytes buffer) buffer found
+no-filter-ends bytes buffer found told = inr (written-low bytes buffer, told)
 
 -- what holds of a call with either grammar
 pub by-wide : {A : Type 0} → (P : Answering → A → Type 0) (asked : Asked) (limit of_languages : ℕ) (detail : Detail) (found : A) → asked.wide ≡ true → of_languages ≡ limit → detail ≡ asked.detail
@@ -68,60 +127,41 @@ by-abi P asked limit of_languages detail found is same_limit same_detail given =
     subst (λ b. P (cond b (wide_answer_of limit asked.detail) (answer_of limit asked.detail)) found) (sym is)
     (subst (λ n. P (answer_of n asked.detail) found) same_limit (subst (λ d. P (answer_of of_languages d) found) same_detail given))
 
--- a call behind the test of its number
-pub text-asked : (named : Option Asked) (asked : Asked) (limit : ℕ) (symbol room : List ℕ) (found : Ending) → named ≡ Some asked
-    → EndsAs (symbol_told (answers_at asked limit) symbol room) room found → EndsAs (text_told named limit symbol room) room found
-unfolding text_told
-text-asked named asked limit symbol room found is ends = subst (λ n. EndsAs (text_told n limit symbol room) room found) (sym is) ends
-
-pub filter-asked : (named : Option Asked) (asked : Asked) (limit : ℕ) (text room : List ℕ) (found : Ending) → named ≡ Some asked
-    → EndsAs (written (filtered (answers_at asked limit) text) room) room found → EndsAs (filter_told named limit text room) room found
-unfolding filter_told
-filter-asked named asked limit text room found is ends = subst (λ n. EndsAs (filter_told n limit text room) room found) (sym is) ends
-
--- a text that was filtered to its end
-pub filter-ends : (answers : Answering) (text room start out : List ℕ) (coming : Option (List ℕ)) (tally : Tally) (found : Ending) → start ≡ []
-    → FiltersAll answers (Some text) coming (Some start) (Some out) tally → found ≡ written out room → EndsAs (written (filtered answers text) room) room found
-filter-ends answers text room start out coming tally found none all told =
-    let read : all.text ≡ text = Consumes-all (Some text) coming all.text [] all.text all.reads all.ends refl in
-    let put : out ≡ filtered answers text = all.writes ∙ ap₂ (λ (a b : List ℕ). a ++ filtered answers b) none read in
-    inl (told ∙ ap (λ b. written b room) put)
-
--- a status and a place, without room and length
-abbrev bare : Ending → Ending
-bare t = record { status = t.status; room = []; length = 0; place = t.place }
-
 -- a symbol that isn't read
-pub count-ends : (symbol : List ℕ) (counts : SymbolCounts) (status length place : ℕ) (kind : Kind) (refusal : Refusal) → kind ≡ symbol_kind symbol
-    → (refusal ≢ Memory → (answer_of 0 Detail.Full kind symbol ≡ Err refusal) × (refusal ≢ TooLong))
-    → (found : Ending) → found.status ≡ status → found.place ≡ place → found ≡ refused refusal found.room → Counted symbol counts counts status place
-unfolding refused
-count-ends symbol counts status length place kind Memory in_lang given found s p told = inr (refl, inl (sym s ∙ ap (λ t. t.status) told))
-count-ends symbol counts status length place kind (Malformed at) in_lang given found s p told =
-    inr (refl, inr (inr (Malformed at, (λ e. cc), subst (λ l. answer_of 0 Detail.Full l symbol ≡ Err (Malformed at)) in_lang (given (λ e. cc)).0, rw (sym s, sym p) (sym (ap (λ t. bare t) told)))))
-count-ends symbol counts status length place kind (BadReference at) in_lang given found s p told =
-    inr (refl, inr (inr (BadReference at, (λ e. cc), subst (λ l. answer_of 0 Detail.Full l symbol ≡ Err (BadReference at)) in_lang (given (λ e. cc)).0, rw (sym s, sym p) (sym (ap (λ t. bare t) told)))))
-count-ends symbol counts status length place kind (BadValue at) in_lang given found s p told =
-    inr (refl, inr (inr (BadValue at, (λ e. cc), subst (λ l. answer_of 0 Detail.Full l symbol ≡ Err (BadValue at)) in_lang (given (λ e. cc)).0, rw (sym s, sym p) (sym (ap (λ t. bare t) told)))))
-count-ends symbol counts status length place kind TooLong in_lang given found s p told = absurd ((given (λ e. cc)).1 refl)
+pub refusal-counts : (refusal : Refusal) (answer : Result (List ℕ) Refusal) (are_counts : Counts → Type 0) (skip : ℕ) (counts : SymbolCounts) (found : Ending)
+    → (refusal ≢ Memory → (answer ≡ Err refusal) × (refusal ≢ TooLong)) → found ≡ refused refusal skip [] → IsCounted answer are_counts skip counts counts found
+unfolding IsCounted refused
+refusal-counts Memory answer are_counts skip counts found given is = inr (refl, inl is)
+refusal-counts (Malformed at) answer are_counts skip counts found given is = inr (refl, inr (Malformed at, (λ e. cc), (given (λ e. cc)).0, is))
+refusal-counts (BadReference at) answer are_counts skip counts found given is = inr (refl, inr (BadReference at, (λ e. cc), (given (λ e. cc)).0, is))
+refusal-counts (BadValue at) answer are_counts skip counts found given is = inr (refl, inr (BadValue at, (λ e. cc), (given (λ e. cc)).0, is))
+refusal-counts TooLong answer are_counts skip counts found given is = absurd ((given (λ e. cc)).1 refl)
 
--- a symbol that is read, with its counts
-pub counted-ends : (symbol : List ℕ) (old new : SymbolCounts) (status place : ℕ) (kind : Kind) (read : Counts) → kind ≡ symbol_kind symbol → AreCountsOf kind.lang symbol read
-    → status ≡ 0 → place ≡ 0 → record { rows = new.rows; nodes = new.nodes; steps = new.steps } ≡ read → Counted symbol old new status place
-counted-ends symbol old new status place kind read in_lang counts answered_ok no_place same =
-    let of_new : AreCountsOf kind.lang symbol (record { rows = new.rows; nodes = new.nodes; steps = new.steps }) = subst (λ r. AreCountsOf kind.lang symbol r) (sym same) counts in
-    inl (answered_ok, no_place, subst (λ k. AreCountsOf k.lang symbol (record { rows = new.rows; nodes = new.nodes; steps = new.steps })) in_lang of_new)
+-- one that is read
+pub read-counts : (answer : Result (List ℕ) Refusal) (are_counts : Counts → Type 0) (skip : ℕ) (old new : SymbolCounts) (read : Counts) (found : Ending)
+    → found ≡ status_alone 0 [] → numbers_of new ≡ read → are_counts read → IsCounted answer are_counts skip old new found
+unfolding IsCounted
+read-counts answer are_counts skip old new read found told same are = inl (told, subst are_counts (sym same) are)
 
--- a text that was appended to an empty list, and put into the room
-pub appended-ends : {A : Type 0} → (answers : Answering) (kind : Kind) (symbol room old new : List ℕ) (result : Result A Refusal) (done : A) (found : Ending) → kind ≡ symbol_kind symbol → old ≡ []
-    → result ≡ Ok done → IsAppended (answers kind symbol) old new result → found ≡ written new room → EndsAs (answered (answers (symbol_kind symbol) symbol) room) room found
-appended-ends answers kind symbol room old new result done found in_lang empty ok is put =
-    let here = subst (λ r. IsAppended (answers kind symbol) old new r) ok is in
-    text-ends _ room new found (subst (λ k. answers k symbol ≡ Ok new) in_lang (here.1 ∙ ap (λ t. Ok t) (ap (λ o. o ++ here.0) (sym empty) ∙ sym here.2))) put
+-- one for whose lists there is no memory
+pub no-lists-count : (answer : Result (List ℕ) Refusal) (are_counts : Counts → Type 0) (skip : ℕ) (counts : SymbolCounts) (found : Ending)
+    → found ≡ status_alone 5 [] → IsCounted answer are_counts skip counts counts found
+unfolding IsCounted
+no-lists-count answer are_counts skip counts found told = inr (refl, inl told)
 
--- a symbol that has no text
-pub not-appended-ends : {A : Type 0} → (answers : Answering) (kind : Kind) (symbol room old new : List ℕ) (result : Result A Refusal) (refusal : Refusal) (found : Ending) → kind ≡ symbol_kind symbol
-    → result ≡ Err refusal → IsAppended (answers kind symbol) old new result → found ≡ refused refusal room → EndsAs (answered (answers (symbol_kind symbol) symbol) room) room found
-not-appended-ends answers kind symbol room old new result refusal found in_lang err is told =
-    let here = subst (λ r. IsAppended (answers kind symbol) old new r) err is in
-    refusal-ends refusal _ room found (λ other. subst (λ k. answers k symbol ≡ Err refusal) in_lang (here.0 other)) told
+-- counting with either grammar
+pub wide-counted : (kind : Kind) (limit : ℕ) (detail : Detail) (symbol slice : List ℕ) (old new : SymbolCounts) (found : Ending) → slice ≡ symbol → limit ≡ 0 → detail ≡ Detail.Full
+    → IsCounted (wide_answer_of limit detail kind slice) (AreWideCountsOf kind.lang slice) kind.skip old new found → CountingEndsBy true kind symbol old new found
+unfolding CountingEndsBy
+wide-counted kind limit detail symbol slice old new found same none full given =
+    subst (λ s. IsCounted (wide_answer_of 0 Detail.Full kind s) (AreWideCountsOf kind.lang s) kind.skip old new found) same
+    (subst (λ d. IsCounted (wide_answer_of 0 d kind slice) (AreWideCountsOf kind.lang slice) kind.skip old new found) full
+    (subst (λ n. IsCounted (wide_answer_of n detail kind slice) (AreWideCountsOf kind.lang slice) kind.skip old new found) none given))
+
+pub abi-counted : (kind : Kind) (limit : ℕ) (detail : Detail) (symbol slice : List ℕ) (old new : SymbolCounts) (found : Ending) → slice ≡ symbol → limit ≡ 0 → detail ≡ Detail.Full
+    → IsCounted (answer_of limit detail kind slice) (AreCountsOf kind.lang slice) kind.skip old new found → CountingEndsBy false kind symbol old new found
+unfolding CountingEndsBy
+abi-counted kind limit detail symbol slice old new found same none full given =
+    subst (λ s. IsCounted (answer_of 0 Detail.Full kind s) (AreCountsOf kind.lang s) kind.skip old new found) same
+    (subst (λ d. IsCounted (answer_of 0 d kind slice) (AreCountsOf kind.lang slice) kind.skip old new found) full
+    (subst (λ n. IsCounted (answer_of n detail kind slice) (AreCountsOf kind.lang slice) kind.skip old new found) none given))

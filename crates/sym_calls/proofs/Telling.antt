@@ -1,4 +1,4 @@
--- How many symbols are told of, one behind the other.
+-- How many names are told of, one after the other.
 use Rattle.std.proofs.Common.{◌≡◌, ◌≤◌, ◌<◌, inl, inr, ℕ, ◌+◌, ◌-◌, Bool, true, false, cond, List, [], ◌∷◌, ◌++◌, length, take, drop, get_or, set, Option, Some, Result, Ok, Err, refl, sym, ap, ap₂, subst, ◌∙◌, arith}
 use Rattle.std.specs.Prelude.{nat_eq, nat_le, ◌==◌, ◌&&◌, if◌then◌else◌}
 use Rattle.std.proofs.lemmas.Bool.{le-leb, leb-true}
@@ -8,16 +8,18 @@ use Rattle.std.proofs.Math.Seq.{take-append-add, drop-append-add}
 use Rattle.sym_core.specs.declared.refusal.Refusal.{Refusal}
 use Rattle.sym_core.specs.declared.refusal.Refusal.TheVariants.{Malformed, BadReference, BadValue, TooLong, Memory}
 use Rattle.sym_filter.specs.Runs.{Answering}
-use Rattle.sym_calls.specs.Calls.{Ending, EndsAs, answered, answers_at, refused, symbol_told, written}
+use Rattle.sym_filter.specs.declared.kinds.Kind.{Kind}
+use Rattle.sym_filter.specs.Kinds.{symbol_of}
+use Rattle.sym_calls.specs.Calls.{Ending, EndsAs, answered, answers_at, ending_of, name_told, named, refused, status_alone, told_of, written}
 use Rattle.sym_calls.specs.Texts.{AreTold, IsTold, TextsEndAs, TextsEndBy, are_ends, placed}
-use Rattle.sym_calls.specs.declared.answer.Told.{Told}
-use Rattle.sym_calls.specs.declared.asked.Asked.{Asked}
+use Rattle.sym_calls.specs.declared.outcome.Outcome.{Outcome}
+use Rattle.sym_calls.specs.declared.flags.Asked.{Asked}
 
 both : (a b : Bool) → a && b ≡ true → (a ≡ true) × (b ≡ true)
 both true b holds = (refl, holds)
 both false b holds = cc
 
--- the ends behind one that goes up
+-- the ends after one that goes up
 pub ends-on : (from most : ℕ) (ends : List ℕ) (i : ℕ) → i < length ends → from ≤ get_or ends i 0 → are_ends from most (drop i ends) ≡ are_ends (get_or ends i 0) most (drop (i + 1) ends)
 unfolding are_ends
 ends-on from most ends i within up = ap (λ l. are_ends from most l) (drop_more ends i 0 within) ∙ ap (λ b. b && are_ends (get_or ends i 0) most (drop (i + 1) ends)) (le-leb from (get_or ends i 0) up)
@@ -33,7 +35,7 @@ ends-within from most [] is = leb-true from most is
 ends-within from most (end ∷ ends) is =
     let first : from ≤ end = leb-true from end (both _ _ is).0 in let rest : end ≤ most = ends-within end most ends (both (nat_le from end) (are_ends end most ends) is).1 in omega (arith, first, rest)
 
--- where a symbol stands
+-- where a name is
 pub ends-at : (from most : ℕ) (ends : List ℕ) (i : ℕ) → i < length ends → are_ends from most (drop i ends) ≡ true
     → (from ≤ get_or ends i 0) × (get_or ends i 0 ≤ most) × (are_ends (get_or ends i 0) most (drop (i + 1) ends) ≡ true)
 unfolding are_ends
@@ -41,102 +43,109 @@ ends-at from most ends i within is =
     let here = both _ _ (sym (ap (λ l. are_ends from most l) (drop_more ends i 0 within)) ∙ is) in
     (leb-true from (get_or ends i 0) here.0, ends-within (get_or ends i 0) most (drop (i + 1) ends) here.1, here.1)
 
--- what an ending took of its room
+-- what an ending took of its buffer
 abbrev took : Ending → ℕ
 took ending = if ending.status == 0 then ending.length else 0
 
 abbrev IsWithin : Ending → Type 0
-IsWithin ending = took ending ≤ length ending.room
+IsWithin ending = took ending ≤ length ending.buffer
 
 cond-within : (test : Bool) (a b : Ending) → (test ≡ true → IsWithin a) → IsWithin b → IsWithin (cond test a b)
 cond-within true a b first second = first refl
 cond-within false a b first second = second
 
-answered-within : (answer : Result (List ℕ) Refusal) (room : List ℕ) → IsWithin (answered answer room)
+answered-within : (answer : Result (List ℕ) Refusal) (skip : ℕ) (buffer : List ℕ) → IsWithin (answered answer skip buffer)
 unfolding answered refused written
-answered-within (Ok bytes) room = cond-within (nat_le (length bytes) (length room)) _ _ (λ fits. omega (arith, length-append bytes (drop (length bytes) room))) (omega arith)
-answered-within (Err (Malformed at)) room = omega arith
-answered-within (Err (BadReference at)) room = omega arith
-answered-within (Err (BadValue at)) room = omega arith
-answered-within (Err TooLong) room = omega arith
-answered-within (Err Memory) room = omega arith
+answered-within (Ok bytes) skip buffer = cond-within (nat_le (length bytes) (length buffer)) _ _ (λ fits. omega (arith, length-append bytes (drop (length bytes) buffer))) (omega arith)
+answered-within (Err (Malformed at)) skip buffer = omega arith
+answered-within (Err (BadReference at)) skip buffer = omega arith
+answered-within (Err (BadValue at)) skip buffer = omega arith
+answered-within (Err TooLong) skip buffer = omega arith
+answered-within (Err Memory) skip buffer = omega arith
 
-ending-within : (answers : Answering) (symbol room : List ℕ) (found : Ending) → EndsAs (symbol_told answers symbol room) room found → IsWithin found
-unfolding symbol_told
-ending-within answers symbol room found (inl is) =
-    subst (λ e. IsWithin e) (sym is) (cond-within (nat_le (length symbol) 16777216) _ _ (λ fits. answered-within _ room) (omega arith))
-ending-within answers symbol room found (inr is) = subst (λ e. IsWithin e) (sym is) (omega arith)
+none-took : (is_ok : Bool) (most : ℕ) → cond is_ok 0 0 ≤ most
+none-took true most = omega arith
+none-took false most = omega arith
 
--- a text stands within the room
-pub told-within : (answers : Answering) (symbol room after : List ℕ) (told : Told) → IsTold answers symbol room told after → placed told ≤ length after
-told-within answers symbol room after told is = ending-within answers symbol room (record { status = told.status; room = after; length = told.length; place = told.place }) is
+alone-within : (status : ℕ) (buffer : List ℕ) → IsWithin (status_alone status buffer)
+alone-within status buffer = none-took (status == 0) (length buffer)
 
-take-behind : (xs ys : List ℕ) (at n : ℕ) → length xs ≡ at → take (at + n) (xs ++ ys) ≡ xs ++ take n ys
-take-behind xs ys at n is = subst (λ m. take (m + n) (xs ++ ys) ≡ xs ++ take n ys) is (take-append-add xs ys n)
+told-of-within : (answers : Answering) (kind : Result Kind ℕ) (name buffer : List ℕ) → IsWithin (told_of answers kind name buffer)
+unfolding told_of
+told-of-within answers (Ok kind) name buffer = answered-within (answers kind (symbol_of kind name)) kind.skip buffer
+told-of-within answers (Err status) name buffer = alone-within status buffer
 
-drop-behind : (xs ys : List ℕ) (at n : ℕ) → length xs ≡ at → drop (at + n) (xs ++ ys) ≡ drop n ys
-drop-behind xs ys at n is = subst (λ m. drop (m + n) (xs ++ ys) ≡ drop n ys) is (drop-append-add xs ys n)
+-- a text is within the buffer
+pub told-within : (answers : Answering) (asked : Asked) (name buffer : List ℕ) (found : Ending) → EndsAs (name_told answers asked name buffer) buffer found → took found ≤ length found.buffer
+told-within answers asked name buffer found (inl is) = subst (λ e. IsWithin e) (sym is) (told-of-within answers (named asked.underscore name) name buffer)
+told-within answers asked name buffer found (inr is) = subst (λ e. IsWithin e) (sym is.1) (alone-within 5 buffer)
 
--- what is left of the room, as a slice
-pub left-of-room : (at : ℕ) (room : List ℕ) → take (length room - at) (drop at room) ≡ drop at room
-left-of-room at room = take_all (length room - at) (drop at room) (omega (arith, length-drop at room))
+take-after : (xs ys : List ℕ) (at n : ℕ) → length xs ≡ at → take (at + n) (xs ++ ys) ≡ xs ++ take n ys
+take-after xs ys at n is = subst (λ m. take (m + n) (xs ++ ys) ≡ xs ++ take n ys) is (take-append-add xs ys n)
 
--- the room behind a write to what was left of it
-pub room-behind : (at : ℕ) (room after : List ℕ) → at ≤ length room → put_mid at (length room - at) room after ≡ take at room ++ after
-room-behind at room after within = ap (λ l. take at room ++ (after ++ l)) (drop_all (length room - at) (drop at room) (omega (arith, length-drop at room))) ∙ ap (λ l. take at room ++ l) (append-nil after)
+drop-after : (xs ys : List ℕ) (at n : ℕ) → length xs ≡ at → drop (at + n) (xs ++ ys) ≡ drop n ys
+drop-after xs ys at n is = subst (λ m. drop (m + n) (xs ++ ys) ≡ drop n ys) is (drop-append-add xs ys n)
 
-pub room-within : (at n : ℕ) (room after whole : List ℕ) → at ≤ length room → whole ≡ take at room ++ after → n ≤ length after → at + n ≤ length whole
-room-within at n room after whole within is_whole fits =
-    let front : length (take at room) ≡ at = length-take-le at room within in
-    let all : length whole ≡ length (take at room) + length after = ap (λ l. length l) is_whole ∙ length-append (take at room) after in
+-- what is left of the buffer, as a slice
+pub left-of-buffer : (at : ℕ) (buffer : List ℕ) → take (length buffer - at) (drop at buffer) ≡ drop at buffer
+left-of-buffer at buffer = take_all (length buffer - at) (drop at buffer) (omega (arith, length-drop at buffer))
+
+-- the buffer after a write to what was left of it
+pub buffer-after : (at : ℕ) (buffer after : List ℕ) → at ≤ length buffer → put_mid at (length buffer - at) buffer after ≡ take at buffer ++ after
+buffer-after at buffer after within = ap (λ l. take at buffer ++ (after ++ l)) (drop_all (length buffer - at) (drop at buffer) (omega (arith, length-drop at buffer))) ∙ ap (λ l. take at buffer ++ l) (append-nil after)
+
+pub buffer-within : (at n : ℕ) (buffer after whole : List ℕ) → at ≤ length buffer → whole ≡ take at buffer ++ after → n ≤ length after → at + n ≤ length whole
+buffer-within at n buffer after whole within is_whole fits =
+    let front : length (take at buffer) ≡ at = length-take-le at buffer within in
+    let all : length whole ≡ length (take at buffer) + length after = ap (λ l. length l) is_whole ∙ length-append (take at buffer) after in
     omega (arith, front, all, fits)
 
--- one more symbol is told of
-pub told-more : (answers : Answering) (text ends first room front after whole : List ℕ) (from at i : ℕ) (told : Told) (others : List Told)
+-- one more name is told of
+pub told-more : (answers : Answering) (asked : Asked) (names ends first buffer front after whole : List ℕ) (from at i : ℕ) (told : Outcome) (others : List Outcome)
     → i < length ends → i < length others → length front ≡ at → whole ≡ front ++ after
-    → IsTold answers (take (get_or ends i 0 - from) (drop from text)) room told after
-    → ((new : List ℕ) (rest : List Told) → AreTold answers text from (drop i ends) room new rest → AreTold answers text 0 ends first (front ++ new) (take i others ++ rest))
-    → (new : List ℕ) (rest : List Told) → AreTold answers text (get_or ends i 0) (drop (i + 1) ends) (drop (at + placed told) whole) new rest
-    → AreTold answers text 0 ends first (take (at + placed told) whole ++ new) (take (i + 1) (set others i told) ++ rest)
+    → IsTold answers asked (take (get_or ends i 0 - from) (drop from names)) buffer told after
+    → ((new : List ℕ) (rest : List Outcome) → AreTold answers asked names from (drop i ends) buffer new rest → AreTold answers asked names 0 ends first (front ++ new) (take i others ++ rest))
+    → (new : List ℕ) (rest : List Outcome) → AreTold answers asked names (get_or ends i 0) (drop (i + 1) ends) (drop (at + placed told) whole) new rest
+    → AreTold answers asked names 0 ends first (take (at + placed told) whole ++ new) (take (i + 1) (set others i told) ++ rest)
 unfolding AreTold
-told-more answers text ends first room front after whole from at i told others in_ends in_others is_at is_whole is sofar new rest given =
+told-more answers asked names ends first buffer front after whole from at i told others in_ends in_others is_at is_whole is sofar new rest given =
     let n : ℕ = placed told in
-    let left : drop (at + n) whole ≡ drop n after = ap (λ l. drop (at + n) l) is_whole ∙ drop-behind front after at n is_at in
-    let kept : take (at + n) whole ++ new ≡ front ++ (take n after ++ new) = ap (λ l. take (at + n) l ++ new) is_whole ∙ ap (λ l. l ++ new) (take-behind front after at n is_at) ∙ append_assoc front (take n after) new in
+    let left : drop (at + n) whole ≡ drop n after = ap (λ l. drop (at + n) l) is_whole ∙ drop-after front after at n is_at in
+    let kept : take (at + n) whole ++ new ≡ front ++ (take n after ++ new) = ap (λ l. take (at + n) l ++ new) is_whole ∙ ap (λ l. l ++ new) (take-after front after at n is_at) ∙ append_assoc front (take n after) new in
     let told_of : take (i + 1) (set others i told) ++ rest ≡ take i others ++ (told ∷ rest) = ap (λ l. l ++ rest) (take_more_set others i told in_others) ∙ append_assoc (take i others) (told ∷ []) rest in
-    let here : AreTold answers text from (get_or ends i 0 ∷ drop (i + 1) ends) room (take n after ++ new) (told ∷ rest) =
-    (after, new, is, refl, subst (λ l. AreTold answers text (get_or ends i 0) (drop (i + 1) ends) l new rest) left given) in
-    subst (λ l. AreTold answers text 0 ends first l (take (i + 1) (set others i told) ++ rest)) (sym kept)
-    (subst (λ l. AreTold answers text 0 ends first (front ++ (take n after ++ new)) l) (sym told_of)
-    (sofar (take n after ++ new) (told ∷ rest) (subst (λ l. AreTold answers text from l room (take n after ++ new) (told ∷ rest)) (sym (drop_more ends i 0 in_ends)) here)))
+    let here : AreTold answers asked names from (get_or ends i 0 ∷ drop (i + 1) ends) buffer (take n after ++ new) (told ∷ rest) =
+    (after, new, is, refl, subst (λ l. AreTold answers asked names (get_or ends i 0) (drop (i + 1) ends) l new rest) left given) in
+    subst (λ l. AreTold answers asked names 0 ends first l (take (i + 1) (set others i told) ++ rest)) (sym kept)
+    (subst (λ l. AreTold answers asked names 0 ends first (front ++ (take n after ++ new)) l) (sym told_of)
+    (sofar (take n after ++ new) (told ∷ rest) (subst (λ l. AreTold answers asked names from l buffer (take n after ++ new) (told ∷ rest)) (sym (drop_more ends i 0 in_ends)) here)))
 
--- all symbols are told of
-pub told-all : (answers : Answering) (text ends first room : List ℕ) (from at i : ℕ) (others : List Told)
+-- all names are told of
+pub told-all : (answers : Answering) (asked : Asked) (names ends first buffer : List ℕ) (from at i : ℕ) (others : List Outcome)
     → length ends ≤ i → length others ≡ length ends
-    → ((new : List ℕ) (rest : List Told) → AreTold answers text from (drop i ends) (drop at room) new rest → AreTold answers text 0 ends first (take at room ++ new) (take i others ++ rest))
-    → AreTold answers text 0 ends first room others
+    → ((new : List ℕ) (rest : List Outcome) → AreTold answers asked names from (drop i ends) (drop at buffer) new rest → AreTold answers asked names 0 ends first (take at buffer ++ new) (take i others ++ rest))
+    → AreTold answers asked names 0 ends first buffer others
 unfolding AreTold
-told-all answers text ends first room from at i others ended as_many sofar =
+told-all answers asked names ends first buffer from at i others ended as_many sofar =
     let none : drop i ends ≡ [] = drop_all i ends ended in
     let all : take i others ++ [] ≡ others = append-nil (take i others) ∙ take_all i others (omega (arith, as_many)) in
-    subst (λ l. AreTold answers text 0 ends first l others) (take-append-drop at room)
-    (subst (λ l. AreTold answers text 0 ends first (take at room ++ drop at room) l) all
-    (sofar (drop at room) [] (subst (λ l. AreTold answers text from l (drop at room) (drop at room) []) (sym none) refl)))
+    subst (λ l. AreTold answers asked names 0 ends first l others) (take-append-drop at buffer)
+    (subst (λ l. AreTold answers asked names 0 ends first (take at buffer ++ drop at buffer) l) all
+    (sofar (drop at buffer) [] (subst (λ l. AreTold answers asked names from l (drop at buffer) (drop at buffer) []) (sym none) refl)))
 
--- how the call over many symbols ends
-pub texts-refused : (named : Option Asked) (asked : Asked) (limit : ℕ) (text ends room : List ℕ) (untold : List Told) → named ≡ Some asked
-    → nat_eq (length untold) (length ends) && are_ends 0 (length text) ends ≡ false → TextsEndAs named limit text ends room room untold untold 10
+-- how the call over many names ends
+pub texts-refused : (named : Option Asked) (asked : Asked) (limit : ℕ) (names ends buffer : List ℕ) (untold : List Outcome) → named ≡ Some asked
+    → nat_eq (length untold) (length ends) && are_ends 0 (length names) ends ≡ false → TextsEndAs named limit names ends buffer buffer untold untold 10
 unfolding TextsEndAs TextsEndBy
-texts-refused named asked limit text ends room untold is wrong =
-    subst (λ n. TextsEndAs n limit text ends room room untold untold 10) (sym is) (subst (λ b. TextsEndBy b (answers_at asked limit) text ends room room untold untold 10) (sym wrong) (refl, refl, refl))
+texts-refused named asked limit names ends buffer untold is wrong =
+    subst (λ n. TextsEndAs n limit names ends buffer buffer untold untold 10) (sym is) (subst (λ b. TextsEndBy b (answers_at asked limit) asked names ends buffer buffer untold untold 10) (sym wrong) (refl, refl, refl))
 
-pub texts-told : (named : Option Asked) (asked : Asked) (limit : ℕ) (text ends room new : List ℕ) (untold told : List Told) → named ≡ Some asked
-    → nat_eq (length untold) (length ends) ≡ true → are_ends 0 (length text) ends ≡ true → AreTold (answers_at asked limit) text 0 ends room new told
-    → TextsEndAs named limit text ends room new untold told 0
+pub texts-told : (named : Option Asked) (asked : Asked) (limit : ℕ) (names ends buffer new : List ℕ) (untold told : List Outcome) → named ≡ Some asked
+    → nat_eq (length untold) (length ends) ≡ true → are_ends 0 (length names) ends ≡ true → AreTold (answers_at asked limit) asked names 0 ends buffer new told
+    → TextsEndAs named limit names ends buffer new untold told 0
 unfolding TextsEndAs TextsEndBy
-texts-told named asked limit text ends room new untold told is as_many right all =
-    subst (λ n. TextsEndAs n limit text ends room new untold told 0) (sym is)
-    (subst (λ b. TextsEndBy b (answers_at asked limit) text ends room new untold told 0) (sym (ap₂ (λ (a b : Bool). a && b) as_many right)) (refl, all))
+texts-told named asked limit names ends buffer new untold told is as_many right all =
+    subst (λ n. TextsEndAs n limit names ends buffer new untold told 0) (sym is)
+    (subst (λ b. TextsEndBy b (answers_at asked limit) asked names ends buffer new untold told 0) (sym (ap₂ (λ (a b : Bool). a && b) as_many right)) (refl, all))
 
 pub not-as-many : (a b : Bool) → a ≡ false → a && b ≡ false
 not-as-many a b is = ap (λ t. t && b) is

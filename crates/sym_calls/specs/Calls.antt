@@ -1,122 +1,164 @@
 -- What each exported call answers, and what it writes.
 use Rattle.sym_core.specs.declared.TheConstants.{MOST_BYTES}
-use Rattle.std.specs.Prelude.{◌≡◌, ◌≢◌, ◌⊎◌, ◌<◌, ℕ, zero, suc, List, [], drop, length, codes, ◌++◌, Option, Some, None, Result, Ok, Err, ◌+◌, ◌-◌, ◌&&◌, min, nat_eq, nat_le, option_map, if◌then◌else◌}
-use Rattle.std.specs.List.{starts_with}
+use Rattle.std.specs.Prelude.{◌≡◌, ◌≢◌, ◌⊎◌, ◌≤◌, ℕ, List, [], drop, length, ◌++◌, Bool, true, false, Option, Some, None, Result, Ok, Err, ◌+◌, ◌&&◌, ◌==◌, not, min, nat_le, nat_lt, bit_and, if◌then◌else◌}
+use Rattle.sym_core.specs.declared.counts.Counts.{Counts}
 use Rattle.sym_core.specs.declared.refusal.Refusal.{Refusal}
 use Rattle.sym_core.specs.declared.refusal.Refusal.TheVariants.{Malformed, BadReference, BadValue, TooLong, Memory}
 use Rattle.sym_print.specs.declared.detail.Detail.{Detail}
-use Rattle.sym_filter.specs.declared.demangler.Demangled.{Demangled}
-use Rattle.sym_filter.specs.declared.demangler.Demangled.TheVariants.{Text, Refused}
 use Rattle.sym_filter.specs.declared.kinds.Kind.{Kind}
 use Rattle.sym_filter.specs.declared.kinds.Lang.{Lang}
-use Rattle.sym_filter.specs.declared.kinds.Lang.TheVariants.{Cpp, Rust}
+use Rattle.sym_filter.specs.declared.kinds.Letters.{Letters}
+use Rattle.sym_filter.specs.declared.words.Tally.{Tally}
 use Rattle.sym_filter.specs.Kinds.{kind_by_beginning, symbol_of}
-use Rattle.sym_filter.specs.Languages.{answer_of, wide_answer_of, AreCountsOf, pressed_of}
-use Rattle.sym_filter.specs.Runs.{Answering, filtered}
-use Rattle.sym_calls.specs.declared.asked.Asked.{Asked}
+use Rattle.sym_filter.specs.Languages.{answer_of, wide_answer_of, AreCountsOf, AreWideCountsOf, pressed_of}
+use Rattle.sym_filter.specs.Runs.{Answering, filtered_at, tally_at}
+use Rattle.sym_calls.specs.declared.flags.Asked.{Asked}
+use Rattle.sym_calls.specs.declared.outcome.Outcome.{Outcome}
 use Rattle.sym_calls.specs.declared.counting.SymbolCounts.{SymbolCounts}
+use Rattle.sym_calls.specs.declared.filtering.TextTally.{TextTally}
 
--- a symbol that begins "_R" is read as Rust, any other as C++
-abbrev pub lang_of : List ℕ → Lang
-lang_of symbol = if starts_with nat_eq symbol (codes "_R") then Rust else Cpp
+-- whether a flag is among flags
+unfoldable pub has : (flags flag : ℕ) → Bool
+has flags flag = not (bit_and flags flag == 0)
 
--- a symbol by itself, before which nothing stands
-abbrev pub symbol_kind : List ℕ → Kind
-symbol_kind symbol = record { lang = lang_of symbol; skip = 0 }
+-- how much of a symbol flags ask for: 1 is brief, 2 without parameters
+unfoldable pub detail_of : ℕ → Detail
+detail_of flags =
+    if has flags 1 then (if has flags 2 then Detail.BriefNoParameters else Detail.Brief)
+    else (if has flags 2 then Detail.NoParameters else Detail.Full)
 
--- the detail of a caller's number, if it is that of one
-abbrev pub detail_of : ℕ → Option Detail
-detail_of zero = Some Detail.Full
-detail_of (suc zero) = Some Detail.Brief
-detail_of (suc (suc zero)) = Some Detail.NoParameters
-detail_of (suc (suc (suc zero))) = Some Detail.BriefNoParameters
-detail_of (suc (suc (suc (suc n)))) = None
+-- which letters words of a text have: with 32 those of ASCII alone
+unfoldable pub letters_of : ℕ → Letters
+letters_of flags = if has flags 32 then Letters.Ascii else Letters.Any
 
--- what a caller's number asks for, if it is that of a detail: from 4 on the same details, with C++ by the wide grammar
-abbrev pub asked_of : ℕ → Option Asked
-asked_of number = option_map (λ detail. record { detail = detail; wide = nat_le 4 number }) (detail_of (if nat_le 4 number then number - 4 else number))
+-- whether each of some flags is one: all numbers below 64 but those with 8 in them
+unfoldable pub are_flags : ℕ → Bool
+are_flags flags = nat_lt flags 64 && not (has flags 8)
+
+-- what flags ask for, if each is one: 4 is the wide grammar, 16 that a name may begin with an underscore
+unfoldable pub asked_of : ℕ → Option Asked
+asked_of flags =
+    if are_flags flags then Some (record { detail = detail_of flags; wide = has flags 4; underscore = has flags 16; letters = letters_of flags })
+    else None
 
 -- what is answered for symbols then
 abbrev pub answers_at : Asked → (limit : ℕ) → Answering
 answers_at asked limit = if asked.wide then wide_answer_of limit asked.detail else answer_of limit asked.detail
 
--- how a call ends: its status, the room behind it, and what is told with the status
+-- The kind of a name whose symbol is read, by how it begins; or the status of one that names none (11), also where there is an
+-- underscore before its symbol that isn't asked for, or whose symbol has too many bytes (7).
+unfoldable pub named : (underscore : Bool) → List ℕ → Result Kind ℕ
+named underscore name =
+    elim (kind_by_beginning name) [
+      | None ↦ Err 11
+      | Some kind ↦ if nat_lt 0 kind.skip && not underscore then Err 11
+          else (if nat_le (length (symbol_of kind name)) MOST_BYTES then Ok kind else Err 7)
+    ]
+
+-- how a call ends: its status, the buffer after it, and what is told with the status
 pub record Ending : Type 0 where
   pub status : ℕ
-  pub room : List ℕ
+  pub buffer : List ℕ
   pub length : ℕ
-  pub place : ℕ
+  pub offset : ℕ
 
--- a status alone; the room stays as it was
+-- with this outcome, and this buffer
+abbrev pub ending_of : Outcome → List ℕ → Ending
+ending_of outcome buffer = record { status = outcome.status; buffer = buffer; length = outcome.length; offset = outcome.offset }
+
+-- a status alone; the buffer stays as it was
 abbrev pub status_alone : ℕ → List ℕ → Ending
-status_alone status room = record { status = status; room = room; length = 0; place = 0 }
+status_alone status buffer = record { status = status; buffer = buffer; length = 0; offset = 0 }
+
+-- a status with the offset of a byte in a symbol that is after so many bytes; no greater number than 2^32 - 1 is told
+abbrev pub status_at : (status offset skip : ℕ) → List ℕ → Ending
+status_at status offset skip buffer = record { status = status; buffer = buffer; length = 0; offset = min (offset + skip) 4294967295 }
 
 -- a refusal, by its number
-unfoldable pub refused : Refusal → List ℕ → Ending
-refused (Malformed at) room = record { status = 1; room = room; length = 0; place = at }
-refused (BadReference at) room = record { status = 2; room = room; length = 0; place = at }
-refused (BadValue at) room = record { status = 3; room = room; length = 0; place = at }
-refused TooLong room = status_alone 4 room
-refused Memory room = status_alone 5 room
+unfoldable pub refused : Refusal → (skip : ℕ) → List ℕ → Ending
+refused (Malformed at) skip buffer = status_at 1 at skip buffer
+refused (BadReference at) skip buffer = status_at 2 at skip buffer
+refused (BadValue at) skip buffer = status_at 3 at skip buffer
+refused TooLong skip buffer = status_alone 4 buffer
+refused Memory skip buffer = status_alone 5 buffer
 
--- bytes written to the front of a room, or how much room they need
+-- bytes written to the front of a buffer, or how large it has to be
 unfoldable pub written : List ℕ → List ℕ → Ending
-written bytes room =
-    if nat_le (length bytes) (length room)
-    then record { status = 0; room = bytes ++ drop (length bytes) room; length = length bytes; place = 0 }
-    else record { status = 6; room = room; length = length bytes; place = 0 }
+written bytes buffer =
+    if nat_le (length bytes) (length buffer)
+    then record { status = 0; buffer = bytes ++ drop (length bytes) buffer; length = length bytes; offset = 0 }
+    else record { status = 6; buffer = buffer; length = length bytes; offset = 0 }
 
-unfoldable pub answered : Result (List ℕ) Refusal → List ℕ → Ending
-answered (Ok bytes) room = written bytes room
-answered (Err refusal) room = refused refusal room
+unfoldable pub answered : Result (List ℕ) Refusal → (skip : ℕ) → List ℕ → Ending
+answered (Ok bytes) skip buffer = written bytes buffer
+answered (Err refusal) skip buffer = refused refusal skip buffer
 
--- What a demangler did with a symbol, into a list that was empty: the bytes are the text that was found, or it was refused so.
--- Want of memory says nothing of the symbol.
-unfoldable pub IsFound : Result (List ℕ) Refusal → List ℕ → Demangled → Type 0
-IsFound found bytes (Text counts) = found ≡ Ok bytes
-IsFound found bytes (Demangled.TooLong counts) = found ≡ Err TooLong
-IsFound found bytes (Refused refusal) = refusal ≢ Memory → found ≡ Err refusal
+-- what is answered for the symbol of a name of a kind, or the status of one without
+unfoldable pub told_of : Answering → Result Kind ℕ → (name buffer : List ℕ) → Ending
+told_of answers (Ok kind) name buffer = answered (answers kind (symbol_of kind name)) kind.skip buffer
+told_of answers (Err status) name buffer = status_alone status buffer
 
--- what is answered for a symbol
-unfoldable pub symbol_told : Answering → (symbol room : List ℕ) → Ending
-symbol_told answers symbol room =
-    if nat_le (length symbol) MOST_BYTES then answered (answers (symbol_kind symbol) symbol) room
-    else status_alone 7 room
+-- what is answered for a name
+abbrev pub name_told : Answering → Asked → (name buffer : List ℕ) → Ending
+name_told answers asked name buffer = told_of answers (named asked.underscore name) name buffer
 
--- the text of a symbol
-unfoldable pub text_told : Option Asked → (limit : ℕ) → (symbol room : List ℕ) → Ending
-text_told None limit symbol room = status_alone 8 room
-text_told (Some asked) limit symbol room = symbol_told (answers_at asked limit) symbol room
+-- the text of a name's symbol
+unfoldable pub text_told : Option Asked → (limit : ℕ) → (name buffer : List ℕ) → Ending
+text_told None limit name buffer = status_alone 8 buffer
+text_told (Some asked) limit name buffer = name_told (answers_at asked limit) asked name buffer
 
--- A place behind so many bytes, where a refusal has one. No greater number than 2^32 - 1 is told.
-unfoldable pub moved : ℕ → Ending → Ending
-moved skip ending =
-    if nat_le 1 ending.status && nat_le ending.status 3
-    then record { status = ending.status; room = ending.room; length = ending.length; place = min (ending.place + skip) 4294967295 } else ending
-
--- the text of a word's symbol, behind an underscore that may stand before it
-unfoldable pub word_told : Option Asked → (limit : ℕ) → (word room : List ℕ) → Ending
-word_told asked limit word room =
-    elim (kind_by_beginning word) [ None ↦ status_alone 11 room | Some kind ↦ moved kind.skip (text_told asked limit (symbol_of kind word) room) ]
+-- the pressed spelling of a name's symbol, which the wide grammar doesn't go with
+unfoldable pub press_told : Option Asked → (name buffer : List ℕ) → Ending
+press_told None name buffer = status_alone 8 buffer
+press_told (Some asked) name buffer = if asked.wide then status_alone 8 buffer else name_told pressed_of asked name buffer
 
 -- a text with each word that has a text replaced by it
-unfoldable pub filter_told : Option Asked → (limit : ℕ) → (text room : List ℕ) → Ending
-filter_told None limit text room = status_alone 8 room
-filter_told (Some asked) limit text room = written (filtered (answers_at asked limit) text) room
+unfoldable pub filter_told : Option Asked → (limit : ℕ) → (text buffer : List ℕ) → Ending
+filter_told None limit text buffer = status_alone 8 buffer
+filter_told (Some asked) limit text buffer = written (filtered_at asked.letters (answers_at asked limit) text) buffer
 
--- the pressed spelling of a symbol, read without what the wide grammar adds
-unfoldable pub press_told : (symbol room : List ℕ) → Ending
-press_told symbol room =
-    if nat_le (length symbol) MOST_BYTES then answered (pressed_of (symbol_kind symbol) symbol) room else status_alone 7 room
+-- A call ends so; or for want of memory with the buffer as it was, but for one whose arguments alone decide how it ends.
+abbrev pub EndsAs : (wanted : Ending) → (old_buffer : List ℕ) → (found : Ending) → Type 0
+EndsAs wanted old_buffer found = (found ≡ wanted) ⊎ ((wanted.status ≤ 6) × (found ≡ status_alone 5 old_buffer))
 
--- A call ends so, or for want of memory with the room as it was.
-abbrev pub EndsAs : (wanted : Ending) → (old_room : List ℕ) → (found : Ending) → Type 0
-EndsAs wanted old_room found = (found ≡ wanted) ⊎ (found ≡ status_alone 5 old_room)
+-- the numbers of a tally
+abbrev pub tally_of : TextTally → Tally
+tally_of tally = record { words = tally.words; replaced = tally.replaced; refused = tally.refused }
 
--- How counting ends, which reads without what the wide grammar adds: with the counts of the symbol, which is read; or with the
--- refusal that the symbol has at every limit, and the counts as they were.
-abbrev pub Counted : (symbol : List ℕ) → (old new : SymbolCounts) → (status place : ℕ) → Type 0
-Counted symbol old new status place =
-    ((status ≡ 0) × (place ≡ 0) × AreCountsOf (lang_of symbol) symbol (record { rows = new.rows; nodes = new.nodes; steps = new.steps }))
-    ⊎ ((new ≡ old) × ((status ≡ 5) ⊎ ((status ≡ 7) × (MOST_BYTES < length symbol))
-    ⊎ ((refusal : Refusal) × (refusal ≢ TooLong) × (answer_of 0 Detail.Full (symbol_kind symbol) symbol ≡ Err refusal) × (refused refusal [] ≡ record { status = status; room = []; length = 0; place = place }))))
+-- what is told of a filtered text's words: with status 0 this tally, else nothing
+abbrev pub Tallied : Tally → (old new : TextTally) → (status : ℕ) → Type 0
+Tallied counted old new status = ((status ≡ 0) × (tally_of new ≡ counted)) ⊎ ((status ≢ 0) × (new ≡ old))
+
+-- nothing where a flag is none, else the tally of the text
+unfoldable pub IsTallied : Option Asked → (limit : ℕ) → (text : List ℕ) → (old new : TextTally) → (status : ℕ) → Type 0
+IsTallied None limit text old new status = new ≡ old
+IsTallied (Some asked) limit text old new status = Tallied (tally_at asked.letters (answers_at asked limit) text) old new status
+
+-- the numbers of counts
+abbrev pub numbers_of : SymbolCounts → Counts
+numbers_of counts = record { rows = counts.rows; nodes = counts.nodes; steps = counts.steps }
+
+-- How counting ends for a symbol with this answer at a limit of 0: with counts that are its own, where it is read; or with why it
+-- isn't, or for want of memory, and the counts as they were.
+unfoldable pub IsCounted : Result (List ℕ) Refusal → (are_counts : Counts → Type 0) → (skip : ℕ) → (old new : SymbolCounts) → Ending → Type 0
+IsCounted answer are_counts skip old new found =
+    ((found ≡ status_alone 0 []) × are_counts (numbers_of new))
+    ⊎ ((new ≡ old) × ((found ≡ status_alone 5 [])
+    ⊎ ((refusal : Refusal) × (refusal ≢ TooLong) × (answer ≡ Err refusal) × (found ≡ refused refusal skip []))))
+
+-- of the symbol of a name, with C++ by the wide grammar or the other
+unfoldable pub CountingEndsBy : (wide : Bool) → Kind → List ℕ → (old new : SymbolCounts) → Ending → Type 0
+CountingEndsBy true kind symbol old new found =
+    IsCounted (wide_answer_of 0 Detail.Full kind symbol) (AreWideCountsOf kind.lang symbol) kind.skip old new found
+CountingEndsBy false kind symbol old new found =
+    IsCounted (answer_of 0 Detail.Full kind symbol) (AreCountsOf kind.lang symbol) kind.skip old new found
+
+-- of a name, or a status where it has no symbol that is read
+unfoldable pub NameCounted : (wide : Bool) → Result Kind ℕ → (name : List ℕ) → (old new : SymbolCounts) → Ending → Type 0
+NameCounted wide (Ok kind) name old new found = CountingEndsBy wide kind (symbol_of kind name) old new found
+NameCounted wide (Err status) name old new found = (new ≡ old) × (found ≡ status_alone status [])
+
+-- How counting ends; of details only the grammar says anything to it.
+unfoldable pub CountingEndsAs : Option Asked → (name : List ℕ) → (old new : SymbolCounts) → Ending → Type 0
+CountingEndsAs None name old new found = (new ≡ old) × (found ≡ status_alone 8 [])
+CountingEndsAs (Some asked) name old new found = NameCounted asked.wide (named asked.underscore name) name old new found

@@ -1,12 +1,15 @@
-// The work that reading a symbol takes.
-ghost use Rattle.std.specs.Prelude.{◌≡◌};
-ghost use Rattle.sym_calls.specs.Calls.{Counted};
+// The work that reading a name's symbol takes.
+ghost use Rattle.std.specs.Prelude.{◌≡◌, []};
+ghost use Rattle.sym_core.specs.Number.{FitsSymbol};
+ghost use Rattle.sym_print.specs.declared.detail.Detail.TheVariants.{Full};
+ghost use Rattle.sym_calls.specs.Calls.{CountingEndsAs, IsCounted, asked_of, ending_of, numbers_of, status_alone};
 
-use crate::answer::{Answer, MEMORY, OK, SIZE, tell, tell_refusal};
-use crate::text::symbol_kind;
+use crate::flags::asked_of;
+use crate::outcome::{FLAGS, OK, Outcome, alone, no_memory, of_refusal};
 use std::alloc::Global;
-use sym_core::{Counts, fits};
-use sym_filter::{Abi, Demangled, Demangler, Languages};
+use sym_core::Counts;
+use sym_filter::languages::Cpp;
+use sym_filter::{Abi, Demangled, Demangler, Kind, Languages, Wide};
 use sym_print::Detail;
 
 /// The work that a symbol made: the rows of its shape, the nodes of the table in which its parts are shared, and the counted
@@ -19,44 +22,68 @@ pub struct SymbolCounts {
     pub steps: u32,
 }
 
-/// Puts the counts of a symbol into the caller's, and answers 0. Else it answers why the symbol isn't read, and the counts stay
-/// as they are.
-pub fn counts_of(
-    alloc: Global,
-    symbol: &[u8],
-    counts: &mut SymbolCounts,
-    answer: &mut Answer,
-) -> u32
-    ensures { Counted symbol.now counts.old counts.new result answer.new.place }
+/// Puts the counts of a name's symbol into the caller's. Else the outcome tells why the symbol isn't read, and the counts stay as
+/// they are.
+#[tactic(auto, unfolding(crate::specs::Calls::CountingEndsAs, crate::specs::Calls::NameCounted))]
+pub fn counts_of(alloc: Global, name: &[u8], flags: u32, counts: &mut SymbolCounts) -> Outcome
+    ensures { CountingEndsAs (asked_of flags) name.now counts.old counts.new (ending_of result []) }
 {
-    if !fits(symbol) {
-        return tell(SIZE, answer);
+    let Some(asked) = asked_of(flags) else {
+        return alone(FLAGS);
+    };
+    let kind = match asked.named(name) {
+        Ok(kind) => kind,
+        Err(status) => return alone(status),
+    };
+    let symbol = &name[kind.skip as usize..];
+    if asked.wide {
+        return count_by(alloc, &reading(Wide), kind, symbol, counts);
     }
-    let languages = Languages {
+    count_by(alloc, &reading(Abi), kind, symbol, counts)
+}
+
+/// Both manglings with no room for a text.
+fn reading<C: Cpp>(cpp: C) -> Languages<C>
+    ensures limit { result.limit ≡ 0 }
+    ensures detail { result.detail ≡ Full }
+{
+    Languages {
         limit: 0,
         detail: Detail::Full,
-        cpp: Abi,
-    };
-    let mut lists = match languages.lists(alloc) {
-        Ok(lists) => lists,
-        Err(_) => return tell(MEMORY, answer),
-    };
-    let mut text = Vec::new(alloc);
-    match languages.demangle(&mut lists, symbol_kind(symbol), symbol, &mut text) {
-        Demangled::Text(read) => put(read, counts, answer),
-        Demangled::TooLong(read) => put(read, counts, answer),
-        Demangled::Refused(refusal) => tell_refusal(refusal, &[], answer),
+        cpp,
     }
 }
 
 /// Puts the counts of a symbol into the caller's.
-fn put(read: Counts, counts: &mut SymbolCounts, answer: &mut Answer) -> u32
-    ensures status { result ≡ 0 }
-    ensures place { answer.new.place ≡ 0 }
-    ensures counts { record { rows = counts.new.rows; nodes = counts.new.nodes; steps = counts.new.steps } ≡ read }
+fn count_by<D: Demangler>(
+    alloc: Global,
+    demangler: &D,
+    kind: Kind,
+    symbol: &[u8],
+    counts: &mut SymbolCounts,
+) -> Outcome
+    requires { FitsSymbol symbol.now }
+    ensures { IsCounted (D.answer demangler.now kind symbol.now) (D.are_counts demangler.now kind.lang symbol.now) kind.skip counts.old counts.new (ending_of result []) }
+{
+    let mut lists = match demangler.lists(alloc) {
+        Ok(lists) => lists,
+        Err(_) => return no_memory(),
+    };
+    let mut text = Vec::new(alloc);
+    match demangler.demangle(&mut lists, kind, symbol, &mut text) {
+        Demangled::Text(read) => put(read, counts),
+        Demangled::TooLong(read) => put(read, counts),
+        Demangled::Refused(refusal) => of_refusal(refusal, kind.skip, &[]),
+    }
+}
+
+/// Puts the counts of a symbol into the caller's.
+fn put(read: Counts, counts: &mut SymbolCounts) -> Outcome
+    ensures ending { ending_of result [] ≡ status_alone OK [] }
+    ensures counts { numbers_of counts.new ≡ read }
 {
     counts.rows = read.rows;
     counts.nodes = read.nodes;
     counts.steps = read.steps;
-    tell(OK, answer)
+    alone(OK)
 }

@@ -1,148 +1,101 @@
-// The text of one symbol, and a text with those of all symbols in it.
+// The text of one name, or its pressed spelling.
 ghost use Rattle.std.specs.Prelude.{◌≡◌};
-ghost use Rattle.sym_filter.specs.Runs.{filtered};
-ghost use Rattle.sym_calls.specs.Calls.{EndsAs, asked_of, filter_told, press_told, symbol_kind, symbol_told, text_told, written};
+ghost use Rattle.sym_core.specs.Number.{FitsSymbol};
+ghost use Rattle.sym_calls.specs.Calls.{EndsAs, answered, asked_of, ending_of, name_told, press_told, text_told};
 
-use crate::answer::{Answer, DETAIL, MEMORY, SIZE, finish, tell, tell_refusal, write};
-use crate::asked::asked_of;
+use crate::flags::{Asked, asked_of};
+use crate::outcome::{FLAGS, Outcome, alone, no_memory, of_refusal, write};
 use std::alloc::Global;
-use sym_core::fits;
-use sym_filter::{Abi, Demangler, Kind, Lang, ListSink, Pressing, ReaderSource, Wide, filter_with};
+use sym_filter::{Abi, Demangler, Kind, Pressing, Wide};
 
-/// A symbol by itself: one that begins "_R" is read as Rust, any other as C++.
-pub(crate) fn symbol_kind(symbol: &[u8]) -> Kind
-    ensures { result ≡ symbol_kind symbol.now }
-{
-    let lang = if symbol.starts_with(b"_R") {
-        Lang::Rust
-    } else {
-        Lang::Cpp
-    };
-    Kind { lang, skip: 0 }
-}
-
-/// Writes the text of a symbol to the front of the room, with lists that are used again.
-#[tactic(auto, unfolding(crate::specs::Calls::symbol_told))]
-pub(crate) fn text_with<D: Demangler>(
+/// Writes the text of a symbol to the front of the buffer, with lists that are used again.
+fn symbol_with<D: Demangler>(
     demangler: &D,
     lists: &mut D::Lists,
     text: &mut Vec<u8>,
+    kind: Kind,
     symbol: &[u8],
-    room: &mut [u8],
-    answer: &mut Answer,
-) -> u32
-    ensures { EndsAs (symbol_told (D.answer demangler.now) symbol.now room.old) room.old
-        (record { status = result; room = room.new; length = answer.new.length; place = answer.new.place }) }
+    buffer: &mut [u8],
+) -> Outcome
+    requires { FitsSymbol symbol.now }
+    ensures { EndsAs (answered (D.answer demangler.now kind symbol.now) kind.skip buffer.old) buffer.old (ending_of result buffer.new) }
 {
-    if !fits(symbol) {
-        return tell(SIZE, answer);
-    }
     text.clear();
-    match demangler.append(lists, symbol_kind(symbol), symbol, text) {
-        Ok(()) => write(text, room, answer),
-        Err(refusal) => tell_refusal(refusal, room, answer),
+    match demangler.append(lists, kind, symbol, text) {
+        Ok(()) => write(text, buffer),
+        Err(refusal) => of_refusal(refusal, kind.skip, buffer),
+    }
+}
+
+/// Writes the text of a name's symbol to the front of the buffer, with lists that are used again.
+pub(crate) fn name_with<D: Demangler>(
+    demangler: &D,
+    lists: &mut D::Lists,
+    text: &mut Vec<u8>,
+    asked: Asked,
+    name: &[u8],
+    buffer: &mut [u8],
+) -> Outcome
+    ensures { EndsAs (name_told (D.answer demangler.now) asked name.now buffer.old) buffer.old (ending_of result buffer.new) }
+{
+    match asked.named(name) {
+        Ok(kind) => {
+            let symbol = &name[kind.skip as usize..];
+            symbol_with(demangler, lists, text, kind, symbol, buffer)
+        }
+        Err(status) => alone(status),
     }
 }
 
 /// The same with lists of its own.
-fn text_by<D: Demangler>(
+fn name_by<D: Demangler>(
     alloc: Global,
-    symbol: &[u8],
     demangler: &D,
-    room: &mut [u8],
-    answer: &mut Answer,
-) -> u32
-    ensures { EndsAs (symbol_told (D.answer demangler.now) symbol.now room.old) room.old
-        (record { status = result; room = room.new; length = answer.new.length; place = answer.new.place }) }
+    asked: Asked,
+    name: &[u8],
+    buffer: &mut [u8],
+) -> Outcome
+    ensures { EndsAs (name_told (D.answer demangler.now) asked name.now buffer.old) buffer.old (ending_of result buffer.new) }
 {
+    let kind = match asked.named(name) {
+        Ok(kind) => kind,
+        Err(status) => return alone(status),
+    };
     let mut lists = match demangler.lists(alloc) {
         Ok(lists) => lists,
-        Err(_) => return tell(MEMORY, answer),
+        Err(_) => return no_memory(),
     };
     let mut text = Vec::new(alloc);
-    text_with(demangler, &mut lists, &mut text, symbol, room, answer)
+    let symbol = &name[kind.skip as usize..];
+    symbol_with(demangler, &mut lists, &mut text, kind, symbol, buffer)
 }
 
-/// Writes the text of a symbol to the front of the room, if it costs at most the limit, and answers 0. Else it answers why
-/// not, and the room stays as it is.
+/// Writes the text of a name's symbol to the front of the buffer, if it costs at most the limit. Else the outcome tells why not,
+/// and the buffer stays as it is.
 #[tactic(auto, unfolding(crate::specs::Calls::text_told))]
-pub fn text_of(
-    alloc: Global,
-    symbol: &[u8],
-    limit: u32,
-    detail: u32,
-    room: &mut [u8],
-    answer: &mut Answer,
-) -> u32
-    ensures { EndsAs (text_told (asked_of detail) limit symbol.now room.old) room.old
-        (record { status = result; room = room.new; length = answer.new.length; place = answer.new.place }) }
+pub fn text_of(alloc: Global, name: &[u8], limit: u32, flags: u32, buffer: &mut [u8]) -> Outcome
+    ensures { EndsAs (text_told (asked_of flags) limit name.now buffer.old) buffer.old (ending_of result buffer.new) }
 {
-    let Some(asked) = asked_of(detail) else {
-        return tell(DETAIL, answer);
+    let Some(asked) = asked_of(flags) else {
+        return alone(FLAGS);
     };
     if asked.wide {
-        return text_by(alloc, symbol, &asked.languages(limit, Wide), room, answer);
+        return name_by(alloc, &asked.languages(limit, Wide), asked, name, buffer);
     }
-    text_by(alloc, symbol, &asked.languages(limit, Abi), room, answer)
+    name_by(alloc, &asked.languages(limit, Abi), asked, name, buffer)
 }
 
-/// Writes a filtered text to the front of the room.
-fn filter_by<D: Demangler>(
-    alloc: Global,
-    text: &[u8],
-    demangler: &D,
-    room: &mut [u8],
-    answer: &mut Answer,
-) -> u32
-    ensures { EndsAs (written (filtered (D.answer demangler.now) text.now) room.old) room.old
-        (record { status = result; room = room.new; length = answer.new.length; place = answer.new.place }) }
-{
-    let mut reader = ReaderSource::new(text);
-    let mut writer = ListSink::new(Vec::new(alloc));
-    match filter_with(alloc, &mut reader, &mut writer, demangler) {
-        Ok(_) => write(&writer.into_list(), room, answer),
-        Err(_) => tell(MEMORY, answer),
-    }
-}
-
-/// Writes a text to the front of the room with each word that is a symbol replaced by the symbol's text, where that costs at
-/// most the limit, and answers 0. Else it answers why not, and the room stays as it is.
-#[tactic(auto, unfolding(crate::specs::Calls::filter_told))]
-pub fn filter_of(
-    alloc: Global,
-    text: &[u8],
-    limit: u32,
-    detail: u32,
-    room: &mut [u8],
-    answer: &mut Answer,
-) -> u32
-    ensures { EndsAs (filter_told (asked_of detail) limit text.now room.old) room.old
-        (record { status = result; room = room.new; length = answer.new.length; place = answer.new.place }) }
-{
-    let Some(asked) = asked_of(detail) else {
-        return tell(DETAIL, answer);
-    };
-    if asked.wide {
-        return filter_by(alloc, text, &asked.languages(limit, Wide), room, answer);
-    }
-    filter_by(alloc, text, &asked.languages(limit, Abi), room, answer)
-}
-
-/// Writes the pressed spelling of a symbol to the front of the room, in which each repeated part is a reference, and answers 0.
-/// Else it answers why not, and the room stays as it is.
+/// Writes the pressed spelling of a name's symbol to the front of the buffer, in which each repeated part is a reference. Else the
+/// outcome tells why not, and the buffer stays as it is.
 #[tactic(auto, unfolding(crate::specs::Calls::press_told))]
-pub fn press_of(alloc: Global, symbol: &[u8], room: &mut [u8], answer: &mut Answer) -> u32
-    ensures { EndsAs (press_told symbol.now room.old) room.old
-        (record { status = result; room = room.new; length = answer.new.length; place = answer.new.place }) }
+pub fn press_of(alloc: Global, name: &[u8], flags: u32, buffer: &mut [u8]) -> Outcome
+    ensures { EndsAs (press_told (asked_of flags) name.now buffer.old) buffer.old (ending_of result buffer.new) }
 {
-    if !fits(symbol) {
-        return tell(SIZE, answer);
-    }
-    let mut lists = match Pressing.lists(alloc) {
-        Ok(lists) => lists,
-        Err(_) => return tell(MEMORY, answer),
+    let Some(asked) = asked_of(flags) else {
+        return alone(FLAGS);
     };
-    let mut pressed = Vec::new(alloc);
-    let demangled = Pressing.demangle(&mut lists, symbol_kind(symbol), symbol, &mut pressed);
-    finish(demangled, &pressed, room, answer)
+    if asked.wide {
+        return alone(FLAGS);
+    }
+    name_by(alloc, &Pressing, asked, name, buffer)
 }

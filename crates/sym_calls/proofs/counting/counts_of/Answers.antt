@@ -1,13 +1,15 @@
-use Rattle.std.proofs.Common.{refl}
-use Rattle.sym_calls.proofs.Ending.{count-ends, counted-ends}
+use Rattle.std.proofs.Common.{sym, ◌∙◌, true, false}
+use Rattle.sym_filter.specs.Kinds.{symbol_of}
+use Rattle.sym_calls.proofs.Ending.{abi-counted, counting-ends, rest-of, wide-counted}
 use Rattle.sym_calls.proofs.counting.counts_of.Goals as goal
 
--- the symbol isn't read
+-- by the wide grammar
+pub returns-then-asked : goal.returns-then-asked
+returns-then-asked c =
+    counting-ends _ c.in-Some.asked c.in-Ok.kind c.args.name.now true c.args.counts.now c.count_by.new.counts _ (sym c.asked_of.ensures ∙ c.in-Some.is) c.if-asked.true (sym c.named.ensures.is ∙ c.in-Ok.is)
+    (wide-counted c.in-Ok.kind _ _ (symbol_of c.in-Ok.kind c.args.name.now) _ c.args.counts.now c.count_by.new.counts _ (rest-of c.in-Ok.kind.skip c.args.name.now) c.reading.ensures.limit c.reading.ensures.detail c.count_by.ensures)
+
 pub returns : goal.returns
-returns c = count-ends c.args.symbol.now c.args.counts.now c.tell_refusal.result 0 c.tell_refusal.new.answer.place c.symbol_kind.result c.in-Refused.refusal c.symbol_kind.ensures c.in-Refused.ensures.0 _ refl refl c.tell_refusal.ensures
-
-pub returns-in-Text : goal.returns-in-Text
-returns-in-Text c = counted-ends c.args.symbol.now c.args.counts.now c.put.new.counts c.put.result c.put.new.answer.place c.symbol_kind.result c.in-Text.read c.symbol_kind.ensures c.in-Text.ensures.0 c.put.ensures.status c.put.ensures.place c.put.ensures.counts
-
-pub returns-in-TooLong : goal.returns-in-TooLong
-returns-in-TooLong c = counted-ends c.args.symbol.now c.args.counts.now c.put-in-TooLong.new.counts c.put-in-TooLong.result c.put-in-TooLong.new.answer.place c.symbol_kind.result c.in-TooLong.read c.symbol_kind.ensures c.in-TooLong.ensures.0 c.put-in-TooLong.ensures.status c.put-in-TooLong.ensures.place c.put-in-TooLong.ensures.counts
+returns c =
+    counting-ends _ c.in-Some.asked c.in-Ok.kind c.args.name.now false c.args.counts.now c.count_by-2.new.counts _ (sym c.asked_of.ensures ∙ c.in-Some.is) c.if-asked.false (sym c.named.ensures.is ∙ c.in-Ok.is)
+    (abi-counted c.in-Ok.kind _ _ (symbol_of c.in-Ok.kind c.args.name.now) _ c.args.counts.now c.count_by-2.new.counts _ (rest-of c.in-Ok.kind.skip c.args.name.now) c.reading-2.ensures.limit c.reading-2.ensures.detail c.count_by-2.ensures)

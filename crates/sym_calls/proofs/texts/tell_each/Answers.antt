@@ -1,33 +1,33 @@
 use Rattle.std.proofs.Common.{◌≤◌, sym, subst, arith, ◌∙◌, ◌-◌, length, take, drop, get_or}
 use Rattle.std.proofs.lemmas.List.{length-take-le}
 use Rattle.sym_calls.specs.Texts.{IsTold}
-use Rattle.sym_calls.proofs.Telling.{ends-at, left-of-room, room-behind, room-within, told-more, told-all}
+use Rattle.sym_calls.proofs.Telling.{ends-at, left-of-buffer, buffer-after, buffer-within, told-more, told-all}
 use Rattle.sym_calls.proofs.texts.tell_each.Goals as goal
 
-pub slice_bounds-symbol-count : goal.slice_bounds-symbol-count
-slice_bounds-symbol-count g c = (ends-at c.symbols.from (length c.args.text.now) c.args.ends.now c.symbols.i c.symbols-test.true c.symbols.invariant.ends).0
+pub slice_bounds-name-count : goal.slice_bounds-name-count
+slice_bounds-name-count g c = (ends-at c.each.from (length c.args.names.now) c.args.ends.now c.each.i c.each-test.true c.each.invariant.ends).0
 
-pub slice_bounds-symbol-start : goal.slice_bounds-symbol-start
-slice_bounds-symbol-start g c = (ends-at c.symbols.from (length c.args.text.now) c.args.ends.now c.symbols.i c.symbols-test.true c.symbols.invariant.ends).0
+pub slice_bounds-name-start : goal.slice_bounds-name-start
+slice_bounds-name-start g c = (ends-at c.each.from (length c.args.names.now) c.args.ends.now c.each.i c.each-test.true c.each.invariant.ends).0
 
-pub slice_bounds-symbol-end : goal.slice_bounds-symbol-end
-slice_bounds-symbol-end g c = (ends-at c.symbols.from (length c.args.text.now) c.args.ends.now c.symbols.i c.symbols-test.true c.symbols.invariant.ends).1
+pub slice_bounds-name-end : goal.slice_bounds-name-end
+slice_bounds-name-end g c = (ends-at c.each.from (length c.args.names.now) c.args.ends.now c.each.i c.each-test.true c.each.invariant.ends).1
 
--- one more symbol is told of
-pub symbols-preserved : goal.symbols-preserved
-symbols-preserved g c =
+-- one more name is told of
+pub each-preserved : goal.each-preserved
+each-preserved g c =
     let answers = g.D.Demangler.answer c.args.demangler.now in
-    let behind = room-behind c.symbols.at c.symbols.room c.told_of-told.new.room c.symbols.invariant.within in
-    let is = subst (λ l. IsTold answers (take (get_or c.args.ends.now c.symbols.i 0 - c.symbols.from) (drop c.symbols.from c.args.text.now)) l c.told_of-told.result c.told_of-told.new.room)
-    (left-of-room c.symbols.at c.symbols.room) c.told_of-told.ensures.told in
+    let after = buffer-after c.each.at c.each.buffer c.told_of-outcome.new.buffer c.each.invariant.within in
+    let is = subst (λ l. IsTold answers c.args.asked (take (get_or c.args.ends.now c.each.i 0 - c.each.from) (drop c.each.from c.args.names.now)) l c.told_of-outcome.result c.told_of-outcome.new.buffer)
+    (left-of-buffer c.each.at c.each.buffer) c.told_of-outcome.ensures.told in
     record {
-      within = room-within c.symbols.at c.placed-at.result c.symbols.room c.told_of-told.new.room _ c.symbols.invariant.within behind (subst (λ n. n ≤ length c.told_of-told.new.room) (sym c.placed-at.ensures) c.told_of-told.ensures.within);
-      ends = (ends-at c.symbols.from (length c.args.text.now) c.args.ends.now c.symbols.i c.symbols-test.true c.symbols.invariant.ends).2;
-      told = rw (c.placed-at.ensures) (told-more answers c.args.text.now c.args.ends.now c.args.room.now (drop c.symbols.at c.symbols.room) (take c.symbols.at c.symbols.room) c.told_of-told.new.room _ c.symbols.from c.symbols.at c.symbols.i c.told_of-told.result c.symbols.answers
-          c.symbols-test.true (omega (arith, c.symbols-test.true, c.requires.answers, c.symbols.auto.answers)) (length-take-le c.symbols.at c.symbols.room c.symbols.invariant.within) behind is c.symbols.invariant.told);
+      within = buffer-within c.each.at c.placed-at.result c.each.buffer c.told_of-outcome.new.buffer _ c.each.invariant.within after (subst (λ n. n ≤ length c.told_of-outcome.new.buffer) (sym c.placed-at.ensures) c.told_of-outcome.ensures.within);
+      ends = (ends-at c.each.from (length c.args.names.now) c.args.ends.now c.each.i c.each-test.true c.each.invariant.ends).2;
+      told = rw (c.placed-at.ensures) (told-more answers c.args.asked c.args.names.now c.args.ends.now c.args.buffer.now (drop c.each.at c.each.buffer) (take c.each.at c.each.buffer) c.told_of-outcome.new.buffer _ c.each.from c.each.at c.each.i c.told_of-outcome.result c.each.outcomes
+          c.each-test.true (omega (arith, c.each-test.true, c.requires.outcomes, c.each.auto.outcomes)) (length-take-le c.each.at c.each.buffer c.each.invariant.within) after is c.each.invariant.told);
     }
 
 pub returns : goal.returns
 returns g c =
-    told-all (g.D.Demangler.answer c.args.demangler.now) c.args.text.now c.args.ends.now c.args.room.now c.symbols.room c.symbols.from c.symbols.at c.symbols.i c.symbols.answers
-    (omega (arith, c.symbols-test.false)) (c.symbols.auto.answers ∙ c.requires.answers) c.symbols.invariant.told
+    told-all (g.D.Demangler.answer c.args.demangler.now) c.args.asked c.args.names.now c.args.ends.now c.args.buffer.now c.each.buffer c.each.from c.each.at c.each.i c.each.outcomes
+    (omega (arith, c.each-test.false)) (c.each.auto.outcomes ∙ c.requires.outcomes) c.each.invariant.told

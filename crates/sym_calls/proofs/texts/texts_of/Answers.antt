@@ -6,27 +6,27 @@ use Rattle.sym_calls.proofs.Ending.{by-abi, by-wide}
 use Rattle.sym_calls.proofs.Telling.{not-as-many, not-ends, texts-refused, texts-told}
 use Rattle.sym_calls.proofs.texts.texts_of.Goals as goal
 
--- the answers aren't as many as the ends
-pub returns-then-answers-ends : goal.returns-then-answers-ends
-returns-then-answers-ends c =
-    texts-refused _ c.in-Some.asked c.args.limit c.args.text.now c.args.ends.now c.args.room.now c.args.answers.now (sym c.asked_of.ensures ∙ c.in-Some.is)
-    (not-as-many (nat_eq (length c.args.answers.now) (length c.args.ends.now)) (are_ends 0 (length c.args.text.now) c.args.ends.now) (ne_eqb (length c.args.answers.now) (length c.args.ends.now) c.if-answers-ends.true))
+-- the outcomes aren't as many as the ends
+pub returns-then-outcomes-ends : goal.returns-then-outcomes-ends
+returns-then-outcomes-ends c =
+    texts-refused _ c.in-Some.asked c.args.limit c.args.names.now c.args.ends.now c.args.buffer.now c.args.outcomes.now (sym c.asked_of.ensures ∙ c.in-Some.is)
+    (not-as-many (nat_eq (length c.args.outcomes.now) (length c.args.ends.now)) (are_ends 0 (length c.args.names.now) c.args.ends.now) (ne_eqb (length c.args.outcomes.now) (length c.args.ends.now) c.if-outcomes-ends.true))
 
 -- the ends are wrong
 pub returns-then-not-are_ends : goal.returns-then-not-are_ends
 returns-then-not-are_ends c =
-    texts-refused _ c.in-Some.asked c.args.limit c.args.text.now c.args.ends.now c.args.room.now c.args.answers.now (sym c.asked_of.ensures ∙ c.in-Some.is)
-    (not-ends (nat_eq (length c.args.answers.now) (length c.args.ends.now)) (are_ends 0 (length c.args.text.now) c.args.ends.now) (sym c.are_ends.ensures ∙ c.if-not-are_ends.true))
+    texts-refused _ c.in-Some.asked c.args.limit c.args.names.now c.args.ends.now c.args.buffer.now c.args.outcomes.now (sym c.asked_of.ensures ∙ c.in-Some.is)
+    (not-ends (nat_eq (length c.args.outcomes.now) (length c.args.ends.now)) (are_ends 0 (length c.args.names.now) c.args.ends.now) (sym c.are_ends.ensures ∙ c.if-not-are_ends.true))
 
 -- by the wide grammar
 pub returns-then-asked : goal.returns-then-asked
 returns-then-asked c =
-    texts-told _ c.in-Some.asked c.args.limit c.args.text.now c.args.ends.now c.args.room.now c.tell_each.new.room c.args.answers.now c.tell_each.new.answers (sym c.asked_of.ensures ∙ c.in-Some.is)
-    (eq-eqb (length c.args.answers.now) (length c.args.ends.now) c.if-answers-ends.false) (sym c.are_ends.ensures ∙ c.if-not-are_ends.false)
-    (by-wide (λ answers told. AreTold answers c.args.text.now 0 c.args.ends.now c.args.room.now c.tell_each.new.room told) c.in-Some.asked c.args.limit _ _ c.tell_each.new.answers c.if-asked.true c.languages-languages.ensures.limit c.languages-languages.ensures.detail c.tell_each.ensures)
+    texts-told _ c.in-Some.asked c.args.limit c.args.names.now c.args.ends.now c.args.buffer.now c.tell_each.new.buffer c.args.outcomes.now c.tell_each.new.outcomes (sym c.asked_of.ensures ∙ c.in-Some.is)
+    (eq-eqb (length c.args.outcomes.now) (length c.args.ends.now) c.if-outcomes-ends.false) (sym c.are_ends.ensures ∙ c.if-not-are_ends.false)
+    (by-wide (λ answers told. AreTold answers c.in-Some.asked c.args.names.now 0 c.args.ends.now c.args.buffer.now c.tell_each.new.buffer told) c.in-Some.asked c.args.limit _ _ c.tell_each.new.outcomes c.if-asked.true c.languages-languages.ensures.limit c.languages-languages.ensures.detail c.tell_each.ensures)
 
 pub returns : goal.returns
 returns c =
-    texts-told _ c.in-Some.asked c.args.limit c.args.text.now c.args.ends.now c.args.room.now c.tell_each-2.new.room c.args.answers.now c.tell_each-2.new.answers (sym c.asked_of.ensures ∙ c.in-Some.is)
-    (eq-eqb (length c.args.answers.now) (length c.args.ends.now) c.if-answers-ends.false) (sym c.are_ends.ensures ∙ c.if-not-are_ends.false)
-    (by-abi (λ answers told. AreTold answers c.args.text.now 0 c.args.ends.now c.args.room.now c.tell_each-2.new.room told) c.in-Some.asked c.args.limit _ _ c.tell_each-2.new.answers c.if-asked.false c.languages-languages-2.ensures.limit c.languages-languages-2.ensures.detail c.tell_each-2.ensures)
+    texts-told _ c.in-Some.asked c.args.limit c.args.names.now c.args.ends.now c.args.buffer.now c.tell_each-2.new.buffer c.args.outcomes.now c.tell_each-2.new.outcomes (sym c.asked_of.ensures ∙ c.in-Some.is)
+    (eq-eqb (length c.args.outcomes.now) (length c.args.ends.now) c.if-outcomes-ends.false) (sym c.are_ends.ensures ∙ c.if-not-are_ends.false)
+    (by-abi (λ answers told. AreTold answers c.in-Some.asked c.args.names.now 0 c.args.ends.now c.args.buffer.now c.tell_each-2.new.buffer told) c.in-Some.asked c.args.limit _ _ c.tell_each-2.new.outcomes c.if-asked.false c.languages-languages-2.ensures.limit c.languages-languages-2.ensures.detail c.tell_each-2.ensures)

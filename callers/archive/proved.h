@@ -1,0 +1,20 @@
+/* The proved calls of crates/symdemangle, which the calls of symdemangle.h hand on to: no pointer here is null, whatever its length.
+   What each does is said where it is proved; packages don't have these names. */
+#ifndef SYMDEMANGLE_PROVED_H
+#define SYMDEMANGLE_PROVED_H
+
+#include "symdemangle.h"
+
+void symdemangle_text_of(const char *name, size_t name_length, uint32_t limit, uint32_t flags, char *buffer, size_t capacity,
+                         symdemangle_result *result);
+uint32_t symdemangle_texts_of(const char *names, size_t names_length, const size_t *ends, size_t count, uint32_t limit,
+                              uint32_t flags, char *buffer, size_t capacity, symdemangle_result *results,
+                              size_t results_count);
+void symdemangle_filter_of(const char *text, size_t text_length, uint32_t limit, uint32_t flags, char *buffer, size_t capacity,
+                           symdemangle_tally *tally, symdemangle_result *result);
+void symdemangle_press_of(const char *name, size_t name_length, uint32_t flags, char *buffer, size_t capacity,
+                          symdemangle_result *result);
+void symdemangle_counts_of(const char *name, size_t name_length, uint32_t flags, symdemangle_counts *counts,
+                           symdemangle_result *result);
+
+#endif

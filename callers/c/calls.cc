@@ -1,0 +1,50 @@
+// What the calls of symdemangle.hpp answer.
+#include "symdemangle.hpp"
+
+#include <iostream>
+
+static int failed;
+
+template <class T, class U> static void is(const T &found, const U &wanted, const char *what)
+{
+    if (!(found == wanted)) {
+        std::cout << what << '\n';
+        failed = 1;
+    }
+}
+
+int main()
+{
+    using namespace symdemangle;
+    refusal why;
+    is(text("_ZN3foo3barEPKc"), "foo::bar(char const*)", "text");
+    is(text("__Z1fv"), "f()", "text of a name with an underscore");
+    is(text("_ZN1AC4Ev"), "A::A()", "text of a wide form");
+    is(text("_ZN1AC4Ev", {0, 99}, &why), std::nullopt, "no text");
+    is(why.status == SYMDEMANGLE_MALFORMED && why.offset == 6, true, "why there is no text");
+    is(std::string(why.what()), "malformed symbol", "a message");
+    is(text("main", {}, &why), std::nullopt, "no symbol");
+    is(why.status, static_cast<unsigned>(SYMDEMANGLE_NO_SYMBOL), "why it is none");
+    is(text("_Z1fv", {}, &why), "f()", "text again");
+    is(why.status, static_cast<unsigned>(SYMDEMANGLE_OK), "no reason");
+    is(text("_Z1fv", {0, 5}), std::nullopt, "a limit");
+    is(text(std::string_view("_Z1fvQQ", 5)), "f()", "a view into other bytes");
+    is(text_or_name("main"), "main", "text or name");
+    std::string name(5000, 'a');
+    is(text("_RNvC3foo5000" + name), "foo::" + name, "a long text");
+    is(texts_or_names({"_Z1fv", "main", "_RNvC3foo5000" + name, ""}), std::vector<std::string>{"f()", "main", "foo::" + name, ""}, "many");
+    is(texts_or_names({}), std::vector<std::string>{}, "none of many");
+    tally found = {9, 9, 9};
+    is(filtered("at _Z1fv. _Z1fQ", {}, &found), "at f(). _Z1fQ", "filter");
+    is(found.words == 2 && found.replaced == 1 && found.refused == 1, true, "tally");
+    is(filtered(std::string(9999, '-') + "_Z1fv"), std::string(9999, '-') + "f()", "a long filtered text");
+    is(filtered("_Z1fv", {64, 99}), std::nullopt, "a flag that is none");
+    is(pressed("_ZN3foo3barEN3foo3bazE"), "_ZN3foo3barENS_3bazE", "pressed");
+    is(pressed("_Z1fS_", &why), std::nullopt, "no pressed spelling");
+    is(why.offset, 4u, "why it isn't pressed");
+    auto work = counted("_RNvMC3fooINtB2_1AhE3baz");
+    is(work && work->rows == 18 && work->nodes == 11 && work->steps == 56, true, "counts");
+    is(counted("_R").has_value(), false, "no counts");
+    std::cout << (failed ? "FAILED" : "ok") << '\n';
+    return failed;
+}

@@ -1,0 +1,78 @@
+// A text with the texts of all symbols in it.
+ghost use Rattle.std.specs.Prelude.{◌≡◌};
+ghost use Rattle.sym_filter.specs.Runs.{filtered_at, tally_at};
+ghost use Rattle.sym_calls.specs.Calls.{EndsAs, IsTallied, Tallied, asked_of, ending_of, filter_told, written};
+
+use crate::flags::asked_of;
+use crate::outcome::{FLAGS, OK, Outcome, alone, no_memory, write};
+use std::alloc::Global;
+use sym_filter::{Abi, Demangler, Letters, ListSink, ReaderSource, Tally, Wide, filter_words};
+
+/// How many words of a text name symbols, were replaced by a text, and were not.
+#[repr(C)]
+#[derive(Clone, Copy)]
+pub struct TextTally {
+    pub words: u64,
+    pub replaced: u64,
+    pub refused: u64,
+}
+
+/// Tells of a text that was filtered.
+fn told(bytes: &[u8], counted: Tally, buffer: &mut [u8], tally: &mut TextTally) -> Outcome
+    ensures ending { ending_of result buffer.new ≡ written bytes.now buffer.old }
+    ensures tally { Tallied counted tally.old tally.new result.status }
+{
+    let outcome = write(bytes, buffer);
+    if outcome.status == OK {
+        tally.words = counted.words;
+        tally.replaced = counted.replaced;
+        tally.refused = counted.refused;
+    }
+    outcome
+}
+
+/// Writes a filtered text to the front of the buffer.
+fn filter_by<D: Demangler>(
+    alloc: Global,
+    demangler: &D,
+    letters: Letters,
+    text: &[u8],
+    buffer: &mut [u8],
+    tally: &mut TextTally,
+) -> Outcome
+    ensures ending { EndsAs (written (filtered_at letters (D.answer demangler.now) text.now) buffer.old) buffer.old (ending_of result buffer.new) }
+    ensures tally { Tallied (tally_at letters (D.answer demangler.now) text.now) tally.old tally.new result.status }
+{
+    let mut reader = ReaderSource::new(text);
+    let mut writer = ListSink::new(Vec::new(alloc));
+    match filter_words(alloc, &mut reader, &mut writer, demangler, letters) {
+        Ok(counted) => told(&writer.into_list(), counted, buffer, tally),
+        Err(_) => no_memory(),
+    }
+}
+
+/// Writes a text to the front of the buffer with each word that is a symbol replaced by the symbol's text, where that costs at
+/// most the limit, and tells how many words name symbols. Else the outcome tells why not, and buffer and tally stay as they are.
+#[tactic(auto, unfolding(crate::specs::Calls::filter_told, crate::specs::Calls::IsTallied))]
+pub fn filter_of(
+    alloc: Global,
+    text: &[u8],
+    limit: u32,
+    flags: u32,
+    buffer: &mut [u8],
+    tally: &mut TextTally,
+) -> Outcome
+    ensures ending { EndsAs (filter_told (asked_of flags) limit text.now buffer.old) buffer.old (ending_of result buffer.new) }
+    ensures tally { IsTallied (asked_of flags) limit text.now tally.old tally.new result.status }
+{
+    let Some(asked) = asked_of(flags) else {
+        return alone(FLAGS);
+    };
+    let letters = asked.letters;
+    if asked.wide {
+        let languages = asked.languages(limit, Wide);
+        return filter_by(alloc, &languages, letters, text, buffer, tally);
+    }
+    let languages = asked.languages(limit, Abi);
+    filter_by(alloc, &languages, letters, text, buffer, tally)
+}

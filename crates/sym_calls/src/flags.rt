@@ -1,0 +1,134 @@
+// What a caller's flags ask for.
+ghost use Rattle.std.specs.Prelude.{◌≡◌, ◌≤◌, IfOk, length};
+ghost use Rattle.sym_core.specs.Number.{FitsSymbol};
+ghost use Rattle.sym_filter.specs.Kinds.{kind_by_beginning, symbol_of};
+ghost use Rattle.sym_calls.specs.Calls.{are_flags, asked_of, detail_of, has, letters_of, named};
+
+use crate::outcome::{NO_SYMBOL, SIZE};
+use sym_core::fits;
+use sym_filter::languages::Cpp;
+use sym_filter::{Kind, Languages, Letters, kind_of};
+use sym_print::Detail;
+
+/// Template and generic arguments are left out.
+pub const BRIEF: u32 = 1;
+/// Each C++ function is its name alone, without its return type and parameters.
+pub const NO_PARAMETERS: u32 = 2;
+/// C++ is read by the wide grammar.
+pub const WIDE: u32 = 4;
+/// A name may begin with an underscore before its symbol.
+pub const UNDERSCORE: u32 = 16;
+/// Words of a text have ASCII letters alone.
+pub const ASCII_WORDS: u32 = 32;
+
+/// What flags ask for.
+#[derive(Clone, Copy)]
+pub struct Asked {
+    pub detail: Detail,
+    pub wide: bool,
+    pub underscore: bool,
+    pub letters: Letters,
+}
+
+impl Asked {
+    /// Both manglings for what is asked, at a limit and with a grammar of C++.
+    pub(crate) fn languages<C: Cpp>(self, limit: u32, cpp: C) -> Languages<C>
+        ensures limit { result.limit ≡ limit }
+        ensures detail { result.detail ≡ self.detail }
+    {
+        Languages {
+            limit,
+            detail: self.detail,
+            cpp,
+        }
+    }
+
+    /// The kind of a name whose symbol is read.
+    ///
+    /// # Errors
+    ///
+    /// `NO_SYMBOL` for a name that begins otherwise, `SIZE` for a symbol of too many bytes.
+    #[tactic(auto, unfolding(crate::specs::Calls::named))]
+    pub(crate) fn named(self, name: &[u8]) -> Result<Kind, u32>
+        ensures is { result ≡ named self.underscore name.now }
+        ensures within { IfOk result (λ kind. kind.skip ≤ length name.now) }
+        ensures fits { IfOk result (λ kind. FitsSymbol (symbol_of kind name.now)) }
+    {
+        let Some(kind) = kind_by_beginning(name) else {
+            return Err(NO_SYMBOL);
+        };
+        if kind.skip > 0 && !self.underscore {
+            return Err(NO_SYMBOL);
+        }
+        if fits(&name[kind.skip as usize..]) {
+            Ok(kind)
+        } else {
+            Err(SIZE)
+        }
+    }
+}
+
+/// The kind of a name of any length by how it begins, if that is as a symbol does.
+fn kind_by_beginning(name: &[u8]) -> Option<Kind>
+    ensures { result ≡ kind_by_beginning name.now }
+{
+    // no kind's beginning is longer
+    kind_of(&name[..name.len().min(3)])
+}
+
+/// Whether a flag is among flags.
+#[tactic(auto, unfolding(crate::specs::Calls::has))]
+fn has(flags: u32, flag: u32) -> bool
+    ensures { result ≡ has flags flag }
+{
+    flags & flag != 0
+}
+
+/// Whether each of some flags is one.
+#[tactic(auto, unfolding(crate::specs::Calls::are_flags))]
+fn are_flags(flags: u32) -> bool
+    ensures { result ≡ are_flags flags }
+{
+    flags < 2 * ASCII_WORDS && !has(flags, 8)
+}
+
+/// How much of a symbol flags ask for.
+#[tactic(auto, unfolding(crate::specs::Calls::detail_of))]
+fn detail_of(flags: u32) -> Detail
+    ensures { result ≡ detail_of flags }
+{
+    match (has(flags, BRIEF), has(flags, NO_PARAMETERS)) {
+        (false, false) => Detail::Full,
+        (true, false) => Detail::Brief,
+        (false, true) => Detail::NoParameters,
+        (true, true) => Detail::BriefNoParameters,
+    }
+}
+
+/// Which letters words of a text have.
+#[tactic(auto, unfolding(crate::specs::Calls::letters_of))]
+fn letters_of(flags: u32) -> Letters
+    ensures { result ≡ letters_of flags }
+{
+    if has(flags, ASCII_WORDS) {
+        Letters::Ascii
+    } else {
+        Letters::Any
+    }
+}
+
+/// What flags ask for, if each of them is one.
+#[tactic(auto, unfolding(crate::specs::Calls::asked_of))]
+pub(crate) fn asked_of(flags: u32) -> Option<Asked>
+    ensures { result ≡ asked_of flags }
+{
+    if !are_flags(flags) {
+        return None;
+    }
+    Some(Asked {
+        detail: detail_of(flags),
+        wide: has(flags, WIDE),
+        underscore: has(flags, UNDERSCORE),
+        letters: letters_of(flags),
+    })
+}
