@@ -5,7 +5,7 @@
 #include <stdlib.h>
 #include <string.h>
 
-static char buffer[64];
+static char buffer[128];
 static int failed;
 
 static void check(int holds, const char *what, const char *name)
@@ -90,6 +90,21 @@ static void wide_texts(void)
     is_refused("_ZN1AC6Ev", 99, SYMDEMANGLE_WIDE, SYMDEMANGLE_MALFORMED, 6);
 }
 
+static void legacy_texts(void)
+{
+    static const char path[] = "_ZN60_$LT$alloc..string..String$u20$as$u20$core..fmt..Display$GT$3fmt17h0123456789abcdefE";
+    has_text("_ZN3foo3bar17h0123456789abcdefE", 13, SYMDEMANGLE_LEGACY, "foo::bar");
+    has_text("_ZN3foo3bar17h0123456789abcdefE", 34, 0, "foo::bar::h0123456789abcdef");
+    has_text("__ZN3foo3bar17h0123456789abcdefE", 13, SYMDEMANGLE_LEGACY + SYMDEMANGLE_UNDERSCORE, "foo::bar");
+    has_text("_ZN3foo3bar17h0123456789abcdefE", 13, SYMDEMANGLE_LEGACY + SYMDEMANGLE_WIDE + SYMDEMANGLE_BRIEF, "foo::bar");
+    has_text("_ZN3foo3bar17h0123456789abcdefE.llvm.1", 99, SYMDEMANGLE_LEGACY, "foo::bar (.llvm.1)");
+    has_text(path, 99, SYMDEMANGLE_LEGACY, "<alloc::string::String as core::fmt::Display>::fmt");
+    has_text("_ZN1AC4Ev", 99, SYMDEMANGLE_LEGACY + SYMDEMANGLE_WIDE, "A::A()");
+    has_text("_Z1fIJicEEvDpT_", 56, SYMDEMANGLE_LEGACY, "void f<int, char>(int, char)");
+    is_refused("_ZN3foo3bar17h0123456789abcdefE", 12, SYMDEMANGLE_LEGACY, SYMDEMANGLE_TOO_LONG, 0);
+    is_refused("_ZN3foo3bar17h0123456789abcdef", 99, SYMDEMANGLE_LEGACY, SYMDEMANGLE_MALFORMED, 30);
+}
+
 static void names_of_other_kinds(void)
 {
     has_text("__Z1fv", 99, SYMDEMANGLE_UNDERSCORE, "f()");
@@ -146,16 +161,17 @@ static void many(void)
 
 static void many_of_other_kinds(void)
 {
-    static const char names[] = "_ZN1AC4Ev_Z1fv__Z1fQ";
-    static const size_t ends[] = {9, 14, 20};
-    symdemangle_result told[3];
+    static const char names[] = "_ZN1AC4Ev_Z1fv__Z1fQ_ZN1a1b17h0123456789abcdefE";
+    static const size_t ends[] = {9, 14, 20, 47};
+    static const uint32_t flags = SYMDEMANGLE_WIDE + SYMDEMANGLE_LEGACY + SYMDEMANGLE_UNDERSCORE;
+    symdemangle_result told[4];
     memset(buffer, '#', sizeof buffer);
-    check(symdemangle_texts(names, 20, ends, 3, 99, SYMDEMANGLE_WIDE + SYMDEMANGLE_UNDERSCORE, buffer, sizeof buffer, told) == SYMDEMANGLE_OK,
-          "many, wide", "");
+    check(symdemangle_texts(names, 47, ends, 4, 99, flags, buffer, sizeof buffer, told) == SYMDEMANGLE_OK, "many, wide", "");
     is_told(&told[0], SYMDEMANGLE_OK, 6, 0, "_ZN1AC4Ev");
     is_told(&told[1], SYMDEMANGLE_OK, 3, 0, "_Z1fv");
     is_told(&told[2], SYMDEMANGLE_MALFORMED, 0, 5, "__Z1fQ");
-    check(memcmp(buffer, "A::A()f()", 9) == 0 && is_kept(9), "texts of many, wide", "");
+    is_told(&told[3], SYMDEMANGLE_OK, 4, 0, "_ZN1a1b17h0123456789abcdefE");
+    check(memcmp(buffer, "A::A()f()a::b", 13) == 0 && is_kept(13), "texts of many, wide", "");
 }
 
 static void filters_to(const char *log, uint32_t flags, const char *text, unsigned words, unsigned replaced)
@@ -182,6 +198,8 @@ static void filtered_texts(void)
     symdemangle_tally tally = {9, 9, 9};
     filters_to("at _RNvC3foo3bar. (_RNvC3fo) _Z1fv.", 0, "at foo::bar. (_RNvC3fo) f().", 3, 2);
     filters_to("_ZN1AC4Ev __Z1fv", SYMDEMANGLE_WIDE, "A::A() f()", 2, 2);
+    filters_to("_ZN1a1b17h0123456789abcdefE _ZN1AC4Ev", SYMDEMANGLE_LEGACY, "a::b _ZN1AC4Ev", 2, 1);
+    filters_to("_ZN1a1b17h0123456789abcdefE _ZN1AC4Ev", SYMDEMANGLE_LEGACY + SYMDEMANGLE_WIDE, "a::b A::A()", 2, 2);
     filters_to("\xe2\x80\x98_Z1fv\xe2\x80\x99 _Z1gv", 0, "\xe2\x80\x98_Z1fv\xe2\x80\x99 g()", 1, 1);
     filters_to("\xe2\x80\x98_Z1fv\xe2\x80\x99 _Z1gv", SYMDEMANGLE_ASCII_WORDS, "\xe2\x80\x98" "f()\xe2\x80\x99 g()", 2, 2);
     check(symdemangle_filter("a", 1, 99, 64, buffer, sizeof buffer, &tally, &result) == SYMDEMANGLE_FLAGS && tally.words == 9, "flags of a filter", "");
@@ -209,7 +227,7 @@ static void counted(void)
     symdemangle_counts counts;
     symdemangle_result result;
     has_counts("_RNvMC3fooINtB2_1AhE3baz", 0, 18, 11, 56);
-    has_counts("_RNvMC3fooINtB2_1AhE3baz", SYMDEMANGLE_BRIEF, 18, 11, 56);
+    has_counts("_RNvMC3fooINtB2_1AhE3baz", SYMDEMANGLE_BRIEF + SYMDEMANGLE_LEGACY, 18, 11, 56);
     is_uncounted("_R", 0, SYMDEMANGLE_MALFORMED, 2);
     is_uncounted("__R", SYMDEMANGLE_UNDERSCORE, SYMDEMANGLE_MALFORMED, 3);
     is_uncounted("__R", 0, SYMDEMANGLE_NO_SYMBOL, 0);
@@ -238,7 +256,7 @@ static void pressed_spellings(void)
 {
     presses_to("_RINvC3foo3barNtC3foo1AE", 0, "_RINvC3foo3barNtB2_1AE");
     presses_to("_ZN3foo3barEN3foo3bazE", 0, "_ZN3foo3barENS_3bazE");
-    presses_to("_ZN3foo3barENS_3bazE", SYMDEMANGLE_BRIEF, "_ZN3foo3barENS_3bazE");
+    presses_to("_ZN3foo3barENS_3bazE", SYMDEMANGLE_BRIEF + SYMDEMANGLE_LEGACY, "_ZN3foo3barENS_3bazE");
     presses_to("__ZN3foo3barEN3foo3bazE", SYMDEMANGLE_UNDERSCORE, "__ZN3foo3barENS_3bazE");
     is_unpressed("_ZN1AC4Ev", 0, SYMDEMANGLE_MALFORMED, 6);
     is_unpressed("_Z1fS_", 0, SYMDEMANGLE_BAD_REFERENCE, 4);
@@ -306,6 +324,7 @@ int main(void)
 {
     texts();
     wide_texts();
+    legacy_texts();
     names_of_other_kinds();
     many();
     many_of_other_kinds();

@@ -20,6 +20,7 @@ int main()
     is(text("_ZN3foo3barEPKc"), "foo::bar(char const*)", "text");
     is(text("__Z1fv"), "f()", "text of a name with an underscore");
     is(text("_ZN1AC4Ev"), "A::A()", "text of a wide form");
+    is(text("_ZN4core3fmt17h0123456789abcdefE"), "core::fmt", "text of an older Rust name");
     is(text("_ZN1AC4Ev", {0, 99}, &why), std::nullopt, "no text");
     is(why.status == SYMDEMANGLE_MALFORMED && why.offset == 6, true, "why there is no text");
     is(std::string(why.what()), "malformed symbol", "a message");

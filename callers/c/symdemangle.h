@@ -1,9 +1,9 @@
-/* The names that C++ and Rust compilers give to functions and data (Itanium C++ ABI 5.1; RFC 2603, "v0"), demangled within a limit
-   on what a text costs. A hostile name can't exhaust time or memory: the work of each call is bounded, and none recurses.
+/* The names that C++ and Rust compilers give to functions and data (Itanium C++ ABI 5.1; RFC 2603, "v0", and Rust's older
+   mangling), demangled within a limit on what a text costs. A hostile name can't exhaust time or memory: the work of each call is bounded, and none recurses.
 
    The shortest way, for a C string:
 
-       char *text = symdemangle_string("_ZN3foo3barEPKc", SYMDEMANGLE_WIDE);
+       char *text = symdemangle_string("_ZN3foo3barEPKc", SYMDEMANGLE_WIDE + SYMDEMANGLE_LEGACY);
        puts(text ? text : "not a symbol");                    // foo::bar(char const*)
        symdemangle_free(text);
 
@@ -92,6 +92,8 @@ enum symdemangle_flags {
     SYMDEMANGLE_NO_PARAMETERS = 2, /* each C++ function is its name alone, without return type and parameters */
     SYMDEMANGLE_WIDE = 4,          /* newer and rarer C++ forms are read, too: recommended. What has a text without it has the
                                       same text with it; a later version may read more */
+    SYMDEMANGLE_LEGACY = 8,        /* Rust's older names (_ZN..17h<16 digits>E), which are names of C++ too, are shown as the Rust
+                                      paths that they stand for, without the hash; no text of any other name changes */
     SYMDEMANGLE_UNDERSCORE = 16,   /* a name may also begin with __Z or __R, as on macOS: its first underscore is dropped, and
                                       `offset` counts it. symdemangle_filter always takes such words */
     SYMDEMANGLE_ASCII_WORDS = 32   /* of symdemangle_filter: a word ends at a byte from 0x80, as at typographic quotes, and so

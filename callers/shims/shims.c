@@ -23,6 +23,8 @@
      so is a text that costs more than a million.
    - __cxa_demangle takes a type's name too (as `i`, `N2ns1AE` of std::type_info), one that the library reads as a typeinfo name;
      so does cplus_demangle with DMGL_TYPES (c++filt -t).
+   - Rust's older names are Rust's where cplus_demangle may choose (as in nm and c++filt), their hash isn't shown, and
+     rustc_demangle reads them; __cxa_demangle and the style gnu-v3 read them as names of C++.
    - Of cplus_demangle's options DMGL_PARAMS, DMGL_TYPES and the styles are kept (c++filt -p, -t, -s); names of Ada, D and Java are
      none here.
    - They call malloc, as the real ones do: none may run in a signal handler.
@@ -38,6 +40,24 @@
 #include <string.h>
 
 enum { LIMIT = SYMDEMANGLE_DEFAULT_LIMIT };
+
+#if defined CPLUS || defined RUSTC
+/* Whether a name is one of Rust's older mangling by its ends: _ZN, a digit, .., 17h, 16 digits, E, and a suffix that there may be. */
+static int is_legacy(const char *mangled)
+{
+    const char *end = strchr(mangled, '.');
+    size_t length = 0, digits = 0;
+    for (; end; end = strchr(end + 1, '.'))
+        if (end > mangled && end[-1] == 'E')
+            break;
+    length = end ? (size_t)(end - mangled) : strlen(mangled);
+    if (length < 3 + 20 || strncmp(mangled, "_ZN", 3) != 0 || mangled[3] < '0' || mangled[3] > '9' || mangled[length - 1] != 'E')
+        return 0;
+    while (digits < 16 && strchr("0123456789abcdef", mangled[length - 2 - digits]))
+        digits++;
+    return digits == 16 && strncmp(mangled + length - 20, "17h", 3) == 0;
+}
+#endif
 
 #if defined CXA || defined CPLUS
 char *__cxa_demangle(const char *mangled, char *buffer, size_t *size, int *status);
@@ -161,8 +181,10 @@ static char *text_with(const char *call, const char *mangled, int options)
     int any = !styles || styles & AUTO;
     uint32_t flags = SYMDEMANGLE_WIDE | (options & PARAMS ? 0 : SYMDEMANGLE_NO_PARAMETERS), status = SYMDEMANGLE_NO_SYMBOL;
     char *text = 0;
-    if (strncmp(mangled, "_R", 2) == 0) {
+    if (strncmp(mangled, "_R", 2) == 0 || is_legacy(mangled)) {
         if (any || styles & RUST)
+            text = text_of(mangled, flags | SYMDEMANGLE_LEGACY, 0, 0, &status);
+        else if (styles & GNU_V3 && mangled[1] == 'Z')
             text = text_of(mangled, flags, 0, 0, &status);
     } else if (strncmp(mangled, "_Z", 2) == 0) {
         if (any || styles & GNU_V3)
@@ -191,10 +213,10 @@ int rustc_demangle(const char *mangled, char *out, size_t out_size);
 int rustc_demangle(const char *mangled, char *out, size_t out_size)
 {
     symdemangle_result result;
-    int is_rust = strncmp(mangled, "_R", 2) == 0 || strncmp(mangled, "__R", 3) == 0;
-    if (!out_size || !is_rust)
+    const char *symbol = mangled[0] == '_' && mangled[1] == '_' ? mangled + 1 : mangled;
+    if (!out_size || (strncmp(symbol, "_R", 2) != 0 && !is_legacy(symbol)))
         return 0;
-    if (symdemangle_text(mangled, strlen(mangled), LIMIT, SYMDEMANGLE_UNDERSCORE, out, out_size - 1, &result))
+    if (symdemangle_text(symbol, strlen(symbol), LIMIT, SYMDEMANGLE_LEGACY, out, out_size - 1, &result))
         return 0;
     out[result.length] = 0;
     return 1;

@@ -1,7 +1,8 @@
-//! Mangled C++ (Itanium ABI 5.1) and Rust (RFC 2603, v0) names: their texts within a limit on what a text costs, the work that
+//! Mangled C++ (Itanium ABI 5.1) and Rust (RFC 2603, v0, and the older mangling) names: their texts within a limit on what a text costs, the work that
 //! reading one takes, and their pressed spelling, by a proved library.
 //!
-//! A name that begins with `_R` is read as Rust, one that begins with `_Z` as C++; before either an underscore may be, as on macOS.
+//! A name that begins with `_R` is read as Rust, one that begins with `_Z` as C++, or as Rust where it is `_ZN..17h<16 digits>E`;
+//! before either an underscore may be, as on macOS.
 //! Names in a symbol are bytes, so texts are bytes too; what shows itself has U+FFFD for what isn't UTF-8.
 //!
 //! ```
@@ -31,14 +32,13 @@
 //!
 //! `{:#}` leaves out hashes there, and so it does here: of v0 symbols (`_R..`) no text shows the hash of a crate, so both forms
 //! are the same; of Rust's older mangling (`_ZN..17h..E`) `{}` shows the last name, `::h` and 16 digits, and `{:#}` doesn't.
-//! What differs: C++ symbols are shown too; the older mangling's `$LT$` and `..` stay as they are, since it is read as the C++ name
-//! that it is; symbols without their underscore (`ZN..`, `R..`) aren't taken; a constant is shown without its type in both forms;
+//! What differs: C++ symbols are shown too; symbols without their underscore (`ZN..`, `R..`) aren't taken; a constant is shown without its type in both forms;
 //! a suffix as `.llvm.42` is shown, in brackets.
 //!
 //! ```
-//! let older = symdemangle::demangle("_ZN4core5panic17h0123456789abcdefE");
-//! assert_eq!(format!("{older}"), "core::panic::h0123456789abcdef");
-//! assert_eq!(format!("{older:#}"), "core::panic");
+//! let older = symdemangle::demangle("_ZN13_$LT$test$GT$5panic17h0123456789abcdefE");
+//! assert_eq!(format!("{older}"), "<test>::panic::h0123456789abcdef");
+//! assert_eq!(format!("{older:#}"), "<test>::panic");
 //! ```
 #![no_std]
 #![warn(missing_docs)]
@@ -100,14 +100,15 @@ impl fmt::Display for Error {
 
 impl core::error::Error for Error {}
 
-/// How names are read and shown. The default is what people want to read: all of a symbol, by the wide grammar, within
-/// [`DEFAULT_LIMIT`].
+/// How names are read and shown. The default is what people want to read: all of a symbol, by the wide grammar, Rust's older names
+/// as Rust paths, within [`DEFAULT_LIMIT`].
 #[derive(Clone, Copy, Debug, PartialEq, Eq, Hash)]
 #[must_use]
 pub struct Options {
     brief: bool,
     no_parameters: bool,
     wide: bool,
+    legacy: bool,
     ascii_words: bool,
     limit: u32,
 }
@@ -118,6 +119,7 @@ impl Default for Options {
             brief: false,
             no_parameters: false,
             wide: true,
+            legacy: true,
             ascii_words: false,
             limit: DEFAULT_LIMIT,
         }
@@ -139,6 +141,12 @@ impl Options {
     /// version may read more.
     pub const fn wide(self, wide: bool) -> Options {
         Options { wide, ..self }
+    }
+
+    /// Shows Rust's older names (`_ZN..17h<16 digits>E`) as the Rust paths that they stand for, and not as the names of C++ that they
+    /// are, too. No text of any other name changes.
+    pub const fn legacy(self, legacy: bool) -> Options {
+        Options { legacy, ..self }
     }
 
     /// Ends words at bytes from 0x80, as at typographic quotes, where a text is filtered.
@@ -206,7 +214,7 @@ impl<'a> Demangle<'a> {
         self.name
     }
 
-    /// The bytes of its text, if it has one.
+    /// The bytes of its text, if it has one; that of Rust's older mangling has no hash, where it is read as Rust.
     #[must_use]
     pub fn text(&self) -> Option<&[u8]> {
         self.text.as_deref()

@@ -94,6 +94,7 @@ fn flags(options: Options) -> u32 {
     flag(options.brief, 1)
         | flag(options.no_parameters, 2)
         | flag(options.wide, 4)
+        | flag(options.legacy, 8)
         | UNDERSCORE
         | flag(options.ascii_words, 32)
 }

@@ -135,6 +135,13 @@ fn as_rustc_demangle() {
     let suffixed = format!("{older}.llvm.42");
     assert_eq!(format!("{}", demangle(&suffixed)), "core::panicking::panic::h0123456789abcdef (.llvm.42)");
     assert_eq!(format!("{:#}", demangle(&suffixed)), "core::panicking::panic (.llvm.42)");
+    let trait_method = "_ZN60_$LT$alloc..string..String$u20$as$u20$core..fmt..Display$GT$3fmt17h0123456789abcdefE";
+    assert_eq!(format!("{:#}", demangle(trait_method)), "<alloc::string::String as core::fmt::Display>::fmt");
+    assert_eq!(format!("{}", demangle(trait_method)), "<alloc::string::String as core::fmt::Display>::fmt::h0123456789abcdef");
+    assert_eq!(demangle(older).text(), Some(b"core::panicking::panic".as_slice()));
+    let as_cpp = Options::default().legacy(false).demangle(older);
+    assert_eq!(format!("{as_cpp}"), "core::panicking::panic::h0123456789abcdef");
+    assert_eq!(format!("{as_cpp:#}"), "core::panicking::panic");
     let not_a_hash = "_ZN4core5panic17h0123456789abcdegE";
     assert_eq!(format!("{:#}", demangle(not_a_hash)), "core::panic::h0123456789abcdeg");
     assert_eq!(format!("{:#}", demangle("_ZN3foo3barE")), "foo::bar");

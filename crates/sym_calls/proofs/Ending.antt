@@ -1,5 +1,5 @@
 -- How a call ends, by what was answered.
-use Rattle.std.proofs.Common.{◌≡◌, ◌≢◌, ◌≤◌, inl, inr, ℕ, ◌+◌, ◌-◌, Bool, true, false, cond, List, [], ◌++◌, length, take, drop, Option, Some, None, Result, Ok, Err, refl, sym, ap, subst, ◌∙◌, arith}
+use Rattle.std.proofs.Common.{◌≡◌, ◌≢◌, ◌≤◌, inl, inr, ℕ, ◌+◌, ◌-◌, Bool, true, false, cond, List, [], ◌++◌, length, take, drop, Option, Some, None, Result, Ok, Err, refl, sym, ap, ap₂, subst, ◌∙◌, arith}
 use Rattle.std.specs.Prelude.{nat_le}
 use Rattle.std.proofs.lemmas.List.{length-drop, take_all}
 use Rattle.sym_core.specs.declared.refusal.Refusal.{Refusal}
@@ -9,7 +9,7 @@ use Rattle.sym_print.specs.declared.detail.Detail.{Detail}
 use Rattle.sym_filter.specs.Demangled.{IsAppended}
 use Rattle.sym_filter.specs.declared.kinds.Kind.{Kind}
 use Rattle.sym_filter.specs.Kinds.{symbol_of}
-use Rattle.sym_filter.specs.Languages.{answer_of, wide_answer_of, pressed_of, AreCountsOf, AreWideCountsOf}
+use Rattle.sym_filter.specs.Languages.{answer_of, wide_answer_of, legacy_answer_of, legacy_wide_answer_of, pressed_of, AreCountsOf, AreWideCountsOf}
 use Rattle.sym_filter.specs.Runs.{Answering, filtered_at, tally_at}
 use Rattle.sym_calls.specs.declared.counting.SymbolCounts.{SymbolCounts}
 use Rattle.sym_calls.specs.declared.flags.Asked.{Asked}
@@ -114,18 +114,33 @@ counting-ends option asked kind name wide old new found is same known ends =
 pub no-filter-ends : (bytes buffer : List ℕ) (found : Ending) → found ≡ status_alone 5 buffer → EndsAs (written bytes buffer) buffer found
 no-filter-ends bytes buffer found told = inr (written-low bytes buffer, told)
 
--- what holds of a call with either grammar
-pub by-wide : {A : Type 0} → (P : Answering → A → Type 0) (asked : Asked) (limit of_languages : ℕ) (detail : Detail) (found : A) → asked.wide ≡ true → of_languages ≡ limit → detail ≡ asked.detail
-    → P (wide_answer_of of_languages detail) found → P (answers_at asked limit) found
-by-wide P asked limit of_languages detail found is same_limit same_detail given =
-    subst (λ b. P (cond b (wide_answer_of limit asked.detail) (answer_of limit asked.detail)) found) (sym is)
-    (subst (λ n. P (wide_answer_of n asked.detail) found) same_limit (subst (λ d. P (wide_answer_of of_languages d) found) same_detail given))
+-- what is answered with each grammar, and where legacy Rust names are paths
+answers-chosen : (asked : Asked) (legacy wide : Bool) (limit : ℕ) → asked.legacy ≡ legacy → asked.wide ≡ wide → answers_at asked limit
+    ≡ cond legacy (cond wide (legacy_wide_answer_of limit asked.detail) (legacy_answer_of limit asked.detail)) (cond wide (wide_answer_of limit asked.detail) (answer_of limit asked.detail))
+answers-chosen asked legacy wide limit l w =
+    ap₂ (λ (a b : Bool). cond a (cond b (legacy_wide_answer_of limit asked.detail) (legacy_answer_of limit asked.detail)) (cond b (wide_answer_of limit asked.detail) (answer_of limit asked.detail))) l w
 
-pub by-abi : {A : Type 0} → (P : Answering → A → Type 0) (asked : Asked) (limit of_languages : ℕ) (detail : Detail) (found : A) → asked.wide ≡ false → of_languages ≡ limit → detail ≡ asked.detail
+by-choice : {A : Type 0} → (P : Answering → A → Type 0) (choice : ℕ → Detail → Answering) (asked : Asked) (limit of_languages : ℕ) (detail : Detail) (found : A)
+    → answers_at asked limit ≡ choice limit asked.detail → of_languages ≡ limit → detail ≡ asked.detail → P (choice of_languages detail) found → P (answers_at asked limit) found
+by-choice P choice asked limit of_languages detail found is same_limit same_detail given =
+    subst (λ a. P a found) (sym is)
+    (subst (λ n. P (choice n asked.detail) found) same_limit (subst (λ d. P (choice of_languages d) found) same_detail given))
+
+pub by-abi : {A : Type 0} → (P : Answering → A → Type 0) (asked : Asked) (limit of_languages : ℕ) (detail : Detail) (found : A) → asked.legacy ≡ false → asked.wide ≡ false → of_languages ≡ limit → detail ≡ asked.detail
     → P (answer_of of_languages detail) found → P (answers_at asked limit) found
-by-abi P asked limit of_languages detail found is same_limit same_detail given =
-    subst (λ b. P (cond b (wide_answer_of limit asked.detail) (answer_of limit asked.detail)) found) (sym is)
-    (subst (λ n. P (answer_of n asked.detail) found) same_limit (subst (λ d. P (answer_of of_languages d) found) same_detail given))
+by-abi P asked limit of_languages detail found l w = by-choice P answer_of asked limit of_languages detail found (answers-chosen asked false false limit l w)
+
+pub by-wide : {A : Type 0} → (P : Answering → A → Type 0) (asked : Asked) (limit of_languages : ℕ) (detail : Detail) (found : A) → asked.legacy ≡ false → asked.wide ≡ true → of_languages ≡ limit → detail ≡ asked.detail
+    → P (wide_answer_of of_languages detail) found → P (answers_at asked limit) found
+by-wide P asked limit of_languages detail found l w = by-choice P wide_answer_of asked limit of_languages detail found (answers-chosen asked false true limit l w)
+
+pub by-legacy : {A : Type 0} → (P : Answering → A → Type 0) (asked : Asked) (limit of_languages : ℕ) (detail : Detail) (found : A) → asked.legacy ≡ true → asked.wide ≡ false → of_languages ≡ limit → detail ≡ asked.detail
+    → P (legacy_answer_of of_languages detail) found → P (answers_at asked limit) found
+by-legacy P asked limit of_languages detail found l w = by-choice P legacy_answer_of asked limit of_languages detail found (answers-chosen asked true false limit l w)
+
+pub by-wide-legacy : {A : Type 0} → (P : Answering → A → Type 0) (asked : Asked) (limit of_languages : ℕ) (detail : Detail) (found : A) → asked.legacy ≡ true → asked.wide ≡ true → of_languages ≡ limit → detail ≡ asked.detail
+    → P (legacy_wide_answer_of of_languages detail) found → P (answers_at asked limit) found
+by-wide-legacy P asked limit of_languages detail found l w = by-choice P legacy_wide_answer_of asked limit of_languages detail found (answers-chosen asked true true limit l w)
 
 -- a symbol that isn't read
 pub refusal-counts : (refusal : Refusal) (answer : Result (List ℕ) Refusal) (are_counts : Counts → Type 0) (skip : ℕ) (counts : SymbolCounts) (found : Ending)

@@ -139,13 +139,13 @@ unfolding TextsEndAs TextsEndBy
 texts-refused named asked limit names ends buffer untold is wrong =
     subst (λ n. TextsEndAs n limit names ends buffer buffer untold untold 10) (sym is) (subst (λ b. TextsEndBy b (answers_at asked limit) asked names ends buffer buffer untold untold 10) (sym wrong) (refl, refl, refl))
 
-pub texts-told : (named : Option Asked) (asked : Asked) (limit : ℕ) (names ends buffer new : List ℕ) (untold told : List Outcome) → named ≡ Some asked
-    → nat_eq (length untold) (length ends) ≡ true → are_ends 0 (length names) ends ≡ true → AreTold (answers_at asked limit) asked names 0 ends buffer new told
-    → TextsEndAs named limit names ends buffer new untold told 0
+pub texts-told : (named : Option Asked) (asked : Asked) (limit : ℕ) (names ends buffer new : List ℕ) (untold told : List Outcome) (status : ℕ) → named ≡ Some asked
+    → nat_eq (length untold) (length ends) ≡ true → are_ends 0 (length names) ends ≡ true → status ≡ 0 → AreTold (answers_at asked limit) asked names 0 ends buffer new told
+    → TextsEndAs named limit names ends buffer new untold told status
 unfolding TextsEndAs TextsEndBy
-texts-told named asked limit names ends buffer new untold told is as_many right all =
-    subst (λ n. TextsEndAs n limit names ends buffer new untold told 0) (sym is)
-    (subst (λ b. TextsEndBy b (answers_at asked limit) asked names ends buffer new untold told 0) (sym (ap₂ (λ (a b : Bool). a && b) as_many right)) (refl, all))
+texts-told named asked limit names ends buffer new untold told status is as_many right ok all =
+    subst (λ n. TextsEndAs n limit names ends buffer new untold told status) (sym is)
+    (subst (λ b. TextsEndBy b (answers_at asked limit) asked names ends buffer new untold told status) (sym (ap₂ (λ (a b : Bool). a && b) as_many right)) (ok, all))
 
 pub not-as-many : (a b : Bool) → a ≡ false → a && b ≡ false
 not-as-many a b is = ap (λ t. t && b) is

@@ -10,7 +10,7 @@ use Rattle.sym_filter.specs.declared.kinds.Lang.{Lang}
 use Rattle.sym_filter.specs.declared.kinds.Letters.{Letters}
 use Rattle.sym_filter.specs.declared.words.Tally.{Tally}
 use Rattle.sym_filter.specs.Kinds.{kind_by_beginning, symbol_of}
-use Rattle.sym_filter.specs.Languages.{answer_of, wide_answer_of, AreCountsOf, AreWideCountsOf, pressed_of}
+use Rattle.sym_filter.specs.Languages.{answer_of, wide_answer_of, legacy_answer_of, legacy_wide_answer_of, AreCountsOf, AreWideCountsOf, pressed_of}
 use Rattle.sym_filter.specs.Runs.{Answering, filtered_at, tally_at}
 use Rattle.sym_calls.specs.declared.flags.Asked.{Asked}
 use Rattle.sym_calls.specs.declared.outcome.Outcome.{Outcome}
@@ -31,19 +31,18 @@ detail_of flags =
 unfoldable pub letters_of : ℕ → Letters
 letters_of flags = if has flags 32 then Letters.Ascii else Letters.Any
 
--- whether each of some flags is one: all numbers below 64 but those with 8 in them
-unfoldable pub are_flags : ℕ → Bool
-are_flags flags = nat_lt flags 64 && not (has flags 8)
-
--- what flags ask for, if each is one: 4 is the wide grammar, 16 that a name may begin with an underscore
+-- what flags ask for, if each is one: 4 is the wide grammar, 8 that legacy Rust names are paths, 16 that a name may begin with an
+-- underscore
 unfoldable pub asked_of : ℕ → Option Asked
 asked_of flags =
-    if are_flags flags then Some (record { detail = detail_of flags; wide = has flags 4; underscore = has flags 16; letters = letters_of flags })
+    if nat_lt flags 64 then Some (record { detail = detail_of flags; wide = has flags 4; legacy = has flags 8; underscore = has flags 16; letters = letters_of flags })
     else None
 
 -- what is answered for symbols then
 abbrev pub answers_at : Asked → (limit : ℕ) → Answering
-answers_at asked limit = if asked.wide then wide_answer_of limit asked.detail else answer_of limit asked.detail
+answers_at asked limit =
+    if asked.legacy then (if asked.wide then legacy_wide_answer_of limit asked.detail else legacy_answer_of limit asked.detail)
+    else (if asked.wide then wide_answer_of limit asked.detail else answer_of limit asked.detail)
 
 -- The kind of a name whose symbol is read, by how it begins; or the status of one that names none (11), also where there is an
 -- underscore before its symbol that isn't asked for, or whose symbol has too many bytes (7).

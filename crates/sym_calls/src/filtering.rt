@@ -69,10 +69,46 @@ pub fn filter_of(
         return alone(FLAGS);
     };
     let letters = asked.letters;
-    if asked.wide {
-        let languages = asked.languages(limit, Wide);
-        return filter_by(alloc, &languages, letters, text, buffer, tally);
+    match (asked.legacy, asked.wide) {
+        (false, false) => {
+            filter_by(
+                alloc,
+                &asked.languages(limit, Abi),
+                letters,
+                text,
+                buffer,
+                tally,
+            )
+        }
+        (false, true) => {
+            filter_by(
+                alloc,
+                &asked.languages(limit, Wide),
+                letters,
+                text,
+                buffer,
+                tally,
+            )
+        }
+        (true, false) => {
+            filter_by(
+                alloc,
+                &asked.with_legacy(limit, Abi),
+                letters,
+                text,
+                buffer,
+                tally,
+            )
+        }
+        (true, true) => {
+            filter_by(
+                alloc,
+                &asked.with_legacy(limit, Wide),
+                letters,
+                text,
+                buffer,
+                tally,
+            )
+        }
     }
-    let languages = asked.languages(limit, Abi);
-    filter_by(alloc, &languages, letters, text, buffer, tally)
 }

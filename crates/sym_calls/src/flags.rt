@@ -2,12 +2,12 @@
 ghost use Rattle.std.specs.Prelude.{◌≡◌, ◌≤◌, IfOk, length};
 ghost use Rattle.sym_core.specs.Number.{FitsSymbol};
 ghost use Rattle.sym_filter.specs.Kinds.{kind_by_beginning, symbol_of};
-ghost use Rattle.sym_calls.specs.Calls.{are_flags, asked_of, detail_of, has, letters_of, named};
+ghost use Rattle.sym_calls.specs.Calls.{asked_of, detail_of, has, letters_of, named};
 
 use crate::outcome::{NO_SYMBOL, SIZE};
 use sym_core::fits;
 use sym_filter::languages::Cpp;
-use sym_filter::{Kind, Languages, Letters, kind_of};
+use sym_filter::{Kind, Languages, Legacy, Letters, kind_of};
 use sym_print::Detail;
 
 /// Template and generic arguments are left out.
@@ -16,6 +16,8 @@ pub const BRIEF: u32 = 1;
 pub const NO_PARAMETERS: u32 = 2;
 /// C++ is read by the wide grammar.
 pub const WIDE: u32 = 4;
+/// Rust's legacy names are shown as the paths that they stand for.
+pub const LEGACY: u32 = 8;
 /// A name may begin with an underscore before its symbol.
 pub const UNDERSCORE: u32 = 16;
 /// Words of a text have ASCII letters alone.
@@ -26,6 +28,7 @@ pub const ASCII_WORDS: u32 = 32;
 pub struct Asked {
     pub detail: Detail,
     pub wide: bool,
+    pub legacy: bool,
     pub underscore: bool,
     pub letters: Letters,
 }
@@ -40,6 +43,16 @@ impl Asked {
             limit,
             detail: self.detail,
             cpp,
+        }
+    }
+
+    /// The same, with Rust's legacy names as paths.
+    pub(crate) fn with_legacy<C: Cpp>(self, limit: u32, cpp: C) -> Legacy<C>
+        ensures limit { result.languages.limit ≡ limit }
+        ensures detail { result.languages.detail ≡ self.detail }
+    {
+        Legacy {
+            languages: self.languages(limit, cpp),
         }
     }
 
@@ -84,14 +97,6 @@ fn has(flags: u32, flag: u32) -> bool
     flags & flag != 0
 }
 
-/// Whether each of some flags is one.
-#[tactic(auto, unfolding(crate::specs::Calls::are_flags))]
-fn are_flags(flags: u32) -> bool
-    ensures { result ≡ are_flags flags }
-{
-    flags < 2 * ASCII_WORDS && !has(flags, 8)
-}
-
 /// How much of a symbol flags ask for.
 #[tactic(auto, unfolding(crate::specs::Calls::detail_of))]
 fn detail_of(flags: u32) -> Detail
@@ -122,12 +127,13 @@ fn letters_of(flags: u32) -> Letters
 pub(crate) fn asked_of(flags: u32) -> Option<Asked>
     ensures { result ≡ asked_of flags }
 {
-    if !are_flags(flags) {
+    if flags >= 2 * ASCII_WORDS {
         return None;
     }
     Some(Asked {
         detail: detail_of(flags),
         wide: has(flags, WIDE),
+        legacy: has(flags, LEGACY),
         underscore: has(flags, UNDERSCORE),
         letters: letters_of(flags),
     })

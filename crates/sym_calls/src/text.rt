@@ -79,10 +79,12 @@ pub fn text_of(alloc: Global, name: &[u8], limit: u32, flags: u32, buffer: &mut 
     let Some(asked) = asked_of(flags) else {
         return alone(FLAGS);
     };
-    if asked.wide {
-        return name_by(alloc, &asked.languages(limit, Wide), asked, name, buffer);
+    match (asked.legacy, asked.wide) {
+        (false, false) => name_by(alloc, &asked.languages(limit, Abi), asked, name, buffer),
+        (false, true) => name_by(alloc, &asked.languages(limit, Wide), asked, name, buffer),
+        (true, false) => name_by(alloc, &asked.with_legacy(limit, Abi), asked, name, buffer),
+        (true, true) => name_by(alloc, &asked.with_legacy(limit, Wide), asked, name, buffer),
     }
-    name_by(alloc, &asked.languages(limit, Abi), asked, name, buffer)
 }
 
 /// Writes the pressed spelling of a name's symbol to the front of the buffer, in which each repeated part is a reference. Else the

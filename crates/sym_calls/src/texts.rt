@@ -54,27 +54,36 @@ fn placed(outcome: Outcome) -> usize
 fn tell_each<D: Demangler>(
     alloc: Global,
     demangler: &D,
-    lists: &mut D::Lists,
+    mut lists: D::Lists,
     asked: Asked,
     names: &[u8],
     ends: &[usize],
     buffer: &mut [u8],
     outcomes: &mut [Outcome],
-)
+) -> u32
     requires ends { are_ends 0 (length names.now) ends.now ≡ true }
     requires outcomes { length outcomes.old ≡ length ends.now }
-    ensures { AreTold (D.answer demangler.now) asked names.now 0 ends.now buffer.old buffer.new outcomes.new }
+    ensures told { AreTold (D.answer demangler.now) asked names.now 0 ends.now buffer.old buffer.new outcomes.new }
+    ensures status { result ≡ 0 }
 {
     let mut text = Vec::new(alloc);
     let mut from = 0;
     let mut at = 0;
     'each: for (i, end) in ends.iter().enumerate() {
         let name = &names[from..*end];
-        let outcome = told_of(demangler, lists, &mut text, asked, name, &mut buffer[at..]);
+        let outcome = told_of(
+            demangler,
+            &mut lists,
+            &mut text,
+            asked,
+            name,
+            &mut buffer[at..],
+        );
         outcomes[i] = outcome;
         at += placed(outcome);
         from = *end;
     }
+    OK
 }
 
 /// Writes the texts of many names to the buffer, one after the other, and tells of each name what `text_of` would. Name i is in
@@ -104,18 +113,46 @@ pub fn texts_of(
     if !are_ends(ends, names.len()) {
         return ENDS;
     }
-    if asked.wide {
-        let languages = asked.languages(limit, Wide);
-        let mut lists = Lists::new(alloc);
-        tell_each(
-            alloc, &languages, &mut lists, asked, names, ends, buffer, outcomes,
-        );
-        return OK;
+    match (asked.legacy, asked.wide) {
+        (false, false) => tell_each(
+            alloc,
+            &asked.languages(limit, Abi),
+            Lists::new(alloc),
+            asked,
+            names,
+            ends,
+            buffer,
+            outcomes,
+        ),
+        (false, true) => tell_each(
+            alloc,
+            &asked.languages(limit, Wide),
+            Lists::new(alloc),
+            asked,
+            names,
+            ends,
+            buffer,
+            outcomes,
+        ),
+        (true, false) => tell_each(
+            alloc,
+            &asked.with_legacy(limit, Abi),
+            Lists::new(alloc),
+            asked,
+            names,
+            ends,
+            buffer,
+            outcomes,
+        ),
+        (true, true) => tell_each(
+            alloc,
+            &asked.with_legacy(limit, Wide),
+            Lists::new(alloc),
+            asked,
+            names,
+            ends,
+            buffer,
+            outcomes,
+        ),
     }
-    let languages = asked.languages(limit, Abi);
-    let mut lists = Lists::new(alloc);
-    tell_each(
-        alloc, &languages, &mut lists, asked, names, ends, buffer, outcomes,
-    );
-    OK
 }

@@ -27,7 +27,7 @@ each-preserved g c =
           c.each-test.true (omega (arith, c.each-test.true, c.requires.outcomes, c.each.auto.outcomes)) (length-take-le c.each.at c.each.buffer c.each.invariant.within) after is c.each.invariant.told);
     }
 
-pub returns : goal.returns
-returns g c =
+pub returns-clause-told : goal.returns-clause-told
+returns-clause-told g c =
     told-all (g.D.Demangler.answer c.args.demangler.now) c.args.asked c.args.names.now c.args.ends.now c.args.buffer.now c.each.buffer c.each.from c.each.at c.each.i c.each.outcomes
     (omega (arith, c.each-test.false)) (c.each.auto.outcomes ∙ c.requires.outcomes) c.each.invariant.told
