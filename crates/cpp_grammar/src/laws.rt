@@ -92,8 +92,8 @@ pub fn joined_symbols_stay()
 {}
 
 /// The reading of the wide grammar differs from that of the ABI's grammar in what that refuses alone: a lambda's signature may name
-/// the lambda's own parameters, and a substitution a tree that was made where its parameters mean others than here. What a shape of
-/// either grammar stands for by the one reading it stands for by the other.
+/// the lambda's own parameters, a substitution a tree that was made where its parameters mean others than here, and a name may have an
+/// M. What a shape of either grammar stands for by the one reading it stands for by the other.
 pub fn abi_meanings_stay()
     ensures { (shape : Tree) (t : Term) → IsTree either (Kind 0) shape → unfold_cpp shape ≡ Ok t → unfold_wide shape ≡ Ok t }
 {}

@@ -76,7 +76,9 @@ number_apart ts before (d ∷ cs) zero c counted is =
     first true b = refl
     first false true = refl
     first false false = refl
-number_apart ts before (d ∷ cs) (suc number) c counted is = or_assoc before d.is_held (has_held (candidates_of ts cs) (number + 1)) ∙ number_apart ts (before || d.is_held) cs number c counted.1 is
+number_apart ts before (d ∷ cs) (suc number) c counted is =
+    let more : suc number + 1 ≡ suc (number + 1) = omega arith in
+    ap (λ k. before || has_held (candidates_of ts (d ∷ cs)) k) more ∙ or_assoc before d.is_held (has_held (candidates_of ts cs) (number + 1)) ∙ number_apart ts (before || d.is_held) cs number c counted.1 is
 
 pub all_apart : (ts : List Term) (before : Bool) (cs : List Candidate) (count : ℕ) → length cs ≤ count → before || has_held (candidates_of ts cs) count ≡ is_apart_behind before cs
 unfolding has_held is_apart_behind

@@ -130,7 +130,7 @@ module _ (s : List ℕ) (old mid new : Linked) (frame : Frame Kept) (parts new_p
     (named : tree_at (trees_in s mid.nodes) node ≡ tree_of (part (values_in s mid.nodes (drop frame.base new_parts)) 0))
     (stored : new.nodes ≡ mid.nodes) (packed : new.packs ≡ mid.packs) (there : AreCandidatesThere (length mid.nodes.nodes) new.candidates.items)
     (added : candidates_of (trees_in s mid.nodes) new.candidates.items
-        ≡ candidates_of (trees_in s mid.nodes) mid.candidates.items ++ record { tree = tree_at (trees_in s mid.nodes) node; encoding = frame.kept.encoding; in_lambda = is_lambda frame.kept.scope; is_held = true } ∷ []) where
+    ≡ candidates_of (trees_in s mid.nodes) mid.candidates.items ++ record { tree = tree_at (trees_in s mid.nodes) node; encoding = frame.kept.encoding; in_lambda = is_lambda frame.kept.scope; is_held = true } ∷ []) where
   abbrev around : Around
   around = around_of (trees_in s old.nodes) frame.kept
 

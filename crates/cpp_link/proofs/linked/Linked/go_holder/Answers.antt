@@ -19,9 +19,11 @@ use Rattle.cpp_link.proofs.linked.Linked.go_holder.Goals as goal
 pub take_step-requires-clause-of : goal.take_step-requires-clause-of
 take_step-requires-clause-of c =
     let frame = c.args.frame.now in
-    let one : length (drop frame.base c.args.parts.now.items) ≡ 1 = omega (arith, length-drop frame.base c.args.parts.now.items, c.requires.second) in
-    (production_at frame.rule, subst (λ n. IsStepOf (production_at frame.rule) n (Step.Made (Node.Holder c.prefix_node-name.result) true true false c.args.self.now.packs)) (sym one)
-        (holder_step (production_at frame.rule) c.prefix_node-name.result c.args.self.now.packs c.requires.holder))
+    let one : length (drop frame.base c.args.parts.now.items) ≡ 1 = omega (arith, length-drop frame.base c.args.parts.now.items, c.requires.second) in (
+      production_at frame.rule,
+      subst (λ n. IsStepOf (production_at frame.rule) n (Step.Made (Node.Holder c.prefix_node-name.result) true true false c.args.self.now.packs)) (sym one)
+          (holder_step (production_at frame.rule) c.prefix_node-name.result c.args.self.now.packs c.requires.holder),
+    )
 
 pub take_step-requires-clause-parts : goal.take_step-requires-clause-parts
 take_step-requires-clause-parts c = open_there c.args.symbol.now c.args.self.now c.args.frame.now c.args.parts.now.items (drop c.args.frame.now.base c.args.parts.now.items) c.requires.open refl
@@ -63,7 +65,7 @@ returns-clause-adds c =
 
 pub returns-in_err-then-clause-few : goal.returns-in_err-then-clause-few
 returns-in_err-then-clause-few c =
-    let p = err_from_is_err_and c.from_residual-then.result c.from_residual-then.ensures.1 in
+    let p = err_from_is_err_and c.from_residual.result c.from_residual.ensures.1 in
     let frame = c.args.frame.now in
     let one : length (drop frame.base c.args.parts.now.items) ≡ 1 = omega (arith, length-drop frame.base c.args.parts.now.items, c.requires.second) in
     let of = subst (λ n. IsStepOf (production_at frame.rule) n (Step.Made (Node.Holder c.prefix_node-name.result) true true false c.args.self.now.packs)) (sym one)
@@ -73,7 +75,7 @@ returns-in_err-then-clause-few c =
 
 pub returns-in_err-push_candidate-clause-few : goal.returns-in_err-push_candidate-clause-few
 returns-in_err-push_candidate-clause-few c =
-    let p = err_from_is_err_and c.from_residual-push_candidate.result c.from_residual-push_candidate.ensures.1 in
+    let p = err_from_is_err_and c.from_residual-in_err-push_candidate.result c.from_residual-in_err-push_candidate.ensures.1 in
     let frame = c.args.frame.now in
     let one : length (drop frame.base c.args.parts.now.items) ≡ 1 = omega (arith, length-drop frame.base c.args.parts.now.items, c.requires.second) in
     let of = subst (λ n. IsStepOf (production_at frame.rule) n (Step.Made (Node.Holder c.prefix_node-name.result) true true false c.args.self.now.packs)) (sym one)
