@@ -16,7 +16,7 @@ use clap::{ArgMatches, Error};
 use std::alloc::Global;
 use std::mem;
 use sym_filter::{
-    Abi, Demangler, FilterFault, Languages, ListSink, Pressing, Sink, Source, Tally, Wide,
+    Abi, Demangler, FilterFault, Languages, Legacy, ListSink, Pressing, Sink, Source, Tally, Wide,
     filter_words, write_all,
 };
 
@@ -89,6 +89,7 @@ pub fn filter_asked<S: Source, W: Sink>(
         detail,
         letters,
         wide,
+        legacy,
     } = filtering;
     if wide {
         let languages = Languages {
@@ -96,6 +97,9 @@ pub fn filter_asked<S: Source, W: Sink>(
             detail,
             cpp: Wide,
         };
+        if legacy {
+            return filter_words(alloc, input, out, &Legacy { languages }, letters);
+        }
         return filter_words(alloc, input, out, &languages, letters);
     }
     let languages = Languages {
@@ -103,6 +107,9 @@ pub fn filter_asked<S: Source, W: Sink>(
         detail,
         cpp: Abi,
     };
+    if legacy {
+        return filter_words(alloc, input, out, &Legacy { languages }, letters);
+    }
     filter_words(alloc, input, out, &languages, letters)
 }
 
@@ -241,6 +248,7 @@ fn answer_symbols<W: Sink, E: Sink>(
         detail,
         stats,
         asked,
+        legacy,
         ..
     } = options;
     match asked {
@@ -250,6 +258,9 @@ fn answer_symbols<W: Sink, E: Sink>(
                 detail,
                 cpp: Abi,
             };
+            if legacy {
+                return answer_words(alloc, &Legacy { languages }, stats, words, out, err);
+            }
             answer_words(alloc, &languages, stats, words, out, err)
         }
         Asked::WideText => {
@@ -258,6 +269,9 @@ fn answer_symbols<W: Sink, E: Sink>(
                 detail,
                 cpp: Wide,
             };
+            if legacy {
+                return answer_words(alloc, &Legacy { languages }, stats, words, out, err);
+            }
             answer_words(alloc, &languages, stats, words, out, err)
         }
         Asked::Pressed => answer_words(alloc, &Pressing, stats, words, out, err),
