@@ -113,6 +113,11 @@ elif [ -n "$(git status --porcelain)" ]; then
 else
     try packages tests/packages.sh
 fi
+if command -v node >/dev/null && command -v wasm-opt >/dev/null; then
+    try web tests/web.sh -p "$symfilt"
+else
+    leave web "node or binaryen's wasm-opt isn't installed"
+fi
 if command -v parallel >/dev/null || /usr/bin/python3 -c 'import distributed' 2>/dev/null; then
     try scale tests/scale.sh "$symfilt"
 else

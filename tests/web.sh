@@ -1,0 +1,91 @@
+#!/bin/bash
+# The page in a browser:
+#
+#   tests/web.sh [-l LIBRARY] [-p SYMFILT] [-s SHOTS] [-b]
+#
+# It makes the page with the module of the proved library, gives the module the rows of crates/check_rows and the program's texts
+# to compare with (tests/web/module.mjs, in Node), and then uses the page as a person does (tests/web/page.mjs, in Chromium).
+#
+#   -l LIBRARY    an LLVM module of the library, in the place of the proved one
+#   -p SYMFILT    the program, in the place of the proved one
+#   -s SHOTS      a folder that gets pictures of the page
+#   -b            afterwards breaks copies of the page in turn: the tests have to fail on each
+#
+# What isn't installed (node, chromium, binaryen's wasm-opt) is named, and what needs it is left out.
+set -euo pipefail
+cd "$(dirname "$0")/.."
+library= program=crates/symfilt/out/symfilt shots= breaks=no
+while getopts l:p:s:b option; do
+    case $option in
+        l) library=$(realpath "$OPTARG") ;;
+        p) program=$(realpath "$OPTARG") ;;
+        s) mkdir -p "$OPTARG" && shots=$(realpath "$OPTARG") ;;
+        b) breaks=yes ;;
+        *) sed -n '4s/^#  *//p' "$0" >&2; exit 2 ;;
+    esac
+done
+work=$(mktemp -d)
+trap 'rm -rf "$work"' EXIT
+
+has() { # has PROGRAM WHAT : whether a program is installed
+    command -v "$1" >/dev/null || { echo "$1 isn't installed: $2 isn't tested"; return 1; }
+}
+has node 'the page' || exit 0
+has wasm-opt 'the page' || exit 0
+
+${CC:-cc} -std=gnu11 -O1 -Wall -Wextra -Werror tests/web/int128.c -o "$work/int128"
+"$work/int128"
+page=$work/page
+web/module/make.sh "$page" ${library:+"$library"}
+! grep -aE '/(home|work|root|opt|usr|tmp)/' "$page"/* || { echo 'the page names a path of this machine'; exit 1; }
+
+symbols=$work/symbols
+grep -haE $'^(text|refused|press)\t' crates/check_rows/stdin | tr '\t' '\n' | grep -aE '^_(Z|R)[A-Za-z0-9_.$]+$' | sort -u >"$symbols"
+mkdir "$work/hostile"
+for kind in cpp rust; do
+    python3 -c "import sys; sys.path.insert(0, 'bench'); import plot; print(plot.hostile_$kind(60000))" >"$work/hostile/$kind"
+done
+
+module_test() { node tests/web/module.mjs "$1" crates/check_rows/stdin "$program" "$symbols"; }
+page_test() { node tests/web/page.mjs "$1" "$program" "$symbols" "$work/hostile" ${2:+"$2"}; }
+# Node 20 takes files named .js for modules where a package says so.
+echo '{"type": "module"}' >"$page/package.json"
+module_test "$page"
+! has chromium 'the page in a browser' || page_test "$page" "$shots"
+
+# broken TEST FILE OLD NEW : the test has to fail where OLD, which stands there once, is NEW
+broken() {
+    cp "$page/$2" "$work/whole"
+    FILE=$page/$2 OLD=$3 NEW=$4 python3 -c '
+import os
+file, old, new = (os.environ[it] for it in ("FILE", "OLD", "NEW"))
+text = open(file).read()
+assert text.count(old) == 1, f"{file} has {old} {text.count(old)} times"
+open(file, "w").write(text.replace(old, new))'
+    if "$1" "$page" >"$work/said" 2>&1; then
+        echo "not seen: in $2, $3 made ${4:-nothing}"
+        exit 1
+    fi
+    cp "$work/whole" "$page/$2"
+    echo "seen: $2: $3: $(grep -aE 'Error: |^page.mjs: ' "$work/said" | head -n 1 | cut -c1-160)"
+}
+if [ $breaks = yes ]; then
+    broken module_test library.js 'BRIEF: 1, NO_PARAMETERS: 2' 'BRIEF: 2, NO_PARAMETERS: 1'
+    broken module_test library.js 'view.getUint32(result + 8, true)' 'view.getUint32(result + 12, true)'
+    broken module_test library.js '[rows, nodes, steps] = [0, 4, 8]' '[rows, nodes, steps] = [8, 4, 0]'
+    broken module_test words.js 'while (cut > 0 && isLetter(piece[cut - 1])) cut -= 1;' ''
+    broken module_test words.js 'for (let cut = middle; cut > 0; cut -= 1)' 'for (let cut = middle; cut < 0; cut -= 1)'
+    broken page_test worker.js 'if (bytes > offset) break;' 'units += 1;'
+    broken page_test worker.js 'code < 0x80 ? 1 : code < 0x800 ? 2' 'code < 0x800 ? 1'
+    broken page_test words.js '.replace(/\.+$/, "")' ''
+    broken page_test words.js '(options.ascii ? FLAG.ASCII_WORDS : 0)' '0'
+    broken page_test worker.js 'wide: true' 'wide: false'
+    broken page_test page.js 'PATIENCE = 300;' 'PATIENCE = 300_000;'
+    broken page_test show.js '\u2028-\u202e' ''
+    broken page_test job.js 'read / size' '0'
+    broken page_test style.css 'form { display: grid; grid-template-columns: repeat(auto-fill, minmax(17rem, 1fr));' 'form { display: grid; grid-template-columns: repeat(3, 17rem);'
+    broken page_test style.css 'prefers-color-scheme: dark' 'prefers-color-scheme: none'
+    broken page_test index.html '</main>' '<img src="http://127.0.0.1:1/it.png" alt="it"></main>'
+    broken page_test index.html '<label for="input">Names or a log</label>' 'Names or a log'
+fi
+echo 'tests/web.sh: ok'

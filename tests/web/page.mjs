@@ -1,0 +1,373 @@
+// node page.mjs PAGE_FOLDER SYMFILT SYMBOLS HOSTILE_FOLDER [SHOTS_FOLDER]: the page in Chromium, as a person uses it
+//
+// It types, pastes, ticks, drops and downloads, and looks at what is there; texts are compared with the program's. Each step is
+// named as it holds; the first that doesn't ends it. HOSTILE_FOLDER has a hostile name in each of the files cpp and rust.
+// SHOTS_FOLDER gets pictures of the page, to be looked at.
+import { execFileSync } from "node:child_process";
+import fs from "node:fs";
+import path from "node:path";
+import { Browser, serve, until } from "./browser.mjs";
+
+const [folder, program, symbols, hostile, shots] = process.argv.slice(2);
+const server = await serve(folder);
+const browser = await Browser.start();
+let step = "start";
+
+function wants(test, ...what) {
+    if (!test) throw new Error(what.map((it) => (typeof it === "string" ? it : JSON.stringify(it))).join(" "));
+}
+
+const said = (css) => browser.run((css) => [...document.querySelectorAll(css)].filter((it) => it.checkVisibility()).map((it) => it.textContent), css);
+const text = (id) => browser.run((id) => document.getElementById(id).textContent, id);
+const click = (css) => browser.run((css) => {
+    const it = document.querySelector(css);
+    if (!it.checkVisibility()) throw new Error(`${css} isn't shown`);
+    it.click();
+}, css);
+const tick = (name) => click(`[name=${name}]`);
+const puts = (text, css = "#input") => browser.run((text, css) => {
+    const it = document.querySelector(css);
+    it.value = text;
+    it.dispatchEvent(new Event("input", { bubbles: true }));
+}, text, css);
+const shows = (css, wanted) => until(async () => JSON.stringify(await said(css)) === JSON.stringify(wanted), `${css} shows ${JSON.stringify(wanted)}`).catch(async (error) => {
+    throw new Error(`${error.message}, but ${JSON.stringify(await said(css))}`);
+});
+const picture = (name, isWhole) => shots && browser.shot(path.join(shots, `${name}.png`), isWhole);
+const byProgram = (words, input) => execFileSync(program, words, { input, maxBuffer: 1 << 30 });
+
+async function open(hash = "", how = {}) {
+    await browser.open(server.address + hash, how);
+    await until(() => browser.run(() => document.body?.dataset.ready), "the page is ready");
+    if (await browser.run(() => document.querySelector("[name=legacy]").checked)) await tick("legacy");
+}
+
+async function downloaded(name) {
+    const file = path.join(browser.folder, name);
+    await until(() => fs.existsSync(file), `${name} is saved`);
+    const bytes = fs.readFileSync(file);
+    fs.rmSync(file);
+    return bytes;
+}
+
+const NAME = "_ZN4demo5cacheIPKcE6lookupERKNSt7__cxx1112basic_stringIcSt11char_traitsIcESaIcEEE";
+const TEXT = "demo::cache<char const*>::lookup(std::__cxx11::basic_string<char, std::char_traits<char>, std::allocator<char>> const&)";
+
+const steps = {
+    async "a first look"() {
+        await open();
+        await picture("empty", false);
+        wants(await browser.run(() => document.activeElement.id === "input"), "the input has the focus");
+        const pairs = await browser.run(() => [...document.querySelectorAll("#intro dl > div")].map((it) => [it.querySelector("button").textContent, it.querySelector("dd").textContent]));
+        wants(pairs.length === 2, "two names and their texts:", pairs);
+        for (const [name, text] of pairs) wants(byProgram(["--wide", name]).toString() === `${text}\n`, "the text of an example:", name, text);
+        await click("#intro button");
+        await shows(".said", [pairs[0][1]]);
+        wants(!(await said("#intro")).length, "the examples go when there is a text");
+    },
+
+    async "typed"() {
+        await puts("");
+        await browser.run(() => document.getElementById("input").focus());
+        await browser.type(NAME.slice(0, 20));
+        await shows(".why", ["Incomplete. The name breaks off after 20 bytes: more has to follow."]);
+        await browser.type(NAME.slice(20));
+        await shows(".said", [TEXT]);
+        await until(async () => (await said(".inside dt")).at(-1) === "Pressed spelling", "counts and the pressed spelling of one name");
+        await picture("name");
+    },
+
+    async "options"() {
+        await tick("brief");
+        await shows(".said", ["demo::cache::lookup(std::__cxx11::basic_string const&)"]);
+        await tick("noParameters");
+        await shows(".said", ["demo::cache::lookup"]);
+        await tick("brief");
+        await shows(".said", ["demo::cache<char const*>::lookup"]);
+        await tick("noParameters");
+        await puts("100", "[name=limit]");
+        await shows(".why", ["Too long. The text would cost more than the limit of 100."]);
+        await click(".raise");
+        await shows(".said", [TEXT]);
+        wants(await browser.run(() => document.querySelector("[name=limit]").value === "1000"), "the limit was raised");
+        await puts("5000000000", "[name=limit]");
+        await shows("#limit-hint", ["a whole number up to 4,294,967,295; so 1,000,000 is taken"]);
+        await shows(".said", [TEXT]);
+        await puts("1000000", "[name=limit]");
+        await shows("#limit-hint", ["what one text may cost: its bytes and parts"]);
+        await tick("wide");
+        await puts("_ZN1AC4Ev");
+        await shows(".why", ["Malformed at offset 6. No name goes on with “4” there."]);
+        await picture("narrow");
+        await click(".widen");
+        await shows(".said", ["A::A()"]);
+        wants(await browser.run(() => document.querySelector("[name=wide]").checked), "the wide grammar is ticked");
+        await puts("error: ‘_Z1fv’ is wrong");
+        await shows("#text", ["error: ‘f()’ is wrong"]);
+        await tick("letters");
+        await until(async () => (await text("status")).startsWith("No name found."), "quotes are letters");
+        await tick("letters");
+    },
+
+    async "refused"() {
+        const REFUSED = [
+            ["_Z1fS9_", "Bad reference at offset 4. It refers to a part that the name doesn’t have before it.", "S (offset 4)"],
+            ["_RNvC3foo3barX", "Incomplete. The name breaks off after 14 bytes: more has to follow.", " (the end)"],
+            ["__ZN4demo4mainS7_", "Malformed at offset 14. No name goes on with “S” there.", "S (offset 14)"],
+            ["_Z2éQ", "Malformed at offset 5. No name goes on with “Q” there.", "Q (offset 5)"],
+            ["_Z1é", "Malformed at offset 4. No name goes on with “é” there.", "é (offset 4)"],
+        ];
+        await tick("letters");
+        for (const [name, why, mark] of REFUSED) {
+            await puts(name);
+            await shows(".why", [why]);
+            await shows(".symbol mark", [mark]);
+        }
+        await tick("letters");
+        await puts("?f@@YAXXZ");
+        await until(async () => /Microsoft/.test(await text("status")), "a name of Microsoft’s is told");
+        await puts("ZN3foo3barEv");
+        await until(async () => /underscore/.test(await text("status")), "a lost underscore is told");
+    },
+
+    async "characters that can't be seen"() {
+        await tick("letters");
+        await puts("_Z4f\u202eb");
+        await shows(".said", ["f\\u{202e}(bool)"]);
+        await shows(".symbol", ["_Z4f\\u{202e}b"]);
+        await puts("\u202e _Z4f\u202eb");
+        await shows("#text", ["\\u{202e} f\\u{202e}(bool)"]);
+        await tick("letters");
+    },
+
+    async "a log"() {
+        await click("#example");
+        await until(async () => (await said(".card")).length === 6, "six names");
+        await until(async () => (await text("status")).startsWith("5 names demangled, 1 name refused"), "how many");
+        await picture("log");
+        const log = await browser.run(() => document.getElementById("input").value);
+        await shows("#text", [byProgram(["--wide"], log).toString()]);
+        await browser.run(() => document.querySelectorAll("#text a")[4].click());
+        await shows(".card.shown strong", ["Malformed at offset 13."]);
+        await puts(`${log}${log}`);
+        await until(async () => (await text("status")).startsWith("6 names in 12 places, 5 names demangled, 1 name refused"), "how many, and in how many places");
+        wants((await said(".facts"))[0].endsWith("2 times"), "how often", await said(".facts"));
+    },
+
+    async "counts and pressed spelling"() {
+        const name = "_ZN3foo3barEN3foo3bazENS_3bazE";
+        await puts(`__${name.slice(1)}`);
+        await until(async () => (await said(".inside dd")).length === 4, "counts and pressed spelling");
+        const [steps, rows, nodes, pressed] = await browser.run(() => [...document.querySelectorAll(".inside dd")].map((it) => it.firstChild.textContent));
+        wants(byProgram(["--stats", name]).toString().split("\n")[1] === `rows ${rows} nodes ${nodes} steps ${steps}`, "the program's counts:", rows, nodes, steps);
+        wants(byProgram(["--press", name]).toString() === `${pressed}\n`, "the program's spelling:", pressed);
+        await picture("pressed");
+    },
+
+    async "by keys alone"() {
+        await click("#example");
+        await until(async () => (await said(".card")).length === 6, "six names");
+        await browser.run(() => document.getElementById("input").focus());
+        const stops = [];
+        for (let i = 0; i < 11; i += 1) {
+            await browser.press("Tab", "Tab", 9);
+            stops.push(await browser.run(() => document.activeElement.id || document.activeElement.name || document.activeElement.textContent.trim()));
+        }
+        const wanted = ["Options", "brief", "noParameters", "wide", "legacy", "letters", "limit", "copy", "save", "text", "<demo::queue::Queue<usize>>::push"];
+        const hasLegacy = stops.includes("legacy");
+        wants(JSON.stringify(stops.slice(0, 10)) === JSON.stringify(wanted.filter((it) => hasLegacy || it !== "legacy").slice(0, 10)), "the order of tabs:", stops);
+        await browser.run(() => document.querySelector("[name=brief]").focus());
+        for (const first of ["<demo::queue::Queue>::push", "<demo::queue::Queue<usize>>::push"]) {
+            await browser.press(" ", "Space", 32, " ");
+            await until(async () => (await said(".said"))[0] === first, "the space bar ticks");
+        }
+        await browser.run(() => document.querySelector("#text a").focus());
+        await browser.press("Enter", "Enter", 13, "\r");
+        await until(async () => (await said(".card.shown")).length === 1, "a name of the text leads to its card");
+        wants(await browser.run(() => document.activeElement.closest(".card.shown")), "the focus is in the card");
+    },
+
+    async "what a screen reader is told"() {
+        const { nodes } = await browser.call("Accessibility.getFullAXTree");
+        const roles = nodes.filter((it) => !it.ignored && it.role).map((it) => [it.role.value, it.name?.value ?? "", it.description?.value ?? ""]);
+        const NAMED = ["button", "link", "textbox", "checkbox", "spinbutton", "progressbar", "DisclosureTriangle"];
+        for (const [role, name] of roles) wants(name || !NAMED.includes(role), `a ${role} has no name`);
+        const has = (...it) => wants(roles.some(([role, name]) => role === it[0] && name === it[1]), "there is no", it);
+        has("textbox", "Names or a log");
+        has("checkbox", "Wide C++ grammar");
+        has("spinbutton", "Limit");
+        has("button", "Copy this text");
+        has("heading", "Demangle C++ and Rust names");
+        wants(roles.some(([role]) => role === "status"), "the status is spoken");
+        wants(roles.filter(([role]) => role === "checkbox").every(([, , hint]) => hint), "each box has a hint");
+    },
+
+    async "a pasted log is the program's text"() {
+        const log = fs.readFileSync(symbols).subarray(0, 100_000).toString();
+        await puts(log);
+        await until(async () => /^\d{3} names/.test(await text("status")), "it is read");
+        await click("#save");
+        wants((await downloaded("demangled.txt")).equals(byProgram(["--wide", "--ascii-words"], log)), "not the program's text");
+        await click("#more");
+        await until(async () => (await said(".card")).length === 500, "more names are shown");
+    },
+
+    async "a file"() {
+        // Long enough that browsers hand it out in many pieces, whose ends lie in words.
+        const lines = Array.from({ length: 60_000 }, (_, i) => `${i} _ZNSt6vectorIiSaIiEE9push_backEOi\n`);
+        const given = Buffer.concat([fs.readFileSync(symbols), Buffer.from(lines.join(""))]);
+        const file = path.join(browser.folder, "given.log");
+        fs.writeFileSync(file, given);
+        await puts("");
+        await browser.choose("#file", file);
+        await until(async () => (await text("job-status")).startsWith("Done"), "it is filtered", 60);
+        console.log(`    ${await text("job-status")}`);
+        await picture("file");
+        await click("#download");
+        wants((await downloaded("given.demangled.log")).equals(byProgram(["--wide", "--ascii-words"], given)), "not the program's text");
+        await click("#close");
+        wants(!(await said("#job")).length, "it is closed");
+        await browser.choose("#file", path.join(browser.folder, "none.log"));
+        await until(async () => (await text("status")).startsWith("Something went wrong: the file can’t be read"), "a file that isn't there");
+        wants(!(await said("#job")).length, "it is given up");
+    },
+
+    async "a dropped file"() {
+        const drops = (...kinds) => browser.run((...kinds) => {
+            window.dropped ??= new DataTransfer();
+            if (!window.dropped.items.length) {
+                window.dropped.items.add(new File(["at _Z1fv\n", "_RNvC3foo3bar\n".repeat(3), "_Z1fS9_\n"], "dropped.log"));
+                window.dropped.items.add(new File(["_Z1gv"], "other.log"));
+            }
+            for (const kind of kinds) dispatchEvent(new DragEvent(kind, { dataTransfer: window.dropped, bubbles: true, cancelable: true }));
+        }, ...kinds);
+        await drops("dragenter", "dragover");
+        wants((await said("#drop")).length, "a place to drop it is shown");
+        await picture("drop", false);
+        await drops("dragleave");
+        wants(!(await said("#drop")).length, "it goes with the file");
+        await drops("dragenter", "dragover", "drop");
+        await shows("#preview", [`at f()\n${"foo::bar\n".repeat(3)}_Z1fS9_\n`]);
+        wants(!(await said("#drop")).length, "it goes after the drop");
+        await shows("#job-title", ["dropped.log (the first of 2: one file at a time)"]);
+        await click("#close");
+    },
+
+    async "a long paste is taken as a file"() {
+        await browser.run(() => {
+            const it = document.getElementById("input");
+            it.value = "at _Z1fv and on\n".repeat(70_000);
+            it.dispatchEvent(new Event("input", { bubbles: true }));
+        });
+        await until(async () => (await text("job-status")).endsWith("1.1 MB became 980.0 KB."), "it is filtered");
+        wants(await browser.run(() => document.getElementById("input").value === ""), "the input is empty again");
+        await click("#close");
+    },
+
+    async "a large file shows how far it is, and stops"() {
+        const file = path.join(browser.folder, "large.txt");
+        fs.writeFileSync(file, "0000 T _ZNSt6vectorIiSaIiEE9push_backEOi\n".repeat(3_000_000));
+        await browser.choose("#file", file);
+        await until(() => browser.run(() => document.getElementById("progress").value > 0.02), "progress");
+        await picture("progress");
+        await puts("_Z1fv");
+        await shows(".said", ["f()"]);
+        await click("#stop");
+        wants(!(await said("#job")).length, "it is stopped");
+        fs.rmSync(file);
+    },
+
+    async "hostile names"() {
+        const HOSTILE = {
+            "C++, each part twice the one before": fs.readFileSync(path.join(hostile, "cpp"), "latin1").trim(),
+            "Rust, each part twice the one before": fs.readFileSync(path.join(hostile, "rust"), "latin1").trim(),
+            "60,000 pointers": `_Z1f${"P".repeat(60_000)}i`,
+            "65,000 parameters": `_Z1f${"i".repeat(65_000)}`,
+            "20,000 open argument lists": `_Z1f${"1AI".repeat(20_000)}`,
+            "30,000 open paths": `_R${"Nv".repeat(30_000)}`,
+        };
+        for (const [called, name] of Object.entries(HOSTILE)) {
+            await puts("");
+            await shows(".card", []);
+            await browser.run(() => {
+                window.gaps = [];
+                let last = performance.now();
+                window.beating = setInterval(() => { const now = performance.now(); window.gaps.push(now - last); last = now; }, 5);
+            });
+            const began = Date.now();
+            await puts(name);
+            await until(async () => (await said(".card")).length === 1, `an answer to ${called}`, 30);
+            const took = Date.now() - began;
+            const pause = await browser.run(() => { clearInterval(window.beating); return Math.max(...window.gaps); });
+            const [answer] = (await said(".why")).concat(await said(".facts"));
+            console.log(`    ${called}: ${name.length} bytes, ${took} ms, the page paused at most ${Math.round(pause)} ms; ${answer}`);
+            wants(pause < 1000, `the page froze for ${pause} ms`);
+            if ((await said(".card details")).length) {
+                await browser.run(() => { document.querySelector(".card details").open = true; });
+                await until(async () => (await said(".inside dt")).length > 1, `counts of ${called}`, 30);
+            }
+        }
+    },
+
+    async "what takes long can be stopped"() {
+        const doubled = `_Z1f1AIiiE${[..."0123456789ABCDEFGHIJKLMN"].map((it) => `S_IS${it}_S${it}_E`).join("")}`; // 537 million bytes
+        await puts("");
+        await puts("4294967295", "[name=limit]");
+        await puts(doubled);
+        await shows("#status", ["Working…"]);
+        await picture("working");
+        await click("#halt");
+        await puts("_Z1fv");
+        await shows(".said", ["f()"]);
+        await puts(doubled);
+        await until(async () => (await said(".why")).length, "the text needs more memory than there is", 120);
+        wants((await said(".why"))[0].startsWith("Out of memory"), await said(".why"));
+        await puts("1000000", "[name=limit]");
+        await puts("_Z1fv");
+        await shows(".said", ["f()"]);
+    },
+
+    async "a name in the address"() {
+        await open("#_RNvC3foo3bar");
+        await shows(".said", ["foo::bar"]);
+    },
+
+    async "nothing was sent, and nothing complained"() {
+        const own = ["/", ...fs.readdirSync(folder).map((it) => `/${it}`)];
+        const strange = server.asked.filter((it) => !own.some((path) => it === `GET ${path}`));
+        wants(!strange.length, "the server was asked for", strange);
+        wants(!browser.complaints.length, browser.complaints);
+    },
+
+    async "dark, and as wide as a phone"() {
+        for (const [called, width, height, isDark] of [["dark", 1200, 900, true], ["phone", 390, 844, false], ["phone-dark", 390, 844, true], ["small", 320, 640, false]]) {
+            await open("", { width, height, isDark });
+            await picture(`${called}-empty`, false);
+            await click("#example");
+            await until(async () => (await said(".card")).length === 6, "six names");
+            await browser.run(() => { document.querySelector(".card details").open = true; document.getElementById("settings").open = true; });
+            await until(async () => (await said(".inside dt")).length, "counts");
+            // not innerWidth, which grows on a phone with what is too wide
+            const over = (await browser.run(() => document.documentElement.scrollWidth)) - width;
+            wants(over <= 0, `${called}: ${over} pixels too wide`);
+            const [ink, paper] = await browser.run(() => [getComputedStyle(document.documentElement).color, getComputedStyle(document.documentElement).backgroundColor].map((it) => Number(/\d+/.exec(it)[0])));
+            wants(isDark === ink > paper, `${called}: ink ${ink} on paper ${paper}`);
+            await picture(called);
+        }
+    },
+};
+
+try {
+    for (const [name, holds] of Object.entries(steps)) {
+        step = name;
+        await holds();
+        console.log(name);
+    }
+    console.log("page.mjs: ok");
+} catch (error) {
+    console.log(`page.mjs: ${step}: ${error.message}`);
+    if (shots) await browser.shot(path.join(shots, "failed.png")).catch(() => {});
+    process.exitCode = 1;
+}
+await browser.close();
+server.close();

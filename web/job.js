@@ -1,0 +1,56 @@
+// A file that is filtered in pieces: how far it is, what became of it, and its download.
+import { $, inBytes, inTime, many, n } from "./show.js";
+
+const PREVIEW = 4000; // bytes of the result that are shown
+
+let job;
+
+/** Whether this is the job that goes on or is shown. */
+export const isCurrent = (id) => job?.id === id;
+
+/** Shows a file that the worker was given under `id`, the first of so many. */
+export function startJob(id, file, count) {
+    const [, front, end] = /^(.*?)(\.[^.]*)?$/s.exec(file.name);
+    job = { id, file, name: `${front}.demangled${end ?? ".txt"}` };
+    $("job").hidden = false;
+    $("job-title").textContent = count > 1 ? `${file.name} (the first of ${n(count)}: one file at a time)` : file.name;
+    $("progress").hidden = $("stop").hidden = false;
+    $("progress").value = 0;
+    $("preview").hidden = $("download").hidden = $("close").hidden = true;
+    $("job-status").textContent = inBytes(file.size);
+}
+
+export function showProgress({ id, read, took }) {
+    if (!isCurrent(id)) return;
+    const { size } = job.file;
+    $("progress").value = size ? read / size : 0;
+    $("job-status").textContent = `${inBytes(read)} of ${inBytes(size)}, ${inBytes((read / took) * 1000)} a second`;
+}
+
+/** Shows the result; answers what is to be told of it. */
+export async function finishJob({ id, out, read, tally, took }) {
+    if (!isCurrent(id)) return;
+    job.url = URL.createObjectURL(out);
+    $("progress").hidden = $("stop").hidden = true;
+    $("close").hidden = $("download").hidden = false;
+    $("download").href = job.url;
+    $("download").download = job.name;
+    $("download").textContent = `Download ${job.name}`;
+    $("job-status").textContent =
+        `Done in ${inTime(took)}: ${many(tally.replaced, "name")} demangled, ${n(tally.refused)} refused; ${inBytes(read)} became ${inBytes(out.size)}.`;
+    $("status").textContent = `${job.file.name} is filtered.`;
+    const front = await out.slice(0, PREVIEW).text();
+    if (!isCurrent(id)) return;
+    $("preview").textContent = front + (out.size > PREVIEW ? "…" : "");
+    $("preview").hidden = false;
+}
+
+/** Takes the job away; answers its id, or nothing where there was none. */
+export function endJob() {
+    if (!job) return undefined;
+    const { id, url } = job;
+    if (url) URL.revokeObjectURL(url);
+    job = undefined;
+    $("job").hidden = true;
+    return id;
+}
