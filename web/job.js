@@ -14,35 +14,45 @@ export function startJob(id, file, count) {
     job = { id, file, name: `${front}.demangled${end ?? ".txt"}` };
     $("job").hidden = false;
     $("job-title").textContent = count > 1 ? `${file.name} (the first of ${n(count)}: one file at a time)` : file.name;
-    $("progress").hidden = $("stop").hidden = false;
     $("progress").value = 0;
-    $("preview").hidden = $("download").hidden = $("close").hidden = true;
-    $("job-status").textContent = inBytes(file.size);
+    $("job-progress").textContent = inBytes(file.size);
+    $("job-status").textContent = "";
+    $("preview").hidden = $("download").hidden = true;
+    goesOn(true);
+}
+
+function goesOn(it) {
+    $("progress").hidden = $("job-progress").hidden = $("stop").hidden = !it;
+    $("close").hidden = it;
 }
 
 export function showProgress({ id, read, took }) {
     if (!isCurrent(id)) return;
     const { size } = job.file;
     $("progress").value = size ? read / size : 0;
-    $("job-status").textContent = `${inBytes(read)} of ${inBytes(size)}, ${inBytes((read / took) * 1000)} a second`;
+    $("job-progress").textContent = `${inBytes(read)} of ${inBytes(size)}, ${inBytes((read / took) * 1000)} a second`;
 }
 
-/** Shows the result; answers what is to be told of it. */
+/** Shows the result. */
 export async function finishJob({ id, out, read, tally, took }) {
     if (!isCurrent(id)) return;
     job.url = URL.createObjectURL(out);
-    $("progress").hidden = $("stop").hidden = true;
-    $("close").hidden = $("download").hidden = false;
+    goesOn(false);
+    $("download").hidden = false;
     $("download").href = job.url;
     $("download").download = job.name;
     $("download").textContent = `Download ${job.name}`;
     $("job-status").textContent =
         `Done in ${inTime(took)}: ${many(tally.replaced, "name")} demangled, ${n(tally.refused)} refused; ${inBytes(read)} became ${inBytes(out.size)}.`;
-    $("status").textContent = `${job.file.name} is filtered.`;
     const front = await out.slice(0, PREVIEW).text();
     if (!isCurrent(id)) return;
     $("preview").textContent = front + (out.size > PREVIEW ? "…" : "");
     $("preview").hidden = false;
+}
+
+export function failJob(message) {
+    goesOn(false);
+    $("job-status").textContent = `It can’t be read: ${message}`;
 }
 
 /** Takes the job away; answers its id, or nothing where there was none. */

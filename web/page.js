@@ -1,6 +1,6 @@
 // The page: what is typed, pasted or dropped goes to the worker, and its answers are shown.
 import { card, opensAtOnce, showDetails, why } from "./cards.js";
-import { endJob, finishJob, isCurrent, showProgress, startJob } from "./job.js";
+import { endJob, failJob, finishJob, isCurrent, showProgress, startJob } from "./job.js";
 import { DEFAULT_LIMIT, GREATEST_LIMIT, STATUS } from "./library.js";
 import { $, SHOWN_TEXT, copy, cut, element, inTime, many, n, save, visible } from "./show.js";
 
@@ -62,11 +62,7 @@ const answers = {
     progress: showProgress,
     file: finishJob,
     failed({ id, message }) {
-        if (isCurrent(id)) {
-            endJob();
-            fail(`the file can’t be read (${message})`);
-            return;
-        }
+        if (isCurrent(id)) return failJob(message);
         answered = Math.max(answered, id ?? 0);
         fail(message);
     },

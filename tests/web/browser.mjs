@@ -43,6 +43,7 @@ export class Browser {
         const flags = ["--headless=new", "--no-sandbox", "--disable-gpu", "--disable-dev-shm-usage", "--hide-scrollbars=false",
             "--no-first-run", "--disable-background-networking", "--remote-debugging-pipe", `--user-data-dir=${it.folder}`];
         it.#process = spawn("chromium", flags, { stdio: ["ignore", "ignore", "ignore", "pipe", "pipe"] });
+        process.once("exit", () => it.#ends());
         let held = "";
         it.#process.stdio[4].setEncoding("utf8").on("data", (more) => {
             const messages = (held + more).split("\0");
@@ -119,7 +120,11 @@ export class Browser {
         const ended = new Promise((resolve) => this.#process.once("exit", resolve));
         this.#send("Browser.close").catch(() => {});
         await Promise.race([ended, sleep(3000)]);
-        this.#process.kill();
+        this.#ends();
+    }
+
+    #ends() {
+        this.#process.kill("SIGKILL");
         fs.rmSync(this.folder, { recursive: true, force: true, maxRetries: 5, retryDelay: 100 });
     }
 }

@@ -109,6 +109,17 @@ const steps = {
         await tick("letters");
     },
 
+    async "older Rust names, where the library knows them"() {
+        if (!(await said("#legacy")).length) return console.log("    this library doesn't");
+        await puts("_ZN3foo3bar17h0123456789abcdefE");
+        await shows(".said", ["foo::bar::h0123456789abcdef"]);
+        await shows(".card .language", ["C++"]);
+        await tick("legacy");
+        await shows(".said", ["foo::bar"]);
+        await shows(".card .language", ["Rust"]);
+        await tick("legacy");
+    },
+
     async "refused"() {
         const REFUSED = [
             ["_Z1fS9_", "Bad reference at offset 4. It refers to a part that the name doesn’t have before it.", "S (offset 4)"],
@@ -228,8 +239,8 @@ const steps = {
         await click("#close");
         wants(!(await said("#job")).length, "it is closed");
         await browser.choose("#file", path.join(browser.folder, "none.log"));
-        await until(async () => (await text("status")).startsWith("Something went wrong: the file can’t be read"), "a file that isn't there");
-        wants(!(await said("#job")).length, "it is given up");
+        await until(async () => (await text("job-status")).startsWith("It can’t be read: "), "a file that isn't there");
+        await click("#close");
     },
 
     async "a dropped file"() {
