@@ -88,7 +88,7 @@ export function showDetails(place, { counts, pressed, why: reason, length }, wor
     } else row("Counts", "", "not counted");
     if (pressed === null) row("Pressed spelling", "", `none: ${reason}`);
     else {
-        const isSame = pressed === word.slice(-length);
+        const isSame = pressed === word;
         row(isSame ? "Pressed spelling" : `Pressed spelling, ${many(pressed.length, "byte")}`,
             "every part that repeats is a reference, so names of one thing have the same bytes",
             isSame ? "the same as above" : element("code", "", cut(pressed, SHOWN_SYMBOL)));

@@ -64,9 +64,8 @@ const known = {
         if (isName(symbol)) isRefused(kind, bytesOf(symbol), reason, flags);
     },
     press(flags, [word, spelling], kind) {
-        const [name, wanted] = [word, spelling].map((it) => bytesOf(it.replace(/^_(?=_[ZR])/, "")));
-        const { status, bytes } = library.press(name, FLAG.UNDERSCORE);
-        holds(kind, status === STATUS.OK && wanted.equals(Buffer.from(bytes)), word);
+        const { status, bytes } = library.press(bytesOf(word), flags);
+        holds(kind, status === STATUS.OK && bytesOf(spelling).equals(Buffer.from(bytes)), word);
     },
     nameless(flags, [word], kind) {
         holds(kind, library.text(bytesOf(word), 100, flags).status === STATUS.NO_SYMBOL, word);
@@ -88,6 +87,8 @@ const CHOICES = [
 ];
 for (const [options, words] of CHOICES) {
     const wanted = execFileSync(program, words, { input: log, maxBuffer: 1 << 30 });
+    const [before, after] = [log, wanted].map((it) => it.toString("latin1").split("\n"));
+    const replaced = before.filter((line, i) => line !== after[i]).length;
     for (const size of [4093, 1 << 16, 1 << 20]) {
         const began = performance.now();
         const filter = new PieceFilter(library, 1_000_000, flagsOf(options));
@@ -96,7 +97,9 @@ for (const [options, words] of CHOICES) {
         parts.push(...filter.end());
         const speed = (log.length / (performance.now() - began) / 1000).toFixed(1);
         if (!Buffer.concat(parts).equals(wanted)) throw new Error(`not the program's text: ${words.join(" ")}, in pieces of ${size}`);
-        console.log(`${words.join(" ") || "in full"}, in pieces of ${size}: the program's text, ${speed} MB/s, ${filter.tally.replaced} replaced, ${filter.tally.refused} refused`);
+        const { tally } = filter;
+        holds("tally", tally.words === before.length - 1 && tally.replaced === replaced && tally.refused === tally.words - replaced, JSON.stringify(tally), replaced);
+        console.log(`${words.join(" ") || "in full"}, in pieces of ${size}: the program's text, ${speed} MB/s, ${tally.replaced} replaced, ${tally.refused} refused`);
     }
 }
 

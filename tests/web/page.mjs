@@ -167,11 +167,12 @@ const steps = {
 
     async "counts and pressed spelling"() {
         const name = "_ZN3foo3barEN3foo3bazENS_3bazE";
-        await puts(`__${name.slice(1)}`);
+        const word = `_${name}`;
+        await puts(word);
         await until(async () => (await said(".inside dd")).length === 4, "counts and pressed spelling");
         const [steps, rows, nodes, pressed] = await browser.run(() => [...document.querySelectorAll(".inside dd")].map((it) => it.firstChild.textContent));
         wants(byProgram(["--stats", name]).toString().split("\n")[1] === `rows ${rows} nodes ${nodes} steps ${steps}`, "the program's counts:", rows, nodes, steps);
-        wants(byProgram(["--press", name]).toString() === `${pressed}\n`, "the program's spelling:", pressed);
+        wants(byProgram(["--press", word]).toString() === `${pressed}\n`, "the program's spelling:", pressed);
         await picture("pressed");
     },
 
@@ -226,7 +227,7 @@ const steps = {
     async "a file"() {
         // Long enough that browsers hand it out in many pieces, whose ends lie in words.
         const lines = Array.from({ length: 60_000 }, (_, i) => `${i} _ZNSt6vectorIiSaIiEE9push_backEOi\n`);
-        const given = Buffer.concat([fs.readFileSync(symbols), Buffer.from(lines.join(""))]);
+        const given = Buffer.concat([fs.readFileSync(symbols), Buffer.from(lines.join("")), Buffer.from("‘_Z1fv’\n")]);
         const file = path.join(browser.folder, "given.log");
         fs.writeFileSync(file, given);
         await puts("");
@@ -235,7 +236,12 @@ const steps = {
         console.log(`    ${await text("job-status")}`);
         await picture("file");
         await click("#download");
-        wants((await downloaded("given.demangled.log")).equals(byProgram(["--wide", "--ascii-words"], given)), "not the program's text");
+        const wanted = byProgram(["--wide", "--ascii-words"], given);
+        wants((await downloaded("given.demangled.log")).equals(wanted), "not the program's text");
+        const [before, after] = [given, wanted].map((it) => it.toString().split("\n"));
+        const demangled = before.filter((line, i) => line !== after[i]).length;
+        const told = / ([\d,]+) names demangled, ([\d,]+) refused/.exec(await text("job-status")).slice(1).map((it) => Number(it.replaceAll(",", "")));
+        wants(told[0] === demangled && told[0] + told[1] === before.length - 1, "how many names:", told, demangled);
         await click("#close");
         wants(!(await said("#job")).length, "it is closed");
         await browser.choose("#file", path.join(browser.folder, "none.log"));

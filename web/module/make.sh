@@ -37,17 +37,14 @@ wasm=(--target=wasm64-unknown-unknown -mcpu=lime1 -ffunction-sections -fdata-sec
 
 # What the C files name of the C library, which isn't there.
 mkdir "$work/include"
-echo 'typedef __SIZE_TYPE__ size_t;' | tee "$work/include/stddef.h" >"$work/include/stdlib.h"
-cat >>"$work/include/stdlib.h" <<'END'
-void *malloc(size_t); void *realloc(void *, size_t); void free(void *);
-END
+echo 'typedef __SIZE_TYPE__ size_t;' >"$work/include/stddef.h"
 cat >"$work/include/stdint.h" <<'END'
-typedef __UINT8_TYPE__ uint8_t; typedef __UINT32_TYPE__ uint32_t; typedef __UINT64_TYPE__ uint64_t; typedef __UINTPTR_TYPE__ uintptr_t;
+typedef __UINT8_TYPE__ uint8_t;
+typedef __UINT32_TYPE__ uint32_t;
+typedef __UINT64_TYPE__ uint64_t;
+typedef __UINTPTR_TYPE__ uintptr_t;
 END
-cat >"$work/include/string.h" <<'END'
-#define memcpy __builtin_memcpy
-__SIZE_TYPE__ strlen(const char *);
-END
+echo '#define memcpy __builtin_memcpy' >"$work/include/string.h"
 for file in callers/archive/functions.c callers/archive/arena.c web/module/int128.c; do
     "${clang[@]}" "${wasm[@]}" -O2 -ffreestanding -nostdinc -I "$work/include" -I callers/c -c "$file" \
         -o "$work/$(basename "$file" .c).o"
