@@ -30,6 +30,7 @@ let module;
 let asked = 0; // the id of the newest question
 let answered = 0;
 let shown; // the last view
+let isStopped = false; // a person ended the work, so it isn't begun again by itself
 const waiting = new Map(); // details that were asked: where they go, and of what name, by id
 
 function start() {
@@ -45,7 +46,7 @@ const answers = {
         $("legacy").hidden = controls.legacy.disabled = !hasLegacy;
         controls.legacy.checked &&= hasLegacy;
         document.body.dataset.ready = "yes";
-        ask();
+        if (!isStopped) ask();
     },
     view(data) {
         if (data.id !== asked) return;
@@ -107,13 +108,14 @@ function ask() {
     const text = input.value;
     $("clear").hidden = !text;
     $("intro").hidden = !!text;
+    isStopped = false;
+    if (!document.body.dataset.ready) return; // it is asked again then
     if (text.length > LONG_PASTE) {
         input.value = "";
         filterFile(new File([text], "pasted.txt", { type: "text/plain" }));
         return;
     }
     fits(text);
-    if (!document.body.dataset.ready) return;
     asked += 1;
     const id = asked;
     worker.postMessage({ kind: "view", id, text, options: optionsNow() });
@@ -191,7 +193,7 @@ function whole(parts, names, options) {
         const text = name.text ?? name.word;
         const link = element("a", name.status === STATUS.OK ? "" : "refused", cut(text));
         link.href = `#name-${part}`;
-        link.title = name.text ? cut(name.word, 200) : why(name, options).join(". ");
+        link.title = name.status === STATUS.OK ? cut(name.word, 200) : why(name, options).join(". ");
         link.dataset.name = part;
         made.push(link);
         length += Math.min(text.length, SHOWN_TEXT);
@@ -230,6 +232,17 @@ function goTo(number) {
     it.querySelector(".copy").focus({ preventScroll: true });
 }
 
+/** Takes the name that a link has after its #, which browsers send to no server. */
+function takeFromAddress() {
+    if (!/^#_/.test(location.hash)) return;
+    try {
+        input.value = decodeURIComponent(location.hash.slice(1));
+    } catch {
+        return; // no UTF-8
+    }
+    ask();
+}
+
 // --- files
 
 function filterFile(file, count = 1) {
@@ -255,6 +268,7 @@ function halt() {
     waiting.clear();
     endJob();
     asked += 1;
+    isStopped = true;
     delete document.body.dataset.ready;
     start();
     $("halt").hidden = true;
@@ -304,9 +318,8 @@ addEventListener("drop", (event) => {
 });
 
 $("settings").open = matchMedia("(min-width: 48rem)").matches;
-// A link may carry a name after its #, which browsers send to no server.
-if (/^#_/.test(location.hash)) input.value = decodeURIComponent(location.hash.slice(1));
-$("intro").hidden = !!input.value;
+takeFromAddress();
+addEventListener("hashchange", takeFromAddress);
 
 try {
     const response = await fetch("symdemangle.wasm");

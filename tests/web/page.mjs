@@ -6,7 +6,7 @@
 import { execFileSync } from "node:child_process";
 import fs from "node:fs";
 import path from "node:path";
-import { Browser, serve, until } from "./browser.mjs";
+import { Browser, serve, sleep, until } from "./browser.mjs";
 
 const [folder, program, symbols, hostile, shots] = process.argv.slice(2);
 const server = await serve(folder);
@@ -334,6 +334,9 @@ const steps = {
         await shows("#status", ["Working…"]);
         await picture("working");
         await click("#halt");
+        await until(() => browser.run(() => document.body.dataset.ready), "the page is ready again");
+        await sleep(500);
+        await shows("#status", ["Stopped."]);
         await puts("_Z1fv");
         await shows(".said", ["f()"]);
         await puts(doubled);
@@ -347,6 +350,10 @@ const steps = {
     async "a name in the address"() {
         await open("#_RNvC3foo3bar");
         await shows(".said", ["foo::bar"]);
+        await browser.run(() => { location.hash = "_Z1f%69"; });
+        await shows(".said", ["f(int)"]);
+        await open("#_Z1f%ff");
+        wants((await said("#intro")).length, "an address that is no UTF-8 is passed over");
     },
 
     async "nothing was sent, and nothing complained"() {
