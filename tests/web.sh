@@ -81,6 +81,7 @@ if [ $breaks = yes ]; then
     broken page_test words.js '(options.ascii ? FLAG.ASCII_WORDS : 0)' '0'
     broken page_test worker.js 'wide: true' 'wide: false'
     broken page_test page.js 'PATIENCE = 300;' 'PATIENCE = 300_000;'
+    broken page_test page.js 'if (!isStopped) ask();' 'ask();'
     broken page_test show.js '\u2028-\u202e' ''
     broken page_test job.js 'read / size' '0'
     broken page_test style.css 'form { display: grid; grid-template-columns: repeat(auto-fill, minmax(17rem, 1fr));' 'form { display: grid; grid-template-columns: repeat(3, 17rem);'
