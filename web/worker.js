@@ -32,8 +32,8 @@ function unitAt(text, offset) {
     return units;
 }
 
-/** Whether a name is an older one of Rust's: it has such a hash, and is read otherwise than as C++. */
-function isOlderRust(bytes, word, options, answer) {
+/** Whether a name is a legacy one of Rust's: it has such a hash, and is read otherwise than as C++. */
+function isLegacyRust(bytes, word, options, answer) {
     if (!options.legacy || !/17h[0-9a-f]{16}E/.test(word)) return false;
     const { status, bytes: text } = library.text(bytes, options.limit, flagsOf({ ...options, legacy: false }));
     return status !== answer.status || (status === STATUS.OK && decoder.decode(text) !== decoder.decode(answer.bytes));
@@ -45,7 +45,7 @@ function read(word, options) {
     if (bytes.length > LONGEST_WORD) return { ...about, status: STATUS.SIZE };
     const answer = library.text(bytes, options.limit, flagsOf(options));
     const { status, offset } = answer;
-    about.isRust ||= isOlderRust(bytes, word, options, answer);
+    about.isRust ||= isLegacyRust(bytes, word, options, answer);
     if (status === STATUS.OK) return { ...about, status, text: decoder.decode(answer.bytes) };
     const found = { ...about, status, message: library.message(status) };
     if (status >= STATUS.MALFORMED && status <= STATUS.BAD_VALUE) {

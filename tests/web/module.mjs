@@ -74,8 +74,8 @@ const known = {
 
 for (const line of fs.readFileSync(rows, "latin1").split("\n")) {
     const [kind, ...fields] = line.split("\t");
-    const [, wide, name] = /^(wide )?(\S*)$/.exec(kind) ?? [];
-    known[name]?.(FLAG.UNDERSCORE | (wide ? FLAG.WIDE : 0), fields, kind);
+    const [, by = "", name] = /^(?:(wide|legacy) )?(\S*)$/.exec(kind) ?? [];
+    known[name]?.(FLAG.UNDERSCORE | (by && FLAG[by.toUpperCase()]), fields, kind);
 }
 for (const kind of ["text", "refused", "wide text", "wide refused", "press", "counts"]) holds("kinds", tried[kind] > 100, `too few rows ${kind}:`, tried[kind]);
 console.log(`rows: ${Object.entries(tried).map(([kind, count]) => `${kind} ${count}`).join(", ")}`);

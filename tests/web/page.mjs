@@ -39,7 +39,7 @@ const byProgram = (words, input) => execFileSync(program, words, { input, maxBuf
 async function open(hash = "", how = {}) {
     await browser.open(server.address + hash, how);
     await until(() => browser.run(() => document.body?.dataset.ready), "the page is ready");
-    // The program is asked for no older Rust names, so neither is the page; on a phone the options are folded.
+    // The program is asked for no legacy Rust names, so neither is the page; on a phone the options are folded.
     await browser.run(() => { if (document.querySelector("[name=legacy]").checked) document.querySelector("[name=legacy]").click(); });
 }
 
@@ -110,7 +110,7 @@ const steps = {
         await tick("letters");
     },
 
-    async "older Rust names, where the library knows them"() {
+    async "legacy Rust names, where the library knows them"() {
         if (!(await said("#legacy")).length) return console.log("    this library doesn't");
         wants(await browser.run(() => document.querySelector("[name=legacy]").defaultChecked), "they are read by default");
         await puts("_ZN3foo3bar17h0123456789abcdefE");
