@@ -40,7 +40,7 @@ web/module/make.sh "$page" ${library:+"$library"}
 ! grep -aE '/(home|work|root|opt|usr|tmp)/' "$page"/* || { echo 'the page names a path of this machine'; exit 1; }
 
 symbols=$work/symbols
-grep -haE $'^(text|refused|press)\t' crates/check_rows/stdin | tr '\t' '\n' | grep -aE '^_(Z|R)[A-Za-z0-9_.$]+$' | sort -u >"$symbols"
+grep -haE $'^((wide |legacy )?(text|refused)|press)\t' crates/check_rows/stdin | tr '\t' '\n' | grep -aE '^_(Z|R)[A-Za-z0-9_.$]+$' | sort -u >"$symbols"
 mkdir "$work/hostile"
 for kind in cpp rust; do
     python3 -c "import sys; sys.path.insert(0, 'bench'); import plot; print(plot.hostile_$kind(60000))" >"$work/hostile/$kind"

@@ -16,6 +16,8 @@ if (WebAssembly.Module.imports(code).length) throw new Error("the module imports
 const library = new Library(code);
 
 const DETAILS = { full: 0, brief: FLAG.BRIEF, "no-params": FLAG.NO_PARAMETERS, "brief-no-params": FLAG.BRIEF | FLAG.NO_PARAMETERS };
+// legacy Rust names have their texts with each grammar of C++
+const GRAMMARS = { "": [0], wide: [FLAG.WIDE], legacy: [FLAG.LEGACY, FLAG.LEGACY | FLAG.WIDE] };
 const REASONS = { "malformed at": STATUS.MALFORMED, "bad reference at": STATUS.BAD_REFERENCE, "bad value at": STATUS.BAD_VALUE, "too long": STATUS.TOO_LONG };
 const ESCAPES = { "\\\\": "\\", "\\t": "\t", "\\n": "\n", "\\f": "\xff" };
 const plain = (field) => field.replace(/\\[\\tnf]/g, (it) => ESCAPES[it]);
@@ -75,15 +77,16 @@ const known = {
 for (const line of fs.readFileSync(rows, "latin1").split("\n")) {
     const [kind, ...fields] = line.split("\t");
     const [, by = "", name] = /^(?:(wide|legacy) )?(\S*)$/.exec(kind) ?? [];
-    known[name]?.(FLAG.UNDERSCORE | (by && FLAG[by.toUpperCase()]), fields, kind);
+    for (const flags of GRAMMARS[by]) known[name]?.(FLAG.UNDERSCORE | flags, fields, kind);
 }
-for (const kind of ["text", "refused", "wide text", "wide refused", "press", "counts"]) holds("kinds", tried[kind] > 100, `too few rows ${kind}:`, tried[kind]);
+for (const kind of ["text", "refused", "wide text", "wide refused", "legacy text", "legacy refused", "press", "counts"]) holds("kinds", tried[kind] > 50, `too few rows ${kind}:`, tried[kind]);
 console.log(`rows: ${Object.entries(tried).map(([kind, count]) => `${kind} ${count}`).join(", ")}`);
 
 const log = fs.readFileSync(symbols);
 const CHOICES = [
     [{}, []], [{ wide: true }, ["--wide"]], [{ brief: true }, ["--brief"]], [{ noParameters: true }, ["--no-params"]],
     [{ wide: true, brief: true, noParameters: true, ascii: true }, ["--wide", "--brief", "--no-params", "--ascii-words"]],
+    [{ legacy: true }, ["--legacy"]], [{ wide: true, legacy: true, ascii: true }, ["--wide", "--legacy", "--ascii-words"]],
 ];
 for (const [options, words] of CHOICES) {
     const wanted = execFileSync(program, words, { input: log, maxBuffer: 1 << 30 });

@@ -219,7 +219,7 @@ const steps = {
     async "a pasted log is the program's text"() {
         const log = fs.readFileSync(symbols).subarray(0, 100_000).toString();
         await puts(log);
-        await until(async () => /^\d{3} names/.test(await text("status")), "it is read");
+        await until(async () => /^[\d,]{3,} names/.test(await text("status")), "it is read");
         await click("#save");
         wants((await downloaded("demangled.txt")).equals(byProgram(["--wide", "--ascii-words"], log)), "not the program's text");
         await click("#more");
