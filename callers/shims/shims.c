@@ -163,8 +163,18 @@ enum {
     AUTO = 1 << 8,
     GNU_V3 = 1 << 14,
     RUST = 1 << 17,
-    OTHER_STYLES = 1 << 2 | 1 << 15 | 1 << 16 /* Java, Ada, D */
+    OTHER_STYLES = 1 << 2 | 1 << 15 | 1 << 16, /* Java, Ada, D */
+    STYLES = AUTO | GNU_V3 | RUST | OTHER_STYLES
 };
+
+/* The style that a program set with cplus_demangle_set_style (c++filt -s), where libiberty is there. */
+extern int current_demangling_style __attribute__((weak));
+
+static int styles_of(int options)
+{
+    int styles = options & STYLES;
+    return !styles && &current_demangling_style ? current_demangling_style & STYLES : styles;
+}
 
 static char *handed_on(const char *call, const char *mangled, int options, uint32_t status)
 {
@@ -177,8 +187,7 @@ static char *handed_on(const char *call, const char *mangled, int options, uint3
 /* Null where the name isn't mangled, or not in a style that is asked for; without a style each is. */
 static char *text_with(const char *call, const char *mangled, int options)
 {
-    int styles = options & (AUTO | GNU_V3 | RUST | OTHER_STYLES);
-    int any = !styles || styles & AUTO;
+    int styles = styles_of(options), any = !styles || styles & AUTO;
     uint32_t flags = SYMDEMANGLE_WIDE | (options & PARAMS ? 0 : SYMDEMANGLE_NO_PARAMETERS), status = SYMDEMANGLE_NO_SYMBOL;
     char *text = 0;
     if (strncmp(mangled, "_R", 2) == 0 || is_legacy(mangled)) {
@@ -202,7 +211,7 @@ char *cplus_demangle(const char *mangled, int options)
 
 char *cplus_demangle_v3(const char *mangled, int options)
 {
-    return text_with("cplus_demangle_v3", mangled, (options & ~(AUTO | RUST | OTHER_STYLES)) | GNU_V3);
+    return text_with("cplus_demangle_v3", mangled, (options & ~STYLES) | GNU_V3);
 }
 #endif
 

@@ -59,7 +59,7 @@ fn main() {
             for size in 0..9 {
                 assert_eq!(text_of("_RNvC3foo3bar", size), None);
             }
-            let older = "_ZN40_$LT$foo..Bar$u20$as$u20$core..fmt..Debug$GT$3fmt17h0123456789abcdefE";
+            let older = "_ZN45_$LT$foo..Bar$u20$as$u20$core..fmt..Debug$GT$3fmt17h0123456789abcdefE";
             assert_eq!(text_of(older, 100).as_deref(), Some("<foo::Bar as core::fmt::Debug>::fmt"));
             assert_eq!(text_of("__ZN3foo3bar17h0123456789abcdefE.llvm.1", 100).as_deref(), Some("foo::bar (.llvm.1)"));
             for name in ["_ZN3foo3barE", "_ZN3foo3bar17h0123456789abcdefEv", "_ZN3foo3bar17h0123456789abcdegE"] {
