@@ -1,0 +1,3 @@
+module symdemangle
+
+go 1.19
