@@ -1,0 +1,146 @@
+#!/usr/bin/env python3
+"""Compiles and runs every example of docs/callers and of the headers, and names those that print something else.
+
+    tests/examples.py PREFIX [LIBDIR]
+
+PREFIX is where tools/install.sh put the libraries. An example of a page is a block of c, cpp, rust, python or go, a whole program; a
+block of text after it is what it prints. One with the word `arena` after its language is linked with libsymdemangle_arena.a. Rattle's
+is the source of a crate that the gate proves. What the headers' comments show is compiled as the body of a function. Languages whose
+compiler isn't installed are named and left out. The status is 1 where one differs, 2 where there is none.
+"""
+
+import os
+import re
+import shutil
+import subprocess
+import sys
+import tempfile
+
+TOP = os.path.join(os.path.dirname(os.path.abspath(__file__)), "..")
+PAGES = os.path.join(TOP, "docs", "callers")
+BLOCK = re.compile(r"^```(c|cpp|rust|python|go)( arena)?\n(.*?)^```\n(?:```text\n(.*?)^```\n)?", re.M | re.S)
+NEEDS = {"c": "cc", "cpp": "c++", "rust": "cargo", "python": "python3", "go": "go"}
+# What the fragments of the headers' comments use.
+FRAGMENT = """#include "{header}"
+#include <stdio.h>
+#include <stdlib.h>
+#include "symdemangle_arena.h"
+int fragment(const char *name, size_t length, void *block, size_t block_size);
+int fragment(const char *name, size_t length, void *block, size_t block_size)
+{{
+    (void)name, (void)length, (void)block, (void)block_size;
+{body}
+    return 0;
+}}
+"""
+
+
+class Examples:
+    def __init__(self, prefix, library, folder):
+        self.prefix, self.library, self.folder = prefix, library, folder
+        self.count = self.failed = 0
+        self.left_out = set()
+
+    def run(self, words, **more):
+        env = {**os.environ, "LD_LIBRARY_PATH": self.library, "PKG_CONFIG_PATH": os.path.join(self.library, "pkgconfig")}
+        env.update(more.pop("env", {}))
+        return subprocess.run(words, capture_output=True, text=True, env=env, **more)
+
+    def put(self, name, text):
+        path = os.path.join(self.folder, name)
+        os.makedirs(os.path.dirname(path), exist_ok=True)
+        with open(path, "w", encoding="utf-8") as file:
+            file.write(text)
+        return path
+
+    def compiled(self, compiler, standard, name, source, arena):
+        made = os.path.join(self.folder, "example")
+        archive = os.path.join(self.library, "libsymdemangle_arena.a" if arena else "libsymdemangle.a")
+        words = [compiler, f"-std={standard}", "-Wall", "-Wextra", "-Werror", "-I", os.path.join(self.prefix, "include")]
+        told = self.run([*words, self.put(name, source), "-o", made, archive])
+        return told if told.returncode else self.run([made])
+
+    def ran(self, language, source, arena):
+        """What a program of a language prints."""
+        if language == "c":
+            return self.compiled("cc", "c99", "example.c", source, arena)
+        if language == "cpp":
+            return self.compiled("c++", "c++17", "example.cc", source, arena)
+        if language == "python":
+            package = os.path.join(TOP, "callers", "python")
+            env = {"PYTHONPATH": package, "SYMDEMANGLE_LIBRARY": os.path.join(self.library, "libsymdemangle.so"), "PYTHONDONTWRITEBYTECODE": "1"}
+            return self.run([sys.executable, self.put("example.py", source)], env=env)
+        if language == "rust":
+            crate = os.path.join(self.prefix, "share", "symdemangle", "rust")
+            self.put("rust/src/main.rs", source)
+            self.put("rust/Cargo.toml", f'[package]\nname = "example"\nversion = "0.1.0"\nedition = "2024"\n[dependencies]\nsymdemangle = {{ path = "{crate}" }}\n')
+            env = {"SYMDEMANGLE_DIR": self.library, "CARGO_TARGET_DIR": os.path.join(self.folder, "target")}
+            return self.run(["cargo", "run", "--quiet", "--offline", "--manifest-path", os.path.join(self.folder, "rust", "Cargo.toml")], env=env)
+        module = os.path.join(self.folder, "go")
+        shutil.copytree(os.path.join(TOP, "callers", "go"), os.path.join(module, "symdemangle"), dirs_exist_ok=True)
+        self.put("go/main.go", source)
+        self.put("go/go.mod", "module example\n\ngo 1.19\n\nrequire symdemangle v0.0.0\n\nreplace symdemangle => ./symdemangle\n")
+        env = {"GOPROXY": "off", "GOFLAGS": "-mod=mod", "GOCACHE": os.path.join(self.folder, "gocache")}
+        return self.run(["go", "run", "."], cwd=module, env=env)
+
+    def tell(self, where, holds, told):
+        self.count += 1
+        if not holds:
+            self.failed += 1
+            print(f"{where}:\n{told.stdout}{told.stderr}")
+
+    def page(self, name):
+        with open(os.path.join(PAGES, name), encoding="utf-8") as file:
+            text = file.read()
+        for found in BLOCK.finditer(text):
+            language, arena, source, wanted = found.groups()
+            if name == "RATTLE.md":
+                continue
+            if not shutil.which(NEEDS[language]):
+                self.left_out.add(NEEDS[language])
+                continue
+            told = self.ran(language, source, arena)
+            self.tell(f"{name}, line {text.count(chr(10), 0, found.start()) + 1}", told.returncode == 0 and told.stdout == (wanted or ""), told)
+
+    def header(self, name, indent):
+        """The fragments of a header's comments, each of which is indented so far."""
+        with open(os.path.join(self.prefix, "include", name), encoding="utf-8") as file:
+            comment = file.read().split("*/")[0]
+        lines = [line if line.startswith(" " * indent) else "" for line in comment.splitlines()]
+        for body in re.findall(r"(?:^[^\n]+\n)+", "\n".join(lines) + "\n", re.M):
+            if ";" not in body:
+                continue
+            body = body.replace("sizeof block)", "block_size)").replace("...\n", ";\n")
+            source = self.put("fragment.c", FRAGMENT.format(header=name, body=body))
+            told = self.run(["cc", "-std=c99", "-Wall", "-Wextra", "-Werror", "-I", os.path.join(self.prefix, "include"), "-fsyntax-only", source])
+            self.tell(f"{name}\n{body}", told.returncode == 0, told)
+
+    def rattle(self):
+        """The page's source is the crate's, without its tests."""
+        with open(os.path.join(PAGES, "RATTLE.md"), encoding="utf-8") as file:
+            shown = re.search(r"^```rust\n(.*?)^```$", file.read(), re.M | re.S)[1]
+        with open(os.path.join(TOP, "crates", "example_demangle", "src", "lib.rt"), encoding="utf-8") as file:
+            source = re.sub(r"(^#\[cfg\(test\)\]\nmod \w+;\n)+\n?", "", file.read(), flags=re.M)
+        self.tell("RATTLE.md: not the crate's source", shown.strip() == source.strip(), subprocess.CompletedProcess([], 0, shown, ""))
+
+
+def main():
+    if len(sys.argv) not in (2, 3):
+        sys.exit(__doc__)
+    prefix = os.path.abspath(sys.argv[1])
+    library = os.path.join(prefix, sys.argv[2] if len(sys.argv) == 3 else "lib")
+    with tempfile.TemporaryDirectory() as folder:
+        examples = Examples(prefix, library, folder)
+        for name in sorted(os.listdir(PAGES)):
+            examples.page(name)
+        examples.rattle()
+        examples.header("symdemangle.h", 7)
+        examples.header("symdemangle_arena.h", 9)
+    for program in sorted(examples.left_out):
+        print(f"{program} isn't installed: its examples aren't tested")
+    print(f"{examples.count} examples, {examples.failed} differ")
+    sys.exit(2 if not examples.count else 1 if examples.failed else 0)
+
+
+if __name__ == "__main__":
+    main()
