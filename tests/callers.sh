@@ -1,11 +1,12 @@
 #!/bin/bash
-# Installs the libraries into a folder of its own and runs callers of them: in C, C++, Rust and Python; static, shared and over a
-# lent block; found by pkg-config and CMake; under sanitizers, and with each allocation refused. Then programs over callers/shims.
+# Installs the libraries into a folder of its own and runs callers of them: in C, C++, Rust, Python and Go; static, shared and over a
+# lent block; found by pkg-config and CMake; under sanitizers, and with each allocation refused. Then programs over callers/shims,
+# and every example of the headers and of docs/callers.
 #
 #   tests/callers.sh [FILE..]
 #
 # Each FILE has symbols, one a line, for the comparisons; the rows of crates/check_rows are always among them. It proves the library
-# first where that wasn't done. What isn't installed here (clang, cmake, pkg-config, cargo) is named and left out.
+# first where that wasn't done. What isn't installed here (clang, cmake, pkg-config, cargo, go) is named and left out.
 set -euo pipefail
 files=()
 for file in "$@"; do files+=("$(realpath "$file")"); done
@@ -43,6 +44,9 @@ run c99 cc -std=c99 -Wpedantic "${warnings[@]}" callers/c/calls.c "${static[@]}"
 for standard in 11 14 17 20; do
     run "c++$standard" c++ "-std=c++$standard" -Wpedantic "${checks[@]}" "${warnings[@]}" -x c++ callers/c/calls.c -x none "${static[@]}"
 done
+for standard in 17 20; do
+    run "symdemangle.hpp, c++$standard" c++ "-std=c++$standard" -Wpedantic "${checks[@]}" "${warnings[@]}" callers/c/calls.cc "${static[@]}"
+done
 if has clang 'the header under -Weverything'; then
     for language in c c++; do
         printf '#include <symdemangle.h>\n#include <symdemangle_arena.h>\n' |
@@ -62,12 +66,14 @@ for archive in symdemangle symdemangle_arena; do
 done
 needed=$(nm -g --undefined-only "$lib/libsymdemangle_arena.a" | awk '$1 == "U" { print $2 }' | grep -vE '^(mem(cpy|move|set|cmp|chr)|_GLOBAL_OFFSET_TABLE_|bcmp|strlen)$' || true)
 [ -z "$needed" ] || { echo "libsymdemangle_arena.a needs $needed"; exit 1; }
-unversioned=$(nm -D --defined-only "$lib/libsymdemangle.so" | awk '$3 !~ /^(symdemangle_[a-z_]*@@)?SYMDEMANGLE_0\.1$/ { print $3 }')
-[ -z "$unversioned" ] || { echo "libsymdemangle.so has other names: $unversioned"; exit 1; }
-for call in $(sed -n 's/^uint32_t \(symdemangle_[a-z_]*\)(.*/\1/p' callers/c/symdemangle.h); do
-    nm -D "$lib/libsymdemangle.so" | grep -q " $call@@" || { echo "libsymdemangle.so lacks $call"; exit 1; }
+for call in $(sed -n 's/^[a-z_0-9 ]*[ *]\(symdemangle_[a-z_]*\)(.*/\1/p' callers/c/symdemangle.h); do
+    nm -D "$lib/libsymdemangle.so" | grep -q " T $call@@" || { echo "libsymdemangle.so lacks $call"; exit 1; }
     nm -g "$lib/libsymdemangle.a" | grep -q " T $call$" || { echo "libsymdemangle.a lacks $call"; exit 1; }
+    case $call in *_string | *_free) continue ;; esac
+    nm -g "$lib/libsymdemangle_arena.a" | grep -q " T $call$" || { echo "libsymdemangle_arena.a lacks $call"; exit 1; }
 done
+tests/callers/interface.py callers/c/symdemangle.h "$lib/libsymdemangle.so" tests/callers/interface.txt >"$work/out" ||
+    { echo 'the interface is another than tests/callers/interface.txt says:'; cat "$work/out"; exit 1; }
 echo 'names: ok'
 
 # Found by pkg-config and by CMake
@@ -77,7 +83,7 @@ if has pkg-config 'symdemangle.pc'; then
     {
         LD_LIBRARY_PATH=$lib run pkg-config cc -std=c99 -Wall -Wextra -Werror $(pkg-config --cflags symdemangle) callers/c/calls.c $(pkg-config --libs symdemangle)
         ldd_of=$(LD_LIBRARY_PATH=$lib ldd "$work/pkg-config")
-        grep -q "libsymdemangle.so.0 => $lib" <<<"$ldd_of" || { echo 'pkg-config: it is not the shared library'; exit 1; }
+        grep -q "libsymdemangle.so.0.1 => $lib" <<<"$ldd_of" || { echo 'pkg-config: it is not the shared library'; exit 1; }
         run pkg-config-static cc -static -std=c99 -Wall -Wextra -Werror $(pkg-config --static --cflags symdemangle) callers/c/calls.c $(pkg-config --static --libs symdemangle)
     }
     [ "$(pkg-config --modversion symdemangle)" = "$(sed -n 's/^#define SYMDEMANGLE_VERSION_[A-Z]* \([0-9]*\)$/\1/p' callers/c/symdemangle.h | paste -sd .)" ]
@@ -92,14 +98,36 @@ if has cmake 'find_package'; then
     done
     "$work/cmake/threads_arena" "$work/symbols" >/dev/null
 fi
-python3 tests/callers/by_ctypes.py "$lib/libsymdemangle.so" | sed 's/^/ctypes: /'
+
+# The wheel for Python, installed without a network into an environment of its own
+python3 callers/python/wheel.py "$lib/libsymdemangle.so" "$work/wheels" >"$work/out"
+SOURCE_DATE_EPOCH=1000000000 python3 callers/python/wheel.py "$lib/libsymdemangle.so" "$work/again" >"$work/out"
+SOURCE_DATE_EPOCH=1000000000 python3 callers/python/wheel.py "$lib/libsymdemangle.so" "$work/again/again" >"$work/out"
+cmp "$work"/again/*.whl "$work"/again/again/*.whl
+python3 -m venv "$work/venv"
+"$work/venv/bin/pip" install --quiet --no-index --disable-pip-version-check "$work"/wheels/*.whl
+(cd "$work" && "$work/venv/bin/python" "$OLDPWD/callers/python/tests/calls.py" 2>"$work/out") || { cat "$work/out"; exit 1; }
+echo "python: $(basename "$work"/wheels/*.whl): ok"
+
+# The package for Go, which pkg-config finds the library for
+if has go 'the package for Go' && has pkg-config 'the package for Go'; then
+    cp -r callers/go "$work/go"
+    (cd "$work/go" && LD_LIBRARY_PATH=$lib PKG_CONFIG_PATH=$lib/pkgconfig GOCACHE=$work/gocache GOFLAGS=-mod=mod GOPROXY=off go test ./... >"$work/out" 2>&1) ||
+        { cat "$work/out"; exit 1; }
+    [ -z "$(gofmt -l "$work/go")" ] || { echo "callers/go isn't in gofmt's layout"; exit 1; }
+    echo 'go: ok'
+fi
 
 # The crate for cargo, as it was installed, without the kit
 if has cargo 'the crate for cargo'; then
     cp -r "$prefix/share/symdemangle/rust" "$work/crate"
     cp -r callers/rust/tests "$work/crate/tests"
-    env -u RATTLE_KIT SYMDEMANGLE_DIR="$lib" CARGO_TARGET_DIR="$work/target" \
-        cargo test --quiet --offline --manifest-path "$work/crate/Cargo.toml"
+    SYMDEMANGLE_DIR="$lib" CARGO_TARGET_DIR="$work/target" cargo test --quiet --offline --manifest-path "$work/crate/Cargo.toml"
+    SYMDEMANGLE_DIR="$work" CARGO_TARGET_DIR="$work/unlinked" cargo check --quiet --offline --features unlinked --manifest-path "$work/crate/Cargo.toml"
+    if SYMDEMANGLE_DIR="$work" CARGO_TARGET_DIR="$work/unlinked" cargo check --offline --manifest-path "$work/crate/Cargo.toml" 2>"$work/out"; then
+        echo 'the crate builds without a library'; exit 1
+    fi
+    grep -q "there is no libsymdemangle.a in \[\"$work\"\]" "$work/out" || { cat "$work/out"; exit 1; }
 fi
 
 # Over a lent block: in a handler, without malloc; the texts are the usual library's
@@ -131,7 +159,7 @@ echo 'a lent block: ok'
 
 # Other demanglers' calls, in programs that were written for them
 c++ -std=c++11 -O1 "${warnings[@]}" tests/callers/demangles.cc -o "$work/demangles"
-cc -std=c99 -O2 -shared -fPIC "${warnings[@]}" -Wpedantic -DCXA -DCPLUS -DRUSTC callers/shims/shims.c -o "$work/shims.so" "${static[@]}"
+cc -std=c99 -O2 -shared -fPIC "${warnings[@]}" -Wpedantic -DCXA -DCPLUS -DRUSTC callers/shims/shims.c -o "$work/shims.so" "${static[@]}" -ldl
 "$work/demangles" | sed 's/^/__cxa_demangle of the runtime: /'
 LD_PRELOAD=$work/shims.so "$work/demangles" | sed 's/^/__cxa_demangle: /'
 terminated=$(LD_DEBUG=bindings LD_DEBUG_OUTPUT=$work/bindings LD_PRELOAD=$work/shims.so bash -c '"$0" throw 2>&1 || true' "$work/demangles" 2>/dev/null)
@@ -146,6 +174,25 @@ for program in 'nm -D -C' c++filt; do
 done
 # c++filt prints decltype(nullptr) where this library's text has a name
 grep -qxF 'f(std::nullptr_t)' "$work/out" || { echo 'c++filt: the preloaded call was not used'; cat "$work/out"; exit 1; }
+shows() { # shows TEXT VARIABLES OPTIONS NAME : what c++filt prints over the shims
+    local told
+    # shellcheck disable=SC2086
+    told=$(env $2 LD_PRELOAD="$work/shims.so" c++filt $3 "$4")
+    [ "$told" = "$1" ] || { echo "c++filt $3 $4, $2: $told"; exit 1; }
+}
+shows 'f(int)' '' '' _Z1fi
+shows f '' -p _Z1fi
+shows int '' -t i
+shows i '' '' i
+shows foo::bar '' '' _RNvC3foo3bar
+shows '<test>' '' '' '_ZN13_$LT$test$GT$17h0123456789abcdefE'
+shows foo::bar::h0123456789abcdef '' '-s gnu-v3' _ZN3foo3bar17h0123456789abcdefE
+shows _RNvC3foo3bar '' '-s gnu-v3' _RNvC3foo3bar
+shows _Z1fv '' '-s rust' _Z1fv
+shows _D3foo3barFiZv '' '-s dlang' _D3foo3barFiZv
+shows 'foo.bar(int)' SYMDEMANGLE_NEXT=1 '-s dlang' _D3foo3barFiZv
+shows '__Z1fv' SYMDEMANGLE_NEXT=0 '' __Z1fv
+echo 'c++filt, its options and what is handed on: ok'
 
 # rustc_demangle, in a program that knows its declaration alone, and in one that is packaged and loads the library by its name:
 # Hotspot's parser of perf's records (1.6; 1.3 has no such call). PERFPARSER names it, or a script that runs it, where it stands
@@ -171,4 +218,6 @@ if has rustc 'rustc_demangle'; then
     fi
     unset LD_LIBRARY_PATH
 fi
+
+python3 tests/examples.py "$prefix"
 echo ok
