@@ -14,6 +14,7 @@ fail() {
 # One version in every place that tells one.
 version=$(sed -n 's/^#define SYMDEMANGLE_VERSION_[A-Z]* \([0-9]*\)$/\1/p' callers/c/symdemangle.h | paste -sd .)
 grep -q "^version = \"$version\"$" callers/rust/Cargo.toml || fail "callers/rust/Cargo.toml isn't of version $version"
+grep -q "^__version__ = \"$version\"$" callers/python/symdemangle/__init__.py || fail "callers/python isn't of version $version"
 grep -q "^\.TH SYMFILT 1 [0-9-]* \"symfilt $version\"" docs/symfilt.1 || fail "docs/symfilt.1 isn't of version $version"
 grep -q "^SYMDEMANGLE_${version%.*} {$" callers/archive/names.map || fail "callers/archive/names.map isn't of version $version"
 [ "$(sed -n 's/^## \([0-9.]*\).*/\1/p' CHANGELOG.md | head -n 1)" = "$version" ] || fail "CHANGELOG.md begins with another version than $version"
@@ -26,10 +27,16 @@ DESTDIR=$root PREFIX=/opt/it LIBDIR=lib64 tools/install.sh
 [ "$(echo 'at _RNvC3foo3bar' | "$root/opt/it/bin/symfilt")" = 'at foo::bar' ] || fail 'the installed program'
 for file in bin/symfilt include/symdemangle.h lib64/libsymdemangle.a lib64/libsymdemangle.so lib64/pkgconfig/symdemangle.pc \
     lib64/cmake/symdemangle/symdemangleConfig.cmake share/man/man1/symfilt.1 share/doc/symfilt/LICENSE-MIT \
-    share/doc/symfilt/LICENSE-APACHE share/doc/symfilt/docs/GRAMMARS.md share/symdemangle/rust/Cargo.toml; do
+    share/doc/symfilt/LICENSE-APACHE share/doc/symfilt/docs/GRAMMARS.md share/doc/symfilt/docs/callers/C.md \
+    share/symdemangle/rust/Cargo.toml share/symdemangle/python/symdemangle/__init__.py share/symdemangle/go/symdemangle.go; do
     [ -s "$root/opt/it/$file" ] || fail "$file wasn't installed"
 done
 ! grep -rqF "$work" "$root" || fail 'an installed file names the folder that it was built in'
+dead=$(cd "$root/opt/it/share/doc/symfilt" && find . -name '*.md' | while read -r page; do
+    grep -o '](\([^)#]*\)[#)]' "$page" | sed 's/^](//; s/[#)]$//' | grep -v '^$\|^[a-z]*:' |
+        while read -r to; do [ -e "$(dirname "$page")/$to" ] || echo "$page: $to"; done
+done)
+[ -z "$dead" ] || fail "installed documents link to what isn't installed: $dead"
 DESTDIR=$root PREFIX=/opt/it LIBDIR=lib64 tools/install.sh --uninstall
 left=$(cd "$root/opt/it" && find . -not -type d)
 [ "$left" = ./lib64/other ] || fail "left behind: $left"

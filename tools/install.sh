@@ -3,7 +3,7 @@
 #
 #   tools/install.sh [PREFIX]                 under /usr/local, if no PREFIX is named here or in the environment
 #   tools/install.sh --uninstall [PREFIX]     removes the same files, and the folders of its own that are left empty
-#   tools/install.sh --libraries [PREFIX]     only the libraries, with headers, what finds them, and the crate for cargo
+#   tools/install.sh --libraries [PREFIX]     only the libraries, with headers, what finds them, and the packages for Rust, Python and Go
 #
 # From the environment: LIBDIR, the folder of libraries under PREFIX (lib), as LIBDIR=lib64 or LIBDIR=lib/x86_64-linux-gnu; and
 # DESTDIR, a folder in which all is put as if it were the root, for packages. It proves what isn't proved yet, which takes its time
@@ -44,9 +44,15 @@ files() {
 644 $packed/symdemangleConfig.cmake $libdir/cmake/symdemangle/symdemangleConfig.cmake
 644 $packed/symdemangleConfigVersion.cmake $libdir/cmake/symdemangle/symdemangleConfigVersion.cmake
 644 callers/rust/Cargo.toml share/symdemangle/rust/Cargo.toml
+644 callers/rust/README.md share/symdemangle/rust/README.md
 644 callers/rust/build.rs share/symdemangle/rust/build.rs
 644 callers/rust/src/lib.rs share/symdemangle/rust/src/lib.rs
 644 callers/rust/src/library.rs share/symdemangle/rust/src/library.rs
+644 callers/python/symdemangle/__init__.py share/symdemangle/python/symdemangle/__init__.py
+644 callers/python/symdemangle/__main__.py share/symdemangle/python/symdemangle/__main__.py
+644 callers/python/symdemangle/py.typed share/symdemangle/python/symdemangle/py.typed
+644 callers/go/go.mod share/symdemangle/go/go.mod
+644 callers/go/symdemangle.go share/symdemangle/go/symdemangle.go
 LIST
     [ $mode != libraries ] || return 0
     cat <<LIST
@@ -57,11 +63,24 @@ LIST
 644 tools/completions/_symfilt share/zsh/site-functions/_symfilt
 644 callers/c/crash_reporter.cc share/doc/symfilt/examples/crash_reporter.cc
 644 callers/shims/shims.c share/doc/symfilt/examples/shims.c
+755 tools/symfilt_dask.py share/doc/symfilt/tools/symfilt_dask.py
 LIST
     for document in README.md CHANGELOG.md SECURITY.md LICENSE-MIT LICENSE-APACHE docs/GRAMMARS.md docs/PROMISES.md \
-        docs/SCALE.md docs/*.svg; do
+        docs/SCALE.md docs/callers/*.md docs/*.svg; do
         [ ! -f "$document" ] || echo "644 $document share/doc/symfilt/$document"
     done
+}
+
+# What a document links to and isn't installed is named without a link.
+LOCAL='ARCHITECTURE|DECISIONS|TESTING|WORKING'
+put() { # put BITS FROM TO
+    case $3 in
+        share/doc/*.md)
+            sed -E "s@\\[([^]]*)\\]\\([^)]*($LOCAL)\\.md(#[^)]*)?\\)@\\1@g" "$2" >"$packed/document"
+            install -D -m "$1" "$packed/document" "$root/$3"
+            ;;
+        *) install -D -m "$1" "$2" "$root/$3" ;;
+    esac
 }
 
 # The shared library has the version in its name; the links lead to it.
@@ -74,8 +93,9 @@ case $(version) in 0.*) name=${real%.*} ;; *) name=${real%.*.*} ;; esac
 if [ $mode = uninstall ]; then
     files | while read -r _ _ to; do rm -f "$root/$to"; done
     rm -f "$root/$libdir/$real" "$root/$libdir/$name" "$root/$libdir/libsymdemangle.so"
-    for folder in share/doc/symfilt/docs share/doc/symfilt/examples share/doc/symfilt share/symdemangle/rust/src \
-        share/symdemangle/rust share/symdemangle "$libdir/cmake/symdemangle"; do
+    for folder in share/doc/symfilt/docs/callers share/doc/symfilt/docs share/doc/symfilt/examples share/doc/symfilt/tools \
+        share/doc/symfilt share/symdemangle/rust/src share/symdemangle/rust share/symdemangle/python/symdemangle \
+        share/symdemangle/python share/symdemangle/go share/symdemangle "$libdir/cmake/symdemangle"; do
         [ ! -d "$root/$folder" ] || rmdir --ignore-fail-on-non-empty "$root/$folder"
     done
     exit
@@ -84,7 +104,7 @@ fi
 [ $mode = libraries ] || [ -x crates/symfilt/out/symfilt ] || (cd crates/symfilt && rt run -- _RNvC3foo3bar)
 [ -f crates/symdemangle/out/libsymdemangle.a ] || (cd crates/symdemangle && rt lib)
 tools/pack.sh "$packed" "$prefix" "$libdir"
-files | while read -r bits from to; do install -D -m "$bits" "$from" "$root/$to"; done
+files | while read -r bits from to; do put "$bits" "$from" "$to"; done
 install -m 644 "$packed/$real" "$root/$libdir/$real"
 ln -sf "$real" "$root/$libdir/$name"
 ln -sf "$name" "$root/$libdir/libsymdemangle.so"
