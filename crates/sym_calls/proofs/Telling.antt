@@ -10,7 +10,7 @@ use Rattle.sym_core.specs.declared.refusal.Refusal.TheVariants.{Malformed, BadRe
 use Rattle.sym_filter.specs.Runs.{Answering}
 use Rattle.sym_filter.specs.declared.kinds.Kind.{Kind}
 use Rattle.sym_filter.specs.Kinds.{symbol_of}
-use Rattle.sym_calls.specs.Calls.{Ending, EndsAs, answered, answers_at, ending_of, name_told, named, refused, status_alone, told_of, written}
+use Rattle.sym_calls.specs.Calls.{Ending, EndsAs, answered, answers_at, name_told, named, refused, status_alone, told_of, written}
 use Rattle.sym_calls.specs.Texts.{AreTold, IsTold, TextsEndAs, TextsEndBy, are_ends, placed}
 use Rattle.sym_calls.specs.declared.outcome.Outcome.{Outcome}
 use Rattle.sym_calls.specs.declared.flags.Asked.{Asked}
@@ -85,10 +85,6 @@ take-after xs ys at n is = subst (λ m. take (m + n) (xs ++ ys) ≡ xs ++ take n
 
 drop-after : (xs ys : List ℕ) (at n : ℕ) → length xs ≡ at → drop (at + n) (xs ++ ys) ≡ drop n ys
 drop-after xs ys at n is = subst (λ m. drop (m + n) (xs ++ ys) ≡ drop n ys) is (drop-append-add xs ys n)
-
--- what is left of the buffer, as a slice
-pub left-of-buffer : (at : ℕ) (buffer : List ℕ) → take (length buffer - at) (drop at buffer) ≡ drop at buffer
-left-of-buffer at buffer = take_all (length buffer - at) (drop at buffer) (omega (arith, length-drop at buffer))
 
 -- the buffer after a write to what was left of it
 pub buffer-after : (at : ℕ) (buffer after : List ℕ) → at ≤ length buffer → put_mid at (length buffer - at) buffer after ≡ take at buffer ++ after

@@ -1,6 +1,6 @@
 // What a call tells its caller: a status with what comes with it, and the bytes in the caller's buffer.
 ghost use Rattle.std.specs.Prelude.{◌≡◌};
-ghost use Rattle.sym_calls.specs.Calls.{ending_of, refused, status_alone, written};
+ghost use Rattle.sym_calls.specs.Calls.{ending_of, refused, written};
 
 use sym_core::Refusal;
 

@@ -1,5 +1,4 @@
 // The text of one name, or its pressed spelling.
-ghost use Rattle.std.specs.Prelude.{◌≡◌};
 ghost use Rattle.sym_core.specs.Number.{FitsSymbol};
 ghost use Rattle.sym_calls.specs.Calls.{EndsAs, answered, asked_of, ending_of, name_told, press_told, text_told};
 

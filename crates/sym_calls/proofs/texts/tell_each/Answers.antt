@@ -1,7 +1,8 @@
 use Rattle.std.proofs.Common.{◌≤◌, sym, subst, arith, ◌∙◌, ◌-◌, length, take, drop, get_or}
 use Rattle.std.proofs.lemmas.List.{length-take-le}
 use Rattle.sym_calls.specs.Texts.{IsTold}
-use Rattle.sym_calls.proofs.Telling.{ends-at, left-of-buffer, buffer-after, buffer-within, told-more, told-all}
+use Rattle.sym_calls.proofs.Ending.{rest-of}
+use Rattle.sym_calls.proofs.Telling.{ends-at, buffer-after, buffer-within, told-more, told-all}
 use Rattle.sym_calls.proofs.texts.tell_each.Goals as goal
 
 pub slice_bounds-name-count : goal.slice_bounds-name-count
@@ -19,7 +20,7 @@ each-preserved g c =
     let answers = g.D.Demangler.answer c.args.demangler.now in
     let after = buffer-after c.each.at c.each.buffer c.told_of-outcome.new.buffer c.each.invariant.within in
     let is = subst (λ l. IsTold answers c.args.asked (take (get_or c.args.ends.now c.each.i 0 - c.each.from) (drop c.each.from c.args.names.now)) l c.told_of-outcome.result c.told_of-outcome.new.buffer)
-    (left-of-buffer c.each.at c.each.buffer) c.told_of-outcome.ensures.told in
+    (rest-of c.each.at c.each.buffer) c.told_of-outcome.ensures.told in
     record {
       within = buffer-within c.each.at c.placed-at.result c.each.buffer c.told_of-outcome.new.buffer _ c.each.invariant.within after (subst (λ n. n ≤ length c.told_of-outcome.new.buffer) (sym c.placed-at.ensures) c.told_of-outcome.ensures.within);
       ends = (ends-at c.each.from (length c.args.names.now) c.args.ends.now c.each.i c.each-test.true c.each.invariant.ends).2;
