@@ -26,7 +26,8 @@
    A call without a buffer, to learn the length first, does all the work, and the second call does it again.
 
    Who has many names gives them to one call, symdemangle_texts. Who meets them one by one, as a profiler does, links
-   libsymdemangle_arena.a and lends it a block (symdemangle_arena.h): such a call takes 11 % fewer instructions, and no malloc.
+   libsymdemangle_arena.a and lends it a block (symdemangle_arena.h): such a call takes 12 % fewer instructions for C++ names
+   and 16 % fewer for Rust's, and no malloc.
 
    It needs C from C99 on, or C++ from C++11 on (symdemangle.hpp has the same for std::string), and a library for 64-bit x86
    Linux, the only machine that it is built for. Each call is a function of the library, so other languages call them by the
