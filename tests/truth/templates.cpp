@@ -71,6 +71,8 @@ template <class T, T Value> struct Constant {};
 template <class T, T First, T... Rest> void constants(Constant<T, First>, Constant<T, Rest> *...) {}
 } // namespace forms
 
+int taken(forms::Plain, char, forms::Plain *) { return 0; }
+
 int main() {
   using namespace forms;
   Plain plain{};
@@ -83,7 +85,7 @@ int main() {
   number(1, &number, nullptr);
   Box<int>(2)[3];
   int *at = number;
-  number.made<Plain, char, Plain *>(box, nullptr, 'c', nullptr);
+  number.made(box, taken, 'c', &plain);
   builtin(1, 2, 3, 4, 5, 6, 7, 8, 9, 1, 2, 3, 4, 5, L'a', u'a', U'a', true);
   int three[3] = {};
   declared(nullptr, at, nullptr, three, nullptr, nullptr, nullptr, {}, plain, nullptr);
