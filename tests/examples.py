@@ -20,19 +20,22 @@ TOP = os.path.join(os.path.dirname(os.path.abspath(__file__)), "..")
 PAGES = os.path.join(TOP, "docs", "callers")
 BLOCK = re.compile(r"^```(c|cpp|rust|python|go)( arena)?\n(.*?)^```\n(?:```text\n(.*?)^```\n)?", re.M | re.S)
 NEEDS = {"c": "cc", "cpp": "c++", "rust": "cargo", "python": "python3", "go": "go"}
-# What the fragments of the headers' comments use.
-FRAGMENT = """#include "{header}"
-#include <stdio.h>
-#include <stdlib.h>
-#include "symdemangle_arena.h"
-int fragment(const char *name, size_t length, void *block, size_t block_size);
-int fragment(const char *name, size_t length, void *block, size_t block_size)
+# The fragments of the headers' comments as programs. A line that prints has what it prints after two slashes.
+FRAGMENT = """{includes}
+int main(void)
 {{
-    (void)name, (void)length, (void)block, (void)block_size;
+    static unsigned char block[1 << 16];
+    const char *name = "_RNvC3foo3bar";
+    size_t length = 13;
+    (void)name, (void)length, (void)block;
 {body}
     return 0;
 }}
 """
+INCLUDES = {
+    ".h": '#include "symdemangle.h"\n#include "symdemangle_arena.h"\n#include <stdio.h>\n#include <stdlib.h>',
+    ".hpp": '#include "symdemangle.hpp"\n#include <iostream>',
+}
 
 
 class Examples:
@@ -102,18 +105,21 @@ class Examples:
             told = self.ran(language, source, arena)
             self.tell(f"{name}, line {text.count(chr(10), 0, found.start()) + 1}", told.returncode == 0 and told.stdout == (wanted or ""), told)
 
-    def header(self, name, indent):
-        """The fragments of a header's comments, each of which is indented so far."""
+    def header(self, name, front, arena):
+        """The fragments of a header's first comment, whose lines have this front."""
         with open(os.path.join(self.prefix, "include", name), encoding="utf-8") as file:
-            comment = file.read().split("*/")[0]
-        lines = [line if line.startswith(" " * indent) else "" for line in comment.splitlines()]
-        for body in re.findall(r"(?:^[^\n]+\n)+", "\n".join(lines) + "\n", re.M):
-            if ";" not in body:
-                continue
-            body = body.replace("sizeof block)", "block_size)").replace("...\n", ";\n")
-            source = self.put("fragment.c", FRAGMENT.format(header=name, body=body))
-            told = self.run(["cc", "-std=c99", "-Wall", "-Wextra", "-Werror", "-I", os.path.join(self.prefix, "include"), "-fsyntax-only", source])
-            self.tell(f"{name}\n{body}", told.returncode == 0, told)
+            comment = re.split(r"\*/|^#", file.read(), maxsplit=1, flags=re.M)[0]
+        lines = [line[len(front) :] if line.startswith(front) else "" for line in comment.splitlines()]
+        fragments = [body for body in re.findall(r"(?:^[^\n]+\n)+", "\n".join(lines) + "\n", re.M) if ";" in body]
+        for body in fragments:
+            wanted = "".join(re.findall(r"^(?:puts|std::cout).*// (.*)$", body, re.M))
+            includes = INCLUDES[os.path.splitext(name)[1]]
+            body = "".join(f"    {line}\n" for line in body.replace("...", ";").splitlines())
+            source = FRAGMENT.format(includes=includes, body=body)
+            told = self.ran("cpp" if name.endswith("pp") else "c", source, arena)
+            self.tell(f"{name}\n{body}", told.returncode == 0 and (not wanted or told.stdout.strip() == wanted), told)
+        if not fragments:
+            self.tell(f"{name} shows nothing", False, subprocess.CompletedProcess([], 1, "", ""))
 
     def rattle(self):
         """The page's source is the crate's, without its tests."""
@@ -134,8 +140,9 @@ def main():
         for name in sorted(os.listdir(PAGES)):
             examples.page(name)
         examples.rattle()
-        examples.header("symdemangle.h", 7)
-        examples.header("symdemangle_arena.h", 9)
+        examples.header("symdemangle.h", " " * 7, arena=False)
+        examples.header("symdemangle.hpp", "//     ", arena=False)
+        examples.header("symdemangle_arena.h", " " * 9, arena=True)
     for program in sorted(examples.left_out):
         print(f"{program} isn't installed: its examples aren't tested")
     print(f"{examples.count} examples, {examples.failed} differ")

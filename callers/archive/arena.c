@@ -1,7 +1,7 @@
 /* The allocator of libsymdemangle_arena.a. It defines the three functions that the library calls for memory, in the place of
    the kit's over malloc, realloc and free: what they give out lies in the block that the thread lent (symdemangle_arena.h).
 
-   Blocks stand one behind the other, each behind a head. One that is given back makes room as soon as all behind it are given
+   Blocks are one after the other, each after a head. One that is given back makes room as soon as all after it are given
    back; the library gives back everything by the end of a call, so between calls the block is empty. What is given out is
    aligned to 16 bytes, as malloc's is, overlaps with nothing that is in use, and keeps its bytes when it grows. */
 #include <stddef.h>
@@ -16,15 +16,15 @@ struct tried {
     void *at;
 };
 
-/* What stands in front of each block: where the one before it has its head, and whether this one was given back. */
+/* What is in front of each block: where the one before it has its head, and whether this one was given back. */
 struct head {
     size_t before, is_free;
 };
 
 enum { ALIGN = 16, HEAD = sizeof(struct head) };
-_Static_assert(HEAD % ALIGN == 0, "what stands behind a head is aligned");
+_Static_assert(HEAD % ALIGN == 0, "what follows a head is aligned");
 
-/* `used` is where the next head goes, a multiple of 16; `last` is where the last head stands, if `used` isn't 0. */
+/* `used` is where the next head goes, a multiple of 16; `last` is where the last head is, if `used` isn't 0. */
 static _Thread_local symdemangle_arena here __attribute__((tls_model("initial-exec")));
 static _Alignas(16) unsigned char nothing[ALIGN];
 
@@ -59,7 +59,7 @@ static struct head *head_at(size_t at)
     return (struct head *)(void *)(here.base + at);
 }
 
-/* Makes the block whose head stands at `last`, behind which nothing is in use, one of `size` bytes, where there is room. */
+/* Makes the block whose head is at `last`, after which nothing is in use, one of `size` bytes, where there is room. */
 static int sets_size(size_t last, size_t size)
 {
     size_t left = here.size - last;

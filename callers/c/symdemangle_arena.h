@@ -3,8 +3,9 @@
    and in the forked child of a process that has threads.
 
    - Each thread lends its own block, with symdemangle_arena_set. Where none is lent, or what a call needs has no room in it, the
-     call answers SYMDEMANGLE_MEMORY as it does where malloc refuses: nothing else happens, and the room stays as it is.
-   - A call gives back all that it takes, so the block is empty again behind it and serves the next call.
+     call answers SYMDEMANGLE_MEMORY as it does where malloc refuses: nothing else happens, and the buffer stays as it is.
+   - A call gives back all that it takes, so the block is empty again after it and serves the next call. symdemangle_string and
+     symdemangle_free, whose string would outlive the call, aren't in this library.
    - A handler that may interrupt a call of its thread swaps a block of its own in, and back at its end:
 
          symdemangle_arena mine = {0, 0, 0, 0, 0};
@@ -14,7 +15,7 @@
          symdemangle_arena_swap(&mine);
 
    - The library is linked statically into a program, or into a shared object that is loaded when the program starts: the
-     thread's block stands where a handler finds it without a call of the loader.
+     thread's block is where a handler finds it without a call of the loader.
 
    How much symdemangle_text took at a limit of 1,000,000, for 20,000 real symbols of each language (tests/callers/arena.c):
 

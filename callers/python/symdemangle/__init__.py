@@ -23,7 +23,21 @@ from __future__ import annotations
 import ctypes
 import os
 from dataclasses import dataclass
-from typing import BinaryIO, Callable, Iterable, NamedTuple, Union
+from typing import TYPE_CHECKING, Any, BinaryIO, Callable, Iterable, NamedTuple, Union
+
+if TYPE_CHECKING:
+    from typing_extensions import TypedDict, Unpack
+
+    class Keywords(TypedDict, total=False):
+        """The options of a call, as keywords."""
+
+        brief: bool
+        no_parameters: bool
+        wide: bool
+        legacy: bool
+        ascii_words: bool
+        limit: int
+
 
 __version__ = "0.1.0"
 __all__ = [
@@ -151,12 +165,12 @@ def library_version() -> int:
     return int(_library.symdemangle_version())
 
 
-def try_demangle(name: Name, **options: object) -> str:
+def try_demangle(name: Name, **options: Unpack[Keywords]) -> str:
     """The text of a name; Refused says why it has none."""
-    return _string(_text(_bytes(name), Options(**options)))  # type: ignore[arg-type]
+    return _string(_text(_bytes(name), Options(**options)))
 
 
-def demangle(name: Name, **options: object) -> str:
+def demangle(name: Name, **options: Unpack[Keywords]) -> str:
     """The text of a name, or the name where it has none."""
     try:
         return try_demangle(name, **options)
@@ -164,9 +178,9 @@ def demangle(name: Name, **options: object) -> str:
         return name if isinstance(name, str) else _string(name)
 
 
-def demangle_all(names: Iterable[Name], **options: object) -> list[str]:
+def demangle_all(names: Iterable[Name], **options: Unpack[Keywords]) -> list[str]:
     """The texts of many names by one call of the library, or the names where they have none."""
-    asked = Options(**options)  # type: ignore[arg-type]
+    asked = Options(**options)
     each = [_bytes(name) for name in names]
     joined, ends, at = b"".join(each), (ctypes.c_size_t * len(each))(), 0
     for i, name in enumerate(each):
@@ -190,21 +204,22 @@ def demangle_all(names: Iterable[Name], **options: object) -> list[str]:
 def _filtered(text: bytes, options: Options) -> tuple[bytes, Tally]:
     tally = _Tally()
 
-    def call(buffer: object, room: int, result: object) -> int:
+    def call(*buffer: Any) -> int:
+        *room, result = buffer
         return int(
-            _library.symdemangle_filter(text, len(text), options.limit, options.flags, buffer, room, ctypes.byref(tally), result)
+            _library.symdemangle_filter(text, len(text), options.limit, options.flags, *room, ctypes.byref(tally), result)
         )
 
     filtered = _written(call, 2 * len(text) + 4096)
     return filtered, Tally(tally.words, tally.replaced, tally.refused)
 
 
-def filter_bytes(text: bytes, **options: object) -> bytes:
+def filter_bytes(text: bytes, **options: Unpack[Keywords]) -> bytes:
     """A text with each word that is a symbol replaced by its text."""
-    return _filtered(text, Options(**options))[0]  # type: ignore[arg-type]
+    return _filtered(text, Options(**options))[0]
 
 
-def filter_text(text: str, **options: object) -> str:
+def filter_text(text: str, **options: Unpack[Keywords]) -> str:
     """The same of a string."""
     return _string(filter_bytes(_bytes(text), **options))
 
@@ -215,12 +230,12 @@ _LETTERS = bytes(
 )
 
 
-def filter_stream(source: BinaryIO, sink: BinaryIO, **options: object) -> Tally:
+def filter_stream(source: BinaryIO, sink: BinaryIO, **options: Unpack[Keywords]) -> Tally:
     """Writes what a source gives to a sink, with each word that is a symbol replaced by its text, as soon as whole words are there.
     It holds one piece of the source, and the longest word."""
-    asked = Options(**options)  # type: ignore[arg-type]
+    asked = Options(**options)
     read = getattr(source, "read1", source.read)
-    total, held = (0, 0, 0), b""
+    total, held = Tally(0, 0, 0), b""
     while True:
         piece = read(1 << 16)
         held += piece
@@ -229,10 +244,10 @@ def filter_stream(source: BinaryIO, sink: BinaryIO, **options: object) -> Tally:
             filtered, tally = _filtered(held[:cut], asked)
             sink.write(filtered)
             sink.flush()
-            total = tuple(a + b for a, b in zip(total, tally))
+            total = Tally(*(a + b for a, b in zip(total, tally)))
             held = held[cut:]
         if not piece:
-            return Tally(*total)
+            return total
 
 
 def press(name: Name) -> str:

@@ -160,6 +160,7 @@ impl Options {
     }
 
     /// A name that shows itself so; one that has no text shows as it is.
+    #[must_use]
     pub fn demangle(self, name: &str) -> Demangle<'_> {
         let text = self.text(name.as_bytes()).ok();
         Demangle { name, text }
