@@ -1,7 +1,7 @@
 // The command line and the filter, as the program has them.
 
 use crate::answer::{says, unspelled};
-use crate::library::{flags_of, library_filters};
+use crate::library::library_filters;
 use std::alloc::Global;
 use std::str;
 use sym_command::{FAULT, Filtering, Run, run, run_over};
@@ -36,16 +36,8 @@ fn library_says(
         detail,
         letters,
         wide,
-        legacy,
     } = filtering;
-    library_filters(
-        alloc,
-        text,
-        limit,
-        flags_of(detail, wide, legacy),
-        letters,
-        wanted,
-    )
+    library_filters(alloc, text, limit, detail, letters, wide, wanted)
 }
 
 /// Whether the program with these options filters a text to this one.

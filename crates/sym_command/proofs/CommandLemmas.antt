@@ -1,6 +1,6 @@
 -- What a command line's parts did, as what the command line did.
 use Rattle.std.proofs.Common.{◌≡◌, ◌≢◌, ◌⊎◌, ℕ, List, [], ◌∷◌, Option, Result, Ok, Err, Bor, map, length, refl, sym, subst, inl, inr, ◌∙◌, arith, ◌++◌, eqb}
-use Rattle.std.specs.Prelude.{IfOk, OnOk, OnErr, Bool, true}
+use Rattle.std.specs.Prelude.{IfOk, OnOk, OnErr, true}
 use Rattle.std.specs.Io.KnownBytes.{Appends}
 use Rattle.std.proofs.lemmas.Bool.{false≢true, ne_eqb}
 use Rattle.sym_filter.specs.Streams.{FiltersFrontAt}
@@ -92,19 +92,17 @@ no-words (word ∷ words) none = absurd (false≢true (sym (ne_eqb (length (word
 -- ## What the options ask
 
 -- where it is known what is asked
-pub asked-ok : {E : Type 0} (options : Options) (asked : Asked) (legacy : Bool) (words : List (List ℕ)) (result : Result ℕ E) (out out' err err' : Option (List ℕ)) → options.asked ≡ asked → options.legacy ≡ legacy
-    → IfOk result (λ status. Took out out' err err' (AnswersWords (answers_at asked legacy options.limit options.detail) (counting_at asked) options.stats words status))
+pub asked-ok : {E : Type 0} (options : Options) (asked : Asked) (words : List (List ℕ)) (result : Result ℕ E) (out out' err err' : Option (List ℕ)) → options.asked ≡ asked
+    → IfOk result (λ status. Took out out' err err' (AnswersWords (answers_at asked options.limit options.detail) (counting_at asked) options.stats words status))
     → IfOk result (λ status. Took out out' err err' (AnswersWords (answers_of options) (counting_of options) options.stats words status))
-asked-ok options asked legacy words result out out' err err' same paths is =
-    subst (λ a. IfOk result (λ status. Took out out' err err' (AnswersWords (answers_at a options.legacy options.limit options.detail) (counting_at a) options.stats words status))) (sym same)
-    (subst (λ l. IfOk result (λ status. Took out out' err err' (AnswersWords (answers_at asked l options.limit options.detail) (counting_at asked) options.stats words status))) (sym paths) is)
+asked-ok options asked words result out out' err err' same is =
+    subst (λ a. IfOk result (λ status. Took out out' err err' (AnswersWords (answers_at a options.limit options.detail) (counting_at a) options.stats words status))) (sym same) is
 
-pub asked-err : {E : Type 0} (options : Options) (asked : Asked) (legacy : Bool) (words : List (List ℕ)) (result : Result ℕ E) (out out' err err' : Option (List ℕ)) → options.asked ≡ asked → options.legacy ≡ legacy
-    → OnErr result (Took out out' err err' (AnswersFront (answers_at asked legacy options.limit options.detail) (counting_at asked) options.stats words))
+pub asked-err : {E : Type 0} (options : Options) (asked : Asked) (words : List (List ℕ)) (result : Result ℕ E) (out out' err err' : Option (List ℕ)) → options.asked ≡ asked
+    → OnErr result (Took out out' err err' (AnswersFront (answers_at asked options.limit options.detail) (counting_at asked) options.stats words))
     → OnErr result (Took out out' err err' (AnswersFront (answers_of options) (counting_of options) options.stats words))
-asked-err options asked legacy words result out out' err err' same paths is =
-    subst (λ a. OnErr result (Took out out' err err' (AnswersFront (answers_at a options.legacy options.limit options.detail) (counting_at a) options.stats words))) (sym same)
-    (subst (λ l. OnErr result (Took out out' err err' (AnswersFront (answers_at asked l options.limit options.detail) (counting_at asked) options.stats words))) (sym paths) is)
+asked-err options asked words result out out' err err' same is =
+    subst (λ a. OnErr result (Took out out' err err' (AnswersFront (answers_at a options.limit options.detail) (counting_at a) options.stats words))) (sym same) is
 
 -- ## Without a symbol
 

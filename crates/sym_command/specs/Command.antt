@@ -1,9 +1,9 @@
 -- What a command line did to its two streams.
-use Rattle.std.specs.Prelude.{◌≡◌, ◌≢◌, ◌⊎◌, ℕ, List, [], ◌++◌, Bool, true, false, if◌then◌else◌, Option}
+use Rattle.std.specs.Prelude.{◌≡◌, ◌≢◌, ◌⊎◌, ℕ, List, [], ◌++◌, Bool, if◌then◌else◌, Option}
 use Rattle.std.specs.List.{flat_map}
 use Rattle.std.specs.Io.KnownBytes.{Appends}
 use Rattle.sym_print.specs.declared.detail.Detail.{Detail}
-use Rattle.sym_filter.specs.Languages.{answer_of, legacy_answer_of, wide_answer_of, legacy_wide_answer_of, pressed_of, AreCountsOf, AreWideCountsOf}
+use Rattle.sym_filter.specs.Languages.{answer_of, wide_answer_of, pressed_of, AreCountsOf, AreWideCountsOf}
 use Rattle.sym_filter.specs.Runs.{Answering}
 use Rattle.sym_filter.specs.Streams.{BeginsWith, FiltersAllAt, FiltersFrontAt}
 use Rattle.sym_filter.specs.declared.words.Tally.{Tally}
@@ -45,17 +45,14 @@ pub record AnswersFront (answers : Answering) (counting : Counting) (stats : Boo
   pub lines_begin : BeginsWith whole lines
   pub said_begin : BeginsWith (flat_map (complaint_of answers) first) said
 
--- what is asked of each symbol: its text at a limit and in a detail, with C++ by either grammar, and legacy Rust names as C++ or as
--- paths, or its pressed spelling
-abbrev pub answers_at : Asked → (legacy : Bool) → ℕ → Detail → Answering
-answers_at Text false limit detail = answer_of limit detail
-answers_at Text true limit detail = legacy_answer_of limit detail
-answers_at WideText false limit detail = wide_answer_of limit detail
-answers_at WideText true limit detail = legacy_wide_answer_of limit detail
-answers_at Pressed legacy limit detail = pressed_of
+-- what is asked of each symbol: its text at a limit and in a detail, with C++ by either grammar, or its pressed spelling
+abbrev pub answers_at : Asked → ℕ → Detail → Answering
+answers_at Text limit detail = answer_of limit detail
+answers_at WideText limit detail = wide_answer_of limit detail
+answers_at Pressed limit detail = pressed_of
 
 abbrev pub answers_of : Options → Answering
-answers_of options = answers_at options.asked options.legacy options.limit options.detail
+answers_of options = answers_at options.asked options.limit options.detail
 
 -- which counts are those of a symbol then
 abbrev pub counting_at : Asked → Counting
@@ -68,7 +65,7 @@ counting_of options = counting_at options.asked
 
 -- what the filter does with the words of standard input
 abbrev pub filter_answers : Filtering → Answering
-filter_answers filtering = answers_at (if filtering.wide then WideText else Text) filtering.legacy filtering.limit filtering.detail
+filter_answers filtering = answers_at (if filtering.wide then WideText else Text) filtering.limit filtering.detail
 
 -- ## What a command line did, by what its parser found
 

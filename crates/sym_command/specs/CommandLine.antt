@@ -40,7 +40,7 @@ unfoldable pub command_line : App
 command_line = record {
   top = record (new_app (codes "symfilt")).top {
     has_version = true;
-    rules = limit ∷ flag (codes "stats") ∷ flag (codes "press") ∷ flag (codes "wide") ∷ flag (codes "legacy") ∷ flag (codes "brief")
+    rules = limit ∷ flag (codes "stats") ∷ flag (codes "press") ∷ flag (codes "wide") ∷ flag (codes "brief")
         ∷ flag (codes "no-params") ∷ flag (codes "ascii-words") ∷ symbols ∷ [];
   };
   subs = [];
@@ -98,7 +98,6 @@ pub record AreGiven (rows : List Row) (options : Options) : Type 0 where
   pub is_wide : IsFlag rows (codes "wide") wide
   pub limit : IsLimit rows options.limit
   pub stats : IsFlag rows (codes "stats") options.stats
-  pub legacy : IsFlag rows (codes "legacy") options.legacy
   pub detail : options.detail ≡ detail_by brief no_params
   pub letters : options.letters ≡ letters_by ascii_words
   pub asked : Some options.asked ≡ asked_by press wide
@@ -113,8 +112,8 @@ abbrev pub symbols_of : List Row → List Text
 symbols_of rows = unwrap_or (all_of (codes "SYMBOL") rows) []
 
 abbrev pub filtering_at : Asked → Options → Option Filtering
-filtering_at PlainText options = Some (record { limit = options.limit; detail = options.detail; letters = options.letters; wide = false; legacy = options.legacy })
-filtering_at WideText options = Some (record { limit = options.limit; detail = options.detail; letters = options.letters; wide = true; legacy = options.legacy })
+filtering_at PlainText options = Some (record { limit = options.limit; detail = options.detail; letters = options.letters; wide = false })
+filtering_at WideText options = Some (record { limit = options.limit; detail = options.detail; letters = options.letters; wide = true })
 filtering_at Pressed options = None
 
 -- how standard input is filtered as options ask: not where they ask for counts or pressed spellings, which need a symbol

@@ -16,7 +16,7 @@ use clap::{ArgMatches, Error};
 use std::alloc::Global;
 use std::mem;
 use sym_filter::{
-    Abi, Demangler, FilterFault, Languages, Legacy, ListSink, Pressing, Sink, Source, Tally, Wide,
+    Abi, Demangler, FilterFault, Languages, ListSink, Pressing, Sink, Source, Tally, Wide,
     filter_words, write_all,
 };
 
@@ -89,7 +89,6 @@ pub fn filter_asked<S: Source, W: Sink>(
         detail,
         letters,
         wide,
-        legacy,
     } = filtering;
     if wide {
         let languages = Languages {
@@ -97,9 +96,6 @@ pub fn filter_asked<S: Source, W: Sink>(
             detail,
             cpp: Wide,
         };
-        if legacy {
-            return filter_words(alloc, input, out, &Legacy { languages }, letters);
-        }
         return filter_words(alloc, input, out, &languages, letters);
     }
     let languages = Languages {
@@ -107,9 +103,6 @@ pub fn filter_asked<S: Source, W: Sink>(
         detail,
         cpp: Abi,
     };
-    if legacy {
-        return filter_words(alloc, input, out, &Legacy { languages }, letters);
-    }
     filter_words(alloc, input, out, &languages, letters)
 }
 
@@ -248,7 +241,6 @@ fn answer_symbols<W: Sink, E: Sink>(
         detail,
         stats,
         asked,
-        legacy,
         ..
     } = options;
     match asked {
@@ -258,9 +250,6 @@ fn answer_symbols<W: Sink, E: Sink>(
                 detail,
                 cpp: Abi,
             };
-            if legacy {
-                return answer_words(alloc, &Legacy { languages }, stats, words, out, err);
-            }
             answer_words(alloc, &languages, stats, words, out, err)
         }
         Asked::WideText => {
@@ -269,9 +258,6 @@ fn answer_symbols<W: Sink, E: Sink>(
                 detail,
                 cpp: Wide,
             };
-            if legacy {
-                return answer_words(alloc, &Legacy { languages }, stats, words, out, err);
-            }
             answer_words(alloc, &languages, stats, words, out, err)
         }
         Asked::Pressed => answer_words(alloc, &Pressing, stats, words, out, err),

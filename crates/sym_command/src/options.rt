@@ -41,8 +41,6 @@ pub struct Options {
     pub letters: Letters,
     pub stats: bool,
     pub asked: Asked,
-    /// Whether legacy Rust names have the texts of their paths. It says nothing to pressed spellings.
-    pub legacy: bool,
 }
 
 /// The options and symbols that the words of a command line have, the program's name first.
@@ -65,9 +63,6 @@ fn command_line<'a>(alloc: Global) -> Result<Command<'a>, AllocError>
     let wide = flag(alloc, "wide").help(
         "Read C++ symbols that compilers write beside those of the ABI's first grammar, too",
     );
-    let legacy = flag(alloc, "legacy").help(
-        "Print Rust's older names, which look like C++ and end in a hash, as Rust paths",
-    );
     let brief = flag(alloc, "brief").help("Leave out template and generic arguments");
     let no_params = flag(alloc, "no-params").help(
         "Print each C++ function by its name, without return type and parameters",
@@ -83,7 +78,6 @@ fn command_line<'a>(alloc: Global) -> Result<Command<'a>, AllocError>
         .arg(stats)?
         .arg(press)?
         .arg(wide)?
-        .arg(legacy)?
         .arg(brief)?
         .arg(no_params)?
         .arg(ascii_words)?
@@ -182,7 +176,6 @@ pub(crate) fn options_of(matches: &ArgMatches<'_>) -> Option<Options>
         letters: letters_of(has_flag(matches, "ascii-words")),
         stats: has_flag(matches, "stats"),
         asked,
-        legacy: has_flag(matches, "legacy"),
     })
 }
 
@@ -203,7 +196,6 @@ pub(crate) fn filtering_of(options: Options) -> Option<Filtering>
         letters,
         stats,
         asked,
-        legacy,
     } = options;
     if stats {
         return None;
@@ -218,6 +210,5 @@ pub(crate) fn filtering_of(options: Options) -> Option<Filtering>
         detail,
         letters,
         wide,
-        legacy,
     })
 }

@@ -9,12 +9,11 @@ pub enum Run {
     Filter(Filtering),
 }
 
-/// How standard input is filtered, where C++ may be read by the wide grammar, and legacy Rust names may have the texts of their paths.
+/// How standard input is filtered, where C++ may be read by the wide grammar.
 #[derive(Clone, Copy, Debug, PartialEq, Eq)]
 pub struct Filtering {
     pub limit: u32,
     pub detail: Detail,
     pub letters: Letters,
     pub wide: bool,
-    pub legacy: bool,
 }
