@@ -1,4 +1,3 @@
 pub mod CommandLemmas
 pub mod LineLemmas
-pub mod OptionLemmas
 pub mod PageLemmas

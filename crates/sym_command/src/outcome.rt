@@ -2,18 +2,14 @@
 use sym_filter::Letters;
 use sym_print::Detail;
 
-/// What the program is to do: end with a status, or filter standard input.
+/// What the program is to do: end with a status, or filter standard input, where C++ may be read by the wide grammar.
 #[derive(Clone, Copy, Debug, PartialEq, Eq)]
 pub enum Run {
     Done(u8),
-    Filter(Filtering),
-}
-
-/// How standard input is filtered, where C++ may be read by the wide grammar.
-#[derive(Clone, Copy, Debug, PartialEq, Eq)]
-pub struct Filtering {
-    pub limit: u32,
-    pub detail: Detail,
-    pub letters: Letters,
-    pub wide: bool,
+    Filter {
+        limit: u32,
+        detail: Detail,
+        letters: Letters,
+        wide: bool,
+    },
 }

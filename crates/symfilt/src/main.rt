@@ -1,6 +1,7 @@
 //! Replaces mangled symbols by their texts: those on the command line, or those among the words of standard input.
 #![tactic(auto)]
 
+mod program;
 #[cfg(test)]
 mod rows;
 #[cfg(test)]
@@ -9,8 +10,7 @@ mod scripted;
 mod tests;
 
 use std::process::ExitCode;
-use sym_command::program;
 
 fn main(rt: HostRuntime) -> ExitCode {
-    ExitCode::from(program(&rt, &rt.stderr()))
+    ExitCode::from(program::program(&rt, &rt.stderr()))
 }

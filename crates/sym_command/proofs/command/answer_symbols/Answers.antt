@@ -1,5 +1,5 @@
 use Rattle.std.proofs.Common.{List, ℕ, Bor, map}
-use Rattle.sym_command.specs.declared.options.Asked.TheVariants.{Text, WideText, Pressed}
+use Rattle.sym_command.specs.declared.command.Asked.TheVariants.{Text, WideText, Pressed}
 use Rattle.sym_command.proofs.CommandLemmas.{asked-ok, asked-err}
 use Rattle.sym_command.proofs.command.answer_symbols.Goals as goal
 
