@@ -1,12 +1,12 @@
 #!/usr/bin/env python3
 """Compares symfilt with another implementation, symbol by symbol and over a whole text.
 
-    tests/compare.py [--wide] SYMFILT REFERENCE < SYMBOLS
+    tests/compare.py [--wide | --legacy] SYMFILT REFERENCE < SYMBOLS
 
 SYMFILT is the built program. REFERENCE is a program with the same command line, which filters where it has no symbols
 (`c++filt` doesn't do: its texts differ in blanks, and it names no places);
 one whose name ends in `.py` is run by this Python. SYMBOLS has one symbol a line.
-With --wide both read C++ by the wide grammar. It prints each difference, and its status is 1 where there is one.
+With --wide both read C++ by the wide grammar, and with --legacy both take legacy Rust names for paths. It prints each difference, and its status is 1 where there is one.
 """
 
 import subprocess
@@ -15,6 +15,8 @@ import sys
 BATCH = 100
 OPTIONS = ([], ["--limit", "60"], ["--brief"], ["--press"])
 WIDE_OPTIONS = (["--wide"], ["--wide", "--limit", "60"], ["--wide", "--brief"])
+LEGACY_OPTIONS = (["--legacy"], ["--legacy", "--limit", "60"], ["--legacy", "--brief"])
+WAYS = {"--wide": WIDE_OPTIONS, "--legacy": LEGACY_OPTIONS}
 
 
 def run(command, data=b""):
@@ -45,11 +47,11 @@ def command_of(path):
 
 
 def main():
-    wide = sys.argv[1:2] == ["--wide"]
-    programs = sys.argv[2:] if wide else sys.argv[1:]
+    programs = sys.argv[1:]
+    ways = WAYS.get(programs[0], OPTIONS) if programs else OPTIONS
+    programs = programs if ways is OPTIONS else programs[1:]
     if len(programs) != 2:
         sys.exit(__doc__)
-    ways = WIDE_OPTIONS if wide else OPTIONS
     symfilt = [programs[0]]
     reference = command_of(programs[1])
     for command in (symfilt, reference):

@@ -19,6 +19,7 @@ BEGINNINGS = (b"_Z", b"__Z", b"_R", b"__R")
 REASONS = (b"malformed at ", b"bad reference at ", b"bad value at ", b"too long")
 ESCAPES = {b"\\": b"\\", b"n": b"\n", b"t": b"\t", b"f": b"\xff"}
 DETAILS = {b"full": [], b"brief": ["--brief"], b"no-params": ["--no-params"], b"brief-no-params": ["--brief", "--no-params"]}
+LEGACY = (["--legacy"], ["--legacy", "--wide"])
 PUT = {b"put !": b"!", b"put 0": b"0", b"put ff": b"\xff"}
 
 
@@ -107,8 +108,8 @@ def check_answer(program, options, word, wanted):
     return wrong
 
 
-def check_text(program, detail, cost, word, text, wide=()):
-    options = [*wide, *DETAILS[detail]]
+def check_text(program, detail, cost, word, text, more=()):
+    options = [*more, *DETAILS[detail]]
     cost = int(cost)
     wrong = check_answer(program, [f"--limit={cost}", *options], word, unescaped(text))
     for limit in (cost - 1, 0):
@@ -137,13 +138,25 @@ def check_refused(program, word, reason):
     return wrong if reason == b"too long" else wrong + differences([word], program.answers(["--press"], [word]), [reason])
 
 
+def check_refused_by(program, options, word, reason):
+    wrong = check_answer(program, options, word, reason)
+    return wrong + check_answer(program, [*options, "--limit=0", "--brief"], word, reason)
+
+
 def check_wide_text(program, *fields):
-    return check_text(program, *fields, wide=["--wide"])
+    return check_text(program, *fields, more=["--wide"])
 
 
 def check_wide_refused(program, word, reason):
-    wrong = check_answer(program, ["--wide"], word, reason)
-    return wrong + check_answer(program, ["--wide", "--limit=0", "--brief"], word, reason)
+    return check_refused_by(program, ["--wide"], word, reason)
+
+
+def check_legacy_text(program, *fields):
+    return [line for more in LEGACY for line in check_text(program, *fields, more=more)]
+
+
+def check_legacy_refused(program, word, reason):
+    return [line for more in LEGACY for line in check_refused_by(program, more, word, reason)]
 
 
 def check_oversize(program, front, count, repeated, end):
@@ -204,6 +217,8 @@ CHECKS = {
     b"refused": check_refused,
     b"wide text": check_wide_text,
     b"wide refused": check_wide_refused,
+    b"legacy text": check_legacy_text,
+    b"legacy refused": check_legacy_refused,
     b"oversize": check_oversize,
     b"nameless": check_nameless,
     b"press": check_press,

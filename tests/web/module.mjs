@@ -79,13 +79,14 @@ for (const line of fs.readFileSync(rows, "latin1").split("\n")) {
     const [, by = "", name] = /^(?:(wide|legacy) )?(\S*)$/.exec(kind) ?? [];
     for (const flags of GRAMMARS[by]) known[name]?.(FLAG.UNDERSCORE | flags, fields, kind);
 }
-for (const kind of ["text", "refused", "wide text", "wide refused", "press", "counts"]) holds("kinds", tried[kind] > 50, `too few rows ${kind}:`, tried[kind]);
+for (const kind of ["text", "refused", "wide text", "wide refused", "legacy text", "legacy refused", "press", "counts"]) holds("kinds", tried[kind] > 50, `too few rows ${kind}:`, tried[kind]);
 console.log(`rows: ${Object.entries(tried).map(([kind, count]) => `${kind} ${count}`).join(", ")}`);
 
 const log = fs.readFileSync(symbols);
 const CHOICES = [
     [{}, []], [{ wide: true }, ["--wide"]], [{ brief: true }, ["--brief"]], [{ noParameters: true }, ["--no-params"]],
     [{ wide: true, brief: true, noParameters: true, ascii: true }, ["--wide", "--brief", "--no-params", "--ascii-words"]],
+    [{ legacy: true }, ["--legacy"]], [{ wide: true, legacy: true, ascii: true }, ["--wide", "--legacy", "--ascii-words"]],
 ];
 for (const [options, words] of CHOICES) {
     const wanted = execFileSync(program, words, { input: log, maxBuffer: 1 << 30 });

@@ -1,2 +1,2 @@
 # bash: the options of symfilt
-complete -W '--limit --stats --brief --no-params --wide --ascii-words --press --help --version' symfilt
+complete -W '--limit --stats --brief --no-params --wide --legacy --ascii-words --press --help --version' symfilt

@@ -1,13 +1,12 @@
 // The command line and the filter, as the program has them.
 
 use crate::answer::{says, unspelled};
-use crate::library::library_filters;
+use crate::library::{flags_of, library_filters};
 use std::alloc::Global;
 use std::str;
-use sym_command::{FAULT, Run, run};
+use sym_command::{FAULT, Filtering, Run, run, run_over};
 use sym_core::Refusal;
-use sym_filter::{Abi, Demangler, Languages, Letters, ListSink, ReaderSource, Wide, filter_words};
-use sym_print::Detail;
+use sym_filter::{ListSink, ReaderSource};
 
 /// The words of a command line, the program's name first, as blanks keep them apart; `-` is none. There is no such line where
 /// they aren't text.
@@ -25,49 +24,27 @@ fn words_of<'a>(alloc: Global, field: &'a [u8]) -> Result<Option<Vec<&'a str>>, 
     Ok(Some(words))
 }
 
-/// A text, filtered. Nothing but memory can fail here.
-fn filtered<D: Demangler>(
+/// Whether the static library filters a text to this one as is asked.
+fn library_says(
     alloc: Global,
     text: &[u8],
-    demangler: &D,
-    letters: Letters,
-) -> Result<Vec<u8>, Refusal> {
-    let mut source = ReaderSource::new(text);
-    let mut sink = ListSink::new(Vec::new(alloc));
-    match filter_words(alloc, &mut source, &mut sink, demangler, letters) {
-        Ok(_) => Ok(sink.into_list()),
-        Err(_) => Err(Refusal::Memory),
-    }
-}
-
-/// Whether the filter, with C++ by the wide grammar or the other, makes this of a text; and the static library.
-fn filters_say(
-    alloc: Global,
-    text: &[u8],
-    limit: u32,
-    detail: Detail,
-    letters: Letters,
-    wide: bool,
+    filtering: Filtering,
     wanted: &[u8],
 ) -> Result<bool, Refusal> {
-    let answer = if wide {
-        let languages = Languages {
-            limit,
-            detail,
-            cpp: Wide,
-        };
-        filtered(alloc, text, &languages, letters)
-    } else {
-        let languages = Languages {
-            limit,
-            detail,
-            cpp: Abi,
-        };
-        filtered(alloc, text, &languages, letters)
-    };
-    Ok(
-        says(alloc, &answer, wanted)?
-            && library_filters(alloc, text, limit, detail, letters, wide, wanted)?,
+    let Filtering {
+        limit,
+        detail,
+        letters,
+        wide,
+        legacy,
+    } = filtering;
+    library_filters(
+        alloc,
+        text,
+        limit,
+        flags_of(detail, wide, legacy),
+        letters,
+        wanted,
     )
 }
 
@@ -85,24 +62,31 @@ pub fn is_filtered(
     let Some(words) = words_of(alloc, options)? else {
         return Ok(false);
     };
+    let text = unspelled(alloc, text)?;
     let mut out = Vec::new(alloc);
     let mut err = Vec::new(alloc);
     match run(alloc, &words, &mut out, &mut err) {
-        Run::Filter {
-            limit,
-            detail,
-            letters,
-            wide,
-        } => {
-            let text = unspelled(alloc, text)?;
-            Ok(
-                out.is_empty()
-                    && err.is_empty()
-                    && filters_say(alloc, &text, limit, detail, letters, wide, wanted)?,
-            )
-        }
+        Run::Filter(filtering) => Ok(
+            out.is_empty()
+                && err.is_empty()
+                && runs_to(alloc, &words, &text, wanted)?
+                && library_says(alloc, &text, filtering, wanted)?,
+        ),
         Run::Done(FAULT) => Err(Refusal::Memory),
         Run::Done(_) => Ok(false),
+    }
+}
+
+/// Whether the program ends with status 0 over an input, and writes this alone. Nothing but memory can fail here.
+fn runs_to(alloc: Global, words: &[&str], text: &[u8], wanted: &[u8]) -> Result<bool, Refusal> {
+    let mut input = ReaderSource::new(text);
+    let mut out = ListSink::new(Vec::new(alloc));
+    let mut err = ListSink::new(Vec::new(alloc));
+    match run_over(alloc, words, &mut input, &mut out, &mut err) {
+        Ok(status) => Ok(
+            status == 0 && says(alloc, &Ok(out.into_list()), wanted)? && err.into_list().is_empty(),
+        ),
+        Err(_) => Err(Refusal::Memory),
     }
 }
 

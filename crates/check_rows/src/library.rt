@@ -5,7 +5,7 @@ ghost use Rattle.sym_core.specs.Number.{FitsSymbol};
 use crate::answer::says;
 use crate::calls::broken;
 use std::alloc::{AllocError, Global};
-use sym_calls::flags::{ASCII_WORDS, BRIEF, NO_PARAMETERS, UNDERSCORE, WIDE};
+use sym_calls::flags::{ASCII_WORDS, BRIEF, LEGACY, NO_PARAMETERS, UNDERSCORE, WIDE};
 use sym_calls::outcome::{
     BAD_REFERENCE, BAD_VALUE, BUFFER, ENDS, FLAGS, MALFORMED, MEMORY, NO_SYMBOL, OK, SIZE, TOO_LONG,
 };
@@ -63,15 +63,17 @@ struct Ending {
     buffer: Vec<u8>,
 }
 
-/// The flags for a detail, with C++ by the wide grammar or the other.
-fn flags_of(detail: Detail, wide: bool) -> u32 {
+/// The flags for a detail, with C++ by the wide grammar or the other, and with legacy Rust names as paths or as C++.
+pub fn flags_of(detail: Detail, wide: bool, legacy: bool) -> u32 {
     let shown = match detail {
         Detail::Full => 0,
         Detail::Brief => BRIEF,
         Detail::NoParameters => NO_PARAMETERS,
         Detail::BriefNoParameters => BRIEF | NO_PARAMETERS,
     };
-    if wide { shown | WIDE } else { shown }
+    let read = if wide { WIDE } else { 0 };
+    let paths = if legacy { LEGACY } else { 0 };
+    shown | read | paths
 }
 
 /// Whether nothing was written to a buffer.
@@ -307,7 +309,7 @@ pub fn library_counts<C: Cpp>(
     let mut out = Vec::new(alloc);
     let wanted = languages.demangle(lists, kind, s, &mut out);
     let mut counts = uncounted();
-    let outcome = counts_of(alloc, s, flags_of(Detail::Full, wide), &mut counts);
+    let outcome = counts_of(alloc, s, flags_of(Detail::Full, wide, false), &mut counts);
     if outcome.status == MEMORY {
         return Err(Refusal::Memory);
     }
@@ -447,8 +449,8 @@ fn are_flags_refused(alloc: Global, s: &[u8]) -> Result<bool, Refusal> {
     )
 }
 
-/// Whether each call of the static library that gives a symbol's text answers this, with C++ by the wide grammar or the other. A
-/// name that begins as no symbol does is told as that.
+/// Whether each call of the static library that gives a symbol's text answers this with these flags. A name that begins as no
+/// symbol does is told as that.
 ///
 /// # Errors
 ///
@@ -457,11 +459,9 @@ pub fn library_says(
     alloc: Global,
     s: &[u8],
     limit: u32,
-    detail: Detail,
-    wide: bool,
+    flags: u32,
     wanted: &[u8],
 ) -> Result<bool, Refusal> {
-    let flags = flags_of(detail, wide);
     if !is_named(s) {
         return tells(alloc, Asked::new(Call::Text, s, limit, flags), NO_SYMBOL);
     }
@@ -485,8 +485,7 @@ pub fn library_presses(alloc: Global, s: &[u8], wanted: &[u8]) -> Result<bool, R
     name_says(alloc, Call::Press, s, 0, 0, wanted)
 }
 
-/// Whether the static library's call that filters a text answers this, where words have these letters, with C++ by the wide grammar
-/// or the other.
+/// Whether the static library's call that filters a text answers this with these flags, where words have these letters.
 ///
 /// # Errors
 ///
@@ -495,12 +494,10 @@ pub fn library_filters(
     alloc: Global,
     text: &[u8],
     limit: u32,
-    detail: Detail,
+    shown: u32,
     letters: Letters,
-    wide: bool,
     wanted: &[u8],
 ) -> Result<bool, Refusal> {
-    let shown = flags_of(detail, wide);
     let flags = match letters {
         Letters::Any => shown,
         Letters::Ascii => shown | ASCII_WORDS,

@@ -7,6 +7,7 @@ mod calls;
 mod changes;
 mod commands;
 mod feeding;
+mod legacy;
 mod library;
 mod linking;
 mod mangling;

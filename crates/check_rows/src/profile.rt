@@ -2,7 +2,7 @@
 
 use crate::answer::spelled;
 use crate::calls::{by_demangler, calls_say, demangler_says, pieces_say};
-use crate::library::{library_counts, library_presses, library_says};
+use crate::library::{flags_of, library_counts, library_presses, library_says};
 use std::alloc::Global;
 use sym_core::{Refusal, fits};
 use sym_demangle::Workspace;
@@ -89,7 +89,7 @@ impl Profile for Abi {
     ) -> Result<bool, Refusal> {
         Ok(
             fits(s)
-                && library_says(alloc, s, limit, detail, false, wanted)?
+                && library_says(alloc, s, limit, flags_of(detail, false, false), wanted)?
                 && library_counts(alloc, Abi, lists, kind, s, false)?,
         )
     }
@@ -149,7 +149,7 @@ impl Profile for Wide {
     ) -> Result<bool, Refusal> {
         Ok(
             fits(s)
-                && library_says(alloc, s, limit, detail, true, wanted)?
+                && library_says(alloc, s, limit, flags_of(detail, true, false), wanted)?
                 && library_counts(alloc, Wide, lists, kind, s, true)?,
         )
     }

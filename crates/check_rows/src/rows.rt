@@ -4,6 +4,7 @@ use crate::answer::spelled;
 use crate::calls::{by_demangler, calls_say, demangler_says, pieces_say, presses_say};
 use crate::changes::{self, Change};
 use crate::commands::{is_ended, is_filtered};
+use crate::legacy::{has_legacy_text, is_legacy_refused};
 use crate::library::{is_told_nameless, is_told_oversize, library_presses};
 use crate::profile::{Profile, TOO_LONG};
 use rust_v0::{Detail, V0};
@@ -19,8 +20,8 @@ const LIMIT: u32 = 1_000_000;
 /// The lists of each grammar of C++, with those of Rust.
 #[derive(Drop)]
 pub struct AllLists {
-    abi: Lists<Abi>,
-    wide: Lists<Wide>,
+    pub abi: Lists<Abi>,
+    pub wide: Lists<Wide>,
 }
 
 impl AllLists {
@@ -286,6 +287,36 @@ fn of_text<C: Profile>(
     has_text(alloc, lists, kind, s, detail, cost, text)
 }
 
+/// Whether a row `legacy text` holds.
+fn of_legacy_text(alloc: Global, lists: &mut AllLists, fields: &[&[u8]]) -> Result<bool, Refusal> {
+    let [detail, cost, word, text] = fields else {
+        return Ok(false);
+    };
+    let (Some(kind), Some(detail)) = (kind_of(word), detail_of(detail)) else {
+        return Ok(false);
+    };
+    let s = kind.symbol_of(word);
+    match number(cost) {
+        Some(cost) => has_legacy_text(alloc, lists, kind, s, detail, cost, text),
+        None => Ok(false),
+    }
+}
+
+/// Whether a row `legacy refused` holds.
+fn of_legacy_refused(
+    alloc: Global,
+    lists: &mut AllLists,
+    fields: &[&[u8]],
+) -> Result<bool, Refusal> {
+    let [word, reason] = fields else {
+        return Ok(false);
+    };
+    match kind_of(word) {
+        Some(kind) => is_legacy_refused(alloc, lists, kind, kind.symbol_of(word), reason),
+        None => Ok(false),
+    }
+}
+
 /// Whether a symbol has a text in the detail, at the cost and of the length that three fields say.
 fn of_length(
     alloc: Global,
@@ -435,6 +466,8 @@ fn hold(
         b"text" => of_text(alloc, &mut lists.abi, fields),
         b"wide text" => of_text(alloc, &mut lists.wide, fields),
         b"wide refused" => of_refused(alloc, &mut lists.wide, fields),
+        b"legacy text" => of_legacy_text(alloc, lists, fields),
+        b"legacy refused" => of_legacy_refused(alloc, lists, fields),
         b"long" => of_long(alloc, &mut lists.abi, fields),
         b"repeated" => of_repeated(alloc, &mut lists.abi, fields),
         b"refused" => of_refused(alloc, &mut lists.abi, fields),

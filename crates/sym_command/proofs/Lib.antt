@@ -1,3 +1,4 @@
 pub mod CommandLemmas
 pub mod LineLemmas
+pub mod OptionLemmas
 pub mod PageLemmas

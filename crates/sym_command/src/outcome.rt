@@ -2,14 +2,19 @@
 use sym_filter::Letters;
 use sym_print::Detail;
 
-/// What the program is to do: end with a status, or filter standard input, where C++ may be read by the wide grammar.
+/// What the program is to do: end with a status, or filter standard input.
 #[derive(Clone, Copy, Debug, PartialEq, Eq)]
 pub enum Run {
     Done(u8),
-    Filter {
-        limit: u32,
-        detail: Detail,
-        letters: Letters,
-        wide: bool,
-    },
+    Filter(Filtering),
+}
+
+/// How standard input is filtered, where C++ may be read by the wide grammar, and legacy Rust names may have the texts of their paths.
+#[derive(Clone, Copy, Debug, PartialEq, Eq)]
+pub struct Filtering {
+    pub limit: u32,
+    pub detail: Detail,
+    pub letters: Letters,
+    pub wide: bool,
+    pub legacy: bool,
 }

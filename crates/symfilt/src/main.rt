@@ -1,7 +1,6 @@
 //! Replaces mangled symbols by their texts: those on the command line, or those among the words of standard input.
 #![tactic(auto)]
 
-mod program;
 #[cfg(test)]
 mod rows;
 #[cfg(test)]
@@ -10,7 +9,8 @@ mod scripted;
 mod tests;
 
 use std::process::ExitCode;
+use sym_command::program;
 
 fn main(rt: HostRuntime) -> ExitCode {
-    ExitCode::from(program::program(&rt, &rt.stderr()))
+    ExitCode::from(program(&rt, &rt.stderr()))
 }

@@ -4,7 +4,7 @@ use std::alloc::{AllocError, Global};
 use std::process::Abort;
 use std::str;
 use std::test::Fail;
-use sym_command::{Run, answer_words, run, run_to};
+use sym_command::{Filtering, Run, answer_words, run, run_to};
 use sym_filter::{Abi, FilterFault, Languages, Letters, filter};
 use sym_print::Detail;
 
@@ -216,12 +216,12 @@ fn runs(alloc: Global, words: &[&str]) -> (Run, bool) {
 
 /// What the program is to do where it is asked to filter, with C++ by the wide grammar or the other.
 fn filtering(limit: u32, detail: Detail, letters: Letters, wide: bool) -> Run {
-    Run::Filter {
+    Run::Filter(Filtering {
         limit,
         detail,
         letters,
         wide,
-    }
+    })
 }
 
 #[test]

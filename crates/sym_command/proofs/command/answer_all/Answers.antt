@@ -1,31 +1,21 @@
-use Rattle.std.proofs.Common.{List, ℕ, Bor, map, eqb, sym, ap, ◌∙◌}
-use Rattle.std.proofs.lemmas.Bool.{true≢false}
-use Rattle.sym_command.proofs.PageLemmas.{OnErr-anyway}
-use Rattle.sym_command.proofs.CommandLemmas.{refused-run, refused-stopped, words-run, words-stopped, some-words}
+use Rattle.std.proofs.Common.{◌∙◌, sym, inl, inr}
+use Rattle.clap.specs.Words.{found_of, rows_of}
+use Rattle.sym_command.proofs.CommandLemmas.{refused-run, refused-stopped, no-words}
 use Rattle.sym_command.proofs.command.answer_all.Goals as goal
 
 pub returns-in_default-clause-ok : goal.returns-in_default-clause-ok
-returns-in_default-clause-ok g c = refused-run (g.W.Sink.taken c.args.out.now) (g.E.Sink.taken c.args.err.now) (g.E.Sink.taken c.refuse_with.new.err) c.refuse_with.result c.refuse_with.ensures.wrong_use c.refuse_with.ensures.says
+returns-in_default-clause-ok g c =
+    refused-run (rows_of (found_of c.args.matches.now)) (g.W.Sink.taken c.args.out.now) (g.E.Sink.taken c.args.err.now) (g.E.Sink.taken c.refuse_run.new.err) c.refuse_run.result (inl c.in_default.ensures) c.refuse_run.ensures.wrong_use c.refuse_run.ensures.says
 
 pub returns-in_default-clause-err : goal.returns-in_default-clause-err
-returns-in_default-clause-err g c = refused-stopped (g.W.Sink.taken c.args.out.now) (g.E.Sink.taken c.args.err.now) (g.E.Sink.taken c.refuse_with.new.err) c.refuse_with.result c.refuse_with.ensures.says
+returns-in_default-clause-err g c = refused-stopped (rows_of (found_of c.args.matches.now)) (g.W.Sink.taken c.args.out.now) (g.E.Sink.taken c.args.err.now) (g.E.Sink.taken c.refuse_run.new.err) c.refuse_run.result c.refuse_run.ensures.says
 
-pub returns-in_err-status-clause-err : goal.returns-in_err-status-clause-err
-returns-in_err-status-clause-err g c =
-    OnErr-anyway c.from_residual.result _ (words-stopped c.in-Some.options (map (λ (word : Bor (List ℕ)). word.now) c.unwrap_or_default-symbols.result.now)
-    (g.W.Sink.taken c.args.out.now) (g.W.Sink.taken c.answer_symbols.new.out) (g.E.Sink.taken c.args.err.now) (g.E.Sink.taken c.answer_symbols.new.err) c.in_err-status.ensures.err)
+pub returns-in-None-clause-ok : goal.returns-in-None-clause-ok
+returns-in-None-clause-ok g c =
+    let symbols = c.symbols_of-symbols.result.now in
+    let none = no-words symbols (sym c.is_empty.ensures ∙ c.if-not-is_empty.false) in
+    refused-run (rows_of (found_of c.args.matches.now)) (g.W.Sink.taken c.args.out.now) (g.E.Sink.taken c.args.err.now) (g.E.Sink.taken c.refuse_run-in-None.new.err) c.refuse_run-in-None.result
+    (inr (c.in-Some.options, c.in-Some.ensures, sym c.symbols_of-symbols.ensures ∙ none, sym c.filtering_of.ensures ∙ c.in-None.is)) c.refuse_run-in-None.ensures.wrong_use c.refuse_run-in-None.ensures.says
 
-pub returns-then-not-is_empty-clause-ok : goal.returns-then-not-is_empty-clause-ok
-returns-then-not-is_empty-clause-ok g c =
-    let symbols = c.unwrap_or_default-symbols.result.now in
-    let is = c.is_empty.ensures in
-    let filled = c.if-not-is_empty.true in
-    words-run c.in-Some.options (map (λ (word : Bor (List ℕ)). word.now) symbols) c.in_ok-status.status
-    (g.W.Sink.taken c.args.out.now) (g.W.Sink.taken c.answer_symbols.new.out) (g.E.Sink.taken c.args.err.now) (g.E.Sink.taken c.answer_symbols.new.err)
-    (some-words symbols (λ none. true≢false (sym (ap (λ n. eqb n 0) none) ∙ sym is ∙ filled))) c.in_ok-status.ensures.ok
-
-pub returns-then-options-clause-ok : goal.returns-then-options-clause-ok
-returns-then-options-clause-ok g c = refused-run (g.W.Sink.taken c.args.out.now) (g.E.Sink.taken c.args.err.now) (g.E.Sink.taken c.refuse_with-then-options.new.err) c.refuse_with-then-options.result c.refuse_with-then-options.ensures.wrong_use c.refuse_with-then-options.ensures.says
-
-pub returns-then-options-clause-err : goal.returns-then-options-clause-err
-returns-then-options-clause-err g c = refused-stopped (g.W.Sink.taken c.args.out.now) (g.E.Sink.taken c.args.err.now) (g.E.Sink.taken c.refuse_with-then-options.new.err) c.refuse_with-then-options.result c.refuse_with-then-options.ensures.says
+pub returns-in-None-clause-err : goal.returns-in-None-clause-err
+returns-in-None-clause-err g c = refused-stopped (rows_of (found_of c.args.matches.now)) (g.W.Sink.taken c.args.out.now) (g.E.Sink.taken c.args.err.now) (g.E.Sink.taken c.refuse_run-in-None.new.err) c.refuse_run-in-None.result c.refuse_run-in-None.ensures.says

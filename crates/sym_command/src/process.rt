@@ -1,52 +1,30 @@
 // The program: symbols on the command line, or standard input filtered to standard output.
 ghost use Rattle.std.specs.Prelude.{◌≡◌, ◌⊎◌, ◌^◌, ◌-◌, ◌<◌, IfOk, vec_len};
-ghost use Rattle.symfilt.specs.declared.program.TheConstants.{LONGEST_ARGUMENT};
+ghost use Rattle.sym_command.specs.declared.process.TheConstants.{LONGEST_ARGUMENT};
 
+use crate::command::{FAULT, refuse_with, run_over};
 use std::alloc::{AllocError, Global};
 use std::rt::Env;
 use std::{env, io, str};
-use sym_command::{FAULT, Run, refuse_with, run_to};
-use sym_filter::{
-    Abi, Demangler, FilterFault, Languages, Letters, ReaderSource, Sink, Wide, WriterSink,
-    filter_words,
-};
+use sym_filter::{FilterFault, ReaderSource, Sink, WriterSink};
 
 /// No argument is longer, in bytes (Linux's bound on one argument).
 const LONGEST_ARGUMENT: usize = 131_072;
 
-/// Runs the program, and answers its exit status.
+/// Runs the program over standard input and output, and answers its exit status.
 pub fn program<R: Env + Input + Print + AllocGlobal, E: Print>(rt: &R, errors: &E) -> u8 {
-    match answer(rt, errors) {
-        Ok(Run::Done(status)) => status,
-        Ok(
-            Run::Filter {
-                limit,
-                detail,
-                letters,
-                wide,
-            },
-        ) => {
-            if wide {
-                let languages = Languages {
-                    limit,
-                    detail,
-                    cpp: Wide,
-                };
-                return filter_input(rt, errors, &languages, letters);
-            }
-            let languages = Languages {
-                limit,
-                detail,
-                cpp: Abi,
-            };
-            filter_input(rt, errors, &languages, letters)
-        }
+    match run_on_streams(rt, errors) {
+        Ok(status) => status,
         Err(error) => fault(errors, error),
     }
 }
 
-/// Answers the words that the program was called with.
-fn answer<R: Env + Print + AllocGlobal, E: Print>(rt: &R, errors: &E) -> Result<Run, FilterFault> {
+/// Runs the program on the words that it was called with, and on its streams.
+fn run_on_streams<R: Env + Input + Print + AllocGlobal, E: Print>(
+    rt: &R,
+    errors: &E,
+) -> Result<u8, FilterFault> {
+    let mut input = ReaderSource::new(rt.reader());
     let mut out = WriterSink::new(io::writer(rt));
     let mut err = WriterSink::new(io::writer(errors));
     let args = match env::args(rt) {
@@ -63,11 +41,11 @@ fn answer<R: Env + Print + AllocGlobal, E: Print>(rt: &R, errors: &E) -> Result<
     for word in &words {
         texts.push(word.as_str())?;
     }
-    run_to(rt.alloc(), texts.as_slice(), &mut out, &mut err)
+    run_over(rt.alloc(), texts.as_slice(), &mut input, &mut out, &mut err)
 }
 
 /// Names the first argument that isn't valid UTF-8.
-fn refuse_argument<R: Env + AllocGlobal, E: Sink>(rt: &R, err: &mut E) -> Result<Run, FilterFault>
+fn refuse_argument<R: Env + AllocGlobal, E: Sink>(rt: &R, err: &mut E) -> Result<u8, FilterFault>
     requires { E.failure_count err.old < 2 ^ 64 - 1 }
 {
     let alloc = rt.alloc();
@@ -92,23 +70,6 @@ fn room_for_argument(alloc: Global) -> Result<Vec<u8>, AllocError>
     ensures { IfOk result (λ room. vec_len room ≡ LONGEST_ARGUMENT) }
 {
     vec![in alloc; 0u8; LONGEST_ARGUMENT]
-}
-
-/// Filters standard input to standard output.
-fn filter_input<R: Input + Print + AllocGlobal, E: Print, D: Demangler>(
-    rt: &R,
-    errors: &E,
-    demangler: &D,
-    letters: Letters,
-) -> u8
-    ensures { (result ≡ 0) ⊎ (result ≡ 3) }
-{
-    let mut reader = ReaderSource::new(rt.reader());
-    let mut writer = WriterSink::new(io::writer(rt));
-    match filter_words(rt.alloc(), &mut reader, &mut writer, demangler, letters) {
-        Ok(_) => 0,
-        Err(error) => fault(errors, error),
-    }
 }
 
 /// Names a fault on standard error.

@@ -1,0 +1,143 @@
+-- The command line: which options there are, what they ask, and what its parser finds in its words.
+use Rattle.std.specs.Prelude.{◌≡◌, ◌⊎◌, ◌<◌, ◌^◌, ℕ, pos, List, [], ◌∷◌, Bool, true, false, Option, Some, None, codes, unwrap_or, if◌then◌else◌}
+use Rattle.std.specs.Str.Parse.{IsNumeral, digits_value, without_leading_plus}
+use Rattle.clap.specs.Lexer.{usize_max}
+use Rattle.clap.specs.Words.{Text, Rule, Row, App, Kinds, new_rule, new_app, matches_of, fault_of, one_of, all_of}
+use Rattle.clap.specs.declared.builder.action.ArgAction.TheVariants.{SetTrue, Append}
+use Rattle.clap.specs.declared.builder.value_parser.ValueParser.TheVariants as parser
+use Rattle.sym_print.specs.declared.detail.Detail.{Detail}
+use Rattle.sym_print.specs.declared.detail.Detail.TheVariants.{Full, Brief, NoParameters, BriefNoParameters}
+use Rattle.sym_filter.specs.declared.kinds.Letters.{Letters}
+use Rattle.sym_filter.specs.declared.kinds.Letters.TheVariants.{Any, Ascii}
+use Rattle.sym_command.specs.declared.options.Asked.{Asked}
+use Rattle.sym_command.specs.declared.options.Asked.TheVariants.{Text as PlainText, WideText, Pressed}
+use Rattle.sym_command.specs.declared.options.Options.{Options}
+use Rattle.sym_command.specs.declared.outcome.Filtering.{Filtering}
+
+-- ## What the parser is told
+
+-- an option that takes no value
+abbrev pub flag : Text → Rule
+flag name = record (new_rule name) { long = Some name; action = Some SetTrue }
+
+-- `--limit N`, a u32
+abbrev pub limit : Rule
+limit = record (new_rule (codes "limit")) {
+  long = Some (codes "limit");
+  value_names = 1;
+  parser = Some (parser.Signed (pos 0) (pos 4294967295));
+}
+
+-- any number of symbols
+abbrev pub symbols : Rule
+symbols = record (new_rule (codes "SYMBOL")) {
+  action = Some Append;
+  range = Some (record { start_inclusive = 0; end_inclusive = usize_max });
+}
+
+-- The program's command line. Its parser adds help and the version.
+unfoldable pub command_line : App
+command_line = record {
+  top = record (new_app (codes "symfilt")).top {
+    has_version = true;
+    rules = limit ∷ flag (codes "stats") ∷ flag (codes "press") ∷ flag (codes "wide") ∷ flag (codes "legacy") ∷ flag (codes "brief")
+        ∷ flag (codes "no-params") ∷ flag (codes "ascii-words") ∷ symbols ∷ [];
+  };
+  subs = [];
+}
+
+-- ## What the options ask
+
+-- the detail that two flags ask for
+abbrev pub detail_by : Bool → Bool → Detail
+detail_by false false = Full
+detail_by true false = Brief
+detail_by false true = NoParameters
+detail_by true true = BriefNoParameters
+
+-- the letters of words that `--ascii-words` asks for
+abbrev pub letters_by : Bool → Letters
+letters_by true = Ascii
+letters_by false = Any
+
+-- what `--press` and `--wide` ask of each symbol, which don't go together
+abbrev pub asked_by : Bool → Bool → Option Asked
+asked_by false false = Some PlainText
+asked_by false true = Some WideText
+asked_by true false = Some Pressed
+asked_by true true = None
+
+-- a flag's value, as its parser found it
+abbrev pub IsFlagOf : Option Text → Bool → Type 0
+IsFlagOf text given = (text ≡ None → given ≡ false) × (text ≡ Some (codes "true") → given ≡ true) × (text ≡ Some (codes "false") → given ≡ false)
+
+abbrev pub IsFlag : List Row → Text → Bool → Type 0
+IsFlag rows name given = IsFlagOf (one_of name rows) given
+
+-- the greatest cost that `--limit` gives, or a million
+abbrev pub IsLimitOf : Option Text → ℕ → Type 0
+IsLimitOf None most = most ≡ 1000000
+IsLimitOf (Some text) most =
+    let digits = without_leading_plus text in
+    IsNumeral 10 digits × (digits_value 10 digits < 2 ^ 32) → most ≡ digits_value 10 digits
+
+abbrev pub IsLimit : List Row → ℕ → Type 0
+IsLimit rows most = IsLimitOf (one_of (codes "limit") rows) most
+
+-- options as the parser found them
+pub record AreGiven (rows : List Row) (options : Options) : Type 0 where
+  pub brief : Bool
+  pub no_params : Bool
+  pub ascii_words : Bool
+  pub press : Bool
+  pub wide : Bool
+  pub is_brief : IsFlag rows (codes "brief") brief
+  pub is_no_params : IsFlag rows (codes "no-params") no_params
+  pub is_ascii_words : IsFlag rows (codes "ascii-words") ascii_words
+  pub is_press : IsFlag rows (codes "press") press
+  pub is_wide : IsFlag rows (codes "wide") wide
+  pub limit : IsLimit rows options.limit
+  pub stats : IsFlag rows (codes "stats") options.stats
+  pub legacy : IsFlag rows (codes "legacy") options.legacy
+  pub detail : options.detail ≡ detail_by brief no_params
+  pub letters : options.letters ≡ letters_by ascii_words
+  pub asked : Some options.asked ≡ asked_by press wide
+
+-- the options, or none where they don't go together
+abbrev pub AreOptions : List Row → Option Options → Type 0
+AreOptions rows (Some options) = AreGiven rows options
+AreOptions rows None = IsFlag rows (codes "press") true × IsFlag rows (codes "wide") true
+
+-- the symbols, as the parser found them
+abbrev pub symbols_of : List Row → List Text
+symbols_of rows = unwrap_or (all_of (codes "SYMBOL") rows) []
+
+abbrev pub filtering_at : Asked → Options → Option Filtering
+filtering_at PlainText options = Some (record { limit = options.limit; detail = options.detail; letters = options.letters; wide = false; legacy = options.legacy })
+filtering_at WideText options = Some (record { limit = options.limit; detail = options.detail; letters = options.letters; wide = true; legacy = options.legacy })
+filtering_at Pressed options = None
+
+-- how standard input is filtered as options ask: not where they ask for counts or pressed spellings, which need a symbol
+abbrev pub filtering_by : Options → Option Filtering
+filtering_by options = if options.stats then None else filtering_at options.asked options
+
+-- there is no symbol, and standard input is to be filtered so
+pub record AsksFilter (rows : List Row) (filtering : Filtering) : Type 0 where
+  pub options : Options
+  pub given : AreGiven rows options
+  pub no_symbol : symbols_of rows ≡ []
+  pub is : filtering_by options ≡ Some filtering
+
+-- options that don't go together, or that need a symbol where there is none
+abbrev pub AreRefused : List Row → Type 0
+AreRefused rows = AreOptions rows None ⊎ ((options : Options) × AreGiven rows options × (symbols_of rows ≡ []) × (filtering_by options ≡ None))
+
+-- ## The words of a command line, the program's name first
+
+-- what the parser finds in them
+abbrev pub found_in : List Text → List Row
+found_in words = matches_of command_line words
+
+-- the kinds of fault for which it refuses them, help and the version among them: none where it takes them
+abbrev pub faults_in : List Text → Kinds
+faults_in words = fault_of command_line words

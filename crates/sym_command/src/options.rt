@@ -1,0 +1,223 @@
+// The options of a command line, and its symbols.
+ghost use Rattle.std.specs.Prelude.{◌≡◌, IfOk, false, map};
+ghost use Rattle.clap.specs.Words.{FailsBy, found_of, rows_of, matches_of, fault_of, app_of, rule_of};
+ghost use Rattle.sym_command.specs.CommandLine.{command_line, flag, limit, symbols, AreOptions, IsFlag, IsLimit, detail_by, letters_by, asked_by, symbols_of, filtering_by};
+
+use crate::outcome::Filtering;
+use clap::{Arg, ArgAction, ArgMatches, Command, Error};
+use std::alloc::{AllocError, Global};
+use sym_filter::Letters;
+use sym_print::Detail;
+
+/// The greatest cost of a text where no other limit is asked for.
+const DEFAULT_LIMIT: u32 = 1_000_000;
+
+const VERSION: &str =
+    "0.1.0 (C++ by the Itanium ABI 5.1, Rust v0 by RFC 2603; proved with rattle-kit-13f)";
+
+/// What help shows behind the options.
+const EXAMPLES: &str = "\
+Examples:
+  nm prog | symfilt        the names of a program
+  symfilt < FILE           a file; no argument names one
+  symfilt --brief _Z1fIiEvT_";
+
+/// What is asked of each symbol.
+#[derive(Clone, Copy, Debug, PartialEq, Eq)]
+pub enum Asked {
+    /// Its text.
+    Text,
+    /// Its text, where C++ is read by the wide grammar.
+    WideText,
+    /// Its pressed spelling.
+    Pressed,
+}
+
+/// How symbols are answered.
+#[derive(Clone, Copy, Debug, PartialEq, Eq)]
+pub struct Options {
+    pub limit: u32,
+    pub detail: Detail,
+    pub letters: Letters,
+    pub stats: bool,
+    pub asked: Asked,
+    /// Whether legacy Rust names have the texts of their paths. It says nothing to pressed spellings.
+    pub legacy: bool,
+}
+
+/// The options and symbols that the words of a command line have, the program's name first.
+pub(crate) fn found_in<'a>(alloc: Global, words: &'a [&'a str]) -> Result<ArgMatches<'a>, Error>
+    ensures found { IfOk result (λ matches. rows_of (found_of matches) ≡ matches_of command_line (map (λ word. word.now) words.entry.now)) }
+    ensures fails { FailsBy (fault_of command_line (map (λ word. word.now) words.entry.now)) result }
+{
+    let command = command_line(alloc)?;
+    command.try_get_matches_from(words)
+}
+
+/// The program's command line.
+fn command_line<'a>(alloc: Global) -> Result<Command<'a>, AllocError>
+    ensures { IfOk result (λ command. app_of command ≡ command_line) }
+{
+    let stats = flag(alloc, "stats").help("Show the rows, nodes and steps of each symbol");
+    let press = flag(alloc, "press").help(
+        "Spell each symbol again with its repeated parts as references, in place of printing it",
+    );
+    let wide = flag(alloc, "wide").help(
+        "Read C++ symbols that compilers write beside those of the ABI's first grammar, too",
+    );
+    let legacy = flag(alloc, "legacy").help(
+        "Print Rust's older names, which look like C++ and end in a hash, as Rust paths",
+    );
+    let brief = flag(alloc, "brief").help("Leave out template and generic arguments");
+    let no_params = flag(alloc, "no-params").help(
+        "Print each C++ function by its name, without return type and parameters",
+    );
+    let ascii_words = flag(alloc, "ascii-words").help(
+        "Let the words of standard input end at bytes that aren't ASCII, as at the quotes that compilers put around symbols",
+    );
+    Command::new(alloc, "symfilt")
+        .version(VERSION)
+        .about("Prints C++ (Itanium ABI) and Rust (v0) symbols")
+        .after_help(EXAMPLES)
+        .arg(limit(alloc))?
+        .arg(stats)?
+        .arg(press)?
+        .arg(wide)?
+        .arg(legacy)?
+        .arg(brief)?
+        .arg(no_params)?
+        .arg(ascii_words)?
+        .arg(symbols(alloc))
+}
+
+/// An option that takes no value.
+fn flag<'a>(alloc: Global, name: &'a str) -> Arg<'a>
+    ensures rule { rule_of result ≡ flag name.entry.now }
+    ensures local { result.global ≡ false }
+{
+    Arg::new(alloc, name).long(name).action(ArgAction::SetTrue)
+}
+
+/// The option that gives the limit.
+fn limit<'a>(alloc: Global) -> Arg<'a>
+    ensures rule { rule_of result ≡ limit }
+    ensures local { result.global ≡ false }
+{
+    Arg::new(alloc, "limit")
+        .long("limit")
+        .value_name("N")
+        .value_parser(clap::value_parser!(u32))
+        .help(
+            "The greatest cost of a text, 0 to 4294967295 [default: 1000000]. A text costs its bytes, and 1 for each item that it is put together from",
+        )
+}
+
+/// The symbols.
+fn symbols<'a>(alloc: Global) -> Arg<'a>
+    ensures rule { rule_of result ≡ symbols }
+    ensures local { result.global ≡ false }
+{
+    Arg::new(alloc, "SYMBOL")
+        .num_args(0..)
+        .action(ArgAction::Append)
+        .help("Symbols; with none, standard input is filtered")
+}
+
+/// The detail that two flags ask for.
+fn detail_of(brief: bool, no_params: bool) -> Detail
+    ensures { result ≡ detail_by brief no_params }
+{
+    match (brief, no_params) {
+        (false, false) => Detail::Full,
+        (true, false) => Detail::Brief,
+        (false, true) => Detail::NoParameters,
+        (true, true) => Detail::BriefNoParameters,
+    }
+}
+
+/// The letters of words that a flag asks for.
+fn letters_of(ascii_words: bool) -> Letters
+    ensures { result ≡ letters_by ascii_words }
+{
+    if ascii_words {
+        return Letters::Ascii;
+    }
+    Letters::Any
+}
+
+/// What two flags ask of each symbol, which don't go together.
+fn asked_of(press: bool, wide: bool) -> Option<Asked>
+    ensures { result ≡ asked_by press wide }
+{
+    match (press, wide) {
+        (false, false) => Some(Asked::Text),
+        (false, true) => Some(Asked::WideText),
+        (true, false) => Some(Asked::Pressed),
+        (true, true) => None,
+    }
+}
+
+/// The limit that is asked for.
+fn limit_of(matches: &ArgMatches<'_>) -> u32
+    ensures { IsLimit (rows_of (found_of matches.now)) result }
+{
+    matches.get_one::<u32>("limit").unwrap_or(DEFAULT_LIMIT)
+}
+
+/// Whether a flag is given.
+fn has_flag(matches: &ArgMatches<'_>, name: &str) -> bool
+    ensures { IsFlag (rows_of (found_of matches.now)) name.now result }
+{
+    matches.get_flag(name)
+}
+
+/// The options of a command line, if they go together.
+pub(crate) fn options_of(matches: &ArgMatches<'_>) -> Option<Options>
+    ensures { AreOptions (rows_of (found_of matches.now)) result }
+{
+    let asked = asked_of(has_flag(matches, "press"), has_flag(matches, "wide"))?;
+    Some(Options {
+        limit: limit_of(matches),
+        detail: detail_of(has_flag(matches, "brief"), has_flag(matches, "no-params")),
+        letters: letters_of(has_flag(matches, "ascii-words")),
+        stats: has_flag(matches, "stats"),
+        asked,
+        legacy: has_flag(matches, "legacy"),
+    })
+}
+
+/// The symbols of a command line.
+pub(crate) fn symbols_of<'m, 'a>(matches: &'m ArgMatches<'a>) -> &'m [&'a str]
+    ensures { map (λ symbol. symbol.now) result.now ≡ symbols_of (rows_of (found_of matches.now)) }
+{
+    matches.get_strs("SYMBOL").unwrap_or_default()
+}
+
+/// How an input is filtered as options ask, if they don't need a symbol.
+pub(crate) fn filtering_of(options: Options) -> Option<Filtering>
+    ensures { result ≡ filtering_by options }
+{
+    let Options {
+        limit,
+        detail,
+        letters,
+        stats,
+        asked,
+        legacy,
+    } = options;
+    if stats {
+        return None;
+    }
+    let wide = match asked {
+        Asked::Text => false,
+        Asked::WideText => true,
+        Asked::Pressed => return None,
+    };
+    Some(Filtering {
+        limit,
+        detail,
+        letters,
+        wide,
+        legacy,
+    })
+}
