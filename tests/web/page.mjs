@@ -39,8 +39,6 @@ const byProgram = (words, input) => execFileSync(program, words, { input, maxBuf
 async function open(hash = "", how = {}) {
     await browser.open(server.address + hash, how);
     await until(() => browser.run(() => document.body?.dataset.ready), "the page is ready");
-    // The program is asked for no legacy Rust names, so neither is the page; on a phone the options are folded.
-    await browser.run(() => { if (document.querySelector("[name=legacy]").checked) document.querySelector("[name=legacy]").click(); });
 }
 
 async function downloaded(name) {
@@ -110,15 +108,14 @@ const steps = {
         await tick("letters");
     },
 
-    async "legacy Rust names, where the library knows them"() {
-        if (!(await said("#legacy")).length) return console.log("    this library doesn't");
+    async "legacy Rust names"() {
         wants(await browser.run(() => document.querySelector("[name=legacy]").defaultChecked), "they are read by default");
         await puts("_ZN3foo3bar17h0123456789abcdefE");
-        await shows(".said", ["foo::bar::h0123456789abcdef"]);
-        await shows(".card .language", ["C++"]);
-        await tick("legacy");
         await shows(".said", ["foo::bar"]);
         await shows(".card .language", ["Rust"]);
+        await tick("legacy");
+        await shows(".said", ["foo::bar::h0123456789abcdef"]);
+        await shows(".card .language", ["C++"]);
         await tick("legacy");
     },
 
@@ -159,7 +156,7 @@ const steps = {
         await until(async () => (await text("status")).startsWith("5 names demangled, 1 name refused"), "how many");
         await picture("log");
         const log = await browser.run(() => document.getElementById("input").value);
-        await shows("#text", [byProgram(["--wide"], log).toString()]);
+        await shows("#text", [byProgram(["--wide", "--legacy"], log).toString()]);
         await browser.run(() => document.querySelectorAll("#text a")[4].click());
         await shows(".card.shown strong", ["Malformed at offset 13."]);
         await puts(`${log}${log}`);
@@ -188,8 +185,7 @@ const steps = {
             stops.push(await browser.run(() => document.activeElement.id || document.activeElement.name || document.activeElement.textContent.trim()));
         }
         const wanted = ["Options", "brief", "noParameters", "wide", "legacy", "letters", "limit", "copy", "save", "text", "<demo::queue::Queue<usize>>::push"];
-        const hasLegacy = stops.includes("legacy");
-        wants(JSON.stringify(stops.slice(0, 10)) === JSON.stringify(wanted.filter((it) => hasLegacy || it !== "legacy").slice(0, 10)), "the order of tabs:", stops);
+        wants(JSON.stringify(stops.slice(0, 10)) === JSON.stringify(wanted.slice(0, 10)), "the order of tabs:", stops);
         await browser.run(() => document.querySelector("[name=brief]").focus());
         for (const first of ["<demo::queue::Queue>::push", "<demo::queue::Queue<usize>>::push"]) {
             await browser.press(" ", "Space", 32, " ");
@@ -221,7 +217,7 @@ const steps = {
         await puts(log);
         await until(async () => /^[\d,]{3,} names/.test(await text("status")), "it is read");
         await click("#save");
-        wants((await downloaded("demangled.txt")).equals(byProgram(["--wide", "--ascii-words"], log)), "not the program's text");
+        wants((await downloaded("demangled.txt")).equals(byProgram(["--wide", "--legacy", "--ascii-words"], log)), "not the program's text");
         await click("#more");
         await until(async () => (await said(".card")).length === 500, "more names are shown");
     },
@@ -238,7 +234,7 @@ const steps = {
         console.log(`    ${await text("job-status")}`);
         await picture("file");
         await click("#download");
-        const wanted = byProgram(["--wide", "--ascii-words"], given);
+        const wanted = byProgram(["--wide", "--legacy", "--ascii-words"], given);
         wants((await downloaded("given.demangled.log")).equals(wanted), "not the program's text");
         const [before, after] = [given, wanted].map((it) => it.toString().split("\n"));
         const demangled = before.filter((line, i) => line !== after[i]).length;
