@@ -111,12 +111,6 @@ unfolding cell_under
 split_there s held n (Node.Cell first rest) under below there = (below.0, (below.1, there))
 split_there s held n _ under below there = tt
 
-pub function_is : (s : List ℕ) (us : List Thunk) (ts : List Term) (given : Option Term) (node : Node) → is_again node ≡ false → is_function_type (reargued given (nodes.tree_of s us ts node)) ≡ function_node node
-unfolding is_function_type nodes.tree_of function_node reargued is_again
-function_is s us ts given (Node.Again t a) own = absurd (true≢false own)
-function_is s us ts given Node.Absent own = refl
-function_is s us ts given _ own = refl
-
 pub instance_is : (s : List ℕ) (us : List Thunk) (ts : List Term) (given : Option Term) (node : Node) → is_again node ≡ false → is_instance (reargued given (nodes.tree_of s us ts node)) ≡ instance_node node
 unfolding is_instance nodes.tree_of instance_node reargued is_again
 instance_is s us ts given (Node.Again t a) own = absurd (true≢false own)

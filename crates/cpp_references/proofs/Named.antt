@@ -1,20 +1,26 @@
 -- What a parameter names.
-use Rattle.std.proofs.Common.{◌≡◌, ◌∙◌, ap, ℕ, true, false, Option, Some, None, Result, Ok, Err}
-use Rattle.std.specs.Prelude.{nat_lt}
+use Rattle.std.proofs.Common.{◌≡◌, ◌∙◌, ap, subst, ℕ, List, true, false, Option, Some, None, Result, Ok, Err}
+use Rattle.std.specs.Prelude.{nat_lt, IfSome}
 use Rattle.sym_core.specs.declared.refusal.Refusal.{Refusal}
 use Rattle.sym_core.specs.declared.refusal.Refusal.TheVariants.{BadReference}
 use Rattle.sym_link.specs.Reading.{◌>>=◌}
 use Rattle.sym_core.specs.declared.refusal.Refusal.TheVariants as refusals
 use Rattle.sym_link.specs.Driving.{Fails}
 use Rattle.cpp_term.specs.Term.{Term, parameter, absent}
-use Rattle.cpp_term.specs.Scope.{count, element, length_if_pack}
+use Rattle.cpp_term.specs.Scope.{is_open, count, element, length_if_pack}
 use Rattle.cpp_term.specs.Values.{Around, State}
 use Rattle.cpp_term.specs.References.{appended, with_packs, parameter_named}
 use Rattle.cpp_term.specs.Between.{argument_at}
+use Rattle.cpp_tree.specs.Nodes.{tree_at, tree_if_there}
 
 pub fails_is : {A : Type 0} (e : Refusal) (r : Result A Refusal) → r ≡ Err e → Fails e r
 fails_is refusals.Memory r is = tt
 fails_is _ r is = is
+
+-- no parameter is free in the arguments of the scope
+pub scope_closed : (ts : List Term) (o : Option ℕ) (a : ℕ) → o ≡ Some a → IfSome (tree_if_there ts o) (λ x. is_open x ≡ false) → is_open (tree_at ts a) ≡ false
+unfolding tree_if_there
+scope_closed ts o a is closed = subst (λ x. IfSome (tree_if_there ts x) (λ y. is_open y ≡ false)) is closed
 
 module _ (around : Around) (place k : ℕ) (state : State) where
   abbrev named_in : Term → Result State Refusal
