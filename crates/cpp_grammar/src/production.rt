@@ -127,6 +127,7 @@ pub enum Production {
     DeclaredArgument,
     ParameterArgument,
     OneLiteral,
+    OnePack,
     AnyType,
     ValueOf,
     OfConcept,

@@ -277,7 +277,7 @@ static LETTERS: [[u8; 87]; 92] = [
     *b"                                     t                                                 ", // ArgumentsAlone
     *b"            EEEEEEEEEE         EE    D  E        E           E EEE E E  EEEEE EE       ", // NestRestAlone
     *b"                                         !                                             ", // HolderMark
-    *b"            $$$$$$$$$$         GH       \"        #           \xae \xad\xae\xae \xae \xae  \xae\xae\xae\xae\xae \xae\xae       ", // HeldComponent
+    *b"            $$$$$$$$$$         GH       \"        #           \xaf \xae\xaf\xaf \xaf \xaf  \xaf\xaf\xaf\xaf\xaf \xaf\xaf       ", // HeldComponent
     *b"                                                           !  !                     !  ", // FloatEnd
     *b"                                                                        \x93\x93 \x93      \x92    ", // ComponentAfterC
     *b"                                                             \x85  \x84\x8b \x8f \x8e  \x8c\x88\x83\x8a\x86 \x89\x8d       ", // OtherOperator
@@ -285,20 +285,20 @@ static LETTERS: [[u8; 87]; 92] = [
     *b"            $$$$$$$$$$                  \" )      #                                     ", // PlainEntity
     *b"            $$$$$$$$$$                  \" K      #                                     ", // PlainTypeEntity
     *b"                                   !                                                   ", // SpecialMark
-    *b"                                                \x94 \xa9                                    ", // SpecialAfterG
+    *b"                                                \x94 \xaa                                    ", // SpecialAfterG
     *b"                                                                          !     !      ", // CloneLetter
     *b"                                                                                \x95      ", // TypeInStd
     *b"                              \x96                                                        ", // MaybeTags
     *b"            \x99\x99\x99\x99\x99\x99\x99\x99\x99\x99       \x99 \x99Z \x99    T \x99\x99U\x99 U\x99\x98\x99S \x97 \x99      \x99\x99\x99\x99\x99\x99\x99\x99\x99\x99 \x99\x99\x99\x99  R\x99\x99\x99\x99\x99\x99\x99\x99", // Argument
     *b"            \x9b\x9b\x9b\x9b\x9b\x9b\x9b\x9b\x9b\x9b                                     \x9b           \x9a  \x9a \x9a   \x9a    \x9a ", // ArgumentAfterT
-    *b"            \x99\x99\x99\x99\x99\x99\x99\x99\x99\x99       \x99 \x99Z \x99    T\x9c\x99\x99U\x99 U\x99\x98\x99S \x97 \x99      \x99\x99\x99\x99\x99\x99\x99\x99\x99\x99 \x99\x99\x99\x99  R\x99\x99\x99\x99\x99\x99\x99\x99", // OneArgument
-    *b"                                                                       \x9f  \x9e \xa1   \xa0    \x9d ", // DeclarationAfterT
-    *b"                                                \xa2                                      ", // Declarations
+    *b"            \x99\x99\x99\x99\x99\x99\x99\x99\x99\x99       \x99 \x99Z \x99   \x9dT\x9c\x99\x99U\x99 U\x99\x98\x99S \x97 \x99      \x99\x99\x99\x99\x99\x99\x99\x99\x99\x99 \x99\x99\x99\x99  R\x99\x99\x99\x99\x99\x99\x99\x99", // OneArgument
+    *b"                                                                       \xa0  \x9f \xa2   \xa1    \x9e ", // DeclarationAfterT
+    *b"                                                \xa3                                      ", // Declarations
     *b"            $$$$$$$$$$                    K    c                                       ", // Concept
-    *b"            $$$$$$$$$$       \xb3 i  h      aK `  c #    d      eeeeeeeeee eeee   eefeeeee", // SolidButT
-    *b"                                                \xa4            \xa3                         ", // ExpressionRest
-    *b"                             \xa5                                                         ", // AnyArray
-    *b"            \xa7\xa7\xa7\xa7\xa7\xa7\xa7\xa7\xa7\xa7                          \xa6          \xa7                           ", // ArrayRest
+    *b"            $$$$$$$$$$       \xb4 i  h      aK `  c #    d      eeeeeeeeee eeee   eefeeeee", // SolidButT
+    *b"                                                \xa5            \xa4                         ", // ExpressionRest
+    *b"                             \xa6                                                         ", // AnyArray
+    *b"            \xa8\xa8\xa8\xa8\xa8\xa8\xa8\xa8\xa8\xa8                          \xa7          \xa8                           ", // ArrayRest
 ];
 
 /// A rule without its number and its symbols.
@@ -328,7 +328,7 @@ macro_rules! chains {
 }
 
 // The rules of the productions, in the order of their numbers.
-pub static HEADS: [Head; 151] = [
+pub static HEADS: [Head; 152] = [
     takes!(0), // ! Mark
     takes!(2), // \" InternalName
     takes!(2), // # LocalTypeName
@@ -453,37 +453,38 @@ pub static HEADS: [Head; 151] = [
     chains!(2), // \x9a DeclaredArgument
     chains!(2), // \x9b ParameterArgument
     takes!(2), // \x9c OneLiteral
-    takes!(0), // \x9d AnyType
-    takes!(1), // \x9e ValueOf
-    takes!(1), // \x9f OfConcept
-    takes!(2), // \xa0 TemplateOf
-    takes!(2), // \xa1 PackOf
-    takes!(2), // \xa2 Declarations
-    takes!(2), // \xa3 AddressExpression
-    takes!(2), // \xa4 ParameterExpression
-    takes!(1), // \xa5 AnyArray
-    takes!(3), // \xa6 BoundedArray
-    chains!(2), // \xa7 LengthArray
-    chains!(2), // \xa8 OtherSpecial
-    takes!(1), // \xa9 SpecialName
-    takes!(4), // \xaa ConstructionVtable
-    chains!(2), // \xab NestTemplate
-    takes!(2), // \xac NestTag
-    takes!(1), // \xad ComponentWithC
-    chains!(2), // \xae OtherOperatorName
-    chains!(2), // \xaf Holder
-    takes!(2), // \xb0 DefaultEntity
-    takes!(2), // \xb1 DefaultTypeEntity
-    takes!(2), // \xb2 SizedFloat
-    chains!(1), // \xb3 ArrayType
-    chains!(1), // \xb4 TypeInStd
-    takes!(2), // \xb5 Tag
-    chains!(2), // \xb6 AnyElement
-    chains!(2), // \xb7 AnyArgument
+    takes!(2), // \x9d OnePack
+    takes!(0), // \x9e AnyType
+    takes!(1), // \x9f ValueOf
+    takes!(1), // \xa0 OfConcept
+    takes!(2), // \xa1 TemplateOf
+    takes!(2), // \xa2 PackOf
+    takes!(2), // \xa3 Declarations
+    takes!(2), // \xa4 AddressExpression
+    takes!(2), // \xa5 ParameterExpression
+    takes!(1), // \xa6 AnyArray
+    takes!(3), // \xa7 BoundedArray
+    chains!(2), // \xa8 LengthArray
+    chains!(2), // \xa9 OtherSpecial
+    takes!(1), // \xaa SpecialName
+    takes!(4), // \xab ConstructionVtable
+    chains!(2), // \xac NestTemplate
+    takes!(2), // \xad NestTag
+    takes!(1), // \xae ComponentWithC
+    chains!(2), // \xaf OtherOperatorName
+    chains!(2), // \xb0 Holder
+    takes!(2), // \xb1 DefaultEntity
+    takes!(2), // \xb2 DefaultTypeEntity
+    takes!(2), // \xb3 SizedFloat
+    chains!(1), // \xb4 ArrayType
+    chains!(1), // \xb5 TypeInStd
+    takes!(2), // \xb6 Tag
+    chains!(2), // \xb7 AnyElement
+    chains!(2), // \xb8 AnyArgument
 ];
 
 // The symbols of the rules, in the same order.
-pub static SYMBOLS: [Sym; 912] = symbols_listed! {
+pub static SYMBOLS: [Sym; 918] = symbols_listed! {
     [NONE, NONE, NONE, NONE, NONE], // ! Mark
     [NAME, MAYBE_ARGUMENTS, NONE, NONE, NONE], // \" InternalName
     [ANONYMOUS, MAYBE_ARGUMENTS, NONE, NONE, NONE], // # LocalTypeName
@@ -608,40 +609,41 @@ pub static SYMBOLS: [Sym; 912] = symbols_listed! {
     [DECLARATION_AFTER_T, ONE_ARGUMENT, NONE, NONE, NONE], // \x9a DeclaredArgument
     [DECIMAL, ARGUMENTS_ALONE, NONE, NONE, NONE], // \x9b ParameterArgument
     [LITERAL, Sym::Byte(b'E'), NONE, NONE, NONE], // \x9c OneLiteral
-    [NONE, NONE, NONE, NONE, NONE], // \x9d AnyType
-    [TYPE, NONE, NONE, NONE, NONE], // \x9e ValueOf
-    [CONCEPT, NONE, NONE, NONE, NONE], // \x9f OfConcept
-    [DECLARATIONS, Sym::Byte(b'E'), NONE, NONE, NONE], // \xa0 TemplateOf
-    [Sym::Byte(b'T'), DECLARATION_AFTER_T, NONE, NONE, NONE], // \xa1 PackOf
-    [DECLARATION_AFTER_T, DECLARATIONS, NONE, NONE, NONE], // \xa2 Declarations
-    [Sym::Byte(b'd'), ADDRESS, NONE, NONE, NONE], // \xa3 AddressExpression
-    [DECIMAL, Sym::Byte(b'E'), NONE, NONE, NONE], // \xa4 ParameterExpression
-    [ARRAY_REST, NONE, NONE, NONE, NONE], // \xa5 AnyArray
-    [DECIMAL, Sym::Byte(b'_'), TYPE, NONE, NONE], // \xa6 BoundedArray
-    [DECIMAL, TYPE, NONE, NONE, NONE], // \xa7 LengthArray
-    [SPECIAL_MARK, SPECIAL_AFTER_G, NONE, NONE, NONE], // \xa8 OtherSpecial
-    [COMPLETE_NAME, NONE, NONE, NONE, NONE], // \xa9 SpecialName
-    [TYPE, DIGITS, Sym::Byte(b'_'), TYPE, NONE], // \xaa ConstructionVtable
-    [ABBREVIATION, NEST_REST_OR_END, NONE, NONE, NONE], // \xab NestTemplate
-    [NAME, NEST_REST, NONE, NONE, NONE], // \xac NestTag
-    [COMPONENT_AFTER_C, NONE, NONE, NONE, NONE], // \xad ComponentWithC
-    [OTHER_OPERATOR, MAYBE_ARGUMENTS, NONE, NONE, NONE], // \xae OtherOperatorName
-    [HOLDER_MARK, HELD_COMPONENT, NONE, NONE, NONE], // \xaf Holder
-    [DECIMAL, PLAIN_ENTITY, NONE, NONE, NONE], // \xb0 DefaultEntity
-    [DECIMAL, PLAIN_TYPE_ENTITY, NONE, NONE, NONE], // \xb1 DefaultTypeEntity
-    [DIGITS, FLOAT_END, NONE, NONE, NONE], // \xb2 SizedFloat
-    [ANY_ARRAY, NONE, NONE, NONE, NONE], // \xb3 ArrayType
-    [TYPE_IN_STD, NONE, NONE, NONE, NONE], // \xb4 TypeInStd
-    [NAME, MAYBE_ARGUMENTS, NONE, NONE, NONE], // \xb5 Tag
-    [ARGUMENT, PACK_LIST, NONE, NONE, NONE], // \xb6 AnyElement
-    [ARGUMENT, ARGUMENT_LIST, NONE, NONE, NONE], // \xb7 AnyArgument
+    [PACK_LIST, Sym::Byte(b'E'), NONE, NONE, NONE], // \x9d OnePack
+    [NONE, NONE, NONE, NONE, NONE], // \x9e AnyType
+    [TYPE, NONE, NONE, NONE, NONE], // \x9f ValueOf
+    [CONCEPT, NONE, NONE, NONE, NONE], // \xa0 OfConcept
+    [DECLARATIONS, Sym::Byte(b'E'), NONE, NONE, NONE], // \xa1 TemplateOf
+    [Sym::Byte(b'T'), DECLARATION_AFTER_T, NONE, NONE, NONE], // \xa2 PackOf
+    [DECLARATION_AFTER_T, DECLARATIONS, NONE, NONE, NONE], // \xa3 Declarations
+    [Sym::Byte(b'd'), ADDRESS, NONE, NONE, NONE], // \xa4 AddressExpression
+    [DECIMAL, Sym::Byte(b'E'), NONE, NONE, NONE], // \xa5 ParameterExpression
+    [ARRAY_REST, NONE, NONE, NONE, NONE], // \xa6 AnyArray
+    [DECIMAL, Sym::Byte(b'_'), TYPE, NONE, NONE], // \xa7 BoundedArray
+    [DECIMAL, TYPE, NONE, NONE, NONE], // \xa8 LengthArray
+    [SPECIAL_MARK, SPECIAL_AFTER_G, NONE, NONE, NONE], // \xa9 OtherSpecial
+    [COMPLETE_NAME, NONE, NONE, NONE, NONE], // \xaa SpecialName
+    [TYPE, DIGITS, Sym::Byte(b'_'), TYPE, NONE], // \xab ConstructionVtable
+    [ABBREVIATION, NEST_REST_OR_END, NONE, NONE, NONE], // \xac NestTemplate
+    [NAME, NEST_REST, NONE, NONE, NONE], // \xad NestTag
+    [COMPONENT_AFTER_C, NONE, NONE, NONE, NONE], // \xae ComponentWithC
+    [OTHER_OPERATOR, MAYBE_ARGUMENTS, NONE, NONE, NONE], // \xaf OtherOperatorName
+    [HOLDER_MARK, HELD_COMPONENT, NONE, NONE, NONE], // \xb0 Holder
+    [DECIMAL, PLAIN_ENTITY, NONE, NONE, NONE], // \xb1 DefaultEntity
+    [DECIMAL, PLAIN_TYPE_ENTITY, NONE, NONE, NONE], // \xb2 DefaultTypeEntity
+    [DIGITS, FLOAT_END, NONE, NONE, NONE], // \xb3 SizedFloat
+    [ANY_ARRAY, NONE, NONE, NONE, NONE], // \xb4 ArrayType
+    [TYPE_IN_STD, NONE, NONE, NONE, NONE], // \xb5 TypeInStd
+    [NAME, MAYBE_ARGUMENTS, NONE, NONE, NONE], // \xb6 Tag
+    [ARGUMENT, PACK_LIST, NONE, NONE, NONE], // \xb7 AnyElement
+    [ARGUMENT, ARGUMENT_LIST, NONE, NONE, NONE], // \xb8 AnyArgument
 };
 
 /// The number of the rule that a kind takes at a byte, if it takes one.
 #[inline]
 fn number(kind: u16, byte: u8) -> Option<usize>
     requires { kind < abi.kinds }
-    ensures few { IfSome result (λ number. number < 151) }
+    ensures few { IfSome result (λ number. number < 152) }
     ensures rule { (head : Head) → MatchOption result (abi.rule kind byte ≡ None) (λ number. abi.rule kind byte ≡ Some (listed_rule head number)) }
 {
     match letter_in(&LETTERS[kind as usize], byte) {

@@ -14,8 +14,8 @@ static WIDE_LETTERS: [[u8; 87]; 92] = [
     *b"          +                                                                            ", // MaybeSuffix
     *b",         , ,,,,,,,,,,       ,,,,,,,,,,,,,,,,,,,,,,,,,,    , ,,,,,,,,,,,,,,,,,,,,,,,,,,", // SuffixFirst
     *b",         , ,,,,,,,,,,       ,,,,,,,,,,,,,,,,,,,,,,,,,,    , ,,,,,,,,,,,,,,,,,,,,,,,,,,", // SuffixMore
-    *b"            //////////             \xa8    / /    /-/    /      / /// / /  ///// //       ", // Encoding
-    *b"                               \xaa    \xa90         00 0\xa9           3    1             2    ", // Special
+    *b"            //////////             \xa9    / /    /-/    /      / /// / /  ///// //       ", // Encoding
+    *b"                               \xab    \xaa0         00 0\xaa           3    1             2    ", // Special
     *b"                                                                    4             5    ", // CallOffset
     *b"            7777777777                                                    6            ", // Integer
     *b"            $$$$$$$$$$                  \" )    8 #    9      % %%% % %  %%%%% %%       ", // CompleteName
@@ -26,15 +26,15 @@ static WIDE_LETTERS: [[u8; 87]; 92] = [
     *b"            ;;;;;;;;;;       ;;;;;;;;;;;;;;;;;;;;;;;;;;    ; ;; ;    ;     ;   ;:      ", // NameAfterS
     *b"            ((((((((((                  &        '           < <<< < <  <<<<< <<       ", // Unqualified
     *b"            AAAAAAAAAA                  ?      =>@                                     ", // Nest
-    *b"            \xab\xab\xab\xab\xab\xab\xab\xab\xab\xab       \xab\xab\xab\xab\xab\xab\xab\xab\xab\xab\xab\xab\xab\xab\xab\xab\xab\xab\xab\xab\xab\xab\xab\xab\xab\xab    \xab \xab\xab \xab    \xab     \xab   \xabB      ", // NestAfterS
-    *b"            EEEEEEEEEE        \xacEE    D  EE       E           E EEE E E  EEEEE EE       ", // NestRest
+    *b"            \xac\xac\xac\xac\xac\xac\xac\xac\xac\xac       \xac\xac\xac\xac\xac\xac\xac\xac\xac\xac\xac\xac\xac\xac\xac\xac\xac\xac\xac\xac\xac\xac\xac\xac\xac\xac    \xac \xac\xac \xac    \xac     \xac   \xacB      ", // NestAfterS
+    *b"            EEEEEEEEEE        \xadEE    D  EE       E           E EEE E E  EEEEE EE       ", // NestRest
     *b"            EEEEEEEEEE         EEF      EE       E           E EEE E E  EEEEE EE       ", // NestTail
-    *b"            $$$$$$$$$$         GH       \"\xaf       #           \xae \xad\xae\xae \xae \xae  \xae\xae\xae\xae\xae \xae\xae       ", // Component
+    *b"            $$$$$$$$$$         GH       \"\xb0       #           \xaf \xae\xaf\xaf \xaf \xaf  \xaf\xaf\xaf\xaf\xaf \xaf\xaf       ", // Component
     *b"             !!!!!                                                                     ", // ConstructorDigit
     *b"            !!! !!                                                                     ", // DestructorDigit
     *b"            JJJJJJJJJJ       JJJJJJJJJJJJJJJJJJJJJJJJJJ    J II I    I     I   I       ", // Abbreviation
-    *b"            $$$$$$$$$$                  \" )      #              \xb0              L       ", // Entity
-    *b"            $$$$$$$$$$                  \" K      #              \xb1                      ", // TypeEntity
+    *b"            $$$$$$$$$$                  \" )      #              \xb1              L       ", // Entity
+    *b"            $$$$$$$$$$                  \" K      #              \xb2                      ", // TypeEntity
     *b"                                                           M                           ", // MaybeDiscriminator
     *b"            NNNNNNNNNN                                     O                           ", // DiscriminatorRest
     *b"                                                                        P       Q      ", // Anonymous
@@ -43,19 +43,19 @@ static WIDE_LETTERS: [[u8; 87]; 92] = [
     *b"            VVVVVVVVVV       V VZ V    T VVUV UVVVS   V      VVVVVVVVVV VVVV  RVVVVVVVV", // Item
     *b"            VVVVVVVVVV       V VZ V    T VV V  VVVS   V      VVVVVVVVVV VVVV  RVVVVVVVV", // ItemButRef
     *b"                                  \\                          \\ \\\\\\\\ \\\\    \\\\[  \\ \\\\    ", // ItemAfterD
-    *b"                                  \xb2                          ] ]]]] ]]    ]_   ] ]^    ", // AfterD
-    *b"            $$$$$$$$$$       \xb3 i  h      aK `  cb#    d      eeeeeeeeee eeee   eefeeeee", // Solid
+    *b"                                  \xb3                          ] ]]]] ]]    ]_   ] ]^    ", // AfterD
+    *b"            $$$$$$$$$$       \xb4 i  h      aK `  cb#    d      eeeeeeeeee eeee   eefeeeee", // Solid
     *b"                                                     !                                 ", // MaybeCLinkage
-    *b"            kkkkkkkkkk       kkkkkkkkkkkkkkkkkkkkkkkkkk    k kk k    k     k   k\xb4      ", // TypeAfterS
+    *b"            kkkkkkkkkk       kkkkkkkkkkkkkkkkkkkkkkkkkk    k kk k    k     k   k\xb5      ", // TypeAfterS
     *b"            ((((((((((                  &        '                                     ", // SourceOrLocal
     *b"            oooooooooo       o oolo    o oono moooo   o      oooooooooo oooo  ooooooooo", // FunctionRest
     *b"            qqqqqqqqqq       q qqpq    q qqqq qqqqq   q      qqqqqqqqqq qqqq  qqqqqqqqq", // AfterR
     *b"            rrrrrrrrrr       r rrpr    r rrrr rrrrr   r      rrrrrrrrrr rrrr  rrrrrrrrr", // AfterO
     *b"            ssssssssss       s ss s    s ssss sssss   s      ssssssssss ssss  sssssssss", // Items
-    *b"                              \xb5      t                                                 ", // MaybeArguments
+    *b"                              \xb6      t                                                 ", // MaybeArguments
     *b"                                     t                                                 ", // Arguments
-    *b"            \xb7\xb7\xb7\xb7\xb7\xb7\xb7\xb7\xb7\xb7       \xb7 \xb7\xb7 \xb7   u\xb7v\xb7\xb7\xb7\xb7 \xb7\xb7\xb7\xb7\xb7 \xb7 \xb7      \xb7\xb7\xb7\xb7\xb7\xb7\xb7\xb7\xb7\xb7 \xb7\xb7\xb7\xb7  \xb7\xb7\xb7\xb7\xb7\xb7\xb7\xb7\xb7", // ArgumentList
-    *b"            \xb6\xb6\xb6\xb6\xb6\xb6\xb6\xb6\xb6\xb6       \xb6 \xb6\xb6 \xb6    \xb6y\xb6\xb6\xb6\xb6 \xb6\xb6\xb6\xb6\xb6 \xb6 \xb6      \xb6\xb6\xb6\xb6\xb6\xb6\xb6\xb6\xb6\xb6 \xb6\xb6\xb6\xb6  \xb6\xb6\xb6\xb6\xb6\xb6\xb6\xb6\xb6", // PackList
+    *b"            \xb8\xb8\xb8\xb8\xb8\xb8\xb8\xb8\xb8\xb8       \xb8 \xb8\xb8 \xb8   u\xb8v\xb8\xb8\xb8\xb8 \xb8\xb8\xb8\xb8\xb8 \xb8 \xb8      \xb8\xb8\xb8\xb8\xb8\xb8\xb8\xb8\xb8\xb8 \xb8\xb8\xb8\xb8  \xb8\xb8\xb8\xb8\xb8\xb8\xb8\xb8\xb8", // ArgumentList
+    *b"            \xb7\xb7\xb7\xb7\xb7\xb7\xb7\xb7\xb7\xb7       \xb7 \xb7\xb7 \xb7    \xb7y\xb7\xb7\xb7\xb7 \xb7\xb7\xb7\xb7\xb7 \xb7 \xb7      \xb7\xb7\xb7\xb7\xb7\xb7\xb7\xb7\xb7\xb7 \xb7\xb7\xb7\xb7  \xb7\xb7\xb7\xb7\xb7\xb7\xb7\xb7\xb7", // PackList
     *b"                                        |                                              ", // Address
     *b"            \x80\x80\x80\x80\x80\x80\x80\x80\x80\x80          \x7f        \x80\x80 \x80  \x80\x80\x80    \x80    } \x80~\x80    \x80\x80\x80 \x80\x80\x80\x80   \x80\x80  \x80\x80\x80 ", // Literal
     *b"            !!                                                                         ", // Bit
@@ -80,35 +80,35 @@ static WIDE_LETTERS: [[u8; 87]; 92] = [
     *b"                                     t                                                 ", // ArgumentsAlone
     *b"            EEEEEEEEEE         EE    D  EE       E           E EEE E E  EEEEE EE       ", // NestRestAlone
     *b"                                         !                                             ", // HolderMark
-    *b"            $$$$$$$$$$         GH       \"        #           \xae \xad\xae\xae \xae \xae  \xae\xae\xae\xae\xae \xae\xae       ", // HeldComponent
+    *b"            $$$$$$$$$$         GH       \"        #           \xaf \xae\xaf\xaf \xaf \xaf  \xaf\xaf\xaf\xaf\xaf \xaf\xaf       ", // HeldComponent
     *b"                                                           !  !                     !  ", // FloatEnd
     *b"                                                                        \x93\x93 \x93      \x92    ", // ComponentAfterC
     *b"                                                             \x85  \x84\x8b \x8f \x8e  \x8c\x88\x83\x8a\x86 \x89\x8d       ", // OtherOperator
-    *b"            \xb7\xb7\xb7\xb7\xb7\xb7\xb7\xb7\xb7\xb7       \xb7 \xb7\xb7 \xb7  uu\xb7v\xb7\xb7\xb7\xb7 \xb7\xb7\xb7\xb7\xb7 \xb7 \xb7      \xb7\xb7\xb7\xb7\xb7\xb7\xb7\xb7\xb7\xb7 \xb7\xb7\xb7\xb7  \xb7\xb7\xb7\xb7\xb7\xb7\xb7\xb7\xb7", // ArgumentsFirst
+    *b"            \xb8\xb8\xb8\xb8\xb8\xb8\xb8\xb8\xb8\xb8       \xb8 \xb8\xb8 \xb8  uu\xb8v\xb8\xb8\xb8\xb8 \xb8\xb8\xb8\xb8\xb8 \xb8 \xb8      \xb8\xb8\xb8\xb8\xb8\xb8\xb8\xb8\xb8\xb8 \xb8\xb8\xb8\xb8  \xb8\xb8\xb8\xb8\xb8\xb8\xb8\xb8\xb8", // ArgumentsFirst
     *b"            $$$$$$$$$$                  \" )      #                                     ", // PlainEntity
     *b"            $$$$$$$$$$                  \" K      #                                     ", // PlainTypeEntity
     *b"                                   !                                                   ", // SpecialMark
-    *b"                                                \x94 \xa9                                    ", // SpecialAfterG
+    *b"                                                \x94 \xaa                                    ", // SpecialAfterG
     *b"                                                                          !     !      ", // CloneLetter
     *b"                                                                                \x95      ", // TypeInStd
     *b"                              \x96                                                        ", // MaybeTags
     *b"            \x99\x99\x99\x99\x99\x99\x99\x99\x99\x99       \x99 \x99Z \x99    T \x99\x99U\x99 U\x99\x98\x99S \x97 \x99      \x99\x99\x99\x99\x99\x99\x99\x99\x99\x99 \x99\x99\x99\x99  R\x99\x99\x99\x99\x99\x99\x99\x99", // Argument
     *b"            \x9b\x9b\x9b\x9b\x9b\x9b\x9b\x9b\x9b\x9b                                     \x9b           \x9a  \x9a \x9a   \x9a    \x9a ", // ArgumentAfterT
-    *b"            \x99\x99\x99\x99\x99\x99\x99\x99\x99\x99       \x99 \x99Z \x99    T\x9c\x99\x99U\x99 U\x99\x98\x99S \x97 \x99      \x99\x99\x99\x99\x99\x99\x99\x99\x99\x99 \x99\x99\x99\x99  R\x99\x99\x99\x99\x99\x99\x99\x99", // OneArgument
-    *b"                                                                       \x9f  \x9e \xa1   \xa0    \x9d ", // DeclarationAfterT
-    *b"                                                \xa2                                      ", // Declarations
+    *b"            \x99\x99\x99\x99\x99\x99\x99\x99\x99\x99       \x99 \x99Z \x99   \x9dT\x9c\x99\x99U\x99 U\x99\x98\x99S \x97 \x99      \x99\x99\x99\x99\x99\x99\x99\x99\x99\x99 \x99\x99\x99\x99  R\x99\x99\x99\x99\x99\x99\x99\x99", // OneArgument
+    *b"                                                                       \xa0  \x9f \xa2   \xa1    \x9e ", // DeclarationAfterT
+    *b"                                                \xa3                                      ", // Declarations
     *b"            $$$$$$$$$$                    K    c                                       ", // Concept
-    *b"            $$$$$$$$$$       \xb3 i  h      aK `  c #    d      eeeeeeeeee eeee   eefeeeee", // SolidButT
-    *b"                                                \xa4            \xa3                         ", // ExpressionRest
-    *b"                             \xa5                                                         ", // AnyArray
-    *b"            \xa7\xa7\xa7\xa7\xa7\xa7\xa7\xa7\xa7\xa7                          \xa6          \xa7                           ", // ArrayRest
+    *b"            $$$$$$$$$$       \xb4 i  h      aK `  c #    d      eeeeeeeeee eeee   eefeeeee", // SolidButT
+    *b"                                                \xa5            \xa4                         ", // ExpressionRest
+    *b"                             \xa6                                                         ", // AnyArray
+    *b"            \xa8\xa8\xa8\xa8\xa8\xa8\xa8\xa8\xa8\xa8                          \xa7          \xa8                           ", // ArrayRest
 ];
 
 /// The number of the rule that a kind takes at a byte, if it takes one.
 #[inline]
 fn number(kind: u16, byte: u8) -> Option<usize>
     requires { kind < wide.kinds }
-    ensures few { IfSome result (λ number. number < 151) }
+    ensures few { IfSome result (λ number. number < 152) }
     ensures rule { (head : Head) → MatchOption result (wide.rule kind byte ≡ None) (λ number. wide.rule kind byte ≡ Some (listed_rule head number)) }
 {
     match letter_in(&WIDE_LETTERS[kind as usize], byte) {

@@ -3,7 +3,7 @@
 use cpp_grammar::production::Production;
 
 /// The productions.
-pub(crate) const PRODUCTIONS: [Production; 151] = [
+pub(crate) const PRODUCTIONS: [Production; 152] = [
     Production::Mark,
     Production::InternalName,
     Production::LocalTypeName,
@@ -128,6 +128,7 @@ pub(crate) const PRODUCTIONS: [Production; 151] = [
     Production::DeclaredArgument,
     Production::ParameterArgument,
     Production::OneLiteral,
+    Production::OnePack,
     Production::AnyType,
     Production::ValueOf,
     Production::OfConcept,
@@ -158,7 +159,7 @@ pub(crate) const PRODUCTIONS: [Production; 151] = [
 ];
 
 /// How many parts each has.
-pub(crate) const PART_COUNTS: [u8; 151] = [
+pub(crate) const PART_COUNTS: [u8; 152] = [
     0, // Mark
     2, // InternalName
     2, // LocalTypeName
@@ -283,6 +284,7 @@ pub(crate) const PART_COUNTS: [u8; 151] = [
     2, // DeclaredArgument
     2, // ParameterArgument
     2, // OneLiteral
+    2, // OnePack
     0, // AnyType
     1, // ValueOf
     1, // OfConcept
@@ -313,7 +315,7 @@ pub(crate) const PART_COUNTS: [u8; 151] = [
 ];
 
 /// Whether parts without a row may stand between those of each.
-pub(crate) const SKIPS_PARTS: [bool; 151] = [
+pub(crate) const SKIPS_PARTS: [bool; 152] = [
     false, // Mark
     false, // InternalName
     false, // LocalTypeName
@@ -438,6 +440,7 @@ pub(crate) const SKIPS_PARTS: [bool; 151] = [
     false, // DeclaredArgument
     false, // ParameterArgument
     false, // OneLiteral
+    false, // OnePack
     false, // AnyType
     false, // ValueOf
     false, // OfConcept
@@ -468,7 +471,7 @@ pub(crate) const SKIPS_PARTS: [bool; 151] = [
 ];
 
 /// Before how many of its parts nothing is done in each: before none, the first, or all, which are five at most.
-pub(crate) const QUIET_PARTS: [u8; 151] = [
+pub(crate) const QUIET_PARTS: [u8; 152] = [
     5, // Mark
     1, // InternalName
     1, // LocalTypeName
@@ -593,6 +596,7 @@ pub(crate) const QUIET_PARTS: [u8; 151] = [
     5, // DeclaredArgument
     1, // ParameterArgument
     5, // OneLiteral
+    5, // OnePack
     5, // AnyType
     0, // ValueOf
     0, // OfConcept
