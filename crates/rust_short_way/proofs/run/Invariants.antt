@@ -1,7 +1,7 @@
 -- The writer has come to the step that is next, and has taken no more than it may.
 use Rattle.std.specs.Prelude.{◌≤◌, ◌-◌, ◌*◌, length}
 use Rattle.rust_direct.specs.Stands.{IsWriting}
-use Rattle.rust_v0.proofs.short_way.run.Given as goal
+use Rattle.rust_short_way.proofs.run.Given as goal
 
 abbrev pub invariant-steps : goal.invariant-steps
 invariant-steps l = IsWriting l.s l.direct l.step × (l.rounds ≤ 8 * length l.s)

@@ -1,4 +1,5 @@
-// The text of a symbol, written while its bytes are read.
+//! The text of a Rust symbol, written while its bytes are read: the steps of `rust_direct`, and the bounds within which they are taken.
+#![tactic(auto)]
 
 ghost use Rattle.std.specs.Prelude.{◌≡◌, ◌≤◌, ◌+◌, ◌*◌, length, true, Ok};
 ghost use Rattle.sym_core.specs.Number.{FitsSymbol};

@@ -1,5 +1,5 @@
 use Rattle.std.proofs.Common.{arith}
-use Rattle.rust_v0.proofs.short_way.write.Goals as goal
+use Rattle.rust_short_way.proofs.write.Goals as goal
 
 pub returns-then-is_written-clause-answer : goal.returns-then-is_written-clause-answer
 returns-then-is_written-clause-answer c _ = c.run-is_written.ensures.answer c.if-is_written.true

@@ -1,7 +1,7 @@
 use Rattle.std.proofs.Common.{ap, length, subst, arith}
 use Rattle.rust_direct.specs.Stands.{IsBefore}
 use Rattle.rust_direct.proofs.SymbolsRead.{whole-answer}
-use Rattle.rust_v0.proofs.short_way.run.Goals as goal
+use Rattle.rust_short_way.proofs.run.Goals as goal
 
 pub steps-init : goal.steps-init
 steps-init c = (c.in-Some.ensures, omega arith)
