@@ -9,7 +9,6 @@ use Rattle.cpp_term.specs.Term as term
 use Rattle.cpp_term.specs.Term.{Term, absent}
 use Rattle.cpp_term.specs.Scope.{has_return_type, is_structor}
 use Rattle.cpp_term.specs.Meaning.{is_void, is_nil, parameters, encoding_of}
-use Rattle.cpp_term.specs.References.{is_function_type}
 use Rattle.cpp_term.specs.Rescoping.{is_instance}
 use Rattle.cpp_term.specs.Values.{Value, tree_of, qualifiers_of, ref_of}
 use Rattle.cpp_tree.specs.Nodes as nodes
@@ -23,7 +22,7 @@ use Rattle.cpp_tree.specs.declared.node.Node.{Node}
 use Rattle.cpp_tree.specs.declared.node.Piece.{Piece}
 use Rattle.cpp_tree.specs.Notes.{is_structor_node, is_structor_piece}
 use Rattle.cpp_tree.specs.declared.node.Thunk.{Thunk}
-use Rattle.cpp_link.specs.Reads.{void_node, nil_node, function_node, instance_node, cell_under, parameters_by, encoding_by, IsSplitThere}
+use Rattle.cpp_link.specs.Reads.{void_node, nil_node, instance_node, cell_under, parameters_by, encoding_by, IsSplitThere}
 
 -- ## Productions by their numbers
 

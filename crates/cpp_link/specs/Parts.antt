@@ -12,7 +12,8 @@ use Rattle.cpp_link.specs.declared.part.Part.{Part}
 use Rattle.cpp_link.specs.declared.part.Meant.{Meant}
 use Rattle.cpp_link.specs.declared.part.Step.{Step}
 use Rattle.cpp_references.specs.declared.candidates.Candidate.{Candidate}
-unfoldable pub use Rattle.cpp_references.specs.Around.{trees_in, tree_of_node, prefix_of, arguments_in, is_lambda, prefix_in, packs_in, scope_of, name_of, packs_of, around_of, IsClosed, candidate_of, candidates_of, IsPrefixThere, AreNodesThere, IsKeptThere}
+pub use Rattle.cpp_references.specs.Around.{trees_in, tree_of_node, scope_of, name_of, packs_of, IsClosed, candidate_of, candidates_of, IsPrefixThere, AreNodesThere, IsKeptThere}
+unfoldable pub use Rattle.cpp_references.specs.Around.{prefix_of, arguments_in, is_lambda, prefix_in, packs_in, around_of}
 
 -- ## Values
 
