@@ -8,61 +8,61 @@ use crate::table::{FIRST_LETTER, HEADS, SYMBOLS};
 use sym_shape::{Rule, letter_in, place_of, symbols_from};
 
 // For each kind a row: for each byte from `$` to `z` the letter of the production that the kind takes there.
-static WIDE_LETTERS: [[u8; 87]; 92] = [
+static WIDE_LETTERS: [[u8; 87]; 93] = [
     // $%&'()*+,-./0123456789:;<=>?@ABCDEFGHIJKLMNOPQRSTUVWXYZ[\]^_`abcdefghijklmnopqrstuvwxyz
     *b"                                                           *                           ", // Symbol
     *b"          +                                                                            ", // MaybeSuffix
     *b",         , ,,,,,,,,,,       ,,,,,,,,,,,,,,,,,,,,,,,,,,    , ,,,,,,,,,,,,,,,,,,,,,,,,,,", // SuffixFirst
     *b",         , ,,,,,,,,,,       ,,,,,,,,,,,,,,,,,,,,,,,,,,    , ,,,,,,,,,,,,,,,,,,,,,,,,,,", // SuffixMore
-    *b"            //////////             \xa8    / /    /-/    /      / /// / /  ///// //       ", // Encoding
-    *b"                               \xaa    \xa90         00 0\xa9           3    1             2    ", // Special
-    *b"                                                                    4             5    ", // CallOffset
-    *b"            7777777777                                                    6            ", // Integer
-    *b"            $$$$$$$$$$                  \" )    8 #    9      % %%% % %  %%%%% %%       ", // CompleteName
+    *b"            //////////             .    / /    /-/    /      / /// / /  ///// //       ", // Encoding
+    *b"                               5    40         00 04           3    1             2    ", // Special
+    *b"                                                                    6             7    ", // CallOffset
+    *b"            9999999999                                                    8            ", // Integer
+    *b"            $$$$$$$$$$                  \" )    : #    ;      % %%% % %  %%%%% %%       ", // CompleteName
     *b"                                                                              !        ", // MaybeRestrict
     *b"                                                  !                                    ", // MaybeVolatile
     *b"                                       !                                               ", // MaybeConst
     *b"                                           !  !                                        ", // MaybeRef
-    *b"            ;;;;;;;;;;       ;;;;;;;;;;;;;;;;;;;;;;;;;;    ; ;; ;    ;     ;   ;:      ", // NameAfterS
-    *b"            ((((((((((                  &        '           < <<< < <  <<<<< <<       ", // Unqualified
-    *b"            AAAAAAAAAA                  ?      =>@                                     ", // Nest
-    *b"            \xab\xab\xab\xab\xab\xab\xab\xab\xab\xab       \xab\xab\xab\xab\xab\xab\xab\xab\xab\xab\xab\xab\xab\xab\xab\xab\xab\xab\xab\xab\xab\xab\xab\xab\xab\xab    \xab \xab\xab \xab    \xab     \xab   \xabB      ", // NestAfterS
-    *b"            EEEEEEEEEE        \xacEE    D  EE       E           E EEE E E  EEEEE EE       ", // NestRest
-    *b"            EEEEEEEEEE         EEF      EE       E           E EEE E E  EEEEE EE       ", // NestTail
-    *b"            $$$$$$$$$$         GH       \"\xaf       #           \xae \xad\xae\xae \xae \xae  \xae\xae\xae\xae\xae \xae\xae       ", // Component
+    *b"            ==========       ==========================    = == =    =     =   =<      ", // NameAfterS
+    *b"            ((((((((((                  &        '           > >>> > >  >>>>> >>       ", // Unqualified
+    *b"            CCCCCCCCCC                  A      ?@B                                     ", // Nest
+    *b"            EEEEEEEEEE       EEEEEEEEEEEEEEEEEEEEEEEEEE    E EE E    E     E   ED      ", // NestAfterS
+    *b"            GGGGGGGGGG        HGG    F  GG       G           G GGG G G  GGGGG GG       ", // NestRest
+    *b"            GGGGGGGGGG         GGI      GG       G           G GGG G G  GGGGG GG       ", // NestTail
+    *b"            $$$$$$$$$$         JK       \"N       #           M LMM M M  MMMMM MM       ", // Component
     *b"             !!!!!                                                                     ", // ConstructorDigit
     *b"            !!! !!                                                                     ", // DestructorDigit
-    *b"            JJJJJJJJJJ       JJJJJJJJJJJJJJJJJJJJJJJJJJ    J II I    I     I   I       ", // Abbreviation
-    *b"            $$$$$$$$$$                  \" )      #              \xb0              L       ", // Entity
-    *b"            $$$$$$$$$$                  \" K      #              \xb1                      ", // TypeEntity
-    *b"                                                           M                           ", // MaybeDiscriminator
-    *b"            NNNNNNNNNN                                     O                           ", // DiscriminatorRest
-    *b"                                                                        P       Q      ", // Anonymous
-    *b"            VVVVVVVVVV       V VW V    T VVUV UVVVS   V      VVVVVVVVVV VVVV  RVVVVVVVV", // Type
-    *b"            YYYYYYYYYY       Y YX Y      YYUY UYYY    Y      YYYYYYYYYY YYYY   YYYYYYYY", // Plain
-    *b"            VVVVVVVVVV       V VZ V    T VVUV UVVVS   V      VVVVVVVVVV VVVV  RVVVVVVVV", // Item
-    *b"            VVVVVVVVVV       V VZ V    T VV V  VVVS   V      VVVVVVVVVV VVVV  RVVVVVVVV", // ItemButRef
-    *b"                                  \\                          \\ \\\\\\\\ \\\\    \\\\[  \\ \\\\    ", // ItemAfterD
-    *b"                                  \xb2                          ] ]]]] ]]    ]_   ] ]^    ", // AfterD
-    *b"            $$$$$$$$$$       \xb3 i  h      aK `  cb#    d      eeeeeeeeee eeee   eefeeeee", // Solid
+    *b"            PPPPPPPPPP       PPPPPPPPPPPPPPPPPPPPPPPPPP    P OO O    O     O   O       ", // Abbreviation
+    *b"            $$$$$$$$$$                  \" )      #              S              R       ", // Entity
+    *b"            $$$$$$$$$$                  \" Q      #              T                      ", // TypeEntity
+    *b"                                                           U                           ", // MaybeDiscriminator
+    *b"            VVVVVVVVVV                                     W                           ", // DiscriminatorRest
+    *b"                                                                        X       Y      ", // Anonymous
+    *b"            ^^^^^^^^^^       ^ ^_ ^    \\ ^^]^ ]^^^[   ^      ^^^^^^^^^^ ^^^^  Z^^^^^^^^", // Type
+    *b"            aaaaaaaaaa       a a` a      aa]a ]aaa    a      aaaaaaaaaa aaaa   aaaaaaaa", // Plain
+    *b"            ^^^^^^^^^^       ^ ^b ^    \\ ^^]^ ]^^^[   ^      ^^^^^^^^^^ ^^^^  Z^^^^^^^^", // Item
+    *b"            ^^^^^^^^^^       ^ ^b ^    \\ ^^ ^  ^^^[   ^      ^^^^^^^^^^ ^^^^  Z^^^^^^^^", // ItemButRef
+    *b"                                  d                          d dddd dd    ddc  d dd    ", // ItemAfterD
+    *b"                                  h                          e eeee ee    eg   e ef    ", // AfterD
+    *b"            $$$$$$$$$$       p r  q      jQ i  lk#    m      nnnnnnnnnn nnnn   nnonnnnn", // Solid
     *b"                                                     !                                 ", // MaybeCLinkage
-    *b"            kkkkkkkkkk       kkkkkkkkkkkkkkkkkkkkkkkkkk    k kk k    k     k   k\xb4      ", // TypeAfterS
+    *b"            tttttttttt       tttttttttttttttttttttttttt    t tt t    t     t   ts      ", // TypeAfterS
     *b"            ((((((((((                  &        '                                     ", // SourceOrLocal
-    *b"            oooooooooo       o oolo    o oono moooo   o      oooooooooo oooo  ooooooooo", // FunctionRest
-    *b"            qqqqqqqqqq       q qqpq    q qqqq qqqqq   q      qqqqqqqqqq qqqq  qqqqqqqqq", // AfterR
-    *b"            rrrrrrrrrr       r rrpr    r rrrr rrrrr   r      rrrrrrrrrr rrrr  rrrrrrrrr", // AfterO
-    *b"            ssssssssss       s ss s    s ssss sssss   s      ssssssssss ssss  sssssssss", // Items
-    *b"                              \xb5      t                                                 ", // MaybeArguments
-    *b"                                     t                                                 ", // Arguments
-    *b"            \xb7\xb7\xb7\xb7\xb7\xb7\xb7\xb7\xb7\xb7       \xb7 \xb7\xb7 \xb7   u\xb7v\xb7\xb7\xb7\xb7 \xb7\xb7\xb7\xb7\xb7 \xb7 \xb7      \xb7\xb7\xb7\xb7\xb7\xb7\xb7\xb7\xb7\xb7 \xb7\xb7\xb7\xb7  \xb7\xb7\xb7\xb7\xb7\xb7\xb7\xb7\xb7", // ArgumentList
-    *b"            \xb6\xb6\xb6\xb6\xb6\xb6\xb6\xb6\xb6\xb6       \xb6 \xb6\xb6 \xb6    \xb6y\xb6\xb6\xb6\xb6 \xb6\xb6\xb6\xb6\xb6 \xb6 \xb6      \xb6\xb6\xb6\xb6\xb6\xb6\xb6\xb6\xb6\xb6 \xb6\xb6\xb6\xb6  \xb6\xb6\xb6\xb6\xb6\xb6\xb6\xb6\xb6", // PackList
-    *b"                                        |                                              ", // Address
-    *b"            \x80\x80\x80\x80\x80\x80\x80\x80\x80\x80          \x7f        \x80\x80 \x80  \x80\x80\x80    \x80    } \x80~\x80    \x80\x80\x80 \x80\x80\x80\x80   \x80\x80  \x80\x80\x80 ", // Literal
+    *b"            xxxxxxxxxx       x xxux    x xxwx vxxxx   x      xxxxxxxxxx xxxx  xxxxxxxxx", // FunctionRest
+    *b"            zzzzzzzzzz       z zzyz    z zzzz zzzzz   z      zzzzzzzzzz zzzz  zzzzzzzzz", // AfterR
+    *b"            {{{{{{{{{{       { {{y{    { {{{{ {{{{{   {      {{{{{{{{{{ {{{{  {{{{{{{{{", // AfterO
+    *b"            ||||||||||       | || |    | |||| |||||   |      |||||||||| ||||  |||||||||", // Items
+    *b"                              ~      }                                                 ", // MaybeArguments
+    *b"                                     }                                                 ", // Arguments
+    *b"            \x81\x81\x81\x81\x81\x81\x81\x81\x81\x81       \x81 \x81\x81 \x81   \x7f\x81\x80\x81\x81\x81\x81 \x81\x81\x81\x81\x81 \x81 \x81      \x81\x81\x81\x81\x81\x81\x81\x81\x81\x81 \x81\x81\x81\x81  \x81\x81\x81\x81\x81\x81\x81\x81\x81", // ArgumentList
+    *b"            \x83\x83\x83\x83\x83\x83\x83\x83\x83\x83       \x83 \x83\x83 \x83    \x83\x82\x83\x83\x83\x83 \x83\x83\x83\x83\x83 \x83 \x83      \x83\x83\x83\x83\x83\x83\x83\x83\x83\x83 \x83\x83\x83\x83  \x83\x83\x83\x83\x83\x83\x83\x83\x83", // PackList
+    *b"                                        \x84                                              ", // Address
+    *b"            \x88\x88\x88\x88\x88\x88\x88\x88\x88\x88          \x87        \x88\x88 \x88  \x88\x88\x88    \x88    \x85 \x88\x86\x88    \x88\x88\x88 \x88\x88\x88\x88   \x88\x88  \x88\x88\x88 ", // Literal
     *b"            !!                                                                         ", // Bit
-    *b"                                                                     \x82    \x81    \x82 \x82     ", // LiteralAfterD
+    *b"                                                                     \x8a    \x89    \x8a \x8a     ", // LiteralAfterD
     *b"            !                                                                          ", // MaybeZero
-    *b"            $$$$$$$$$$                   aK `  cb#    d      e e    eee eeee   ee  eee ", // LiteralType
-    *b"                                                             \x85 \x87\x84\x8b \x8f \x8e  \x8c\x88\x83\x8a\x86 \x89\x8d       ", // Operator
+    *b"            $$$$$$$$$$                   jQ i  lk#    m      n n    nnn nnnn   nn  nnn ", // LiteralType
+    *b"                                                             \x8d \x8f\x8c\x93 \x97 \x96  \x94\x90\x8b\x92\x8e \x91\x95       ", // Operator
     *b"                                                             !   ! !            !  !   ", // OperatorAfterN
     *b"                                                  !          !   !      !         !    ", // OperatorAfterD
     *b"                                          !    !             !  !         !        !   ", // OperatorAfterA
@@ -72,43 +72,44 @@ static WIDE_LETTERS: [[u8; 87]; 92] = [
     *b"                                         !     !                         !     !       ", // OperatorAfterR
     *b"                                              !                            !  !        ", // OperatorAfterO
     *b"                                           !                               ! !         ", // OperatorAfterE
-    *b"                                               !                 !   \x90         !!      ", // OperatorAfterL
+    *b"                                               !                 !   \x98         !!      ", // OperatorAfterL
     *b"                                                                               !       ", // OperatorAfterS
     *b"                                                                                    !  ", // OperatorAfterI
     *b"                                                                 !              !      ", // OperatorAfterG
-    *b"            EEEEEEEEEE         EE    \x91  EE       E           E EEE E E  EEEEE EE       ", // NestRestOrEnd
-    *b"                                     t                                                 ", // ArgumentsAlone
-    *b"            EEEEEEEEEE         EE    D  EE       E           E EEE E E  EEEEE EE       ", // NestRestAlone
+    *b"            GGGGGGGGGG         GG    \x99  GG       G           G GGG G G  GGGGG GG       ", // NestRestOrEnd
+    *b"                                     }                                                 ", // ArgumentsAlone
+    *b"            GGGGGGGGGG         GG    F  GG       G           G GGG G G  GGGGG GG       ", // NestRestAlone
     *b"                                         !                                             ", // HolderMark
-    *b"            $$$$$$$$$$         GH       \"        #           \xae \xad\xae\xae \xae \xae  \xae\xae\xae\xae\xae \xae\xae       ", // HeldComponent
+    *b"            $$$$$$$$$$         JK       \"        #           M LMM M M  MMMMM MM       ", // HeldComponent
     *b"                                                           !  !                     !  ", // FloatEnd
-    *b"                                                                        \x93\x93 \x93      \x92    ", // ComponentAfterC
-    *b"                                                             \x85  \x84\x8b \x8f \x8e  \x8c\x88\x83\x8a\x86 \x89\x8d       ", // OtherOperator
-    *b"            \xb7\xb7\xb7\xb7\xb7\xb7\xb7\xb7\xb7\xb7       \xb7 \xb7\xb7 \xb7  uu\xb7v\xb7\xb7\xb7\xb7 \xb7\xb7\xb7\xb7\xb7 \xb7 \xb7      \xb7\xb7\xb7\xb7\xb7\xb7\xb7\xb7\xb7\xb7 \xb7\xb7\xb7\xb7  \xb7\xb7\xb7\xb7\xb7\xb7\xb7\xb7\xb7", // ArgumentsFirst
+    *b"                                                                        \x9b\x9b \x9b      \x9a    ", // ComponentAfterC
+    *b"                                                             \x8d  \x8c\x93 \x97 \x96  \x94\x90\x8b\x92\x8e \x91\x95       ", // OtherOperator
+    *b"            \x81\x81\x81\x81\x81\x81\x81\x81\x81\x81       \x81 \x81\x81 \x81  \x7f\x7f\x81\x80\x81\x81\x81\x81 \x81\x81\x81\x81\x81 \x81 \x81      \x81\x81\x81\x81\x81\x81\x81\x81\x81\x81 \x81\x81\x81\x81  \x81\x81\x81\x81\x81\x81\x81\x81\x81", // ArgumentsFirst
     *b"            $$$$$$$$$$                  \" )      #                                     ", // PlainEntity
-    *b"            $$$$$$$$$$                  \" K      #                                     ", // PlainTypeEntity
+    *b"            $$$$$$$$$$                  \" Q      #                                     ", // PlainTypeEntity
     *b"                                   !                                                   ", // SpecialMark
-    *b"                                                \x94 \xa9                                    ", // SpecialAfterG
+    *b"                                                \x9c 4                                    ", // SpecialAfterG
     *b"                                                                          !     !      ", // CloneLetter
-    *b"                                                                                \x95      ", // TypeInStd
-    *b"                              \x96                                                        ", // MaybeTags
-    *b"            \x99\x99\x99\x99\x99\x99\x99\x99\x99\x99       \x99 \x99Z \x99    T \x99\x99U\x99 U\x99\x98\x99S \x97 \x99      \x99\x99\x99\x99\x99\x99\x99\x99\x99\x99 \x99\x99\x99\x99  R\x99\x99\x99\x99\x99\x99\x99\x99", // Argument
-    *b"            \x9b\x9b\x9b\x9b\x9b\x9b\x9b\x9b\x9b\x9b                                     \x9b           \x9a  \x9a \x9a   \x9a    \x9a ", // ArgumentAfterT
-    *b"            \x99\x99\x99\x99\x99\x99\x99\x99\x99\x99       \x99 \x99Z \x99    T\x9c\x99\x99U\x99 U\x99\x98\x99S \x97 \x99      \x99\x99\x99\x99\x99\x99\x99\x99\x99\x99 \x99\x99\x99\x99  R\x99\x99\x99\x99\x99\x99\x99\x99", // OneArgument
-    *b"                                                                       \x9f  \x9e \xa1   \xa0    \x9d ", // DeclarationAfterT
-    *b"                                                \xa2                                      ", // Declarations
-    *b"            $$$$$$$$$$                    K    c                                       ", // Concept
-    *b"            $$$$$$$$$$       \xb3 i  h      aK `  c #    d      eeeeeeeeee eeee   eefeeeee", // SolidButT
-    *b"                                                \xa4            \xa3                         ", // ExpressionRest
-    *b"                             \xa5                                                         ", // AnyArray
-    *b"            \xa7\xa7\xa7\xa7\xa7\xa7\xa7\xa7\xa7\xa7                          \xa6          \xa7                           ", // ArrayRest
+    *b"                                                                                \x9d      ", // TypeInStd
+    *b"                              \x9e                                                        ", // MaybeTags
+    *b"            \xa1\xa1\xa1\xa1\xa1\xa1\xa1\xa1\xa1\xa1       \xa1 \xa1b \xa1    \\ \xa1\xa1]\xa1 ]\xa1\xa0\xa1[ \x9f \xa1      \xa1\xa1\xa1\xa1\xa1\xa1\xa1\xa1\xa1\xa1 \xa1\xa1\xa1\xa1  Z\xa1\xa1\xa1\xa1\xa1\xa1\xa1\xa1", // Argument
+    *b"            \xa3\xa3\xa3\xa3\xa3\xa3\xa3\xa3\xa3\xa3                                     \xa3           \xa2  \xa2 \xa2   \xa2    \xa2 ", // ArgumentAfterT
+    *b"            \xa1\xa1\xa1\xa1\xa1\xa1\xa1\xa1\xa1\xa1       \xa1 \xa1b \xa1    \\\xa4\xa1\xa1]\xa1 ]\xa1\xa0\xa1[ \x9f \xa1      \xa1\xa1\xa1\xa1\xa1\xa1\xa1\xa1\xa1\xa1 \xa1\xa1\xa1\xa1  Z\xa1\xa1\xa1\xa1\xa1\xa1\xa1\xa1", // OneArgument
+    *b"                                                                       \xa7  \xa6 \xa9   \xa8    \xa5 ", // DeclarationAfterT
+    *b"                                                \xaa                                      ", // Declarations
+    *b"            $$$$$$$$$$                    Q    l                                       ", // Concept
+    *b"            $$$$$$$$$$       p r  q      jQ i  l #    m      nnnnnnnnnn nnnn   nnonnnnn", // SolidButT
+    *b"                                                \xac            \xab                         ", // ExpressionRest
+    *b"                             \xad                                                         ", // AnyArray
+    *b"            \xaf\xaf\xaf\xaf\xaf\xaf\xaf\xaf\xaf\xaf                          \xae          \xaf                           ", // ArrayRest
+    *b"            GGGGGGGGGG         GGI      GG       G           G GGG G G  GGGGG GG       ", // NestMoreOrEnd
 ];
 
 /// The number of the rule that a kind takes at a byte, if it takes one.
 #[inline]
 fn number(kind: u16, byte: u8) -> Option<usize>
     requires { kind < wide.kinds }
-    ensures few { IfSome result (λ number. number < 151) }
+    ensures few { IfSome result (λ number. number < 143) }
     ensures rule { (head : Head) → MatchOption result (wide.rule kind byte ≡ None) (λ number. wide.rule kind byte ≡ Some (listed_rule head number)) }
 {
     match letter_in(&WIDE_LETTERS[kind as usize], byte) {

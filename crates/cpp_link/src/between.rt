@@ -290,9 +290,9 @@ impl Linked {
             Production::NestSource => self.go_as(symbol, Production::NestSource, frame, parts),
             Production::Encoding => self.go_as(symbol, Production::Encoding, frame, parts),
             Production::Arguments => self.go_as(symbol, Production::Arguments, frame, parts),
-            Production::NestAbbreviated => self.go_as(
+            Production::NestTemplate => self.go_as(
                 symbol,
-                Production::NestAbbreviated,
+                Production::NestTemplate,
                 frame,
                 parts,
             ),

@@ -143,7 +143,6 @@ impl Linked {
         match production {
             Production::Encoding => self.go(self.in_encoding(kept, place, None)),
             Production::Special => self.go(self.in_encoding(kept, place, None)),
-            Production::Guard => self.go(self.in_encoding(kept, place, None)),
             Production::OtherSpecial => self.go(self.in_encoding(kept, place, None)),
             Production::Lambda => self.go(self.in_signature(kept)),
             Production::ValueOf => self.go(self.in_signature(kept)),
@@ -312,7 +311,6 @@ impl Linked {
     {
         match production {
             Production::Special => self.go(self.in_encoding(kept, place, None)),
-            Production::Guard => self.go(self.in_encoding(kept, place, None)),
             Production::OtherSpecial => self.go(self.in_encoding(kept, place, None)),
             Production::Lambda => self.go(self.in_signature(kept)),
             Production::ValueOf => self.go(self.in_signature(kept)),
@@ -412,11 +410,6 @@ impl Linked {
                 listed: true,
                 is_name: true,
             },
-            Production::NestAbbreviated => Step::Named {
-                node: self.node(symbol, first),
-                listed: true,
-                is_name: true,
-            },
             Production::NestTemplate => Step::Named {
                 node: self.node(symbol, first),
                 listed: true,
@@ -488,7 +481,6 @@ impl Linked {
     {
         match production {
             Production::Special => self.go(self.in_encoding(kept, place, None)),
-            Production::Guard => self.go(self.in_encoding(kept, place, None)),
             Production::OtherSpecial => self.go(self.in_encoding(kept, place, None)),
             Production::Lambda => self.go(self.in_signature(kept)),
             Production::ValueOf => self.go(self.in_signature(kept)),
@@ -559,7 +551,6 @@ impl Linked {
     {
         match production {
             Production::Special => self.go(self.in_encoding(kept, place, None)),
-            Production::Guard => self.go(self.in_encoding(kept, place, None)),
             Production::OtherSpecial => self.go(self.in_encoding(kept, place, None)),
             Production::Lambda => self.go(self.in_signature(kept)),
             Production::ValueOf => self.go(self.in_signature(kept)),
@@ -612,7 +603,6 @@ impl Linked {
     {
         match production {
             Production::Special => self.go(self.in_encoding(kept, place, None)),
-            Production::Guard => self.go(self.in_encoding(kept, place, None)),
             Production::OtherSpecial => self.go(self.in_encoding(kept, place, None)),
             Production::Lambda => self.go(self.in_signature(kept)),
             Production::ValueOf => self.go(self.in_signature(kept)),

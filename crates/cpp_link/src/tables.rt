@@ -3,7 +3,7 @@
 use cpp_grammar::production::Production;
 
 /// The productions.
-pub(crate) const PRODUCTIONS: [Production; 151] = [
+pub(crate) const PRODUCTIONS: [Production; 143] = [
     Production::Mark,
     Production::InternalName,
     Production::LocalTypeName,
@@ -17,12 +17,14 @@ pub(crate) const PRODUCTIONS: [Production; 151] = [
     Production::Suffix,
     Production::SuffixByte,
     Production::Special,
-    Production::Guard,
+    Production::OtherSpecial,
     Production::Encoding,
     Production::SpecialType,
     Production::NonVirtualThunk,
     Production::VirtualThunk,
     Production::CovariantThunk,
+    Production::SpecialName,
+    Production::ConstructionVtable,
     Production::NonVirtualOffset,
     Production::VirtualOffset,
     Production::Negative,
@@ -38,16 +40,22 @@ pub(crate) const PRODUCTIONS: [Production; 151] = [
     Production::NestLocalType,
     Production::NestSource,
     Production::NestStd,
-    Production::NestAbbreviated,
+    Production::NestTemplate,
     Production::NestArguments,
     Production::NestNext,
+    Production::NestTag,
     Production::NestEnd,
     Production::Constructor,
     Production::Destructor,
+    Production::ComponentWithC,
+    Production::OtherOperatorName,
+    Production::Holder,
     Production::Abbreviation,
     Production::Substitution,
     Production::NestedType,
     Production::StringLiteral,
+    Production::DefaultEntity,
+    Production::DefaultTypeEntity,
     Production::Discriminator,
     Production::OneDigit,
     Production::ManyDigits,
@@ -67,6 +75,7 @@ pub(crate) const PRODUCTIONS: [Production; 151] = [
     Production::BuiltinWithD,
     Production::Vector,
     Production::NoexceptFunction,
+    Production::SizedFloat,
     Production::Pointer,
     Production::MemberPointer,
     Production::Parameter,
@@ -74,10 +83,10 @@ pub(crate) const PRODUCTIONS: [Production; 151] = [
     Production::LocalType,
     Production::Builtin,
     Production::Vendor,
-    Production::Array,
+    Production::ArrayType,
     Production::Function,
     Production::Complex,
-    Production::StdType,
+    Production::TypeInStd,
     Production::AbbreviatedType,
     Production::RestEnd,
     Production::RestLvalue,
@@ -88,13 +97,12 @@ pub(crate) const PRODUCTIONS: [Production; 151] = [
     Production::RvalueItem,
     Production::Items,
     Production::Arguments,
+    Production::Tag,
     Production::PackArgument,
     Production::LiteralArgument,
-    Production::AddressArgument,
-    Production::TypeArgument,
+    Production::AnyArgument,
     Production::LiteralElement,
-    Production::AddressElement,
-    Production::TypeElement,
+    Production::AnyElement,
     Production::Address,
     Production::EncodingLiteral,
     Production::BoolLiteral,
@@ -139,26 +147,10 @@ pub(crate) const PRODUCTIONS: [Production; 151] = [
     Production::AnyArray,
     Production::BoundedArray,
     Production::LengthArray,
-    Production::OtherSpecial,
-    Production::SpecialName,
-    Production::ConstructionVtable,
-    Production::NestTemplate,
-    Production::NestTag,
-    Production::ComponentWithC,
-    Production::OtherOperatorName,
-    Production::Holder,
-    Production::DefaultEntity,
-    Production::DefaultTypeEntity,
-    Production::SizedFloat,
-    Production::ArrayType,
-    Production::TypeInStd,
-    Production::Tag,
-    Production::AnyElement,
-    Production::AnyArgument,
 ];
 
 /// How many parts each has.
-pub(crate) const PART_COUNTS: [u8; 151] = [
+pub(crate) const PART_COUNTS: [u8; 143] = [
     0, // Mark
     2, // InternalName
     2, // LocalTypeName
@@ -172,12 +164,14 @@ pub(crate) const PART_COUNTS: [u8; 151] = [
     1, // Suffix
     1, // SuffixByte
     1, // Special
-    2, // Guard
+    2, // OtherSpecial
     2, // Encoding
     1, // SpecialType
     3, // NonVirtualThunk
     5, // VirtualThunk
     3, // CovariantThunk
+    1, // SpecialName
+    4, // ConstructionVtable
     2, // NonVirtualOffset
     4, // VirtualOffset
     1, // Negative
@@ -193,16 +187,22 @@ pub(crate) const PART_COUNTS: [u8; 151] = [
     2, // NestLocalType
     2, // NestSource
     3, // NestStd
-    2, // NestAbbreviated
+    2, // NestTemplate
     4, // NestArguments
     2, // NestNext
+    2, // NestTag
     0, // NestEnd
     2, // Constructor
     2, // Destructor
+    1, // ComponentWithC
+    2, // OtherOperatorName
+    2, // Holder
     0, // Abbreviation
     1, // Substitution
     1, // NestedType
     0, // StringLiteral
+    2, // DefaultEntity
+    2, // DefaultTypeEntity
     1, // Discriminator
     0, // OneDigit
     2, // ManyDigits
@@ -222,6 +222,7 @@ pub(crate) const PART_COUNTS: [u8; 151] = [
     0, // BuiltinWithD
     3, // Vector
     4, // NoexceptFunction
+    2, // SizedFloat
     1, // Pointer
     2, // MemberPointer
     2, // Parameter
@@ -229,10 +230,10 @@ pub(crate) const PART_COUNTS: [u8; 151] = [
     4, // LocalType
     0, // Builtin
     1, // Vendor
-    2, // Array
+    1, // ArrayType
     3, // Function
     1, // Complex
-    1, // StdType
+    1, // TypeInStd
     1, // AbbreviatedType
     0, // RestEnd
     1, // RestLvalue
@@ -243,13 +244,12 @@ pub(crate) const PART_COUNTS: [u8; 151] = [
     2, // RvalueItem
     2, // Items
     2, // Arguments
+    2, // Tag
     3, // PackArgument
     3, // LiteralArgument
-    4, // AddressArgument
-    2, // TypeArgument
+    2, // AnyArgument
     3, // LiteralElement
-    4, // AddressElement
-    2, // TypeElement
+    2, // AnyElement
     5, // Address
     2, // EncodingLiteral
     1, // BoolLiteral
@@ -294,26 +294,10 @@ pub(crate) const PART_COUNTS: [u8; 151] = [
     1, // AnyArray
     3, // BoundedArray
     2, // LengthArray
-    2, // OtherSpecial
-    1, // SpecialName
-    4, // ConstructionVtable
-    2, // NestTemplate
-    2, // NestTag
-    1, // ComponentWithC
-    2, // OtherOperatorName
-    2, // Holder
-    2, // DefaultEntity
-    2, // DefaultTypeEntity
-    2, // SizedFloat
-    1, // ArrayType
-    1, // TypeInStd
-    2, // Tag
-    2, // AnyElement
-    2, // AnyArgument
 ];
 
 /// Whether parts without a row may stand between those of each.
-pub(crate) const SKIPS_PARTS: [bool; 151] = [
+pub(crate) const SKIPS_PARTS: [bool; 143] = [
     false, // Mark
     false, // InternalName
     false, // LocalTypeName
@@ -327,12 +311,14 @@ pub(crate) const SKIPS_PARTS: [bool; 151] = [
     false, // Suffix
     false, // SuffixByte
     false, // Special
-    true, // Guard
+    false, // OtherSpecial
     false, // Encoding
     false, // SpecialType
     true, // NonVirtualThunk
     true, // VirtualThunk
     false, // CovariantThunk
+    false, // SpecialName
+    true, // ConstructionVtable
     false, // NonVirtualOffset
     true, // VirtualOffset
     false, // Negative
@@ -348,16 +334,22 @@ pub(crate) const SKIPS_PARTS: [bool; 151] = [
     false, // NestLocalType
     false, // NestSource
     true, // NestStd
-    false, // NestAbbreviated
+    false, // NestTemplate
     true, // NestArguments
     false, // NestNext
+    false, // NestTag
     false, // NestEnd
     false, // Constructor
     false, // Destructor
+    false, // ComponentWithC
+    false, // OtherOperatorName
+    false, // Holder
     false, // Abbreviation
     false, // Substitution
     false, // NestedType
     false, // StringLiteral
+    false, // DefaultEntity
+    false, // DefaultTypeEntity
     false, // Discriminator
     false, // OneDigit
     false, // ManyDigits
@@ -377,6 +369,7 @@ pub(crate) const SKIPS_PARTS: [bool; 151] = [
     false, // BuiltinWithD
     true, // Vector
     true, // NoexceptFunction
+    false, // SizedFloat
     false, // Pointer
     false, // MemberPointer
     false, // Parameter
@@ -384,10 +377,10 @@ pub(crate) const SKIPS_PARTS: [bool; 151] = [
     true, // LocalType
     false, // Builtin
     false, // Vendor
-    false, // Array
+    false, // ArrayType
     true, // Function
     false, // Complex
-    false, // StdType
+    false, // TypeInStd
     false, // AbbreviatedType
     false, // RestEnd
     false, // RestLvalue
@@ -398,13 +391,12 @@ pub(crate) const SKIPS_PARTS: [bool; 151] = [
     false, // RvalueItem
     false, // Items
     false, // Arguments
+    false, // Tag
     true, // PackArgument
     true, // LiteralArgument
-    true, // AddressArgument
-    false, // TypeArgument
+    false, // AnyArgument
     true, // LiteralElement
-    true, // AddressElement
-    false, // TypeElement
+    false, // AnyElement
     true, // Address
     true, // EncodingLiteral
     false, // BoolLiteral
@@ -449,26 +441,10 @@ pub(crate) const SKIPS_PARTS: [bool; 151] = [
     false, // AnyArray
     true, // BoundedArray
     false, // LengthArray
-    false, // OtherSpecial
-    false, // SpecialName
-    true, // ConstructionVtable
-    false, // NestTemplate
-    false, // NestTag
-    false, // ComponentWithC
-    false, // OtherOperatorName
-    false, // Holder
-    false, // DefaultEntity
-    false, // DefaultTypeEntity
-    false, // SizedFloat
-    false, // ArrayType
-    false, // TypeInStd
-    false, // Tag
-    false, // AnyElement
-    false, // AnyArgument
 ];
 
 /// Before how many of its parts nothing is done in each: before none, the first, or all, which are five at most.
-pub(crate) const QUIET_PARTS: [u8; 151] = [
+pub(crate) const QUIET_PARTS: [u8; 143] = [
     5, // Mark
     1, // InternalName
     1, // LocalTypeName
@@ -482,12 +458,14 @@ pub(crate) const QUIET_PARTS: [u8; 151] = [
     5, // Suffix
     5, // SuffixByte
     0, // Special
-    0, // Guard
+    0, // OtherSpecial
     0, // Encoding
     5, // SpecialType
     5, // NonVirtualThunk
     5, // VirtualThunk
     5, // CovariantThunk
+    5, // SpecialName
+    5, // ConstructionVtable
     5, // NonVirtualOffset
     5, // VirtualOffset
     5, // Negative
@@ -503,16 +481,22 @@ pub(crate) const QUIET_PARTS: [u8; 151] = [
     1, // NestLocalType
     1, // NestSource
     1, // NestStd
-    1, // NestAbbreviated
+    1, // NestTemplate
     0, // NestArguments
     0, // NestNext
+    1, // NestTag
     5, // NestEnd
     1, // Constructor
     1, // Destructor
+    5, // ComponentWithC
+    1, // OtherOperatorName
+    1, // Holder
     5, // Abbreviation
     5, // Substitution
     5, // NestedType
     5, // StringLiteral
+    5, // DefaultEntity
+    5, // DefaultTypeEntity
     5, // Discriminator
     5, // OneDigit
     5, // ManyDigits
@@ -532,6 +516,7 @@ pub(crate) const QUIET_PARTS: [u8; 151] = [
     5, // BuiltinWithD
     5, // Vector
     5, // NoexceptFunction
+    5, // SizedFloat
     5, // Pointer
     5, // MemberPointer
     1, // Parameter
@@ -539,10 +524,10 @@ pub(crate) const QUIET_PARTS: [u8; 151] = [
     1, // LocalType
     5, // Builtin
     5, // Vendor
-    5, // Array
+    5, // ArrayType
     5, // Function
     5, // Complex
-    5, // StdType
+    5, // TypeInStd
     5, // AbbreviatedType
     5, // RestEnd
     5, // RestLvalue
@@ -553,13 +538,12 @@ pub(crate) const QUIET_PARTS: [u8; 151] = [
     1, // RvalueItem
     5, // Items
     0, // Arguments
+    1, // Tag
     1, // PackArgument
     5, // LiteralArgument
-    5, // AddressArgument
-    5, // TypeArgument
+    5, // AnyArgument
     5, // LiteralElement
-    5, // AddressElement
-    5, // TypeElement
+    5, // AnyElement
     5, // Address
     5, // EncodingLiteral
     5, // BoolLiteral
@@ -604,20 +588,4 @@ pub(crate) const QUIET_PARTS: [u8; 151] = [
     5, // AnyArray
     1, // BoundedArray
     5, // LengthArray
-    0, // OtherSpecial
-    5, // SpecialName
-    5, // ConstructionVtable
-    1, // NestTemplate
-    1, // NestTag
-    5, // ComponentWithC
-    1, // OtherOperatorName
-    1, // Holder
-    5, // DefaultEntity
-    5, // DefaultTypeEntity
-    5, // SizedFloat
-    5, // ArrayType
-    5, // TypeInStd
-    1, // Tag
-    5, // AnyElement
-    5, // AnyArgument
 ];
