@@ -209,8 +209,8 @@ module _ (begins : Kind → List Alternative) (fit : Begins begins) where
       let byte = is.0.byte in
       let p = picked_at SOLID Kind.Solid byte rule refl is.0.found in
       go p.production p.is (nat_eq (number_of p.production) (number_of Production.Parameter)) refl
-          (subst (λ o. solid_stays byte o (pick (begins Kind.SolidButT) byte) (pick (begins Kind.Argument) byte) ≡ true) p.picked
-          (below 256 (λ b. solid_stays b (pick (begins Kind.Solid) b) (pick (begins Kind.SolidButT) b) (pick (begins Kind.Argument) b)) byte fit.solids is.0.is_byte))
+      (subst (λ o. solid_stays byte o (pick (begins Kind.SolidButT) byte) (pick (begins Kind.Argument) byte) ≡ true) p.picked
+      (below 256 (λ b. solid_stays b (pick (begins Kind.Solid) b) (pick (begins Kind.SolidButT) b) (pick (begins Kind.Argument) b)) byte fit.solids is.0.is_byte))
     where
       go : (p : Production) → rule ≡ rule_of p → (b : Bool) → nat_eq (number_of p) (number_of Production.Parameter) ≡ b
           → elim b as (λ _. Bool) [
@@ -254,8 +254,8 @@ module _ (begins : Kind → List Alternative) (fit : Begins begins) where
       let byte = is.0.byte in
       let p = picked_at ITEM Kind.Item byte rule refl is.0.found in
       go p.production p.is (nat_eq (number_of p.production) (number_of Production.PlainType)) refl
-          (subst (λ o. item_stays o (pick (begins Kind.Argument) byte) ≡ true) p.picked
-          (below 256 (λ b. item_stays (pick (begins Kind.Item) b) (pick (begins Kind.Argument) b)) byte fit.items is.0.is_byte))
+      (subst (λ o. item_stays o (pick (begins Kind.Argument) byte) ≡ true) p.picked
+      (below 256 (λ b. item_stays (pick (begins Kind.Item) b) (pick (begins Kind.Argument) b)) byte fit.items is.0.is_byte))
     where
       go : (p : Production) → rule ≡ rule_of p → (b : Bool) → nat_eq (number_of p) (number_of Production.PlainType) ≡ b
           → b || same_choice (Some p) (pick (begins Kind.Argument) is.0.byte) ≡ true → AsArgument (table_with begins) (branch rule taken parts)

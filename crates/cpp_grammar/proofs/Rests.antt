@@ -110,8 +110,8 @@ abi_rest (branch rule taken parts) is =
     let byte = is.0.byte in
     let p = picked_at alternatives abi_begins NEST_REST Kind.NestRest byte rule refl is.0.found in
     go p.production p.is (nat_eq (number_of p.production) (number_of Production.NestNext)) refl
-        (subst (λ o. rest_stays byte o (pick (alternatives Kind.NestRestOrEnd) byte) (pick (alternatives Kind.NestMoreOrEnd) byte) ≡ true) p.picked
-        (below 256 (λ b. rest_stays b (pick (alternatives Kind.NestRest) b) (pick (alternatives Kind.NestRestOrEnd) b) (pick (alternatives Kind.NestMoreOrEnd) b)) byte rests_stay is.0.is_byte))
+    (subst (λ o. rest_stays byte o (pick (alternatives Kind.NestRestOrEnd) byte) (pick (alternatives Kind.NestMoreOrEnd) byte) ≡ true) p.picked
+    (below 256 (λ b. rest_stays b (pick (alternatives Kind.NestRest) b) (pick (alternatives Kind.NestRestOrEnd) b) (pick (alternatives Kind.NestMoreOrEnd) b)) byte rests_stay is.0.is_byte))
   where
     go : (p : Production) → rule ≡ rule_of p → (b : Bool) → nat_eq (number_of p) (number_of Production.NestNext) ≡ b
         → elim b as (λ _. Bool) [

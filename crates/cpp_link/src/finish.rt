@@ -410,7 +410,12 @@ impl Linked {
                 frame,
                 parts,
             ),
-            Production::PlainArgument => self.finish_as(symbol, Production::PlainArgument, frame, parts),
+            Production::PlainArgument => self.finish_as(
+                symbol,
+                Production::PlainArgument,
+                frame,
+                parts,
+            ),
             Production::Special => self.finish_as(symbol, Production::Special, frame, parts),
             _ => self.finish_rare(symbol, production, frame, parts),
         }

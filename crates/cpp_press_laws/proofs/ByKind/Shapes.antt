@@ -66,7 +66,7 @@ solid-but-t-branch : BranchRead Kind.SolidButT
 unfolding alternatives choose pick is_in in_ranges among same_choice each_below number_of
 solid-but-t-branch rule taken parts all around at old v new front is e outer =
     solid-read around at old v new (solid-front around at old front) outer
-        (any (opened-read Kind.SolidButT rule taken parts all around at old v new front is e))
+    (any (opened-read Kind.SolidButT rule taken parts all around at old v new front is e))
   where
     same : (p : Production) → OpenedRead Kind.SolidButT around at old v new p → OpenedRead Kind.Solid around at old v new p
     same p o = taken-as Kind.SolidButT Kind.Solid refl around at old v new p o
