@@ -120,12 +120,12 @@ plain_same t around place state =
 -- ## What is chosen
 
 -- an argument begins as a type does, but for a type of its own
-unfoldable item_stays : (chosen argument : Option Production) → Bool
+unfoldable pub item_stays : (chosen argument : Option Production) → Bool
 item_stays None argument = true
 item_stays (Some p) argument = nat_eq (number_of p) (number_of Production.PlainType) || same_choice (Some p) argument
 
 -- and that begins as it does elsewhere, but for a parameter
-unfoldable solid_stays : (byte : ℕ) → (chosen other argument : Option Production) → Bool
+unfoldable pub solid_stays : (byte : ℕ) → (chosen other argument : Option Production) → Bool
 solid_stays byte None other argument = true
 solid_stays byte (Some p) other argument = elim (nat_eq (number_of p) (number_of Production.Parameter)) [
   | true ↦ nat_eq byte 84 && same_choice (Some Production.ArgumentWithT) argument

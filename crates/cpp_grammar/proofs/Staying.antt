@@ -453,8 +453,8 @@ lambda_stays around byte vs all = go (is_open (parameters (list (tree_of (part v
     go false h = refl
 
 closed_stays : (p : Production) (byte : ℕ) (around : Around) (began : State) (vs : List Value) (state : State) (r : Found Value State) → Settled around → (are_closed p around ≡ true → AllNone vs) → AllHaveNone state.candidates →
-    ◌≡◌ {A = Result (Found Value State) Refusal} (Ok (found (meaning p byte around vs) (unfolding_.behind p byte around began vs state))) (Ok r) → (wide : Result (Found Value State) Refusal) → wide ≡ Ok r → Closes around wide r
-closed_stays p byte around began vs state r settled all cs e wide is =
+    ◌≡◌ {A = Result (Found Value State) Refusal} (Ok (found (meaning p byte around vs) (unfolding_.behind p byte around began vs state))) (Ok r) → (read : Result (Found Value State) Refusal) → read ≡ Ok r → Closes around read r
+closed_stays p byte around began vs state r settled all cs e read is =
     let whole = found (meaning p byte around vs) (unfolding_.behind p byte around began vs state) in
     let same : whole ≡ r = ok_same whole r e in
     record {
