@@ -91,6 +91,7 @@ costs() { tools/pack.sh "$work/packed" && tests/costs.py "$work/packed/libsymdem
 
 try generated tools/check_generated.py
 try rows tests/vectors.py "$symfilt"
+try texts tests/texts.py "$symfilt"
 try readme tests/readme.py "$symfilt"
 try calls tests/fail_calls.sh "$symfilt"
 if [ -x $check_rows ]; then

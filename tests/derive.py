@@ -33,6 +33,8 @@ REFERENCES = {"Substitution", *PARAMETERS}
 REFERRING = {"PlainType", "QualifiedPlain", "TypeWithS", "AbbreviatedType", *REFERENCES}
 NAMING = {"Anonymous", "Operator", "ConstructorDigit", "DestructorDigit"}
 TYPES = {"Type", "Plain", "Item", "ItemButRef", "Argument"}
+# the part that is an argument behind what is declared of it
+DECLARED = {"AnyArgument": 0, "AnyElement": 0, "ArgumentWithT": 0, "DeclaredArgument": 1}
 BATCH = 200
 FAR = 10**6
 
@@ -324,8 +326,14 @@ class Spelling:
         if leaves_candidate(node):
             self.append(around, began)
         if node.kind in self.table.argument_lists:
-            return ("PackList" in self.table.parts[node.production], *(values[-1] or ()))
+            return ("PackList" in self.table.parts[node.production] or self.is_pack(node), *(values[-1] or ()))
         return ()
+
+    def is_pack(self, node):
+        """Whether it is an argument that is a pack, of which something is declared."""
+        while isinstance(node, Node) and node.production in DECLARED:
+            node = node.parts[DECLARED[node.production]]
+        return isinstance(node, Node) and node.production == "OnePack"
 
     def spell_parts(self, node, around):
         values = []
@@ -334,7 +342,7 @@ class Spelling:
                 around = around._replace(scope=self.arguments)
             declares = node.production == "DeclaredArgument" and number == 0
             values.append(self.spell(part, around._replace(scope=None, in_lambda=True) if declares else around))
-            if self.table.parts[node.production][number] in self.table.argument_lists and node.kind not in self.table.argument_lists:
+            if self.table.parts[node.production][number] in self.table.argument_lists and node.kind not in self.table.argument_lists and node.production != "OnePack":
                 self.arguments = values[-1]
                 self.listed = node.production == "NestArguments"
                 if self.listed:

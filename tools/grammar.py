@@ -164,12 +164,12 @@ def build(extended=True, widened=False):
     kind("TypeInStd", eats("t", "TaggedStdType", "SourceOrLocal", "MaybeTags"))
     kind("MaybeTags", wide(eats("B", "TypeTag", NAME, "MaybeTags")), empty=True)
     # an argument: behind an X an expression, the address of an encoding or a parameter; behind a T a parameter, or what is declared of
-    # the argument that follows; or a type that begins with no T
+    # the argument that follows, which may be a pack; or a type that begins with no T
     argument = [*QUALS, eats("D", "ItemWithD", "ItemAfterD"), REF, eats("X", "Expression", "ExpressionRest"), eats("T", "ArgumentWithT", "ArgumentAfterT"),
                 chain("PlainArgument", "SolidButT")]
     kind("Argument", *argument)
     kind("ArgumentAfterT", wide(chain("DeclaredArgument", "DeclarationAfterT", "OneArgument")), chain("ParameterArgument", DECIMAL, "ArgumentsAlone"))
-    kind("OneArgument", eats("L", "OneLiteral", "Literal", "'E'"), *argument)
+    kind("OneArgument", eats("L", "OneLiteral", "Literal", "'E'"), eats("J", "OnePack", "PackList", "'E'"), *argument)
     kind("DeclarationAfterT", eats("y", "AnyType"), eats("n", "ValueOf", "Type"), eats("k", "OfConcept", "Concept"), eats("t", "TemplateOf", "Declarations", "'E'"),
          eats("p", "PackOf", "'T'", "DeclarationAfterT"))
     kind("Declarations", eats("T", "Declarations", "DeclarationAfterT", "Declarations"), empty=True)

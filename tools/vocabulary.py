@@ -234,7 +234,7 @@ MADE_AT_END = {p: 1 for p in """InternalName LocalTypeName SourceName OperatorNa
     TypeWithS LocalType Builtin Vendor Function Complex RestItem LvalueItem RvalueItem Items PackArgument
     LiteralArgument LiteralElement Address EncodingLiteral
     BoolLiteral IntegerLiteral NullLiteral SpecialName ConstructionVtable SizedFloat Tag DefaultEntity DefaultTypeEntity Conversion OtherOperatorName
-    OperatorNameWithC Clone TaggedStdType TypeTag AnyArgument AnyElement LengthArray BoundedArray ParameterArgument""".split()}
+    OperatorNameWithC Clone TaggedStdType TypeTag AnyArgument AnyElement LengthArray BoundedArray ParameterArgument OnePack""".split()}
 MADE_AT_END["CharLiteral"] = 2
 MADE_AT_END["Substitution"] = 2
 

@@ -224,7 +224,7 @@ alternatives Kind.TypeInStd = on "t" Production.TaggedStdType ∷ []
 alternatives Kind.MaybeTags = []
 alternatives Kind.Argument = on "r" Production.RestrictType ∷ on "V" Production.VolatileType ∷ on "K" Production.ConstType ∷ on "D" Production.ItemWithD ∷ on "OR" Production.ReferenceType ∷ on "X" Production.Expression ∷ on "T" Production.ArgumentWithT ∷ on_ranges "0-9a-jl-os-z" "ACFMNPSUZ" Production.PlainArgument ∷ []
 alternatives Kind.ArgumentAfterT = on_ranges "0-9" "_" Production.ParameterArgument ∷ []
-alternatives Kind.OneArgument = on "L" Production.OneLiteral ∷ on "r" Production.RestrictType ∷ on "V" Production.VolatileType ∷ on "K" Production.ConstType ∷ on "D" Production.ItemWithD ∷ on "OR" Production.ReferenceType ∷ on "X" Production.Expression ∷ on "T" Production.ArgumentWithT ∷ on_ranges "0-9a-jl-os-z" "ACFMNPSUZ" Production.PlainArgument ∷ []
+alternatives Kind.OneArgument = on "L" Production.OneLiteral ∷ on "J" Production.OnePack ∷ on "r" Production.RestrictType ∷ on "V" Production.VolatileType ∷ on "K" Production.ConstType ∷ on "D" Production.ItemWithD ∷ on "OR" Production.ReferenceType ∷ on "X" Production.Expression ∷ on "T" Production.ArgumentWithT ∷ on_ranges "0-9a-jl-os-z" "ACFMNPSUZ" Production.PlainArgument ∷ []
 alternatives Kind.DeclarationAfterT = on "y" Production.AnyType ∷ on "n" Production.ValueOf ∷ on "k" Production.OfConcept ∷ on "t" Production.TemplateOf ∷ on "p" Production.PackOf ∷ []
 alternatives Kind.Declarations = on "T" Production.Declarations ∷ []
 alternatives Kind.Concept = on "S" Production.TypeWithS ∷ on "N" Production.NestedType ∷ on_ranges "0-9" "" Production.SourceName ∷ []
@@ -372,6 +372,7 @@ parts_of Production.PlainArgument = part Kind.SolidButT ∷ []
 parts_of Production.DeclaredArgument = part Kind.DeclarationAfterT ∷ part Kind.OneArgument ∷ []
 parts_of Production.ParameterArgument = Number Decimal ∷ part Kind.ArgumentsAlone ∷ []
 parts_of Production.OneLiteral = part Kind.Literal ∷ Byte 69 ∷ []
+parts_of Production.OnePack = part Kind.PackList ∷ Byte 69 ∷ []
 parts_of Production.AnyType = []
 parts_of Production.ValueOf = part Kind.Type ∷ []
 parts_of Production.OfConcept = part Kind.Concept ∷ []
@@ -447,7 +448,7 @@ kinds = Kind.Symbol ∷ Kind.MaybeSuffix ∷ Kind.SuffixFirst ∷ Kind.SuffixMor
 
 -- the productions in the order of their numbers
 unfoldable pub productions : List Production
-productions = Production.Mark ∷ Production.InternalName ∷ Production.LocalTypeName ∷ Production.SourceName ∷ Production.OperatorName ∷ Production.InternalPiece ∷ Production.LocalTypePiece ∷ Production.SourcePiece ∷ Production.NestedName ∷ Production.Symbol ∷ Production.Suffix ∷ Production.SuffixByte ∷ Production.Special ∷ Production.OtherSpecial ∷ Production.Encoding ∷ Production.SpecialType ∷ Production.NonVirtualThunk ∷ Production.VirtualThunk ∷ Production.CovariantThunk ∷ Production.SpecialName ∷ Production.ConstructionVtable ∷ Production.NonVirtualOffset ∷ Production.VirtualOffset ∷ Production.Negative ∷ Production.Positive ∷ Production.NameWithS ∷ Production.LocalName ∷ Production.StdName ∷ Production.AbbreviatedName ∷ Production.OperatorPiece ∷ Production.NestWithS ∷ Production.NestParameter ∷ Production.NestInternal ∷ Production.NestLocalType ∷ Production.NestSource ∷ Production.NestStd ∷ Production.NestTemplate ∷ Production.NestArguments ∷ Production.NestNext ∷ Production.NestTag ∷ Production.NestEnd ∷ Production.Constructor ∷ Production.Destructor ∷ Production.ComponentWithC ∷ Production.OtherOperatorName ∷ Production.Holder ∷ Production.Abbreviation ∷ Production.Substitution ∷ Production.NestedType ∷ Production.StringLiteral ∷ Production.DefaultEntity ∷ Production.DefaultTypeEntity ∷ Production.Discriminator ∷ Production.OneDigit ∷ Production.ManyDigits ∷ Production.Lambda ∷ Production.Unnamed ∷ Production.RestrictType ∷ Production.VolatileType ∷ Production.ConstType ∷ Production.ReferenceType ∷ Production.PlainType ∷ Production.TypeWithD ∷ Production.PlainWithD ∷ Production.QualifiedPlain ∷ Production.ItemWithD ∷ Production.Expansion ∷ Production.ItemIsType ∷ Production.BuiltinWithD ∷ Production.Vector ∷ Production.NoexceptFunction ∷ Production.SizedFloat ∷ Production.Pointer ∷ Production.MemberPointer ∷ Production.Parameter ∷ Production.TypeWithS ∷ Production.LocalType ∷ Production.Builtin ∷ Production.Vendor ∷ Production.ArrayType ∷ Production.Function ∷ Production.Complex ∷ Production.TypeInStd ∷ Production.AbbreviatedType ∷ Production.RestEnd ∷ Production.RestLvalue ∷ Production.RestRvalue ∷ Production.RestItem ∷ Production.RefEnd ∷ Production.LvalueItem ∷ Production.RvalueItem ∷ Production.Items ∷ Production.Arguments ∷ Production.Tag ∷ Production.PackArgument ∷ Production.LiteralArgument ∷ Production.AnyArgument ∷ Production.LiteralElement ∷ Production.AnyElement ∷ Production.Address ∷ Production.EncodingLiteral ∷ Production.BoolLiteral ∷ Production.LiteralWithD ∷ Production.IntegerLiteral ∷ Production.NullLiteral ∷ Production.CharLiteral ∷ Production.OperatorN ∷ Production.OperatorD ∷ Production.OperatorA ∷ Production.OperatorP ∷ Production.OperatorC ∷ Production.OperatorM ∷ Production.OperatorR ∷ Production.OperatorO ∷ Production.OperatorE ∷ Production.OperatorL ∷ Production.OperatorS ∷ Production.OperatorI ∷ Production.OperatorG ∷ Production.LiteralOperator ∷ Production.NestInstance ∷ Production.Conversion ∷ Production.OperatorNameWithC ∷ Production.Clone ∷ Production.TaggedStdType ∷ Production.TypeTag ∷ Production.Expression ∷ Production.ArgumentWithT ∷ Production.PlainArgument ∷ Production.DeclaredArgument ∷ Production.ParameterArgument ∷ Production.OneLiteral ∷ Production.AnyType ∷ Production.ValueOf ∷ Production.OfConcept ∷ Production.TemplateOf ∷ Production.PackOf ∷ Production.Declarations ∷ Production.AddressExpression ∷ Production.ParameterExpression ∷ Production.AnyArray ∷ Production.BoundedArray ∷ Production.LengthArray ∷ []
+productions = Production.Mark ∷ Production.InternalName ∷ Production.LocalTypeName ∷ Production.SourceName ∷ Production.OperatorName ∷ Production.InternalPiece ∷ Production.LocalTypePiece ∷ Production.SourcePiece ∷ Production.NestedName ∷ Production.Symbol ∷ Production.Suffix ∷ Production.SuffixByte ∷ Production.Special ∷ Production.OtherSpecial ∷ Production.Encoding ∷ Production.SpecialType ∷ Production.NonVirtualThunk ∷ Production.VirtualThunk ∷ Production.CovariantThunk ∷ Production.SpecialName ∷ Production.ConstructionVtable ∷ Production.NonVirtualOffset ∷ Production.VirtualOffset ∷ Production.Negative ∷ Production.Positive ∷ Production.NameWithS ∷ Production.LocalName ∷ Production.StdName ∷ Production.AbbreviatedName ∷ Production.OperatorPiece ∷ Production.NestWithS ∷ Production.NestParameter ∷ Production.NestInternal ∷ Production.NestLocalType ∷ Production.NestSource ∷ Production.NestStd ∷ Production.NestTemplate ∷ Production.NestArguments ∷ Production.NestNext ∷ Production.NestTag ∷ Production.NestEnd ∷ Production.Constructor ∷ Production.Destructor ∷ Production.ComponentWithC ∷ Production.OtherOperatorName ∷ Production.Holder ∷ Production.Abbreviation ∷ Production.Substitution ∷ Production.NestedType ∷ Production.StringLiteral ∷ Production.DefaultEntity ∷ Production.DefaultTypeEntity ∷ Production.Discriminator ∷ Production.OneDigit ∷ Production.ManyDigits ∷ Production.Lambda ∷ Production.Unnamed ∷ Production.RestrictType ∷ Production.VolatileType ∷ Production.ConstType ∷ Production.ReferenceType ∷ Production.PlainType ∷ Production.TypeWithD ∷ Production.PlainWithD ∷ Production.QualifiedPlain ∷ Production.ItemWithD ∷ Production.Expansion ∷ Production.ItemIsType ∷ Production.BuiltinWithD ∷ Production.Vector ∷ Production.NoexceptFunction ∷ Production.SizedFloat ∷ Production.Pointer ∷ Production.MemberPointer ∷ Production.Parameter ∷ Production.TypeWithS ∷ Production.LocalType ∷ Production.Builtin ∷ Production.Vendor ∷ Production.ArrayType ∷ Production.Function ∷ Production.Complex ∷ Production.TypeInStd ∷ Production.AbbreviatedType ∷ Production.RestEnd ∷ Production.RestLvalue ∷ Production.RestRvalue ∷ Production.RestItem ∷ Production.RefEnd ∷ Production.LvalueItem ∷ Production.RvalueItem ∷ Production.Items ∷ Production.Arguments ∷ Production.Tag ∷ Production.PackArgument ∷ Production.LiteralArgument ∷ Production.AnyArgument ∷ Production.LiteralElement ∷ Production.AnyElement ∷ Production.Address ∷ Production.EncodingLiteral ∷ Production.BoolLiteral ∷ Production.LiteralWithD ∷ Production.IntegerLiteral ∷ Production.NullLiteral ∷ Production.CharLiteral ∷ Production.OperatorN ∷ Production.OperatorD ∷ Production.OperatorA ∷ Production.OperatorP ∷ Production.OperatorC ∷ Production.OperatorM ∷ Production.OperatorR ∷ Production.OperatorO ∷ Production.OperatorE ∷ Production.OperatorL ∷ Production.OperatorS ∷ Production.OperatorI ∷ Production.OperatorG ∷ Production.LiteralOperator ∷ Production.NestInstance ∷ Production.Conversion ∷ Production.OperatorNameWithC ∷ Production.Clone ∷ Production.TaggedStdType ∷ Production.TypeTag ∷ Production.Expression ∷ Production.ArgumentWithT ∷ Production.PlainArgument ∷ Production.DeclaredArgument ∷ Production.ParameterArgument ∷ Production.OneLiteral ∷ Production.OnePack ∷ Production.AnyType ∷ Production.ValueOf ∷ Production.OfConcept ∷ Production.TemplateOf ∷ Production.PackOf ∷ Production.Declarations ∷ Production.AddressExpression ∷ Production.ParameterExpression ∷ Production.AnyArray ∷ Production.BoundedArray ∷ Production.LengthArray ∷ []
 
 -- the numbers of the productions
 unfoldable pub number_of : Production → ℕ
@@ -583,14 +584,15 @@ number_of Production.PlainArgument = 128
 number_of Production.DeclaredArgument = 129
 number_of Production.ParameterArgument = 130
 number_of Production.OneLiteral = 131
-number_of Production.AnyType = 132
-number_of Production.ValueOf = 133
-number_of Production.OfConcept = 134
-number_of Production.TemplateOf = 135
-number_of Production.PackOf = 136
-number_of Production.Declarations = 137
-number_of Production.AddressExpression = 138
-number_of Production.ParameterExpression = 139
-number_of Production.AnyArray = 140
-number_of Production.BoundedArray = 141
-number_of Production.LengthArray = 142
+number_of Production.OnePack = 132
+number_of Production.AnyType = 133
+number_of Production.ValueOf = 134
+number_of Production.OfConcept = 135
+number_of Production.TemplateOf = 136
+number_of Production.PackOf = 137
+number_of Production.Declarations = 138
+number_of Production.AddressExpression = 139
+number_of Production.ParameterExpression = 140
+number_of Production.AnyArray = 141
+number_of Production.BoundedArray = 142
+number_of Production.LengthArray = 143

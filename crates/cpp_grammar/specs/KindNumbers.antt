@@ -6,7 +6,7 @@ abbrev pub KIND_COUNT : ℕ
 KIND_COUNT = 93
 
 abbrev pub PRODUCTION_COUNT : ℕ
-PRODUCTION_COUNT = 143
+PRODUCTION_COUNT = 144
 
 abbrev pub SYMBOL : ℕ
 SYMBOL = 0

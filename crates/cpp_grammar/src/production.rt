@@ -135,6 +135,7 @@ pub enum Production {
     DeclaredArgument,
     ParameterArgument,
     OneLiteral,
+    OnePack,
     AnyType,
     ValueOf,
     OfConcept,

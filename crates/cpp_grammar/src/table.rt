@@ -293,14 +293,14 @@ static LETTERS: [[u8; 87]; 93] = [
     *b"                                                                                       ", // MaybeTags
     *b"            \xa1\xa1\xa1\xa1\xa1\xa1\xa1\xa1\xa1\xa1       \xa1 \xa1b \xa1    \\ \xa1\xa1]\xa1 ]\xa1\xa0\xa1[ \x9f \xa1      \xa1\xa1\xa1\xa1\xa1\xa1\xa1\xa1\xa1\xa1 \xa1\xa1\xa1\xa1  Z\xa1\xa1\xa1\xa1\xa1\xa1\xa1\xa1", // Argument
     *b"            \xa3\xa3\xa3\xa3\xa3\xa3\xa3\xa3\xa3\xa3                                     \xa3                           ", // ArgumentAfterT
-    *b"            \xa1\xa1\xa1\xa1\xa1\xa1\xa1\xa1\xa1\xa1       \xa1 \xa1b \xa1    \\\xa4\xa1\xa1]\xa1 ]\xa1\xa0\xa1[ \x9f \xa1      \xa1\xa1\xa1\xa1\xa1\xa1\xa1\xa1\xa1\xa1 \xa1\xa1\xa1\xa1  Z\xa1\xa1\xa1\xa1\xa1\xa1\xa1\xa1", // OneArgument
-    *b"                                                                       \xa7  \xa6 \xa9   \xa8    \xa5 ", // DeclarationAfterT
-    *b"                                                \xaa                                      ", // Declarations
+    *b"            \xa1\xa1\xa1\xa1\xa1\xa1\xa1\xa1\xa1\xa1       \xa1 \xa1b \xa1   \xa5\\\xa4\xa1\xa1]\xa1 ]\xa1\xa0\xa1[ \x9f \xa1      \xa1\xa1\xa1\xa1\xa1\xa1\xa1\xa1\xa1\xa1 \xa1\xa1\xa1\xa1  Z\xa1\xa1\xa1\xa1\xa1\xa1\xa1\xa1", // OneArgument
+    *b"                                                                       \xa8  \xa7 \xaa   \xa9    \xa6 ", // DeclarationAfterT
+    *b"                                                \xab                                      ", // Declarations
     *b"            $$$$$$$$$$                    Q    l                                       ", // Concept
     *b"            $$$$$$$$$$       p r  q      jQ i  l #    m      nnnnnnnnnn nnnn   nnonnnnn", // SolidButT
-    *b"                                                             \xab                         ", // ExpressionRest
-    *b"                             \xad                                                         ", // AnyArray
-    *b"            \xaf\xaf\xaf\xaf\xaf\xaf\xaf\xaf\xaf\xaf                                     \xaf                           ", // ArrayRest
+    *b"                                                             \xac                         ", // ExpressionRest
+    *b"                             \xae                                                         ", // AnyArray
+    *b"            \xb0\xb0\xb0\xb0\xb0\xb0\xb0\xb0\xb0\xb0                                     \xb0                           ", // ArrayRest
     *b"            GGGGGGGGGG         GG       G        G           G GGG G G  GGGGG GG       ", // NestMoreOrEnd
 ];
 
@@ -331,7 +331,7 @@ macro_rules! chains {
 }
 
 // The rules of the productions, in the order of their numbers.
-pub static HEADS: [Head; 143] = [
+pub static HEADS: [Head; 144] = [
     takes!(0), // ! Mark
     takes!(2), // \" InternalName
     takes!(2), // # LocalTypeName
@@ -464,21 +464,22 @@ pub static HEADS: [Head; 143] = [
     chains!(2), // \xa2 DeclaredArgument
     chains!(2), // \xa3 ParameterArgument
     takes!(2), // \xa4 OneLiteral
-    takes!(0), // \xa5 AnyType
-    takes!(1), // \xa6 ValueOf
-    takes!(1), // \xa7 OfConcept
-    takes!(2), // \xa8 TemplateOf
-    takes!(2), // \xa9 PackOf
-    takes!(2), // \xaa Declarations
-    takes!(2), // \xab AddressExpression
-    takes!(2), // \xac ParameterExpression
-    takes!(1), // \xad AnyArray
-    takes!(3), // \xae BoundedArray
-    chains!(2), // \xaf LengthArray
+    takes!(2), // \xa5 OnePack
+    takes!(0), // \xa6 AnyType
+    takes!(1), // \xa7 ValueOf
+    takes!(1), // \xa8 OfConcept
+    takes!(2), // \xa9 TemplateOf
+    takes!(2), // \xaa PackOf
+    takes!(2), // \xab Declarations
+    takes!(2), // \xac AddressExpression
+    takes!(2), // \xad ParameterExpression
+    takes!(1), // \xae AnyArray
+    takes!(3), // \xaf BoundedArray
+    chains!(2), // \xb0 LengthArray
 ];
 
 // The symbols of the rules, in the same order.
-pub static SYMBOLS: [Sym; 864] = symbols_listed! {
+pub static SYMBOLS: [Sym; 870] = symbols_listed! {
     [NONE, NONE, NONE, NONE, NONE], // ! Mark
     [NAME, MAYBE_ARGUMENTS, NONE, NONE, NONE], // \" InternalName
     [ANONYMOUS, MAYBE_ARGUMENTS, NONE, NONE, NONE], // # LocalTypeName
@@ -611,24 +612,25 @@ pub static SYMBOLS: [Sym; 864] = symbols_listed! {
     [DECLARATION_AFTER_T, ONE_ARGUMENT, NONE, NONE, NONE], // \xa2 DeclaredArgument
     [DECIMAL, ARGUMENTS_ALONE, NONE, NONE, NONE], // \xa3 ParameterArgument
     [LITERAL, Sym::Byte(b'E'), NONE, NONE, NONE], // \xa4 OneLiteral
-    [NONE, NONE, NONE, NONE, NONE], // \xa5 AnyType
-    [TYPE, NONE, NONE, NONE, NONE], // \xa6 ValueOf
-    [CONCEPT, NONE, NONE, NONE, NONE], // \xa7 OfConcept
-    [DECLARATIONS, Sym::Byte(b'E'), NONE, NONE, NONE], // \xa8 TemplateOf
-    [Sym::Byte(b'T'), DECLARATION_AFTER_T, NONE, NONE, NONE], // \xa9 PackOf
-    [DECLARATION_AFTER_T, DECLARATIONS, NONE, NONE, NONE], // \xaa Declarations
-    [Sym::Byte(b'd'), ADDRESS, NONE, NONE, NONE], // \xab AddressExpression
-    [DECIMAL, Sym::Byte(b'E'), NONE, NONE, NONE], // \xac ParameterExpression
-    [ARRAY_REST, NONE, NONE, NONE, NONE], // \xad AnyArray
-    [DECIMAL, Sym::Byte(b'_'), TYPE, NONE, NONE], // \xae BoundedArray
-    [DECIMAL, TYPE, NONE, NONE, NONE], // \xaf LengthArray
+    [PACK_LIST, Sym::Byte(b'E'), NONE, NONE, NONE], // \xa5 OnePack
+    [NONE, NONE, NONE, NONE, NONE], // \xa6 AnyType
+    [TYPE, NONE, NONE, NONE, NONE], // \xa7 ValueOf
+    [CONCEPT, NONE, NONE, NONE, NONE], // \xa8 OfConcept
+    [DECLARATIONS, Sym::Byte(b'E'), NONE, NONE, NONE], // \xa9 TemplateOf
+    [Sym::Byte(b'T'), DECLARATION_AFTER_T, NONE, NONE, NONE], // \xaa PackOf
+    [DECLARATION_AFTER_T, DECLARATIONS, NONE, NONE, NONE], // \xab Declarations
+    [Sym::Byte(b'd'), ADDRESS, NONE, NONE, NONE], // \xac AddressExpression
+    [DECIMAL, Sym::Byte(b'E'), NONE, NONE, NONE], // \xad ParameterExpression
+    [ARRAY_REST, NONE, NONE, NONE, NONE], // \xae AnyArray
+    [DECIMAL, Sym::Byte(b'_'), TYPE, NONE, NONE], // \xaf BoundedArray
+    [DECIMAL, TYPE, NONE, NONE, NONE], // \xb0 LengthArray
 };
 
 /// The number of the rule that a kind takes at a byte, if it takes one.
 #[inline]
 fn number(kind: u16, byte: u8) -> Option<usize>
     requires { kind < abi.kinds }
-    ensures few { IfSome result (λ number. number < 143) }
+    ensures few { IfSome result (λ number. number < 144) }
     ensures rule { (head : Head) → MatchOption result (abi.rule kind byte ≡ None) (λ number. abi.rule kind byte ≡ Some (listed_rule head number)) }
 {
     match letter_in(&LETTERS[kind as usize], byte) {

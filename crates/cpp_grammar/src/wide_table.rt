@@ -94,14 +94,14 @@ static WIDE_LETTERS: [[u8; 87]; 93] = [
     *b"                              \x9e                                                        ", // MaybeTags
     *b"            \xa1\xa1\xa1\xa1\xa1\xa1\xa1\xa1\xa1\xa1       \xa1 \xa1b \xa1    \\ \xa1\xa1]\xa1 ]\xa1\xa0\xa1[ \x9f \xa1      \xa1\xa1\xa1\xa1\xa1\xa1\xa1\xa1\xa1\xa1 \xa1\xa1\xa1\xa1  Z\xa1\xa1\xa1\xa1\xa1\xa1\xa1\xa1", // Argument
     *b"            \xa3\xa3\xa3\xa3\xa3\xa3\xa3\xa3\xa3\xa3                                     \xa3           \xa2  \xa2 \xa2   \xa2    \xa2 ", // ArgumentAfterT
-    *b"            \xa1\xa1\xa1\xa1\xa1\xa1\xa1\xa1\xa1\xa1       \xa1 \xa1b \xa1    \\\xa4\xa1\xa1]\xa1 ]\xa1\xa0\xa1[ \x9f \xa1      \xa1\xa1\xa1\xa1\xa1\xa1\xa1\xa1\xa1\xa1 \xa1\xa1\xa1\xa1  Z\xa1\xa1\xa1\xa1\xa1\xa1\xa1\xa1", // OneArgument
-    *b"                                                                       \xa7  \xa6 \xa9   \xa8    \xa5 ", // DeclarationAfterT
-    *b"                                                \xaa                                      ", // Declarations
+    *b"            \xa1\xa1\xa1\xa1\xa1\xa1\xa1\xa1\xa1\xa1       \xa1 \xa1b \xa1   \xa5\\\xa4\xa1\xa1]\xa1 ]\xa1\xa0\xa1[ \x9f \xa1      \xa1\xa1\xa1\xa1\xa1\xa1\xa1\xa1\xa1\xa1 \xa1\xa1\xa1\xa1  Z\xa1\xa1\xa1\xa1\xa1\xa1\xa1\xa1", // OneArgument
+    *b"                                                                       \xa8  \xa7 \xaa   \xa9    \xa6 ", // DeclarationAfterT
+    *b"                                                \xab                                      ", // Declarations
     *b"            $$$$$$$$$$                    Q    l                                       ", // Concept
     *b"            $$$$$$$$$$       p r  q      jQ i  l #    m      nnnnnnnnnn nnnn   nnonnnnn", // SolidButT
-    *b"                                                \xac            \xab                         ", // ExpressionRest
-    *b"                             \xad                                                         ", // AnyArray
-    *b"            \xaf\xaf\xaf\xaf\xaf\xaf\xaf\xaf\xaf\xaf                          \xae          \xaf                           ", // ArrayRest
+    *b"                                                \xad            \xac                         ", // ExpressionRest
+    *b"                             \xae                                                         ", // AnyArray
+    *b"            \xb0\xb0\xb0\xb0\xb0\xb0\xb0\xb0\xb0\xb0                          \xaf          \xb0                           ", // ArrayRest
     *b"            GGGGGGGGGG         GGI      GG       G           G GGG G G  GGGGG GG       ", // NestMoreOrEnd
 ];
 
@@ -109,7 +109,7 @@ static WIDE_LETTERS: [[u8; 87]; 93] = [
 #[inline]
 fn number(kind: u16, byte: u8) -> Option<usize>
     requires { kind < wide.kinds }
-    ensures few { IfSome result (λ number. number < 143) }
+    ensures few { IfSome result (λ number. number < 144) }
     ensures rule { (head : Head) → MatchOption result (wide.rule kind byte ≡ None) (λ number. wide.rule kind byte ≡ Some (listed_rule head number)) }
 {
     match letter_in(&WIDE_LETTERS[kind as usize], byte) {

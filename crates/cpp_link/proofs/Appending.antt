@@ -4,7 +4,7 @@ use Rattle.std.specs.Prelude.{slice_get}
 use Rattle.cpp_term.specs.Term.{Term}
 use Rattle.cpp_term.specs.Rescoping.{has_held}
 use Rattle.cpp_term.specs.Values as values
-use Rattle.cpp_link.specs.declared.part.Candidate.{Candidate}
+use Rattle.cpp_references.specs.declared.candidates.Candidate.{Candidate}
 use Rattle.cpp_link.specs.Parts.{candidate_of, candidates_of, is_apart_behind, AreNodesThere, AreCounted, AreCandidatesThere}
 
 pub candidates_push : (ts : List Term) (cs : List Candidate) (c : Candidate) → candidates_of ts (cs ++ c ∷ []) ≡ candidates_of ts cs ++ candidate_of ts c ∷ []

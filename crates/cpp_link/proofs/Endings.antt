@@ -24,7 +24,7 @@ use Rattle.cpp_grammar.specs.Values.{local_number}
 use Rattle.cpp_grammar.proofs.ClosedTrees.{at_number, its_symbols, taken_rule}
 use Rattle.cpp_term.specs.Unfolding.{number_tested, opening, cpp}
 use Rattle.cpp_term.specs.Values.{State, Around}
-use Rattle.cpp_link.specs.declared.part.Kept.{Kept}
+use Rattle.cpp_references.specs.declared.around.Kept.{Kept}
 use Rattle.cpp_link.specs.declared.linked.Linked.{Linked}
 use Rattle.cpp_term.specs.Term.{Term}
 use Rattle.cpp_link.specs.Parts.{packs_of, around_of, IsKeptThere}

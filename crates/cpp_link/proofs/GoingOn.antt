@@ -14,7 +14,7 @@ use Rattle.cpp_term.specs.Values.{State, Value, Around}
 use Rattle.cpp_term.specs.Between.{between}
 use Rattle.cpp_term.specs.Unfolding.{cpp}
 use Rattle.cpp_link.specs.declared.linked.Linked.{Linked}
-use Rattle.cpp_link.specs.declared.part.Kept.{Kept}
+use Rattle.cpp_references.specs.declared.around.Kept.{Kept}
 use Rattle.cpp_link.specs.declared.part.Part.{Part}
 use Rattle.cpp_link.specs.declared.part.Step.{Step}
 use Rattle.cpp_link.specs.Making.{state_of}

@@ -16,8 +16,8 @@ use Rattle.cpp_term.specs.References.{substituted}
 use Rattle.cpp_term.specs.Unfolding.{behind, close}
 use Rattle.cpp_tree.specs.Nodes.{tree_at}
 use Rattle.cpp_link.specs.declared.linked.Linked.{Linked}
-use Rattle.cpp_link.specs.declared.part.Candidate.{Candidate}
-use Rattle.cpp_link.specs.declared.part.Kept.{Kept}
+use Rattle.cpp_references.specs.declared.candidates.Candidate.{Candidate}
+use Rattle.cpp_references.specs.declared.around.Kept.{Kept}
 use Rattle.cpp_link.specs.declared.part.Part.{Part}
 use Rattle.cpp_link.specs.Making.{state_of, IsRare, IsCommon}
 use Rattle.cpp_link.specs.Parts.{trees_in, values_in, around_of, candidates_of, AreThere, IsKeptThere, AreNodesThere, AreCandidatesThere}
@@ -28,18 +28,6 @@ use Rattle.cpp_link.specs.Staying.{values_stay, around_stays, candidates_stay, t
 pub parts_more : (s : List ℕ) (m n : ℕ) (ps : List Part) → m ≤ n → AreThere s m ps → AreThere s n ps
 parts_more s m n [] le there = tt
 parts_more s m n (p ∷ ps) le there = (there_more s m n p le there.0, parts_more s m n ps le there.1)
-
--- a candidate by its number
-pub candidate_at : (ts : List Term) (cs : List Candidate) (k : ℕ) → maybe_candidate ts (slice_get cs k) ≡ slice_get (candidates_of ts cs) k
-unfolding maybe_candidate
-candidate_at ts [] k = refl
-candidate_at ts (c ∷ cs) zero = refl
-candidate_at ts (c ∷ cs) (suc k) = candidate_at ts cs k
-
-pub candidate_there : (n : ℕ) (cs : List Candidate) (k : ℕ) → AreNodesThere n cs → IfSome (slice_get cs k) (λ c. c.node < n)
-candidate_there n [] k there = tt
-candidate_there n (c ∷ cs) zero there = there.0
-candidate_there n (c ∷ cs) (suc k) there = candidate_there n cs k there.1
 
 same_behind : (p : Production) (byte : ℕ) (later around : Around) (began : State) (us vs : List Value) (ds cs : List values.Candidate) (then packs : Option ℕ)
     → later ≡ around → us ≡ vs → ds ≡ cs → then ≡ packs

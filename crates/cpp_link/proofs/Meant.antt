@@ -28,10 +28,6 @@ pub one_is : {g : Free} (f : Noted) (k : ℕ) → f ≡ Noted.One k → free_is 
 unfolding free_is
 one_is f k is free = sym (ap free_is is) ∙ free
 
-pub scope_closed : (ts : List Term) (o : Option ℕ) (a : ℕ) → o ≡ Some a → IfSome (tree_if_there ts o) (λ x. is_open x ≡ false) → is_open (tree_at ts a) ≡ false
-unfolding tree_if_there
-scope_closed ts o a is closed = subst (λ x. IfSome (tree_if_there ts x) (λ y. is_open y ≡ false)) is closed
-
 abbrev Named : Type 0
 Named = Result (Found Value State) Refusal
 

@@ -24,7 +24,7 @@ use Rattle.cpp_grammar.proofs.ClosedTrees.{at_number, its_symbols, taken_rule}
 use Rattle.cpp_term.specs.Unfolding.{cpp}
 use Rattle.cpp_term.specs.Values.{State, Value, Around}
 use Rattle.cpp_link.specs.declared.part.Part.{Part}
-use Rattle.cpp_link.specs.declared.part.Kept.{Kept}
+use Rattle.cpp_references.specs.declared.around.Kept.{Kept}
 use Rattle.cpp_link.specs.declared.linked.Linked.{Linked}
 use Rattle.cpp_link.specs.Next.{at_least, over, is_mark, is_list, is_argument, is_element, nested_mark, type_mark, behind_bytes, behind_list, next_part, token_part}
 use Rattle.cpp_link.specs.Tables.{skips_parts}

@@ -9,7 +9,6 @@ use Rattle.cpp_term.specs.Term as term
 use Rattle.cpp_term.specs.Term.{Term, absent}
 use Rattle.cpp_term.specs.Scope.{has_return_type, is_structor}
 use Rattle.cpp_term.specs.Meaning.{is_void, is_nil, parameters, encoding_of}
-use Rattle.cpp_term.specs.References.{is_function_type}
 use Rattle.cpp_term.specs.Rescoping.{is_instance}
 use Rattle.cpp_term.specs.Values.{Value, tree_of, qualifiers_of, ref_of}
 use Rattle.cpp_tree.specs.Nodes as nodes
@@ -23,7 +22,7 @@ use Rattle.cpp_tree.specs.declared.node.Node.{Node}
 use Rattle.cpp_tree.specs.declared.node.Piece.{Piece}
 use Rattle.cpp_tree.specs.Notes.{is_structor_node, is_structor_piece}
 use Rattle.cpp_tree.specs.declared.node.Thunk.{Thunk}
-use Rattle.cpp_link.specs.Reads.{void_node, nil_node, function_node, instance_node, cell_under, parameters_by, encoding_by, IsSplitThere}
+use Rattle.cpp_link.specs.Reads.{void_node, nil_node, instance_node, cell_under, parameters_by, encoding_by, IsSplitThere}
 
 -- ## Productions by their numbers
 
@@ -110,12 +109,6 @@ pub split_there : (s : List ℕ) (held n : ℕ) (node : Node) (under : Option �
 unfolding cell_under
 split_there s held n (Node.Cell first rest) under below there = (below.0, (below.1, there))
 split_there s held n _ under below there = tt
-
-pub function_is : (s : List ℕ) (us : List Thunk) (ts : List Term) (given : Option Term) (node : Node) → is_again node ≡ false → is_function_type (reargued given (nodes.tree_of s us ts node)) ≡ function_node node
-unfolding is_function_type nodes.tree_of function_node reargued is_again
-function_is s us ts given (Node.Again t a) own = absurd (true≢false own)
-function_is s us ts given Node.Absent own = refl
-function_is s us ts given _ own = refl
 
 pub instance_is : (s : List ℕ) (us : List Thunk) (ts : List Term) (given : Option Term) (node : Node) → is_again node ≡ false → is_instance (reargued given (nodes.tree_of s us ts node)) ≡ instance_node node
 unfolding is_instance nodes.tree_of instance_node reargued is_again

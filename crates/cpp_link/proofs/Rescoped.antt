@@ -31,7 +31,7 @@ use Rattle.cpp_tree.specs.Nodes.{Stored, tree_at, piece_of}
 use Rattle.cpp_tree.specs.declared.node.Piece.{Piece}
 use Rattle.cpp_link.specs.declared.linked.Linked.{Linked}
 use Rattle.cpp_link.specs.declared.part.Part.{Part}
-use Rattle.cpp_link.specs.declared.part.Kept.{Kept}
+use Rattle.cpp_references.specs.declared.around.Kept.{Kept}
 use Rattle.cpp_link.specs.declared.part.Step.{Step}
 use Rattle.cpp_link.specs.LinkReading.{link_close, link_meaning, linked}
 use Rattle.cpp_link.specs.LinkRescoping.{link_close_wide, linked_wide, is_parameter, is_parameter_argument, generic_read, is_substitution, is_lambda_production, is_holder, names_generic, names_holder, number_in, named_by, substituted_nodes, wide_at_end, wide_view}

@@ -4,7 +4,7 @@ use Rattle.sym_link.specs.declared.language.Frame.{Frame}
 use Rattle.sym_link.specs.Driving.{AreAll}
 use Rattle.sym_link.specs.Threads.{IsOpenAt}
 use Rattle.cpp_term.specs.Values.{Value, Around}
-use Rattle.cpp_link.specs.declared.part.Kept.{Kept}
+use Rattle.cpp_references.specs.declared.around.Kept.{Kept}
 use Rattle.cpp_link.specs.declared.part.Part.{Part}
 use Rattle.cpp_link.specs.declared.linked.Linked.{Linked}
 use Rattle.cpp_link.specs.Parts.{trees_in, values_of, values_in, around_of, IsClosed, AreThere}

@@ -14,7 +14,7 @@ use Rattle.cpp_term.specs.Unfolding.{cpp}
 use Rattle.cpp_term.specs.Rescoping.{cpp_wide}
 use Rattle.cpp_link.specs.declared.linked.Linked.{Linked}
 use Rattle.cpp_link.specs.declared.part.Part.{Part}
-use Rattle.cpp_link.specs.declared.part.Kept.{Kept}
+use Rattle.cpp_references.specs.declared.around.Kept.{Kept}
 use Rattle.cpp_link.specs.declared.rescoping.Rescoping.{Rescoping}
 use Rattle.cpp_link.specs.LinkRescoping.{within, wide_view}
 use Rattle.cpp_link.specs.View.{Surrounds, cpp_view}

@@ -22,7 +22,7 @@ use Rattle.cpp_term.specs.Between.{Going, next}
 use Rattle.cpp_link.specs.declared.linked.Linked.{Linked}
 use Rattle.cpp_link.specs.declared.rescoping.Rescoping.{Rescoping}
 use Rattle.cpp_link.specs.declared.part.Part.{Part}
-use Rattle.cpp_link.specs.declared.part.Kept.{Kept}
+use Rattle.cpp_references.specs.declared.around.Kept.{Kept}
 use Rattle.cpp_link.specs.LinkReading.{link_begin, link_close, link_meaning}
 use Rattle.cpp_link.specs.NodeCount.{makes_before, makes_at_end, counted_nodes}
 use Rattle.cpp_link.specs.View.{cpp_view}

@@ -14,7 +14,7 @@ use Rattle.cpp_term.specs.Meaning.{is_void, is_nil}
 use Rattle.cpp_term.specs.Unfolding.{cpp, first_around, first_state}
 use Rattle.cpp_link.specs.declared.linked.Linked.{Linked}
 use Rattle.cpp_link.specs.declared.part.Part.{Part}
-use Rattle.cpp_link.specs.declared.part.Kept.{Kept}
+use Rattle.cpp_references.specs.declared.around.Kept.{Kept}
 use Rattle.cpp_link.specs.Owed.{made_before, made_at_end}
 use Rattle.cpp_link.specs.View.{cpp_view}
 

@@ -13,13 +13,13 @@ use Rattle.cpp_term.specs.Values.{State, Value, Around, tree_of, qualifiers_of, 
 use Rattle.cpp_tree.specs.Nodes.{Stored, tree_at, tree_if_there, IsThereBelow}
 use Rattle.cpp_term.specs.Between.{Going, after}
 use Rattle.cpp_link.specs.declared.part.Step.{Step}
-use Rattle.cpp_link.specs.declared.part.Kept.{Kept}
+use Rattle.cpp_references.specs.declared.around.Kept.{Kept}
 use Rattle.cpp_tree.specs.declared.node.Node.{Node}
-use Rattle.cpp_link.specs.declared.part.Candidate.{Candidate}
-use Rattle.cpp_link.specs.declared.part.Opened.{Opened}
+use Rattle.cpp_references.specs.declared.again.OpenedNode.{OpenedNode}
 use Rattle.cpp_link.specs.declared.signatures.Split.{Split}
 use Rattle.cpp_term.specs.Reargued.{reargued}
 use Rattle.cpp_link.specs.Parts.{trees_in, tree_of_node, around_of, candidate_of}
+unfoldable pub use Rattle.cpp_references.specs.References.{packs_read, maybe_candidate, node_read, parameter_read}
 
 -- ## Nodes
 
@@ -31,10 +31,6 @@ unfoldable pub nil_node : Node → Bool
 nil_node Node.Nil = true
 nil_node _ = false
 
-unfoldable pub function_node : Node → Bool
-function_node (Node.FunctionType c_linkage noexcept m returned parameters) = true
-function_node _ = false
-
 unfoldable pub instance_node : Node → Bool
 instance_node (Node.Instance template arguments) = true
 instance_node _ = false
@@ -44,7 +40,7 @@ unfoldable pub cell_under : Node → Option ℕ → Option Split
 cell_under (Node.Cell first rest) under = Some (record { first = first; rest = rest; under = under })
 cell_under _ under = None
 
-unfoldable pub split_of : Opened → Option Split
+unfoldable pub split_of : OpenedNode → Option Split
 split_of list = cell_under list.node list.under
 
 abbrev pub IsSplitThere : ℕ → Split → Type 0
@@ -62,25 +58,6 @@ encoding_by ts name (Some l) items = elim (has_return_type (tree_of name)) [
   | true ↦ term.function (tree_of name) (qualifiers_of name) (ref_of name) (reargued (tree_if_there ts l.under) (tree_at ts l.first)) (reargued (tree_if_there ts l.under) (parameters (tree_at ts l.rest)))
   | false ↦ term.function (tree_of name) (qualifiers_of name) (ref_of name) absent (parameters items)
 ]
-
--- ## References
-
-unfoldable pub packs_read : List values.Candidate → Result (Option ℕ) Refusal → Result State Refusal
-packs_read cs (Ok packs) = Ok (record { candidates = cs; packs = packs })
-packs_read cs (Err e) = Err e
-
-unfoldable pub maybe_candidate : List Term → Option Candidate → Option values.Candidate
-maybe_candidate ts None = None
-maybe_candidate ts (Some c) = Some (candidate_of ts c)
-
-unfoldable pub node_read : List Term → List values.Candidate → Result (ℕ × Option ℕ) Refusal → Result (Found Value State) Refusal
-node_read ts cs (Ok r) = Ok (found (values.tree (tree_at ts r.0) true) (record { candidates = cs; packs = r.1 }))
-node_read ts cs (Err e) = Err e
-
--- a parameter that became a candidate, by its node
-unfoldable pub parameter_read : Around → List ℕ → Stored → List values.Candidate → Result (Node × Option ℕ) Refusal → Result State Refusal
-parameter_read around s y cs (Ok r) = Ok (appended around (tree_of_node s y r.0) (record { candidates = cs; packs = r.1 }))
-parameter_read around s y cs (Err e) = Err e
 
 -- a tree more or less among the candidates
 unfoldable pub with_candidate : Around → List Term → Option ℕ → State → State

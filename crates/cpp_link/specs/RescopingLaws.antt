@@ -18,7 +18,7 @@ use Rattle.cpp_term.specs.Unfolding.{cpp}
 use Rattle.cpp_term.specs.Rescoping.{generic_so_far, parameter_here, argument_here, with_holder, is_instance, holder_so_far, between_wide, cpp_wide}
 use Rattle.cpp_link.specs.declared.linked.Linked.{Linked}
 use Rattle.cpp_link.specs.declared.part.Part.{Part}
-use Rattle.cpp_link.specs.declared.part.Kept.{Kept}
+use Rattle.cpp_references.specs.declared.around.Kept.{Kept}
 use Rattle.cpp_link.specs.Counts.{parameter_counts, argument_counts, between_counts}
 use Rattle.cpp_link.specs.LinkRescoping.{wide_makes, wide_view, within, wide_counted}
 use Rattle.cpp_link.specs.ViewLaws.{cpp_laws, cpp_threads}

@@ -3,9 +3,9 @@ use Rattle.std.proofs.Common.{◌≡◌, refl, arith, ℕ, ◌<◌, ◌≤◌, L
 use Rattle.cpp_tree.specs.Nodes.{Stored, tree_at, piece_of, tree_if_there, IsPieceBelow, IsThereBelow}
 use Rattle.cpp_tree.specs.declared.node.Piece.{Piece}
 use Rattle.cpp_link.specs.declared.part.Part.{Part}
-use Rattle.cpp_link.specs.declared.part.Prefix.{Prefix}
-use Rattle.cpp_link.specs.declared.part.Kept.{Kept}
-use Rattle.cpp_link.specs.declared.part.Candidate.{Candidate}
+use Rattle.cpp_references.specs.declared.around.Prefix.{Prefix}
+use Rattle.cpp_references.specs.declared.around.Kept.{Kept}
+use Rattle.cpp_references.specs.declared.candidates.Candidate.{Candidate}
 use Rattle.cpp_link.specs.Parts.{trees_in, value_of, values_of, value_in, values_in, prefix_of, scope_of, name_of, around_of, candidates_of, IsThere, AreThere, IsPrefixThere, IsKeptThere, AreNodesThere, AreCandidatesThere}
 
 module _ (s : List ℕ) (old new : Stored) (stays : (i : ℕ) → i < length old.nodes → tree_at (trees_in s new) i ≡ tree_at (trees_in s old) i) where

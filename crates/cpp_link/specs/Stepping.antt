@@ -4,7 +4,7 @@ use Rattle.sym_core.specs.declared.refusal.Refusal.{Refusal}
 use Rattle.cpp_grammar.specs.declared.production.Production.{Production}
 use Rattle.cpp_link.specs.declared.linked.Linked.{Linked}
 use Rattle.cpp_link.specs.declared.part.Part.{Part}
-use Rattle.cpp_link.specs.declared.part.Kept.{Kept}
+use Rattle.cpp_references.specs.declared.around.Kept.{Kept}
 use Rattle.cpp_link.specs.declared.part.Step.{Step}
 use Rattle.cpp_link.specs.Grows.{Grows}
 use Rattle.cpp_link.specs.Making.{state_of}

@@ -7,7 +7,7 @@ use Rattle.cpp_term.specs.Unfolding.{first_around, first_state}
 use Rattle.cpp_term.specs.Values.{State, Value, Around}
 use Rattle.cpp_tree.specs.Nodes.{over, tree_at, IsTable}
 use Rattle.cpp_link.specs.declared.part.Part.{Part}
-use Rattle.cpp_link.specs.declared.part.Kept.{Kept}
+use Rattle.cpp_references.specs.declared.around.Kept.{Kept}
 use Rattle.cpp_link.specs.declared.linked.Linked.{Linked}
 use Rattle.cpp_link.specs.LinkReading.{linked}
 use Rattle.cpp_link.specs.Room.{lists_of}

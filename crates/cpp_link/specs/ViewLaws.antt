@@ -11,7 +11,7 @@ use Rattle.cpp_grammar.specs.Unfolding.{production_at}
 use Rattle.cpp_term.specs.Unfolding.{cpp}
 use Rattle.cpp_term.specs.Values.{State, Value, Around}
 use Rattle.cpp_link.specs.declared.part.Part.{Part}
-use Rattle.cpp_link.specs.declared.part.Kept.{Kept}
+use Rattle.cpp_references.specs.declared.around.Kept.{Kept}
 use Rattle.cpp_link.specs.declared.linked.Linked.{Linked}
 use Rattle.cpp_link.specs.Owed.{owes}
 use Rattle.cpp_link.specs.Bound.{few_nodes}

@@ -1,41 +1,21 @@
 // What comes behind a rule: types become candidates.
 
-ghost use Rattle.std.specs.Prelude.{◌≡◌, ℕ, ◌<◌, List, length};
+ghost use Rattle.std.specs.Prelude.{◌≡◌, ℕ, List, length};
 ghost use Rattle.cpp_term.specs.Values as values;
 ghost use Rattle.cpp_term.specs.Values.{State};
-ghost use Rattle.cpp_term.specs.References.{with_unqualified, is_function_type};
+ghost use Rattle.cpp_term.specs.References.{with_unqualified};
 ghost use Rattle.cpp_term.specs.Unfolding as unfolding_;
-ghost use Rattle.cpp_tree.specs.Nodes.{over, tree_at, IsThereBelow, IsTable};
+ghost use Rattle.cpp_tree.specs.Nodes.{over, IsThereBelow, IsTable};
 ghost use Rattle.cpp_link.specs.LinkReading.{link_meaning};
 ghost use Rattle.cpp_link.specs.Parts.{trees_in, value_in, values_in, packs_of, around_of, IsThere, AreThere};
-ghost use Rattle.cpp_link.specs.Reads.{with_candidate, function_node};
+ghost use Rattle.cpp_link.specs.Reads.{with_candidate};
 
 use crate::linked::Linked;
 use crate::part::{Behind, Kept, Part};
 use cpp_grammar::production::Production;
-use cpp_tree::node::Node;
-
-/// Whether it is the type of a function.
-#[tactic(auto, unfolding(crate::specs::Reads::function_node))]
-fn is_function(node: Node) -> bool
-    ensures { result ≡ function_node node }
-{
-    match node {
-        Node::FunctionType { .. } => true,
-        _ => false,
-    }
-}
+use cpp_references::candidates::is_function_type;
 
 impl Linked {
-    /// Whether a node's tree is the type of a function.
-    fn is_function_type(&self, symbol: &[u8], node: u32) -> bool
-        requires table { IsTable (over symbol.now self.now.nodes) }
-        requires below { node < length self.now.nodes.nodes }
-        ensures { result ≡ is_function_type (tree_at (trees_in symbol.now self.now.nodes) node) }
-    {
-        is_function(self.opened(symbol, node).node)
-    }
-
     /// The candidate that a type becomes under qualifiers.
     #[tactic(auto, unfolding(crate::specs::Reads::with_candidate, cpp_term::specs::References::with_unqualified))]
     fn unqualified_candidate(&self, symbol: &[u8], kept: Kept, part: Part) -> Option<u32>
@@ -45,7 +25,7 @@ impl Linked {
         ensures there { IsThereBelow (length self.now.nodes.nodes) result }
     {
         let node = self.node(symbol, part);
-        if self.is_function_type(symbol, node) {
+        if is_function_type(&self.nodes, symbol, node) {
             return None;
         }
         self.type_candidate(symbol, kept, part)

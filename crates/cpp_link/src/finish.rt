@@ -1,6 +1,6 @@
 // A rule closes over all its parts.
 
-ghost use Rattle.std.specs.Prelude.{◌≡◌, ℕ, ◌+◌, ◌-◌, ◌<◌, ◌≤◌, ◌^◌, MatchOption, length, drop, slice_get, slice_index, Ok, IfOk, IfErr, IfSome, OnOk, OnErr};
+ghost use Rattle.std.specs.Prelude.{◌≡◌, ℕ, ◌+◌, ◌-◌, ◌<◌, ◌≤◌, length, drop, slice_get, slice_index, Ok, IfOk, IfErr, IfSome, OnOk, OnErr};
 ghost use Rattle.sym_core.specs.Number.{FitsSymbol};
 ghost use Rattle.sym_core.specs.Value.{counted_value};
 ghost use Rattle.sym_core.specs.declared.NumberKind.TheVariants as kinds;
@@ -28,22 +28,10 @@ use crate::dispatch::production_of;
 use crate::linked::Linked;
 use crate::part::{Candidate, Kept, Meant, Part};
 use cpp_grammar::production::Production;
-use sym_core::{Refusal, Span, value36};
+use cpp_references::candidates::{named, substitution};
+use sym_core::{Refusal, Span};
 use sym_link::language::Frame;
 use sym_link::parts::put;
-
-/// The candidate of a number.
-pub(crate) fn numbered(candidates: &[Candidate], counted: Option<u64>) -> Option<Candidate>
-    ensures { (k : ℕ) → MatchOption counted (2 ^ 64 ≤ k) (λ v. v ≡ k) → result ≡ slice_get candidates.now k }
-{
-    match counted {
-        Some(number) => match candidates.get(number as usize) {
-            Some(candidate) => Some(*candidate),
-            None => None,
-        },
-        None => None,
-    }
-}
 
 impl Linked {
     /// The candidate that these digits name: none are the first, and 0 is the next.
@@ -53,8 +41,7 @@ impl Linked {
         ensures is { maybe_candidate (trees_in symbol.now self.now.nodes) result ≡ slice_get (candidates_of (trees_in symbol.now self.now.nodes) self.now.candidates.items) (counted_value kinds.Seq36 (bytes_at symbol.now digits)) }
         ensures there { IfSome result (λ c. c.node < length self.now.nodes.nodes) }
     {
-        let counted = value36(&symbol[digits.from as usize..digits.to as usize]);
-        numbered(&self.candidates, counted)
+        named(&self.candidates, symbol, digits)
     }
 
     /// A substitution closes: its part is the candidate that it names.
@@ -78,8 +65,16 @@ impl Linked {
         ensures candidates { self.new.candidates ≡ self.old.candidates }
         ensures bad { IfErr result (λ e. e ≡ refusals.Memory → ⊥) }
     {
-        let candidate = self.candidate(symbol, self.text(symbol, parts, 0));
-        let (node, packs) = self.substituted(symbol, kept, place.saturating_sub(1), candidate)?;
+        let digits = self.text(symbol, parts, 0);
+        let (node, packs) = substitution(
+            &self.nodes,
+            symbol,
+            kept,
+            place,
+            &self.candidates,
+            digits,
+            self.packs,
+        )?;
         self.packs = packs;
         Ok(Part::Tree { node, listed: true })
     }

@@ -23,10 +23,11 @@ ghost use Rattle.cpp_link.specs.Room.{KeepsRoom, LacksRoom, IsRoomy};
 ghost use Rattle.cpp_link.specs.View as view;
 ghost use Rattle.cpp_link.specs.View.{IsPaid, IsWhole, Surrounds, cpp_view};
 
-use crate::finish::numbered;
 use crate::linked::{Linked, has_holder, is_apart};
 use crate::part::{Kept, Part, Step};
 use cpp_grammar::production::Production;
+use cpp_references::again::opened;
+use cpp_references::candidates::numbered;
 use cpp_tree::node::Node;
 use sym_core::{Refusal, Span, value36};
 use sym_link::language::Frame;
@@ -70,7 +71,7 @@ impl Linked {
         requires below { node < length self.now.nodes.nodes }
         ensures { result ≡ is_instance (tree_at (trees_in symbol.now self.now.nodes) node) }
     {
-        is_instance_node(self.opened(symbol, node).node)
+        is_instance_node(opened(&self.nodes, symbol, node).node)
     }
 
     /// Whether all compilers count alike up to the candidate that these digits name.

@@ -333,6 +333,8 @@ impl Linked {
             Production::DeclaredArgument => tree(self.tree(symbol, parts, 1), true),
             // <template-arg> ::= <expr-primary>
             Production::OneLiteral => Meant::Given(self.given(symbol, parts, 0)),
+            // <template-arg> ::= J <template-arg>* E, behind a <template-param-decl>
+            Production::OnePack => made(Node::Pack(self.list(symbol, parts, 0)), true),
             // <template-param-decl> ::= Ty
             Production::AnyType => Meant::Given(Part::Letter(byte)),
             // <template-param-decl> ::= Tn <type>

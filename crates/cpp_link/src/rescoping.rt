@@ -33,8 +33,10 @@ ghost use Rattle.cpp_link.specs.View.{IsPaid, IsWhole, Surrounds, cpp_view};
 use crate::dispatch::production_of;
 use crate::linked::Linked;
 use crate::part::{Candidate, Kept, Part, Step};
-use crate::references::with_packs;
 use cpp_grammar::production::Production;
+use cpp_references::candidates::substituted;
+use cpp_references::packs::with_packs;
+use cpp_references::parameters::{argument, count};
 use cpp_tree::node::{Free, Node, Piece, Placed};
 use cpp_tree::nodes::AUTO;
 use std::alloc::Global;
@@ -165,7 +167,7 @@ impl Linked {
         ensures { result ≡ is_foreign (around_of (trees_in symbol.now self.now.nodes) kept) (candidate_of (trees_in symbol.now self.now.nodes) candidate) }
     {
         let elsewhere = candidate.in_lambda || candidate.encoding != kept.encoding;
-        self.is_open(symbol, candidate.node) && (kept.in_lambda() || elsewhere)
+        self.nodes.is_open(symbol, candidate.node) && (kept.in_lambda() || elsewhere)
     }
 
     /// The length of the packs that a tree's parameters name with this argument.
@@ -216,10 +218,10 @@ impl Linked {
         let Some(scope) = kept.in_scope() else {
             return Err(Refusal::BadReference { at: place });
         };
-        if number >= self.count(symbol, scope) {
+        if number >= count(&self.nodes, symbol, scope) {
             return Err(Refusal::BadReference { at: place });
         }
-        let argument = self.argument(symbol, scope, number);
+        let argument = argument(&self.nodes, symbol, scope, number);
         let own = self.packs_with(symbol, node, argument);
         match with_packs(place, kept.in_expansion, own, self.packs) {
             Ok(packs) => Ok((argument, packs)),
@@ -302,7 +304,7 @@ impl Linked {
         if self.is_foreign(symbol, kept, candidate) {
             return self.restate(symbol, kept, at, candidate.node);
         }
-        match self.substituted(symbol, kept, at, Some(candidate)) {
+        match substituted(&self.nodes, symbol, kept, at, Some(candidate), self.packs) {
             Ok((node, packs)) => {
                 self.packs = packs;
                 Ok(Part::Tree { node, listed: true })
@@ -380,7 +382,7 @@ impl Linked {
     {
         match piece {
             Piece::Lambda { parameters, number } => {
-                if self.is_open(symbol, parameters) {
+                if self.nodes.is_open(symbol, parameters) {
                     return Piece::GenericLambda { parameters, number };
                 }
                 piece

@@ -12,7 +12,8 @@ ghost use Rattle.cpp_link.specs.Reads.{void_node, nil_node, split_of, parameters
 ghost use Rattle.cpp_term.specs.Scope.{has_return_type};
 
 use crate::linked::Linked;
-use crate::part::{Meant, Opened, Part};
+use crate::part::{Meant, Part};
+use cpp_references::again::{OpenedNode, opened};
 use cpp_tree::node::{Node, under_word};
 use cpp_tree::nodes::{ABSENT, NIL};
 
@@ -48,7 +49,7 @@ pub(crate) struct Split {
 
 /// The first element and the others of a list that has some.
 #[tactic(auto, unfolding(crate::specs::Reads::split_of))]
-fn split_of(list: Opened) -> Option<Split>
+fn split_of(list: OpenedNode) -> Option<Split>
     ensures { result ≡ split_of list }
 {
     match list.node {
@@ -76,8 +77,8 @@ impl Linked {
         requires rest { rest < length self.now.nodes.nodes }
         ensures { result ≡ (is_void (tree_at (trees_in symbol.now self.now.nodes) first) && is_nil (tree_at (trees_in symbol.now self.now.nodes) rest)) }
     {
-        let item = self.opened(symbol, first).node;
-        let others = self.opened(symbol, rest).node;
+        let item = opened(&self.nodes, symbol, first).node;
+        let others = opened(&self.nodes, symbol, rest).node;
         is_lone(item, others)
     }
 
@@ -89,7 +90,7 @@ impl Linked {
         ensures encoding { (name : values.Value) → encoding_of name (tree_at (trees_in symbol.now self.now.nodes) list) ≡ encoding_by (trees_in symbol.now self.now.nodes) name result (tree_at (trees_in symbol.now self.now.nodes) list) }
         ensures there { IfSome result (IsSplitThere (length self.now.nodes.nodes)) }
     {
-        split_of(self.opened(symbol, list))
+        split_of(opened(&self.nodes, symbol, list))
     }
 
     /// The parameters that a list of items says: a lone void is none.

@@ -12,7 +12,7 @@ ghost use Rattle.cpp_term.specs.Between.{between, no_items, applied, named_so_fa
 ghost use Rattle.cpp_term.specs.References.{with_prefix, with_type};
 ghost use Rattle.cpp_tree.specs.Nodes as nodes;
 ghost use Rattle.cpp_tree.specs.Nodes.{over, tree_at, bytes_at, IsWithin, IsPieceBelow, IsThereBelow, IsBelow, IsTable};
-ghost use Rattle.cpp_link.specs.declared.part.Kept.{Kept};
+ghost use Rattle.cpp_references.specs.declared.around.Kept.{Kept};
 ghost use Rattle.cpp_link.specs.declared.part.Part.TheVariants as variants;
 ghost use Rattle.cpp_link.specs.declared.part.Step.{Step};
 ghost use Rattle.cpp_link.specs.Parts.{trees_in, tree_of_node, value_in, values_in, prefix_of, name_of, around_of, IsClosed, IsThere, AreThere, IsPrefixThere, IsKeptThere, IsStepThere};
@@ -25,6 +25,8 @@ use crate::linked::Linked;
 use crate::part::{Kept, Naming, Part, Step};
 use crate::values::{is_listed, letter_of, list_of, node_of, piece_of, text_of};
 use cpp_grammar::production::Production;
+use cpp_references::again::opened;
+use cpp_references::parameters::closed_arguments;
 use cpp_tree::node::{Node, Piece};
 use cpp_tree::nodes::{ABSENT, NO_ELEMENTS};
 use sym_core::{Refusal, Span};
@@ -126,7 +128,7 @@ impl Linked {
         requires name { name < length self.now.nodes.nodes }
         ensures { result ≡ is_structor (tree_at (trees_in symbol.now self.now.nodes) name) }
     {
-        self.opened(symbol, name).node.is_structor()
+        opened(&self.nodes, symbol, name).node.is_structor()
     }
 
     /// What is done before the first part.
@@ -322,7 +324,7 @@ impl Linked {
             },
             Production::Encoding => {
                 let name = self.node(symbol, first);
-                self.go(self.in_encoding(kept, place, self.closed_arguments(symbol, name)))
+                self.go(self.in_encoding(kept, place, closed_arguments(&self.nodes, symbol, name)))
             }
             Production::LocalName => self.go(self.behind_name(
                 kept,
@@ -492,7 +494,7 @@ impl Linked {
             },
             Production::Encoding => {
                 let name = self.node(symbol, first);
-                self.go(self.in_encoding(kept, place, self.closed_arguments(symbol, name)))
+                self.go(self.in_encoding(kept, place, closed_arguments(&self.nodes, symbol, name)))
             }
             Production::LocalName => self.go(self.behind_name(
                 kept,
@@ -562,7 +564,7 @@ impl Linked {
             },
             Production::Encoding => {
                 let name = self.node(symbol, first);
-                self.go(self.in_encoding(kept, place, self.closed_arguments(symbol, name)))
+                self.go(self.in_encoding(kept, place, closed_arguments(&self.nodes, symbol, name)))
             }
             Production::LocalName => self.go(self.behind_name(
                 kept,
@@ -614,7 +616,7 @@ impl Linked {
             },
             Production::Encoding => {
                 let name = self.node(symbol, first);
-                self.go(self.in_encoding(kept, place, self.closed_arguments(symbol, name)))
+                self.go(self.in_encoding(kept, place, closed_arguments(&self.nodes, symbol, name)))
             }
             Production::LocalName => self.go(self.behind_name(
                 kept,

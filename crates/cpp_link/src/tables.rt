@@ -3,7 +3,7 @@
 use cpp_grammar::production::Production;
 
 /// The productions.
-pub(crate) const PRODUCTIONS: [Production; 143] = [
+pub(crate) const PRODUCTIONS: [Production; 144] = [
     Production::Mark,
     Production::InternalName,
     Production::LocalTypeName,
@@ -136,6 +136,7 @@ pub(crate) const PRODUCTIONS: [Production; 143] = [
     Production::DeclaredArgument,
     Production::ParameterArgument,
     Production::OneLiteral,
+    Production::OnePack,
     Production::AnyType,
     Production::ValueOf,
     Production::OfConcept,
@@ -150,7 +151,7 @@ pub(crate) const PRODUCTIONS: [Production; 143] = [
 ];
 
 /// How many parts each has.
-pub(crate) const PART_COUNTS: [u8; 143] = [
+pub(crate) const PART_COUNTS: [u8; 144] = [
     0, // Mark
     2, // InternalName
     2, // LocalTypeName
@@ -283,6 +284,7 @@ pub(crate) const PART_COUNTS: [u8; 143] = [
     2, // DeclaredArgument
     2, // ParameterArgument
     2, // OneLiteral
+    2, // OnePack
     0, // AnyType
     1, // ValueOf
     1, // OfConcept
@@ -297,7 +299,7 @@ pub(crate) const PART_COUNTS: [u8; 143] = [
 ];
 
 /// Whether parts without a row may stand between those of each.
-pub(crate) const SKIPS_PARTS: [bool; 143] = [
+pub(crate) const SKIPS_PARTS: [bool; 144] = [
     false, // Mark
     false, // InternalName
     false, // LocalTypeName
@@ -430,6 +432,7 @@ pub(crate) const SKIPS_PARTS: [bool; 143] = [
     false, // DeclaredArgument
     false, // ParameterArgument
     false, // OneLiteral
+    false, // OnePack
     false, // AnyType
     false, // ValueOf
     false, // OfConcept
@@ -444,7 +447,7 @@ pub(crate) const SKIPS_PARTS: [bool; 143] = [
 ];
 
 /// Before how many of its parts nothing is done in each: before none, the first, or all, which are five at most.
-pub(crate) const QUIET_PARTS: [u8; 143] = [
+pub(crate) const QUIET_PARTS: [u8; 144] = [
     5, // Mark
     1, // InternalName
     1, // LocalTypeName
@@ -577,6 +580,7 @@ pub(crate) const QUIET_PARTS: [u8; 143] = [
     5, // DeclaredArgument
     1, // ParameterArgument
     5, // OneLiteral
+    5, // OnePack
     5, // AnyType
     0, // ValueOf
     0, // OfConcept

@@ -1,5 +1,6 @@
 -- What the tasks of the writer stand for.
-use Rattle.std.specs.Prelude.{ℕ, ◌+◌, ◌<◌, List, [], ◌∷◌, length, Bool, codes}
+use Rattle.std.specs.Prelude.{ℕ, ◌+◌, ◌<◌, ◌≤◌, List, [], ◌∷◌, length, Bool, codes, Vec, vec_len, vec_capacity}
+use Rattle.std.specs.Global.{Global}
 use Rattle.sym_spell.specs.Pressing.{◌and◌, text, nothing}
 use Rattle.cpp_grammar.specs.Term.{Qualifiers, RefQualifier, Term}
 use Rattle.cpp_term.specs.Erased.{erase}
@@ -106,3 +107,11 @@ task_weight y (Task.Ended node n) = 1
 unfoldable pub tasks_weight : ReadSymbol → List Task → ℕ
 tasks_weight y [] = 0
 tasks_weight y (task ∷ tasks) = task_weight y task + tasks_weight y tasks
+
+-- there is room for so many tasks more
+abbrev pub HasRoom : Vec Task Global → (many : ℕ) → Type 0
+HasRoom tasks many = vec_len tasks + many ≤ vec_capacity tasks
+
+-- of the room at most so many places are taken
+abbrev pub TakesRoom : (old new : Vec Task Global) → (many : ℕ) → Type 0
+TakesRoom old new many = vec_len new + vec_capacity old ≤ vec_len old + vec_capacity new + many

@@ -1,15 +1,14 @@
 // What is spelled of names.
 #![tactic(auto)]
 
-ghost use Rattle.std.specs.Prelude.{◌≡◌, ◌≤◌, ◌<◌, ◌+◌, ◌-◌, ◌++◌, length, codes, false, OnOk, IfErr};
-ghost use Rattle.sym_core.specs.declared.Refusal.TheVariants.{Memory};
+ghost use Rattle.std.specs.Prelude.{◌≡◌, ◌≤◌, ◌<◌, ◌+◌, ◌-◌, ◌++◌, length, codes, false};
 ghost use Rattle.cpp_press_laws.specs.Texts.{ordinal};
 ghost use Rattle.cpp_press_laws.specs.Pressing.{is_operator, is_encoding, is_one_piece};
 ghost use Rattle.cpp_tree.specs.Nodes.{qualifiers_of, mark_of, discriminator_of, is_again, IsSpan, IsTable};
 ghost use Rattle.cpp_layout.specs.Layout.{ReadSymbol, table_of};
 ghost use Rattle.cpp_press.specs.Bytes.{text_bytes, IsThere};
 ghost use Rattle.cpp_press.specs.Weight.{weight};
-ghost use Rattle.cpp_press.specs.Tasks.{◌onto◌, written, in_way, plain_at, node_tree, piece_tree, IsMade, IsPieceMade, press_tasks, AreTasks, tasks_weight};
+ghost use Rattle.cpp_press.specs.Tasks.{◌onto◌, written, in_way, plain_at, node_tree, piece_tree, IsMade, IsPieceMade, press_tasks, AreTasks, HasRoom, TakesRoom, tasks_weight};
 ghost use Rattle.cpp_press.specs.Spelled.{piece_onto, in_std_onto, within_onto, nested_onto, between_onto, prefix_onto, has_letters, plain_name_onto, lettered_onto, local_onto, is_name, is_prefix, name_onto, is_piece_behind};
 
 use crate::stored::stored;
@@ -19,7 +18,7 @@ use crate::task::{
 use crate::texts::Text;
 use cpp_layout::Symbol;
 use cpp_tree::node::{Mark, Node, Piece, Qualifiers};
-use sym_core::{Refusal, Span};
+use sym_core::Span;
 
 /// Whether a piece of a name is an operator.
 #[tactic(auto, unfolding(cpp_press_laws::specs::Pressing::is_operator, cpp_term::specs::Erased::erase, cpp_tree::specs::Nodes::piece_of))]
@@ -69,56 +68,46 @@ fn is_one_piece(symbol: &Symbol, entity: u32) -> bool
 
 /// A lambda (ABI 5.1.7, `<closure-type-name> ::= Ul <lambda-sig> E [ <number> ] _`).
 #[tactic(auto, unfolding(crate::specs::Bytes::text_bytes))]
-fn then_lambda(
-    symbol: &Symbol,
-    parameters: u32,
-    number: u64,
-    encoding: u64,
-    tasks: &mut Vec<Task>,
-) -> Result<(), Refusal>
+fn then_lambda(symbol: &Symbol, parameters: u32, number: u64, encoding: u64, tasks: &mut Vec<Task>)
     requires parameters { parameters < length symbol.now.table.nodes }
     requires tasks { AreTasks symbol.now tasks.old.items }
-    ensures presses { OnOk result (press_tasks symbol.now tasks.new.items ≡ written (codes "Ul") onto in_way encoding Way.Parameters (plain_at symbol.now parameters) onto written (codes "E" ++ ordinal (number - 1)) onto press_tasks symbol.now tasks.old.items) }
-    ensures weight { OnOk result (tasks_weight symbol.now tasks.new.items ≡ 2 + weight (plain_at symbol.now parameters) + tasks_weight symbol.now tasks.old.items) }
-    ensures tasks { OnOk result (AreTasks symbol.now tasks.new.items) }
-    ensures memory { IfErr result (λ e. e ≡ Memory) }
+    requires room { HasRoom tasks.old 3 }
+    ensures presses { press_tasks symbol.now tasks.new.items ≡ written (codes "Ul") onto in_way encoding Way.Parameters (plain_at symbol.now parameters) onto written (codes "E" ++ ordinal (number - 1)) onto press_tasks symbol.now tasks.old.items }
+    ensures weight { tasks_weight symbol.now tasks.new.items ≡ 2 + weight (plain_at symbol.now parameters) + tasks_weight symbol.now tasks.old.items }
+    ensures tasks { AreTasks symbol.now tasks.new.items }
+    ensures room { TakesRoom tasks.old tasks.new 3 }
 {
-    then_text(symbol, Text::Ordinal(b"E", number.saturating_sub(1)), tasks)?;
-    then_tree(symbol, parameters, Way::Parameters, encoding, tasks)?;
-    then_fixed(symbol, b"Ul", tasks)?;
-    Ok(())
+    then_text(symbol, Text::Ordinal(b"E", number.saturating_sub(1)), tasks);
+    then_tree(symbol, parameters, Way::Parameters, encoding, tasks);
+    then_fixed(symbol, b"Ul", tasks);
 }
 
 /// A piece of a name (ABI 5.1.2, `<unqualified-name>`).
 #[tactic(auto, unfolding(crate::specs::Spelled::piece_onto, cpp_term::specs::Erased::erase, cpp_tree::specs::Nodes::piece_of, crate::specs::Weight::weight, crate::specs::Bytes::text_bytes))]
-pub fn then_piece(
-    symbol: &Symbol,
-    piece: Piece,
-    encoding: u64,
-    tasks: &mut Vec<Task>,
-) -> Result<(), Refusal>
+pub fn then_piece(symbol: &Symbol, piece: Piece, encoding: u64, tasks: &mut Vec<Task>)
     requires piece { IsPieceMade symbol.now piece }
     requires tasks { AreTasks symbol.now tasks.old.items }
-    ensures presses { OnOk result (press_tasks symbol.now tasks.new.items ≡ piece_onto encoding (piece_tree symbol.now piece) (press_tasks symbol.now tasks.old.items)) }
-    ensures weight { OnOk result (tasks_weight symbol.now tasks.new.items + 8 ≤ weight (piece_tree symbol.now piece) + tasks_weight symbol.now tasks.old.items) }
-    ensures tasks { OnOk result (AreTasks symbol.now tasks.new.items) }
-    ensures memory { IfErr result (λ e. e ≡ Memory) }
+    requires room { HasRoom tasks.old 3 }
+    ensures presses { press_tasks symbol.now tasks.new.items ≡ piece_onto encoding (piece_tree symbol.now piece) (press_tasks symbol.now tasks.old.items) }
+    ensures weight { tasks_weight symbol.now tasks.new.items + 8 ≤ weight (piece_tree symbol.now piece) + tasks_weight symbol.now tasks.old.items }
+    ensures tasks { AreTasks symbol.now tasks.new.items }
+    ensures room { TakesRoom tasks.old tasks.new 3 }
 {
     match piece {
         Piece::Source { internal, bytes } => {
             if internal {
-                then_text(symbol, Text::Counted(b"L", bytes), tasks)?;
+                then_text(symbol, Text::Counted(b"L", bytes), tasks);
             } else {
-                then_text(symbol, Text::Counted(b"", bytes), tasks)?;
+                then_text(symbol, Text::Counted(b"", bytes), tasks);
             }
         }
-        Piece::Operator(first, second) => then_text(symbol, Text::Pair(first, second), tasks)?,
-        Piece::LiteralOperator(bytes) => then_text(symbol, Text::Counted(b"li", bytes), tasks)?,
-        Piece::Constructor(digit) => then_text(symbol, Text::Pair(b'C', digit), tasks)?,
-        Piece::Destructor(digit) => then_text(symbol, Text::Pair(b'D', digit), tasks)?,
+        Piece::Operator(first, second) => then_text(symbol, Text::Pair(first, second), tasks),
+        Piece::LiteralOperator(bytes) => then_text(symbol, Text::Counted(b"li", bytes), tasks),
+        Piece::Constructor(digit) => then_text(symbol, Text::Pair(b'C', digit), tasks),
+        Piece::Destructor(digit) => then_text(symbol, Text::Pair(b'D', digit), tasks),
         Piece::Lambda { parameters, number } => then_lambda(
             symbol, parameters, number, encoding, tasks,
-        )?,
+        ),
         // <closure-type-name> ::= Ul <lambda-sig> E [ <nonnegative number> ] _, with parameters of its own: read by the ABI's
         // grammar no symbol has one.
         Piece::GenericLambda { .. } => {}
@@ -127,146 +116,118 @@ pub fn then_piece(
                 symbol,
                 Text::Ordinal(b"Ut", number.saturating_sub(1)),
                 tasks,
-            )?;
+            );
         }
-        Piece::StringLiteral => then_fixed(symbol, b"s", tasks)?,
+        Piece::StringLiteral => then_fixed(symbol, b"s", tasks),
         // <operator-name> ::= cv <type>
         Piece::Conversion(ty) => {
-            then_tree(symbol, ty, Way::Type, encoding, tasks)?;
-            then_fixed(symbol, b"cv", tasks)?;
+            then_tree(symbol, ty, Way::Type, encoding, tasks);
+            then_fixed(symbol, b"cv", tasks);
         }
         Piece::Absent => {}
     }
-    Ok(())
 }
 
 /// A piece of std (ABI 5.1.2, `<unscoped-name> ::= St <unqualified-name>`).
-pub fn then_in_std(
-    symbol: &Symbol,
-    piece: Piece,
-    encoding: u64,
-    tasks: &mut Vec<Task>,
-) -> Result<(), Refusal>
+pub fn then_in_std(symbol: &Symbol, piece: Piece, encoding: u64, tasks: &mut Vec<Task>)
     requires piece { IsPieceMade symbol.now piece }
     requires tasks { AreTasks symbol.now tasks.old.items }
-    ensures presses { OnOk result (press_tasks symbol.now tasks.new.items ≡ in_std_onto encoding (piece_tree symbol.now piece) (press_tasks symbol.now tasks.old.items)) }
-    ensures weight { OnOk result (tasks_weight symbol.now tasks.new.items + 7 ≤ weight (piece_tree symbol.now piece) + tasks_weight symbol.now tasks.old.items) }
-    ensures tasks { OnOk result (AreTasks symbol.now tasks.new.items) }
-    ensures memory { IfErr result (λ e. e ≡ Memory) }
+    requires room { HasRoom tasks.old 4 }
+    ensures presses { press_tasks symbol.now tasks.new.items ≡ in_std_onto encoding (piece_tree symbol.now piece) (press_tasks symbol.now tasks.old.items) }
+    ensures weight { tasks_weight symbol.now tasks.new.items + 7 ≤ weight (piece_tree symbol.now piece) + tasks_weight symbol.now tasks.old.items }
+    ensures tasks { AreTasks symbol.now tasks.new.items }
+    ensures room { TakesRoom tasks.old tasks.new 4 }
 {
-    then_piece(symbol, piece, encoding, tasks)?;
-    then_fixed(symbol, b"St", tasks)?;
-    Ok(())
+    then_piece(symbol, piece, encoding, tasks);
+    then_fixed(symbol, b"St", tasks);
 }
 
 /// A piece behind its prefix (ABI 5.1.3, `<prefix> ::= <prefix> <unqualified-name>`).
-pub fn then_within(
-    symbol: &Symbol,
-    prefix: u32,
-    piece: Piece,
-    encoding: u64,
-    tasks: &mut Vec<Task>,
-) -> Result<(), Refusal>
+pub fn then_within(symbol: &Symbol, prefix: u32, piece: Piece, encoding: u64, tasks: &mut Vec<Task>)
     requires prefix { prefix < length symbol.now.table.nodes }
     requires piece { IsPieceMade symbol.now piece }
     requires tasks { AreTasks symbol.now tasks.old.items }
-    ensures presses { OnOk result (press_tasks symbol.now tasks.new.items ≡ within_onto encoding (plain_at symbol.now prefix) (piece_tree symbol.now piece) (press_tasks symbol.now tasks.old.items)) }
-    ensures weight { OnOk result (tasks_weight symbol.now tasks.new.items + 8 ≤ weight (plain_at symbol.now prefix) + weight (piece_tree symbol.now piece) + tasks_weight symbol.now tasks.old.items) }
-    ensures tasks { OnOk result (AreTasks symbol.now tasks.new.items) }
-    ensures memory { IfErr result (λ e. e ≡ Memory) }
+    requires room { HasRoom tasks.old 4 }
+    ensures presses { press_tasks symbol.now tasks.new.items ≡ within_onto encoding (plain_at symbol.now prefix) (piece_tree symbol.now piece) (press_tasks symbol.now tasks.old.items) }
+    ensures weight { tasks_weight symbol.now tasks.new.items + 8 ≤ weight (plain_at symbol.now prefix) + weight (piece_tree symbol.now piece) + tasks_weight symbol.now tasks.old.items }
+    ensures tasks { AreTasks symbol.now tasks.new.items }
+    ensures room { TakesRoom tasks.old tasks.new 4 }
 {
-    then_piece(symbol, piece, encoding, tasks)?;
-    then_tree(symbol, prefix, Way::Prefix, encoding, tasks)?;
-    Ok(())
+    then_piece(symbol, piece, encoding, tasks);
+    then_tree(symbol, prefix, Way::Prefix, encoding, tasks);
 }
 
 /// A name in which another one stands (ABI 5.1.3, `<nested-name> ::= N .. <prefix> <unqualified-name> E`).
-pub fn then_nested(
-    symbol: &Symbol,
-    prefix: u32,
-    piece: Piece,
-    encoding: u64,
-    tasks: &mut Vec<Task>,
-) -> Result<(), Refusal>
+pub fn then_nested(symbol: &Symbol, prefix: u32, piece: Piece, encoding: u64, tasks: &mut Vec<Task>)
     requires prefix { prefix < length symbol.now.table.nodes }
     requires piece { IsPieceMade symbol.now piece }
     requires tasks { AreTasks symbol.now tasks.old.items }
-    ensures presses { OnOk result (press_tasks symbol.now tasks.new.items ≡ nested_onto encoding (plain_at symbol.now prefix) (piece_tree symbol.now piece) (press_tasks symbol.now tasks.old.items)) }
-    ensures weight { OnOk result (tasks_weight symbol.now tasks.new.items + 6 ≤ weight (plain_at symbol.now prefix) + weight (piece_tree symbol.now piece) + tasks_weight symbol.now tasks.old.items) }
-    ensures tasks { OnOk result (AreTasks symbol.now tasks.new.items) }
-    ensures memory { IfErr result (λ e. e ≡ Memory) }
+    requires room { HasRoom tasks.old 6 }
+    ensures presses { press_tasks symbol.now tasks.new.items ≡ nested_onto encoding (plain_at symbol.now prefix) (piece_tree symbol.now piece) (press_tasks symbol.now tasks.old.items) }
+    ensures weight { tasks_weight symbol.now tasks.new.items + 6 ≤ weight (plain_at symbol.now prefix) + weight (piece_tree symbol.now piece) + tasks_weight symbol.now tasks.old.items }
+    ensures tasks { AreTasks symbol.now tasks.new.items }
+    ensures room { TakesRoom tasks.old tasks.new 6 }
 {
-    then_fixed(symbol, b"E", tasks)?;
-    then_within(symbol, prefix, piece, encoding, tasks)?;
-    then_fixed(symbol, b"N", tasks)?;
-    Ok(())
+    then_fixed(symbol, b"E", tasks);
+    then_within(symbol, prefix, piece, encoding, tasks);
+    then_fixed(symbol, b"N", tasks);
 }
 
 /// A name between N and E (ABI 5.1.3, `<nested-name>`).
 #[tactic(auto, unfolding(crate::specs::Spelled::between_onto, cpp_term::specs::Erased::erase, cpp_tree::specs::Nodes::tree_of, cpp_tree::specs::Nodes::is_again, crate::specs::Weight::weight))]
-pub fn then_between(
-    symbol: &Symbol,
-    node: Node,
-    encoding: u64,
-    tasks: &mut Vec<Task>,
-) -> Result<(), Refusal>
+pub fn then_between(symbol: &Symbol, node: Node, encoding: u64, tasks: &mut Vec<Task>)
     requires own { is_again node ≡ false }
     requires node { IsMade symbol.now node }
     requires tasks { AreTasks symbol.now tasks.old.items }
-    ensures presses { OnOk result (press_tasks symbol.now tasks.new.items ≡ between_onto encoding (node_tree symbol.now node) (press_tasks symbol.now tasks.old.items)) }
-    ensures weight { OnOk result (tasks_weight symbol.now tasks.new.items + 4 ≤ weight (node_tree symbol.now node) + tasks_weight symbol.now tasks.old.items) }
-    ensures tasks { OnOk result (AreTasks symbol.now tasks.new.items) }
-    ensures memory { IfErr result (λ e. e ≡ Memory) }
+    requires room { HasRoom tasks.old 5 }
+    ensures presses { press_tasks symbol.now tasks.new.items ≡ between_onto encoding (node_tree symbol.now node) (press_tasks symbol.now tasks.old.items) }
+    ensures weight { tasks_weight symbol.now tasks.new.items + 4 ≤ weight (node_tree symbol.now node) + tasks_weight symbol.now tasks.old.items }
+    ensures tasks { AreTasks symbol.now tasks.new.items }
+    ensures room { TakesRoom tasks.old tasks.new 5 }
 {
     match node {
-        Node::Alone(piece) => then_piece(symbol, piece, encoding, tasks)?,
-        Node::InStd(piece) => then_in_std(symbol, piece, encoding, tasks)?,
-        Node::Within { prefix, piece } => then_within(symbol, prefix, piece, encoding, tasks)?,
+        Node::Alone(piece) => then_piece(symbol, piece, encoding, tasks),
+        Node::InStd(piece) => then_in_std(symbol, piece, encoding, tasks),
+        Node::Within { prefix, piece } => then_within(symbol, prefix, piece, encoding, tasks),
         Node::Instance {
             template,
             arguments,
         } => {
-            then_arguments(symbol, arguments, encoding, tasks)?;
-            then_ended(symbol, template, encoding, tasks)?;
-            then_tree(symbol, template, Way::Between, encoding, tasks)?;
+            then_arguments(symbol, arguments, encoding, tasks);
+            then_ended(symbol, template, encoding, tasks);
+            then_tree(symbol, template, Way::Between, encoding, tasks);
         }
         _ => {}
     }
-    Ok(())
 }
 
 /// A name that is a prefix (ABI 5.1.3, `<prefix>`).
 #[tactic(auto, unfolding(crate::specs::Spelled::prefix_onto, cpp_term::specs::Erased::erase, cpp_tree::specs::Nodes::tree_of, cpp_tree::specs::Nodes::is_again, crate::specs::Weight::weight))]
-pub fn then_prefix(
-    symbol: &Symbol,
-    node: Node,
-    encoding: u64,
-    tasks: &mut Vec<Task>,
-) -> Result<(), Refusal>
+pub fn then_prefix(symbol: &Symbol, node: Node, encoding: u64, tasks: &mut Vec<Task>)
     requires own { is_again node ≡ false }
     requires node { IsMade symbol.now node }
     requires tasks { AreTasks symbol.now tasks.old.items }
-    ensures presses { OnOk result (press_tasks symbol.now tasks.new.items ≡ prefix_onto encoding (node_tree symbol.now node) (press_tasks symbol.now tasks.old.items)) }
-    ensures weight { OnOk result (tasks_weight symbol.now tasks.new.items + 4 ≤ weight (node_tree symbol.now node) + tasks_weight symbol.now tasks.old.items) }
-    ensures tasks { OnOk result (AreTasks symbol.now tasks.new.items) }
-    ensures memory { IfErr result (λ e. e ≡ Memory) }
+    requires room { HasRoom tasks.old 5 }
+    ensures presses { press_tasks symbol.now tasks.new.items ≡ prefix_onto encoding (node_tree symbol.now node) (press_tasks symbol.now tasks.old.items) }
+    ensures weight { tasks_weight symbol.now tasks.new.items + 4 ≤ weight (node_tree symbol.now node) + tasks_weight symbol.now tasks.old.items }
+    ensures tasks { AreTasks symbol.now tasks.new.items }
+    ensures room { TakesRoom tasks.old tasks.new 5 }
 {
     match node {
         Node::Instance {
             template,
             arguments,
         } => {
-            then_arguments(symbol, arguments, encoding, tasks)?;
-            then_tree(symbol, template, Way::Prefix, encoding, tasks)?;
+            then_arguments(symbol, arguments, encoding, tasks);
+            then_tree(symbol, template, Way::Prefix, encoding, tasks);
         }
         // <data-member-prefix> ::= <prefix> M
         Node::Holder(name) => {
-            then_fixed(symbol, b"M", tasks)?;
-            then_tree(symbol, name, Way::Prefix, encoding, tasks)?;
+            then_fixed(symbol, b"M", tasks);
+            then_tree(symbol, name, Way::Prefix, encoding, tasks);
         }
-        _ => then_between(symbol, node, encoding, tasks)?,
+        _ => then_between(symbol, node, encoding, tasks),
     }
-    Ok(())
 }
 
 /// Whether a name needs an N for what is said of its function.
@@ -286,55 +247,44 @@ fn has_letters(qualifiers: Qualifiers, mark: Mark) -> bool
 
 /// An encoding's own name without letters (ABI 5.1.2, `<name>`).
 #[tactic(auto, unfolding(crate::specs::Spelled::plain_name_onto, cpp_term::specs::Erased::erase, cpp_tree::specs::Nodes::tree_of, cpp_tree::specs::Nodes::is_again, crate::specs::Weight::weight))]
-fn then_plain_name(
-    symbol: &Symbol,
-    node: Node,
-    encoding: u64,
-    tasks: &mut Vec<Task>,
-) -> Result<(), Refusal>
+fn then_plain_name(symbol: &Symbol, node: Node, encoding: u64, tasks: &mut Vec<Task>)
     requires own { is_again node ≡ false }
     requires node { IsMade symbol.now node }
     requires tasks { AreTasks symbol.now tasks.old.items }
-    ensures presses { OnOk result (press_tasks symbol.now tasks.new.items ≡ plain_name_onto encoding (node_tree symbol.now node) (press_tasks symbol.now tasks.old.items)) }
-    ensures weight { OnOk result (tasks_weight symbol.now tasks.new.items + 2 ≤ weight (node_tree symbol.now node) + tasks_weight symbol.now tasks.old.items) }
-    ensures tasks { OnOk result (AreTasks symbol.now tasks.new.items) }
-    ensures memory { IfErr result (λ e. e ≡ Memory) }
+    requires room { HasRoom tasks.old 6 }
+    ensures presses { press_tasks symbol.now tasks.new.items ≡ plain_name_onto encoding (node_tree symbol.now node) (press_tasks symbol.now tasks.old.items) }
+    ensures weight { tasks_weight symbol.now tasks.new.items + 2 ≤ weight (node_tree symbol.now node) + tasks_weight symbol.now tasks.old.items }
+    ensures tasks { AreTasks symbol.now tasks.new.items }
+    ensures room { TakesRoom tasks.old tasks.new 6 }
 {
     match node {
-        Node::Alone(piece) => then_piece(symbol, piece, encoding, tasks)?,
-        Node::InStd(piece) => then_in_std(symbol, piece, encoding, tasks)?,
-        Node::Within { prefix, piece } => then_nested(symbol, prefix, piece, encoding, tasks)?,
+        Node::Alone(piece) => then_piece(symbol, piece, encoding, tasks),
+        Node::InStd(piece) => then_in_std(symbol, piece, encoding, tasks),
+        Node::Within { prefix, piece } => then_nested(symbol, prefix, piece, encoding, tasks),
         Node::Instance {
             template,
             arguments,
         } => {
-            then_template(symbol, template, arguments, false, encoding, tasks)?;
+            then_template(symbol, template, arguments, false, encoding, tasks);
         }
         _ => {}
     }
-    Ok(())
 }
 
 /// A name behind an N that may have letters (ABI 5.1.3, `<nested-name> ::= N [<CV-qualifiers>] [<ref-qualifier>] .. E`).
-fn then_lettered(
-    symbol: &Symbol,
-    letters: Text,
-    name: u32,
-    encoding: u64,
-    tasks: &mut Vec<Task>,
-) -> Result<(), Refusal>
+fn then_lettered(symbol: &Symbol, letters: Text, name: u32, encoding: u64, tasks: &mut Vec<Task>)
     requires letters { IsThere symbol.now letters }
     requires name { name < length symbol.now.table.nodes }
     requires tasks { AreTasks symbol.now tasks.old.items }
-    ensures presses { OnOk result (press_tasks symbol.now tasks.new.items ≡ lettered_onto encoding (text_bytes symbol.now letters) (plain_at symbol.now name) (press_tasks symbol.now tasks.old.items)) }
-    ensures weight { OnOk result (tasks_weight symbol.now tasks.new.items ≡ 2 + weight (plain_at symbol.now name) + tasks_weight symbol.now tasks.old.items) }
-    ensures tasks { OnOk result (AreTasks symbol.now tasks.new.items) }
-    ensures memory { IfErr result (λ e. e ≡ Memory) }
+    requires room { HasRoom tasks.old 3 }
+    ensures presses { press_tasks symbol.now tasks.new.items ≡ lettered_onto encoding (text_bytes symbol.now letters) (plain_at symbol.now name) (press_tasks symbol.now tasks.old.items) }
+    ensures weight { tasks_weight symbol.now tasks.new.items ≡ 2 + weight (plain_at symbol.now name) + tasks_weight symbol.now tasks.old.items }
+    ensures tasks { AreTasks symbol.now tasks.new.items }
+    ensures room { TakesRoom tasks.old tasks.new 3 }
 {
-    then_fixed(symbol, b"E", tasks)?;
-    then_tree(symbol, name, Way::Between, encoding, tasks)?;
-    then_text(symbol, letters, tasks)?;
-    Ok(())
+    then_fixed(symbol, b"E", tasks);
+    then_tree(symbol, name, Way::Between, encoding, tasks);
+    then_text(symbol, letters, tasks);
 }
 
 /// An entity in the scope of an encoding (ABI 5.1.6, `<local-name> ::= Z <encoding> E <name> [<discriminator>]`).
@@ -347,28 +297,28 @@ pub fn then_local(
     letters: Text,
     encoding: u64,
     tasks: &mut Vec<Task>,
-) -> Result<(), Refusal>
+)
     requires table { IsTable (table_of symbol.now) }
     requires around { around < length symbol.now.table.nodes }
     requires entity { entity < length symbol.now.table.nodes }
     requires discriminator { IsSpan symbol.now.bytes discriminator }
     requires letters { IsThere symbol.now letters }
     requires tasks { AreTasks symbol.now tasks.old.items }
-    ensures presses { OnOk result (press_tasks symbol.now tasks.new.items ≡ local_onto encoding (plain_at symbol.now around) (plain_at symbol.now entity) (discriminator_of symbol.now.bytes discriminator) (text_bytes symbol.now letters) (press_tasks symbol.now tasks.old.items)) }
-    ensures weight { OnOk result (tasks_weight symbol.now tasks.new.items + 6 ≤ 12 + weight (plain_at symbol.now around) + weight (plain_at symbol.now entity) + tasks_weight symbol.now tasks.old.items) }
-    ensures tasks { OnOk result (AreTasks symbol.now tasks.new.items) }
-    ensures memory { IfErr result (λ e. e ≡ Memory) }
+    requires room { HasRoom tasks.old 7 }
+    ensures presses { press_tasks symbol.now tasks.new.items ≡ local_onto encoding (plain_at symbol.now around) (plain_at symbol.now entity) (discriminator_of symbol.now.bytes discriminator) (text_bytes symbol.now letters) (press_tasks symbol.now tasks.old.items) }
+    ensures weight { tasks_weight symbol.now tasks.new.items + 6 ≤ 12 + weight (plain_at symbol.now around) + weight (plain_at symbol.now entity) + tasks_weight symbol.now tasks.old.items }
+    ensures tasks { AreTasks symbol.now tasks.new.items }
+    ensures room { TakesRoom tasks.old tasks.new 7 }
 {
-    then_text(symbol, Text::Discriminator(discriminator), tasks)?;
+    then_text(symbol, Text::Discriminator(discriminator), tasks);
     if is_one_piece(symbol, entity) {
-        then_tree(symbol, entity, Way::Between, encoding, tasks)?;
+        then_tree(symbol, entity, Way::Between, encoding, tasks);
     } else {
-        then_lettered(symbol, letters, entity, encoding, tasks)?;
+        then_lettered(symbol, letters, entity, encoding, tasks);
     }
-    then_fixed(symbol, b"E", tasks)?;
-    then_tree(symbol, around, Way::Encoding, encoding, tasks)?;
-    then_fixed(symbol, b"Z", tasks)?;
-    Ok(())
+    then_fixed(symbol, b"E", tasks);
+    then_tree(symbol, around, Way::Encoding, encoding, tasks);
+    then_fixed(symbol, b"Z", tasks);
 }
 
 /// Whether a node is a name that isn't local.
@@ -407,14 +357,15 @@ pub fn then_name(
     mark: Mark,
     encoding: u64,
     tasks: &mut Vec<Task>,
-) -> Result<(), Refusal>
+)
     requires table { IsTable (table_of symbol.now) }
     requires name { name < length symbol.now.table.nodes }
     requires tasks { AreTasks symbol.now tasks.old.items }
-    ensures presses { OnOk result (press_tasks symbol.now tasks.new.items ≡ name_onto encoding (qualifiers_of qualifiers) (mark_of mark) (plain_at symbol.now name) (press_tasks symbol.now tasks.old.items)) }
-    ensures weight { OnOk result (tasks_weight symbol.now tasks.new.items + 2 ≤ 4 + weight (plain_at symbol.now name) + tasks_weight symbol.now tasks.old.items) }
-    ensures tasks { OnOk result (AreTasks symbol.now tasks.new.items) }
-    ensures memory { IfErr result (λ e. e ≡ Memory) }
+    requires room { HasRoom tasks.old 7 }
+    ensures presses { press_tasks symbol.now tasks.new.items ≡ name_onto encoding (qualifiers_of qualifiers) (mark_of mark) (plain_at symbol.now name) (press_tasks symbol.now tasks.old.items) }
+    ensures weight { tasks_weight symbol.now tasks.new.items + 2 ≤ 4 + weight (plain_at symbol.now name) + tasks_weight symbol.now tasks.old.items }
+    ensures tasks { AreTasks symbol.now tasks.new.items }
+    ensures room { TakesRoom tasks.old tasks.new 7 }
 {
     let node = stored(symbol, name);
     if let Node::Local {
@@ -431,7 +382,7 @@ pub fn then_name(
             Text::Letters(qualifiers, mark),
             encoding,
             tasks,
-        )?;
+        );
     } else if is_name(node) && has_letters(qualifiers, mark) {
         then_lettered(
             symbol,
@@ -439,9 +390,8 @@ pub fn then_name(
             name,
             encoding,
             tasks,
-        )?;
+        );
     } else {
-        then_plain_name(symbol, node, encoding, tasks)?;
+        then_plain_name(symbol, node, encoding, tasks);
     }
-    Ok(())
 }

@@ -100,7 +100,7 @@ fn press_tasks(alloc: Global, symbol: &Symbol, numbering: &Numbers) -> Result<Ve
     let mut components = Components::new(alloc);
     let mut tasks = Vec::with_capacity(alloc, COMMON_TASKS)?;
     let mut out = Vec::with_capacity(alloc, COMMON_BYTES)?;
-    then_tree(symbol, symbol.root_node(), Way::Encoding, 0, &mut tasks)?;
+    then_tree(symbol, symbol.root_node(), Way::Encoding, 0, &mut tasks);
     'tasks: while let Some(task) = tasks.pop() {
         match task {
             Task::Text(text) => push_text(symbol, text, &mut out)?,

@@ -7,12 +7,14 @@ ghost use Rattle.cpp_tree.specs.Nodes.{is_again, IsTable};
 ghost use Rattle.cpp_layout.specs.Layout.{ReadSymbol, table_of};
 ghost use Rattle.cpp_press_laws.specs.Components.{Component, first_equal};
 ghost use Rattle.cpp_press.specs.Weight.{weight};
-ghost use Rattle.cpp_press.specs.Tasks.{◌onto◌, in_way, before, plain_at, node_tree, press_tasks, AreTasks, way_weight, tasks_weight};
+ghost use Rattle.cpp_press.specs.Tasks.{◌onto◌, in_way, before, plain_at, node_tree, press_tasks, AreTasks, HasRoom, TakesRoom, way_weight, tasks_weight};
 ghost use Rattle.cpp_press.specs.Standings.{compared, standing_of, template_standing_of, needs_N, is_instance, between_arguments_onto, template_onto};
 
 use crate::names::is_operator;
 use crate::stored::stored;
-use crate::task::{Task, Way, then_arguments, then_ended, then_fixed, then_text, then_tree};
+use crate::task::{
+    Task, Way, make_room, then_arguments, then_ended, then_fixed, then_text, then_tree,
+};
 use crate::texts::Text;
 use crate::types::then_spelled;
 use cpp_layout::Symbol;
@@ -60,12 +62,13 @@ pub fn step_tree(
     ensures tasks { OnOk result (AreTasks symbol.now tasks.new.items) }
     ensures memory { IfErr result (λ e. e ≡ Memory) }
 {
+    make_room(symbol, tasks)?;
     match standing {
-        Standing::Apart => then_spelled(symbol, node, way, encoding, here, tasks)?,
-        Standing::Known(number) => then_text(symbol, Text::Reference(number), tasks)?,
+        Standing::Apart => then_spelled(symbol, node, way, encoding, here, tasks),
+        Standing::Known(number) => then_text(symbol, Text::Reference(number), tasks),
         Standing::Fresh => {
-            then_ended(symbol, node, encoding, tasks)?;
-            then_spelled(symbol, node, way, encoding, here, tasks)?;
+            then_ended(symbol, node, encoding, tasks);
+            then_spelled(symbol, node, way, encoding, here, tasks);
         }
     }
     Ok(())
@@ -93,24 +96,24 @@ fn then_template_out(
     in_type: bool,
     encoding: u64,
     tasks: &mut Vec<Task>,
-) -> Result<(), Refusal>
+)
     requires table { IsTable (table_of symbol.now) }
     requires name { name < length symbol.now.table.nodes }
     requires arguments { arguments < length symbol.now.table.nodes }
     requires tasks { AreTasks symbol.now tasks.old.items }
-    ensures presses { OnOk result (press_tasks symbol.now tasks.new.items ≡ template_onto encoding in_type (plain_at symbol.now name) (plain_at symbol.now arguments) (press_tasks symbol.now tasks.old.items)) }
-    ensures weight { OnOk result (tasks_weight symbol.now tasks.new.items ≤ 5 + weight (plain_at symbol.now name) + weight (plain_at symbol.now arguments) + tasks_weight symbol.now tasks.old.items) }
-    ensures tasks { OnOk result (AreTasks symbol.now tasks.new.items) }
-    ensures memory { IfErr result (λ e. e ≡ Memory) }
+    requires room { HasRoom tasks.old 7 }
+    ensures presses { press_tasks symbol.now tasks.new.items ≡ template_onto encoding in_type (plain_at symbol.now name) (plain_at symbol.now arguments) (press_tasks symbol.now tasks.old.items) }
+    ensures weight { tasks_weight symbol.now tasks.new.items ≤ 5 + weight (plain_at symbol.now name) + weight (plain_at symbol.now arguments) + tasks_weight symbol.now tasks.old.items }
+    ensures tasks { AreTasks symbol.now tasks.new.items }
+    ensures room { TakesRoom tasks.old tasks.new 7 }
 {
     if needs_n(stored(symbol, name), in_type) {
-        then_fixed(symbol, b"E", tasks)?;
-        then_between_arguments(symbol, name, arguments, encoding, tasks)?;
-        then_fixed(symbol, b"N", tasks)?;
+        then_fixed(symbol, b"E", tasks);
+        then_between_arguments(symbol, name, arguments, encoding, tasks);
+        then_fixed(symbol, b"N", tasks);
     } else {
-        then_between_arguments(symbol, name, arguments, encoding, tasks)?;
+        then_between_arguments(symbol, name, arguments, encoding, tasks);
     }
-    Ok(())
 }
 
 /// A template name and its end as a component, and its arguments. A name that has arguments itself is always referred to.
@@ -121,22 +124,22 @@ fn then_between_arguments(
     arguments: u32,
     encoding: u64,
     tasks: &mut Vec<Task>,
-) -> Result<(), Refusal>
+)
     requires table { IsTable (table_of symbol.now) }
     requires name { name < length symbol.now.table.nodes }
     requires arguments { arguments < length symbol.now.table.nodes }
     requires tasks { AreTasks symbol.now tasks.old.items }
-    ensures presses { OnOk result (press_tasks symbol.now tasks.new.items ≡ between_arguments_onto encoding (plain_at symbol.now name) (plain_at symbol.now arguments) (press_tasks symbol.now tasks.old.items)) }
-    ensures weight { OnOk result (tasks_weight symbol.now tasks.new.items ≤ 3 + weight (plain_at symbol.now name) + weight (plain_at symbol.now arguments) + tasks_weight symbol.now tasks.old.items) }
-    ensures tasks { OnOk result (AreTasks symbol.now tasks.new.items) }
-    ensures memory { IfErr result (λ e. e ≡ Memory) }
+    requires room { HasRoom tasks.old 5 }
+    ensures presses { press_tasks symbol.now tasks.new.items ≡ between_arguments_onto encoding (plain_at symbol.now name) (plain_at symbol.now arguments) (press_tasks symbol.now tasks.old.items) }
+    ensures weight { tasks_weight symbol.now tasks.new.items ≤ 3 + weight (plain_at symbol.now name) + weight (plain_at symbol.now arguments) + tasks_weight symbol.now tasks.old.items }
+    ensures tasks { AreTasks symbol.now tasks.new.items }
+    ensures room { TakesRoom tasks.old tasks.new 5 }
 {
-    then_arguments(symbol, arguments, encoding, tasks)?;
-    then_ended(symbol, name, encoding, tasks)?;
+    then_arguments(symbol, arguments, encoding, tasks);
+    then_ended(symbol, name, encoding, tasks);
     if !is_instance(stored(symbol, name)) {
-        then_tree(symbol, name, Way::Between, encoding, tasks)?;
+        then_tree(symbol, name, Way::Between, encoding, tasks);
     }
-    Ok(())
 }
 
 /// Whether a name ends in arguments.
@@ -171,16 +174,17 @@ pub fn step_template(
     ensures tasks { OnOk result (AreTasks symbol.now tasks.new.items) }
     ensures memory { IfErr result (λ e. e ≡ Memory) }
 {
+    make_room(symbol, tasks)?;
     match standing {
         Standing::Apart => {
-            then_arguments(symbol, arguments, encoding, tasks)?;
-            then_tree(symbol, name, Way::Type, encoding, tasks)?;
+            then_arguments(symbol, arguments, encoding, tasks);
+            then_tree(symbol, name, Way::Type, encoding, tasks);
         }
         Standing::Known(number) => {
-            then_arguments(symbol, arguments, encoding, tasks)?;
-            then_text(symbol, Text::Reference(number), tasks)?;
+            then_arguments(symbol, arguments, encoding, tasks);
+            then_text(symbol, Text::Reference(number), tasks);
         }
-        Standing::Fresh => then_template_out(symbol, name, arguments, in_type, encoding, tasks)?,
+        Standing::Fresh => then_template_out(symbol, name, arguments, in_type, encoding, tasks),
     }
     Ok(())
 }

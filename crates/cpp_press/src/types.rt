@@ -1,14 +1,13 @@
 // What is spelled of types, arguments and encodings.
 #![tactic(auto)]
 
-ghost use Rattle.std.specs.Prelude.{◌≡◌, ◌≤◌, ◌<◌, ◌+◌, ◌++◌, length, codes, false, OnOk, IfErr};
-ghost use Rattle.sym_core.specs.declared.Refusal.TheVariants.{Memory};
+ghost use Rattle.std.specs.Prelude.{◌≡◌, ◌≤◌, ◌<◌, ◌+◌, ◌++◌, length, codes, false};
 ghost use Rattle.cpp_press_laws.specs.Texts.{mark_letter};
 ghost use Rattle.cpp_tree.specs.Nodes.{mark_of, is_again, IsTable};
 ghost use Rattle.cpp_layout.specs.Layout.{ReadSymbol, table_of};
 ghost use Rattle.cpp_press.specs.Bytes.{text_bytes, IsThere};
 ghost use Rattle.cpp_press.specs.Weight.{weight};
-ghost use Rattle.cpp_press.specs.Tasks.{◌onto◌, written, in_way, plain_at, node_tree, IsMade, press_tasks, AreTasks, way_weight, tasks_weight};
+ghost use Rattle.cpp_press.specs.Tasks.{◌onto◌, written, in_way, plain_at, node_tree, IsMade, press_tasks, AreTasks, HasRoom, TakesRoom, way_weight, tasks_weight};
 ghost use Rattle.cpp_press.specs.Spelled.{compound_onto, class_onto, type_onto, argument_onto, more_parameters_onto, parameters_onto, elements_onto, encoding_onto, spelled_onto, is_component, is_function_type, is_compared};
 
 use crate::names::{
@@ -20,7 +19,6 @@ use crate::task::{Task, Way, then_fixed, then_template, then_text, then_tree};
 use crate::texts::Text;
 use cpp_layout::{Symbol, special_front};
 use cpp_tree::node::{Mark, Node};
-use sym_core::Refusal;
 
 /// Whether a type is compared with others: each that has more than letters is.
 #[tactic(auto, unfolding(crate::specs::Spelled::is_component, cpp_term::specs::Erased::erase, cpp_tree::specs::Nodes::tree_of, cpp_tree::specs::Nodes::is_again))]
@@ -76,17 +74,17 @@ fn then_behind(
     ty: u32,
     encoding: u64,
     tasks: &mut Vec<Task>,
-) -> Result<(), Refusal>
+)
     requires ty { ty < length symbol.now.table.nodes }
     requires tasks { AreTasks symbol.now tasks.old.items }
-    ensures presses { OnOk result (press_tasks symbol.now tasks.new.items ≡ written letters.now onto in_way encoding Way.Type (plain_at symbol.now ty) onto press_tasks symbol.now tasks.old.items) }
-    ensures weight { OnOk result (tasks_weight symbol.now tasks.new.items ≡ 1 + weight (plain_at symbol.now ty) + tasks_weight symbol.now tasks.old.items) }
-    ensures tasks { OnOk result (AreTasks symbol.now tasks.new.items) }
-    ensures memory { IfErr result (λ e. e ≡ Memory) }
+    requires room { HasRoom tasks.old 2 }
+    ensures presses { press_tasks symbol.now tasks.new.items ≡ written letters.now onto in_way encoding Way.Type (plain_at symbol.now ty) onto press_tasks symbol.now tasks.old.items }
+    ensures weight { tasks_weight symbol.now tasks.new.items ≡ 1 + weight (plain_at symbol.now ty) + tasks_weight symbol.now tasks.old.items }
+    ensures tasks { AreTasks symbol.now tasks.new.items }
+    ensures room { TakesRoom tasks.old tasks.new 2 }
 {
-    then_tree(symbol, ty, Way::Type, encoding, tasks)?;
-    then_fixed(symbol, letters, tasks)?;
-    Ok(())
+    then_tree(symbol, ty, Way::Type, encoding, tasks);
+    then_fixed(symbol, letters, tasks);
 }
 
 /// A function type (ABI 5.1.5.3, `<function-type> ::= [Do] F [Y] <bare-function-type> [<ref-qualifier>] E`).
@@ -99,64 +97,60 @@ fn then_function_type(
     parameters: u32,
     encoding: u64,
     tasks: &mut Vec<Task>,
-) -> Result<(), Refusal>
+)
     requires first { IsThere symbol.now first }
     requires returned { returned < length symbol.now.table.nodes }
     requires parameters { parameters < length symbol.now.table.nodes }
     requires tasks { AreTasks symbol.now tasks.old.items }
-    ensures presses { OnOk result (press_tasks symbol.now tasks.new.items ≡ written (text_bytes symbol.now first) onto in_way encoding Way.Type (plain_at symbol.now returned) onto in_way encoding Way.Parameters (plain_at symbol.now parameters) onto written (mark_letter (mark_of mark) ++ codes "E") onto press_tasks symbol.now tasks.old.items) }
-    ensures weight { OnOk result (tasks_weight symbol.now tasks.new.items ≡ 2 + weight (plain_at symbol.now returned) + weight (plain_at symbol.now parameters) + tasks_weight symbol.now tasks.old.items) }
-    ensures tasks { OnOk result (AreTasks symbol.now tasks.new.items) }
-    ensures memory { IfErr result (λ e. e ≡ Memory) }
+    requires room { HasRoom tasks.old 4 }
+    ensures presses { press_tasks symbol.now tasks.new.items ≡ written (text_bytes symbol.now first) onto in_way encoding Way.Type (plain_at symbol.now returned) onto in_way encoding Way.Parameters (plain_at symbol.now parameters) onto written (mark_letter (mark_of mark) ++ codes "E") onto press_tasks symbol.now tasks.old.items }
+    ensures weight { tasks_weight symbol.now tasks.new.items ≡ 2 + weight (plain_at symbol.now returned) + weight (plain_at symbol.now parameters) + tasks_weight symbol.now tasks.old.items }
+    ensures tasks { AreTasks symbol.now tasks.new.items }
+    ensures room { TakesRoom tasks.old tasks.new 4 }
 {
-    then_text(symbol, Text::FunctionEnd(mark), tasks)?;
-    then_tree(symbol, parameters, Way::Parameters, encoding, tasks)?;
-    then_tree(symbol, returned, Way::Type, encoding, tasks)?;
-    then_text(symbol, first, tasks)?;
-    Ok(())
+    then_text(symbol, Text::FunctionEnd(mark), tasks);
+    then_tree(symbol, parameters, Way::Parameters, encoding, tasks);
+    then_tree(symbol, returned, Way::Type, encoding, tasks);
+    then_text(symbol, first, tasks);
 }
 
 /// A type over other types (ABI 5.1.5).
 #[tactic(auto, unfolding(crate::specs::Spelled::compound_onto, cpp_term::specs::Erased::erase, cpp_tree::specs::Nodes::tree_of, cpp_tree::specs::Nodes::is_again, crate::specs::Weight::weight, crate::specs::Bytes::text_bytes))]
-fn then_compound(
-    symbol: &Symbol,
-    node: Node,
-    encoding: u64,
-    tasks: &mut Vec<Task>,
-) -> Result<(), Refusal>
+fn then_compound(symbol: &Symbol, node: Node, encoding: u64, tasks: &mut Vec<Task>)
     requires own { is_again node ≡ false }
     requires node { IsMade symbol.now node }
     requires tasks { AreTasks symbol.now tasks.old.items }
-    ensures presses { OnOk result (press_tasks symbol.now tasks.new.items ≡ compound_onto encoding (node_tree symbol.now node) (press_tasks symbol.now tasks.old.items)) }
-    ensures weight { OnOk result (tasks_weight symbol.now tasks.new.items + 2 ≤ weight (node_tree symbol.now node) + tasks_weight symbol.now tasks.old.items) }
-    ensures tasks { OnOk result (AreTasks symbol.now tasks.new.items) }
-    ensures memory { IfErr result (λ e. e ≡ Memory) }
+    requires room { HasRoom tasks.old 4 }
+    ensures presses { press_tasks symbol.now tasks.new.items ≡ compound_onto encoding (node_tree symbol.now node) (press_tasks symbol.now tasks.old.items) }
+    ensures weight { tasks_weight symbol.now tasks.new.items + 2 ≤ weight (node_tree symbol.now node) + tasks_weight symbol.now tasks.old.items }
+    ensures tasks { AreTasks symbol.now tasks.new.items }
+    ensures room { TakesRoom tasks.old tasks.new 4 }
 {
     match node {
-        Node::Pointer(ty) => then_behind(symbol, b"P", ty, encoding, tasks)?,
-        Node::Lvalue(ty) => then_behind(symbol, b"R", ty, encoding, tasks)?,
-        Node::Rvalue(ty) => then_behind(symbol, b"O", ty, encoding, tasks)?,
-        Node::Complex(ty) => then_behind(symbol, b"C", ty, encoding, tasks)?,
-        Node::Expansion(ty) => then_behind(symbol, b"Dp", ty, encoding, tasks)?,
+        Node::Pointer(ty) => then_behind(symbol, b"P", ty, encoding, tasks),
+        Node::Lvalue(ty) => then_behind(symbol, b"R", ty, encoding, tasks),
+        Node::Rvalue(ty) => then_behind(symbol, b"O", ty, encoding, tasks),
+        Node::Complex(ty) => then_behind(symbol, b"C", ty, encoding, tasks),
+        Node::Expansion(ty) => then_behind(symbol, b"Dp", ty, encoding, tasks),
         Node::Array { digits, element } => {
-            then_tree(symbol, element, Way::Type, encoding, tasks)?;
-            then_text(symbol, Text::Digits(b"A", digits), tasks)?;
+            then_tree(symbol, element, Way::Type, encoding, tasks);
+            then_text(symbol, Text::Digits(b"A", digits), tasks);
         }
         Node::Vector { digits, element } => {
-            then_tree(symbol, element, Way::Type, encoding, tasks)?;
-            then_text(symbol, Text::Digits(b"Dv", digits), tasks)?;
+            then_tree(symbol, element, Way::Type, encoding, tasks);
+            then_text(symbol, Text::Digits(b"Dv", digits), tasks);
         }
         Node::Tagged { name, tag, .. } => {
-            then_text(symbol, Text::Counted(b"B", tag), tasks)?;
-            then_tree(symbol, name, Way::Type, encoding, tasks)?;
+            then_text(symbol, Text::Counted(b"B", tag), tasks);
+            then_tree(symbol, name, Way::Type, encoding, tasks);
         }
         Node::MemberPointer { class, member } => {
-            then_tree(symbol, member, Way::Type, encoding, tasks)?;
-            then_behind(symbol, b"M", class, encoding, tasks)?;
+            then_tree(symbol, member, Way::Type, encoding, tasks);
+            then_behind(symbol, b"M", class, encoding, tasks);
         }
         Node::Qualified { qualifiers, ty } => {
-            then_tree(symbol, ty, Way::UnderQualifiers, encoding, tasks)?;
-            then_text(symbol, Text::Qualifiers(qualifiers), tasks)?;
+            then_tree(symbol, ty, Way::UnderQualifiers, encoding, tasks);
+            then_text(symbol, Text::Qualifiers(qualifiers), tasks);
         }
         Node::FunctionType {
             c_linkage,
@@ -169,47 +163,42 @@ fn then_compound(
                 c_linkage,
                 noexcept,
             };
-            then_function_type(symbol, first, mark, returned, parameters, encoding, tasks)?;
+            then_function_type(symbol, first, mark, returned, parameters, encoding, tasks);
         }
         _ => {}
     }
-    Ok(())
 }
 
 /// A name that is a type (ABI 5.1.5, `<class-enum-type> ::= <name>`): behind St an operator needs an N.
 #[tactic(auto, unfolding(crate::specs::Spelled::class_onto, cpp_term::specs::Erased::erase, cpp_tree::specs::Nodes::tree_of, cpp_tree::specs::Nodes::is_again, crate::specs::Weight::weight, crate::specs::Bytes::text_bytes))]
-fn then_class(
-    symbol: &Symbol,
-    node: Node,
-    encoding: u64,
-    tasks: &mut Vec<Task>,
-) -> Result<(), Refusal>
+fn then_class(symbol: &Symbol, node: Node, encoding: u64, tasks: &mut Vec<Task>)
     requires table { IsTable (table_of symbol.now) }
     requires own { is_again node ≡ false }
     requires node { IsMade symbol.now node }
     requires tasks { AreTasks symbol.now tasks.old.items }
-    ensures presses { OnOk result (press_tasks symbol.now tasks.new.items ≡ class_onto encoding (node_tree symbol.now node) (press_tasks symbol.now tasks.old.items)) }
-    ensures weight { OnOk result (tasks_weight symbol.now tasks.new.items + 2 ≤ weight (node_tree symbol.now node) + tasks_weight symbol.now tasks.old.items) }
-    ensures tasks { OnOk result (AreTasks symbol.now tasks.new.items) }
-    ensures memory { IfErr result (λ e. e ≡ Memory) }
+    requires room { HasRoom tasks.old 7 }
+    ensures presses { press_tasks symbol.now tasks.new.items ≡ class_onto encoding (node_tree symbol.now node) (press_tasks symbol.now tasks.old.items) }
+    ensures weight { tasks_weight symbol.now tasks.new.items + 2 ≤ weight (node_tree symbol.now node) + tasks_weight symbol.now tasks.old.items }
+    ensures tasks { AreTasks symbol.now tasks.new.items }
+    ensures room { TakesRoom tasks.old tasks.new 7 }
 {
     match node {
-        Node::Alone(piece) => then_piece(symbol, piece, encoding, tasks)?,
+        Node::Alone(piece) => then_piece(symbol, piece, encoding, tasks),
         Node::InStd(piece) => {
             if is_operator(piece) {
-                then_fixed(symbol, b"E", tasks)?;
-                then_in_std(symbol, piece, encoding, tasks)?;
-                then_fixed(symbol, b"N", tasks)?;
+                then_fixed(symbol, b"E", tasks);
+                then_in_std(symbol, piece, encoding, tasks);
+                then_fixed(symbol, b"N", tasks);
             } else {
-                then_in_std(symbol, piece, encoding, tasks)?;
+                then_in_std(symbol, piece, encoding, tasks);
             }
         }
-        Node::Within { prefix, piece } => then_nested(symbol, prefix, piece, encoding, tasks)?,
+        Node::Within { prefix, piece } => then_nested(symbol, prefix, piece, encoding, tasks),
         Node::Instance {
             template,
             arguments,
         } => {
-            then_template(symbol, template, arguments, true, encoding, tasks)?;
+            then_template(symbol, template, arguments, true, encoding, tasks);
         }
         Node::Local {
             encoding: around,
@@ -224,186 +213,156 @@ fn then_class(
                 Text::Fixed(b"N"),
                 encoding,
                 tasks,
-            )?;
+            );
         }
-        _ => then_compound(symbol, node, encoding, tasks)?,
+        _ => then_compound(symbol, node, encoding, tasks),
     }
-    Ok(())
 }
 
 /// A type (ABI 5.1.5, `<type>`).
 #[tactic(auto, unfolding(crate::specs::Spelled::type_onto, cpp_term::specs::Erased::erase, cpp_tree::specs::Nodes::tree_of, cpp_tree::specs::Nodes::is_again, crate::specs::Weight::weight, crate::specs::Bytes::text_bytes))]
-fn then_type(
-    symbol: &Symbol,
-    node: Node,
-    encoding: u64,
-    tasks: &mut Vec<Task>,
-) -> Result<(), Refusal>
+fn then_type(symbol: &Symbol, node: Node, encoding: u64, tasks: &mut Vec<Task>)
     requires table { IsTable (table_of symbol.now) }
     requires own { is_again node ≡ false }
     requires node { IsMade symbol.now node }
     requires tasks { AreTasks symbol.now tasks.old.items }
-    ensures presses { OnOk result (press_tasks symbol.now tasks.new.items ≡ type_onto encoding (node_tree symbol.now node) (press_tasks symbol.now tasks.old.items)) }
-    ensures weight { OnOk result (tasks_weight symbol.now tasks.new.items + 2 ≤ weight (node_tree symbol.now node) + tasks_weight symbol.now tasks.old.items) }
-    ensures tasks { OnOk result (AreTasks symbol.now tasks.new.items) }
-    ensures memory { IfErr result (λ e. e ≡ Memory) }
+    requires room { HasRoom tasks.old 7 }
+    ensures presses { press_tasks symbol.now tasks.new.items ≡ type_onto encoding (node_tree symbol.now node) (press_tasks symbol.now tasks.old.items) }
+    ensures weight { tasks_weight symbol.now tasks.new.items + 2 ≤ weight (node_tree symbol.now node) + tasks_weight symbol.now tasks.old.items }
+    ensures tasks { AreTasks symbol.now tasks.new.items }
+    ensures room { TakesRoom tasks.old tasks.new 7 }
 {
     match node {
-        Node::Builtin(letter) => then_text(symbol, Text::Letter(letter), tasks)?,
-        Node::BuiltinWithD(letter) => then_text(symbol, Text::Pair(b'D', letter), tasks)?,
-        Node::Abbreviation(letter) => then_text(symbol, Text::Pair(b'S', letter), tasks)?,
+        Node::Builtin(letter) => then_text(symbol, Text::Letter(letter), tasks),
+        Node::BuiltinWithD(letter) => then_text(symbol, Text::Pair(b'D', letter), tasks),
+        Node::Abbreviation(letter) => then_text(symbol, Text::Pair(b'S', letter), tasks),
         Node::Parameter { number, .. } => then_text(
             symbol,
             Text::Ordinal(b"T", number as u64),
             tasks,
-        )?,
-        Node::Vendor(name) => then_text(symbol, Text::Counted(b"u", name), tasks)?,
+        ),
+        Node::Vendor(name) => then_text(symbol, Text::Counted(b"u", name), tasks),
         Node::SizedFloat { digits, end } => {
-            then_text(symbol, Text::Letter(end), tasks)?;
-            then_text(symbol, Text::Suffix(digits), tasks)?;
-            then_fixed(symbol, b"DF", tasks)?;
+            then_text(symbol, Text::Letter(end), tasks);
+            then_text(symbol, Text::Suffix(digits), tasks);
+            then_fixed(symbol, b"DF", tasks);
         }
-        _ => then_class(symbol, node, encoding, tasks)?,
+        _ => then_class(symbol, node, encoding, tasks),
     }
-    Ok(())
 }
 
 /// An argument of a template (ABI 5.1.5.8, `<template-arg>`).
 #[tactic(auto, unfolding(crate::specs::Spelled::argument_onto, cpp_term::specs::Erased::erase, cpp_tree::specs::Nodes::tree_of, cpp_tree::specs::Nodes::is_again, crate::specs::Weight::weight, crate::specs::Bytes::text_bytes))]
-fn then_argument(
-    symbol: &Symbol,
-    node: Node,
-    encoding: u64,
-    tasks: &mut Vec<Task>,
-) -> Result<(), Refusal>
+fn then_argument(symbol: &Symbol, node: Node, encoding: u64, tasks: &mut Vec<Task>)
     requires table { IsTable (table_of symbol.now) }
     requires own { is_again node ≡ false }
     requires node { IsMade symbol.now node }
     requires tasks { AreTasks symbol.now tasks.old.items }
-    ensures presses { OnOk result (press_tasks symbol.now tasks.new.items ≡ argument_onto encoding (node_tree symbol.now node) (press_tasks symbol.now tasks.old.items)) }
-    ensures weight { OnOk result (tasks_weight symbol.now tasks.new.items + 2 ≤ weight (node_tree symbol.now node) + tasks_weight symbol.now tasks.old.items) }
-    ensures tasks { OnOk result (AreTasks symbol.now tasks.new.items) }
-    ensures memory { IfErr result (λ e. e ≡ Memory) }
+    requires room { HasRoom tasks.old 7 }
+    ensures presses { press_tasks symbol.now tasks.new.items ≡ argument_onto encoding (node_tree symbol.now node) (press_tasks symbol.now tasks.old.items) }
+    ensures weight { tasks_weight symbol.now tasks.new.items + 2 ≤ weight (node_tree symbol.now node) + tasks_weight symbol.now tasks.old.items }
+    ensures tasks { AreTasks symbol.now tasks.new.items }
+    ensures room { TakesRoom tasks.old tasks.new 7 }
 {
     match node {
         Node::Integer { ty, value } => {
-            then_text(symbol, Text::Value(value), tasks)?;
-            then_behind(symbol, b"L", ty, encoding, tasks)?;
+            then_text(symbol, Text::Value(value), tasks);
+            then_behind(symbol, b"L", ty, encoding, tasks);
         }
-        Node::Boolean(true) => then_fixed(symbol, b"Lb1E", tasks)?,
-        Node::Boolean(false) => then_fixed(symbol, b"Lb0E", tasks)?,
-        Node::NullPointer => then_fixed(symbol, b"LDnE", tasks)?,
+        Node::Boolean(true) => then_fixed(symbol, b"Lb1E", tasks),
+        Node::Boolean(false) => then_fixed(symbol, b"Lb0E", tasks),
+        Node::NullPointer => then_fixed(symbol, b"LDnE", tasks),
         Node::EncodingLiteral(inner) => {
-            then_fixed(symbol, b"E", tasks)?;
-            then_tree(symbol, inner, Way::Encoding, encoding, tasks)?;
-            then_fixed(symbol, b"L_Z", tasks)?;
+            then_fixed(symbol, b"E", tasks);
+            then_tree(symbol, inner, Way::Encoding, encoding, tasks);
+            then_fixed(symbol, b"L_Z", tasks);
         }
         Node::AddressOf(inner) => {
-            then_fixed(symbol, b"EE", tasks)?;
-            then_tree(symbol, inner, Way::Encoding, encoding, tasks)?;
-            then_fixed(symbol, b"XadL_Z", tasks)?;
+            then_fixed(symbol, b"EE", tasks);
+            then_tree(symbol, inner, Way::Encoding, encoding, tasks);
+            then_fixed(symbol, b"XadL_Z", tasks);
         }
         Node::Pack(elements) => {
-            then_fixed(symbol, b"E", tasks)?;
-            then_tree(symbol, elements, Way::Elements, encoding, tasks)?;
-            then_fixed(symbol, b"J", tasks)?;
+            then_fixed(symbol, b"E", tasks);
+            then_tree(symbol, elements, Way::Elements, encoding, tasks);
+            then_fixed(symbol, b"J", tasks);
         }
-        _ => then_type(symbol, node, encoding, tasks)?,
+        _ => then_type(symbol, node, encoding, tasks),
     }
-    Ok(())
 }
 
 /// The parameters behind the first (ABI 5.1.5.3, `<bare-function-type> ::= <signature type>+`).
 #[tactic(auto, unfolding(crate::specs::Spelled::more_parameters_onto, cpp_term::specs::Erased::erase, cpp_tree::specs::Nodes::tree_of, cpp_tree::specs::Nodes::is_again, crate::specs::Weight::weight, crate::specs::Bytes::text_bytes))]
-fn then_more_parameters(
-    symbol: &Symbol,
-    node: Node,
-    encoding: u64,
-    tasks: &mut Vec<Task>,
-) -> Result<(), Refusal>
+fn then_more_parameters(symbol: &Symbol, node: Node, encoding: u64, tasks: &mut Vec<Task>)
     requires own { is_again node ≡ false }
     requires node { IsMade symbol.now node }
     requires tasks { AreTasks symbol.now tasks.old.items }
-    ensures presses { OnOk result (press_tasks symbol.now tasks.new.items ≡ more_parameters_onto encoding (node_tree symbol.now node) (press_tasks symbol.now tasks.old.items)) }
-    ensures weight { OnOk result (tasks_weight symbol.now tasks.new.items + 2 ≤ weight (node_tree symbol.now node) + tasks_weight symbol.now tasks.old.items) }
-    ensures tasks { OnOk result (AreTasks symbol.now tasks.new.items) }
-    ensures memory { IfErr result (λ e. e ≡ Memory) }
+    requires room { HasRoom tasks.old 2 }
+    ensures presses { press_tasks symbol.now tasks.new.items ≡ more_parameters_onto encoding (node_tree symbol.now node) (press_tasks symbol.now tasks.old.items) }
+    ensures weight { tasks_weight symbol.now tasks.new.items + 2 ≤ weight (node_tree symbol.now node) + tasks_weight symbol.now tasks.old.items }
+    ensures tasks { AreTasks symbol.now tasks.new.items }
+    ensures room { TakesRoom tasks.old tasks.new 2 }
 {
     match node {
         Node::Cell { first, rest } => {
-            then_tree(symbol, rest, Way::MoreParameters, encoding, tasks)?;
-            then_tree(symbol, first, Way::Type, encoding, tasks)?;
+            then_tree(symbol, rest, Way::MoreParameters, encoding, tasks);
+            then_tree(symbol, first, Way::Type, encoding, tasks);
         }
         _ => {}
     }
-    Ok(())
 }
 
 /// The parameters of a function (ABI 5.1.5.3, `<bare-function-type>`), of which none are a v.
 #[tactic(auto, unfolding(crate::specs::Spelled::parameters_onto, cpp_term::specs::Erased::erase, cpp_tree::specs::Nodes::tree_of, cpp_tree::specs::Nodes::is_again, crate::specs::Weight::weight, crate::specs::Bytes::text_bytes))]
-fn then_parameters(
-    symbol: &Symbol,
-    node: Node,
-    encoding: u64,
-    tasks: &mut Vec<Task>,
-) -> Result<(), Refusal>
+fn then_parameters(symbol: &Symbol, node: Node, encoding: u64, tasks: &mut Vec<Task>)
     requires own { is_again node ≡ false }
     requires node { IsMade symbol.now node }
     requires tasks { AreTasks symbol.now tasks.old.items }
-    ensures presses { OnOk result (press_tasks symbol.now tasks.new.items ≡ parameters_onto encoding (node_tree symbol.now node) (press_tasks symbol.now tasks.old.items)) }
-    ensures weight { OnOk result (tasks_weight symbol.now tasks.new.items + 2 ≤ weight (node_tree symbol.now node) + tasks_weight symbol.now tasks.old.items) }
-    ensures tasks { OnOk result (AreTasks symbol.now tasks.new.items) }
-    ensures memory { IfErr result (λ e. e ≡ Memory) }
+    requires room { HasRoom tasks.old 2 }
+    ensures presses { press_tasks symbol.now tasks.new.items ≡ parameters_onto encoding (node_tree symbol.now node) (press_tasks symbol.now tasks.old.items) }
+    ensures weight { tasks_weight symbol.now tasks.new.items + 2 ≤ weight (node_tree symbol.now node) + tasks_weight symbol.now tasks.old.items }
+    ensures tasks { AreTasks symbol.now tasks.new.items }
+    ensures room { TakesRoom tasks.old tasks.new 2 }
 {
     match node {
-        Node::Nil => then_fixed(symbol, b"v", tasks)?,
-        _ => then_more_parameters(symbol, node, encoding, tasks)?,
+        Node::Nil => then_fixed(symbol, b"v", tasks),
+        _ => then_more_parameters(symbol, node, encoding, tasks),
     }
-    Ok(())
 }
 
 /// The elements of a list (ABI 5.1.5.8, `<template-arg>+`).
 #[tactic(auto, unfolding(crate::specs::Spelled::elements_onto, cpp_term::specs::Erased::erase, cpp_tree::specs::Nodes::tree_of, cpp_tree::specs::Nodes::is_again, crate::specs::Weight::weight, crate::specs::Bytes::text_bytes))]
-fn then_elements(
-    symbol: &Symbol,
-    node: Node,
-    encoding: u64,
-    tasks: &mut Vec<Task>,
-) -> Result<(), Refusal>
+fn then_elements(symbol: &Symbol, node: Node, encoding: u64, tasks: &mut Vec<Task>)
     requires own { is_again node ≡ false }
     requires node { IsMade symbol.now node }
     requires tasks { AreTasks symbol.now tasks.old.items }
-    ensures presses { OnOk result (press_tasks symbol.now tasks.new.items ≡ elements_onto encoding (node_tree symbol.now node) (press_tasks symbol.now tasks.old.items)) }
-    ensures weight { OnOk result (tasks_weight symbol.now tasks.new.items + 2 ≤ weight (node_tree symbol.now node) + tasks_weight symbol.now tasks.old.items) }
-    ensures tasks { OnOk result (AreTasks symbol.now tasks.new.items) }
-    ensures memory { IfErr result (λ e. e ≡ Memory) }
+    requires room { HasRoom tasks.old 2 }
+    ensures presses { press_tasks symbol.now tasks.new.items ≡ elements_onto encoding (node_tree symbol.now node) (press_tasks symbol.now tasks.old.items) }
+    ensures weight { tasks_weight symbol.now tasks.new.items + 2 ≤ weight (node_tree symbol.now node) + tasks_weight symbol.now tasks.old.items }
+    ensures tasks { AreTasks symbol.now tasks.new.items }
+    ensures room { TakesRoom tasks.old tasks.new 2 }
 {
     match node {
         Node::Cell { first, rest } => {
-            then_tree(symbol, rest, Way::Elements, encoding, tasks)?;
-            then_tree(symbol, first, Way::Argument, encoding, tasks)?;
+            then_tree(symbol, rest, Way::Elements, encoding, tasks);
+            then_tree(symbol, first, Way::Argument, encoding, tasks);
         }
         _ => {}
     }
-    Ok(())
 }
 
 /// An encoding that begins at a place (ABI 5.1, `<encoding>`; 5.1.4, `<special-name>`), or the whole symbol
 /// (`<mangled-name> ::= _Z <encoding>`).
 #[tactic(auto, unfolding(crate::specs::Spelled::encoding_onto, cpp_term::specs::Erased::erase, cpp_tree::specs::Nodes::tree_of, cpp_tree::specs::Nodes::is_again, crate::specs::Weight::weight, crate::specs::Bytes::text_bytes, crate::specs::Tasks::in_way))]
-fn then_encoding(
-    symbol: &Symbol,
-    node: Node,
-    here: u64,
-    tasks: &mut Vec<Task>,
-) -> Result<(), Refusal>
+fn then_encoding(symbol: &Symbol, node: Node, here: u64, tasks: &mut Vec<Task>)
     requires own { is_again node ≡ false }
     requires node { IsMade symbol.now node }
     requires tasks { AreTasks symbol.now tasks.old.items }
-    ensures presses { OnOk result (press_tasks symbol.now tasks.new.items ≡ encoding_onto here (node_tree symbol.now node) (press_tasks symbol.now tasks.old.items)) }
-    ensures weight { OnOk result (tasks_weight symbol.now tasks.new.items + 2 ≤ weight (node_tree symbol.now node) + tasks_weight symbol.now tasks.old.items) }
-    ensures tasks { OnOk result (AreTasks symbol.now tasks.new.items) }
-    ensures memory { IfErr result (λ e. e ≡ Memory) }
+    requires room { HasRoom tasks.old 4 }
+    ensures presses { press_tasks symbol.now tasks.new.items ≡ encoding_onto here (node_tree symbol.now node) (press_tasks symbol.now tasks.old.items) }
+    ensures weight { tasks_weight symbol.now tasks.new.items + 2 ≤ weight (node_tree symbol.now node) + tasks_weight symbol.now tasks.old.items }
+    ensures tasks { AreTasks symbol.now tasks.new.items }
+    ensures room { TakesRoom tasks.old tasks.new 4 }
 {
     match node {
         Node::Function {
@@ -414,24 +373,24 @@ fn then_encoding(
             parameters,
             ..
         } => {
-            then_tree(symbol, parameters, Way::Parameters, here, tasks)?;
-            then_tree(symbol, returned, Way::Type, here, tasks)?;
-            then_tree(symbol, name, Way::Name(qualifiers, mark), here, tasks)?;
+            then_tree(symbol, parameters, Way::Parameters, here, tasks);
+            then_tree(symbol, returned, Way::Type, here, tasks);
+            then_tree(symbol, name, Way::Name(qualifiers, mark), here, tasks);
         }
         Node::Object {
             name,
             qualifiers,
             mark,
         } => {
-            then_tree(symbol, name, Way::Name(qualifiers, mark), here, tasks)?;
+            then_tree(symbol, name, Way::Name(qualifiers, mark), here, tasks);
         }
         Node::Special { letter, ty } => {
-            then_tree(symbol, ty, Way::Type, here, tasks)?;
-            then_text(symbol, Text::Pair(b'T', letter), tasks)?;
+            then_tree(symbol, ty, Way::Type, here, tasks);
+            then_text(symbol, Text::Pair(b'T', letter), tasks);
         }
         Node::Thunk { thunk, encoding } => {
-            then_tree(symbol, encoding, Way::Encoding, here, tasks)?;
-            then_text(symbol, Text::Thunk(thunk), tasks)?;
+            then_tree(symbol, encoding, Way::Encoding, here, tasks);
+            then_text(symbol, Text::Thunk(thunk), tasks);
         }
         Node::OfName {
             letter,
@@ -439,32 +398,31 @@ fn then_encoding(
             qualifiers,
             mark,
         } => {
-            then_tree(symbol, name, Way::Name(qualifiers, mark), here, tasks)?;
-            then_text(symbol, Text::Pair(special_front(letter), letter), tasks)?;
+            then_tree(symbol, name, Way::Name(qualifiers, mark), here, tasks);
+            then_text(symbol, Text::Pair(special_front(letter), letter), tasks);
         }
         Node::Construction {
             derived,
             digits,
             parent,
         } => {
-            then_tree(symbol, parent, Way::Type, here, tasks)?;
-            then_text(symbol, Text::Digits(b"", digits), tasks)?;
-            then_tree(symbol, derived, Way::Type, here, tasks)?;
-            then_fixed(symbol, b"TC", tasks)?;
+            then_tree(symbol, parent, Way::Type, here, tasks);
+            then_text(symbol, Text::Digits(b"", digits), tasks);
+            then_tree(symbol, derived, Way::Type, here, tasks);
+            then_fixed(symbol, b"TC", tasks);
         }
         Node::CloneOf { letter, encoding } => {
-            then_tree(symbol, encoding, Way::Encoding, here, tasks)?;
-            then_text(symbol, Text::Letter(letter), tasks)?;
-            then_fixed(symbol, b"GT", tasks)?;
+            then_tree(symbol, encoding, Way::Encoding, here, tasks);
+            then_text(symbol, Text::Letter(letter), tasks);
+            then_fixed(symbol, b"GT", tasks);
         }
         Node::Whole { encoding, suffix } => {
-            then_text(symbol, Text::Suffix(suffix), tasks)?;
-            then_tree(symbol, encoding, Way::Encoding, here, tasks)?;
-            then_fixed(symbol, b"_Z", tasks)?;
+            then_text(symbol, Text::Suffix(suffix), tasks);
+            then_tree(symbol, encoding, Way::Encoding, here, tasks);
+            then_fixed(symbol, b"_Z", tasks);
         }
         _ => {}
     }
-    Ok(())
 }
 
 /// A tree spelled out in one of its ways. What is written next stands at the place `here`.
@@ -475,33 +433,33 @@ pub fn then_spelled(
     encoding: u64,
     here: u64,
     tasks: &mut Vec<Task>,
-) -> Result<(), Refusal>
+)
     requires table { IsTable (table_of symbol.now) }
     requires node { node < length symbol.now.table.nodes }
     requires tasks { AreTasks symbol.now tasks.old.items }
-    ensures presses { OnOk result (press_tasks symbol.now tasks.new.items ≡ spelled_onto encoding here way (plain_at symbol.now node) (press_tasks symbol.now tasks.old.items)) }
-    ensures weight { OnOk result (tasks_weight symbol.now tasks.new.items + 2 ≤ way_weight way + weight (plain_at symbol.now node) + tasks_weight symbol.now tasks.old.items) }
-    ensures tasks { OnOk result (AreTasks symbol.now tasks.new.items) }
-    ensures memory { IfErr result (λ e. e ≡ Memory) }
+    requires room { HasRoom tasks.old 7 }
+    ensures presses { press_tasks symbol.now tasks.new.items ≡ spelled_onto encoding here way (plain_at symbol.now node) (press_tasks symbol.now tasks.old.items) }
+    ensures weight { tasks_weight symbol.now tasks.new.items + 2 ≤ way_weight way + weight (plain_at symbol.now node) + tasks_weight symbol.now tasks.old.items }
+    ensures tasks { AreTasks symbol.now tasks.new.items }
+    ensures room { TakesRoom tasks.old tasks.new 7 }
 {
     let is = stored(symbol, node);
     match way {
-        Way::Type => then_type(symbol, is, encoding, tasks)?,
-        Way::UnderQualifiers => then_type(symbol, is, encoding, tasks)?,
+        Way::Type => then_type(symbol, is, encoding, tasks),
+        Way::UnderQualifiers => then_type(symbol, is, encoding, tasks),
         Way::Prefix => {
             if is_prefix(is) {
-                then_prefix(symbol, is, encoding, tasks)?;
+                then_prefix(symbol, is, encoding, tasks);
             } else {
-                then_type(symbol, is, encoding, tasks)?;
+                then_type(symbol, is, encoding, tasks);
             }
         }
-        Way::Between => then_between(symbol, is, encoding, tasks)?,
-        Way::Encoding => then_encoding(symbol, is, here, tasks)?,
-        Way::Name(qualifiers, mark) => then_name(symbol, node, qualifiers, mark, encoding, tasks)?,
-        Way::Argument => then_argument(symbol, is, encoding, tasks)?,
-        Way::Parameters => then_parameters(symbol, is, encoding, tasks)?,
-        Way::MoreParameters => then_more_parameters(symbol, is, encoding, tasks)?,
-        Way::Elements => then_elements(symbol, is, encoding, tasks)?,
+        Way::Between => then_between(symbol, is, encoding, tasks),
+        Way::Encoding => then_encoding(symbol, is, here, tasks),
+        Way::Name(qualifiers, mark) => then_name(symbol, node, qualifiers, mark, encoding, tasks),
+        Way::Argument => then_argument(symbol, is, encoding, tasks),
+        Way::Parameters => then_parameters(symbol, is, encoding, tasks),
+        Way::MoreParameters => then_more_parameters(symbol, is, encoding, tasks),
+        Way::Elements => then_elements(symbol, is, encoding, tasks),
     }
-    Ok(())
 }

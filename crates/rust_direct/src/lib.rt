@@ -4,7 +4,7 @@
 //! them, and paths with arguments are read so; of types basic ones, paths, references, raw pointers, slices, arrays, tuples and `dyn`;
 //! of constants integers, truth values and what isn't known; with back references to paths and types, the crate that asked for a
 //! symbol, and a suffix. A symbol with anything else in it is given up, and is to be read by its grammar: no answer depends on this
-//! crate, which one module of `rust_v0` (`short_way`) takes step by step, and may leave out.
+//! crate, which `rust_short_way` takes step by step, and `rust_v0` may leave out.
 #![tactic(auto)]
 
 mod arguments;

@@ -1,9 +1,11 @@
 pub mod Rows
 pub mod Digits
+pub mod Lengths
 pub mod Names
 pub mod Texts
 pub mod Writing
 pub mod Paths
 pub mod Legacy
+pub mod Reading
 pub mod Bounds
 pub mod Short

@@ -14,9 +14,9 @@ abbrev pub with_names : List (List ℕ) → Option Path → Option Path
 with_names [] path = path
 with_names (name ∷ rest) path = with_name name (with_names rest path)
 
-pub with_names-append : (front : List (List ℕ)) (name : List ℕ) (path : Option Path) → with_names (front ++ name ∷ []) path ≡ with_names front (with_name name path)
-with_names-append [] name path = refl
-with_names-append (n ∷ front) name path = ap (with_name n) (with_names-append front name path)
+pub with_names-joined : (front names : List (List ℕ)) (path : Option Path) → with_names (front ++ names) path ≡ with_names front (with_names names path)
+with_names-joined [] names path = refl
+with_names-joined (n ∷ front) names path = ap (with_name n) (with_names-joined front names path)
 
 pub with_names-None : (front : List (List ℕ)) → with_names front None ≡ None
 with_names-None [] = refl
@@ -59,11 +59,10 @@ ended (suc depth) s at deep is =
     ap (λ b. cond {A = Option Path} b (at_end (drop at s)) (after depth (drop at s) (name_in (drop at s)))) is
     ∙ ap (λ r. Some (record { names = []; suffix = r })) (drop-drop 1 at s)
 
--- one name more after names
-pub AreNames-append : (s : List ℕ) (from at to : ℕ) (front : List (List ℕ)) (name : List ℕ) → at ≤ to → AreNames s from at front
-    → name_in (drop at s) ≡ Some (record { bytes = name; size = to - at }) → AreNames s from to (front ++ name ∷ [])
-AreNames-append s from at to [] name low are is = (to - at, subst (λ n. name_in (drop n s) ≡ Some (record { bytes = name; size = to - at })) (sym are) is, omega (arith, low, are))
-AreNames-append s from at to (n ∷ front) name low are is = (are.0, are.1, AreNames-append s (from + are.0) at to front name low are.2 is)
+-- names after names
+pub AreNames-joined : (s : List ℕ) (from at to : ℕ) (front names : List (List ℕ)) → AreNames s from at front → AreNames s at to names → AreNames s from to (front ++ names)
+AreNames-joined s from at to [] names are more = subst (λ n. AreNames s n to names) (sym are) more
+AreNames-joined s from at to (n ∷ front) names are more = (are.0, are.1, AreNames-joined s (from + are.0) at to front names are.2 more)
 
 abbrev pub names_after : List ℕ → Option (List (List ℕ)) → Option (List (List ℕ))
 names_after name found = elim found [ Some names ↦ Some (name ∷ names) | None ↦ None ]
@@ -133,21 +132,13 @@ pub some_names : (s : List ℕ) (from to : ℕ) (names : List (List ℕ)) → Ar
 some_names s from to [] are far = absurd (far are)
 some_names s from to (name ∷ rest) are far = omega arith
 
--- all names, with the last one told apart
-pub path_read : (s : List ℕ) (depth to : ℕ) (front : List (List ℕ)) (last : List ℕ) (all : Option Path) → length s - to < depth
-    → begins_with (codes "E") (drop to s) ≡ true → all ≡ with_names front (with_name last (names_in depth (drop to s)))
-    → path_in all ≡ path_before_hash (drop (to + 1) s) (cond {A = Option (List (List ℕ))} (is_hash last) (Some front) None)
-path_read s depth to front last all deep is whole =
-    let suffix = drop (to + 1) s in
-    ap path_in (whole ∙ ap (λ p. with_names front (with_name last p)) (ended depth s to deep is) ∙ with_names-Some front (last ∷ []) suffix)
-    ∙ ap (path_before_hash suffix) (before_hash-append front last)
+-- what path names make, of which the last is told apart
+pub path_read : (s : List ℕ) (front : List (List ℕ)) (last suffix : List ℕ) (all : Option Path) → all ≡ Some (record { names = front ++ last ∷ []; suffix = suffix })
+    → path_in all ≡ path_before_hash suffix (cond {A = Option (List (List ℕ))} (is_hash last) (Some front) None)
+path_read s front last suffix all whole = ap path_in whole ∙ ap (path_before_hash suffix) (before_hash-append front last)
 
 abbrev pub before_suffix : List ℕ → Bool → List (List ℕ) → Option Path
 before_suffix suffix b front = path_before_hash suffix (cond {A = Option (List (List ℕ))} b (Some front) None)
-
-pub no_path : (suffix : List ℕ) (b : Bool) (front : List (List ℕ)) → front ≡ [] → before_suffix suffix b front ≡ None
-no_path suffix true front none = ap (λ f. before_suffix suffix true f) none
-no_path suffix false front none = refl
 
 pub some_path : (suffix : List ℕ) (b : Bool) (front : List (List ℕ)) → b ≡ true → 0 < length front → before_suffix suffix b front ≡ Some (record { names = front; suffix = suffix })
 some_path suffix b [] is some = absurd (omega (arith, some))

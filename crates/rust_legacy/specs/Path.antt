@@ -1,5 +1,5 @@
 -- Which symbols are legacy Rust names, and what the path of one is.
-use Rattle.std.specs.Prelude.{◌≡◌, ℕ, zero, suc, ◌+◌, ◌<◌, ◌≤◌, ◌==◌, ◌&&◌, ◌||◌, not, nat_le, nat_lt, nat_eq, Bool, List, [], ◌∷◌, length, take, drop, codes, Option, Some, None, if◌then◌else◌}
+use Rattle.std.specs.Prelude.{◌≡◌, ℕ, zero, suc, ◌+◌, ◌-◌, ◌<◌, ◌≤◌, ◌==◌, ◌&&◌, ◌||◌, not, nat_le, nat_lt, nat_eq, Bool, true, false, List, [], ◌∷◌, ◌++◌, length, take, drop, codes, Option, Some, None, if◌then◌else◌}
 use Rattle.std.specs.List.{list_all, starts_with, prefix_len}
 use Rattle.sym_core.specs.Number.{is_decimal_digit, is_upper_letter, is_lower_letter, is_digit_of}
 use Rattle.sym_core.specs.Value.{value_of}
@@ -95,3 +95,25 @@ StandsAt s path place =
 -- the symbol is a legacy name, and its path stands so
 abbrev pub IsPlaced : (s : List ℕ) → PathPlace → Type 0
 IsPlaced s place = (path : Path) × (legacy_of s ≡ Some path) × StandsAt s path place
+
+-- ## Lengths
+
+-- the digits of a length stand from one place to another, and stand for a value: the name at the first is so many bytes after them, if
+-- there are so many, else none is there, nor the E that ends names
+abbrev pub HasLength : (s : List ℕ) → (at to value : ℕ) → Type 0
+HasLength s at to value =
+    (at < to) × (to ≤ length s) × (0 < value) × (begins_with (codes "E") (drop at s) ≡ false)
+    × (to + value ≤ length s → name_in (drop at s) ≡ Some (record { bytes = take value (drop to s); size = to - at + value }))
+    × (length s < to + value → name_in (drop at s) ≡ None)
+
+-- what ends names: an E, and a suffix or nothing
+abbrev pub is_end : List ℕ → Bool
+is_end s = begins_with (codes "E") s && is_suffix (drop 1 s)
+
+-- the names of a symbol are two or more, of which the last is at a place, and a suffix or nothing stands after their E
+abbrev pub AreRead : (s : List ℕ) → PathPlace → Type 0
+AreRead s place =
+    (names : List (List ℕ)) × (last : List ℕ) × (names_in (length s) (drop 3 s) ≡ Some (record { names = names ++ last ∷ []; suffix = drop place.end s }))
+    × AreNames s 3 place.hash names × (0 < length names)
+    × (name_in (drop place.hash s) ≡ Some (record { bytes = last; size = place.end - 1 - place.hash }))
+    × (is_suffix (drop place.end s) ≡ true) × (place.hash < place.end) × (place.end ≤ length s)

@@ -8,5 +8,5 @@ mod text;
 mod tokens;
 
 pub use laws::legacy_texts_are_short;
-pub use path::{PathPlace, path_of};
+pub use path::{PathPlace, is_path, names_of, path_of};
 pub use text::push_text;

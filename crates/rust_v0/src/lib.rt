@@ -9,7 +9,6 @@ mod nodes;
 mod operands;
 pub mod part;
 mod semantics;
-pub mod short_way;
 pub mod tokens;
 
 pub use demangling::{demangle, demangle_as, read, read_fed};

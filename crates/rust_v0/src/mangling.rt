@@ -19,8 +19,8 @@ ghost use Rattle.rust_grammar.specs.Unfold.{unfolded};
 use crate::grammar::V0;
 use crate::nodes::RustNodes;
 use crate::part::Part;
-use crate::short_way;
 use rust_direct::Direct;
+use rust_short_way::write;
 use rust_tree::{Context, Detail, Nodes, Symbol};
 use std::alloc::Global;
 use std::mem;
@@ -132,7 +132,7 @@ impl Mangling for V0 {
         requires { FitsSymbol symbol.now }
         ensures { result ≡ true → IsAnswer details.Full symbol.now limit (Ok direct.new.text.list.items) }
     {
-        short_way::write(direct, symbol, limit)
+        write(direct, symbol, limit)
     }
 
     #[inline(always)]

@@ -1,6 +1,6 @@
 // The options of a command line, and its symbols.
 ghost use Rattle.std.specs.Prelude.{◌≡◌, IfOk, false, map};
-ghost use Rattle.clap.specs.Words.{FailsBy, found_of, rows_of, matches_of, fault_of, app_of, rule_of};
+ghost use Rattle.clap.specs.Words.{FailsBy, found_of, rows_of, matches_of, fault_of, app_of, rule_of, with_rule};
 ghost use Rattle.sym_command.specs.CommandLine.{command_line, flag, limit, symbols, AreOptions, IsFlag, IsLimit, detail_by, letters_by, asked_by, symbols_of, filtering_by};
 
 use crate::outcome::Filtering;
@@ -21,6 +21,25 @@ Examples:
   nm prog | symfilt        the names of a program
   symfilt < FILE           a file; no argument names one
   symfilt --brief _Z1fIiEvT_";
+
+// What help says of the options that take no value.
+const STATS: &str = "Show the rows, nodes and steps of each symbol";
+
+const PRESS: &str =
+    "Spell each symbol again with its repeated parts as references, in place of printing it";
+
+const WIDE: &str =
+    "Read C++ symbols that compilers write beside those of the ABI's first grammar, too";
+
+const LEGACY: &str =
+    "Print Rust's older names, which look like C++ and end in a hash, as Rust paths";
+
+const BRIEF: &str = "Leave out template and generic arguments";
+
+const NO_PARAMS: &str = "Print each C++ function by its name, without return type and parameters";
+
+const ASCII_WORDS: &str =
+    "Let the words of standard input end at bytes that aren't ASCII, as at the quotes that compilers put around symbols";
 
 /// What is asked of each symbol.
 #[derive(Clone, Copy, Debug, PartialEq, Eq)]
@@ -58,36 +77,31 @@ pub(crate) fn found_in<'a>(alloc: Global, words: &'a [&'a str]) -> Result<ArgMat
 fn command_line<'a>(alloc: Global) -> Result<Command<'a>, AllocError>
     ensures { IfOk result (λ command. app_of command ≡ command_line) }
 {
-    let stats = flag(alloc, "stats").help("Show the rows, nodes and steps of each symbol");
-    let press = flag(alloc, "press").help(
-        "Spell each symbol again with its repeated parts as references, in place of printing it",
-    );
-    let wide = flag(alloc, "wide").help(
-        "Read C++ symbols that compilers write beside those of the ABI's first grammar, too",
-    );
-    let legacy = flag(alloc, "legacy").help(
-        "Print Rust's older names, which look like C++ and end in a hash, as Rust paths",
-    );
-    let brief = flag(alloc, "brief").help("Leave out template and generic arguments");
-    let no_params = flag(alloc, "no-params").help(
-        "Print each C++ function by its name, without return type and parameters",
-    );
-    let ascii_words = flag(alloc, "ascii-words").help(
-        "Let the words of standard input end at bytes that aren't ASCII, as at the quotes that compilers put around symbols",
-    );
-    Command::new(alloc, "symfilt")
+    let command = Command::new(alloc, "symfilt")
         .version(VERSION)
         .about("Prints C++ (Itanium ABI) and Rust (v0) symbols")
         .after_help(EXAMPLES)
-        .arg(limit(alloc))?
-        .arg(stats)?
-        .arg(press)?
-        .arg(wide)?
-        .arg(legacy)?
-        .arg(brief)?
-        .arg(no_params)?
-        .arg(ascii_words)?
-        .arg(symbols(alloc))
+        .arg(limit(alloc))?;
+    let command = with_flag(alloc, command, "stats", STATS)?;
+    let command = with_flag(alloc, command, "press", PRESS)?;
+    let command = with_flag(alloc, command, "wide", WIDE)?;
+    let command = with_flag(alloc, command, "legacy", LEGACY)?;
+    let command = with_flag(alloc, command, "brief", BRIEF)?;
+    let command = with_flag(alloc, command, "no-params", NO_PARAMS)?;
+    let command = with_flag(alloc, command, "ascii-words", ASCII_WORDS)?;
+    command.arg(symbols(alloc))
+}
+
+/// A command line with one option more, which takes no value.
+fn with_flag<'a>(
+    alloc: Global,
+    command: Command<'a>,
+    name: &'a str,
+    help: &'a str,
+) -> Result<Command<'a>, AllocError>
+    ensures { IfOk result (λ with_it. app_of with_it ≡ with_rule (app_of command.entry) (flag name.entry.now)) }
+{
+    command.arg(flag(alloc, name).help(help))
 }
 
 /// An option that takes no value.

@@ -1,6 +1,7 @@
 // Legacy Rust names, as the paths that they stand for, before both manglings.
 ghost use Rattle.std.specs.Prelude.{◌≡◌, IfSome};
 ghost use Rattle.sym_core.specs.Number.{FitsSymbol};
+ghost use Rattle.rust_legacy.specs.Path.{AreRead};
 ghost use Rattle.rust_legacy.specs.Text.{legacy_answer};
 ghost use Rattle.sym_filter.specs.Demangled.{IsAppended, IsDemangled};
 ghost use Rattle.sym_filter.specs.Languages.{AreCountsBy, language_answer_by};
@@ -8,7 +9,7 @@ ghost use Rattle.sym_filter.specs.Languages.{AreCountsBy, language_answer_by};
 use crate::demangler::{Demangled, Demangler};
 use crate::kinds::{Kind, Lang};
 use crate::languages::{Cpp, Languages, Lists};
-use rust_legacy::{path_of, push_text};
+use rust_legacy::{PathPlace, is_path, names_of, path_of, push_text};
 use std::alloc::{AllocError, Global};
 use sym_core::{Counts, Refusal};
 
@@ -58,6 +59,7 @@ impl<C: Cpp> Demangler for Legacy<C> {
         }
     }
 
+    #[inline(always)]
     fn append(
         &self,
         lists: &mut Lists<C>,
@@ -65,11 +67,32 @@ impl<C: Cpp> Demangler for Legacy<C> {
         symbol: &[u8],
         out: &mut Vec<u8>,
     ) -> Result<(), Refusal> {
-        match path_of(symbol) {
-            None => self.languages.append(lists, kind, symbol, out),
-            Some(place) => push_text(symbol, place, self.languages.limit, out),
-        }
+        let Some(place) = names_of(symbol).0 else {
+            return self.languages.append(lists, kind, symbol, out);
+        };
+        append_named(self, lists, kind, symbol, place, out)
     }
+}
+
+/// Appends the text of a symbol whose names may be those of a legacy name.
+// out of line, so that all others pay nothing for it
+#[inline(never)]
+fn append_named<C: Cpp>(
+    legacy: &Legacy<C>,
+    lists: &mut Lists<C>,
+    kind: Kind,
+    symbol: &[u8],
+    place: PathPlace,
+    out: &mut Vec<u8>,
+) -> Result<(), Refusal>
+    requires fits { FitsSymbol symbol.now }
+    requires read { AreRead symbol.now place }
+    ensures { IsAppended (legacy_answer legacy.now.languages.limit symbol.now (language_answer_by C.mangled legacy.now.languages.limit legacy.now.languages.detail kind.lang symbol.now)) out.old.items out.new.items result }
+{
+    if !is_path(symbol, place).0 {
+        return legacy.languages.append(lists, kind, symbol, out);
+    }
+    push_text(symbol, place, legacy.languages.limit, out)
 }
 
 /// The counts of a symbol that is read.

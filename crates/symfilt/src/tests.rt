@@ -214,13 +214,15 @@ fn runs(alloc: Global, words: &[&str]) -> (Run, bool) {
     (outcome, out.is_empty() && !err.is_empty())
 }
 
-/// What the program is to do where it is asked to filter, with C++ by the wide grammar or the other.
-fn filtering(limit: u32, detail: Detail, letters: Letters, wide: bool) -> Run {
+/// What the program is to do where it is asked to filter, with C++ by the wide grammar or the other, and legacy Rust names
+/// as paths or not.
+fn filtering(limit: u32, detail: Detail, letters: Letters, wide: bool, legacy: bool) -> Run {
     Run::Filter(Filtering {
         limit,
         detail,
         letters,
         wide,
+        legacy,
     })
 }
 
@@ -228,18 +230,20 @@ fn filtering(limit: u32, detail: Detail, letters: Letters, wide: bool) -> Run {
 fn reads_command_lines(rt: HostRuntime) {
     let alloc = rt.alloc();
     let any = Letters::Any;
-    let usual = filtering(1_000_000, Detail::Full, any, false);
+    let usual = filtering(1_000_000, Detail::Full, any, false, false);
     assert!(rt; runs(alloc, &["symfilt"]) == (usual, false));
-    let most = filtering(4_294_967_295, Detail::Brief, any, false);
+    let most = filtering(4_294_967_295, Detail::Brief, any, false, false);
     assert!(rt; runs(alloc, &["symfilt", "--limit=4294967295", "--brief"]) == (most, false));
-    let named = filtering(1_000_000, Detail::NoParameters, any, false);
+    let named = filtering(1_000_000, Detail::NoParameters, any, false, false);
     assert!(rt; runs(alloc, &["symfilt", "--no-params"]) == (named, false));
-    let shortest = filtering(1_000_000, Detail::BriefNoParameters, any, false);
+    let shortest = filtering(1_000_000, Detail::BriefNoParameters, any, false, false);
     assert!(rt; runs(alloc, &["symfilt", "--no-params", "--brief"]) == (shortest, false));
-    let ascii = filtering(1_000_000, Detail::Full, Letters::Ascii, false);
+    let ascii = filtering(1_000_000, Detail::Full, Letters::Ascii, false, false);
     assert!(rt; runs(alloc, &["symfilt", "--ascii-words"]) == (ascii, false));
-    let wide = filtering(1_000_000, Detail::Full, any, true);
+    let wide = filtering(1_000_000, Detail::Full, any, true, false);
     assert!(rt; runs(alloc, &["symfilt", "--wide"]) == (wide, false));
+    let both = filtering(1_000_000, Detail::Full, any, true, true);
+    assert!(rt; runs(alloc, &["symfilt", "--legacy", "--wide"]) == (both, false));
     assert!(rt; runs(alloc, &["symfilt", "--wide", "--press"]) == (Run::Done(2), true));
     assert!(rt; runs(alloc, &["symfilt", "--limit", "4294967296"]) == (Run::Done(2), true));
     assert!(rt; runs(alloc, &["symfilt", "--press"]) == (Run::Done(2), true));

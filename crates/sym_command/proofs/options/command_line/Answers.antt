@@ -1,9 +1,8 @@
 use Rattle.std.proofs.Common.{◌≡◌, ◌∙◌, ap, codes, true}
 use Rattle.std.proofs.lemmas.Result.{IfOk-weaker}
-use Rattle.clap.specs.Words.{App, Rule, rule_of, app_of, new_app, with_rule}
+use Rattle.clap.specs.Words.{App, app_of, new_app, with_rule}
 use Rattle.clap.specs.Simple.{app_of_fields, on_top}
 use Rattle.clap.specs.declared.builder.command.Command.TheOpen.{Command-F}
-use Rattle.clap.specs.declared.builder.arg.Arg.{Arg}
 use Rattle.clap.specs.declared.builder.command.Command.{Command}
 use Rattle.sym_command.specs.CommandLine.{command_line, flag, limit, symbols}
 use Rattle.sym_command.proofs.OptionLemmas.{with_argument}
@@ -43,13 +42,12 @@ returns c =
     let fields : Command-F Command → App = λ f. app_of_fields f in
     let described : app_of c.after_help.result ≡ app_of c.version.result = ap fields c.after_help.ensures ∙ ap fields c.about.ensures in
     let begun : app_of c.after_help.result ≡ bare = described ∙ ap fields c.version.ensures ∙ ap (λ (a : App). on_top (λ s. record s { has_version = true }) a) c.new.ensures.app in
-    let rule : Arg → Rule = λ a. rule_of a in
-    let with-1 = with_argument c.after_help.result c.in_ok-arg.field-0 c.limit.result bare limit c.in_ok-arg.ensures c.limit.ensures.local begun c.limit.ensures.rule in
-    let with-2 = with_argument c.in_ok-arg.field-0 c.in_ok-arg-2.field-0 c.help-stats.result app-1 (flag (codes "stats")) c.in_ok-arg-2.ensures (ap (λ (a : Arg). a.global) c.help-stats.ensures ∙ c.flag.ensures.local) with-1 (ap rule c.help-stats.ensures ∙ c.flag.ensures.rule) in
-    let with-3 = with_argument c.in_ok-arg-2.field-0 c.in_ok-arg-3.field-0 c.help-press.result app-2 (flag (codes "press")) c.in_ok-arg-3.ensures (ap (λ (a : Arg). a.global) c.help-press.ensures ∙ c.flag-2.ensures.local) with-2 (ap rule c.help-press.ensures ∙ c.flag-2.ensures.rule) in
-    let with-4 = with_argument c.in_ok-arg-3.field-0 c.in_ok-arg-4.field-0 c.help-wide.result app-3 (flag (codes "wide")) c.in_ok-arg-4.ensures (ap (λ (a : Arg). a.global) c.help-wide.ensures ∙ c.flag-3.ensures.local) with-3 (ap rule c.help-wide.ensures ∙ c.flag-3.ensures.rule) in
-    let with-5 = with_argument c.in_ok-arg-4.field-0 c.in_ok-arg-5.field-0 c.help-legacy.result app-4 (flag (codes "legacy")) c.in_ok-arg-5.ensures (ap (λ (a : Arg). a.global) c.help-legacy.ensures ∙ c.flag-4.ensures.local) with-4 (ap rule c.help-legacy.ensures ∙ c.flag-4.ensures.rule) in
-    let with-6 = with_argument c.in_ok-arg-5.field-0 c.in_ok-arg-6.field-0 c.help-brief.result app-5 (flag (codes "brief")) c.in_ok-arg-6.ensures (ap (λ (a : Arg). a.global) c.help-brief.ensures ∙ c.flag-5.ensures.local) with-5 (ap rule c.help-brief.ensures ∙ c.flag-5.ensures.rule) in
-    let with-7 = with_argument c.in_ok-arg-6.field-0 c.in_ok-arg-7.field-0 c.help-no_params.result app-6 (flag (codes "no-params")) c.in_ok-arg-7.ensures (ap (λ (a : Arg). a.global) c.help-no_params.ensures ∙ c.flag-6.ensures.local) with-6 (ap rule c.help-no_params.ensures ∙ c.flag-6.ensures.rule) in
-    let with-8 = with_argument c.in_ok-arg-7.field-0 c.in_ok-arg-8.field-0 c.help-ascii_words.result app-7 (flag (codes "ascii-words")) c.in_ok-arg-8.ensures (ap (λ (a : Arg). a.global) c.help-ascii_words.ensures ∙ c.flag-7.ensures.local) with-7 (ap rule c.help-ascii_words.ensures ∙ c.flag-7.ensures.rule) in
-    IfOk-weaker c.arg-9.result _ _ (λ command adds. with_argument c.in_ok-arg-8.field-0 command c.symbols.result app-8 symbols adds c.symbols.ensures.local with-8 c.symbols.ensures.rule) c.arg-9.ensures
+    let with-1 = with_argument c.after_help.result c.in_ok-command.command c.limit.result bare limit c.in_ok-command.ensures c.limit.ensures.local begun c.limit.ensures.rule in
+    let with-2 : app_of c.in_ok-command-2.command ≡ app-2 = c.in_ok-command-2.ensures ∙ ap (λ (a : App). with_rule a (flag (codes "stats"))) with-1 in
+    let with-3 : app_of c.in_ok-command-3.command ≡ app-3 = c.in_ok-command-3.ensures ∙ ap (λ (a : App). with_rule a (flag (codes "press"))) with-2 in
+    let with-4 : app_of c.in_ok-command-4.command ≡ app-4 = c.in_ok-command-4.ensures ∙ ap (λ (a : App). with_rule a (flag (codes "wide"))) with-3 in
+    let with-5 : app_of c.in_ok-command-5.command ≡ app-5 = c.in_ok-command-5.ensures ∙ ap (λ (a : App). with_rule a (flag (codes "legacy"))) with-4 in
+    let with-6 : app_of c.in_ok-command-6.command ≡ app-6 = c.in_ok-command-6.ensures ∙ ap (λ (a : App). with_rule a (flag (codes "brief"))) with-5 in
+    let with-7 : app_of c.in_ok-command-7.command ≡ app-7 = c.in_ok-command-7.ensures ∙ ap (λ (a : App). with_rule a (flag (codes "no-params"))) with-6 in
+    let with-8 : app_of c.in_ok-command-8.command ≡ app-8 = c.in_ok-command-8.ensures ∙ ap (λ (a : App). with_rule a (flag (codes "ascii-words"))) with-7 in
+    IfOk-weaker c.arg-2.result _ _ (λ command adds. with_argument c.in_ok-command-8.command command c.symbols.result app-8 symbols adds c.symbols.ensures.local with-8 c.symbols.ensures.rule) c.arg-2.ensures

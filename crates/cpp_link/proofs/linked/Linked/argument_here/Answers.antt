@@ -12,7 +12,8 @@ use Rattle.cpp_tree.specs.Nodes.{tree_at, tree_if_there, free_is}
 use Rattle.cpp_link.specs.LinkRescoping.{argument_read}
 use Rattle.cpp_link.specs.Parts.{trees_in, around_of, is_lambda}
 use Rattle.cpp_link.specs.Reads.{packs_read}
-use Rattle.cpp_link.proofs.Meant.{not_one, one_is, scope_closed, restated_own, restated_none, restated_nowhere, restated_past, restated_here}
+use Rattle.cpp_references.proofs.Named.{scope_closed}
+use Rattle.cpp_link.proofs.Meant.{not_one, one_is, restated_own, restated_none, restated_nowhere, restated_past, restated_here}
 use Rattle.cpp_link.proofs.linked.Linked.argument_here.Goals as goal
 
 pub returns-then-in_lambda-clause-is : goal.returns-then-in_lambda-clause-is

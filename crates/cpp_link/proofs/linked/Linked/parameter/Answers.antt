@@ -10,8 +10,8 @@ use Rattle.cpp_term.specs.Between.{argument_at, after, listed_so_far, parameter_
 use Rattle.cpp_tree.specs.Nodes.{bytes_at, tree_if_there}
 use Rattle.cpp_link.specs.Parts.{trees_in, tree_of_node, around_of}
 use Rattle.cpp_link.specs.Reads.{parameter_read, goes_on, behind_first, named_if, appended_if}
-use Rattle.cpp_link.proofs.Meant.{scope_closed}
-use Rattle.cpp_link.proofs.Candidates.{fails_is}
+use Rattle.cpp_references.proofs.Named.{scope_closed}
+use Rattle.cpp_references.proofs.Named.{fails_is}
 use Rattle.cpp_link.proofs.linked.Linked.parameter.Goals as goal
 
 pub returns-in-Ok-clause-is : goal.returns-in-Ok-clause-is

@@ -10,7 +10,7 @@ use Rattle.cpp_term.specs.Between.{next, argument_at, argument_so_far}
 use Rattle.cpp_tree.specs.Nodes.{bytes_at}
 use Rattle.cpp_link.specs.Parts.{trees_in, around_of}
 use Rattle.cpp_link.specs.Reads.{parameter_read, goes_on, behind_first, named_if, appended_if}
-use Rattle.cpp_link.proofs.Candidates.{fails_is}
+use Rattle.cpp_references.proofs.Named.{fails_is}
 use Rattle.cpp_link.proofs.linked.Linked.parameter_argument.Goals as goal
 
 pub returns-in-Ok-clause-is : goal.returns-in-Ok-clause-is

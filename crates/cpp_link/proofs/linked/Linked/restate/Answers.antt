@@ -8,7 +8,7 @@ use Rattle.cpp_link.specs.LinkRescoping.{argument_read}
 use Rattle.cpp_link.specs.Making.{state_of}
 use Rattle.cpp_link.specs.Parts.{trees_in, value_of, around_of, candidates_of, AreCandidatesThere}
 use Rattle.cpp_link.specs.Staying.{candidates_more}
-use Rattle.cpp_link.proofs.Candidates.{fails_is}
+use Rattle.cpp_references.proofs.Named.{fails_is}
 use Rattle.cpp_link.proofs.Rescoped.{kept_state}
 use Rattle.cpp_link.proofs.linked.Linked.restate.Goals as goal
 

@@ -7,7 +7,7 @@ use Rattle.cpp_term.specs.Values as values
 use Rattle.cpp_term.specs.Values.{Value, part}
 use Rattle.cpp_term.specs.Between.{between}
 use Rattle.cpp_link.specs.declared.linked.Linked.{Linked}
-use Rattle.cpp_link.specs.declared.part.Kept.{Kept}
+use Rattle.cpp_references.specs.declared.around.Kept.{Kept}
 use Rattle.cpp_link.specs.declared.part.Step.{Step}
 use Rattle.cpp_link.specs.Parts.{trees_in, value_in, values_in, around_of}
 use Rattle.cpp_link.specs.Reads.{goes_on}

@@ -1,14 +1,18 @@
-use Rattle.std.proofs.Common.{sym, ◌∙◌, ap, ◌-◌}
+use Rattle.std.proofs.Common.{sym, ◌∙◌, ap, subst, ◌-◌, length}
 use Rattle.std.specs.Prelude.{slice_get}
 use Rattle.std.proofs.lemmas.Result.{err_from_is_err_and}
 use Rattle.sym_core.specs.Value.{counted_value}
 use Rattle.sym_core.specs.declared.NumberKind.TheVariants.{Seq36}
 use Rattle.cpp_term.specs.References.{substituted}
+use Rattle.cpp_tree.specs.Nodes.{bytes_at}
 use Rattle.cpp_link.specs.Making.{state_of}
-use Rattle.cpp_link.specs.Parts.{trees_in, around_of, candidates_of, value_of}
-use Rattle.cpp_link.specs.Reads.{maybe_candidate, node_read}
-use Rattle.cpp_link.proofs.Candidates.{fails_is}
+use Rattle.cpp_link.specs.Parts.{trees_in, around_of, candidates_of, value_of, AreNodesThere}
+use Rattle.cpp_link.specs.Reads.{node_read}
+use Rattle.cpp_references.proofs.Named.{fails_is}
 use Rattle.cpp_link.proofs.linked.Linked.substitute.Goals as goal
+
+pub substitution-requires-clause-there : goal.substitution-requires-clause-there
+substitution-requires-clause-there c = subst (λ cs. AreNodesThere (length c.args.self.now.nodes.nodes) cs) (sym c.deref.ensures.value) c.requires.whole.there.0
 
 pub returns-in_err-node-clause-refused : goal.returns-in_err-node-clause-refused
 unfolding node_read
@@ -18,9 +22,8 @@ returns-in_err-node-clause-refused c =
     let cs = candidates_of ts c.args.self.now.candidates.items in
     let state = state_of c.args.symbol.now c.args.self.now in
     let p = err_from_is_err_and c.from_residual.result c.from_residual.ensures.1 in
-    let named = c.candidate-candidate.ensures.is ∙ ap (λ bytes. slice_get cs (counted_value Seq36 bytes)) c.text.ensures.is in
-    rw (p.1, p.2) (fails_is c.in_err-node.field-0.0 _
-    (ap (λ o. substituted around (c.args.place - 1) o state) (sym named) ∙ ap (λ n. substituted around n (maybe_candidate ts c.candidate-candidate.result) state) (sym c.saturating_sub.ensures) ∙ c.in_err-node.ensures.is cs))
+    let named = ap (λ ds. slice_get (candidates_of ts ds) (counted_value Seq36 (bytes_at c.args.symbol.now c.text-digits.result))) c.deref.ensures.value ∙ ap (λ bytes. slice_get cs (counted_value Seq36 bytes)) c.text-digits.ensures.is in
+    rw (p.1, p.2) (fails_is c.in_err-node.field-0.0 _ (ap (λ o. substituted around (c.args.place - 1) o state) (sym named) ∙ c.in_err-node.ensures.is cs))
 
 pub returns-clause-is : goal.returns-clause-is
 unfolding node_read value_of
@@ -29,5 +32,5 @@ returns-clause-is c =
     let around = around_of ts c.args.kept in
     let cs = candidates_of ts c.args.self.now.candidates.items in
     let state = state_of c.args.symbol.now c.args.self.now in
-    let named = c.candidate-candidate.ensures.is ∙ ap (λ bytes. slice_get cs (counted_value Seq36 bytes)) c.text.ensures.is in
-    ap (λ o. substituted around (c.args.place - 1) o state) (sym named) ∙ ap (λ n. substituted around n (maybe_candidate ts c.candidate-candidate.result) state) (sym c.saturating_sub.ensures) ∙ c.in_ok-node.ensures.is cs
+    let named = ap (λ ds. slice_get (candidates_of ts ds) (counted_value Seq36 (bytes_at c.args.symbol.now c.text-digits.result))) c.deref.ensures.value ∙ ap (λ bytes. slice_get cs (counted_value Seq36 bytes)) c.text-digits.ensures.is in
+    ap (λ o. substituted around (c.args.place - 1) o state) (sym named) ∙ c.in_ok-node.ensures.is cs

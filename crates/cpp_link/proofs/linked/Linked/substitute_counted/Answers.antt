@@ -10,7 +10,7 @@ use Rattle.cpp_term.specs.Rescoping.{is_counted_alike, numbered}
 use Rattle.cpp_link.specs.LinkRescoping.{number_in}
 use Rattle.cpp_link.specs.Making.{state_of}
 use Rattle.cpp_link.specs.Parts.{trees_in, value_in, values_in, around_of, candidates_of}
-use Rattle.cpp_link.proofs.Candidates.{fails_is}
+use Rattle.cpp_references.proofs.Named.{fails_is}
 use Rattle.cpp_link.proofs.Held.{numbered_alike, numbered_apart}
 use Rattle.cpp_link.proofs.linked.Linked.substitute_counted.Goals as goal
 

@@ -12,7 +12,7 @@ use Rattle.cpp_link.specs.LinkRescoping.{named_by, substituted_nodes}
 use Rattle.cpp_link.specs.Making.{state_of}
 use Rattle.cpp_link.specs.Parts.{trees_in, value_in, value_of, values_in, around_of, candidate_of, candidates_of}
 use Rattle.cpp_link.specs.Reads.{maybe_candidate, node_read}
-use Rattle.cpp_link.proofs.Candidates.{fails_is}
+use Rattle.cpp_references.proofs.Named.{fails_is}
 use Rattle.cpp_link.proofs.Meant.{named_nothing, named_foreign, named_here, foreign_nodes, no_nodes}
 use Rattle.cpp_link.proofs.linked.Linked.substitute_rescoped.Goals as goal
 

@@ -1,7 +1,0 @@
-use Rattle.std.proofs.Common.{sym, ◌∙◌, ap}
-use Rattle.cpp_term.specs.References.{is_function_type}
-use Rattle.cpp_link.proofs.Reading.{function_is}
-use Rattle.cpp_link.proofs.linked.Linked.is_function_type.Goals as goal
-
-pub returns : goal.returns
-returns c = c.is_function.ensures ∙ sym (ap is_function_type c.opened.ensures.tree ∙ function_is _ _ _ _ c.opened.result.node c.opened.ensures.own)

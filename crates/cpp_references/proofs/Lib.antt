@@ -1,0 +1,4 @@
+pub mod Arguments
+pub mod Functions
+pub mod Named
+pub mod Numbering

@@ -1,0 +1,18 @@
+use Rattle.std.proofs.Common.{◌≡◌, sym, ◌∙◌, ap, refl, false}
+use Rattle.cpp_term.specs.Scope.{is_open, element}
+use Rattle.cpp_tree.specs.Nodes.{over, trees, tree_at}
+use Rattle.cpp_tree.proofs.Trees.{placed-none}
+use Rattle.cpp_references.specs.Around.{trees_in}
+use Rattle.cpp_references.proofs.Arguments.{element_closed}
+use Rattle.cpp_references.proofs.parameters.argument.Goals as goal
+
+pub closed_node-requires-clause-closed : goal.closed_node-requires-clause-closed
+closed_node-requires-clause-closed c =
+    let ts = trees_in c.args.symbol.now c.args.nodes.now in
+    ap is_open (c.element-argument.ensures.tree ∙ ap (λ t. element t c.args.number) (placed-none ts _ refl))
+    ∙ element_closed (tree_at ts c.args.scope) c.args.number c.requires.closed
+
+pub returns-clause-tree : goal.returns-clause-tree
+returns-clause-tree c =
+    let ts = trees_in c.args.symbol.now c.args.nodes.now in
+    c.closed_node.ensures.tree ∙ c.element-argument.ensures.tree ∙ ap (λ t. element t c.args.number) (placed-none ts _ refl)

@@ -1,0 +1,34 @@
+-- What references name, as the code answers it.
+use Rattle.std.specs.Prelude.{ℕ, List, Bool, true, false, Option, Some, None, Result, Ok, Err}
+use Rattle.sym_core.specs.declared.refusal.Refusal.{Refusal}
+use Rattle.sym_link.specs.Reading.{Found}
+use Rattle.sym_link.specs.Unfold.{found}
+use Rattle.cpp_term.specs.Term.{Term}
+use Rattle.cpp_term.specs.References.{appended}
+use Rattle.cpp_term.specs.Values as values
+use Rattle.cpp_term.specs.Values.{State, Value, Around}
+use Rattle.cpp_tree.specs.Nodes.{Stored, tree_at}
+use Rattle.cpp_tree.specs.declared.node.Node.{Node}
+use Rattle.cpp_references.specs.declared.candidates.Candidate.{Candidate}
+use Rattle.cpp_references.specs.Around.{tree_of_node, candidate_of}
+
+unfoldable pub packs_read : List values.Candidate → Result (Option ℕ) Refusal → Result State Refusal
+packs_read cs (Ok packs) = Ok (record { candidates = cs; packs = packs })
+packs_read cs (Err e) = Err e
+
+unfoldable pub maybe_candidate : List Term → Option Candidate → Option values.Candidate
+maybe_candidate ts None = None
+maybe_candidate ts (Some c) = Some (candidate_of ts c)
+
+unfoldable pub node_read : List Term → List values.Candidate → Result (ℕ × Option ℕ) Refusal → Result (Found Value State) Refusal
+node_read ts cs (Ok r) = Ok (found (values.tree (tree_at ts r.0) true) (record { candidates = cs; packs = r.1 }))
+node_read ts cs (Err e) = Err e
+
+-- a parameter that became a candidate, by its node
+unfoldable pub parameter_read : Around → List ℕ → Stored → List values.Candidate → Result (Node × Option ℕ) Refusal → Result State Refusal
+parameter_read around s y cs (Ok r) = Ok (appended around (tree_of_node s y r.0) (record { candidates = cs; packs = r.1 }))
+parameter_read around s y cs (Err e) = Err e
+
+unfoldable pub function_node : Node → Bool
+function_node (Node.FunctionType c_linkage noexcept m returned parameters) = true
+function_node _ = false

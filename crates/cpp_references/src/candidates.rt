@@ -1,0 +1,159 @@
+// The trees that substitutions may name, and what a substitution names (ABI 5.1.10).
+
+ghost use Rattle.std.specs.Prelude.{◌≡◌, ℕ, ◌-◌, ◌<◌, ◌≤◌, ◌^◌, MatchOption, ◌&&◌, ◌||◌, not, nat_eq, List, length, slice_get, IfSome, IfOk, IfErr};
+ghost use Rattle.sym_core.specs.Value.{counted_value};
+ghost use Rattle.sym_core.specs.declared.NumberKind.TheVariants as kinds;
+ghost use Rattle.sym_core.specs.declared.refusal.Refusal.TheVariants as refusals;
+ghost use Rattle.cpp_term.specs.References.{substituted, is_function_type};
+ghost use Rattle.cpp_term.specs.Scope.{pack_length};
+ghost use Rattle.cpp_term.specs.Values as values;
+ghost use Rattle.cpp_tree.specs.Nodes.{over, tree_at, bytes_at, IsWithin, IsTable};
+ghost use Rattle.cpp_references.specs.Around.{trees_in, is_lambda, around_of, candidates_of, AreNodesThere};
+ghost use Rattle.cpp_references.specs.References.{maybe_candidate, node_read, function_node};
+
+use crate::again::opened;
+use crate::around::Kept;
+use crate::packs::with_packs;
+use cpp_tree::Nodes;
+use cpp_tree::node::Node;
+use sym_core::{Refusal, Span, value36};
+
+/// A tree that a substitution may name, the place where the encoding begins in which it was made, and whether it was made in the
+/// signature of a lambda.
+#[derive(Clone, Copy)]
+pub struct Candidate {
+    pub node: u32,
+    pub encoding: u32,
+    pub in_lambda: bool,
+    /// Whether it's a name with its `M`.
+    pub is_held: bool,
+    /// Whether an earlier candidate is one.
+    pub is_apart: bool,
+}
+
+/// The candidate of a number.
+pub fn numbered(candidates: &[Candidate], counted: Option<u64>) -> Option<Candidate>
+    ensures { (k : ℕ) → MatchOption counted (2 ^ 64 ≤ k) (λ v. v ≡ k) → result ≡ slice_get candidates.now k }
+{
+    match counted {
+        Some(number) => match candidates.get(number as usize) {
+            Some(candidate) => Some(*candidate),
+            None => None,
+        },
+        None => None,
+    }
+}
+
+/// The candidate that these digits name: none are the first, and 0 is the next.
+pub fn named(candidates: &[Candidate], symbol: &[u8], digits: Span) -> Option<Candidate>
+    requires digits { IsWithin digits symbol.now }
+    ensures { result ≡ slice_get candidates.now (counted_value kinds.Seq36 (bytes_at symbol.now digits)) }
+{
+    numbered(
+        candidates,
+        value36(&symbol[digits.from as usize..digits.to as usize]),
+    )
+}
+
+/// Whether a tree with free parameters may not be named here.
+fn is_foreign(kept: Kept, is_open: bool, encoding: u32) -> bool
+    ensures { result ≡ (is_open && (is_lambda kept.scope || not (nat_eq encoding kept.encoding))) }
+{
+    is_open && (kept.in_lambda() || encoding != kept.encoding)
+}
+
+/// The length of the packs that the parameters of a node's tree name.
+fn pack_length(nodes: &Nodes, symbol: &[u8], node: u32) -> Option<u32>
+    requires table { IsTable (over symbol.now nodes.now) }
+    requires below { node < length nodes.now.nodes }
+    ensures { result ≡ pack_length (tree_at (trees_in symbol.now nodes.now) node) }
+{
+    nodes.entry(node).packs
+}
+
+/// What a substitution of this candidate names, and the length of the packs behind it.
+///
+/// # Errors
+///
+/// `BadReference` where there is no candidate, one with free parameters of another encoding or in the signature of a lambda, or one
+/// that holds packs outside an expansion or of another length than the earlier ones.
+#[tactic(auto, unfolding(cpp_term::specs::References::substituted, crate::specs::References::packs_read, crate::specs::References::maybe_candidate, crate::specs::References::node_read, crate::specs::Around::around_of))]
+pub fn substituted(
+    nodes: &Nodes,
+    symbol: &[u8],
+    kept: Kept,
+    place: u32,
+    candidate: Option<Candidate>,
+    packs: Option<u32>,
+) -> Result<(u32, Option<u32>), Refusal>
+    requires table { IsTable (over symbol.now nodes.now) }
+    requires there { IfSome candidate (λ c. c.node < length nodes.now.nodes) }
+    ensures is { (cs : List values.Candidate) → substituted (around_of (trees_in symbol.now nodes.now) kept) place (maybe_candidate (trees_in symbol.now nodes.now) candidate) (record { candidates = cs; packs = packs }) ≡ node_read (trees_in symbol.now nodes.now) cs result }
+    ensures there { IfOk result (λ named. named.0 < length nodes.now.nodes) }
+    ensures bad { IfErr result (λ e. e ≡ refusals.Memory → ⊥) }
+{
+    let Some(c) = candidate else {
+        return Err(Refusal::BadReference { at: place });
+    };
+    if is_foreign(kept, nodes.is_open(symbol, c.node), c.encoding) {
+        return Err(Refusal::BadReference { at: place });
+    }
+    let own = pack_length(nodes, symbol, c.node);
+    match with_packs(place, kept.in_expansion, own, packs) {
+        Ok(packs) => Ok((c.node, packs)),
+        Err(e) => Err(e),
+    }
+}
+
+/// What the substitution whose digits begin at this place names, and the length of the packs behind it.
+///
+/// # Errors
+///
+/// `BadReference` one byte before the place, at the `S`, where `substituted` refuses the candidate that the digits name.
+pub fn substitution(
+    nodes: &Nodes,
+    symbol: &[u8],
+    kept: Kept,
+    place: u32,
+    candidates: &[Candidate],
+    digits: Span,
+    packs: Option<u32>,
+) -> Result<(u32, Option<u32>), Refusal>
+    requires table { IsTable (over symbol.now nodes.now) }
+    requires there { AreNodesThere (length nodes.now.nodes) candidates.now }
+    requires digits { IsWithin digits symbol.now }
+    ensures is { (cs : List values.Candidate) → substituted (around_of (trees_in symbol.now nodes.now) kept) (place - 1) (slice_get (candidates_of (trees_in symbol.now nodes.now) candidates.now) (counted_value kinds.Seq36 (bytes_at symbol.now digits))) (record { candidates = cs; packs = packs })
+        ≡ node_read (trees_in symbol.now nodes.now) cs result }
+    ensures there { IfOk result (λ named. named.0 < length nodes.now.nodes) }
+    ensures bad { IfErr result (λ e. e ≡ refusals.Memory → ⊥) }
+{
+    let candidate = named(candidates, symbol, digits);
+    substituted(
+        nodes,
+        symbol,
+        kept,
+        place.saturating_sub(1),
+        candidate,
+        packs,
+    )
+}
+
+/// Whether a node is the type of a function.
+#[tactic(auto, unfolding(crate::specs::References::function_node))]
+fn is_function(node: Node) -> bool
+    ensures { result ≡ function_node node }
+{
+    match node {
+        Node::FunctionType { .. } => true,
+        _ => false,
+    }
+}
+
+/// Whether a node's tree is the type of a function, which is no candidate under qualifiers.
+pub fn is_function_type(nodes: &Nodes, symbol: &[u8], node: u32) -> bool
+    requires table { IsTable (over symbol.now nodes.now) }
+    requires below { node < length nodes.now.nodes }
+    ensures { result ≡ is_function_type (tree_at (trees_in symbol.now nodes.now) node) }
+{
+    is_function(opened(nodes, symbol, node).node)
+}

@@ -1,0 +1,9 @@
+//! What a C++ symbol's substitutions and template parameters name where they stand, over its nodes: the candidates of
+//! substitutions (ABI 5.1.10), the arguments of a scope (ABI 5.1.4), and the lengths of packs under an expansion.
+#![tactic(auto)]
+
+pub mod again;
+pub mod around;
+pub mod candidates;
+pub mod packs;
+pub mod parameters;

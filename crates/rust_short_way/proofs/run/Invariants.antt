@@ -1,0 +1,10 @@
+-- The writer has come to the step that is next, and has taken no more than it may.
+use Rattle.std.specs.Prelude.{◌≤◌, ◌-◌, ◌*◌, length}
+use Rattle.rust_direct.specs.Stands.{IsWriting}
+use Rattle.rust_short_way.proofs.run.Given as goal
+
+abbrev pub invariant-steps : goal.invariant-steps
+invariant-steps l = IsWriting l.s l.direct l.step × (l.rounds ≤ 8 * length l.s)
+
+abbrev pub decreases-steps : goal.decreases-steps
+decreases-steps l = l.most - l.rounds

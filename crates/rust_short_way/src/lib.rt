@@ -1,0 +1,77 @@
+//! The text of a Rust symbol, written while its bytes are read: the steps of `rust_direct`, and the bounds within which they are taken.
+#![tactic(auto)]
+
+ghost use Rattle.std.specs.Prelude.{◌≡◌, ◌≤◌, ◌+◌, ◌*◌, length, true, Ok};
+ghost use Rattle.sym_core.specs.Number.{FitsSymbol};
+ghost use Rattle.sym_print.specs.declared.detail.Detail.TheVariants as details;
+ghost use Rattle.rust_grammar.specs.Mangled.{IsAnswer};
+ghost use Rattle.rust_direct.specs.Stands.{HasRooms};
+ghost use Rattle.rust_direct.specs.Awaits.{IsFresh};
+
+use rust_direct::{Direct, Step};
+
+/// The most bytes of text that are written for each byte of a symbol, and those that are written anyway.
+const BYTES_A_BYTE: usize = 8;
+
+const BYTES_ANYWAY: usize = 1_024;
+
+/// The most steps that are taken for each byte of a symbol: each reads a byte, or ends what was read. Where a step reads on in a loop,
+/// as over the letters or the names of paths around others, each turn of that reads a byte of its own.
+const ROUNDS_A_BYTE: usize = 8;
+
+/// Writes the text of a symbol in full, if the symbol is one that can be read so and the text costs at most a limit, and
+/// answers whether it did. Where it didn't, nothing is known of the symbol, and the lists are empty.
+///
+/// Whatever is answered, at most eight bytes for each of the symbol's and a kilobyte are written, and as many of what is not
+/// shown, at most eight steps for each byte are taken, and no list has more entries than the symbol has bytes: each step begins with
+/// lists that have room for no more. The lists only grow in a call.
+pub fn write(direct: &mut Direct, s: &[u8], limit: u32) -> bool
+    requires { FitsSymbol s.now }
+    ensures answer { result ≡ true → IsAnswer details.Full s.now limit (Ok direct.new.text.list.items) }
+    ensures bytes { length direct.new.text.list.items ≤ 8 * length s.now + 1024 }
+    ensures aside { length direct.new.aside.list.items ≤ 8 * length s.now + 1024 }
+    ensures notes { length direct.new.notes.list.items ≤ length s.now }
+    ensures numbers { length direct.new.numbers.items ≤ length s.now }
+    ensures waiting { length direct.new.waiting.list.items ≤ length s.now }
+    ensures rounds { direct.new.rounds ≤ 8 * length s.now }
+{
+    let size = s.len();
+    let bytes = BYTES_A_BYTE * size + BYTES_ANYWAY;
+    let shown = bytes.min(limit as usize / 4);
+    direct.restart(shown as u32, bytes as u32, size as u32);
+    let (is_written, rounds) = run(direct, s, limit);
+    direct.rounds = rounds;
+    if is_written {
+        return true;
+    }
+    direct.restart(0, 0, 0);
+    false
+}
+
+/// Takes steps up to the end of a symbol, and counts them.
+fn run(direct: &mut Direct, s: &[u8], limit: u32) -> (bool, usize)
+    requires fits { FitsSymbol s.now }
+    requires fresh { IsFresh s.now direct.old }
+    ensures answer { result.0 ≡ true → IsAnswer details.Full s.now limit (Ok direct.new.text.list.items) }
+    ensures rooms { result.0 ≡ true → HasRooms s.now direct.new }
+    ensures rounds { result.1 ≤ 8 * length s.now }
+{
+    let Some(first) = direct.begin(s) else {
+        return (false, 0);
+    };
+    let mut step = first;
+    let most = ROUNDS_A_BYTE * s.len();
+    let mut rounds = 0;
+    'steps: while rounds < most {
+        rounds += 1;
+        if let Step::Ended = step {
+            let is_within = direct.text().len() <= limit as usize / 4;
+            return (is_within, rounds);
+        }
+        match direct.take(s, step) {
+            Some(next) => step = next,
+            None => return (false, rounds),
+        }
+    }
+    (false, rounds)
+}

@@ -1,0 +1,148 @@
+#!/usr/bin/env python3
+"""Filters texts as tools and people make them by the built program, and names those that come out otherwise than they have to.
+
+    tests/texts.py SYMFILT
+
+Beside lines of linkers, debuggers, profilers and traces there are bytes that no text has, prompts that wait for an answer, a line
+of 30 MB, and a name that is made to exhaust a demangler. The status is 1 where one comes out otherwise.
+"""
+
+import os
+import resource
+import selectors
+import subprocess
+import sys
+import time
+
+VECTOR = "_ZNSt6vectorIiSaIiEE9push_backERKi"
+VECTOR_TEXT = "std::vector<int, std::allocator<int>>::push_back(int const&)"
+LEGACY = "_ZN4demo4main17h0123456789abcdefE"
+DIGITS = "0123456789abcdefghijklmnopqrstuvwxyzABCDEFGHIJKLMNOPQRSTUVWXYZ"
+
+
+def base_62(number):
+    """A number as back references write it."""
+    if number == 0:
+        return "_"
+    digits, number = "", number - 1
+    while True:
+        digits = DIGITS[number % 62] + digits
+        number //= 62
+        if number == 0:
+            return digits + "_"
+
+
+def doubling(times):
+    """A Rust symbol each of whose tuples is twice the one before."""
+    symbol = "INvC3foo3bar"
+    last, symbol = len(symbol), symbol + "ThhE"
+    for _ in range(times):
+        reference = "B" + base_62(last)
+        last, symbol = len(symbol), symbol + "T" + reference + reference + "E"
+    return "_R" + symbol + "E"
+
+
+# What comes in, and what has to come out.
+USUAL = {
+    "nm": (f"0000000000001139 T {VECTOR}\n", f"0000000000001139 T {VECTOR_TEXT}\n"),
+    "objdump": ("  401136:\te8 00 00\tcall 401130 <_Z1fv@plt> <_ZN1A1fEv+0x10>\n", "  401136:\te8 00 00\tcall 401130 <f()@plt> <A::f()+0x10>\n"),
+    "readelf": ("FUNC GLOBAL _ZNSt9exceptionD1Ev@GLIBCXX_3.4 _Z1fv@@V_1\n", "FUNC GLOBAL std::exception::~exception()@GLIBCXX_3.4 f()@@V_1\n"),
+    "glibc's trace": ("./prog(_ZN1A1fEv+0x1f) [0x401136]\n", "./prog(A::f()+0x1f) [0x401136]\n"),
+    "ld": ("ld: a.o: undefined reference to `_ZN1A1fEv'\n", "ld: a.o: undefined reference to `A::f()'\n"),
+    "lld": ("ld.lld: error: undefined symbol: _ZN1A1fEv\n", "ld.lld: error: undefined symbol: A::f()\n"),
+    "HTML, a URL, CSV": ("<td>_Z1fv</td> ?name=_Z1fv&x \"_Z1fv\",1\n", "<td>f()</td> ?name=f()&x \"f()\",1\n"),
+    "a name that isn't ASCII": ("_Z7größei\n", "größe(int)\n"),
+    "macOS": ("1 prog 0x1 __Z1fv + 4, __RNvC3foo3bar + 8\n", "1 prog 0x1 f() + 4, foo::bar + 8\n"),
+    "suffixes": ("_Z1fv.constprop.0 _Z1fv.isra.0.cold _RNvC3foo3bar.llvm.1\n", "f() (.constprop.0) f() (.isra.0.cold) foo::bar (.llvm.1)\n"),
+    "a sentence's dot": ("It failed in _ZN3foo3barEi. Then\n", "It failed in foo::bar(int). Then\n"),
+    "ends of lines": ("_Z1fv\r\n\r\n_Z1gi", "f()\r\n\r\ng(int)"),
+    "any bytes": (b"\0_Z1fv\0 \xe9 \xff \xc3\x28 _Z1gi\x80\n", None),
+    "other languages": ("_TtC3foo3Bar ?f@@YAXXZ -[Foo bar] main.main\n", "_TtC3foo3Bar ?f@@YAXXZ -[Foo bar] main.main\n"),
+}
+
+# The same with options.
+WITH_OPTIONS = {
+    "stacks": (["--no-params", "--brief"], f"main;{VECTOR};_ZN1A1fIiEEvT_ 42\n", "main;std::vector::push_back;A::f 42\n"),
+    "quotes that aren't ASCII": (["--ascii-words"], "‘_ZN1A1fEi’ »_Z1fv« 関数_Z1fvで\n", "‘A::f(int)’ »f()« 関数f()で\n"),
+    "legacy Rust names": (["--legacy"], f"{LEGACY}\n", "demo::main\n"),
+    "newer C++": (["--wide"], "_Z1fN2ns3BoxIiEENS0_IcEE\n", "f(ns::Box<int>, ns::Box<char>)\n"),
+}
+
+def coded(text):
+    return text if isinstance(text, bytes) else text.encode()
+
+
+def limited():
+    """A program that takes more than 64 MB or ten seconds is ended, and not the machine."""
+    resource.setrlimit(resource.RLIMIT_AS, (64 << 20, 64 << 20))
+    resource.setrlimit(resource.RLIMIT_CPU, (10, 10))
+
+
+def filtered(program, options, text):
+    try:
+        done = subprocess.run([program, *options], input=coded(text), capture_output=True, timeout=60, preexec_fn=limited)
+    except subprocess.TimeoutExpired:
+        return b"", b"not ended after 60 seconds", None
+    return done.stdout, done.stderr, done.returncode
+
+
+def texts(program):
+    for name, (text, wanted) in USUAL.items():
+        out, err, status = filtered(program, [], text)
+        if wanted is None:
+            # each byte that belongs to no name comes out
+            wanted = coded(text).replace(b"_Z1fv", b"f()")
+        yield name, (out, err, status) == (coded(wanted), b"", 0), out
+    for name, (options, text, wanted) in WITH_OPTIONS.items():
+        out, err, status = filtered(program, options, text)
+        yield name, (out, err, status) == (coded(wanted), b"", 0), out
+
+
+def answers_at_once(program):
+    """A line, and then a prompt without a newline, come out while the input is still open."""
+    run = subprocess.Popen([program], stdin=subprocess.PIPE, stdout=subprocess.PIPE)
+    ready = selectors.DefaultSelector()
+    ready.register(run.stdout, selectors.EVENT_READ)
+    got = b""
+    for piece, wanted in ((b"_Z1fv\n", b"f()\n"), (b"user@_Z1gi> ", b"f()\nuser@g(int)> ")):
+        os.write(run.stdin.fileno(), piece)
+        end = time.monotonic() + 10
+        while got != wanted and time.monotonic() < end and ready.select(1):
+            got += os.read(run.stdout.fileno(), 65536)
+        if got != wanted:
+            run.kill()
+            return False, got
+    run.stdin.close()
+    return run.wait() == 0, got
+
+
+def passes_long_lines(program):
+    """A line of 30 MB without an end."""
+    line = b"x" * 30_000_000
+    out, _, status = filtered(program, [], line)
+    return (out, status) == (line, 0), out[:100]
+
+
+def survives(program):
+    """The lines before and after a name that doubles seventy times are answered, and it stays."""
+    hostile = doubling(70)
+    out, err, status = filtered(program, [], f"_Z1fv\n{hostile}\n_Z1gi\n")
+    return (out, err, status) == (f"f()\n{hostile}\ng(int)\n".encode(), b"", 0), out
+
+
+def main():
+    if len(sys.argv) != 2:
+        sys.exit(__doc__)
+    program = os.path.abspath(sys.argv[1])
+    found = list(texts(program))
+    for name, check in (("at once", answers_at_once), ("a long line", passes_long_lines), ("a hostile name", survives)):
+        found.append((name, *check(program)))
+    wrong = [(name, out) for name, holds, out in found if not holds]
+    for name, out in wrong:
+        print(f"{name}: {out[:200]!r}")
+    print(f"{len(found)} texts, {len(wrong)} come out otherwise")
+    sys.exit(1 if wrong else 0)
+
+
+if __name__ == "__main__":
+    main()
