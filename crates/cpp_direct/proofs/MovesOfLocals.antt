@@ -286,12 +286,12 @@ local-type-opens s kind os around at st named_ expects stands =
       inner = opened rule [] (Byte 69 ∷ entity ∷ last ∷ []) ∷ os;
       awaits = needs-next s p (90 ∷ []) at around st [] encoding (Byte 69 ∷ entity ∷ last ∷ []) os (at + 1) st around [] st refl
           (opens s kind p 90 (90 ∷ []) around os at st (local-taken kind named_) (omega arith) refl (λ f. refl) expects stands);
-      onward = λ e here now comes marked.
+      onward = λ e here now comes closed.
           let inside : Around = after e true around in
           let one = tree e true ∷ [] in
           let two = tree e true ∷ nothing_there ∷ [] in
           let marked = expects-byte s 69 inside (opened rule one (entity ∷ last ∷ []) ∷ os) here now
-          (needs-next s p (90 ∷ []) at around st one (Byte 69) (entity ∷ last ∷ []) os here now inside one now refl comes) marked in
+          (needs-next s p (90 ∷ []) at around st one (Byte 69) (entity ∷ last ∷ []) os here now inside one now refl comes) closed in
           record {
             around = around;
             inner = opened rule two (last ∷ []) ∷ os;
