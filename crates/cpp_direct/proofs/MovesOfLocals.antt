@@ -125,8 +125,8 @@ name-comes : (s : Symbol) (os : List Opened) (around : Around) (e : Term) (at : 
     → Expects s Kind.Entity (after e true around) os at st → (internal ≡ true → StandsAt s.bytes at (76 ∷ []))
     → IsNameAt s.bytes (at + cond internal 1 0) name end → Comes s os (tree (within e (source internal name)) false) end st
 unfolding choose alternatives pick is_in in_ranges among
-name-comes s os around e at true name end st expects letter is = internal-comes s os around e at name end st expects (letter refl) is
-name-comes s os around e at false name end st expects letter is =
+name-comes s os around e at true name end st expects marked is = internal-comes s os around e at name end st expects (marked refl) is
+name-comes s os around e at false name end st expects marked is =
     let same : at + 0 ≡ at = omega arith in
     source-comes s Kind.Entity os around e at name end st refl expects (subst (λ n. IsNameAt s.bytes n name end) same is)
 
@@ -286,12 +286,12 @@ local-type-opens s kind os around at st named_ expects stands =
       inner = opened rule [] (Byte 69 ∷ entity ∷ last ∷ []) ∷ os;
       awaits = needs-next s p (90 ∷ []) at around st [] encoding (Byte 69 ∷ entity ∷ last ∷ []) os (at + 1) st around [] st refl
           (opens s kind p 90 (90 ∷ []) around os at st (local-taken kind named_) (omega arith) refl (λ f. refl) expects stands);
-      onward = λ e here now comes letter.
+      onward = λ e here now comes closed.
           let inside : Around = after e true around in
           let one = tree e true ∷ [] in
           let two = tree e true ∷ nothing_there ∷ [] in
           let marked = expects-byte s 69 inside (opened rule one (entity ∷ last ∷ []) ∷ os) here now
-          (needs-next s p (90 ∷ []) at around st one (Byte 69) (entity ∷ last ∷ []) os here now inside one now refl comes) letter in
+          (needs-next s p (90 ∷ []) at around st one (Byte 69) (entity ∷ last ∷ []) os here now inside one now refl comes) closed in
           record {
             around = around;
             inner = opened rule two (last ∷ []) ∷ os;
