@@ -48,9 +48,6 @@ record Ends (s : Symbol) (outer : List Opened) (suffix : List ℕ) : Type 0 wher
   suffix_is : drop end s.bytes ≡ suffix
   within : end ≤ length s.bytes
 
-no_name_none : (depth : ℕ) (q : List ℕ) (path : Path) → after_name depth q None ≡ Some path → ⊥
-no_name_none depth q path is = cc (is)
-
 -- what there is after the first name
 record Later (depth : ℕ) (q : List ℕ) (name : Name) (path : Path) : Type 0 where
   later : Path
