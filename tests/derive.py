@@ -373,7 +373,7 @@ def leaves_candidate(node):
         return inner.parts[0].production == "StdType" or inner.parts[1] is not None
     if inner.production in ("Parameter", "ParameterArgument"):
         return inner.parts[1] is not None
-    return inner.production not in ("Builtin", "BuiltinWithD", "SizedFloat", "DeclaredArgument")
+    return inner.production not in ("Builtin", "BuiltinWithD", "SizedFloat", "ConstrainedAuto", "DeclaredArgument")
 
 
 def counted(number, base):

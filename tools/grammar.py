@@ -108,7 +108,7 @@ def build(extended=True, widened=False):
     if extended:
         after_d += [eats("v", "Vector", DIGITS, "'_'", "Type"), eats("o", "NoexceptFunction", "'F'", "MaybeCLinkage", "Type", "FunctionRest")]
     kind("AfterD", *after_d, wide(eats("".join(code[1] for code, text in words.WIDE_BUILTINS), "BuiltinWithD")),
-         wide(eats("F", "SizedFloat", DIGITS, "FloatEnd")))
+         wide(eats("F", "SizedFloat", DIGITS, "FloatEnd")), wide(eats("kK", "ConstrainedAuto", "Concept")))
     if extended:
         P["ItemIsType"] = (False, ["AfterD"])
     NAMED = [eats("P", "Pointer", "Type"), eats("M", "MemberPointer", "Type", "Type"), eats("T", "Parameter", DECIMAL, "ArgumentsAlone"),

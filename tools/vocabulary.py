@@ -178,6 +178,8 @@ PLAIN_TEXTS = [
     ("TAG", "[abi:"),
     ("CLONE", "transaction clone for "),
     ("OTHER_CLONE", "non-transaction clone for "),
+    ("AUTO", " auto"),
+    ("DECLTYPE_AUTO", " decltype(auto)"),
 ]
 
 # before how many of its parts nothing is done in a production: before all where it isn't named here
@@ -234,7 +236,7 @@ MADE_AT_END = {p: 1 for p in """InternalName LocalTypeName SourceName OperatorNa
     TypeWithS LocalType Builtin Vendor Array Function Complex StdType RestItem LvalueItem RvalueItem Items PackArgument
     LiteralArgument AddressArgument TypeArgument LiteralElement AddressElement TypeElement Address EncodingLiteral
     BoolLiteral IntegerLiteral NullLiteral SpecialName ConstructionVtable SizedFloat Tag DefaultEntity DefaultTypeEntity Conversion OtherOperatorName
-    OperatorNameWithC Clone TaggedStdType TypeTag AnyArgument AnyElement LengthArray BoundedArray ParameterArgument OnePack""".split()}
+    OperatorNameWithC Clone TaggedStdType TypeTag AnyArgument AnyElement LengthArray BoundedArray ParameterArgument OnePack ConstrainedAuto""".split()}
 MADE_AT_END["CharLiteral"] = 2
 MADE_AT_END["Substitution"] = 2
 
@@ -244,7 +246,7 @@ LEAVES = """NestWithS NestParameter NestInternal NestLocalType NestSource NestSt
     Abbreviation Substitution NestedType Expansion ItemIsType BuiltinWithD Vector NoexceptFunction Pointer MemberPointer
     Parameter TypeWithS LocalType Builtin Vendor Array Function Complex StdType AbbreviatedType SizedFloat
     TaggedStdType TypeInStd ArrayType AnyArray LengthArray BoundedArray
-    ParameterArgument DeclaredArgument""".split()
+    ParameterArgument DeclaredArgument ConstrainedAuto""".split()
 
 # ## The trees
 
@@ -284,6 +286,7 @@ TREES = [
     ("conversion", ("t", TREE)),
     ("builtin", ("code", BYTES)),
     ("sized_float", ("digits", BYTES), ("end", NUMBER)),
+    ("constrained", ("letter", NUMBER), ("concept", TREE)),
     ("vendor", ("bytes", BYTES)),
     ("pointer", ("t", TREE)),
     ("lvalue", ("t", TREE)),

@@ -317,6 +317,7 @@ meaning_good s Production.ParameterArgument byte around vs pre all name = good_n
 meaning_good s Production.DeclaredArgument byte around vs pre all name = good_part s vs 1 all
 meaning_good s Production.OneLiteral byte around vs pre all name = good_held s vs 0 all
 meaning_good s Production.OnePack byte around vs pre all name = let g = good_no_items s (part vs 0) (good_part s vs 0 all) in record { closed = g.closed; scopes = g.scopes }
+meaning_good s Production.ConstrainedAuto byte around vs pre all name = let g = good_part s vs 0 all in record { closed = g.closed; scopes = g.scopes }
 meaning_good s Production.Expression byte around vs pre all name = good_held s vs 0 all
 meaning_good s Production.AddressExpression byte around vs pre all name = good_held s vs 1 all
 meaning_good s Production.ParameterExpression byte around vs pre all name = good_held s vs 0 all

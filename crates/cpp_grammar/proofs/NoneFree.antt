@@ -243,6 +243,7 @@ meaning_none Production.ParameterArgument byte around vs pre all = none_name vs 
 meaning_none Production.DeclaredArgument byte around vs pre all = none_part vs 1 all
 meaning_none Production.OneLiteral byte around vs pre all = none_held vs 0 all
 meaning_none Production.OnePack byte around vs pre all = none_no_items (part vs 0) (none_part vs 0 all)
+meaning_none Production.ConstrainedAuto byte around vs pre all = none_part vs 0 all
 meaning_none Production.Expression byte around vs pre all = none_held vs 0 all
 meaning_none Production.AddressExpression byte around vs pre all = none_held vs 1 all
 meaning_none Production.ParameterExpression byte around vs pre all = none_held vs 0 all

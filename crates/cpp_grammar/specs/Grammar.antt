@@ -385,6 +385,7 @@ parts_of Production.Holder = part Kind.HolderMark ∷ part Kind.HeldComponent �
 parts_of Production.DefaultEntity = Number Decimal ∷ part Kind.PlainEntity ∷ []
 parts_of Production.DefaultTypeEntity = Number Decimal ∷ part Kind.PlainTypeEntity ∷ []
 parts_of Production.SizedFloat = Number Digits ∷ part Kind.FloatEnd ∷ []
+parts_of Production.ConstrainedAuto = part Kind.Concept ∷ []
 parts_of Production.ArrayType = part Kind.AnyArray ∷ []
 parts_of Production.TypeInStd = part Kind.TypeInStd ∷ []
 parts_of Production.Tag = Name ∷ part Kind.MaybeArguments ∷ []
@@ -457,7 +458,7 @@ kinds = Kind.Symbol ∷ Kind.MaybeSuffix ∷ Kind.SuffixFirst ∷ Kind.SuffixMor
 
 -- the productions in the order of their numbers
 unfoldable pub productions : List Production
-productions = Production.Mark ∷ Production.InternalName ∷ Production.LocalTypeName ∷ Production.SourceName ∷ Production.OperatorName ∷ Production.InternalPiece ∷ Production.LocalTypePiece ∷ Production.SourcePiece ∷ Production.NestedName ∷ Production.Symbol ∷ Production.Suffix ∷ Production.SuffixByte ∷ Production.Special ∷ Production.Guard ∷ Production.Encoding ∷ Production.SpecialType ∷ Production.NonVirtualThunk ∷ Production.VirtualThunk ∷ Production.CovariantThunk ∷ Production.NonVirtualOffset ∷ Production.VirtualOffset ∷ Production.Negative ∷ Production.Positive ∷ Production.NameWithS ∷ Production.LocalName ∷ Production.StdName ∷ Production.AbbreviatedName ∷ Production.OperatorPiece ∷ Production.NestWithS ∷ Production.NestParameter ∷ Production.NestInternal ∷ Production.NestLocalType ∷ Production.NestSource ∷ Production.NestStd ∷ Production.NestAbbreviated ∷ Production.NestArguments ∷ Production.NestNext ∷ Production.NestEnd ∷ Production.Constructor ∷ Production.Destructor ∷ Production.Abbreviation ∷ Production.Substitution ∷ Production.NestedType ∷ Production.StringLiteral ∷ Production.Discriminator ∷ Production.OneDigit ∷ Production.ManyDigits ∷ Production.Lambda ∷ Production.Unnamed ∷ Production.RestrictType ∷ Production.VolatileType ∷ Production.ConstType ∷ Production.ReferenceType ∷ Production.PlainType ∷ Production.TypeWithD ∷ Production.PlainWithD ∷ Production.QualifiedPlain ∷ Production.ItemWithD ∷ Production.Expansion ∷ Production.ItemIsType ∷ Production.BuiltinWithD ∷ Production.Vector ∷ Production.NoexceptFunction ∷ Production.Pointer ∷ Production.MemberPointer ∷ Production.Parameter ∷ Production.TypeWithS ∷ Production.LocalType ∷ Production.Builtin ∷ Production.Vendor ∷ Production.Array ∷ Production.Function ∷ Production.Complex ∷ Production.StdType ∷ Production.AbbreviatedType ∷ Production.RestEnd ∷ Production.RestLvalue ∷ Production.RestRvalue ∷ Production.RestItem ∷ Production.RefEnd ∷ Production.LvalueItem ∷ Production.RvalueItem ∷ Production.Items ∷ Production.Arguments ∷ Production.PackArgument ∷ Production.LiteralArgument ∷ Production.AddressArgument ∷ Production.TypeArgument ∷ Production.LiteralElement ∷ Production.AddressElement ∷ Production.TypeElement ∷ Production.Address ∷ Production.EncodingLiteral ∷ Production.BoolLiteral ∷ Production.LiteralWithD ∷ Production.IntegerLiteral ∷ Production.NullLiteral ∷ Production.CharLiteral ∷ Production.OperatorN ∷ Production.OperatorD ∷ Production.OperatorA ∷ Production.OperatorP ∷ Production.OperatorC ∷ Production.OperatorM ∷ Production.OperatorR ∷ Production.OperatorO ∷ Production.OperatorE ∷ Production.OperatorL ∷ Production.OperatorS ∷ Production.OperatorI ∷ Production.OperatorG ∷ Production.LiteralOperator ∷ Production.NestInstance ∷ Production.Conversion ∷ Production.OperatorNameWithC ∷ Production.Clone ∷ Production.TaggedStdType ∷ Production.TypeTag ∷ Production.Expression ∷ Production.ArgumentWithT ∷ Production.PlainArgument ∷ Production.DeclaredArgument ∷ Production.ParameterArgument ∷ Production.OneLiteral ∷ Production.OnePack ∷ Production.AnyType ∷ Production.ValueOf ∷ Production.OfConcept ∷ Production.TemplateOf ∷ Production.PackOf ∷ Production.Declarations ∷ Production.AddressExpression ∷ Production.ParameterExpression ∷ Production.AnyArray ∷ Production.BoundedArray ∷ Production.LengthArray ∷ Production.OtherSpecial ∷ Production.SpecialName ∷ Production.ConstructionVtable ∷ Production.NestTemplate ∷ Production.NestTag ∷ Production.ComponentWithC ∷ Production.OtherOperatorName ∷ Production.Holder ∷ Production.DefaultEntity ∷ Production.DefaultTypeEntity ∷ Production.SizedFloat ∷ Production.ArrayType ∷ Production.TypeInStd ∷ Production.Tag ∷ Production.AnyElement ∷ Production.AnyArgument ∷ []
+productions = Production.Mark ∷ Production.InternalName ∷ Production.LocalTypeName ∷ Production.SourceName ∷ Production.OperatorName ∷ Production.InternalPiece ∷ Production.LocalTypePiece ∷ Production.SourcePiece ∷ Production.NestedName ∷ Production.Symbol ∷ Production.Suffix ∷ Production.SuffixByte ∷ Production.Special ∷ Production.Guard ∷ Production.Encoding ∷ Production.SpecialType ∷ Production.NonVirtualThunk ∷ Production.VirtualThunk ∷ Production.CovariantThunk ∷ Production.NonVirtualOffset ∷ Production.VirtualOffset ∷ Production.Negative ∷ Production.Positive ∷ Production.NameWithS ∷ Production.LocalName ∷ Production.StdName ∷ Production.AbbreviatedName ∷ Production.OperatorPiece ∷ Production.NestWithS ∷ Production.NestParameter ∷ Production.NestInternal ∷ Production.NestLocalType ∷ Production.NestSource ∷ Production.NestStd ∷ Production.NestAbbreviated ∷ Production.NestArguments ∷ Production.NestNext ∷ Production.NestEnd ∷ Production.Constructor ∷ Production.Destructor ∷ Production.Abbreviation ∷ Production.Substitution ∷ Production.NestedType ∷ Production.StringLiteral ∷ Production.Discriminator ∷ Production.OneDigit ∷ Production.ManyDigits ∷ Production.Lambda ∷ Production.Unnamed ∷ Production.RestrictType ∷ Production.VolatileType ∷ Production.ConstType ∷ Production.ReferenceType ∷ Production.PlainType ∷ Production.TypeWithD ∷ Production.PlainWithD ∷ Production.QualifiedPlain ∷ Production.ItemWithD ∷ Production.Expansion ∷ Production.ItemIsType ∷ Production.BuiltinWithD ∷ Production.Vector ∷ Production.NoexceptFunction ∷ Production.Pointer ∷ Production.MemberPointer ∷ Production.Parameter ∷ Production.TypeWithS ∷ Production.LocalType ∷ Production.Builtin ∷ Production.Vendor ∷ Production.Array ∷ Production.Function ∷ Production.Complex ∷ Production.StdType ∷ Production.AbbreviatedType ∷ Production.RestEnd ∷ Production.RestLvalue ∷ Production.RestRvalue ∷ Production.RestItem ∷ Production.RefEnd ∷ Production.LvalueItem ∷ Production.RvalueItem ∷ Production.Items ∷ Production.Arguments ∷ Production.PackArgument ∷ Production.LiteralArgument ∷ Production.AddressArgument ∷ Production.TypeArgument ∷ Production.LiteralElement ∷ Production.AddressElement ∷ Production.TypeElement ∷ Production.Address ∷ Production.EncodingLiteral ∷ Production.BoolLiteral ∷ Production.LiteralWithD ∷ Production.IntegerLiteral ∷ Production.NullLiteral ∷ Production.CharLiteral ∷ Production.OperatorN ∷ Production.OperatorD ∷ Production.OperatorA ∷ Production.OperatorP ∷ Production.OperatorC ∷ Production.OperatorM ∷ Production.OperatorR ∷ Production.OperatorO ∷ Production.OperatorE ∷ Production.OperatorL ∷ Production.OperatorS ∷ Production.OperatorI ∷ Production.OperatorG ∷ Production.LiteralOperator ∷ Production.NestInstance ∷ Production.Conversion ∷ Production.OperatorNameWithC ∷ Production.Clone ∷ Production.TaggedStdType ∷ Production.TypeTag ∷ Production.Expression ∷ Production.ArgumentWithT ∷ Production.PlainArgument ∷ Production.DeclaredArgument ∷ Production.ParameterArgument ∷ Production.OneLiteral ∷ Production.OnePack ∷ Production.AnyType ∷ Production.ValueOf ∷ Production.OfConcept ∷ Production.TemplateOf ∷ Production.PackOf ∷ Production.Declarations ∷ Production.AddressExpression ∷ Production.ParameterExpression ∷ Production.AnyArray ∷ Production.BoundedArray ∷ Production.LengthArray ∷ Production.OtherSpecial ∷ Production.SpecialName ∷ Production.ConstructionVtable ∷ Production.NestTemplate ∷ Production.NestTag ∷ Production.ComponentWithC ∷ Production.OtherOperatorName ∷ Production.Holder ∷ Production.DefaultEntity ∷ Production.DefaultTypeEntity ∷ Production.SizedFloat ∷ Production.ConstrainedAuto ∷ Production.ArrayType ∷ Production.TypeInStd ∷ Production.Tag ∷ Production.AnyElement ∷ Production.AnyArgument ∷ []
 
 -- the numbers of the productions
 unfoldable pub number_of : Production → ℕ
@@ -608,8 +609,9 @@ number_of Production.Holder = 143
 number_of Production.DefaultEntity = 144
 number_of Production.DefaultTypeEntity = 145
 number_of Production.SizedFloat = 146
-number_of Production.ArrayType = 147
-number_of Production.TypeInStd = 148
-number_of Production.Tag = 149
-number_of Production.AnyElement = 150
-number_of Production.AnyArgument = 151
+number_of Production.ConstrainedAuto = 147
+number_of Production.ArrayType = 148
+number_of Production.TypeInStd = 149
+number_of Production.Tag = 150
+number_of Production.AnyElement = 151
+number_of Production.AnyArgument = 152

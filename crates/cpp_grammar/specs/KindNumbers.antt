@@ -6,7 +6,7 @@ abbrev pub KIND_COUNT : ℕ
 KIND_COUNT = 92
 
 abbrev pub PRODUCTION_COUNT : ℕ
-PRODUCTION_COUNT = 152
+PRODUCTION_COUNT = 153
 
 abbrev pub SYMBOL : ℕ
 SYMBOL = 0

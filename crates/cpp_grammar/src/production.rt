@@ -150,6 +150,7 @@ pub enum Production {
     DefaultEntity,
     DefaultTypeEntity,
     SizedFloat,
+    ConstrainedAuto,
     ArrayType,
     TypeInStd,
     Tag,

@@ -295,7 +295,7 @@ static LETTERS: [[u8; 87]; 92] = [
     *b"                                                                       \xa0  \x9f \xa2   \xa1    \x9e ", // DeclarationAfterT
     *b"                                                \xa3                                      ", // Declarations
     *b"            $$$$$$$$$$                    K    c                                       ", // Concept
-    *b"            $$$$$$$$$$       \xb4 i  h      aK `  c #    d      eeeeeeeeee eeee   eefeeeee", // SolidButT
+    *b"            $$$$$$$$$$       \xb5 i  h      aK `  c #    d      eeeeeeeeee eeee   eefeeeee", // SolidButT
     *b"                                                \xa5            \xa4                         ", // ExpressionRest
     *b"                             \xa6                                                         ", // AnyArray
     *b"            \xa8\xa8\xa8\xa8\xa8\xa8\xa8\xa8\xa8\xa8                          \xa7          \xa8                           ", // ArrayRest
@@ -328,7 +328,7 @@ macro_rules! chains {
 }
 
 // The rules of the productions, in the order of their numbers.
-pub static HEADS: [Head; 152] = [
+pub static HEADS: [Head; 153] = [
     takes!(0), // ! Mark
     takes!(2), // \" InternalName
     takes!(2), // # LocalTypeName
@@ -476,15 +476,16 @@ pub static HEADS: [Head; 152] = [
     takes!(2), // \xb1 DefaultEntity
     takes!(2), // \xb2 DefaultTypeEntity
     takes!(2), // \xb3 SizedFloat
-    chains!(1), // \xb4 ArrayType
-    chains!(1), // \xb5 TypeInStd
-    takes!(2), // \xb6 Tag
-    chains!(2), // \xb7 AnyElement
-    chains!(2), // \xb8 AnyArgument
+    takes!(1), // \xb4 ConstrainedAuto
+    chains!(1), // \xb5 ArrayType
+    chains!(1), // \xb6 TypeInStd
+    takes!(2), // \xb7 Tag
+    chains!(2), // \xb8 AnyElement
+    chains!(2), // \xb9 AnyArgument
 ];
 
 // The symbols of the rules, in the same order.
-pub static SYMBOLS: [Sym; 918] = symbols_listed! {
+pub static SYMBOLS: [Sym; 924] = symbols_listed! {
     [NONE, NONE, NONE, NONE, NONE], // ! Mark
     [NAME, MAYBE_ARGUMENTS, NONE, NONE, NONE], // \" InternalName
     [ANONYMOUS, MAYBE_ARGUMENTS, NONE, NONE, NONE], // # LocalTypeName
@@ -632,18 +633,19 @@ pub static SYMBOLS: [Sym; 918] = symbols_listed! {
     [DECIMAL, PLAIN_ENTITY, NONE, NONE, NONE], // \xb1 DefaultEntity
     [DECIMAL, PLAIN_TYPE_ENTITY, NONE, NONE, NONE], // \xb2 DefaultTypeEntity
     [DIGITS, FLOAT_END, NONE, NONE, NONE], // \xb3 SizedFloat
-    [ANY_ARRAY, NONE, NONE, NONE, NONE], // \xb4 ArrayType
-    [TYPE_IN_STD, NONE, NONE, NONE, NONE], // \xb5 TypeInStd
-    [NAME, MAYBE_ARGUMENTS, NONE, NONE, NONE], // \xb6 Tag
-    [ARGUMENT, PACK_LIST, NONE, NONE, NONE], // \xb7 AnyElement
-    [ARGUMENT, ARGUMENT_LIST, NONE, NONE, NONE], // \xb8 AnyArgument
+    [CONCEPT, NONE, NONE, NONE, NONE], // \xb4 ConstrainedAuto
+    [ANY_ARRAY, NONE, NONE, NONE, NONE], // \xb5 ArrayType
+    [TYPE_IN_STD, NONE, NONE, NONE, NONE], // \xb6 TypeInStd
+    [NAME, MAYBE_ARGUMENTS, NONE, NONE, NONE], // \xb7 Tag
+    [ARGUMENT, PACK_LIST, NONE, NONE, NONE], // \xb8 AnyElement
+    [ARGUMENT, ARGUMENT_LIST, NONE, NONE, NONE], // \xb9 AnyArgument
 };
 
 /// The number of the rule that a kind takes at a byte, if it takes one.
 #[inline]
 fn number(kind: u16, byte: u8) -> Option<usize>
     requires { kind < abi.kinds }
-    ensures few { IfSome result (λ number. number < 152) }
+    ensures few { IfSome result (λ number. number < 153) }
     ensures rule { (head : Head) → MatchOption result (abi.rule kind byte ≡ None) (λ number. abi.rule kind byte ≡ Some (listed_rule head number)) }
 {
     match letter_in(&LETTERS[kind as usize], byte) {

@@ -42,20 +42,20 @@ static WIDE_LETTERS: [[u8; 87]; 92] = [
     *b"            YYYYYYYYYY       Y YX Y      YYUY UYYY    Y      YYYYYYYYYY YYYY   YYYYYYYY", // Plain
     *b"            VVVVVVVVVV       V VZ V    T VVUV UVVVS   V      VVVVVVVVVV VVVV  RVVVVVVVV", // Item
     *b"            VVVVVVVVVV       V VZ V    T VV V  VVVS   V      VVVVVVVVVV VVVV  RVVVVVVVV", // ItemButRef
-    *b"                                  \\                          \\ \\\\\\\\ \\\\    \\\\[  \\ \\\\    ", // ItemAfterD
-    *b"                                  \xb3                          ] ]]]] ]]    ]_   ] ]^    ", // AfterD
-    *b"            $$$$$$$$$$       \xb4 i  h      aK `  cb#    d      eeeeeeeeee eeee   eefeeeee", // Solid
+    *b"                                  \\    \\                     \\ \\\\\\\\ \\\\ \\  \\\\[  \\ \\\\    ", // ItemAfterD
+    *b"                                  \xb3    \xb4                     ] ]]]] ]] \xb4  ]_   ] ]^    ", // AfterD
+    *b"            $$$$$$$$$$       \xb5 i  h      aK `  cb#    d      eeeeeeeeee eeee   eefeeeee", // Solid
     *b"                                                     !                                 ", // MaybeCLinkage
-    *b"            kkkkkkkkkk       kkkkkkkkkkkkkkkkkkkkkkkkkk    k kk k    k     k   k\xb5      ", // TypeAfterS
+    *b"            kkkkkkkkkk       kkkkkkkkkkkkkkkkkkkkkkkkkk    k kk k    k     k   k\xb6      ", // TypeAfterS
     *b"            ((((((((((                  &        '                                     ", // SourceOrLocal
     *b"            oooooooooo       o oolo    o oono moooo   o      oooooooooo oooo  ooooooooo", // FunctionRest
     *b"            qqqqqqqqqq       q qqpq    q qqqq qqqqq   q      qqqqqqqqqq qqqq  qqqqqqqqq", // AfterR
     *b"            rrrrrrrrrr       r rrpr    r rrrr rrrrr   r      rrrrrrrrrr rrrr  rrrrrrrrr", // AfterO
     *b"            ssssssssss       s ss s    s ssss sssss   s      ssssssssss ssss  sssssssss", // Items
-    *b"                              \xb6      t                                                 ", // MaybeArguments
+    *b"                              \xb7      t                                                 ", // MaybeArguments
     *b"                                     t                                                 ", // Arguments
-    *b"            \xb8\xb8\xb8\xb8\xb8\xb8\xb8\xb8\xb8\xb8       \xb8 \xb8\xb8 \xb8   u\xb8v\xb8\xb8\xb8\xb8 \xb8\xb8\xb8\xb8\xb8 \xb8 \xb8      \xb8\xb8\xb8\xb8\xb8\xb8\xb8\xb8\xb8\xb8 \xb8\xb8\xb8\xb8  \xb8\xb8\xb8\xb8\xb8\xb8\xb8\xb8\xb8", // ArgumentList
-    *b"            \xb7\xb7\xb7\xb7\xb7\xb7\xb7\xb7\xb7\xb7       \xb7 \xb7\xb7 \xb7    \xb7y\xb7\xb7\xb7\xb7 \xb7\xb7\xb7\xb7\xb7 \xb7 \xb7      \xb7\xb7\xb7\xb7\xb7\xb7\xb7\xb7\xb7\xb7 \xb7\xb7\xb7\xb7  \xb7\xb7\xb7\xb7\xb7\xb7\xb7\xb7\xb7", // PackList
+    *b"            \xb9\xb9\xb9\xb9\xb9\xb9\xb9\xb9\xb9\xb9       \xb9 \xb9\xb9 \xb9   u\xb9v\xb9\xb9\xb9\xb9 \xb9\xb9\xb9\xb9\xb9 \xb9 \xb9      \xb9\xb9\xb9\xb9\xb9\xb9\xb9\xb9\xb9\xb9 \xb9\xb9\xb9\xb9  \xb9\xb9\xb9\xb9\xb9\xb9\xb9\xb9\xb9", // ArgumentList
+    *b"            \xb8\xb8\xb8\xb8\xb8\xb8\xb8\xb8\xb8\xb8       \xb8 \xb8\xb8 \xb8    \xb8y\xb8\xb8\xb8\xb8 \xb8\xb8\xb8\xb8\xb8 \xb8 \xb8      \xb8\xb8\xb8\xb8\xb8\xb8\xb8\xb8\xb8\xb8 \xb8\xb8\xb8\xb8  \xb8\xb8\xb8\xb8\xb8\xb8\xb8\xb8\xb8", // PackList
     *b"                                        |                                              ", // Address
     *b"            \x80\x80\x80\x80\x80\x80\x80\x80\x80\x80          \x7f        \x80\x80 \x80  \x80\x80\x80    \x80    } \x80~\x80    \x80\x80\x80 \x80\x80\x80\x80   \x80\x80  \x80\x80\x80 ", // Literal
     *b"            !!                                                                         ", // Bit
@@ -84,7 +84,7 @@ static WIDE_LETTERS: [[u8; 87]; 92] = [
     *b"                                                           !  !                     !  ", // FloatEnd
     *b"                                                                        \x93\x93 \x93      \x92    ", // ComponentAfterC
     *b"                                                             \x85  \x84\x8b \x8f \x8e  \x8c\x88\x83\x8a\x86 \x89\x8d       ", // OtherOperator
-    *b"            \xb8\xb8\xb8\xb8\xb8\xb8\xb8\xb8\xb8\xb8       \xb8 \xb8\xb8 \xb8  uu\xb8v\xb8\xb8\xb8\xb8 \xb8\xb8\xb8\xb8\xb8 \xb8 \xb8      \xb8\xb8\xb8\xb8\xb8\xb8\xb8\xb8\xb8\xb8 \xb8\xb8\xb8\xb8  \xb8\xb8\xb8\xb8\xb8\xb8\xb8\xb8\xb8", // ArgumentsFirst
+    *b"            \xb9\xb9\xb9\xb9\xb9\xb9\xb9\xb9\xb9\xb9       \xb9 \xb9\xb9 \xb9  uu\xb9v\xb9\xb9\xb9\xb9 \xb9\xb9\xb9\xb9\xb9 \xb9 \xb9      \xb9\xb9\xb9\xb9\xb9\xb9\xb9\xb9\xb9\xb9 \xb9\xb9\xb9\xb9  \xb9\xb9\xb9\xb9\xb9\xb9\xb9\xb9\xb9", // ArgumentsFirst
     *b"            $$$$$$$$$$                  \" )      #                                     ", // PlainEntity
     *b"            $$$$$$$$$$                  \" K      #                                     ", // PlainTypeEntity
     *b"                                   !                                                   ", // SpecialMark
@@ -98,7 +98,7 @@ static WIDE_LETTERS: [[u8; 87]; 92] = [
     *b"                                                                       \xa0  \x9f \xa2   \xa1    \x9e ", // DeclarationAfterT
     *b"                                                \xa3                                      ", // Declarations
     *b"            $$$$$$$$$$                    K    c                                       ", // Concept
-    *b"            $$$$$$$$$$       \xb4 i  h      aK `  c #    d      eeeeeeeeee eeee   eefeeeee", // SolidButT
+    *b"            $$$$$$$$$$       \xb5 i  h      aK `  c #    d      eeeeeeeeee eeee   eefeeeee", // SolidButT
     *b"                                                \xa5            \xa4                         ", // ExpressionRest
     *b"                             \xa6                                                         ", // AnyArray
     *b"            \xa8\xa8\xa8\xa8\xa8\xa8\xa8\xa8\xa8\xa8                          \xa7          \xa8                           ", // ArrayRest
@@ -108,7 +108,7 @@ static WIDE_LETTERS: [[u8; 87]; 92] = [
 #[inline]
 fn number(kind: u16, byte: u8) -> Option<usize>
     requires { kind < wide.kinds }
-    ensures few { IfSome result (λ number. number < 152) }
+    ensures few { IfSome result (λ number. number < 153) }
     ensures rule { (head : Head) → MatchOption result (wide.rule kind byte ≡ None) (λ number. wide.rule kind byte ≡ Some (listed_rule head number)) }
 {
     match letter_in(&WIDE_LETTERS[kind as usize], byte) {

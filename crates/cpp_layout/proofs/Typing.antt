@@ -167,32 +167,33 @@ no-name (Node.Again x z) flat h1 h2 h3 h4 h5 h0 h6 h7 h8 = absurd (true≢false 
 no-name _ flat h1 h2 h3 h4 h5 h0 h6 h7 h8 = tt
 
 pub no-type : (n : Node) → IsNoName n → ((k : ℕ) → n ≡ Node.Builtin k → ⊥) → ((k : ℕ) → n ≡ Node.BuiltinWithD k → ⊥) → ((b : Span) → n ≡ Node.Vendor b → ⊥) → ((t : ℕ) → n ≡ Node.Pointer t → ⊥) → ((t : ℕ) → n ≡ Node.Lvalue t → ⊥) → ((t : ℕ) → n ≡ Node.Rvalue t → ⊥) → ((g : Span) (t : ℕ) → n ≡ Node.Array g t → ⊥)
-    → ((l e : Bool) (m : Mark) (r p : ℕ) → n ≡ Node.FunctionType l e m r p → ⊥) → ((k t : ℕ) → n ≡ Node.MemberPointer k t → ⊥) → ((q : Qualifiers) (t : ℕ) → n ≡ Node.Qualified q t → ⊥) → ((g : Span) (t : ℕ) → n ≡ Node.Vector g t → ⊥) → ((t : ℕ) → n ≡ Node.Complex t → ⊥) → ((g : Span) (k : ℕ) → n ≡ Node.SizedFloat g k → ⊥) → ((a b : ℕ) → n ≡ Node.Bounded a b → ⊥) → IsNoType n
-no-type (Node.Alone p) k h1 h0 h2 h3 h4 h5 h6 h7 h8 h9 h10 h11 h12 h13 = elim k [ ]
-no-type (Node.InStd p) k h1 h0 h2 h3 h4 h5 h6 h7 h8 h9 h10 h11 h12 h13 = elim k [ ]
-no-type (Node.Within a p) k h1 h0 h2 h3 h4 h5 h6 h7 h8 h9 h10 h11 h12 h13 = elim k [ ]
-no-type (Node.Instance a b) k h1 h0 h2 h3 h4 h5 h6 h7 h8 h9 h10 h11 h12 h13 = elim k [ ]
-no-type (Node.Local e a d) k h1 h0 h2 h3 h4 h5 h6 h7 h8 h9 h10 h11 h12 h13 = elim k [ ]
-no-type (Node.Holder a) k h1 h0 h2 h3 h4 h5 h6 h7 h8 h9 h10 h11 h12 h13 = elim k [ ]
-no-type (Node.Tagged s a g) k h1 h0 h2 h3 h4 h5 h6 h7 h8 h9 h10 h11 h12 h13 = elim k [ ]
-no-type (Node.Abbreviation a) k h1 h0 h2 h3 h4 h5 h6 h7 h8 h9 h10 h11 h12 h13 = elim k [ ]
-no-type (Node.Parameter a b) k h1 h0 h2 h3 h4 h5 h6 h7 h8 h9 h10 h11 h12 h13 = elim k [ ]
-no-type (Node.Builtin a) k h1 h0 h2 h3 h4 h5 h6 h7 h8 h9 h10 h11 h12 h13 = absurd (h1 a refl)
-no-type (Node.BuiltinWithD a) k h1 h0 h2 h3 h4 h5 h6 h7 h8 h9 h10 h11 h12 h13 = absurd (h0 a refl)
-no-type (Node.Vendor a) k h1 h0 h2 h3 h4 h5 h6 h7 h8 h9 h10 h11 h12 h13 = absurd (h2 a refl)
-no-type (Node.Pointer a) k h1 h0 h2 h3 h4 h5 h6 h7 h8 h9 h10 h11 h12 h13 = absurd (h3 a refl)
-no-type (Node.Lvalue a) k h1 h0 h2 h3 h4 h5 h6 h7 h8 h9 h10 h11 h12 h13 = absurd (h4 a refl)
-no-type (Node.Rvalue a) k h1 h0 h2 h3 h4 h5 h6 h7 h8 h9 h10 h11 h12 h13 = absurd (h5 a refl)
-no-type (Node.Array a b) k h1 h0 h2 h3 h4 h5 h6 h7 h8 h9 h10 h11 h12 h13 = absurd (h6 a b refl)
-no-type (Node.FunctionType l e m r p) k h1 h0 h2 h3 h4 h5 h6 h7 h8 h9 h10 h11 h12 h13 = absurd (h7 l e m r p refl)
-no-type (Node.MemberPointer a b) k h1 h0 h2 h3 h4 h5 h6 h7 h8 h9 h10 h11 h12 h13 = absurd (h8 a b refl)
-no-type (Node.Qualified a b) k h1 h0 h2 h3 h4 h5 h6 h7 h8 h9 h10 h11 h12 h13 = absurd (h9 a b refl)
-no-type (Node.Vector a b) k h1 h0 h2 h3 h4 h5 h6 h7 h8 h9 h10 h11 h12 h13 = absurd (h10 a b refl)
-no-type (Node.Complex a) k h1 h0 h2 h3 h4 h5 h6 h7 h8 h9 h10 h11 h12 h13 = absurd (h11 a refl)
-no-type (Node.SizedFloat a b) k h1 h0 h2 h3 h4 h5 h6 h7 h8 h9 h10 h11 h12 h13 = absurd (h12 a b refl)
-no-type (Node.Again x z) k h1 h0 h2 h3 h4 h5 h6 h7 h8 h9 h10 h11 h12 h13 = elim k [ ]
-no-type (Node.Bounded a b) k h1 h0 h2 h3 h4 h5 h6 h7 h8 h9 h10 h11 h12 h13 = absurd (h13 a b refl)
-no-type _ k h1 h0 h2 h3 h4 h5 h6 h7 h8 h9 h10 h11 h12 h13 = tt
+    → ((l e : Bool) (m : Mark) (r p : ℕ) → n ≡ Node.FunctionType l e m r p → ⊥) → ((k t : ℕ) → n ≡ Node.MemberPointer k t → ⊥) → ((q : Qualifiers) (t : ℕ) → n ≡ Node.Qualified q t → ⊥) → ((g : Span) (t : ℕ) → n ≡ Node.Vector g t → ⊥) → ((t : ℕ) → n ≡ Node.Complex t → ⊥) → ((g : Span) (k : ℕ) → n ≡ Node.SizedFloat g k → ⊥) → ((a b : ℕ) → n ≡ Node.Bounded a b → ⊥) → ((l t : ℕ) → n ≡ Node.Constrained l t → ⊥) → IsNoType n
+no-type (Node.Alone p) k h1 h0 h2 h3 h4 h5 h6 h7 h8 h9 h10 h11 h12 h13 h14 = elim k [ ]
+no-type (Node.InStd p) k h1 h0 h2 h3 h4 h5 h6 h7 h8 h9 h10 h11 h12 h13 h14 = elim k [ ]
+no-type (Node.Within a p) k h1 h0 h2 h3 h4 h5 h6 h7 h8 h9 h10 h11 h12 h13 h14 = elim k [ ]
+no-type (Node.Instance a b) k h1 h0 h2 h3 h4 h5 h6 h7 h8 h9 h10 h11 h12 h13 h14 = elim k [ ]
+no-type (Node.Local e a d) k h1 h0 h2 h3 h4 h5 h6 h7 h8 h9 h10 h11 h12 h13 h14 = elim k [ ]
+no-type (Node.Holder a) k h1 h0 h2 h3 h4 h5 h6 h7 h8 h9 h10 h11 h12 h13 h14 = elim k [ ]
+no-type (Node.Tagged s a g) k h1 h0 h2 h3 h4 h5 h6 h7 h8 h9 h10 h11 h12 h13 h14 = elim k [ ]
+no-type (Node.Abbreviation a) k h1 h0 h2 h3 h4 h5 h6 h7 h8 h9 h10 h11 h12 h13 h14 = elim k [ ]
+no-type (Node.Parameter a b) k h1 h0 h2 h3 h4 h5 h6 h7 h8 h9 h10 h11 h12 h13 h14 = elim k [ ]
+no-type (Node.Builtin a) k h1 h0 h2 h3 h4 h5 h6 h7 h8 h9 h10 h11 h12 h13 h14 = absurd (h1 a refl)
+no-type (Node.BuiltinWithD a) k h1 h0 h2 h3 h4 h5 h6 h7 h8 h9 h10 h11 h12 h13 h14 = absurd (h0 a refl)
+no-type (Node.Vendor a) k h1 h0 h2 h3 h4 h5 h6 h7 h8 h9 h10 h11 h12 h13 h14 = absurd (h2 a refl)
+no-type (Node.Pointer a) k h1 h0 h2 h3 h4 h5 h6 h7 h8 h9 h10 h11 h12 h13 h14 = absurd (h3 a refl)
+no-type (Node.Lvalue a) k h1 h0 h2 h3 h4 h5 h6 h7 h8 h9 h10 h11 h12 h13 h14 = absurd (h4 a refl)
+no-type (Node.Rvalue a) k h1 h0 h2 h3 h4 h5 h6 h7 h8 h9 h10 h11 h12 h13 h14 = absurd (h5 a refl)
+no-type (Node.Array a b) k h1 h0 h2 h3 h4 h5 h6 h7 h8 h9 h10 h11 h12 h13 h14 = absurd (h6 a b refl)
+no-type (Node.FunctionType l e m r p) k h1 h0 h2 h3 h4 h5 h6 h7 h8 h9 h10 h11 h12 h13 h14 = absurd (h7 l e m r p refl)
+no-type (Node.MemberPointer a b) k h1 h0 h2 h3 h4 h5 h6 h7 h8 h9 h10 h11 h12 h13 h14 = absurd (h8 a b refl)
+no-type (Node.Qualified a b) k h1 h0 h2 h3 h4 h5 h6 h7 h8 h9 h10 h11 h12 h13 h14 = absurd (h9 a b refl)
+no-type (Node.Vector a b) k h1 h0 h2 h3 h4 h5 h6 h7 h8 h9 h10 h11 h12 h13 h14 = absurd (h10 a b refl)
+no-type (Node.Complex a) k h1 h0 h2 h3 h4 h5 h6 h7 h8 h9 h10 h11 h12 h13 h14 = absurd (h11 a refl)
+no-type (Node.SizedFloat a b) k h1 h0 h2 h3 h4 h5 h6 h7 h8 h9 h10 h11 h12 h13 h14 = absurd (h12 a b refl)
+no-type (Node.Again x z) k h1 h0 h2 h3 h4 h5 h6 h7 h8 h9 h10 h11 h12 h13 h14 = elim k [ ]
+no-type (Node.Bounded a b) k h1 h0 h2 h3 h4 h5 h6 h7 h8 h9 h10 h11 h12 h13 h14 = absurd (h13 a b refl)
+no-type (Node.Constrained a b) k h1 h0 h2 h3 h4 h5 h6 h7 h8 h9 h10 h11 h12 h13 h14 = absurd (h14 a b refl)
+no-type _ k h1 h0 h2 h3 h4 h5 h6 h7 h8 h9 h10 h11 h12 h13 h14 = tt
 
 pub no-type-flat : (n : Node) → IsNoType n → is_again n ≡ false
 unfolding is_again
@@ -225,6 +226,7 @@ left-none s us ts given d c (Node.Vector a b) flat k h1 h2 h3 h4 h5 h6 h7 = elim
 left-none s us ts given d c (Node.Complex a) flat k h1 h2 h3 h4 h5 h6 h7 = elim k [ ]
 left-none s us ts given d c (Node.SizedFloat a b) flat k h1 h2 h3 h4 h5 h6 h7 = elim k [ ]
 left-none s us ts given d c (Node.Bounded a b) flat k h1 h2 h3 h4 h5 h6 h7 = elim k [ ]
+left-none s us ts given d c (Node.Constrained a b) flat k h1 h2 h3 h4 h5 h6 h7 = elim k [ ]
 left-none s us ts given d c (Node.Expansion t) flat k h1 h2 h3 h4 h5 h6 h7 = absurd (h1 t refl)
 left-none s us ts given d c (Node.Pack t) flat k h1 h2 h3 h4 h5 h6 h7 = absurd (h2 t refl)
 left-none s us ts given d c (Node.Integer t v) flat k h1 h2 h3 h4 h5 h6 h7 = absurd (h3 t v refl)

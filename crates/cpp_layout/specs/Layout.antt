@@ -181,6 +181,7 @@ IsNoType (Node.Qualified q t) = ⊥
 IsNoType (Node.Vector digits t) = ⊥
 IsNoType (Node.Complex t) = ⊥
 IsNoType (Node.SizedFloat digits end) = ⊥
+IsNoType (Node.Constrained letter concept) = ⊥
 IsNoType (Node.Again t a) = ⊥
 IsNoType _ = Unit {0}
 

@@ -49,7 +49,9 @@ plain_texts =
     codes "std::bfloat16_t" ∷
     codes "[abi:" ∷
     codes "transaction clone for " ∷
-    codes "non-transaction clone for " ∷ []
+    codes "non-transaction clone for " ∷
+    codes " auto" ∷
+    codes " decltype(auto)" ∷ []
 
 -- what stands behind a function's parameters
 abbrev pub suffix_texts : List (List ℕ)

@@ -1,7 +1,8 @@
 // The texts of codes. A code that isn't in the tables has no text.
 #![tactic(auto)]
 
-ghost use Rattle.std.specs.Prelude.{◌≡◌, ◌<◌, ◌∷◌, ◌++◌, [], codes, ◌||◌};
+ghost use Rattle.std.specs.Prelude.{◌≡◌, ◌<◌, ◌∷◌, ◌++◌, [], codes, length, ◌||◌};
+ghost use Rattle.cpp_grammar.specs.Parts.{placeholder_text};
 ghost use Rattle.cpp_grammar.specs.Texts.{look_up, same_bytes, builtin_texts, operator_texts, abbreviation_texts, special_texts, literal_endings};
 ghost use Rattle.cpp_term.specs.Term.{builtin};
 ghost use Rattle.cpp_term.specs.Parts.{is_plain_integer};
@@ -24,6 +25,18 @@ pub(crate) fn is_plain(letter: u8) -> bool
         b'x' => true,
         b'y' => true,
         _ => false,
+    }
+}
+
+/// The text behind the name of the concept that is asked of a placeholder type, by the last letter of its code.
+#[tactic(auto, unfolding(cpp_grammar::specs::Parts::placeholder_text))]
+pub(crate) fn placeholder(letter: u8) -> u16
+    ensures text { fixed_text result ≡ placeholder_text letter }
+    ensures there { 0 < length (fixed_text result) }
+{
+    match letter {
+        b'k' => texts::AUTO,
+        _ => texts::DECLTYPE_AUTO,
     }
 }
 

@@ -10,6 +10,7 @@ ghost use Rattle.cpp_layout.specs.Texts.{fixed_text};
 ghost use Rattle.cpp_layout.specs.declared.texts.TheConstants.{STD};
 ghost use Rattle.cpp_layout.specs.Layout.{table_of, context_of, Shows, IsNoName, IsNoType, tree_shown, node_shown};
 
+use crate::codes::placeholder;
 use crate::context::Context;
 use crate::numbered::{abbreviation, builtin, builtin_with_d, last_of_abbreviation};
 use crate::symbol::Symbol;
@@ -124,6 +125,9 @@ impl Symbol {
             Node::Vector { digits, element } => self.fill_vector(parts, digits, element, ctx),
             Node::Complex(ty) => self.fill_left_text(parts, ty, texts::COMPLEX, ctx),
             Node::SizedFloat { digits, end } => self.fill_float(parts, digits, end, ctx),
+            Node::Constrained { letter, concept } => {
+                self.fill_left_text(parts, concept, placeholder(letter), ctx);
+            }
             _ => self.fill_left_argument(parts, number, node, ctx),
         }
     }

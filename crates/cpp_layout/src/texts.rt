@@ -96,83 +96,87 @@ pub const CLONE: u16 = 44;
 
 pub const OTHER_CLONE: u16 = 45;
 
+pub const AUTO: u16 = 46;
+
+pub const DECLTYPE_AUTO: u16 = 47;
+
 /// Where the texts behind a function's parameters begin.
-pub const SUFFIX: u16 = 46;
+pub const SUFFIX: u16 = 48;
 
 /// No text.
-pub const NONE: u16 = 46;
+pub const NONE: u16 = 48;
 
 /// Where the builtin types begin.
-pub const BUILTIN: u16 = 94;
+pub const BUILTIN: u16 = 96;
 
 /// Where the names of operators begin.
-pub const OPERATOR: u16 = 125;
+pub const OPERATOR: u16 = 127;
 
 /// How many operators there are.
 pub const OPERATORS: u16 = 48;
 
 /// Where the abbreviations begin, and their names without `std::`.
-pub const ABBREVIATION: u16 = 173;
+pub const ABBREVIATION: u16 = 175;
 
-pub const LAST_OF_ABBREVIATION: u16 = 179;
+pub const LAST_OF_ABBREVIATION: u16 = 181;
 
 /// Where the special names begin.
-pub const SPECIAL: u16 = 185;
+pub const SPECIAL: u16 = 187;
 
 /// Where the special names of names begin.
-pub const NAMED_SPECIAL: u16 = 189;
+pub const NAMED_SPECIAL: u16 = 191;
 
 /// Where the endings of integer literals begin.
-pub const ENDING: u16 = 192;
+pub const ENDING: u16 = 194;
 
 /// Where the qualifiers begin whose blank stands behind them, but for those of no qualifier.
-pub const BLANKED: u16 = 196;
+pub const BLANKED: u16 = 198;
 
 /// The name of an operator that has no code.
-pub const OPERATOR_ALONE: u16 = 204;
+pub const OPERATOR_ALONE: u16 = 206;
 
 /// How many texts there are.
-pub const COUNT: u16 = 205;
+pub const COUNT: u16 = 207;
 
 /// A text behind the operators: an abbreviation, a special name, an ending, a qualifier.
 #[tactic(auto, unfolding(crate::specs::Texts::fixed_text, cpp_grammar::specs::Texts::builtin_texts, cpp_grammar::specs::Texts::operator_texts, cpp_grammar::specs::Texts::abbreviation_texts, cpp_grammar::specs::Texts::special_texts, cpp_grammar::specs::Texts::named_special_texts, cpp_grammar::specs::Texts::literal_endings))]
 #[inline(always)]
 fn remaining_text(number: u16) -> &'static [u8]
-    requires { 173 ≤ number }
+    requires { 175 ≤ number }
     ensures { result.now ≡ fixed_text number }
 {
     match number {
-        173 => b"std::allocator",
-        174 => b"std::basic_string",
-        175 => b"std::string",
-        176 => b"std::istream",
-        177 => b"std::ostream",
-        178 => b"std::iostream",
-        179 => b"allocator",
-        180 => b"basic_string",
-        181 => b"string",
-        182 => b"istream",
-        183 => b"ostream",
-        184 => b"iostream",
-        185 => b"vtable for ",
-        186 => b"VTT for ",
-        187 => b"typeinfo for ",
-        188 => b"typeinfo name for ",
-        189 => b"guard variable for ",
-        190 => b"thread-local initialization routine for ",
-        191 => b"thread-local wrapper routine for ",
-        192 => b"u",
-        193 => b"l",
-        194 => b"ul",
-        195 => b"ll",
-        196 => b"ull",
-        197 => b"restrict ",
-        198 => b"volatile ",
-        199 => b"volatile restrict ",
-        200 => b"const ",
-        201 => b"const restrict ",
-        202 => b"const volatile ",
-        203 => b"const volatile restrict ",
+        175 => b"std::allocator",
+        176 => b"std::basic_string",
+        177 => b"std::string",
+        178 => b"std::istream",
+        179 => b"std::ostream",
+        180 => b"std::iostream",
+        181 => b"allocator",
+        182 => b"basic_string",
+        183 => b"string",
+        184 => b"istream",
+        185 => b"ostream",
+        186 => b"iostream",
+        187 => b"vtable for ",
+        188 => b"VTT for ",
+        189 => b"typeinfo for ",
+        190 => b"typeinfo name for ",
+        191 => b"guard variable for ",
+        192 => b"thread-local initialization routine for ",
+        193 => b"thread-local wrapper routine for ",
+        194 => b"u",
+        195 => b"l",
+        196 => b"ul",
+        197 => b"ll",
+        198 => b"ull",
+        199 => b"restrict ",
+        200 => b"volatile ",
+        201 => b"volatile restrict ",
+        202 => b"const ",
+        203 => b"const restrict ",
+        204 => b"const volatile ",
+        205 => b"const volatile restrict ",
         OPERATOR_ALONE => b"operator",
         _ => b"",
     }
@@ -182,58 +186,58 @@ fn remaining_text(number: u16) -> &'static [u8]
 #[tactic(auto, unfolding(crate::specs::Texts::fixed_text, cpp_grammar::specs::Texts::builtin_texts, cpp_grammar::specs::Texts::operator_texts))]
 #[inline(always)]
 fn operator_text(number: u16) -> &'static [u8]
-    requires { 125 ≤ number }
+    requires { 127 ≤ number }
     ensures { result.now ≡ fixed_text number }
 {
     match number {
-        125 => b"operator new",
-        126 => b"operator new[]",
-        127 => b"operator delete",
-        128 => b"operator delete[]",
-        129 => b"operator co_await",
-        130 => b"operator+",
-        131 => b"operator-",
-        132 => b"operator&",
-        133 => b"operator*",
-        134 => b"operator~",
-        135 => b"operator+",
-        136 => b"operator-",
-        137 => b"operator*",
-        138 => b"operator/",
-        139 => b"operator%",
-        140 => b"operator&",
-        141 => b"operator^",
-        142 => b"operator=",
-        143 => b"operator+=",
-        144 => b"operator-=",
-        145 => b"operator*=",
-        146 => b"operator/=",
-        147 => b"operator%=",
-        148 => b"operator&=",
-        149 => b"operator|=",
-        150 => b"operator^=",
-        151 => b"operator<<",
-        152 => b"operator>>",
-        153 => b"operator<<=",
-        154 => b"operator>>=",
-        155 => b"operator==",
-        156 => b"operator!=",
-        157 => b"operator<",
-        158 => b"operator>",
-        159 => b"operator<=",
-        160 => b"operator>=",
-        161 => b"operator<=>",
-        162 => b"operator!",
-        163 => b"operator&&",
-        164 => b"operator||",
-        165 => b"operator++",
-        166 => b"operator--",
-        167 => b"operator,",
-        168 => b"operator->*",
-        169 => b"operator->",
-        170 => b"operator()",
-        171 => b"operator[]",
-        172 => b"operator|",
+        127 => b"operator new",
+        128 => b"operator new[]",
+        129 => b"operator delete",
+        130 => b"operator delete[]",
+        131 => b"operator co_await",
+        132 => b"operator+",
+        133 => b"operator-",
+        134 => b"operator&",
+        135 => b"operator*",
+        136 => b"operator~",
+        137 => b"operator+",
+        138 => b"operator-",
+        139 => b"operator*",
+        140 => b"operator/",
+        141 => b"operator%",
+        142 => b"operator&",
+        143 => b"operator^",
+        144 => b"operator=",
+        145 => b"operator+=",
+        146 => b"operator-=",
+        147 => b"operator*=",
+        148 => b"operator/=",
+        149 => b"operator%=",
+        150 => b"operator&=",
+        151 => b"operator|=",
+        152 => b"operator^=",
+        153 => b"operator<<",
+        154 => b"operator>>",
+        155 => b"operator<<=",
+        156 => b"operator>>=",
+        157 => b"operator==",
+        158 => b"operator!=",
+        159 => b"operator<",
+        160 => b"operator>",
+        161 => b"operator<=",
+        162 => b"operator>=",
+        163 => b"operator<=>",
+        164 => b"operator!",
+        165 => b"operator&&",
+        166 => b"operator||",
+        167 => b"operator++",
+        168 => b"operator--",
+        169 => b"operator,",
+        170 => b"operator->*",
+        171 => b"operator->",
+        172 => b"operator()",
+        173 => b"operator[]",
+        174 => b"operator|",
         _ => remaining_text(number),
     }
 }
@@ -242,41 +246,41 @@ fn operator_text(number: u16) -> &'static [u8]
 #[tactic(auto, unfolding(crate::specs::Texts::fixed_text, cpp_grammar::specs::Texts::builtin_texts))]
 #[inline(always)]
 fn builtin_text(number: u16) -> &'static [u8]
-    requires { 94 ≤ number }
+    requires { 96 ≤ number }
     ensures { result.now ≡ fixed_text number }
 {
     match number {
-        94 => b"void",
-        95 => b"wchar_t",
-        96 => b"bool",
-        97 => b"char",
-        98 => b"signed char",
-        99 => b"unsigned char",
-        100 => b"short",
-        101 => b"unsigned short",
-        102 => b"int",
-        103 => b"unsigned int",
-        104 => b"long",
-        105 => b"unsigned long",
-        106 => b"long long",
-        107 => b"unsigned long long",
-        108 => b"__int128",
-        109 => b"unsigned __int128",
-        110 => b"float",
-        111 => b"double",
-        112 => b"long double",
-        113 => b"__float128",
-        114 => b"...",
-        115 => b"char32_t",
-        116 => b"char16_t",
-        117 => b"char8_t",
-        118 => b"auto",
-        119 => b"decltype(auto)",
-        120 => b"std::nullptr_t",
-        121 => b"decimal64",
-        122 => b"decimal128",
-        123 => b"decimal32",
-        124 => b"half",
+        96 => b"void",
+        97 => b"wchar_t",
+        98 => b"bool",
+        99 => b"char",
+        100 => b"signed char",
+        101 => b"unsigned char",
+        102 => b"short",
+        103 => b"unsigned short",
+        104 => b"int",
+        105 => b"unsigned int",
+        106 => b"long",
+        107 => b"unsigned long",
+        108 => b"long long",
+        109 => b"unsigned long long",
+        110 => b"__int128",
+        111 => b"unsigned __int128",
+        112 => b"float",
+        113 => b"double",
+        114 => b"long double",
+        115 => b"__float128",
+        116 => b"...",
+        117 => b"char32_t",
+        118 => b"char16_t",
+        119 => b"char8_t",
+        120 => b"auto",
+        121 => b"decltype(auto)",
+        122 => b"std::nullptr_t",
+        123 => b"decimal64",
+        124 => b"decimal128",
+        125 => b"decimal32",
+        126 => b"half",
         _ => operator_text(number),
     }
 }
@@ -285,58 +289,58 @@ fn builtin_text(number: u16) -> &'static [u8]
 #[tactic(auto, unfolding(crate::specs::Texts::fixed_text))]
 #[inline(always)]
 fn suffix_text(number: u16) -> &'static [u8]
-    requires { 46 ≤ number }
+    requires { 48 ≤ number }
     ensures { result.now ≡ fixed_text number }
 {
     match number {
         NONE => b"",
-        47 => b" restrict",
-        48 => b" volatile",
-        49 => b" volatile restrict",
-        50 => b" const",
-        51 => b" const restrict",
-        52 => b" const volatile",
-        53 => b" const volatile restrict",
-        54 => b" &",
-        55 => b" restrict &",
-        56 => b" volatile &",
-        57 => b" volatile restrict &",
-        58 => b" const &",
-        59 => b" const restrict &",
-        60 => b" const volatile &",
-        61 => b" const volatile restrict &",
-        62 => b" &&",
-        63 => b" restrict &&",
-        64 => b" volatile &&",
-        65 => b" volatile restrict &&",
-        66 => b" const &&",
-        67 => b" const restrict &&",
-        68 => b" const volatile &&",
-        69 => b" const volatile restrict &&",
-        70 => b" noexcept",
-        71 => b" restrict noexcept",
-        72 => b" volatile noexcept",
-        73 => b" volatile restrict noexcept",
-        74 => b" const noexcept",
-        75 => b" const restrict noexcept",
-        76 => b" const volatile noexcept",
-        77 => b" const volatile restrict noexcept",
-        78 => b" & noexcept",
-        79 => b" restrict & noexcept",
-        80 => b" volatile & noexcept",
-        81 => b" volatile restrict & noexcept",
-        82 => b" const & noexcept",
-        83 => b" const restrict & noexcept",
-        84 => b" const volatile & noexcept",
-        85 => b" const volatile restrict & noexcept",
-        86 => b" && noexcept",
-        87 => b" restrict && noexcept",
-        88 => b" volatile && noexcept",
-        89 => b" volatile restrict && noexcept",
-        90 => b" const && noexcept",
-        91 => b" const restrict && noexcept",
-        92 => b" const volatile && noexcept",
-        93 => b" const volatile restrict && noexcept",
+        49 => b" restrict",
+        50 => b" volatile",
+        51 => b" volatile restrict",
+        52 => b" const",
+        53 => b" const restrict",
+        54 => b" const volatile",
+        55 => b" const volatile restrict",
+        56 => b" &",
+        57 => b" restrict &",
+        58 => b" volatile &",
+        59 => b" volatile restrict &",
+        60 => b" const &",
+        61 => b" const restrict &",
+        62 => b" const volatile &",
+        63 => b" const volatile restrict &",
+        64 => b" &&",
+        65 => b" restrict &&",
+        66 => b" volatile &&",
+        67 => b" volatile restrict &&",
+        68 => b" const &&",
+        69 => b" const restrict &&",
+        70 => b" const volatile &&",
+        71 => b" const volatile restrict &&",
+        72 => b" noexcept",
+        73 => b" restrict noexcept",
+        74 => b" volatile noexcept",
+        75 => b" volatile restrict noexcept",
+        76 => b" const noexcept",
+        77 => b" const restrict noexcept",
+        78 => b" const volatile noexcept",
+        79 => b" const volatile restrict noexcept",
+        80 => b" & noexcept",
+        81 => b" restrict & noexcept",
+        82 => b" volatile & noexcept",
+        83 => b" volatile restrict & noexcept",
+        84 => b" const & noexcept",
+        85 => b" const restrict & noexcept",
+        86 => b" const volatile & noexcept",
+        87 => b" const volatile restrict & noexcept",
+        88 => b" && noexcept",
+        89 => b" restrict && noexcept",
+        90 => b" volatile && noexcept",
+        91 => b" volatile restrict && noexcept",
+        92 => b" const && noexcept",
+        93 => b" const restrict && noexcept",
+        94 => b" const volatile && noexcept",
+        95 => b" const volatile restrict && noexcept",
         _ => builtin_text(number),
     }
 }
@@ -394,6 +398,8 @@ pub fn fixed_text(number: u16) -> &'static [u8]
         TAG => b"[abi:",
         CLONE => b"transaction clone for ",
         OTHER_CLONE => b"non-transaction clone for ",
+        AUTO => b" auto",
+        DECLTYPE_AUTO => b" decltype(auto)",
         _ => suffix_text(number),
     }
 }

@@ -123,6 +123,7 @@ may_leave Production.LengthArray = true
 may_leave Production.BoundedArray = true
 may_leave Production.ParameterArgument = true
 may_leave Production.DeclaredArgument = true
+may_leave Production.ConstrainedAuto = true
 may_leave _ = false
 
 -- what goes on with the name so far

@@ -109,6 +109,7 @@ made_at_end Production.LengthArray = 1
 made_at_end Production.BoundedArray = 1
 made_at_end Production.ParameterArgument = 1
 made_at_end Production.OnePack = 1
+made_at_end Production.ConstrainedAuto = 1
 made_at_end Production.CharLiteral = 2
 made_at_end Production.Substitution = 2
 made_at_end _ = 0

@@ -259,6 +259,14 @@ impl Linked {
                 },
                 true,
             ),
+            // <builtin-type> ::= Dk <type-constraint> | DK <type-constraint>
+            Production::ConstrainedAuto => made(
+                Node::Constrained {
+                    letter: byte,
+                    concept: self.tree(symbol, parts, 0),
+                },
+                true,
+            ),
             // <builtin-type> ::= u <source-name>
             Production::Vendor => made(Node::Vendor(self.text(symbol, parts, 0)), false),
             // <type> ::= C <type>

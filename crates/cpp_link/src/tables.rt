@@ -3,7 +3,7 @@
 use cpp_grammar::production::Production;
 
 /// The productions.
-pub(crate) const PRODUCTIONS: [Production; 152] = [
+pub(crate) const PRODUCTIONS: [Production; 153] = [
     Production::Mark,
     Production::InternalName,
     Production::LocalTypeName,
@@ -151,6 +151,7 @@ pub(crate) const PRODUCTIONS: [Production; 152] = [
     Production::DefaultEntity,
     Production::DefaultTypeEntity,
     Production::SizedFloat,
+    Production::ConstrainedAuto,
     Production::ArrayType,
     Production::TypeInStd,
     Production::Tag,
@@ -159,7 +160,7 @@ pub(crate) const PRODUCTIONS: [Production; 152] = [
 ];
 
 /// How many parts each has.
-pub(crate) const PART_COUNTS: [u8; 152] = [
+pub(crate) const PART_COUNTS: [u8; 153] = [
     0, // Mark
     2, // InternalName
     2, // LocalTypeName
@@ -307,6 +308,7 @@ pub(crate) const PART_COUNTS: [u8; 152] = [
     2, // DefaultEntity
     2, // DefaultTypeEntity
     2, // SizedFloat
+    1, // ConstrainedAuto
     1, // ArrayType
     1, // TypeInStd
     2, // Tag
@@ -315,7 +317,7 @@ pub(crate) const PART_COUNTS: [u8; 152] = [
 ];
 
 /// Whether parts without a row may stand between those of each.
-pub(crate) const SKIPS_PARTS: [bool; 152] = [
+pub(crate) const SKIPS_PARTS: [bool; 153] = [
     false, // Mark
     false, // InternalName
     false, // LocalTypeName
@@ -463,6 +465,7 @@ pub(crate) const SKIPS_PARTS: [bool; 152] = [
     false, // DefaultEntity
     false, // DefaultTypeEntity
     false, // SizedFloat
+    false, // ConstrainedAuto
     false, // ArrayType
     false, // TypeInStd
     false, // Tag
@@ -471,7 +474,7 @@ pub(crate) const SKIPS_PARTS: [bool; 152] = [
 ];
 
 /// Before how many of its parts nothing is done in each: before none, the first, or all, which are five at most.
-pub(crate) const QUIET_PARTS: [u8; 152] = [
+pub(crate) const QUIET_PARTS: [u8; 153] = [
     5, // Mark
     1, // InternalName
     1, // LocalTypeName
@@ -619,6 +622,7 @@ pub(crate) const QUIET_PARTS: [u8; 152] = [
     5, // DefaultEntity
     5, // DefaultTypeEntity
     5, // SizedFloat
+    5, // ConstrainedAuto
     5, // ArrayType
     5, // TypeInStd
     1, // Tag

@@ -446,6 +446,7 @@ meaning_noted own Production.DeclaredArgument byte around vs h = listed_whole (a
 meaning_noted own Production.ParameterArgument byte around vs h = both (λ x y. value_.tree x (not y)) (applied_part (around_place own around) vs 0 1) (there_part (around_place own around) vs 1)
 meaning_noted own Production.OneLiteral byte around vs h = part_noted (around_place own around) vs 0
 meaning_noted own Production.OnePack byte around vs h = ap (λ x. value_.tree (term_.pack x) true) (items_part (around_place own around) vs 0)
+meaning_noted own Production.ConstrainedAuto byte around vs h = ap (λ x. value_.tree (term_.constrained byte x) true) (tree_part (around_place own around) vs 0)
 meaning_noted own Production.AnyType byte around vs h = refl
 meaning_noted own Production.ValueOf byte around vs h = refl
 meaning_noted own Production.OfConcept byte around vs h = refl

@@ -5,12 +5,12 @@ use Rattle.sym_print.specs.declared.detail.Detail.{Detail}
 use Rattle.sym_print.specs.Details.{has_arguments, has_parameters}
 use Rattle.sym_print.specs.Unfold.{PartOf, text, sub}
 use Rattle.cpp_grammar.specs.Texts.{same_bytes, look_up, builtin_texts, operator_texts, abbreviation_texts, special_texts, named_special_texts, literal_endings}
-use Rattle.cpp_term.specs.Term.{Term, symbol, function, object, special, thunk, of_name, construction, clone, alone, in_std, within, instance, local, holder, tagged, of_default, abbreviation, parameter, source, operator, literal_operator, constructor, destructor, lambda, generic_lambda, unnamed, string_literal, conversion, builtin, sized_float, vendor, pointer, lvalue, rvalue, array, bounded, member_pointer, function_type, qualified, vector, complex, expansion, integer, boolean, null_pointer, encoding_literal, address_of, pack, nil, list, absent}
+use Rattle.cpp_term.specs.Term.{Term, symbol, function, object, special, thunk, of_name, construction, clone, alone, in_std, within, instance, local, holder, tagged, of_default, abbreviation, parameter, source, operator, literal_operator, constructor, destructor, lambda, generic_lambda, unnamed, string_literal, conversion, builtin, sized_float, constrained, vendor, pointer, lvalue, rvalue, array, bounded, member_pointer, function_type, qualified, vector, complex, expansion, integer, boolean, null_pointer, encoding_literal, address_of, pack, nil, list, absent}
 use Rattle.cpp_grammar.specs.Term.{Qualifiers, RefQualifier, Signed}
 use Rattle.cpp_term.specs.Scope.{without_tags}
 use Rattle.cpp_term.specs.Items.{Context, Item, closed, argument, head, packs_of, is_empty}
 use Rattle.cpp_grammar.specs.Items.{Form, root, full, bare, left, right, low, base, piece, first, more, expand, is_reference, is_funarr}
-use Rattle.cpp_grammar.specs.Parts.{qualifier_text, ref_text, blank_last, source_text, encoding_text, thunk_text, clone_text, is_below}
+use Rattle.cpp_grammar.specs.Parts.{qualifier_text, ref_text, blank_last, source_text, placeholder_text, encoding_text, thunk_text, clone_text, is_below}
 
 abbrev pub as_item : Form → Context → Term → PartOf Item
 as_item form context t = sub (record { tree = t; form = form; context = context })
@@ -159,6 +159,7 @@ left_parts d context (abbreviation letter) = text (look_up (letter ∷ []) abbre
 left_parts d context (parameter k a) = as_item left closed (argument context a) ∷ []
 left_parts d context (builtin code) = text (look_up code builtin_texts) ∷ []
 left_parts d context (sized_float digits end) = float_parts digits end
+left_parts d context (constrained letter concept) = as_item left context concept ∷ text (placeholder_text letter) ∷ []
 left_parts d context (vendor name) = text (source_text name) ∷ []
 left_parts d context (pointer t) = marked_parts context t "*"
 left_parts d context (lvalue t) = reference_parts context low t "&"

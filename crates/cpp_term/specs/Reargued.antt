@@ -1,6 +1,6 @@
 -- A tree whose free parameters carry another argument, and what of it depends on that argument.
 use Rattle.std.specs.Prelude.{Bool, true, false, ◌||◌, ◌&&◌, Option, Some, None}
-use Rattle.cpp_term.specs.Term.{Term, alone, in_std, within, instance, local, holder, tagged, of_default, parameter, lambda, conversion, pointer, lvalue, rvalue, array, bounded, member_pointer, function_type, qualified, vector, complex, expansion, integer, pack, nil, list}
+use Rattle.cpp_term.specs.Term.{Term, alone, in_std, within, instance, local, holder, tagged, of_default, parameter, lambda, conversion, pointer, lvalue, rvalue, array, constrained, bounded, member_pointer, function_type, qualified, vector, complex, expansion, integer, pack, nil, list}
 use Rattle.cpp_term.specs.Items.{HeadClass, collapsed_class}
 
 -- the argument that is given, if one is, or else its own
@@ -21,6 +21,7 @@ reargued c (of_default digits entity) = of_default digits (reargued c entity)
 reargued c (parameter k argument) = parameter k (argument_or c argument)
 reargued c (lambda parameters number) = lambda (reargued c parameters) number
 reargued c (conversion t) = conversion (reargued c t)
+reargued c (constrained letter concept) = constrained letter (reargued c concept)
 reargued c (pointer t) = pointer (reargued c t)
 reargued c (lvalue t) = lvalue (reargued c t)
 reargued c (rvalue t) = rvalue (reargued c t)
@@ -54,6 +55,7 @@ bare (of_default digits entity) = bare entity
 bare (parameter k argument) = true
 bare (lambda parameters number) = bare parameters
 bare (conversion t) = bare t
+bare (constrained letter concept) = bare concept
 bare (pointer t) = bare t
 bare (lvalue t) = bare t
 bare (rvalue t) = bare t

@@ -47,6 +47,8 @@ pub data Term : Type 0 where
   builtin : (code : List ℕ) → Term
   -- a floating type of so many bits, and the byte behind their digits
   sized_float : (digits : List ℕ) → (end : ℕ) → Term
+  -- auto or decltype(auto), by the last letter of its code, of which a concept is asked
+  constrained : (letter : ℕ) → (concept : Term) → Term
   vendor : (bytes : List ℕ) → Term
   pointer : Term → Term
   lvalue : Term → Term

@@ -80,6 +80,7 @@ module _ (s : List ℕ) (us : List Thunk) (ts : List Term) (t : Term) (i : ℕ) 
   node-stays (Node.Builtin letter) b = refl
   node-stays (Node.BuiltinWithD letter) b = refl
   node-stays (Node.SizedFloat digits end) b = refl
+  node-stays (Node.Constrained letter concept) b = rw (early concept b) refl
   node-stays (Node.Vendor bytes) b = refl
   node-stays (Node.Pointer x) b = rw (early x b) refl
   node-stays (Node.Lvalue x) b = rw (early x b) refl

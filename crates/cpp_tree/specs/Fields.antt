@@ -1,9 +1,9 @@
 -- What a tree has beside its production: numbers, texts and the trees of its parts. The productions are constants of the code.
 use Rattle.std.specs.Prelude.{ℕ, ◌+◌, ◌*◌, List, [], ◌∷◌, ◌-◌, ◌++◌, Bool, true, false, ◌==◌, ◌||◌, nat_lt, if◌then◌else◌, cond, get_or, Option, Some, None}
-use Rattle.cpp_grammar.specs.Term.{Qualifiers, RefQualifier, any_value, lvalue_only, rvalue_only, Signed, non_virtual, by_table, Thunk, adjusting, covariant, Term, symbol, function, object, special, thunk, of_name, construction, clone, alone, in_std, within, instance, local, holder, tagged, of_default, abbreviation, parameter, source, operator, literal_operator, constructor, destructor, lambda, generic_lambda, unnamed, string_literal, conversion, builtin, sized_float, vendor, pointer, lvalue, rvalue, array, bounded, member_pointer, function_type, qualified, vector, complex, expansion, integer, boolean, null_pointer, encoding_literal, address_of, pack, nil, list, absent}
+use Rattle.cpp_grammar.specs.Term.{Qualifiers, RefQualifier, any_value, lvalue_only, rvalue_only, Signed, non_virtual, by_table, Thunk, adjusting, covariant, Term, symbol, function, object, special, thunk, of_name, construction, clone, alone, in_std, within, instance, local, holder, tagged, of_default, abbreviation, parameter, source, operator, literal_operator, constructor, destructor, lambda, generic_lambda, unnamed, string_literal, conversion, builtin, sized_float, constrained, vendor, pointer, lvalue, rvalue, array, bounded, member_pointer, function_type, qualified, vector, complex, expansion, integer, boolean, null_pointer, encoding_literal, address_of, pack, nil, list, absent}
 use Rattle.cpp_tree.specs.declared.view.Names.{Names}
 use Rattle.cpp_tree.specs.declared.view.TheConstants.{ALONE, IN_STD, NESTED}
-use Rattle.cpp_tree.specs.declared.tree_production.TheConstants.{ABSENT, NIL, LIST, SYMBOL, FUNCTION, OBJECT, SPECIAL, GUARD, OF_NAME, CONSTRUCTION, CLONE, THUNK, TABLE_THUNK, COVARIANT_THUNK, WIDE_THUNK, INSTANCE, LOCAL, NUMBERED_LOCAL, HOLDER, TAGGED, OF_DEFAULT, ABBREVIATION, PARAMETER, BUILTIN, BUILTIN_WITH_D, SIZED_FLOAT, BOUNDED, VENDOR, POINTER, LVALUE, RVALUE, ARRAY, MEMBER_POINTER, FUNCTION_TYPE, QUALIFIED, VECTOR, COMPLEX, EXPANSION, INTEGER, BOOLEAN, NULL_POINTER, ENCODING_LITERAL, ADDRESS_OF, PACK, NO_NODE}
+use Rattle.cpp_tree.specs.declared.tree_production.TheConstants.{ABSENT, NIL, LIST, SYMBOL, FUNCTION, OBJECT, SPECIAL, GUARD, OF_NAME, CONSTRUCTION, CLONE, THUNK, TABLE_THUNK, COVARIANT_THUNK, WIDE_THUNK, INSTANCE, LOCAL, NUMBERED_LOCAL, HOLDER, TAGGED, OF_DEFAULT, ABBREVIATION, PARAMETER, BUILTIN, BUILTIN_WITH_D, SIZED_FLOAT, BOUNDED, CONSTRAINED, VENDOR, POINTER, LVALUE, RVALUE, ARRAY, MEMBER_POINTER, FUNCTION_TYPE, QUALIFIED, VECTOR, COMPLEX, EXPANSION, INTEGER, BOOLEAN, NULL_POINTER, ENCODING_LITERAL, ADDRESS_OF, PACK, NO_NODE}
 
 -- a production, its two numbers, the bytes of its two texts, and the trees of its parts
 pub record Fields : Type 0 where
@@ -103,6 +103,7 @@ fields_of (parameter number) = fields PARAMETER number 0 [] []
 fields_of (builtin (letter ∷ [])) = fields BUILTIN letter 0 [] []
 fields_of (builtin (d ∷ letter ∷ [])) = if d == 68 then fields BUILTIN_WITH_D letter 0 [] [] else no_node (builtin (d ∷ letter ∷ []))
 fields_of (sized_float digits end) = fields SIZED_FLOAT end 0 digits []
+fields_of (constrained letter concept) = fields CONSTRAINED letter 0 [] (concept ∷ [])
 fields_of (vendor bytes) = fields VENDOR 0 0 bytes []
 fields_of (pointer type) = fields POINTER 0 0 [] (type ∷ [])
 fields_of (lvalue type) = fields LVALUE 0 0 [] (type ∷ [])
@@ -233,6 +234,7 @@ narrow_tree_from given = tree_at given.production (
     ∷ (BUILTIN, builtin (number_in given 0 ∷ []))
     ∷ (BUILTIN_WITH_D, builtin (68 ∷ number_in given 0 ∷ []))
     ∷ (SIZED_FLOAT, sized_float (text_in given 0) (number_in given 0))
+    ∷ (CONSTRAINED, constrained (number_in given 0) (part_in given 0))
     ∷ (VENDOR, vendor (text_in given 0))
     ∷ (POINTER, pointer (part_in given 0))
     ∷ (LVALUE, lvalue (part_in given 0))

@@ -198,6 +198,11 @@ pub enum Node {
         digits: Span,
         end: u8,
     },
+    /// `auto` or `decltype(auto)`, by the last letter of its code, of which a concept is asked.
+    Constrained {
+        letter: u8,
+        concept: u32,
+    },
     Vendor(Span),
     Pointer(u32),
     Lvalue(u32),

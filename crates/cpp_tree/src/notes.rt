@@ -744,6 +744,7 @@ impl Nodes {
             Node::Parameter { number, argument } => {
                 self.noted_parameter(symbol, node, number, argument)
             }
+            Node::Constrained { concept, .. } => self.noted_type(node, concept, Words::Plain),
             Node::Pointer(ty) => self.noted_type(node, ty, Words::Plain),
             Node::Lvalue(ty) => self.noted_type(node, ty, Words::Lvalue),
             Node::Rvalue(ty) => self.noted_rvalue(node, ty),

@@ -250,3 +250,7 @@ pub const NESTED_GENERIC_LAMBDA: u16 = 76;
 
 /// An array whose length is a parameter. Parts: the parameter and the type of its elements.
 pub const BOUNDED: u16 = 77;
+
+/// A placeholder type of which a concept is asked. Numbers: the last letter of its code, k of `auto` and K of `decltype(auto)`. Parts:
+/// the concept. Symbols of the wide grammar alone have it.
+pub const CONSTRAINED: u16 = 78;

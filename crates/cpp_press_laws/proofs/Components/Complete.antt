@@ -2,7 +2,7 @@
 use Rattle.std.proofs.Common.{◌≡◌, ℕ, ◌<◌, ◌≤◌, ◌⊎◌, inl, inr, length, List, [], ◌∷◌, ◌++◌, Bool, true, false, refl, ap, arith, sym, subst, ◌∙◌, length-append}
 use Rattle.std.specs.Prelude.{◌||◌}
 use Rattle.std.proofs.lemmas.Bool.{true≢false}
-use Rattle.cpp_grammar.specs.Term.{Term, symbol, alone, in_std, within, instance, local, holder, tagged, of_default, lambda, conversion, pointer, lvalue, rvalue, array, bounded, member_pointer, function_type, qualified, vector, complex, expansion, integer, pack, list}
+use Rattle.cpp_grammar.specs.Term.{Term, symbol, alone, in_std, within, instance, local, holder, tagged, of_default, lambda, conversion, pointer, lvalue, rvalue, array, constrained, bounded, member_pointer, function_type, qualified, vector, complex, expansion, integer, pack, list}
 use Rattle.cpp_grammar.specs.Scope.{is_open}
 use Rattle.cpp_grammar.specs.Values.{Candidate}
 use Rattle.cpp_press_laws.specs.Components.{Component, Spelling}
@@ -53,6 +53,7 @@ inside-shut (tagged of_structor name tag) x closed i = itself-shut name x (Insid
 inside-shut (of_default digits entity) x closed i = inside-shut entity x closed i
 inside-shut (lambda parameters k) x closed i = inside-shut parameters x closed i
 inside-shut (conversion type) x closed i = itself-shut type x (Inside type x) closed (inside-shut type x closed) i
+inside-shut (constrained letter concept) x closed i = itself-shut concept x (Inside concept x) closed (inside-shut concept x closed) i
 inside-shut (pointer type) x closed i = itself-shut type x (Inside type x) closed (inside-shut type x closed) i
 inside-shut (lvalue type) x closed i = itself-shut type x (Inside type x) closed (inside-shut type x closed) i
 inside-shut (rvalue type) x closed i = itself-shut type x (Inside type x) closed (inside-shut type x closed) i

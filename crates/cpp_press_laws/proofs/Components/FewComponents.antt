@@ -2,7 +2,7 @@
 use Rattle.std.proofs.Common.{◌≡◌, ℕ, ◌+◌, ◌≤◌, ◌⊎◌, inl, inr, length, List, [], ◌∷◌, ◌++◌, Option, None, Bool, true, false, refl, arith, sym, subst, ◌∙◌, length-append}
 use Rattle.std.specs.Prelude.{cond, codes, ◌&&◌}
 use Rattle.sym_spell.specs.Pressing.{◌and◌, text, nothing}
-use Rattle.cpp_grammar.specs.Term.{Thunk, Qualifiers, RefQualifier, Term, symbol, function, object, special, thunk, of_name, construction, clone, alone, in_std, within, instance, local, holder, tagged, of_default, abbreviation, parameter, source, operator, literal_operator, constructor, destructor, lambda, generic_lambda, unnamed, string_literal, conversion, builtin, sized_float, vendor, pointer, lvalue, rvalue, array, bounded, member_pointer, function_type, qualified, vector, complex, expansion, integer, boolean, null_pointer, encoding_literal, address_of, pack, nil, list, absent}
+use Rattle.cpp_grammar.specs.Term.{Thunk, Qualifiers, RefQualifier, Term, symbol, function, object, special, thunk, of_name, construction, clone, alone, in_std, within, instance, local, holder, tagged, of_default, abbreviation, parameter, source, operator, literal_operator, constructor, destructor, lambda, generic_lambda, unnamed, string_literal, conversion, builtin, sized_float, constrained, vendor, pointer, lvalue, rvalue, array, bounded, member_pointer, function_type, qualified, vector, complex, expansion, integer, boolean, null_pointer, encoding_literal, address_of, pack, nil, list, absent}
 use Rattle.cpp_grammar.specs.Scope.{has_return_type}
 use Rattle.cpp_grammar.specs.Values.{outermost, Around}
 use Rattle.cpp_grammar.specs.Between.{in_name, in_types, after, inside}
@@ -702,6 +702,7 @@ counts string_literal = few-string-literal
 counts (conversion type) = few-nowhere (conversion type) _
 counts (builtin code) = few-builtin code
 counts (sized_float digits end) = few-nowhere (sized_float digits end) _
+counts (constrained letter concept) = few-nowhere (constrained letter concept) _
 counts (vendor name) = few-vendor name
 counts (pointer type) = few-pointer type (counts type)
 counts (lvalue type) = few-lvalue type (counts type)

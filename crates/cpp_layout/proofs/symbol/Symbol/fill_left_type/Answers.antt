@@ -1,8 +1,9 @@
 use Rattle.std.proofs.Common.{[], ap, refl, sym, ◌∙◌, ◌∷◌}
 use Rattle.cpp_layout.proofs.Growing.{fills, starts}
 use Rattle.cpp_layout.proofs.Typing.{marked-whole, no-type}
-use Rattle.cpp_layout.specs.Layout.{context_of, node_shown}
-use Rattle.cpp_term.specs.Parts.{left_parts}
+use Rattle.cpp_layout.specs.Layout.{context_of, node_shown, tree_shown}
+use Rattle.cpp_grammar.specs.Items.{left}
+use Rattle.cpp_term.specs.Parts.{as_item, left_parts}
 use Rattle.cpp_tree.specs.Nodes.{tree_of}
 use Rattle.sym_print.specs.Unfold.{text}
 use Rattle.cpp_term.specs.Reargued.{reargued}
@@ -64,5 +65,9 @@ pub returns-in-SizedFloat-clause-shows : goal.returns-in-SizedFloat-clause-shows
 unfolding tree_of left_parts reargued
 returns-in-SizedFloat-clause-shows g c = fills c.args.self.now c.args.ctx.detail _ _ _ c.fill_float.ensures.shows (ap (λ n. left_parts c.args.ctx.detail (context_of c.args.ctx) (node_shown c.args.self.now c.args.ctx n)) (sym c.in-SizedFloat.is))
 
+pub returns-in-Constrained-clause-shows : goal.returns-in-Constrained-clause-shows
+unfolding tree_of left_parts reargued
+returns-in-Constrained-clause-shows g c = fills c.args.self.now c.args.ctx.detail _ _ _ c.fill_left_text-in-Constrained.ensures.shows (ap (λ t. as_item left (context_of c.args.ctx) (tree_shown c.args.self.now c.args.ctx c.in-Constrained.concept) ∷ text t ∷ []) c.placeholder.ensures.text ∙ ap (λ n. left_parts c.args.ctx.detail (context_of c.args.ctx) (node_shown c.args.self.now c.args.ctx n)) (sym c.in-Constrained.is))
+
 pub fill_left_argument-requires-clause-kind : goal.fill_left_argument-requires-clause-kind
-fill_left_argument-requires-clause-kind g c = no-type c.args.node c.requires.kind c.in_default.not-Builtin c.in_default.not-BuiltinWithD c.in_default.not-Vendor c.in_default.not-Pointer c.in_default.not-Lvalue c.in_default.not-Rvalue c.in_default.not-Array c.in_default.not-FunctionType c.in_default.not-MemberPointer c.in_default.not-Qualified c.in_default.not-Vector c.in_default.not-Complex c.in_default.not-SizedFloat c.in_default.not-Bounded
+fill_left_argument-requires-clause-kind g c = no-type c.args.node c.requires.kind c.in_default.not-Builtin c.in_default.not-BuiltinWithD c.in_default.not-Vendor c.in_default.not-Pointer c.in_default.not-Lvalue c.in_default.not-Rvalue c.in_default.not-Array c.in_default.not-FunctionType c.in_default.not-MemberPointer c.in_default.not-Qualified c.in_default.not-Vector c.in_default.not-Complex c.in_default.not-SizedFloat c.in_default.not-Bounded c.in_default.not-Constrained

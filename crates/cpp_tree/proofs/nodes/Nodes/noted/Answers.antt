@@ -17,6 +17,7 @@ returns-in_default c =
       not_tagged = c.in_default.not-Tagged;
       not_ofdefault = c.in_default.not-OfDefault;
       not_parameter = c.in_default.not-Parameter;
+      not_constrained = c.in_default.not-Constrained;
       not_pointer = c.in_default.not-Pointer;
       not_lvalue = c.in_default.not-Lvalue;
       not_rvalue = c.in_default.not-Rvalue;
