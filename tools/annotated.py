@@ -31,7 +31,8 @@ CHANGED = {
                   ("next (tree (parameter (generic_number k)) true ∷ [])", "next (tree (parameter (generic_number k) auto) true ∷ [])"),
                   ("(pack_length arguments t) state >>= λ s. Ok (found (tree t true) s)",
                    "(pack_length (reargued (Some (element arguments k)) t)) state >>= λ s. Ok (found (tree (reargued (Some (element arguments k)) t) true) s)"),
-                  ("true ↦ Ok (found (tree t true) state)", "true ↦ Ok (found (tree (reargued (Some auto) t) true) state)"),
+                  ("in_lambda [\n  | true ↦ Ok (found (tree t true) state)", "in_lambda [\n  | true ↦ Ok (found (tree (reargued (Some auto) t) true) state)"),
+                  ("    | true ↦ Ok (found (tree t true) state)", "    | true ↦ Ok (found (tree (reargued (Some arguments) t) true) state)"),
                   ("A tree that was made elsewhere is the same tree here.", "A tree that was made elsewhere is the same tree here, with the arguments that are meant here.")],
     "Between": [("-- in the types of", "-- The arguments that a name ends in. No parameter is free in the name of an encoding.\nunfoldable pub closed_arguments : Term → Option Term\n"
                  "closed_arguments name = elim (is_open name) [ true ↦ None | false ↦ arguments_of name ]\n\n-- in the types of"),
@@ -48,7 +49,7 @@ CHANGED = {
                 ("at_index i context = record { scope = context.scope; index = Some i; in_signature = context.in_signature }", "at_index i context = record { index = Some i }")],
 }
 # names that the changes bring in
-BROUGHT = {"Rescoping": {"Scope": ["element"], "Items": ["auto"], "Reargued": ["reargued"]},
+BROUGHT = {"Rescoping": {"Items": ["auto"], "Reargued": ["reargued"]},
            "Between": {"Prelude": ["Option", "Some"], "Scope": ["element", "is_open"], "Term": ["absent"]}}
 MODULES = ("Term", "Scope", "Values", "References", "Between", "Meaning", "Unfolding", "Rescoping", "Parts")
 

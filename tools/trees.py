@@ -236,7 +236,7 @@ def carried(lines): return [l.replace("(parameter k)", "(parameter k argument)")
 def reargued():
     """the tree again, with another argument wherever a parameter is free"""
     def right(tree):
-        if tree[0] == "parameter": return "parameter k (argument_or c argument)"
+        if tree[0] == "parameter": return "parameter k (argument_or c k argument)"
         if not arguments(tree, *SCOPED): return None
         return applied(tree[0], [f"(reargued c {name})" if sort in SCOPED else name for name, sort in tree[1:]])
     return carried(cases("reargued", ["c"], [], right, "t")[:-1]) + ["reargued c t = t"]
@@ -280,7 +280,7 @@ def reargued_laws():
     yield path, "free_reargued", carried(fold("free_reargued", ["c"], both_by("both_free"), "refl", {}, SCOPED))
     yield path, "bare_reargued", carried(fold("bare_reargued", ["c"], both_by("(λ x y. x || y)"), "refl", {"expansion": "refl", "parameter": "refl"}, SCOPED))
     def bare(parts): return parts[0] if len(parts) == 1 else applied("bare_first", [f"(bare {p.split()[-1]})" for p in parts] + ["(length_if_pack a)"] + [f"({p})" for p in parts])
-    yield path, "pack_reargued", carried(fold("pack_reargued", ["a"], bare, "refl", {"parameter": "refl", "expansion": None}, SCOPED))
+    yield path, "pack_reargued", carried(fold("pack_reargued", ["a"], bare, "refl", {"parameter": "given_length a k", "expansion": None}, SCOPED))
     yield path, "erase_reargued", erase_reargued()
 
 # ## Nodes

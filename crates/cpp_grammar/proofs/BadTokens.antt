@@ -11,11 +11,11 @@ use Rattle.sym_link.specs.Unfold.{found, alone, standing, unfold_tree, unfold_fo
 use Rattle.sym_demangle.specs.Mangled.{IsBadToken}
 use Rattle.cpp_grammar.specs.declared.production.Production.{Production}
 use Rattle.cpp_grammar.specs.Term.{Term, holder, parameter}
-use Rattle.cpp_grammar.specs.Scope.{count, element, length_if_pack, is_open, pack_length, Free, none_free, one_free, several_free, free_in}
+use Rattle.cpp_grammar.specs.Scope.{count, element, is_list, has_pack, length_if_pack, is_open, pack_length, Free, none_free, one_free, several_free, free_in}
 use Rattle.cpp_grammar.specs.Values.{Candidate, State, Around, prefix_tree, Value, tree, text_of, part, local_number}
 use Rattle.cpp_grammar.specs.References.{appended, with_packs, packs_in, substituted, parameter_named}
 use Rattle.cpp_grammar.specs.Between.{named_so_far, listed_so_far, piece_so_far, tag_so_far, parameter_so_far, index_of, between, next, argument_so_far}
-use Rattle.cpp_grammar.specs.Rescoping.{generic_so_far, parameter_here, is_foreign, in_scope, with_free, restated, substituted_wide, numbered, is_counted_alike, with_holder, is_instance, holder_so_far, between_wide, close_wide, cpp_wide, unfold_wide, argument_here, generic_number}
+use Rattle.cpp_grammar.specs.Rescoping.{generic_so_far, parameter_here, is_foreign, in_scope, under_scope, with_free, restated, substituted_wide, numbered, is_counted_alike, with_holder, is_instance, holder_so_far, between_wide, close_wide, cpp_wide, unfold_wide, argument_here, generic_number}
 use Rattle.cpp_grammar.proofs.Ways.{Way, reading_by, abi_way, wide_way}
 use Rattle.cpp_grammar.specs.Unfolding.{last_token, number_tested, opening, close, production_at, byte_of, cpp, first_around, first_state, first_tree, unfold_cpp}
 
@@ -155,19 +155,34 @@ scope_bad around place t k state = go around.scope
 
     go : (o : Option Term) → IsBad {A = Found Value State} (elim o [
       | None ↦ Err (BadReference place)
-      | Some arguments ↦ elim (nat_lt k (count arguments)) [
+      | Some arguments ↦ elim (nat_lt k (count arguments) && not (is_list (element arguments k))) [
         | false ↦ Err (BadReference place)
         | true ↦ packs arguments >>= λ s. Ok (found (tree t true) s)
       ]
     ])
     go None = tt
-    go (Some arguments) = tested arguments (nat_lt k (count arguments))
+    go (Some arguments) = tested arguments (nat_lt k (count arguments) && not (is_list (element arguments k)))
+
+under_bad : (around : Around) (place : ℕ) (t : Term) (m : ℕ) (state : State) → IsBad (under_scope around place t m state)
+unfolding under_scope
+under_bad around place t m state = go around.scope
+  where
+    tested : (b : Bool) → IsBad {A = Found Value State} (elim b [ false ↦ Err (BadReference place) | true ↦ Ok (found (tree t true) state) ])
+    tested false = tt
+    tested true = tt
+
+    go : (o : Option Term) → IsBad {A = Found Value State} (elim o [
+      | None ↦ Err (BadReference place)
+      | Some arguments ↦ elim (nat_lt m (count arguments) && not (has_pack arguments)) [ false ↦ Err (BadReference place) | true ↦ Ok (found (tree t true) state) ]
+    ])
+    go None = tt
+    go (Some arguments) = tested (nat_lt m (count arguments) && not (has_pack arguments))
 
 free_bad : (free : Free) (around : Around) (place : ℕ) (t : Term) (state : State) → IsBad (with_free free around place t state)
 unfolding with_free
 free_bad none_free around place t state = tt
 free_bad (one_free k) around place t state = scope_bad around place t k state
-free_bad several_free around place t state = tt
+free_bad (several_free m) around place t state = under_bad around place t m state
 
 restated_bad : (around : Around) (place : ℕ) (t : Term) (state : State) → IsBad (restated around place t state)
 unfolding restated

@@ -8,13 +8,13 @@ use Rattle.sym_link.specs.Reading.{Found, ◌>>=◌}
 use Rattle.sym_link.specs.Unfold.{found}
 use Rattle.cpp_grammar.specs.declared.production.Production.{Production}
 use Rattle.cpp_grammar.specs.Term.{Term, parameter, lambda, generic_lambda, list}
-use Rattle.cpp_grammar.specs.Scope.{count, element, length_if_pack, is_open, pack_length, Free, none_free, one_free, several_free, free_in}
+use Rattle.cpp_grammar.specs.Scope.{count, element, is_list, has_pack, length_if_pack, is_open, pack_length, Free, none_free, one_free, several_free, free_in}
 use Rattle.cpp_grammar.specs.Closed.{ScopesAreClosed}
 use Rattle.sym_core.specs.declared.NumberKind.TheVariants.{Seq36}
 use Rattle.sym_core.specs.Value.{counted_value}
 use Rattle.cpp_grammar.specs.Values.{Candidate, State, Around, prefix_tree, prefix_listed, Value, letter, tree, piece, is_listed, text_of, local_number, part, tree_of}
 use Rattle.cpp_grammar.specs.References.{appended, is_function_type, with_type, with_unqualified, with_prefix, with_packs, packs_in, substituted, parameter_named}
-use Rattle.cpp_grammar.specs.Rescoping.{lambda_with, with_own, with_holder, is_counted_alike, is_foreign, in_scope, with_free, restated, substituted_wide, numbered, close_wide}
+use Rattle.cpp_grammar.specs.Rescoping.{lambda_with, with_own, with_holder, is_counted_alike, is_foreign, in_scope, under_scope, with_free, restated, substituted_wide, numbered, close_wide}
 use Rattle.cpp_grammar.specs.Meaning.{parameters, meaning}
 use Rattle.cpp_grammar.specs.Unfolding as unfolding_
 use Rattle.cpp_grammar.specs.Unfolding.{close}
@@ -331,19 +331,40 @@ scope_good around place t k state r scopes e = go around.scope refl e
 
     go : (o : Option Term) → around.scope ≡ o → ◌≡◌ {A = Result (Found Value State) Refusal} (elim o [
       | None ↦ Err (BadReference place)
-      | Some arguments ↦ elim (nat_lt k (count arguments)) [
+      | Some arguments ↦ elim (nat_lt k (count arguments) && not (is_list (element arguments k))) [
         | false ↦ Err (BadReference place)
         | true ↦ with_packs place around.in_expansion (pack_length arguments t) state >>= λ s. Ok (found (tree t true) s)
       ]
     ]) (Ok r) → IsNamed around state r
     go None is h = absurd cc
-    go (Some arguments) is h = tested arguments (nat_lt k (count arguments)) is h
+    go (Some arguments) is h = tested arguments (nat_lt k (count arguments) && not (is_list (element arguments k))) is h
+
+under_good : (around : Around) (place : ℕ) (t : Term) (m : ℕ) (state : State) (r : Found Value State) → ScopesAreClosed t → under_scope around place t m state ≡ Ok r → IsNamed around state r
+unfolding under_scope held
+under_good around place t m state r scopes e = go around.scope refl e
+  where
+    tested : (arguments : Term) (b : Bool) → around.scope ≡ Some arguments → ◌≡◌ {A = Result (Found Value State) Refusal} (elim b [
+      | false ↦ Err (BadReference place)
+      | true ↦ Ok (found (tree t true) state)
+    ]) (Ok r) → IsNamed around state r
+    tested arguments false is h = absurd cc
+    tested arguments true is h =
+        let scoped : Bare true around → ⊥ = λ bare. (let clash : None ≡ Some arguments = sym bare.0 ∙ is in cc) in
+        subst (λ x. IsNamed around state x) (ok_same (found (tree t true) state) r h)
+        (record { closed = λ bare. absurd (scoped bare); scopes = scopes }, refl)
+
+    go : (o : Option Term) → around.scope ≡ o → ◌≡◌ {A = Result (Found Value State) Refusal} (elim o [
+      | None ↦ Err (BadReference place)
+      | Some arguments ↦ elim (nat_lt m (count arguments) && not (has_pack arguments)) [ false ↦ Err (BadReference place) | true ↦ Ok (found (tree t true) state) ]
+    ]) (Ok r) → IsNamed around state r
+    go None is h = absurd cc
+    go (Some arguments) is h = tested arguments (nat_lt m (count arguments) && not (has_pack arguments)) is h
 
 free_good : (free : Free) (around : Around) (place : ℕ) (t : Term) (state : State) (r : Found Value State) → ScopesAreClosed t → with_free free around place t state ≡ Ok r → IsNamed around state r
 unfolding with_free
 free_good none_free around place t state r scopes e = absurd cc
 free_good (one_free k) around place t state r scopes e = scope_good around place t k state r scopes e
-free_good several_free around place t state r scopes e = absurd cc
+free_good (several_free m) around place t state r scopes e = under_good around place t m state r scopes e
 
 restated_good : (around : Around) (place : ℕ) (t : Term) (state : State) (r : Found Value State) → ScopesAreClosed t → restated around place t state ≡ Ok r → IsNamed around state r
 unfolding restated held

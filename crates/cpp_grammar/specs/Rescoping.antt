@@ -11,7 +11,7 @@ use Rattle.sym_link.specs.Reading.{Found, Reading, ◌>>=◌}
 use Rattle.sym_link.specs.Unfold.{found, unfold_tree}
 use Rattle.cpp_grammar.specs.declared.production.Production.{Production}
 use Rattle.cpp_grammar.specs.Term.{Term, instance, holder, parameter, lambda, generic_lambda}
-use Rattle.cpp_grammar.specs.Scope.{count, is_open, Free, none_free, one_free, several_free, free_in, pack_length}
+use Rattle.cpp_grammar.specs.Scope.{count, element, is_list, has_pack, is_open, Free, none_free, one_free, several_free, free_in, pack_length}
 use Rattle.cpp_grammar.specs.Values.{Candidate, State, Around, prefix_tree, Value, nothing_there, tree, piece, text, text_of, part}
 use Rattle.cpp_grammar.specs.References.{appended, with_packs, substituted}
 use Rattle.cpp_grammar.specs.Between.{Going, next, listed_so_far, parameter_so_far, argument_so_far, index_of, between}
@@ -93,9 +93,20 @@ is_foreign around c = is_open c.tree && (around.in_lambda || (c.in_lambda || not
 unfoldable pub in_scope : Around → (place : ℕ) → Term → (number : ℕ) → State → Result (Found Value State) Refusal
 in_scope around place t k state = elim around.scope [
   | None ↦ Err (BadReference place)
-  | Some arguments ↦ elim (nat_lt k (count arguments)) [
+  | Some arguments ↦ elim (nat_lt k (count arguments) && not (is_list (element arguments k))) [
     | false ↦ Err (BadReference place)
     | true ↦ with_packs place around.in_expansion (pack_length arguments t) state >>= λ s. Ok (found (tree t true) s)
+  ]
+]
+
+-- A tree with several free parameters, of which this is the greatest number: in the scope here there is an argument for each, and
+-- none of its arguments is a pack.
+unfoldable pub under_scope : Around → (place : ℕ) → Term → (greatest : ℕ) → State → Result (Found Value State) Refusal
+under_scope around place t m state = elim around.scope [
+  | None ↦ Err (BadReference place)
+  | Some arguments ↦ elim (nat_lt m (count arguments) && not (has_pack arguments)) [
+    | false ↦ Err (BadReference place)
+    | true ↦ Ok (found (tree t true) state)
   ]
 ]
 
@@ -103,10 +114,10 @@ in_scope around place t k state = elim around.scope [
 unfoldable pub with_free : Free → Around → (place : ℕ) → Term → State → Result (Found Value State) Refusal
 with_free none_free around place t state = Err (BadReference place)
 with_free (one_free k) around place t state = in_scope around place t k state
-with_free several_free around place t state = Err (BadReference place)
+with_free (several_free m) around place t state = under_scope around place t m state
 
 -- A tree that was made elsewhere is the same tree here.
--- In a signature its parameters are the lambda's own; outside one they have to be one.
+-- In a signature its parameters are the lambda's own; outside one they are those of the scope.
 unfoldable pub restated : Around → (place : ℕ) → Term → State → Result (Found Value State) Refusal
 restated around place t state = elim around.in_lambda [
   | true ↦ Ok (found (tree t true) state)

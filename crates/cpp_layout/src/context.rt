@@ -8,7 +8,8 @@ ghost use Rattle.cpp_tree.specs.Nodes.{under_kept};
 use cpp_tree::node::under_of;
 use sym_print::Detail;
 
-/// An index into packs, how much is shown, and the argument that each free parameter has here in place of its own, if there is one.
+/// An index into packs, how much is shown, and what free parameters have here in place of their own arguments, if there is something:
+/// an argument, or a list with one for each.
 #[derive(Clone, Copy, Debug)]
 pub struct Context {
     pub index: Option<u32>,

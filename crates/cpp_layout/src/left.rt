@@ -159,8 +159,8 @@ impl Symbol {
             Node::Holder(name) => self.push_item(parts, name, form::LEFT, 0, ctx),
             Node::Tagged { name, tag, .. } => self.fill_tagged(parts, name, tag, ctx),
             Node::Abbreviation(letter) => self.push_some(parts, abbreviation(letter)),
-            Node::Parameter { argument, .. } => {
-                self.fill_parameter(parts, argument, form::LEFT, ctx);
+            Node::Parameter { number, argument } => {
+                self.fill_parameter(parts, number, argument, form::LEFT, ctx);
             }
             _ => self.fill_left_type(parts, node, stored, ctx),
         }
@@ -193,8 +193,8 @@ impl Symbol {
             Node::Lvalue(ty) => self.fill_lvalue(parts, ty, ctx),
             Node::Rvalue(ty) => self.fill_lvalue(parts, ty, ctx),
             Node::Qualified { ty, .. } => self.push_item(parts, ty, form::LOW, 0, ctx),
-            Node::Parameter { argument, .. } => {
-                self.fill_parameter(parts, argument, form::LOW, ctx);
+            Node::Parameter { number, argument } => {
+                self.fill_parameter(parts, number, argument, form::LOW, ctx);
             }
             _ => self.fill_as_left(parts, node, ctx),
         }
@@ -226,8 +226,8 @@ impl Symbol {
                 ..
             } => self.fill_base_tagged(parts, of_structor, name, ctx),
             Node::Abbreviation(letter) => self.push_some(parts, last_of_abbreviation(letter)),
-            Node::Parameter { argument, .. } => {
-                self.fill_parameter(parts, argument, form::BASE, ctx);
+            Node::Parameter { number, argument } => {
+                self.fill_parameter(parts, number, argument, form::BASE, ctx);
             }
             _ => self.fill_as_left(parts, node, ctx),
         }

@@ -96,8 +96,8 @@ impl Symbol {
             }
             Node::Vector { element, .. } => self.push_item(parts, element, form::RIGHT, 0, ctx),
             Node::Complex(ty) => self.push_item(parts, ty, form::RIGHT, 0, ctx),
-            Node::Parameter { argument, .. } => {
-                self.fill_parameter(parts, argument, form::RIGHT, ctx);
+            Node::Parameter { number, argument } => {
+                self.fill_parameter(parts, number, argument, form::RIGHT, ctx);
             }
             Node::FunctionType {
                 noexcept,

@@ -1,13 +1,12 @@
 // A symbol that was read.
 #![tactic(auto)]
 
-ghost use Rattle.std.specs.Prelude.{◌≡◌, ℕ, ◌+◌, ◌<◌, ◌≤◌, ◌*◌, List, length, slice_get, Some, false};
+ghost use Rattle.std.specs.Prelude.{◌≡◌, ℕ, ◌+◌, ◌<◌, ◌≤◌, ◌*◌, length, slice_get, Some, false};
 ghost use Rattle.std.specs.List.{All};
 ghost use Rattle.cpp_grammar.specs.Items as heads;
 ghost use Rattle.cpp_term.specs.Items as items;
 ghost use Rattle.cpp_term.specs.Reargued.{argument_or};
 ghost use Rattle.cpp_term.specs.Scope.{without_tags};
-ghost use Rattle.cpp_term.specs.Term.{Term};
 ghost use Rattle.cpp_tree.specs.Nodes.{tree_at, trees, tree_of, tree_if_there, is_again, bytes_at, IsBelow, IsThereBelow, IsTable, IsWithin, entry_at};
 ghost use Rattle.cpp_layout.specs.Layout.{table_of, context_of, tree_shown, node_shown, IsRead};
 ghost use Rattle.cpp_tree.specs.Fields.{offsets_of, tree_from};
@@ -39,18 +38,6 @@ impl Model for Symbol {
     ghost view = { λ s. record { bytes = s.bytes.items; table = s.nodes; root = s.root; rows = s.rows; steps = s.steps } };
 
     ghost invariant = { λ s. IsRead (record { bytes = s.bytes.items; table = s.nodes; root = s.root; rows = s.rows; steps = s.steps }) };
-}
-
-/// The argument that is given, if one is, or else its own.
-#[tactic(auto, unfolding(cpp_term::specs::Reargued::argument_or, cpp_tree::specs::Nodes::tree_if_there))]
-fn given_or(given: Option<u32>, own: u32) -> u32
-    ensures tree { (ts : List Term) → tree_at ts result ≡ argument_or (tree_if_there ts given) (tree_at ts own) }
-    ensures below { (n : ℕ) → own < n → IsThereBelow n given → result < n }
-{
-    match given {
-        None => own,
-        Some(argument) => argument,
-    }
 }
 
 impl Symbol {
@@ -321,19 +308,35 @@ impl Symbol {
         )
     }
 
-    /// What a parameter with this argument stands for at an index: the argument, or its element. It has the context's argument, if
-    /// there is one, in place of its own.
-    pub(crate) fn argument_of(&self, own: u32, ctx: Context) -> Place
+    /// What the parameter of a number is given, if something is, or else its own argument.
+    #[inline(always)]
+    #[tactic(auto, unfolding(cpp_term::specs::Reargued::argument_or, cpp_tree::specs::Nodes::tree_if_there))]
+    fn given_or(&self, given: Option<u32>, number: u32, own: u32) -> u32
+        requires table { IsTable (table_of self.now) }
+        requires own { own < length self.now.table.nodes }
+        requires given { IsThereBelow (length self.now.table.nodes) given }
+        ensures tree { tree_at (trees (table_of self.now)) result ≡ argument_or (tree_if_there (trees (table_of self.now)) given) number (tree_at (trees (table_of self.now)) own) }
+        ensures below { result < length self.now.table.nodes }
+    {
+        match given {
+            None => own,
+            Some(argument) => self.nodes.given_for(&self.bytes, argument, number),
+        }
+    }
+
+    /// What the parameter of a number stands for at an index: its argument, or an element of that. It has what the context gives it,
+    /// if there is something, in place of its own argument.
+    pub(crate) fn argument_of(&self, number: u32, own: u32, ctx: Context) -> Place
         requires table { IsTable (table_of self.now) }
         requires own { own < length self.now.table.nodes }
         requires context { IsThereBelow (length self.now.table.nodes) ctx.argument }
-        ensures tree { tree_shown self.now result.ctx result.node ≡ items.argument (context_of ctx) (argument_or (tree_if_there (trees (table_of self.now)) ctx.argument) (tree_at (trees (table_of self.now)) own)) }
+        ensures tree { tree_shown self.now result.ctx result.node ≡ items.argument (context_of ctx) (argument_or (tree_if_there (trees (table_of self.now)) ctx.argument) number (tree_at (trees (table_of self.now)) own)) }
         ensures closed { context_of result.ctx ≡ items.closed }
         ensures detail { result.ctx.detail ≡ ctx.detail }
         ensures node { result.node < length self.now.table.nodes }
         ensures context { IsThereBelow (length self.now.table.nodes) result.ctx.argument }
     {
-        let argument = given_or(ctx.argument, own);
+        let argument = self.given_or(ctx.argument, number, own);
         let alone = Placed {
             node: argument,
             under: None,

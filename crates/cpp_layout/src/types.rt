@@ -263,6 +263,7 @@ impl Symbol {
     pub(crate) fn fill_parameter<S: PartList<Context>>(
         &self,
         parts: &mut S,
+        number: u32,
         argument: u32,
         form: u32,
         ctx: Context,
@@ -272,10 +273,10 @@ impl Symbol {
         requires argument { argument < length self.now.table.nodes }
         requires plain { form < 6 }
         requires room { 8 ≤ S.room parts.old }
-        ensures shows { Shows self.now ctx.detail (S.held parts.old) (S.held parts.new) (as_item (form_of form 0) items.closed (items.argument (context_of ctx) (argument_or (tree_if_there (trees (table_of self.now)) ctx.argument) (tree_at (trees (table_of self.now)) argument))) ∷ []) }
+        ensures shows { Shows self.now ctx.detail (S.held parts.old) (S.held parts.new) (as_item (form_of form 0) items.closed (items.argument (context_of ctx) (argument_or (tree_if_there (trees (table_of self.now)) ctx.argument) number (tree_at (trees (table_of self.now)) argument))) ∷ []) }
         ensures few { S.room parts.old ≤ S.room parts.new + 8 }
     {
-        let place = self.argument_of(argument, ctx);
+        let place = self.argument_of(number, argument, ctx);
         self.push_item(parts, place.node, form, 0, place.ctx);
     }
 }

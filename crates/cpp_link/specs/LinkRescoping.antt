@@ -86,7 +86,7 @@ unfoldable pub is_lambda_production : Production → Bool
 is_lambda_production Production.Lambda = true
 is_lambda_production _ = false
 
--- a tree with the argument that is meant here, where that is this node
+-- a tree with the argument that is meant here, or with those of a scope, where that is this node
 unfoldable pub argument_read : List Term → Term → List Candidate → Result (ℕ × Option ℕ) Refusal → Result (Found Value State) Refusal
 argument_read ts t cs (Ok r) = Ok (found (tree (reargued (Some (tree_at ts r.0)) t) true) (record { candidates = cs; packs = r.1 }))
 argument_read ts t cs (Err e) = Err e

@@ -15,8 +15,9 @@ ghost use Rattle.cpp_grammar.specs.Rescoping.{generic_number};
 ghost use Rattle.cpp_grammar.specs.Unfolding.{production_at};
 ghost use Rattle.cpp_term.specs.Values as values;
 ghost use Rattle.cpp_term.specs.Reargued.{reargued};
-ghost use Rattle.cpp_term.specs.Rescoping.{is_foreign, restated, substituted_wide, with_own};
+ghost use Rattle.cpp_term.specs.Rescoping.{is_foreign, in_scope, under_scope, restated, substituted_wide, with_own};
 ghost use Rattle.cpp_term.specs.Scope.{pack_length};
+ghost use Rattle.cpp_term.specs.Term.{Term};
 ghost use Rattle.cpp_tree.specs.Nodes.{over, tree_at, bytes_at, piece_of, IsPieceBelow, IsWithin, IsTable};
 ghost use Rattle.cpp_link.specs.declared.part.Part.TheVariants as variants;
 ghost use Rattle.cpp_link.specs.Grows.{HasPlace};
@@ -185,12 +186,88 @@ impl Linked {
         self.nodes.packs(symbol, tree)
     }
 
-    /// The argument that the free parameters of a tree which was made elsewhere have here, and the length of the packs behind it.
+    /// The argument here of the one parameter, by its number, that is free in a tree which was made elsewhere, and the length of the
+    /// packs behind it.
     ///
     /// # Errors
     ///
-    /// `BadReference` where, outside the signature of a lambda, other than one parameter is free in it, where that names no argument
-    /// of the scope, or where the tree has packs then and stands outside an expansion or behind packs of another length.
+    /// `BadReference` where it names no argument of the scope, or where the tree has packs then and stands outside an expansion or
+    /// behind packs of another length.
+    #[tactic(auto, unfolding(crate::specs::LinkRescoping::argument_read, crate::specs::Parts::around_of))]
+    fn argument_by(
+        &self,
+        symbol: &[u8],
+        kept: Kept,
+        place: u32,
+        node: u32,
+        number: u32,
+    ) -> Result<(u32, Option<u32>), Refusal>
+        requires table { IsTable (over symbol.now self.now.nodes) }
+        requires kept { IsKeptThere (length self.now.nodes.nodes) kept }
+        requires closed { IsClosed (around_of (trees_in symbol.now self.now.nodes) kept) }
+        requires below { node < length self.now.nodes.nodes }
+        requires room { length self.now.nodes.nodes + 1 < 2 ^ 32 }
+        ensures is { (cs : List values.Candidate) → in_scope (around_of (trees_in symbol.now self.now.nodes) kept) place (tree_at (trees_in symbol.now self.now.nodes) node) number (record { candidates = cs; packs = self.now.packs })
+            ≡ argument_read (trees_in symbol.now self.now.nodes) (tree_at (trees_in symbol.now self.now.nodes) node) cs result }
+        ensures there { IfOk result (λ r. r.0 < length self.now.nodes.nodes) }
+        ensures bad { IfErr result (λ e. e ≡ refusals.Memory → ⊥) }
+    {
+        let Some(scope) = kept.in_scope() else {
+            return Err(Refusal::BadReference { at: place });
+        };
+        if number >= count(&self.nodes, symbol, scope) {
+            return Err(Refusal::BadReference { at: place });
+        }
+        let argument = argument(&self.nodes, symbol, scope, number);
+        if self.nodes.is_list(symbol, argument) {
+            return Err(Refusal::BadReference { at: place });
+        }
+        let own = self.packs_with(symbol, node, argument);
+        match with_packs(place, kept.in_expansion, own, self.packs) {
+            Ok(packs) => Ok((argument, packs)),
+            Err(e) => Err(e),
+        }
+    }
+
+    /// The scope where several parameters are free in a tree which was made elsewhere, of which this is the greatest number.
+    ///
+    /// # Errors
+    ///
+    /// `BadReference` where it has no argument of that number, or a pack among its arguments.
+    #[tactic(auto, unfolding(crate::specs::LinkRescoping::argument_read, crate::specs::Parts::around_of))]
+    fn scope_by(
+        &self,
+        symbol: &[u8],
+        kept: Kept,
+        place: u32,
+        greatest: u32,
+    ) -> Result<(u32, Option<u32>), Refusal>
+        requires table { IsTable (over symbol.now self.now.nodes) }
+        requires kept { IsKeptThere (length self.now.nodes.nodes) kept }
+        ensures is { (t : Term) (cs : List values.Candidate) → under_scope (around_of (trees_in symbol.now self.now.nodes) kept) place t greatest (record { candidates = cs; packs = self.now.packs })
+            ≡ argument_read (trees_in symbol.now self.now.nodes) t cs result }
+        ensures there { IfOk result (λ r. r.0 < length self.now.nodes.nodes) }
+        ensures bad { IfErr result (λ e. e ≡ refusals.Memory → ⊥) }
+    {
+        let Some(scope) = kept.in_scope() else {
+            return Err(Refusal::BadReference { at: place });
+        };
+        if greatest >= count(&self.nodes, symbol, scope) {
+            return Err(Refusal::BadReference { at: place });
+        }
+        if self.nodes.has_pack(symbol, scope) {
+            return Err(Refusal::BadReference { at: place });
+        }
+        Ok((scope, self.packs))
+    }
+
+    /// The argument that the free parameters of a tree which was made elsewhere have here, or the scope with one for each, and the
+    /// length of the packs behind it.
+    ///
+    /// # Errors
+    ///
+    /// `BadReference` outside the signature of a lambda, as `argument_by` where one parameter is free in it and as `scope_by` where
+    /// several are.
     #[tactic(auto, unfolding(crate::specs::LinkRescoping::argument_read, crate::specs::Parts::around_of))]
     fn argument_here(
         &self,
@@ -212,20 +289,10 @@ impl Linked {
         if kept.in_lambda() {
             return Ok((AUTO, self.packs));
         }
-        let Free::One(number) = self.nodes.free(symbol, node) else {
-            return Err(Refusal::BadReference { at: place });
-        };
-        let Some(scope) = kept.in_scope() else {
-            return Err(Refusal::BadReference { at: place });
-        };
-        if number >= count(&self.nodes, symbol, scope) {
-            return Err(Refusal::BadReference { at: place });
-        }
-        let argument = argument(&self.nodes, symbol, scope, number);
-        let own = self.packs_with(symbol, node, argument);
-        match with_packs(place, kept.in_expansion, own, self.packs) {
-            Ok(packs) => Ok((argument, packs)),
-            Err(e) => Err(e),
+        match self.nodes.free(symbol, node) {
+            Free::One(number) => self.argument_by(symbol, kept, place, node, number),
+            Free::Several(greatest) => self.scope_by(symbol, kept, place, greatest),
+            Free::None => Err(Refusal::BadReference { at: place }),
         }
     }
 

@@ -1,14 +1,14 @@
 -- What another argument of the free parameters keeps of a tree, and what it changes.
-use Rattle.std.proofs.Common.{◌≡◌, refl, ap, ◌∙◌, ℕ, zero, suc, Bool, true, false, cond, not, ◌||◌, ◌&&◌, Option, Some, None}
-use Rattle.std.proofs.lemmas.Bool.{true≢false}
+use Rattle.std.proofs.Common.{◌≡◌, refl, ap, ◌∙◌, ℕ, zero, suc, ◌<◌, arith, Bool, true, false, cond, not, ◌||◌, ◌&&◌, nat_lt, Option, Some, None}
+use Rattle.std.proofs.lemmas.Bool.{true≢false, ltb-true}
 use Rattle.cpp_grammar.specs.Items.{is_none_of, lref, collapsed}
-use Rattle.cpp_grammar.specs.Scope.{both_free, first_of}
+use Rattle.cpp_grammar.specs.Scope.{Free, none_free, one_free, several_free, both_free, first_of}
 use Rattle.cpp_grammar.specs.Term as term_
-use Rattle.cpp_term.specs.Term.{Term, alone, in_std, within, instance, local, holder, tagged, of_default, parameter, constructor, destructor, lambda, conversion, pointer, lvalue, rvalue, array, constrained, bounded, member_pointer, function_type, qualified, vector, complex, expansion, integer, pack, list}
-use Rattle.cpp_term.specs.Scope.{count, element, arguments_of, before_arguments, is_structor, without_tags, has_return_type, is_open, free_in, length_if_pack, pack_length}
+use Rattle.cpp_term.specs.Term.{Term, alone, in_std, within, instance, local, holder, tagged, of_default, parameter, constructor, destructor, lambda, conversion, pointer, lvalue, rvalue, array, constrained, bounded, member_pointer, function_type, qualified, vector, complex, expansion, integer, pack, list, absent}
+use Rattle.cpp_term.specs.Scope.{count, element, is_list, is_alone, has_pack, arguments_of, before_arguments, is_structor, without_tags, has_return_type, is_open, free_in, length_if_pack, pack_length}
 use Rattle.cpp_term.specs.Items.{Context, HeadClass, known, of_element, collapsed_of_element, collapsed_class, class_of, packs_of, is_empty}
 use Rattle.cpp_term.specs.Erased.{erase}
-use Rattle.cpp_term.specs.Reargued.{argument_or, reargued, reargued_if_there, bare, HeadFrom, of_its_own, of_argument, collapsed_of_argument, collapsed_from, head_from, class_from, is_empty_with}
+use Rattle.cpp_term.specs.Reargued.{if_alone, given_for, argument_or, given_alone, reargued, reargued_if_there, bare, HeadFrom, of_its_own, of_argument, collapsed_of_argument, collapsed_from, head_from, class_from, is_empty_with}
 use Rattle.cpp_term.proofs.Notes.{both, or_left, or_right}
 
 -- ## The tree
@@ -198,6 +198,22 @@ erase_reargued c (pack elements) = ap (λ x. term_.pack x) (erase_reargued c ele
 erase_reargued c (list e rest) = both (λ x y. term_.list x y) (erase_reargued c e) (erase_reargued c rest)
 erase_reargued c _ = refl
 
+pub list_reargued : (c : Option Term) (t : Term) → is_list (reargued c t) ≡ is_list t
+unfolding reargued is_list
+list_reargued c (list first rest) = refl
+list_reargued c _ = refl
+
+pub alone_reargued : (c : Option Term) (t : Term) → is_alone (reargued c t) ≡ is_alone t
+unfolding reargued is_alone
+alone_reargued c (pack elements) = refl
+alone_reargued c (list first rest) = refl
+alone_reargued c _ = ap not (open_reargued c _)
+
+pub has_pack_reargued : (c : Option Term) (t : Term) → has_pack (reargued c t) ≡ has_pack t
+unfolding reargued has_pack
+has_pack_reargued c (list first rest) = both (λ x y. not x || y) (alone_reargued c first) (has_pack_reargued c rest)
+has_pack_reargued c _ = refl
+
 pub count_reargued : (c : Option Term) (t : Term) → count (reargued c t) ≡ count t
 unfolding reargued count
 count_reargued c (list first rest) = ap suc (count_reargued c rest)
@@ -245,7 +261,80 @@ returns_reargued c t = go (arguments_of t) (arguments_of (reargued c t)) (argume
     go None (Some y) same = absurd (cc same)
     go (Some x) None same = absurd (cc same)
 
+-- ## What is given
+
+abbrev chosen : Bool → Term → Term
+chosen b t = elim b [ true ↦ t | false ↦ absent ]
+
+-- an argument that isn't a list is given as it is
+pub given_same : (a : Term) (k : ℕ) → is_list a ≡ false → given_for a k ≡ a
+unfolding given_for is_list
+given_same (list first rest) k e = absurd (true≢false e)
+given_same _ k e = refl
+
+chosen_given : (b : Bool) (t : Term) (k : ℕ) → given_for t k ≡ t → given_for (chosen b t) k ≡ chosen b t
+unfolding given_for
+chosen_given true t k is = is
+chosen_given false t k is = refl
+
+alone_given : (t : Term) (k : ℕ) → given_for (if_alone t) k ≡ if_alone t
+unfolding if_alone is_alone given_for
+alone_given (pack elements) k = refl
+alone_given (list first rest) k = refl
+alone_given t k = chosen_given (not (is_open t)) t k refl
+
+given_twice : (a : Term) (k : ℕ) → given_for (given_for a k) k ≡ given_for a k
+unfolding given_for
+given_twice (list first rest) k = alone_given (element (list first rest) k) k
+given_twice _ k = refl
+
+pub given_alone_twice : (a : Term) (f : Free) → given_alone (given_alone a f) f ≡ given_alone a f
+unfolding given_alone
+given_alone_twice a none_free = refl
+given_alone_twice a (one_free k) = given_twice a k
+given_alone_twice a (several_free m) = refl
+
+-- a tree with the head of its one parameter gets that one's argument alone
+pub reargued_lone : (a t : Term) → (head_from t ≡ of_its_own → ⊥) → reargued (Some (given_alone a (free_in t))) t ≡ reargued (Some a) t
+unfolding reargued argument_or head_from collapsed_from free_in given_alone
+reargued_lone a (rvalue t) other = ap (λ x. rvalue x) (reargued_lone a t (λ own. other (ap collapsed_from own)))
+reargued_lone a (qualified q t) other = ap (λ x. qualified q x) (reargued_lone a t other)
+reargued_lone a (parameter k argument) other = ap (λ x. parameter k x) (given_twice a k)
+reargued_lone a _ other = absurd (other refl)
+
+-- in a list without packs each element is given as it is
+alone_element : (a : Term) (k : ℕ) → has_pack a ≡ false → if_alone (element a k) ≡ element a k
+unfolding has_pack element if_alone is_alone is_open
+alone_element (list first rest) zero none = first_alone (is_alone first) refl (or_left (not (is_alone first)) (has_pack rest) none)
+  where
+    first_alone : (b : Bool) → is_alone first ≡ b → not b ≡ false → chosen (is_alone first) first ≡ first
+    first_alone true is e = ap (λ b. chosen b first) is
+    first_alone false is e = absurd (true≢false e)
+alone_element (list first rest) (suc k) none = alone_element rest k (or_right (not (is_alone first)) (has_pack rest) none)
+alone_element _ k none = refl
+
+pub given_element : (a : Term) (m k : ℕ) → nat_lt m (count a) ≡ true → has_pack a ≡ false → given_for a k ≡ element a k
+unfolding given_for count
+given_element (list first rest) m k less none = alone_element (list first rest) k none
+given_element _ m k less none = let under : m < 0 = ltb-true m 0 less in absurd (omega (arith, under))
+
 -- ## Packs
+
+chosen_length : (b : Bool) (t : Term) → length_if_pack t ≡ None → length_if_pack (chosen b t) ≡ None
+unfolding length_if_pack
+chosen_length true t is = is
+chosen_length false t is = refl
+
+alone_length : (t : Term) → length_if_pack (if_alone t) ≡ None
+unfolding if_alone is_alone length_if_pack
+alone_length (pack elements) = refl
+alone_length (list first rest) = refl
+alone_length t = chosen_length (not (is_open t)) t refl
+
+given_length : (a : Term) (k : ℕ) → length_if_pack (given_for a k) ≡ length_if_pack a
+unfolding given_for length_if_pack
+given_length (list first rest) k = alone_length (element (list first rest) k)
+given_length _ k = refl
 
 bare_first : (x y : Bool) (length : Option ℕ) {m n : Option ℕ} → m ≡ cond x length None → n ≡ cond y length None → first_of m n ≡ cond (x || y) length None
 unfolding first_of
@@ -265,7 +354,7 @@ pack_reargued a (local encoding entity discriminator) = pack_reargued a entity
 pack_reargued a (holder name) = pack_reargued a name
 pack_reargued a (tagged of_structor name tag) = pack_reargued a name
 pack_reargued a (of_default digits entity) = pack_reargued a entity
-pack_reargued a (parameter k argument) = refl
+pack_reargued a (parameter k argument) = given_length a k
 pack_reargued a (lambda parameters number) = pack_reargued a parameters
 pack_reargued a (conversion t) = pack_reargued a t
 pack_reargued a (constrained letter concept) = pack_reargued a concept
@@ -340,11 +429,11 @@ unfolding class_of
 any_number j k (pack elements) = refl
 any_number j k _ = refl
 
-pub class_reargued : (a t : Term) → class_of (reargued (Some a) t) ≡ class_from (head_from t) (class_of t) (class_of (parameter 0 a))
-unfolding reargued argument_or class_of head_from class_from
-class_reargued a (rvalue t) = ap collapsed_class (class_reargued a t) ∙ class_collapsed (head_from t) (class_of t) (class_of (parameter 0 a))
+pub class_reargued : (a t : Term) → class_of (reargued (Some a) t) ≡ class_from (head_from t) (class_of t) (class_of (parameter 0 (given_alone a (free_in t))))
+unfolding reargued argument_or class_of head_from class_from free_in given_alone
+class_reargued a (rvalue t) = ap collapsed_class (class_reargued a t) ∙ class_collapsed (head_from t) (class_of t) (class_of (parameter 0 (given_alone a (free_in t))))
 class_reargued a (qualified q t) = class_reargued a t
-class_reargued a (parameter k argument) = any_number k 0 a
+class_reargued a (parameter k argument) = any_number k 0 (given_for a k)
 class_reargued a _ = refl
 
 pub head_from_reargued : (c : Option Term) (t : Term) → head_from (reargued c t) ≡ head_from t

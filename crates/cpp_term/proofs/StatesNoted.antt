@@ -1,26 +1,27 @@
 -- What runs along with the bytes, annotated: the candidates of an encoding by its scope, and closed ones in any way.
 use Rattle.std.proofs.Common.{◌≡◌, refl, ap, sym, ◌∙◌, subst, ℕ, zero, suc, ◌+◌, List, [], ◌∷◌, ◌++◌, Bool, true, false, not, ◌||◌, ◌&&◌, nat_eq, nat_lt, slice_get, Option, Some, None, Result, Ok, Err}
-use Rattle.std.proofs.lemmas.Bool.{eqb-true, true≢false, false≢true}
+use Rattle.std.proofs.lemmas.Bool.{eqb-true, true≢false, false≢true, and_parts}
 use Rattle.std.proofs.lemmas.List.{append_assoc, append-nil}
 use Rattle.sym_core.specs.declared.refusal.Refusal.{Refusal}
 use Rattle.sym_core.specs.declared.refusal.Refusal.TheVariants.{BadReference}
 use Rattle.sym_link.specs.Reading.{Found, ◌>>=◌}
 use Rattle.sym_link.specs.Unfold.{found}
 use Rattle.cpp_grammar.specs.Term.{Term, parameter, function_type}
-use Rattle.cpp_grammar.specs.Scope.{count, element, is_open, length_if_pack, pack_length, Free, none_free, one_free, several_free, free_in}
+use Rattle.cpp_grammar.specs.Scope.{count, element, is_list, has_pack, is_open, length_if_pack, pack_length, Free, none_free, one_free, several_free, free_in}
 use Rattle.cpp_grammar.specs.Values as leaf_
 use Rattle.cpp_grammar.specs.Values.{Around, Prefix, prefix_tree, prefix_listed, Value, State, Candidate, tree_of, is_listed}
 use Rattle.cpp_grammar.specs.References.{appended, is_function_type, with_type, with_unqualified, with_prefix, with_packs, packs_in, substituted, parameter_named}
-use Rattle.cpp_grammar.specs.Rescoping.{with_holder, has_held, is_counted_alike, is_foreign, in_scope, with_free, restated, substituted_wide, numbered}
+use Rattle.cpp_grammar.specs.Rescoping.{with_holder, has_held, is_counted_alike, is_foreign, in_scope, under_scope, with_free, restated, substituted_wide, numbered}
 use Rattle.cpp_term.specs.Term as term_
 use Rattle.cpp_term.specs.Scope as scope_
 use Rattle.cpp_term.specs.Values as value_
 use Rattle.cpp_term.specs.References as noted_
 use Rattle.cpp_term.specs.Rescoping as wide_
 use Rattle.cpp_term.specs.Items as item_
-use Rattle.cpp_term.specs.Reargued.{reargued}
+use Rattle.cpp_term.specs.Reargued.{reargued, given_for}
 use Rattle.cpp_term.specs.Annotated.{Place, nowhere, around_place, place_in, in_own, in_arguments, argument_in, annotate, noted_scope, noted_value, noted_prefix, noted_around}
-use Rattle.cpp_term.proofs.Notes.{both, count_noted, element_noted, open_noted, closed_noted, length_noted, packs_noted, NameThis, renoted, free_noted}
+use Rattle.cpp_term.proofs.Reargued.{given_same, given_element}
+use Rattle.cpp_term.proofs.Notes.{both, count_noted, element_noted, list_noted, pack_noted, open_noted, closed_noted, length_noted, packs_noted, NameThis, renoted, free_noted}
 use Rattle.cpp_term.proofs.MeaningNoted.{three, tree_noted, listed_noted, prefix_tree_noted, prefix_listed_noted}
 
 -- ## Results
@@ -309,11 +310,24 @@ foreign_noted around c d n =
 abbrev pub Settled : Around → Type 0
 Settled around = around.in_lambda ≡ true → around.scope ≡ None
 
-meant_by : (around : Around) (by : Place) (t : Term) (k : ℕ) → free_in t ≡ one_free k → (arguments : Term) →
+meant_by : (around : Around) (by : Place) (t : Term) (k : ℕ) → free_in t ≡ one_free k → (arguments : Term) → scope_.is_list (scope_.element (annotate nowhere arguments) k) ≡ false →
     reargued (Some (scope_.element (annotate nowhere arguments) k)) (annotate by t) ≡ annotate (place_in (Some arguments) false) t
 unfolding place_in argument_in
-meant_by around by t k one arguments =
-    renoted (in_arguments (annotate nowhere arguments)) by (scope_.element (annotate nowhere arguments) k) t (subst (λ f. NameThis (in_arguments (annotate nowhere arguments)) (scope_.element (annotate nowhere arguments) k) f) (sym one) refl)
+meant_by around by t k one arguments alone =
+    let a : term_.Term = scope_.element (annotate nowhere arguments) k in
+    renoted (in_arguments (annotate nowhere arguments)) by a t (subst (λ f. NameThis (in_arguments (annotate nowhere arguments)) a f) (sym one) (sym (given_same a k alone)))
+
+-- a tree under the scope, in which there is an argument for each of its parameters, and no pack
+meant_under : (by : Place) (t : Term) (m : ℕ) → free_in t ≡ several_free m → (arguments : Term) → nat_lt m (scope_.count (annotate nowhere arguments)) ≡ true → scope_.has_pack (annotate nowhere arguments) ≡ false →
+    reargued (Some (annotate nowhere arguments)) (annotate by t) ≡ annotate (place_in (Some arguments) false) t
+unfolding place_in argument_in
+meant_under by t m several arguments less none =
+    let a : term_.Term = annotate nowhere arguments in
+    renoted (in_arguments a) by a t (subst (λ f. NameThis (in_arguments a) a f) (sym several) (λ k. sym (given_element a m k less none)))
+
+not_no : (b : Bool) → not b ≡ true → b ≡ false
+not_no true e = absurd (true≢false (sym e))
+not_no false e = refl
 
 scope_place : (around : Around) (arguments : Term) → around.scope ≡ Some arguments → place_in (Some arguments) false ≡ around_place true around
 unfolding place_in
@@ -338,50 +352,87 @@ in_scope_noted around place by t k x y one packs = go around.scope refl
     argument_ : Term → term_.Term
     argument_ arguments = scope_.element (annotate nowhere arguments) k
 
-    here : (arguments : Term) → around.scope ≡ Some arguments → reargued (Some (argument_ arguments)) (annotate by t) ≡ annotate (around_place true around) t
-    here arguments scope = meant_by around by t k one arguments ∙ ap (λ s. annotate s t) (scope_place around arguments scope)
+    here : (arguments : Term) → around.scope ≡ Some arguments → scope_.is_list (argument_ arguments) ≡ false → reargued (Some (argument_ arguments)) (annotate by t) ≡ annotate (around_place true around) t
+    here arguments scope alone = meant_by around by t k one arguments alone ∙ ap (λ s. annotate s t) (scope_place around arguments scope)
 
-    tested : (arguments : Term) → around.scope ≡ Some arguments → (b c : Bool) → c ≡ b → Alike (Comes true around x y)
+    tested : (arguments : Term) → around.scope ≡ Some arguments → (b c : Bool) → c ≡ b → (nat_lt k (scope_.count (annotate nowhere arguments)) && not (scope_.is_list (argument_ arguments))) ≡ c → Alike (Comes true around x y)
         (elim b [ false ↦ Err (BadReference place) | true ↦ with_packs place around.in_expansion (pack_length arguments t) x >>= λ z. Ok (found (leaf_.tree t true) z) ])
         (elim c [
           | false ↦ Err (BadReference place)
           | true ↦ noted_.with_packs place around.in_expansion (scope_.pack_length (reargued (Some (argument_ arguments)) (annotate by t))) y
               >>= λ z. Ok (found (value_.tree (reargued (Some (argument_ arguments)) (annotate by t)) true) z)
         ])
-    tested arguments scope false false f = refl
-    tested arguments scope true true f = onward arguments scope (pack_length arguments t) (scope_.pack_length (reargued (Some (argument_ arguments)) (annotate by t)))
-        (ap scope_.pack_length (meant_by around by t k one arguments) ∙ packs_noted (Some arguments) false t) (reargued (Some (argument_ arguments)) (annotate by t)) (here arguments scope)
-    tested arguments scope true false f = absurd cc
-    tested arguments scope false true f = absurd cc
+    tested arguments scope false false f h = refl
+    tested arguments scope true true f h =
+        let alone = not_no (scope_.is_list (argument_ arguments)) (and_parts (nat_lt k (scope_.count (annotate nowhere arguments))) (not (scope_.is_list (argument_ arguments))) h).1 in
+        onward arguments scope (pack_length arguments t) (scope_.pack_length (reargued (Some (argument_ arguments)) (annotate by t)))
+        (ap scope_.pack_length (meant_by around by t k one arguments alone) ∙ packs_noted (Some arguments) false t) (reargued (Some (argument_ arguments)) (annotate by t)) (here arguments scope alone)
+    tested arguments scope true false f h = absurd cc
+    tested arguments scope false true f h = absurd cc
 
     go : (o : Option Term) → around.scope ≡ o → Alike (Comes true around x y)
         (elim o [
           | None ↦ Err (BadReference place)
-          | Some arguments ↦ elim (nat_lt k (count arguments)) [ false ↦ Err (BadReference place) | true ↦ with_packs place around.in_expansion (pack_length arguments t) x >>= λ z. Ok (found (leaf_.tree t true) z) ]
+          | Some arguments ↦ elim (nat_lt k (count arguments) && not (is_list (element arguments k))) [ false ↦ Err (BadReference place) | true ↦ with_packs place around.in_expansion (pack_length arguments t) x >>= λ z. Ok (found (leaf_.tree t true) z) ]
         ])
         (elim (noted_scope o) [
           | None ↦ Err (BadReference place)
-          | Some arguments ↦ elim (nat_lt k (scope_.count arguments)) [
+          | Some arguments ↦ elim (nat_lt k (scope_.count arguments) && not (scope_.is_list (scope_.element arguments k))) [
             | false ↦ Err (BadReference place)
             | true ↦ noted_.with_packs place around.in_expansion (scope_.pack_length (reargued (Some (scope_.element arguments k)) (annotate by t))) y
                 >>= λ z. Ok (found (value_.tree (reargued (Some (scope_.element arguments k)) (annotate by t)) true) z)
           ]
         ])
     go None scope = refl
-    go (Some arguments) scope = tested arguments scope (nat_lt k (count arguments)) (nat_lt k (scope_.count (annotate nowhere arguments))) (ap (nat_lt k) (count_noted nowhere arguments))
+    go (Some arguments) scope = tested arguments scope (nat_lt k (count arguments) && not (is_list (element arguments k))) (nat_lt k (scope_.count (annotate nowhere arguments)) && not (scope_.is_list (argument_ arguments)))
+        (both (λ n b. nat_lt k n && not b) (count_noted nowhere arguments) (ap scope_.is_list (element_noted nowhere arguments k) ∙ list_noted nowhere (element arguments k))) refl
+
+under_scope_noted : (around : Around) (place : ℕ) (by : Place) (t : Term) (m : ℕ) (x : State) (y : value_.State) → free_in t ≡ several_free m → y.packs ≡ x.packs →
+    Alike (Comes true around x y) (under_scope around place t m x) (wide_.under_scope (noted_around true around) place (annotate by t) m y)
+unfolding under_scope wide_.under_scope noted_around noted_scope noted_value
+under_scope_noted around place by t m x y several packs = go around.scope refl
+  where
+    tested : (arguments : Term) → around.scope ≡ Some arguments → (b c : Bool) → c ≡ b → (nat_lt m (scope_.count (annotate nowhere arguments)) && not (scope_.has_pack (annotate nowhere arguments))) ≡ c → Alike (Comes true around x y)
+        (elim b [ false ↦ Err (BadReference place) | true ↦ Ok (found (leaf_.tree t true) x) ])
+        (elim c [ false ↦ Err (BadReference place) | true ↦ Ok (found (value_.tree (reargued (Some (annotate nowhere arguments)) (annotate by t)) true) y) ])
+    tested arguments scope false false f h = refl
+    tested arguments scope true true f h =
+        let parts = and_parts (nat_lt m (scope_.count (annotate nowhere arguments))) (not (scope_.has_pack (annotate nowhere arguments))) h in
+        record {
+          value = ap (λ u. value_.tree u true) (meant_under by t m several arguments parts.0 (not_no (scope_.has_pack (annotate nowhere arguments)) parts.1) ∙ ap (λ s. annotate s t) (scope_place around arguments scope));
+          moves = moves_none true around x x y y refl refl packs;
+        }
+    tested arguments scope true false f h = absurd cc
+    tested arguments scope false true f h = absurd cc
+
+    go : (o : Option Term) → around.scope ≡ o → Alike (Comes true around x y)
+        (elim o [
+          | None ↦ Err (BadReference place)
+          | Some arguments ↦ elim (nat_lt m (count arguments) && not (has_pack arguments)) [ false ↦ Err (BadReference place) | true ↦ Ok (found (leaf_.tree t true) x) ]
+        ])
+        (elim (noted_scope o) [
+          | None ↦ Err (BadReference place)
+          | Some arguments ↦ elim (nat_lt m (scope_.count arguments) && not (scope_.has_pack arguments)) [
+            | false ↦ Err (BadReference place)
+            | true ↦ Ok (found (value_.tree (reargued (Some arguments) (annotate by t)) true) y)
+          ]
+        ])
+    go None scope = refl
+    go (Some arguments) scope = tested arguments scope (nat_lt m (count arguments) && not (has_pack arguments)) (nat_lt m (scope_.count (annotate nowhere arguments)) && not (scope_.has_pack (annotate nowhere arguments)))
+        (both (λ n b. nat_lt m n && not b) (count_noted nowhere arguments) (pack_noted nowhere arguments)) refl
 
 own_names : (f : Free) → NameThis in_own item_.auto f
-unfolding argument_in
+unfolding argument_in given_for
 own_names none_free = tt
 own_names (one_free k) = refl
-own_names several_free = λ k. refl
+own_names (several_free m) = λ k. refl
 
 free_noted_bad : (f : Free) (around : Around) (place : ℕ) (by : Place) (t : Term) (x : State) (y : value_.State) → free_in t ≡ f → y.packs ≡ x.packs →
     Alike (Comes true around x y) (with_free f around place t x) (wide_.with_free f (noted_around true around) place (annotate by t) y)
 unfolding with_free wide_.with_free
 free_noted_bad none_free around place by t x y e packs = refl
 free_noted_bad (one_free k) around place by t x y e packs = in_scope_noted around place by t k x y e packs
-free_noted_bad several_free around place by t x y e packs = refl
+free_noted_bad (several_free m) around place by t x y e packs = under_scope_noted around place by t m x y e packs
 
 restated_noted : (around : Around) (place : ℕ) (by : Place) (t : Term) (x : State) (y : value_.State) → Settled around → y.packs ≡ x.packs →
     Alike (Comes true around x y) (restated around place t x) (wide_.restated (noted_around true around) place (annotate by t) y)

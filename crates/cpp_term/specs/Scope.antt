@@ -107,6 +107,21 @@ free_in (pack elements) = free_in elements
 free_in (list first rest) = both_free (free_in first) (free_in rest)
 free_in _ = none_free
 
+unfoldable pub is_list : Term → Bool
+is_list (list first rest) = true
+is_list _ = false
+
+-- an argument by itself: no pack of arguments, and no list of them, and no parameter is free in it
+unfoldable pub is_alone : Term → Bool
+is_alone (pack elements) = false
+is_alone (list first rest) = false
+is_alone t = not (is_open t)
+
+-- among the elements of a list is a pack, or what else is no argument by itself
+unfoldable pub has_pack : Term → Bool
+has_pack (list first rest) = not (is_alone first) || has_pack rest
+has_pack _ = false
+
 unfoldable pub length_if_pack : Term → Option ℕ
 length_if_pack (pack elements) = Some (count elements)
 length_if_pack _ = None

@@ -23,7 +23,7 @@ ghost use Rattle.cpp_term.specs.Annotated.{noted_item, noted_parts, noted_tree};
 ghost use Rattle.cpp_term.specs.Answer.{noted_shown, noted_answer};
 ghost use Rattle.cpp_term.specs.Erased.{erase, CarriesArguments};
 ghost use Rattle.cpp_term.specs.Items as items;
-ghost use Rattle.cpp_term.specs.Reargued.{reargued, bare, head_from, class_from, is_empty_with};
+ghost use Rattle.cpp_term.specs.Reargued.{reargued, given_alone, bare, head_from, class_from, is_empty_with};
 ghost use Rattle.cpp_term.specs.Scope.{is_open, free_in, length_if_pack, pack_length};
 ghost use Rattle.cpp_term.specs.ReadAs.{IsReadAs};
 ghost use Rattle.cpp_term.specs.Term.{Term, symbol, parameter};
@@ -69,8 +69,8 @@ pub fn answers_are_the_same()
     ensures abi { (detail : Detail) (limit : ℕ) (shape : Tree) → IsTree either (Kind 0) shape → noted_answer detail limit (unfolded_.unfold_cpp shape) ≡ answer_within detail limit (unfolding_.unfold_cpp shape) }
 {}
 
-/// A tree with another argument in each of its free parameters: without one it is the tree, the outer one of two counts, and it
-/// changes nothing where no parameter is free, nor what is left without arguments. The length of its packs, the head of a type and
+/// A tree with another argument in each of its free parameters, or with the elements of a list: without one it is the tree, the outer
+/// one of two counts, and it changes nothing where no parameter is free, nor what is left without arguments. The length of its packs, the head of a type and
 /// whether it prints nothing are those of the tree, or follow from the argument.
 pub fn arguments_are_replaced()
     ensures none { (t : Term) → reargued None t ≡ t }
@@ -80,6 +80,6 @@ pub fn arguments_are_replaced()
     ensures free { (c : Option Term) (t : Term) → free_in (reargued c t) ≡ free_in t }
     ensures erased { (c : Option Term) (t : Term) → erase (reargued c t) ≡ erase t }
     ensures packs { (a t : Term) → pack_length (reargued (Some a) t) ≡ cond (bare t) (length_if_pack a) None }
-    ensures head { (a t : Term) → items.class_of (reargued (Some a) t) ≡ class_from (head_from t) (items.class_of t) (items.class_of (parameter 0 a)) }
+    ensures head { (a t : Term) → items.class_of (reargued (Some a) t) ≡ class_from (head_from t) (items.class_of t) (items.class_of (parameter 0 (given_alone a (free_in t)))) }
     ensures empty { (context : items.Context) (a t : Term) → items.is_empty context (reargued (Some a) t) ≡ is_empty_with (is_none_of (length_if_pack a)) t }
 {}

@@ -1,5 +1,5 @@
 -- Whether a tree has free parameters, by which they are.
-use Rattle.std.proofs.Common.{◌≡◌, refl, ap, ◌∙◌, sym, nat_eq, ℕ, length, ◌<◌, Bool, true, false, ◌||◌}
+use Rattle.std.proofs.Common.{◌≡◌, refl, ap, ◌∙◌, sym, nat_eq, max, ℕ, length, ◌<◌, Bool, true, false, ◌||◌}
 use Rattle.cpp_grammar.specs.Scope.{Free, none_free, one_free, several_free, both_free}
 use Rattle.cpp_term.specs.Term.{Term, alone, in_std, within, instance, local, holder, tagged, of_default, lambda, conversion, pointer, lvalue, rvalue, array, constrained, bounded, member_pointer, function_type, qualified, vector, complex, expansion, integer, pack, list}
 use Rattle.cpp_term.specs.Scope.{is_open, free_in}
@@ -12,11 +12,13 @@ has-either none_free g = refl
 has-either (one_free j) none_free = refl
 has-either (one_free j) (one_free k) = same-or-not (nat_eq j k)
   where
-    same-or-not : (same : Bool) → true ≡ has_free (elim same [ true ↦ one_free j | false ↦ several_free ])
+    same-or-not : (same : Bool) → true ≡ has_free (elim same [ true ↦ one_free j | false ↦ several_free (max j k) ])
     same-or-not true = refl
     same-or-not false = refl
-has-either (one_free j) several_free = refl
-has-either several_free g = refl
+has-either (one_free j) (several_free m) = refl
+has-either (several_free m) none_free = refl
+has-either (several_free m) (one_free k) = refl
+has-either (several_free m) (several_free n) = refl
 
 either-open : {a b : Bool} (f g : Free) → a ≡ has_free f → b ≡ has_free g → a || b ≡ has_free (both_free f g)
 either-open f g e h = both (λ x y. x || y) e h ∙ has-either f g

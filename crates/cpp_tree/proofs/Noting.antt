@@ -1,5 +1,5 @@
 -- What is noted of a node is what its tree has.
-use Rattle.std.proofs.Common.{◌≡◌, refl, sym, ap, ◌∙◌, ℕ, zero, suc, ◌+◌, ◌-◌, ◌<◌, ◌≤◌, arith, List, length, Bool, true, false, not, cond, nat_eq, ◌&&◌, Option, None, Some}
+use Rattle.std.proofs.Common.{◌≡◌, refl, sym, ap, ◌∙◌, ℕ, zero, suc, ◌+◌, ◌-◌, ◌<◌, ◌≤◌, arith, List, length, Bool, true, false, not, cond, nat_eq, max, ◌||◌, ◌&&◌, Option, None, Some}
 use Rattle.std.proofs.lemmas.Bool.{eqb-true, true≢false}
 use Rattle.cpp_term.specs.Term.{Term}
 use Rattle.cpp_term.specs.Scope.{free_in}
@@ -7,11 +7,11 @@ use Rattle.cpp_grammar.specs.Scope as scope
 use Rattle.cpp_term.proofs.Notes.{both}
 use Rattle.cpp_tree.specs.declared.node.Piece.{Piece}
 use Rattle.cpp_tree.specs.declared.node.Node.{Node}
-use Rattle.cpp_tree.specs.Nodes.{Table, tree_at, piece_of, tree_of, trees, entry_at, IsPieceBelow, IsBelow, IsThereBelow, IsPlacedBelow, IsClassBelow, IsPlacedThere, IsTable, tree_if_there, placed_tree, class_is, head_of, placed_if_there, untagged_is, head_noted, by_argument_of, free_is, is_again, IsFlat, IsNoted}
+use Rattle.cpp_tree.specs.Nodes.{Table, tree_at, piece_of, tree_of, trees, entry_at, IsPieceBelow, IsBelow, IsThereBelow, IsPlacedBelow, IsClassBelow, IsPlacedThere, IsTable, tree_if_there, placed_tree, class_is, head_of, placed_if_there, untagged_is, head_noted, by_argument_of, free_is, is_again, IsFlat, IsLone, IsSettled, IsNoted}
 use Rattle.cpp_term.specs.Term as term
 use Rattle.cpp_grammar.specs.Items as heads
 use Rattle.cpp_term.specs.Items as items
-use Rattle.cpp_term.specs.Scope.{arguments_of, without_tags, before_arguments, pack_length, length_if_pack, is_structor, has_return_type, count, element}
+use Rattle.cpp_term.specs.Scope.{arguments_of, without_tags, before_arguments, pack_length, length_if_pack, is_structor, has_return_type, count, element, is_alone, has_pack, is_open}
 use Rattle.cpp_tree.specs.declared.node.Head.{Head}
 use Rattle.cpp_tree.specs.declared.node.Placed.{Placed}
 use Rattle.cpp_tree.specs.declared.node.HeadClass.{HeadClass}
@@ -19,9 +19,11 @@ use Rattle.cpp_tree.specs.declared.node.HeadFrom.{HeadFrom}
 use Rattle.cpp_tree.specs.declared.node.Free.{Free}
 use Rattle.cpp_tree.specs.declared.node.ByArgument.{ByArgument}
 use Rattle.cpp_term.specs.Reargued as again
-use Rattle.cpp_term.specs.Reargued.{reargued, reargued_if_there, argument_or, bare, head_from, class_from, is_empty_with}
-use Rattle.cpp_term.proofs.Reargued.{reargued_none, reargued_twice, free_reargued, count_reargued, arguments_reargued, untagged_reargued, structor_reargued, returns_reargued, bare_reargued, length_reargued, head_from_reargued, empty_with_reargued, pack_reargued, class_reargued, empty_reargued}
-use Rattle.cpp_tree.specs.Notes.{free_at, both_free, piece_frees, frees, by_argument_at, passed, joined, piece_by_argument, collapses_from, of_expansion, of_pack, of_head, node_by_argument, empty_by, place_of, resolved_at, shape_at, placed_under, if_own, packs_by, empties, ends_in, or_itself, untagging, collapses, pack_class, argument_class, class_by, classes, packs_at, argument_packs, piece_packs, packing, is_structor_piece, is_structor_node, returning, counting, running, noting}
+use Rattle.cpp_term.specs.Reargued.{reargued, reargued_if_there, argument_or, given_alone, bare, head_from, class_from, is_empty_with}
+use Rattle.cpp_tree.specs.declared.node.Entry.{Entry}
+use Rattle.cpp_tree.proofs.FreeParameters.{node-open}
+use Rattle.cpp_term.proofs.Reargued.{reargued_none, reargued_twice, reargued_lone, given_alone_twice, open_reargued, alone_reargued, has_pack_reargued, free_reargued, count_reargued, arguments_reargued, untagged_reargued, structor_reargued, returns_reargued, bare_reargued, length_reargued, head_from_reargued, empty_with_reargued, pack_reargued, class_reargued, empty_reargued}
+use Rattle.cpp_tree.specs.Notes.{free_at, both_free, piece_frees, frees, by_argument_at, passed, joined, piece_by_argument, collapses_from, of_expansion, of_pack, of_head, node_by_argument, empty_by, place_of, resolved_at, shape_at, placed_under, if_own, packs_by, empties, ends_in, or_itself, untagging, collapses, pack_class, argument_class, class_by, classes, packs_at, argument_packs, piece_packs, packing, is_structor_piece, is_structor_node, is_argument_node, alone_at, having_pack, returning, counting, running, noting}
 
 one-more : (n : ℕ) → 1 + n ≡ suc n
 one-more n = omega arith
@@ -61,13 +63,40 @@ pub record IsPlain (t : Term) : Type 0 where
   pub no_tags : without_tags t ≡ t
   pub returns_none : has_return_type t ≡ false
   pub no_elements : count t ≡ 0
+  pub no_pack : has_pack t ≡ false
 
 is-plain : (t : Term) → (head_noted (head_from t) ≡ HeadFrom.Own → ⊥) → IsPlain t
-unfolding head_noted head_from arguments_of without_tags has_return_type count
-is-plain (term.parameter k a) other = record { no_arguments = refl; no_tags = refl; returns_none = refl; no_elements = refl }
-is-plain (term.rvalue t) other = record { no_arguments = refl; no_tags = refl; returns_none = refl; no_elements = refl }
-is-plain (term.qualified q t) other = record { no_arguments = refl; no_tags = refl; returns_none = refl; no_elements = refl }
+unfolding head_noted head_from arguments_of without_tags has_return_type count has_pack
+is-plain (term.parameter k a) other = record { no_arguments = refl; no_tags = refl; returns_none = refl; no_elements = refl; no_pack = refl }
+is-plain (term.rvalue t) other = record { no_arguments = refl; no_tags = refl; returns_none = refl; no_elements = refl; no_pack = refl }
+is-plain (term.qualified q t) other = record { no_arguments = refl; no_tags = refl; returns_none = refl; no_elements = refl; no_pack = refl }
 is-plain _ other = absurd (other refl)
+
+own-noted : (h : again.HeadFrom) → HeadFrom.Own ≡ head_noted h → h ≡ again.of_its_own
+unfolding head_noted
+own-noted again.of_its_own is = refl
+own-noted again.of_argument is = absurd cc
+own-noted again.collapsed_of_argument is = absurd cc
+
+-- ## What a tree that is there again is given
+
+lone-class : (a t : Term) → IsLone a t → items.class_of (reargued (Some a) t) ≡ class_from (head_from t) (items.class_of t) (items.class_of (term.parameter 0 a))
+unfolding class_from
+lone-class a t lone = class_reargued a t ∙ go (head_from t) refl
+  where
+    alone : (head_from t ≡ again.of_its_own → ⊥) → items.class_of (term.parameter 0 (given_alone a (free_in t))) ≡ items.class_of (term.parameter 0 a)
+    alone other = ap (λ x. items.class_of (term.parameter 0 x)) (lone other)
+
+    go : (h : again.HeadFrom) → head_from t ≡ h → class_from h (items.class_of t) (items.class_of (term.parameter 0 (given_alone a (free_in t)))) ≡ class_from h (items.class_of t) (items.class_of (term.parameter 0 a))
+    go again.of_its_own is = refl
+    go again.of_argument is = alone (λ own. let clash : again.of_argument ≡ again.of_its_own = sym is ∙ own in absurd cc)
+    go again.collapsed_of_argument is = ap items.collapsed_class (alone (λ own. let clash : again.collapsed_of_argument ≡ again.of_its_own = sym is ∙ own in absurd cc))
+
+pub lone-given : (g a t : Term) → g ≡ given_alone a (free_in t) → IsLone g t
+lone-given g a t is other = ap (λ x. given_alone x (free_in t)) is ∙ given_alone_twice a (free_in t) ∙ sym is
+
+pub same-given : (g a t : Term) → g ≡ given_alone a (free_in t) → (head_from t ≡ again.of_its_own → ⊥) → reargued (Some g) t ≡ reargued (Some a) t
+same-given g a t is other = ap (λ x. reargued (Some x) t) is ∙ reargued_lone a t other
 
 packs-chosen : (b : Bool) (given : Option ℕ) → packs_by b given ≡ cond b given None
 unfolding packs_by
@@ -94,11 +123,13 @@ both-is Free.None b = refl
 both-is (Free.One j) Free.None = refl
 both-is (Free.One j) (Free.One k) = one-is (nat_eq j k)
   where
-    one-is : (same : Bool) → free_is (elim same [ true ↦ Free.One j | false ↦ Free.Several ]) ≡ elim same [ true ↦ scope.one_free j | false ↦ scope.several_free ]
+    one-is : (same : Bool) → free_is (elim same [ true ↦ Free.One j | false ↦ Free.Several (max j k) ]) ≡ elim same [ true ↦ scope.one_free j | false ↦ scope.several_free (max j k) ]
     one-is true = refl
     one-is false = refl
-both-is (Free.One j) Free.Several = refl
-both-is Free.Several b = refl
+both-is (Free.One j) (Free.Several m) = refl
+both-is (Free.Several m) Free.None = refl
+both-is (Free.Several m) (Free.One k) = refl
+both-is (Free.Several m) (Free.Several n) = refl
 
 both-are : (a b : Free) {f g : scope.Free} → free_is a ≡ f → free_is b ≡ g → free_is (both_free a b) ≡ scope.both_free f g
 both-are a b e h = both-is a b ∙ both scope.both_free e h
@@ -232,6 +263,14 @@ module _ (y : Table) (table : IsTable y) where
   unfolding by_argument_of
   head-at t less = ap (λ l. l.head) (by-argument-at t less)
 
+  -- whether a tree's head is its own
+  pub own-at : (t : ℕ) (held : Entry) → t < length y.nodes → held ≡ entry_at y.nodes t → held.by_argument.head ≡ HeadFrom.Own → head_from (tree_at (trees y) t) ≡ again.of_its_own
+  own-at t held less at own = own-noted (head_from (tree_at (trees y) t)) (sym own ∙ ap (λ e. e.by_argument.head) at ∙ head-at t less)
+
+  pub other-at : (t : ℕ) (held : Entry) → t < length y.nodes → held ≡ entry_at y.nodes t → (held.by_argument.head ≡ HeadFrom.Own → ⊥) → head_from (tree_at (trees y) t) ≡ again.of_its_own → ⊥
+  unfolding head_noted
+  other-at t held less at other own = other (ap (λ e. e.by_argument.head) at ∙ head-at t less ∙ ap head_noted own)
+
   plain-at : (t : ℕ) → t < length y.nodes → ((by_argument_at y.nodes t).head ≡ HeadFrom.Own → ⊥) → IsPlain (tree_at (trees y) t)
   plain-at t less other = is-plain (tree_at (trees y) t) (λ e. other (head-at t less ∙ e))
 
@@ -357,22 +396,34 @@ module _ (y : Table) (table : IsTable y) where
   class-chosen again.of_argument own given = refl
   class-chosen again.collapsed_of_argument own given = collapse-is (trees y) given
 
-  pub class-again : (t a : ℕ) → t < length y.nodes → a < length y.nodes
-      → class_is (trees y) (class_by (by_argument_at y.nodes t).head (entry_at y.nodes t).class (argument_class y.nodes a)) ≡ items.class_of (reargued (Some (tree_at (trees y) a)) (tree_at (trees y) t))
-  class-again t a less few =
+  -- the head of a tree, by that of a parameter with this argument
+  class-given : (t a : ℕ) → t < length y.nodes → a < length y.nodes
+      → class_is (trees y) (class_by (by_argument_at y.nodes t).head (entry_at y.nodes t).class (argument_class y.nodes a)) ≡ class_from (head_from (tree_at (trees y) t)) (items.class_of (tree_at (trees y) t)) (items.class_of (term.parameter 0 (tree_at (trees y) a)))
+  class-given t a less few =
       ap (λ h. class_is (trees y) (class_by h (entry_at y.nodes t).class (argument_class y.nodes a))) (head-at t less)
       ∙ class-chosen (head_from (tree_at (trees y) t)) (entry_at y.nodes t).class (argument_class y.nodes a)
       ∙ ap (λ c. class_from (head_from (tree_at (trees y) t)) c (class_is (trees y) (argument_class y.nodes a))) (table.each t less).class
       ∙ ap (class_from (head_from (tree_at (trees y) t)) (items.class_of (tree_at (trees y) t))) (argument-is 0 a few)
-      ∙ sym (class_reargued (tree_at (trees y) a) (tree_at (trees y) t))
 
-  pub node-class : (n : Node) → IsBelow y.bytes (length y.thunks) (length y.nodes) n → class_is (trees y) (classes y.nodes n) ≡ items.class_of (tree_of y.bytes y.thunks (trees y) n)
+  class-again : (t a : ℕ) → t < length y.nodes → a < length y.nodes → IsLone (tree_at (trees y) a) (tree_at (trees y) t)
+      → class_is (trees y) (class_by (by_argument_at y.nodes t).head (entry_at y.nodes t).class (argument_class y.nodes a)) ≡ items.class_of (reargued (Some (tree_at (trees y) a)) (tree_at (trees y) t))
+  class-again t a less few lone = class-given t a less few ∙ sym (lone-class (tree_at (trees y) a) (tree_at (trees y) t) lone)
+
+  -- and by what its one parameter is given
+  pub class-by-given : (t g : ℕ) (a : Term) → t < length y.nodes → g < length y.nodes → tree_at (trees y) g ≡ given_alone a (free_in (tree_at (trees y) t))
+      → class_is (trees y) (class_by (by_argument_at y.nodes t).head (entry_at y.nodes t).class (argument_class y.nodes g)) ≡ items.class_of (reargued (Some a) (tree_at (trees y) t))
+  class-by-given t g a less few is =
+      class-given t g less few
+      ∙ ap (λ x. class_from (head_from (tree_at (trees y) t)) (items.class_of (tree_at (trees y) t)) (items.class_of (term.parameter 0 x))) is
+      ∙ sym (class_reargued a (tree_at (trees y) t))
+
+  pub node-class : (n : Node) → IsSettled (trees y) n → IsBelow y.bytes (length y.thunks) (length y.nodes) n → class_is (trees y) (classes y.nodes n) ≡ items.class_of (tree_of y.bytes y.thunks (trees y) n)
   unfolding classes class_is tree_of items.class_of head_of
-  node-class (Node.Rvalue t) b = collapse-is (trees y) (entry_at y.nodes t).class ∙ ap items.collapsed_class (table.each t b).class
-  node-class (Node.Qualified q t) b = (table.each t b).class
-  node-class (Node.Parameter k a) b = argument-is k a b
-  node-class (Node.Again t a) b = class-again t a b.0 b.1
-  node-class _ b = refl
+  node-class (Node.Rvalue t) lone b = collapse-is (trees y) (entry_at y.nodes t).class ∙ ap items.collapsed_class (table.each t b).class
+  node-class (Node.Qualified q t) lone b = (table.each t b).class
+  node-class (Node.Parameter k a) lone b = argument-is k a b
+  node-class (Node.Again t a) lone b = class-again t a b.0 b.1 lone
+  node-class _ lone b = refl
 
   pub class-later : (i n : ℕ) (c : HeadClass) → i < n → IsClassBelow i c → IsClassBelow n c
   class-later i n (HeadClass.Known h) less b = tt
@@ -573,16 +624,49 @@ module _ (y : Table) (table : IsTable y) where
   node-run-below (Node.Cell first rest) b = run-below (nat_eq (rest + 1) (length y.nodes)) rest (entry_at y.nodes rest).run b.1 (table.each rest b.1).run_below
   node-run-below _ b = omega arith
 
+  alone-node : (n : Node) → is_again n ≡ false → is_argument_node n && not (is_open (tree_of y.bytes y.thunks (trees y) n)) ≡ is_alone (tree_of y.bytes y.thunks (trees y) n)
+  unfolding is_argument_node tree_of is_alone is_again
+  alone-node (Node.Pack elements) flat = refl
+  alone-node (Node.Cell first rest) flat = refl
+  alone-node (Node.Again t a) flat = absurd (true≢false flat)
+  alone-node _ flat = refl
+
+  -- whether a node's tree is an argument by itself
+  pub alone-shape : (i : ℕ) → i < length y.nodes → is_argument_node (shape_at y.nodes i) && not (is_open (tree_at (trees y) i)) ≡ is_alone (tree_at (trees y) i)
+  unfolding placed_tree
+  alone-shape i less =
+      let r = resolved_at y.nodes i in
+      let u = tree_if_there (trees y) r.under in
+      let built = (table.each r.node (place-below i less)).built in
+      let opened : is_open (tree_at (trees y) i) ≡ is_open (tree_of y.bytes y.thunks (trees y) (shape_at y.nodes i)) = ap is_open (sym (place-is i less)) ∙ open_reargued u (tree_at (trees y) r.node) ∙ ap is_open built in
+      ap (λ b. is_argument_node (shape_at y.nodes i) && not b) opened ∙ alone-node (shape_at y.nodes i) (shape-flat i less) ∙ ap is_alone (sym built)
+      ∙ sym (alone_reargued u (tree_at (trees y) r.node)) ∙ ap is_alone (place-is i less)
+
+  alone-is : (i : ℕ) → i < length y.nodes → alone_at y.nodes i ≡ is_alone (tree_at (trees y) i)
+  alone-is i less = ap (λ b. is_argument_node (shape_at y.nodes i) && not b) (node-open y i table less) ∙ alone-shape i less
+
+  told-again : (t a : ℕ) (h : HeadFrom) → t < length y.nodes → (by_argument_at y.nodes t).head ≡ h → if_own h (entry_at y.nodes t).has_pack false ≡ has_pack (tree_at (trees y) t)
+  unfolding if_own
+  told-again t a HeadFrom.Own less is = (table.each t less).pack_told
+  told-again t a HeadFrom.Argument less is = sym (plain-at t less (λ o. cc (is, o))).no_pack
+  told-again t a HeadFrom.Collapsed less is = sym (plain-at t less (λ o. cc (is, o))).no_pack
+
+  pub node-told : (n : Node) → IsBelow y.bytes (length y.thunks) (length y.nodes) n → having_pack y.nodes n ≡ has_pack (tree_of y.bytes y.thunks (trees y) n)
+  unfolding having_pack tree_of has_pack
+  node-told (Node.Cell first rest) b = both (λ x z. not x || z) (alone-is first b.0) (table.each rest b.1).pack_told
+  node-told (Node.Again t a) b = told-again t a (by_argument_at y.nodes t).head b.0 refl ∙ sym (has_pack_reargued (Some (tree_at (trees y) a)) (tree_at (trees y) t))
+  node-told _ b = refl
+
   -- what is noted of a node by these
-  pub noted : (n : Node) → IsFlat y.nodes n → IsBelow y.bytes (length y.thunks) (length y.nodes) n → IsNoted y (noting y.nodes n)
-  noted n flat b = record {
+  pub noted : (n : Node) → IsFlat y.nodes n → IsSettled (trees y) n → IsBelow y.bytes (length y.thunks) (length y.nodes) n → IsNoted y (noting y.nodes n)
+  noted n flat lone b = record {
     below = b;
     packs = node-pack n b;
     free = node-free n b;
     empty = node-empty n b;
     by_argument = node-by-argument n b;
     flat = flat;
-    class = node-class n b;
+    class = node-class n lone b;
     class_below = node-class-below n b;
     arguments = node-ends n b;
     arguments_below = node-ends-below n b;
@@ -593,4 +677,5 @@ module _ (y : Table) (table : IsTable y) where
     count_below = node-count-below n b;
     runs = node-runs n b;
     run_below = node-run-below n b;
+    pack_told = node-told n b;
   }

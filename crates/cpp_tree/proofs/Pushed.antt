@@ -3,7 +3,7 @@ use Rattle.std.proofs.Common.{◌≡◌, refl, sym, ◌∙◌, ap, subst, arith,
 use Rattle.std.proofs.lemmas.List.Elements.{All-push}
 use Rattle.cpp_term.specs.Term.{Term, absent}
 use Rattle.cpp_term.specs.Items as items
-use Rattle.cpp_term.specs.Scope.{pack_length, free_in, arguments_of, without_tags, has_return_type, count, element}
+use Rattle.cpp_term.specs.Scope.{pack_length, free_in, arguments_of, without_tags, has_return_type, count, element, has_pack}
 use Rattle.cpp_tree.specs.declared.node.Node.{Node}
 use Rattle.cpp_tree.specs.declared.node.Piece.{Piece}
 use Rattle.cpp_tree.specs.declared.node.Thunk.{Thunk}
@@ -130,7 +130,7 @@ split (suc i) zero less = absurd (omega (arith, less))
 split (suc i) (suc n) less = elim (split i n (omega (arith, less))) [ inl a ↦ inl (omega (arith, a)) | inr b ↦ inr (ap suc b) ]
 
 abbrev no_entry : Entry
-no_entry = record { node = Node.Absent; packs = None; free = Free.None; is_empty = false; by_argument = by_none false; class = HeadClass.Known Head.Plain; arguments = None; untagged = None; returns = false; count = 0; run = 0 }
+no_entry = record { node = Node.Absent; packs = None; free = Free.None; is_empty = false; by_argument = by_none false; class = HeadClass.Known Head.Plain; arguments = None; untagged = None; returns = false; count = 0; run = 0; has_pack = false }
 
 flat-new : (y : Table) (e : Entry) (n : Node) → IsBelow y.bytes (length y.thunks) (length y.nodes) n → IsFlat y.nodes n → IsFlat (y.nodes ++ e ∷ []) n
 flat-new y e (Node.Again t a) b flat = ap (λ x. is_again x.node) (get-early y.nodes e no_entry t b.0) ∙ flat
@@ -172,6 +172,7 @@ module _ (y : Table) (e : Entry) (table : IsTable y) (noted : IsNoted y e) where
         count_below = was.count_below;
         runs = λ k n most_k. ap (λ t. element t (suc k + n)) here ∙ was.runs k n most_k ∙ ap (λ t. element t n) (sym (get-early (trees y) own absent (i - suc k) (omega (arith, less, table.many))));
         run_below = was.run_below;
+        pack_told = was.pack_told ∙ ap has_pack (sym here);
       }
 
   last : tree_at (trees y ++ own ∷ []) (length y.nodes) ≡ own
@@ -200,6 +201,7 @@ module _ (y : Table) (e : Entry) (table : IsTable y) (noted : IsNoted y e) where
         count_below = noted.count_below;
         runs = λ k n most_k. ap (λ t. element t (suc k + n)) last ∙ noted.runs k n most_k ∙ ap (λ t. element t n) (sym (get-early (trees y) own absent (length y.nodes - suc k) (omega (arith, table.fixed, table.many))));
         run_below = noted.run_below;
+        pack_told = noted.pack_told ∙ ap has_pack (sym last);
       }
 
   abbrev none : Entry
@@ -250,11 +252,11 @@ abbrev first-four : List ℕ → List Thunk → Table
 first-four s us = record { bytes = s; nodes = bare_entry Node.Absent false ∷ bare_entry Node.Nil true ∷ bare_entry (Node.Pack 1) true ∷ bare_entry (Node.BuiltinWithD 97) false ∷ []; thunks = us }
 
 each-begins : (s : List ℕ) (us : List Thunk) (i : ℕ) → i < 4 → IsEntry (first-four s us) (trees (first-four s us)) i (entry_at (first-four s us).nodes i)
-unfolding trees_onto tree_of pack_length free_in free_is by_argument_of bare head_from is_empty_with head_noted arguments_of placed_if_there without_tags untagged_is has_return_type count items.is_empty items.class_of class_is head_of
-each-begins s us zero less = record { built = refl; below = tt; packs = refl; free = refl; empty = refl; by_argument = refl; flat = tt; class = refl; class_below = tt; arguments = refl; arguments_below = tt; untagged = refl; untagged_below = tt; returns = refl; counted = refl; count_below = omega arith; runs = λ k n most. absurd (omega (arith, most)); run_below = omega arith }
-each-begins s us (suc zero) less = record { built = refl; below = tt; packs = refl; free = refl; empty = refl; by_argument = refl; flat = tt; class = refl; class_below = tt; arguments = refl; arguments_below = tt; untagged = refl; untagged_below = tt; returns = refl; counted = refl; count_below = omega arith; runs = λ k n most. absurd (omega (arith, most)); run_below = omega arith }
-each-begins s us (suc (suc zero)) less = record { built = refl; below = omega arith; packs = refl; free = refl; empty = refl; by_argument = refl; flat = tt; class = refl; class_below = tt; arguments = refl; arguments_below = tt; untagged = refl; untagged_below = tt; returns = refl; counted = refl; count_below = omega arith; runs = λ k n most. absurd (omega (arith, most)); run_below = omega arith }
-each-begins s us (suc (suc (suc zero))) less = record { built = refl; below = tt; packs = refl; free = refl; empty = refl; by_argument = refl; flat = tt; class = refl; class_below = tt; arguments = refl; arguments_below = tt; untagged = refl; untagged_below = tt; returns = refl; counted = refl; count_below = omega arith; runs = λ k n most. absurd (omega (arith, most)); run_below = omega arith }
+unfolding trees_onto tree_of pack_length free_in free_is by_argument_of bare head_from is_empty_with head_noted arguments_of placed_if_there without_tags untagged_is has_return_type count has_pack items.is_empty items.class_of class_is head_of
+each-begins s us zero less = record { built = refl; below = tt; packs = refl; free = refl; empty = refl; by_argument = refl; flat = tt; class = refl; class_below = tt; arguments = refl; arguments_below = tt; untagged = refl; untagged_below = tt; returns = refl; counted = refl; count_below = omega arith; runs = λ k n most. absurd (omega (arith, most)); run_below = omega arith; pack_told = refl }
+each-begins s us (suc zero) less = record { built = refl; below = tt; packs = refl; free = refl; empty = refl; by_argument = refl; flat = tt; class = refl; class_below = tt; arguments = refl; arguments_below = tt; untagged = refl; untagged_below = tt; returns = refl; counted = refl; count_below = omega arith; runs = λ k n most. absurd (omega (arith, most)); run_below = omega arith; pack_told = refl }
+each-begins s us (suc (suc zero)) less = record { built = refl; below = omega arith; packs = refl; free = refl; empty = refl; by_argument = refl; flat = tt; class = refl; class_below = tt; arguments = refl; arguments_below = tt; untagged = refl; untagged_below = tt; returns = refl; counted = refl; count_below = omega arith; runs = λ k n most. absurd (omega (arith, most)); run_below = omega arith; pack_told = refl }
+each-begins s us (suc (suc (suc zero))) less = record { built = refl; below = tt; packs = refl; free = refl; empty = refl; by_argument = refl; flat = tt; class = refl; class_below = tt; arguments = refl; arguments_below = tt; untagged = refl; untagged_below = tt; returns = refl; counted = refl; count_below = omega arith; runs = λ k n most. absurd (omega (arith, most)); run_below = omega arith; pack_told = refl }
 each-begins s us (suc (suc (suc (suc i)))) less = absurd (omega (arith, less))
 
 begins : (s : List ℕ) → IsTable (first-four s [])
@@ -314,6 +316,7 @@ module _ (y : Table) (u : Thunk) (table : IsTable y) (within : IsThunkWithin y.b
         count_below = was.count_below;
         runs = was.runs;
         run_below = was.run_below;
+        pack_told = was.pack_told;
       }
 
   adjusted-table : IsTable (with_thunk y u)

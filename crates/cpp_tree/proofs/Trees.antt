@@ -1,7 +1,7 @@
 -- What nodes say of their trees.
-use Rattle.std.proofs.Common.{◌≡◌, refl, sym, ◌∙◌, ap, subst, arith, ℕ, zero, suc, ◌-◌, ◌+◌, ◌<◌, ◌≤◌, List, [], ◌∷◌, length, Bool, Option, Some, None}
+use Rattle.std.proofs.Common.{◌≡◌, refl, sym, ◌∙◌, ap, subst, arith, ℕ, zero, suc, ◌-◌, ◌+◌, ◌<◌, ◌≤◌, List, [], ◌∷◌, length, Bool, true, not, ◌&&◌, Option, Some, None}
 use Rattle.cpp_term.specs.Term.{Term, absent, nil, list, pack}
-use Rattle.cpp_term.specs.Scope.{without_tags, element, length_if_pack, pack_length}
+use Rattle.cpp_term.specs.Scope.{without_tags, element, is_list, is_alone, is_open, length_if_pack, pack_length}
 use Rattle.cpp_grammar.specs.Items as heads
 use Rattle.cpp_term.specs.Items as items
 use Rattle.cpp_term.specs.Items.{indexed, plain_class, element_head, head_of_class}
@@ -11,11 +11,12 @@ use Rattle.cpp_tree.specs.declared.node.Head.{Head}
 use Rattle.cpp_tree.specs.declared.node.HeadClass.{HeadClass}
 use Rattle.cpp_tree.specs.declared.node.Placed.{Placed}
 use Rattle.cpp_tree.specs.declared.node.Entry.{Entry}
-use Rattle.cpp_term.specs.Reargued.{reargued}
+use Rattle.cpp_term.specs.Reargued.{reargued, if_alone, given_for, given_alone}
+use Rattle.cpp_tree.specs.declared.node.Free.{Free}
 use Rattle.std.proofs.lemmas.Bool.{true≢false}
 use Rattle.std.specs.Prelude.{false}
-use Rattle.cpp_term.proofs.Reargued.{length_reargued, reargued_none, reargued_twice, element_reargued, untagged_reargued, erase_reargued}
-use Rattle.cpp_tree.specs.Notes.{class_by, empty_by, packs_by, argument_packs, place_of, resolved_at, shape_at}
+use Rattle.cpp_term.proofs.Reargued.{length_reargued, reargued_none, reargued_twice, reargued_closed, list_reargued, alone_reargued, element_reargued, untagged_reargued, erase_reargued}
+use Rattle.cpp_tree.specs.Notes.{class_by, empty_by, packs_by, argument_packs, place_of, resolved_at, shape_at, is_argument_node}
 use Rattle.cpp_term.specs.Erased.{erase}
 use Rattle.cpp_tree.specs.declared.view.NodeView.{NodeView}
 use Rattle.cpp_tree.specs.declared.node.Qualifiers.{Qualifiers}
@@ -24,8 +25,8 @@ use Rattle.cpp_tree.specs.declared.tree_production.TheConstants.{FUNCTION}
 use Rattle.cpp_tree.specs.Fields.{fields, fields_of, qualifiers_number, mark_number}
 use Rattle.cpp_tree.specs.Views.{AreBelow, plain_tree, seen_of, seen_fields, no_text}
 use Rattle.cpp_term.proofs.Notes.{both}
-use Rattle.cpp_tree.proofs.Noting.{class-later, again-pack, again-empty}
-use Rattle.cpp_tree.specs.Nodes.{Table, tree_at, tree_of, trees, entry_at, IsBelow, IsThereBelow, IsFlat, tree_if_there, under_kept, qualifiers_of, mark_of, placed_tree, is_again, IsClassBelow, IsPlacedThere, head_of, class_is, untagged_is, IsTable}
+use Rattle.cpp_tree.proofs.Noting.{class-later, again-pack, again-empty, alone-shape}
+use Rattle.cpp_tree.specs.Nodes.{Table, tree_at, tree_of, trees, entry_at, IsBelow, IsThereBelow, IsFlat, IsSettled, free_is, tree_if_there, under_kept, qualifiers_of, mark_of, placed_tree, is_again, IsClassBelow, IsPlacedThere, head_of, class_is, untagged_is, IsTable}
 
 -- a node's tree is its production over those of its parts, which are earlier
 pub node_is : (y : Table) (i : ℕ) (n : Node) → IsTable y → i < length y.nodes → (entry_at y.nodes i).node ≡ n
@@ -157,6 +158,10 @@ pub flat-other : (es : List Entry) (n : Node) → ((t a : ℕ) → n ≡ Node.Ag
 flat-other es (Node.Again t a) other = absurd (other t a refl)
 flat-other es _ other = tt
 
+pub settled-other : (ts : List Term) (n : Node) → ((t a : ℕ) → n ≡ Node.Again t a → ⊥) → IsSettled ts n
+settled-other ts (Node.Again t a) other = absurd (other t a refl)
+settled-other ts _ other = tt
+
 pub again-below : (s : List ℕ) (held n t a : ℕ) (node : Node) → node ≡ Node.Again t a → IsBelow s held n node → (t < n) × (a < n)
 again-below s held n t a node is b = subst (λ x. IsBelow s held n x) is b
 
@@ -196,6 +201,73 @@ place_most y i p table less is = rw is (go (entry_at y.nodes i).node (table.each
 
 pub later_parts : (m n : ℕ) (seen : NodeView) → m ≤ n → AreBelow m seen → AreBelow n seen
 later_parts m n seen most all = λ k d less. omega (arith, all k d less, most)
+
+-- ## What is given
+
+no_list_node : (s : List ℕ) (us : List Thunk) (ts : List Term) (n : Node) → is_again n ≡ false → ((first rest : ℕ) → n ≡ Node.Cell first rest → ⊥) → is_list (tree_of s us ts n) ≡ false
+unfolding tree_of is_list is_again
+no_list_node s us ts (Node.Cell first rest) flat other = absurd (other first rest refl)
+no_list_node s us ts (Node.Again t a) flat other = absurd (true≢false flat)
+no_list_node s us ts _ flat other = refl
+
+placed-list : (y : Table) (p : Placed) (t : Term) → placed_tree (trees y) p ≡ t → is_list t ≡ is_list (tree_at (trees y) p.node)
+unfolding placed_tree
+placed-list y p t is = ap is_list (sym is) ∙ list_reargued (tree_if_there (trees y) p.under) (tree_at (trees y) p.node)
+
+pub is_cell_list : (y : Table) (p : Placed) (t : Term) (first rest : ℕ) → IsTable y → p.node < length y.nodes → placed_tree (trees y) p ≡ t → (entry_at y.nodes p.node).node ≡ Node.Cell first rest → true ≡ is_list t
+unfolding is_list
+is_cell_list y p t first rest table less is cell = sym (placed-list y p t is ∙ ap is_list (cell_is y p.node first rest table less cell).0)
+
+pub is_no_list : (y : Table) (p : Placed) (t : Term) → IsTable y → p.node < length y.nodes → placed_tree (trees y) p ≡ t → is_again (entry_at y.nodes p.node).node ≡ false
+    → ((first rest : ℕ) → (entry_at y.nodes p.node).node ≡ Node.Cell first rest → ⊥) → false ≡ is_list t
+is_no_list y p t table less is flat other =
+    sym (placed-list y p t is ∙ ap is_list (table.each p.node less).built ∙ no_list_node y.bytes y.thunks (trees y) (entry_at y.nodes p.node).node flat other)
+
+-- an element, by whether it is an argument by itself
+chosen-by : (t : Term) (b : Bool) → is_alone t ≡ b → if_alone t ≡ elim b as (λ _. Term) [ true ↦ t | false ↦ absent ]
+unfolding if_alone
+chosen-by t b is = ap (λ x. elim x as (λ _. Term) [ true ↦ t | false ↦ absent ]) is
+
+alone-by : (y : Table) (p : Placed) (argued opened : Bool) → IsTable y → p.node < length y.nodes → is_argument_node (shape_at y.nodes p.node) ≡ argued → is_open (tree_at (trees y) p.node) ≡ opened
+    → is_alone (placed_tree (trees y) p) ≡ (argued && not opened)
+unfolding placed_tree
+alone-by y p argued opened table less is-argued is-opened =
+    alone_reargued (tree_if_there (trees y) p.under) (tree_at (trees y) p.node) ∙ sym (alone-shape y table p.node less) ∙ both (λ a b. a && not b) is-argued is-opened
+
+pub given_open : (y : Table) (p : Placed) → IsTable y → p.node < length y.nodes → is_open (tree_at (trees y) p.node) ≡ true → tree_at (trees y) 0 ≡ if_alone (placed_tree (trees y) p)
+given_open y p table less opened =
+    table.no_tree ∙ sym (chosen-by (placed_tree (trees y) p) false (alone-by y p (is_argument_node (shape_at y.nodes p.node)) true table less refl opened ∙ never (is_argument_node (shape_at y.nodes p.node))))
+  where
+    never : (b : Bool) → (b && false) ≡ false
+    never true = refl
+    never false = refl
+
+pub given_pack : (y : Table) (p : Placed) → IsTable y → p.node < length y.nodes → is_argument_node (shape_at y.nodes p.node) ≡ false → tree_at (trees y) 0 ≡ if_alone (placed_tree (trees y) p)
+given_pack y p table less argued =
+    table.no_tree ∙ sym (chosen-by (placed_tree (trees y) p) false (alone-by y p false (is_open (tree_at (trees y) p.node)) table less argued refl))
+
+pub given_alone_node : (y : Table) (p : Placed) → IsTable y → p.node < length y.nodes → is_argument_node (shape_at y.nodes p.node) ≡ true → is_open (tree_at (trees y) p.node) ≡ false
+    → tree_at (trees y) p.node ≡ if_alone (placed_tree (trees y) p)
+unfolding placed_tree
+given_alone_node y p table less argued opened =
+    sym (chosen-by (placed_tree (trees y) p) true (alone-by y p true false table less argued opened) ∙ reargued_closed (tree_if_there (trees y) p.under) (tree_at (trees y) p.node) opened)
+
+-- of a list its element is given
+pub given_listed : (a : Term) (k : ℕ) → is_list a ≡ true → given_for a k ≡ if_alone (element a k)
+unfolding given_for is_list
+given_listed (list first rest) k is = refl
+given_listed _ k is = absurd (true≢false (sym is))
+
+-- and where not one parameter alone is free
+pub given_other : (a : Term) (f : Free) → ((k : ℕ) → f ≡ Free.One k → ⊥) → a ≡ given_alone a (free_is f)
+unfolding given_alone free_is
+given_other a Free.None other = refl
+given_other a (Free.One k) other = absurd (other k refl)
+given_other a (Free.Several m) other = refl
+
+pub given_one : (a : Term) (f : Free) (k : ℕ) → f ≡ Free.One k → given_for a k ≡ given_alone a (free_is f)
+unfolding given_alone free_is
+given_one a f k is = ap (λ x. given_alone a (free_is x)) (sym is)
 
 -- ## Tags
 

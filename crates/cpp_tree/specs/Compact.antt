@@ -45,17 +45,23 @@ returns_kept _ = false
 
 unfoldable pub count_kept : Words → ℕ → ℕ
 count_kept Words.Elements n = n
+count_kept Words.ElementsWithPack n = n
 count_kept _ n = 0
 
 unfoldable pub run_kept : Words → ℕ → ℕ
 run_kept Words.Elements n = n
+run_kept Words.ElementsWithPack n = n
 run_kept _ n = 0
 
--- the free parameters: the number is that of one alone
+unfoldable pub has_pack_kept : Words → Bool
+has_pack_kept Words.ElementsWithPack = true
+has_pack_kept _ = false
+
+-- the free parameters: the number is that of one alone, or the greatest of several
 unfoldable pub free_kept : HowMany → (number : ℕ) → Free
 free_kept HowMany.None k = Free.None
 free_kept HowMany.One k = Free.One k
-free_kept HowMany.Several k = Free.Several
+free_kept HowMany.Several k = Free.Several k
 
 -- an entry, by what is shared in two words
 abbrev pub kept : (n : Node) (packs : Option ℕ) (free : Free) (is_empty : Bool) (by_argument : ByArgument) (words : Words) (first second : ℕ) → Entry
@@ -71,6 +77,24 @@ kept n packs free is_empty by_argument words first second = record {
   returns = returns_kept words;
   count = count_kept words first;
   run = run_kept words second;
+  has_pack = has_pack_kept words;
+}
+
+-- the entry of a list of so many elements
+abbrev pub with_elements : (n : Node) (packs : Option ℕ) (free : Free) (is_empty : Bool) (by_argument : ByArgument) (count run : ℕ) (has_pack : Bool) → Entry
+with_elements n packs free is_empty by_argument count run has_pack = record {
+  node = n;
+  packs = packs;
+  free = free;
+  is_empty = is_empty;
+  by_argument = by_argument;
+  class = HeadClass.Known Head.Plain;
+  arguments = None;
+  untagged = None;
+  returns = false;
+  count = count;
+  run = run;
+  has_pack = has_pack;
 }
 
 -- the entry of a type with this head
@@ -87,6 +111,7 @@ with_head n packs free is_empty by_argument class = record {
   returns = false;
   count = 0;
   run = 0;
+  has_pack = false;
 }
 
 -- the entry of a name that ends in these arguments
@@ -103,6 +128,7 @@ with_arguments n packs free by_argument arguments returns = record {
   returns = returns;
   count = 0;
   run = 0;
+  has_pack = false;
 }
 
 -- the entry of a name with tags, under which this one stands
@@ -119,6 +145,7 @@ with_tags n packs free by_argument untagged = record {
   returns = false;
   count = 0;
   run = 0;
+  has_pack = false;
 }
 
 -- the entry of a tree that is there again with an argument, where its head is its own, by the words of the tree
@@ -135,6 +162,7 @@ own_entry n packs free is_empty by_argument words first second argument = record
   returns = returns_kept words;
   count = count_kept words first;
   run = 0;
+  has_pack = has_pack_kept words;
 }
 
 -- the same, by the entry of the tree and the head that a parameter with the argument has
@@ -151,6 +179,7 @@ restated_entry n packs is_empty own argument given = record {
   returns = if_own own.by_argument.head own.returns false;
   count = if_own own.by_argument.head own.count 0;
   run = 0;
+  has_pack = if_own own.by_argument.head own.has_pack false;
 }
 
 -- the entry that is held

@@ -7,10 +7,10 @@ use Rattle.cpp_grammar.specs.Items as heads
 use Rattle.cpp_grammar.specs.Scope as scope
 use Rattle.cpp_term.specs.Term as term
 use Rattle.cpp_term.specs.Term.{Term}
-use Rattle.cpp_term.specs.Scope.{pack_length, free_in, arguments_of, without_tags, has_return_type, count, element}
+use Rattle.cpp_term.specs.Scope.{pack_length, free_in, arguments_of, without_tags, has_return_type, count, element, has_pack}
 use Rattle.cpp_term.specs.Items as items
 use Rattle.cpp_term.specs.Reargued as again
-use Rattle.cpp_term.specs.Reargued.{reargued, bare, head_from, is_empty_with}
+use Rattle.cpp_term.specs.Reargued.{reargued, given_alone, bare, head_from, is_empty_with}
 use Rattle.cpp_tree.specs.declared.node.Qualifiers.{Qualifiers}
 use Rattle.cpp_tree.specs.declared.node.Mark.{Mark}
 use Rattle.cpp_tree.specs.declared.node.Signed.{Signed}
@@ -240,7 +240,7 @@ IsThunkWithin s (Thunk.Covariant a b) = IsAdjustmentWithin s a × IsAdjustmentWi
 unfoldable pub free_is : Free → scope.Free
 free_is Free.None = scope.none_free
 free_is (Free.One k) = scope.one_free k
-free_is Free.Several = scope.several_free
+free_is (Free.Several m) = scope.several_free m
 
 -- some are free
 unfoldable pub has_free : scope.Free → Bool
@@ -301,12 +301,20 @@ is_again _ = false
 
 -- the entry of a node; behind the last one that of the absent tree
 abbrev pub entry_at : List Entry → ℕ → Entry
-entry_at es i = get_or es i (record { node = Node.Absent; packs = None; free = Free.None; is_empty = false; by_argument = by_none false; class = HeadClass.Known Head.Plain; arguments = None; untagged = None; returns = false; count = 0; run = 0 })
+entry_at es i = get_or es i (record { node = Node.Absent; packs = None; free = Free.None; is_empty = false; by_argument = by_none false; class = HeadClass.Known Head.Plain; arguments = None; untagged = None; returns = false; count = 0; run = 0; has_pack = false })
 
 -- a tree that is there again isn't one that is there again itself
 abbrev pub IsFlat : List Entry → Node → Type 0
 IsFlat es (Node.Again t a) = is_again (entry_at es t).node ≡ false
 IsFlat es _ = Unit {0}
+
+-- what a tree is given isn't a list where its head is that of what its one parameter gets
+abbrev pub IsLone : (given t : Term) → Type 0
+IsLone a t = (head_from t ≡ again.of_its_own → ⊥) → given_alone a (free_in t) ≡ a
+
+abbrev pub IsSettled : List Term → Node → Type 0
+IsSettled ts (Node.Again t a) = IsLone (tree_at ts a) (tree_at ts t)
+IsSettled ts _ = Unit {0}
 
 -- What holds of the node at a place: all that is noted follows from its tree. A cell's run is how many of the nodes before it are
 -- the cells behind it, so that an element is found by a subtraction.
@@ -329,6 +337,7 @@ pub record IsEntry (y : Table) (ts : List Term) (i : ℕ) (e : Entry) : Type 0 w
   pub count_below : e.count ≤ i
   pub runs : (k n : ℕ) → k < e.run → element (tree_at ts i) (suc k + n) ≡ element (tree_at ts (i - suc k)) n
   pub run_below : e.run ≤ i
+  pub pack_told : e.has_pack ≡ has_pack (tree_at ts i)
 
 -- The first four nodes are the absent tree, the empty list, the pack of no elements, and the builtin type auto.
 pub record IsTable (y : Table) : Type 0 where
@@ -362,6 +371,7 @@ pub record IsNoted (y : Table) (e : Entry) : Type 0 where
   pub count_below : e.count ≤ length y.nodes
   pub runs : (k n : ℕ) → k < e.run → element (tree_of y.bytes y.thunks (trees y) e.node) (suc k + n) ≡ element (tree_at (trees y) (length y.nodes - suc k)) n
   pub run_below : e.run ≤ length y.nodes
+  pub pack_told : e.has_pack ≡ has_pack (tree_of y.bytes y.thunks (trees y) e.node)
 
 abbrev pub with_entry : Table → Entry → Table
 with_entry y e = record { bytes = y.bytes; nodes = y.nodes ++ e ∷ []; thunks = y.thunks }

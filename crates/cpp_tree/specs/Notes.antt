@@ -1,10 +1,10 @@
 -- What is noted of a node, from what is noted of its parts.
-use Rattle.std.specs.Prelude.{ℕ, ◌+◌, List, length, Bool, true, false, not, cond, nat_eq, ◌||◌, ◌&&◌, Option, None, Some}
+use Rattle.std.specs.Prelude.{ℕ, ◌+◌, List, length, Bool, true, false, not, cond, nat_eq, max, ◌||◌, ◌&&◌, Option, None, Some}
 use Rattle.cpp_grammar.specs.Items as heads
 use Rattle.cpp_tree.specs.declared.node.Piece.{Piece}
 use Rattle.cpp_tree.specs.declared.node.Node.{Node}
 use Rattle.cpp_tree.specs.declared.node.Entry.{Entry}
-use Rattle.cpp_tree.specs.Nodes.{entry_at, by_none}
+use Rattle.cpp_tree.specs.Nodes.{entry_at, by_none, free_is, has_free}
 use Rattle.cpp_tree.specs.declared.node.Head.{Head}
 use Rattle.cpp_tree.specs.declared.node.Placed.{Placed}
 use Rattle.cpp_tree.specs.declared.node.HeadClass.{HeadClass}
@@ -22,9 +22,11 @@ free_at es i = (entry_at es i).free
 unfoldable pub both_free : Free → Free → Free
 both_free Free.None other = other
 both_free (Free.One j) Free.None = Free.One j
-both_free (Free.One j) (Free.One k) = elim (nat_eq j k) [ true ↦ Free.One j | false ↦ Free.Several ]
-both_free (Free.One j) Free.Several = Free.Several
-both_free Free.Several other = Free.Several
+both_free (Free.One j) (Free.One k) = elim (nat_eq j k) [ true ↦ Free.One j | false ↦ Free.Several (max j k) ]
+both_free (Free.One j) (Free.Several m) = Free.Several (max j m)
+both_free (Free.Several m) Free.None = Free.Several m
+both_free (Free.Several m) (Free.One k) = Free.Several (max m k)
+both_free (Free.Several m) (Free.Several n) = Free.Several (max m n)
 
 -- those of a lambda's own signature aren't free outside
 unfoldable pub piece_frees : List Entry → Piece → Free
@@ -288,6 +290,21 @@ returning es _ = false
 
 -- ## The elements of a list
 
+-- no pack and no list
+unfoldable pub is_argument_node : Node → Bool
+is_argument_node (Node.Pack elements) = false
+is_argument_node (Node.Cell first rest) = false
+is_argument_node _ = true
+
+-- whether the tree of a node is an argument by itself
+abbrev pub alone_at : List Entry → ℕ → Bool
+alone_at es i = is_argument_node (shape_at es i) && not (has_free (free_is (free_at es i)))
+
+unfoldable pub having_pack : List Entry → Node → Bool
+having_pack es (Node.Cell first rest) = not (alone_at es first) || (entry_at es rest).has_pack
+having_pack es (Node.Again t a) = if_own (by_argument_at es t).head (entry_at es t).has_pack false
+having_pack es _ = false
+
 unfoldable pub counting : List Entry → Node → ℕ
 counting es (Node.Cell first rest) = (entry_at es rest).count + 1
 counting es (Node.Again t a) = if_own (by_argument_at es t).head (entry_at es t).count 0
@@ -312,8 +329,9 @@ noting es n = record {
   returns = returning es n;
   count = counting es n;
   run = running es n;
+  has_pack = having_pack es n;
 }
 
 -- a node of which nothing is noted, but whether it prints nothing
 abbrev pub bare_entry : Node → Bool → Entry
-bare_entry n empty = record { node = n; packs = None; free = Free.None; is_empty = empty; by_argument = by_none empty; class = HeadClass.Known Head.Plain; arguments = None; untagged = None; returns = false; count = 0; run = 0 }
+bare_entry n empty = record { node = n; packs = None; free = Free.None; is_empty = empty; by_argument = by_none empty; class = HeadClass.Known Head.Plain; arguments = None; untagged = None; returns = false; count = 0; run = 0; has_pack = false }

@@ -2,14 +2,14 @@
 #![tactic(auto)]
 
 ghost use Rattle.std.specs.Prelude.{◌≡◌};
-ghost use Rattle.cpp_tree.specs.Compact.{packs_kept, placed_kept, class_kept, arguments_kept, untagged_kept, returns_kept, count_kept, run_kept, free_kept, entry_of};
+ghost use Rattle.cpp_tree.specs.Compact.{packs_kept, placed_kept, class_kept, arguments_kept, untagged_kept, returns_kept, count_kept, run_kept, has_pack_kept, free_kept, entry_of};
 ghost use Rattle.cpp_tree.specs.Nodes.{by_none};
 ghost use Rattle.cpp_tree.specs.Notes.{bare_entry};
 
 use crate::node::{ByArgument, Entry, Free, Head, HeadClass, HeadFrom, Node, Placed, under_of};
 
 /// What two words beside a node tell: of a type a list of elements, of a name its arguments or itself without tags, each with the
-/// argument under which it stands, and of a list its count and its run.
+/// argument under which it stands, and of a list its count and its run, and whether it has a pack among its elements.
 #[derive(Clone, Copy)]
 pub enum Words {
     Plain,
@@ -22,9 +22,10 @@ pub enum Words {
     ReturningArguments,
     Tagged,
     Elements,
+    ElementsWithPack,
 }
 
-/// How many parameters are free. The number of one alone stands beside.
+/// How many parameters are free. The number of one alone stands beside, and of several the greatest.
 #[derive(Clone, Copy)]
 pub enum HowMany {
     None,
@@ -41,7 +42,7 @@ pub struct Compact {
     pub packs: u32,
     pub first: u32,
     pub second: u32,
-    /// The number of the free parameter, where one alone is free.
+    /// The number of the free parameter, where one alone is free, and the greatest, where several are.
     pub number: u32,
     pub free: HowMany,
     pub is_empty: bool,
@@ -132,6 +133,7 @@ fn count(words: Words, first: u32) -> u32
 {
     match words {
         Words::Elements => first,
+        Words::ElementsWithPack => first,
         _ => 0,
     }
 }
@@ -144,7 +146,20 @@ fn run(words: Words, second: u32) -> u32
 {
     match words {
         Words::Elements => second,
+        Words::ElementsWithPack => second,
         _ => 0,
+    }
+}
+
+/// Whether a list has a pack among its elements.
+#[inline(always)]
+#[tactic(auto, unfolding(crate::specs::Compact::has_pack_kept))]
+fn has_pack(words: Words) -> bool
+    ensures { result ≡ has_pack_kept words }
+{
+    match words {
+        Words::ElementsWithPack => true,
+        _ => false,
     }
 }
 
@@ -157,7 +172,7 @@ fn free_parameters(kept: HowMany, number: u32) -> Free
     match kept {
         HowMany::None => Free::None,
         HowMany::One => Free::One(number),
-        HowMany::Several => Free::Several,
+        HowMany::Several => Free::Several(number),
     }
 }
 
@@ -179,6 +194,7 @@ impl Compact {
             returns: returns(self.words),
             count: count(self.words, self.first),
             run: run(self.words, self.second),
+            has_pack: has_pack(self.words),
         }
     }
 }
@@ -198,7 +214,7 @@ pub(crate) fn by_none(empty: bool) -> ByArgument
 
 /// A node of which nothing is noted.
 #[inline(always)]
-#[tactic(auto, unfolding(crate::specs::Compact::packs_kept, crate::specs::Compact::class_kept, crate::specs::Compact::arguments_kept, crate::specs::Compact::untagged_kept, crate::specs::Compact::returns_kept, crate::specs::Compact::count_kept, crate::specs::Compact::run_kept, crate::specs::Compact::free_kept))]
+#[tactic(auto, unfolding(crate::specs::Compact::packs_kept, crate::specs::Compact::class_kept, crate::specs::Compact::arguments_kept, crate::specs::Compact::untagged_kept, crate::specs::Compact::returns_kept, crate::specs::Compact::count_kept, crate::specs::Compact::run_kept, crate::specs::Compact::has_pack_kept, crate::specs::Compact::free_kept))]
 pub(crate) fn bare(node: Node, is_empty: bool) -> Compact
     ensures { entry_of result ≡ bare_entry node is_empty }
 {

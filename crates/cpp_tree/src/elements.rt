@@ -2,7 +2,8 @@
 #![tactic(auto)]
 
 ghost use Rattle.std.specs.Prelude.{◌≡◌, ◌<◌, length, false};
-ghost use Rattle.cpp_term.specs.Scope.{element, is_open, free_in, length_if_pack};
+ghost use Rattle.cpp_term.specs.Reargued.{if_alone, given_for, given_alone};
+ghost use Rattle.cpp_term.specs.Scope.{element, is_list, has_pack, is_open, free_in, length_if_pack};
 ghost use Rattle.cpp_term.specs.Items.{indexed};
 ghost use Rattle.cpp_tree.specs.Nodes.{over, trees, tree_at, placed_tree, free_is, IsPlacedBelow, IsTable};
 
@@ -107,6 +108,77 @@ impl Nodes {
         ensures below { result < length self.now.nodes }
     {
         tree.node
+    }
+
+    /// Whether a node's tree is a list of elements.
+    pub fn is_list(&self, symbol: &[u8], node: u32) -> bool
+        requires table { IsTable (over symbol.now self.now) }
+        requires node { node < length self.now.nodes }
+        ensures { result ≡ is_list (tree_at (trees (over symbol.now self.now)) node) }
+    {
+        let place = self.resolved(symbol, node);
+        match self.node(symbol, place.node) {
+            Node::Cell { .. } => true,
+            _ => false,
+        }
+    }
+
+    /// Whether a list has a pack among its elements, or another that is no argument by itself.
+    #[inline(always)]
+    pub fn has_pack(&self, symbol: &[u8], list: u32) -> bool
+        requires table { IsTable (over symbol.now self.now) }
+        requires list { list < length self.now.nodes }
+        ensures { result ≡ has_pack (tree_at (trees (over symbol.now self.now)) list) }
+    {
+        self.entry(list).has_pack
+    }
+
+    /// An element of a list if it is an argument by itself, or else the absent tree.
+    fn if_alone(&self, symbol: &[u8], element: Placed) -> u32
+        requires table { IsTable (over symbol.now self.now) }
+        requires element { IsPlacedBelow (length self.now.nodes) element }
+        ensures tree { tree_at (trees (over symbol.now self.now)) result ≡ if_alone (placed_tree (trees (over symbol.now self.now)) element) }
+        ensures below { result < length self.now.nodes }
+    {
+        if self.is_open(symbol, element.node) {
+            return ABSENT;
+        }
+        let place = self.resolved(symbol, element.node);
+        if self.node(symbol, place.node).is_argument() {
+            return element.node;
+        }
+        ABSENT
+    }
+
+    /// What a parameter of this number gets: of a list of arguments its own, and any other argument itself. It is found at once where
+    /// the list's cells were made one behind the other.
+    pub fn given_for(&self, symbol: &[u8], given: u32, number: u32) -> u32
+        requires table { IsTable (over symbol.now self.now) }
+        requires given { given < length self.now.nodes }
+        ensures tree { tree_at (trees (over symbol.now self.now)) result ≡ given_for (tree_at (trees (over symbol.now self.now)) given) number }
+        ensures below { result < length self.now.nodes }
+    {
+        if self.is_list(symbol, given) {
+            let list = Placed {
+                node: given,
+                under: None,
+            };
+            return self.if_alone(symbol, self.element(symbol, list, number));
+        }
+        given
+    }
+
+    /// What the parameter gets that alone is free in a tree.
+    pub(crate) fn given_alone(&self, symbol: &[u8], given: u32, free: Free) -> u32
+        requires table { IsTable (over symbol.now self.now) }
+        requires given { given < length self.now.nodes }
+        ensures tree { tree_at (trees (over symbol.now self.now)) result ≡ given_alone (tree_at (trees (over symbol.now self.now)) given) (free_is free) }
+        ensures below { result < length self.now.nodes }
+    {
+        match free {
+            Free::One(number) => self.given_for(symbol, given, number),
+            _ => given,
+        }
     }
 
     /// The length of an argument that is a pack: it has as many elements under another argument.

@@ -26,10 +26,11 @@ impl Nodes {
         match ty.under {
             None => held.class,
             Some(argument) => {
+                let given = self.given_alone(symbol, argument, held.free);
                 chosen(
                     held.by_argument.head,
                     held.class,
-                    self.given_class(symbol, argument),
+                    self.given_class(symbol, given),
                 )
             }
         }

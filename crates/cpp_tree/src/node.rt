@@ -3,7 +3,7 @@
 ghost use Rattle.std.specs.Prelude.{◌≡◌, ◌≤◌, ℕ, ◌+◌, ◌<◌, ◌^◌, Some};
 ghost use Rattle.cpp_tree.specs.Fields.{bit, mark_number, qualifiers_number};
 ghost use Rattle.cpp_tree.specs.Nodes.{qualifiers_of, mark_of, is_encoding, free_is, has_free, under_kept};
-ghost use Rattle.cpp_tree.specs.Notes.{is_structor_node};
+ghost use Rattle.cpp_tree.specs.Notes.{is_structor_node, is_argument_node};
 
 use sym_core::Span;
 
@@ -254,7 +254,7 @@ pub enum Node {
         encoding: u32,
         suffix: Span,
     },
-    /// A tree again, with this argument in each of its free parameters.
+    /// A tree again, with this argument in each of its free parameters, or with the elements of it if it is a list.
     Again {
         tree: u32,
         argument: u32,
@@ -276,6 +276,19 @@ impl Node {
             Node::Construction { .. } => true,
             Node::CloneOf { .. } => true,
             _ => false,
+        }
+    }
+
+    /// Whether it is neither a pack nor a list, as arguments by themselves are.
+    #[tactic(auto, unfolding(crate::specs::Notes::is_argument_node))]
+    #[inline(always)]
+    pub(crate) fn is_argument(self) -> bool
+        ensures { result ≡ is_argument_node self }
+    {
+        match self {
+            Node::Pack(_) => false,
+            Node::Cell { .. } => false,
+            _ => true,
         }
     }
 
@@ -309,7 +322,8 @@ pub enum Head {
     Rvalue,
 }
 
-/// The tree of a node, with the tree of another as the argument in each of its free parameters if one is given.
+/// The tree of a node, with the tree of another as the argument in each of its free parameters if one is given, or with the elements
+/// of that if it is a list.
 #[derive(Clone, Copy)]
 pub struct Placed {
     pub node: u32,
@@ -333,12 +347,13 @@ pub enum HeadFrom {
     Collapsed,
 }
 
-/// The parameters that are free in a tree: none, one by its number, in one place or in several, or more than one.
+/// The parameters that are free in a tree: none, one by its number, in one place or in several, or more than one, by the greatest
+/// number.
 #[derive(Clone, Copy)]
 pub enum Free {
     None,
     One(u32),
-    Several,
+    Several(u32),
 }
 
 /// What depends on the argument of a tree's free parameters, if they get another one.
@@ -376,6 +391,8 @@ pub struct Entry {
     pub count: u32,
     /// How many of the nodes before a cell are the cells behind it, each before the next.
     pub run: u32,
+    /// Whether a list has a pack among its elements, or another that is no argument by itself.
+    pub has_pack: bool,
 }
 
 impl Entry {

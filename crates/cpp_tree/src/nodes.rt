@@ -4,12 +4,13 @@
 ghost use Rattle.std.specs.Prelude.{◌≡◌, ℕ, ◌+◌, ◌<◌, ◌≤◌, ◌^◌, ◌++◌, ◌∷◌, [], List, length, slice_get, false, None, Some, Option, IfOk, IfErr, OnOk, OnErr};
 ghost use Rattle.sym_core.specs.declared.Refusal.{Refusal};
 ghost use Rattle.cpp_term.specs.Scope.{without_tags};
-ghost use Rattle.cpp_tree.specs.Nodes.{over, tree_at, trees, tree_of, entry_at, placed_tree, is_again, IsFlat, IsPlacedBelow, IsBelow, IsThunkWithin, IsTable};
+ghost use Rattle.cpp_term.specs.Reargued.{reargued};
+ghost use Rattle.cpp_tree.specs.Nodes.{over, tree_at, trees, tree_of, entry_at, placed_tree, is_again, IsFlat, IsLone, IsSettled, IsPlacedBelow, IsBelow, IsThunkWithin, IsTable};
 ghost use Rattle.cpp_tree.specs.Notes.{resolved_at};
 ghost use Rattle.cpp_tree.specs.Compact.{entry_of};
 
 use crate::compact::{Compact, bare};
-use crate::node::{Entry, Node, Placed, Thunk};
+use crate::node::{Entry, HeadFrom, Node, Placed, Thunk};
 use std::alloc::Global;
 use std::marker::Model;
 use sym_core::Refusal;
@@ -203,6 +204,23 @@ impl Nodes {
         }
     }
 
+    /// What a tree that is there again is given: the argument of its one parameter where its head is that one's.
+    #[inline(always)]
+    fn lone(&self, symbol: &[u8], tree: u32, argument: u32) -> u32
+        requires table { IsTable (over symbol.now self.now) }
+        requires tree { tree < length self.now.nodes }
+        requires argument { argument < length self.now.nodes }
+        ensures tree { reargued (Some (tree_at (trees (over symbol.now self.now)) result)) (tree_at (trees (over symbol.now self.now)) tree) ≡ reargued (Some (tree_at (trees (over symbol.now self.now)) argument)) (tree_at (trees (over symbol.now self.now)) tree) }
+        ensures lone { IsLone (tree_at (trees (over symbol.now self.now)) result) (tree_at (trees (over symbol.now self.now)) tree) }
+        ensures below { result < length self.now.nodes }
+    {
+        let held = self.entry(tree);
+        match held.by_argument.head {
+            HeadFrom::Own => argument,
+            _ => self.given_alone(symbol, argument, held.free),
+        }
+    }
+
     /// The node with a tree that isn't there again itself.
     #[inline(always)]
     fn flat(&self, symbol: &[u8], node: Node) -> Node
@@ -210,13 +228,17 @@ impl Nodes {
         requires below { IsBelow symbol.now (length self.now.thunks) (length self.now.nodes) node }
         ensures tree { tree_of symbol.now self.now.thunks (trees (over symbol.now self.now)) result ≡ tree_of symbol.now self.now.thunks (trees (over symbol.now self.now)) node }
         ensures flat { IsFlat self.now.nodes result }
+        ensures settled { IsSettled (trees (over symbol.now self.now)) result }
         ensures below { IsBelow symbol.now (length self.now.thunks) (length self.now.nodes) result }
     {
         match node {
-            Node::Again { tree, argument } => Node::Again {
-                tree: self.resolved(symbol, tree).node,
-                argument,
-            },
+            Node::Again { tree, argument } => {
+                let tree = self.resolved(symbol, tree).node;
+                Node::Again {
+                    tree,
+                    argument: self.lone(symbol, tree, argument),
+                }
+            }
             _ => node,
         }
     }

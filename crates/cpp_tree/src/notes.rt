@@ -1,7 +1,7 @@
 // What is noted of a node.
 #![tactic(auto)]
 
-ghost use Rattle.std.specs.Prelude.{◌≡◌, ℕ, ◌+◌, ◌<◌, ◌^◌, ◌&&◌, Bool, Some, None, Option, length, true, false, nat_eq, cond, not, if◌then◌else◌};
+ghost use Rattle.std.specs.Prelude.{◌≡◌, ℕ, ◌+◌, ◌<◌, ◌^◌, ◌&&◌, ◌||◌, Bool, Some, None, Option, length, true, false, nat_eq, max, cond, not, if◌then◌else◌};
 ghost use Rattle.cpp_grammar.specs.Items as heads;
 ghost use Rattle.cpp_grammar.specs.Scope.{first_of};
 ghost use Rattle.cpp_tree.specs.declared.node.Node.{Node};
@@ -9,9 +9,9 @@ ghost use Rattle.cpp_tree.specs.declared.node.Free.{Free};
 ghost use Rattle.cpp_tree.specs.declared.node.HeadFrom.{HeadFrom};
 ghost use Rattle.cpp_tree.specs.declared.node.ByArgument.{ByArgument};
 ghost use Rattle.cpp_tree.specs.declared.compact.Words.{Words};
-ghost use Rattle.cpp_tree.specs.Compact.{packs_kept, class_kept, arguments_kept, untagged_kept, returns_kept, placed_kept, free_kept, entry_of, kept, with_head, with_arguments, with_tags, own_entry, restated_entry};
+ghost use Rattle.cpp_tree.specs.Compact.{packs_kept, class_kept, arguments_kept, untagged_kept, returns_kept, placed_kept, free_kept, entry_of, kept, with_elements, with_head, with_arguments, with_tags, own_entry, restated_entry};
 ghost use Rattle.cpp_tree.specs.Nodes.{over, entry_at, IsBelow, IsPieceBelow, IsTable};
-ghost use Rattle.cpp_tree.specs.Notes.{itself, or_itself, by_argument_at, passed, joined, of_parameter, of_expansion, of_pack, of_cell, of_head, collapses_from, piece_by_argument, both_free, piece_frees, piece_packs, argument_packs, argument_class, shape_at, packs_by, empty_by, collapses, placed_under, is_structor_node, noting};
+ghost use Rattle.cpp_tree.specs.Notes.{itself, or_itself, by_argument_at, passed, joined, of_parameter, of_expansion, of_pack, of_cell, of_head, collapses_from, piece_by_argument, both_free, piece_frees, piece_packs, argument_packs, argument_class, shape_at, packs_by, empty_by, collapses, placed_under, is_structor_node, alone_at, noting};
 
 use crate::compact::{Compact, HowMany, Words, bare, class, packs};
 use crate::heads::empty_by;
@@ -86,7 +86,7 @@ fn collapsed_from(head: HeadFrom) -> HeadFrom
 
 /// What two words tell of a reference to an rvalue of a type.
 #[inline(always)]
-#[tactic(auto, unfolding(crate::specs::Compact::class_kept, crate::specs::Compact::arguments_kept, crate::specs::Compact::untagged_kept, crate::specs::Compact::returns_kept, crate::specs::Compact::count_kept, crate::specs::Compact::run_kept, crate::specs::Notes::collapses))]
+#[tactic(auto, unfolding(crate::specs::Compact::class_kept, crate::specs::Compact::arguments_kept, crate::specs::Compact::untagged_kept, crate::specs::Compact::returns_kept, crate::specs::Compact::count_kept, crate::specs::Compact::run_kept, crate::specs::Compact::has_pack_kept, crate::specs::Notes::collapses))]
 fn collapsed(words: Words) -> Words
     ensures { (n : Node) (packs : Option ℕ) (free : Free) (is_empty : Bool) (l : ByArgument) (first second : ℕ) → kept n packs free is_empty l result first second ≡ with_head n packs free is_empty l (collapses (class_kept words first second)) }
 {
@@ -100,7 +100,7 @@ fn collapsed(words: Words) -> Words
 
 /// What two words tell of a type with the head of a type.
 #[inline(always)]
-#[tactic(auto, unfolding(crate::specs::Compact::class_kept, crate::specs::Compact::arguments_kept, crate::specs::Compact::untagged_kept, crate::specs::Compact::returns_kept, crate::specs::Compact::count_kept, crate::specs::Compact::run_kept))]
+#[tactic(auto, unfolding(crate::specs::Compact::class_kept, crate::specs::Compact::arguments_kept, crate::specs::Compact::untagged_kept, crate::specs::Compact::returns_kept, crate::specs::Compact::count_kept, crate::specs::Compact::run_kept, crate::specs::Compact::has_pack_kept))]
 fn of_type(words: Words) -> Words
     ensures { (n : Node) (packs : Option ℕ) (free : Free) (is_empty : Bool) (l : ByArgument) (first second : ℕ) → kept n packs free is_empty l result first second ≡ with_head n packs free is_empty l (class_kept words first second) }
 {
@@ -109,13 +109,14 @@ fn of_type(words: Words) -> Words
         Words::ReturningArguments => Words::Plain,
         Words::Tagged => Words::Plain,
         Words::Elements => Words::Plain,
+        Words::ElementsWithPack => Words::Plain,
         _ => words,
     }
 }
 
 /// What two words tell of a name that ends in a name.
 #[inline(always)]
-#[tactic(auto, unfolding(crate::specs::Compact::class_kept, crate::specs::Compact::arguments_kept, crate::specs::Compact::untagged_kept, crate::specs::Compact::returns_kept, crate::specs::Compact::count_kept, crate::specs::Compact::run_kept))]
+#[tactic(auto, unfolding(crate::specs::Compact::class_kept, crate::specs::Compact::arguments_kept, crate::specs::Compact::untagged_kept, crate::specs::Compact::returns_kept, crate::specs::Compact::count_kept, crate::specs::Compact::run_kept, crate::specs::Compact::has_pack_kept))]
 fn of_name(words: Words) -> Words
     ensures { (n : Node) (packs : Option ℕ) (free : Free) (l : ByArgument) (first second : ℕ) → kept n packs free false l result first second ≡ with_arguments n packs free l (arguments_kept words first second) (returns_kept words) }
 {
@@ -128,7 +129,7 @@ fn of_name(words: Words) -> Words
 
 /// What two words tell of an instance of a template.
 #[inline(always)]
-#[tactic(auto, unfolding(crate::specs::Nodes::under_kept, crate::specs::Compact::class_kept, crate::specs::Compact::arguments_kept, crate::specs::Compact::untagged_kept, crate::specs::Compact::returns_kept, crate::specs::Compact::count_kept, crate::specs::Compact::run_kept))]
+#[tactic(auto, unfolding(crate::specs::Nodes::under_kept, crate::specs::Compact::class_kept, crate::specs::Compact::arguments_kept, crate::specs::Compact::untagged_kept, crate::specs::Compact::returns_kept, crate::specs::Compact::count_kept, crate::specs::Compact::run_kept, crate::specs::Compact::has_pack_kept))]
 fn of_instance(template: Node) -> Words
     ensures { (n : Node) (packs : Option ℕ) (free : Free) (l : ByArgument) (first : ℕ) → kept n packs free false l result first 0 ≡ with_arguments n packs free l (Some (itself first)) (not (is_structor_node template)) }
 {
@@ -136,6 +137,19 @@ fn of_instance(template: Node) -> Words
         Words::Arguments
     } else {
         Words::ReturningArguments
+    }
+}
+
+/// What two words tell of the elements of a list, by whether a pack is among them.
+#[inline(always)]
+#[tactic(auto, unfolding(crate::specs::Compact::class_kept, crate::specs::Compact::arguments_kept, crate::specs::Compact::untagged_kept, crate::specs::Compact::returns_kept, crate::specs::Compact::count_kept, crate::specs::Compact::run_kept, crate::specs::Compact::has_pack_kept))]
+fn of_elements(has_pack: bool) -> Words
+    ensures { (n : Node) (packs : Option ℕ) (free : Free) (is_empty : Bool) (l : ByArgument) (first second : ℕ) → kept n packs free is_empty l result first second ≡ with_elements n packs free is_empty l first second has_pack }
+{
+    if has_pack {
+        Words::ElementsWithPack
+    } else {
+        Words::Elements
     }
 }
 
@@ -201,18 +215,24 @@ fn packs_of_two(one: Compact, other: Compact) -> u32
     }
 }
 
-/// How many parameters are free, and the number of one alone.
+/// How many parameters are free, and the number of one alone or the greatest of several.
 #[derive(Clone, Copy)]
 struct Freed {
     free: HowMany,
     number: u32,
 }
 
-/// More than one is free.
-const SEVERAL: Freed = Freed {
-    free: HowMany::Several,
-    number: 0,
-};
+/// More than one is free, and the greater of these numbers is the greatest.
+#[inline(always)]
+#[tactic(auto, unfolding(crate::specs::Compact::free_kept))]
+fn several(one: u32, other: u32) -> Freed
+    ensures { free_kept result.free result.number ≡ Free.Several (max one other) }
+{
+    Freed {
+        free: HowMany::Several,
+        number: one.max(other),
+    }
+}
 
 /// The free parameters of this one and of a part.
 #[inline(always)]
@@ -232,9 +252,25 @@ fn free_beside(number: u32, part: Compact) -> Freed
                     number,
                 };
             }
-            SEVERAL
+            several(number, part.number)
         }
-        HowMany::Several => SEVERAL,
+        HowMany::Several => several(number, part.number),
+    }
+}
+
+/// The free parameters of several, of which this is the greatest number, and of a part.
+#[inline(always)]
+#[tactic(auto, unfolding(crate::specs::Compact::free_kept, crate::specs::Notes::both_free))]
+fn several_beside(greatest: u32, part: Compact) -> Freed
+    ensures { free_kept result.free result.number ≡ both_free (Free.Several greatest) (free_kept part.free part.number) }
+{
+    match part.free {
+        HowMany::None => Freed {
+            free: HowMany::Several,
+            number: greatest,
+        },
+        HowMany::One => several(greatest, part.number),
+        HowMany::Several => several(greatest, part.number),
     }
 }
 
@@ -250,7 +286,7 @@ fn free_in_two(one: Compact, other: Compact) -> Freed
             number: other.number,
         },
         HowMany::One => free_beside(one.number, other),
-        HowMany::Several => SEVERAL,
+        HowMany::Several => several_beside(one.number, other),
     }
 }
 
@@ -312,7 +348,7 @@ fn packs_given(is_bare: bool, given: u32) -> u32
 
 /// The second word of a tree that is there again with this argument, where its head is its own.
 #[inline(always)]
-#[tactic(auto, unfolding(crate::specs::Nodes::under_kept, crate::specs::Compact::class_kept, crate::specs::Compact::arguments_kept, crate::specs::Compact::untagged_kept, crate::specs::Compact::returns_kept, crate::specs::Compact::count_kept, crate::specs::Compact::run_kept, crate::specs::Notes::placed_under))]
+#[tactic(auto, unfolding(crate::specs::Nodes::under_kept, crate::specs::Compact::class_kept, crate::specs::Compact::arguments_kept, crate::specs::Compact::untagged_kept, crate::specs::Compact::returns_kept, crate::specs::Compact::count_kept, crate::specs::Compact::run_kept, crate::specs::Compact::has_pack_kept, crate::specs::Notes::placed_under))]
 fn second_under(held: Compact, argument: u32) -> u32
     requires { argument + 1 < 2 ^ 32 }
     ensures { (n : Node) (packs : Option ℕ) (free : Free) (is_empty : Bool) (l : ByArgument) → kept n packs free is_empty l held.words held.first result ≡ own_entry n packs free is_empty l held.words held.first held.second argument }
@@ -322,6 +358,7 @@ fn second_under(held: Compact, argument: u32) -> u32
         Words::ReturningArguments => argument + 1,
         Words::Tagged => argument + 1,
         Words::Elements => 0,
+        Words::ElementsWithPack => 0,
         _ => held.second,
     }
 }
@@ -568,6 +605,18 @@ impl Nodes {
         }
     }
 
+    /// Whether the tree of a node is an argument by itself.
+    #[inline(always)]
+    fn is_alone(&self, symbol: &[u8], node: u32) -> bool
+        requires table { IsTable (over symbol.now self.now) }
+        requires node { node < length self.now.nodes }
+        ensures { result ≡ alone_at self.now.nodes node }
+    {
+        let place = self.resolved(symbol, node);
+        let is_argument = self.node(symbol, place.node).is_argument();
+        is_argument & !self.entry(node).is_open()
+    }
+
     /// A cell of a list.
     #[inline(always)]
     fn noted_cell(&self, symbol: &[u8], node: Node, first: u32, rest: u32) -> Compact
@@ -575,20 +624,23 @@ impl Nodes {
         requires first { first < length self.now.nodes }
         requires rest { rest < length self.now.nodes }
         requires room { length self.now.nodes + 1 < 2 ^ 32 }
-        ensures { entry_of result ≡ kept node (first_of (entry_at self.now.nodes first).packs (entry_at self.now.nodes rest).packs) (both_free (entry_at self.now.nodes first).free (entry_at self.now.nodes rest).free)
-            ((entry_at self.now.nodes first).is_empty && (entry_at self.now.nodes rest).is_empty) (of_cell (by_argument_at self.now.nodes first) (by_argument_at self.now.nodes rest)) Words.Elements ((entry_at self.now.nodes rest).count + 1) (cond (nat_eq (rest + 1) (length self.now.nodes)) ((entry_at self.now.nodes rest).run + 1) 0) }
+        ensures { entry_of result ≡ with_elements node (first_of (entry_at self.now.nodes first).packs (entry_at self.now.nodes rest).packs) (both_free (entry_at self.now.nodes first).free (entry_at self.now.nodes rest).free)
+            ((entry_at self.now.nodes first).is_empty && (entry_at self.now.nodes rest).is_empty) (of_cell (by_argument_at self.now.nodes first) (by_argument_at self.now.nodes rest)) ((entry_at self.now.nodes rest).count + 1) (cond (nat_eq (rest + 1) (length self.now.nodes)) ((entry_at self.now.nodes rest).run + 1) 0) (not (alone_at self.now.nodes first) || (entry_at self.now.nodes rest).has_pack) }
     {
         let one = self.at(first);
         let other = self.at(rest);
         let is_empty = one.is_empty & other.is_empty;
         let count = other.entry().count + 1;
+        let is_alone = self.is_alone(symbol, first);
+        let has_pack = other.entry().has_pack;
+        let words = of_elements(!is_alone | has_pack);
         noted_over_two(
             node,
             one,
             other,
             is_empty,
             of_cell(one.by_argument, other.by_argument),
-            Words::Elements,
+            words,
             count,
             self.run_to(rest),
         )
@@ -722,7 +774,7 @@ impl Nodes {
 
     /// A node with what is noted of it.
     #[inline(always)]
-    #[tactic(auto, unfolding(crate::specs::Compact::packs_kept, crate::specs::Compact::class_kept, crate::specs::Compact::arguments_kept, crate::specs::Compact::untagged_kept, crate::specs::Compact::returns_kept, crate::specs::Compact::count_kept, crate::specs::Compact::run_kept, crate::specs::Notes::frees, crate::specs::Notes::node_by_argument, crate::specs::Notes::if_own, crate::specs::Notes::class_by, crate::specs::Notes::empties, crate::specs::Notes::ends_in, crate::specs::Notes::untagging, crate::specs::Notes::classes, crate::specs::Notes::packing, crate::specs::Notes::returning, crate::specs::Notes::counting, crate::specs::Notes::running))]
+    #[tactic(auto, unfolding(crate::specs::Compact::packs_kept, crate::specs::Compact::class_kept, crate::specs::Compact::arguments_kept, crate::specs::Compact::untagged_kept, crate::specs::Compact::returns_kept, crate::specs::Compact::count_kept, crate::specs::Compact::run_kept, crate::specs::Compact::has_pack_kept, crate::specs::Notes::frees, crate::specs::Notes::node_by_argument, crate::specs::Notes::if_own, crate::specs::Notes::class_by, crate::specs::Notes::empties, crate::specs::Notes::ends_in, crate::specs::Notes::untagging, crate::specs::Notes::classes, crate::specs::Notes::packing, crate::specs::Notes::returning, crate::specs::Notes::counting, crate::specs::Notes::running, crate::specs::Notes::having_pack))]
     pub(crate) fn noted(&self, symbol: &[u8], node: Node) -> Compact
         requires table { IsTable (over symbol.now self.now) }
         requires below { IsBelow symbol.now (length self.now.thunks) (length self.now.nodes) node }
