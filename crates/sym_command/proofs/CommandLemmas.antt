@@ -21,7 +21,7 @@ use Rattle.sym_command.proofs.PageLemmas.{Took-as, Took-said, OnErr-anyway}
 -- ## Words that the parser refuses
 
 -- an error of another kind than want of memory is one of the faults
-faulty : (kinds : Kinds) (kind : ErrorKind) → kind ≢ OutOfMemory → (kind ≡ OutOfMemory) ⊎ IsAmong kind kinds → kinds ≢ []
+pub faulty : (kinds : Kinds) (kind : ErrorKind) → kind ≢ OutOfMemory → (kind ≡ OutOfMemory) ⊎ IsAmong kind kinds → kinds ≢ []
 faulty [] kind known (inl memory) = absurd (known memory)
 faulty [] kind known (inr among) = absurd among
 faulty (first ∷ kinds) kind known fails = λ none. cc

@@ -27,7 +27,7 @@ const ANSWERED: u8 = 0;
 const REFUSED: u8 = 1;
 
 /// The status of a command line that was refused, or asked for help.
-const WRONG_USE: u8 = 2;
+pub const WRONG_USE: u8 = 2;
 
 /// The status where reading, writing or memory failed.
 pub const FAULT: u8 = 3;

@@ -8,7 +8,8 @@ mod outcome;
 mod page;
 mod process;
 
-pub use command::{FAULT, answer_words, filter_asked, run, run_over, run_to};
-pub use options::{Asked, Options};
+pub use command::{FAULT, WRONG_USE, answer_words, filter_asked, run, run_over, run_to};
+pub use lines::reason;
+pub use options::{Asked, Options, detail_of, flag, has_flag, limit, limit_of, with_flag};
 pub use outcome::{Filtering, Run};
-pub use process::program;
+pub use process::{called_with, fault, program};

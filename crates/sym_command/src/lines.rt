@@ -152,11 +152,20 @@ fn complaint(alloc: Global, word: &str, refusal: Refusal) -> Result<String, Allo
     ensures said { IfOk result (λ text. string_bytes text ≡ complaint_with word.now (reason_of refusal)) }
     ensures memory { OnOk result (refusal ≢ Refusal.Memory) }
 {
+    let reason = reason(alloc, refusal)?;
+    format!(in alloc; "symfilt: {word}: {reason}")
+}
+
+/// Why a symbol has no text. Want of memory is no reason of the symbol's.
+pub fn reason(alloc: Global, refusal: Refusal) -> Result<String, AllocError>
+    ensures said { IfOk result (λ text. string_bytes text ≡ reason_of refusal) }
+    ensures memory { OnOk result (refusal ≢ Refusal.Memory) }
+{
     match refusal {
-        Refusal::Malformed { at } => format!(in alloc; "symfilt: {word}: malformed at {at}"),
-        Refusal::BadReference { at } => format!(in alloc; "symfilt: {word}: bad reference at {at}"),
-        Refusal::BadValue { at } => format!(in alloc; "symfilt: {word}: bad value at {at}"),
-        Refusal::TooLong => format!(in alloc; "symfilt: {word}: too long"),
+        Refusal::Malformed { at } => format!(in alloc; "malformed at {at}"),
+        Refusal::BadReference { at } => format!(in alloc; "bad reference at {at}"),
+        Refusal::BadValue { at } => format!(in alloc; "bad value at {at}"),
+        Refusal::TooLong => format!(in alloc; "too long"),
         Refusal::Memory => Err(AllocError),
     }
 }

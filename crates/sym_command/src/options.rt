@@ -93,7 +93,11 @@ fn command_line<'a>(alloc: Global) -> Result<Command<'a>, AllocError>
 }
 
 /// A command line with one option more, which takes no value.
-fn with_flag<'a>(
+///
+/// # Errors
+///
+/// Where the list of options can't grow.
+pub fn with_flag<'a>(
     alloc: Global,
     command: Command<'a>,
     name: &'a str,
@@ -105,7 +109,7 @@ fn with_flag<'a>(
 }
 
 /// An option that takes no value.
-fn flag<'a>(alloc: Global, name: &'a str) -> Arg<'a>
+pub fn flag<'a>(alloc: Global, name: &'a str) -> Arg<'a>
     ensures rule { rule_of result ≡ flag name.entry.now }
     ensures local { result.global ≡ false }
 {
@@ -113,7 +117,7 @@ fn flag<'a>(alloc: Global, name: &'a str) -> Arg<'a>
 }
 
 /// The option that gives the limit.
-fn limit<'a>(alloc: Global) -> Arg<'a>
+pub fn limit<'a>(alloc: Global) -> Arg<'a>
     ensures rule { rule_of result ≡ limit }
     ensures local { result.global ≡ false }
 {
@@ -138,7 +142,7 @@ fn symbols<'a>(alloc: Global) -> Arg<'a>
 }
 
 /// The detail that two flags ask for.
-fn detail_of(brief: bool, no_params: bool) -> Detail
+pub fn detail_of(brief: bool, no_params: bool) -> Detail
     ensures { result ≡ detail_by brief no_params }
 {
     match (brief, no_params) {
@@ -172,14 +176,14 @@ fn asked_of(press: bool, wide: bool) -> Option<Asked>
 }
 
 /// The limit that is asked for.
-fn limit_of(matches: &ArgMatches<'_>) -> u32
+pub fn limit_of(matches: &ArgMatches<'_>) -> u32
     ensures { IsLimit (rows_of (found_of matches.now)) result }
 {
     matches.get_one::<u32>("limit").unwrap_or(DEFAULT_LIMIT)
 }
 
 /// Whether a flag is given.
-fn has_flag(matches: &ArgMatches<'_>, name: &str) -> bool
+pub fn has_flag(matches: &ArgMatches<'_>, name: &str) -> bool
     ensures { IsFlag (rows_of (found_of matches.now)) name.now result }
 {
     matches.get_flag(name)

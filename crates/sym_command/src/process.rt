@@ -1,12 +1,15 @@
 // The program: symbols on the command line, or standard input filtered to standard output.
-ghost use Rattle.std.specs.Prelude.{◌≡◌, ◌⊎◌, ◌^◌, ◌-◌, ◌<◌, IfOk, vec_len};
+ghost use Rattle.std.specs.Prelude.{◌≡◌, ◌^◌, ◌-◌, ◌<◌, IfOk, IsSome, vec_len};
 ghost use Rattle.sym_command.specs.declared.process.TheConstants.{LONGEST_ARGUMENT};
 
-use crate::command::{FAULT, refuse_with, run_over};
+use crate::command::{FAULT, WRONG_USE, run_over};
 use std::alloc::{AllocError, Global};
 use std::rt::Env;
 use std::{env, io, str};
-use sym_filter::{FilterFault, ReaderSource, Sink, WriterSink};
+use sym_filter::{FilterFault, ReaderSource, Sink, WriterSink, write_all};
+
+/// What the program calls itself.
+const NAME: &str = "symfilt";
 
 /// No argument is longer, in bytes (Linux's bound on one argument).
 const LONGEST_ARGUMENT: usize = 131_072;
@@ -15,7 +18,7 @@ const LONGEST_ARGUMENT: usize = 131_072;
 pub fn program<R: Env + Input + Print + AllocGlobal, E: Print>(rt: &R, errors: &E) -> u8 {
     match run_on_streams(rt, errors) {
         Ok(status) => status,
-        Err(error) => fault(errors, error),
+        Err(error) => fault(errors, NAME, error),
     }
 }
 
@@ -27,16 +30,9 @@ fn run_on_streams<R: Env + Input + Print + AllocGlobal, E: Print>(
     let mut input = ReaderSource::new(rt.reader());
     let mut out = WriterSink::new(io::writer(rt));
     let mut err = WriterSink::new(io::writer(errors));
-    let args = match env::args(rt) {
-        Ok(args) => args,
-        Err(error) => {
-            if error.kind() == io::ErrorKind::OutOfMemory {
-                return Err(FilterFault::Memory);
-            }
-            return refuse_argument(rt, &mut err);
-        }
+    let Some(words) = called_with(rt, NAME, &mut err)? else {
+        return Ok(WRONG_USE);
     };
-    let words: Vec<String> = args.collect(rt.alloc())?;
     let mut texts = Vec::with_capacity(rt.alloc(), words.len())?;
     for word in &words {
         texts.push(word.as_str())?;
@@ -44,13 +40,46 @@ fn run_on_streams<R: Env + Input + Print + AllocGlobal, E: Print>(
     run_over(rt.alloc(), texts.as_slice(), &mut input, &mut out, &mut err)
 }
 
+/// The words that a process was called with. Where one isn't valid UTF-8 there are none, and it is said under the program's name,
+/// whose status is then `WRONG_USE`.
+///
+/// # Errors
+///
+/// `Write` and `Memory`.
+pub fn called_with<R: Env + AllocGlobal, E: Sink>(
+    rt: &R,
+    name: &str,
+    err: &mut E,
+) -> Result<Option<Vec<String>>, FilterFault>
+    requires { E.failure_count err.old < 2 ^ 64 - 1 }
+    ensures { IfOk result (λ words. IsSome words → E.failure_count err.new ≡ E.failure_count err.old) }
+{
+    let args = match env::args(rt) {
+        Ok(args) => args,
+        Err(error) => {
+            if error.kind() == io::ErrorKind::OutOfMemory {
+                return Err(FilterFault::Memory);
+            }
+            refuse_argument(rt, name, err)?;
+            return Ok(None);
+        }
+    };
+    let words = args.collect(rt.alloc())?;
+    Ok(Some(words))
+}
+
 /// Names the first argument that isn't valid UTF-8.
-fn refuse_argument<R: Env + AllocGlobal, E: Sink>(rt: &R, err: &mut E) -> Result<u8, FilterFault>
+fn refuse_argument<R: Env + AllocGlobal, E: Sink>(
+    rt: &R,
+    name: &str,
+    err: &mut E,
+) -> Result<(), FilterFault>
     requires { E.failure_count err.old < 2 ^ 64 - 1 }
 {
     let alloc = rt.alloc();
     let mut room = room_for_argument(alloc)?;
-    let mut line = Vec::from_slice(alloc, b"symfilt: ")?;
+    let mut line = Vec::from_slice(alloc, name.as_bytes())?;
+    line.extend_from_slice(b": ")?;
     for i in 0..usize::MAX {
         let Ok(len) = rt.arg(i, &mut room) else {
             break;
@@ -62,7 +91,7 @@ fn refuse_argument<R: Env + AllocGlobal, E: Sink>(rt: &R, err: &mut E) -> Result
         }
     }
     line.extend_from_slice(b": not valid UTF-8\n")?;
-    refuse_with(err, &line)
+    write_all(err, &line)
 }
 
 /// Room for the bytes of one argument.
@@ -72,10 +101,10 @@ fn room_for_argument(alloc: Global) -> Result<Vec<u8>, AllocError>
     vec![in alloc; 0u8; LONGEST_ARGUMENT]
 }
 
-/// Names a fault on standard error.
-fn fault<E: Print>(errors: &E, error: FilterFault) -> u8
+/// Names a fault on standard error under the program's name, and answers the status.
+pub fn fault<E: Print>(errors: &E, name: &str, error: FilterFault) -> u8
     ensures { result ≡ 3 }
 {
-    let _ = errors.println(format_args!("symfilt: {error}"));
+    let _ = errors.println(format_args!("{name}: {error}"));
     FAULT
 }
