@@ -36,6 +36,7 @@ for file in ${symbols[@]+"${symbols[@]}"} $reference $module; do
 done
 cd "$(dirname "$0")/.." || exit 2
 symfilt=$PWD/crates/symfilt/out/symfilt
+demangle=$PWD/crates/demangle/out/demangle
 library=crates/symdemangle/out/libsymdemangle.a
 check_rows=crates/check_rows/out/check_rows
 [ -x "$symfilt" ] || { echo "$0: no $symfilt: \`rt run -- _RNvC3foo3bar\` in crates/symfilt proves and builds it" >&2; exit 2; }
@@ -90,8 +91,14 @@ compared() { tests/compare.py "$@" <"$work/symbols"; }
 costs() { tools/pack.sh "$work/packed" && tests/costs.py "$work/packed/libsymdemangle.so" "$module" <"$work/symbols"; }
 
 try generated tools/check_generated.py
-try rows tests/vectors.py "$symfilt"
-try texts tests/texts.py "$symfilt"
+if [ -x "$demangle" ]; then
+    try rows tests/vectors.py --demangle "$demangle" "$symfilt"
+    try texts tests/texts.py "$symfilt" "$demangle"
+else
+    try rows tests/vectors.py "$symfilt"
+    try texts tests/texts.py "$symfilt"
+    leave demangle "\`rt run\` in crates/demangle builds it"
+fi
 try readme tests/readme.py "$symfilt"
 try calls tests/fail_calls.sh "$symfilt"
 if [ -x $check_rows ]; then

@@ -18,14 +18,16 @@ grep -q "^__version__ = \"$version\"$" callers/python/symdemangle/__init__.py ||
 grep -q "^\.TH SYMFILT 1 [0-9-]* \"symfilt $version\"" docs/symfilt.1 || fail "docs/symfilt.1 isn't of version $version"
 grep -q "^SYMDEMANGLE_${version%.*} {$" callers/archive/names.map || fail "callers/archive/names.map isn't of version $version"
 [ "$(sed -n 's/^## \([0-9.]*\).*/\1/p' CHANGELOG.md | head -n 1)" = "$version" ] || fail "CHANGELOG.md begins with another version than $version"
-! command -v mandoc >/dev/null || [ -z "$(mandoc -T lint docs/symfilt.1 | tee /dev/stderr)" ] || fail 'docs/symfilt.1'
+grep -q "^\.TH DEMANGLE 1 [0-9-]* \"symfilt $version\"" docs/demangle.1 || fail "docs/demangle.1 isn't of version $version"
+! command -v mandoc >/dev/null || [ -z "$(mandoc -T lint docs/symfilt.1 docs/demangle.1 | tee /dev/stderr)" ] || fail 'the manual pages'
 
 # Installed into a package's folder, then removed: what was there before stays, and nothing else.
 root=$work/root
 mkdir -p "$root/opt/it/lib64" && touch "$root/opt/it/lib64/other"
 DESTDIR=$root PREFIX=/opt/it LIBDIR=lib64 tools/install.sh
 [ "$(echo 'at _RNvC3foo3bar' | "$root/opt/it/bin/symfilt")" = 'at foo::bar' ] || fail 'the installed program'
-for file in bin/symfilt include/symdemangle.h lib64/libsymdemangle.a lib64/libsymdemangle.so lib64/pkgconfig/symdemangle.pc \
+[ "$(echo 'at _RNvC3foo3bar' | "$root/opt/it/bin/demangle")" = 'at foo::bar' ] || fail 'the installed demangle'
+for file in bin/symfilt bin/demangle share/man/man1/demangle.1 include/symdemangle.h lib64/libsymdemangle.a lib64/libsymdemangle.so lib64/pkgconfig/symdemangle.pc \
     lib64/cmake/symdemangle/symdemangleConfig.cmake share/man/man1/symfilt.1 share/doc/symfilt/LICENSE-MIT \
     share/doc/symfilt/LICENSE-APACHE share/doc/symfilt/docs/GRAMMARS.md share/doc/symfilt/docs/callers/C.md \
     share/symdemangle/rust/Cargo.toml share/symdemangle/python/symdemangle/__init__.py share/symdemangle/go/symdemangle.go; do
@@ -52,7 +54,7 @@ diff -r "$work/one" "$work/another/one" || fail 'the release has other bytes the
 (cd "$work/one" && sha256sum --quiet -c SHA256SUMS)
 mkdir "$work/tar" && tar -C "$work/tar" --strip-components=1 -xzf "$work"/one/*.tar.gz
 dpkg-deb -x "$work"/one/*.deb "$work/deb"
-for program in "$work/tar/bin/symfilt" "$work/deb/usr/bin/symfilt"; do
+for program in "$work/tar/bin/symfilt" "$work/deb/usr/bin/symfilt" "$work/tar/bin/demangle" "$work/deb/usr/bin/demangle"; do
     [ "$("$program" _Z1fv)" = 'f()' ] || fail "$program"
 done
 for lib in "$work/tar/lib" "$work/deb/usr/lib/x86_64-linux-gnu"; do

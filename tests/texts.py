@@ -1,7 +1,7 @@
 #!/usr/bin/env python3
-"""Filters texts as tools and people make them by the built program, and names those that come out otherwise than they have to.
+"""Filters texts as tools and people make them by the built programs, and names those that come out otherwise than they have to.
 
-    tests/texts.py SYMFILT
+    tests/texts.py SYMFILT [DEMANGLE]
 
 Beside lines of linkers, debuggers, profilers and traces there are bytes that no text has, prompts that wait for an answer, a line
 of 30 MB, and a name that is made to exhaust a demangler. The status is 1 where one comes out otherwise.
@@ -42,8 +42,8 @@ def doubling(times):
     return "_R" + symbol + "E"
 
 
-# What comes in, and what has to come out.
-USUAL = {
+# What comes in, and what has to come out of both programs.
+SAME = {
     "nm": (f"0000000000001139 T {VECTOR}\n", f"0000000000001139 T {VECTOR_TEXT}\n"),
     "objdump": ("  401136:\te8 00 00\tcall 401130 <_Z1fv@plt> <_ZN1A1fEv+0x10>\n", "  401136:\te8 00 00\tcall 401130 <f()@plt> <A::f()+0x10>\n"),
     "readelf": ("FUNC GLOBAL _ZNSt9exceptionD1Ev@GLIBCXX_3.4 _Z1fv@@V_1\n", "FUNC GLOBAL std::exception::~exception()@GLIBCXX_3.4 f()@@V_1\n"),
@@ -60,13 +60,20 @@ USUAL = {
     "other languages": ("_TtC3foo3Bar ?f@@YAXXZ -[Foo bar] main.main\n", "_TtC3foo3Bar ?f@@YAXXZ -[Foo bar] main.main\n"),
 }
 
-# The same with options.
-WITH_OPTIONS = {
+# The same of each alone: options, what comes in and what has to come out.
+SYMFILT = {
     "stacks": (["--no-params", "--brief"], f"main;{VECTOR};_ZN1A1fIiEEvT_ 42\n", "main;std::vector::push_back;A::f 42\n"),
     "quotes that aren't ASCII": (["--ascii-words"], "‘_ZN1A1fEi’ »_Z1fv« 関数_Z1fvで\n", "‘A::f(int)’ »f()« 関数f()で\n"),
     "legacy Rust names": (["--legacy"], f"{LEGACY}\n", "demo::main\n"),
     "newer C++": (["--wide"], "_Z1fN2ns3BoxIiEENS0_IcEE\n", "f(ns::Box<int>, ns::Box<char>)\n"),
 }
+DEMANGLE = {
+    "stacks": (["-p", "--brief"], f"main;{VECTOR};_ZN1A1fIiEEvT_ 42\n", "main;std::vector::push_back;A::f 42\n"),
+    "legacy Rust names": ([], f"{LEGACY}\n", "demo::main\n"),
+    "newer C++": ([], "_Z1fN2ns3BoxIiEENS0_IcEE\n", "f(ns::Box<int>, ns::Box<char>)\n"),
+    "an option of c++filt": (["-n", "-s", "gnu-v3"], "_Z1fv _RNvC3foo3bar\n", "f() _RNvC3foo3bar\n"),
+}
+
 
 def coded(text):
     return text if isinstance(text, bytes) else text.encode()
@@ -86,14 +93,14 @@ def filtered(program, options, text):
     return done.stdout, done.stderr, done.returncode
 
 
-def texts(program):
-    for name, (text, wanted) in USUAL.items():
+def texts(program, own):
+    for name, (text, wanted) in SAME.items():
         out, err, status = filtered(program, [], text)
         if wanted is None:
             # each byte that belongs to no name comes out
             wanted = coded(text).replace(b"_Z1fv", b"f()")
         yield name, (out, err, status) == (coded(wanted), b"", 0), out
-    for name, (options, text, wanted) in WITH_OPTIONS.items():
+    for name, (options, text, wanted) in own.items():
         out, err, status = filtered(program, options, text)
         yield name, (out, err, status) == (coded(wanted), b"", 0), out
 
@@ -131,17 +138,21 @@ def survives(program):
 
 
 def main():
-    if len(sys.argv) != 2:
+    if len(sys.argv) not in (2, 3):
         sys.exit(__doc__)
-    program = os.path.abspath(sys.argv[1])
-    found = list(texts(program))
-    for name, check in (("at once", answers_at_once), ("a long line", passes_long_lines), ("a hostile name", survives)):
-        found.append((name, *check(program)))
-    wrong = [(name, out) for name, holds, out in found if not holds]
-    for name, out in wrong:
-        print(f"{name}: {out[:200]!r}")
-    print(f"{len(found)} texts, {len(wrong)} come out otherwise")
-    sys.exit(1 if wrong else 0)
+    failed = count = 0
+    for path, own in zip(sys.argv[1:], (SYMFILT, DEMANGLE)):
+        program = os.path.abspath(path)
+        found = list(texts(program, own))
+        for name, check in (("at once", answers_at_once), ("a long line", passes_long_lines), ("a hostile name", survives)):
+            found.append((name, *check(program)))
+        for name, holds, out in found:
+            count += 1
+            if not holds:
+                failed += 1
+                print(f"{os.path.basename(path)}: {name}: {out[:200]!r}")
+    print(f"{count} texts, {failed} come out otherwise")
+    sys.exit(1 if failed else 0)
 
 
 if __name__ == "__main__":

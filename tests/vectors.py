@@ -1,9 +1,9 @@
 #!/usr/bin/env python3
-"""Runs the built program on rows of symbols and their answers, and names the rows where it answers otherwise.
+"""Runs the built programs on rows of symbols and their answers, and names the rows where one answers otherwise.
 
-    tests/vectors.py SYMFILT [FILE..]
+    tests/vectors.py [--demangle DEMANGLE] SYMFILT [FILE..]
 
-SYMFILT is the built program. Without files the rows are those of crates/check_rows/stdin; docs/TESTING.md says how rows are
+SYMFILT and DEMANGLE are the built programs; without DEMANGLE its rows are skipped. Without files the rows are those of crates/check_rows/stdin; docs/TESTING.md says how rows are
 written. A row of a word longer than those that the filter takes is skipped, and named. The status is 1 where a row doesn't
 hold, 2 where the program can't be run or there is no row.
 """
@@ -64,6 +64,7 @@ class Program:
     def __init__(self, path):
         self.path = path
         self.runs = 0
+        self.other = None
 
     def run(self, words, data=b""):
         """Standard output, standard error and the status."""
@@ -210,6 +211,15 @@ def check_command(program, status, words, out, err):
     return [] if same else [f"{found!r}, not {wanted!r}"]
 
 
+def check_demangle(program, status, words, text, out, err):
+    if program.other is None:
+        raise Skipped("a row of the program demangle, which wasn't given")
+    found = program.other.run([""] if words == b"" else options_of(words), unescaped(text))
+    wanted = (out, err, int(status))
+    same = found[2] == wanted[2] and all(got if want == b"*" else got == unescaped(want) for got, want in zip(found, wanted[:2]))
+    return [] if same else [f"{found!r}, not {wanted!r}"]
+
+
 CHECKS = {
     b"text": check_text,
     b"long": check_long,
@@ -224,6 +234,7 @@ CHECKS = {
     b"press": check_press,
     b"filter": check_filter,
     b"command": check_command,
+    b"demangle": check_demangle,
 }
 
 
@@ -242,15 +253,21 @@ def check(program, row):
 
 
 def main():
-    if len(sys.argv) < 2:
+    arguments = sys.argv[1:]
+    other = None
+    if len(arguments) > 1 and arguments[0] == "--demangle":
+        other = Program(arguments[1])
+        arguments = arguments[2:]
+    if not arguments:
         sys.exit(__doc__)
-    program = Program(sys.argv[1])
+    program = Program(arguments[0])
+    program.other = other
     rows = failed = skipped = 0
     try:
         if not program.run(["--version"])[1].startswith(b"symfilt"):
-            print(f"{sys.argv[1]} isn't the program", file=sys.stderr)
+            print(f"{arguments[0]} isn't the program", file=sys.stderr)
             sys.exit(2)
-        for path in sys.argv[2:] or [os.path.join(HERE, "..", "crates", "check_rows", "stdin")]:
+        for path in arguments[1:] or [os.path.join(HERE, "..", "crates", "check_rows", "stdin")]:
             with open(path, "rb") as file:
                 lines = file.read().split(b"\n")
             for number, row in enumerate(lines, 1):

@@ -1,5 +1,5 @@
 #!/bin/sh
-# Installs the proved program with its man page and completions, the libraries with their headers, licences and documents:
+# Installs the proved programs with their man pages and completions, the libraries with their headers, licences and documents:
 #
 #   tools/install.sh [PREFIX]                 under /usr/local, if no PREFIX is named here or in the environment
 #   tools/install.sh --uninstall [PREFIX]     removes the same files, and the folders of its own that are left empty
@@ -56,15 +56,19 @@ files() {
 LIST
     [ $mode != libraries ] || return 0
     cat <<LIST
-755 crates/symfilt/out/symfilt bin/symfilt
-644 docs/symfilt.1 share/man/man1/symfilt.1
-644 tools/completions/symfilt.bash share/bash-completion/completions/symfilt
-644 tools/completions/symfilt.fish share/fish/vendor_completions.d/symfilt.fish
-644 tools/completions/_symfilt share/zsh/site-functions/_symfilt
 644 callers/c/crash_reporter.cc share/doc/symfilt/examples/crash_reporter.cc
 644 callers/shims/shims.c share/doc/symfilt/examples/shims.c
 755 tools/symfilt_dask.py share/doc/symfilt/tools/symfilt_dask.py
 LIST
+    for program in symfilt demangle; do
+        cat <<LIST
+755 crates/$program/out/$program bin/$program
+644 docs/$program.1 share/man/man1/$program.1
+644 tools/completions/$program.bash share/bash-completion/completions/$program
+644 tools/completions/$program.fish share/fish/vendor_completions.d/$program.fish
+644 tools/completions/_$program share/zsh/site-functions/_$program
+LIST
+    done
     for document in README.md CHANGELOG.md SECURITY.md LICENSE-MIT LICENSE-APACHE docs/GRAMMARS.md docs/PROMISES.md \
         docs/SCALE.md docs/callers/*.md docs/*.svg; do
         [ ! -f "$document" ] || echo "644 $document share/doc/symfilt/$document"
@@ -102,6 +106,7 @@ if [ $mode = uninstall ]; then
 fi
 
 [ $mode = libraries ] || [ -x crates/symfilt/out/symfilt ] || (cd crates/symfilt && rt run -- _RNvC3foo3bar)
+[ $mode = libraries ] || [ -x crates/demangle/out/demangle ] || (cd crates/demangle && rt run -- _RNvC3foo3bar)
 [ -f crates/symdemangle/out/libsymdemangle.a ] || (cd crates/symdemangle && rt lib)
 tools/pack.sh "$packed" "$prefix" "$libdir"
 files | while read -r bits from to; do put "$bits" "$from" "$to"; done

@@ -1,4 +1,4 @@
-// The command line and the filter, as the program has them.
+// The command line and the filter, as the programs have them.
 
 use crate::answer::{says, unspelled};
 use crate::library::{flags_of, library_filters};
@@ -10,12 +10,16 @@ use sym_filter::{ListSink, ReaderSource};
 
 /// The words of a command line, the program's name first, as blanks keep them apart; `-` is none. There is no such line where
 /// they aren't text.
-fn words_of<'a>(alloc: Global, field: &'a [u8]) -> Result<Option<Vec<&'a str>>, Refusal> {
+fn words_of<'a>(
+    alloc: Global,
+    program: &'a str,
+    field: &'a [u8],
+) -> Result<Option<Vec<&'a str>>, Refusal> {
     let Ok(field) = str::from_utf8(field) else {
         return Ok(None);
     };
     let mut words = Vec::new(alloc);
-    words.push("symfilt")?;
+    words.push(program)?;
     if field != "-" {
         for word in field.split(' ') {
             words.push(word)?;
@@ -59,7 +63,7 @@ pub fn is_filtered(
     text: &[u8],
     wanted: &[u8],
 ) -> Result<bool, Refusal> {
-    let Some(words) = words_of(alloc, options)? else {
+    let Some(words) = words_of(alloc, "symfilt", options)? else {
         return Ok(false);
     };
     let text = unspelled(alloc, text)?;
@@ -102,7 +106,7 @@ pub fn is_ended(
     wanted: &[u8],
     errors: &[u8],
 ) -> Result<bool, Refusal> {
-    let Some(words) = words_of(alloc, words)? else {
+    let Some(words) = words_of(alloc, "symfilt", words)? else {
         return Ok(false);
     };
     let mut out = Vec::new(alloc);
@@ -118,5 +122,43 @@ pub fn is_ended(
             )
         }
         Run::Filter { .. } => Ok(false),
+    }
+}
+
+/// Whether a program wrote these bytes as a row spells them, or some where it has `*`.
+fn is_written(alloc: Global, bytes: Vec<u8>, wanted: &[u8]) -> Result<bool, Refusal> {
+    if wanted == b"*".as_slice() {
+        return Ok(!bytes.is_empty());
+    }
+    says(alloc, &Ok(bytes), wanted)
+}
+
+/// Whether `demangle` ends with this status on these words over an input, and writes this to its outputs; either may be `*`, any.
+///
+/// # Errors
+///
+/// `Memory`. Nothing else can fail here.
+pub fn is_demangled(
+    alloc: Global,
+    status: u32,
+    words: &[u8],
+    input: &[u8],
+    wanted: &[u8],
+    errors: &[u8],
+) -> Result<bool, Refusal> {
+    let Some(words) = words_of(alloc, "demangle", words)? else {
+        return Ok(false);
+    };
+    let input = unspelled(alloc, input)?;
+    let mut reader = ReaderSource::new(input.as_slice());
+    let mut out = ListSink::new(Vec::new(alloc));
+    let mut err = ListSink::new(Vec::new(alloc));
+    match demangle_command::run_over(alloc, &words, &mut reader, &mut out, &mut err) {
+        Ok(ended) => Ok(
+            u32::from(ended) == status
+                && is_written(alloc, out.into_list(), wanted)?
+                && is_written(alloc, err.into_list(), errors)?,
+        ),
+        Err(_) => Err(Refusal::Memory),
     }
 }

@@ -3,7 +3,7 @@
 use crate::answer::spelled;
 use crate::calls::{by_demangler, calls_say, demangler_says, pieces_say, presses_say};
 use crate::changes::{self, Change};
-use crate::commands::{is_ended, is_filtered};
+use crate::commands::{is_demangled, is_ended, is_filtered};
 use crate::legacy::{has_legacy_text, is_legacy_refused};
 use crate::library::{is_told_nameless, is_told_oversize, library_presses};
 use crate::profile::{Profile, TOO_LONG};
@@ -428,6 +428,17 @@ fn of_command(alloc: Global, fields: &[&[u8]]) -> Result<bool, Refusal> {
     }
 }
 
+/// Whether a row `demangle` holds.
+fn of_demangle(alloc: Global, fields: &[&[u8]]) -> Result<bool, Refusal> {
+    let [status, words, input, out, err] = fields else {
+        return Ok(false);
+    };
+    match number(status) {
+        Some(status) => is_demangled(alloc, status, words, input, out, err),
+        None => Ok(false),
+    }
+}
+
 /// The change that a row is of.
 fn change_of(what: &[u8]) -> Option<Change> {
     match what {
@@ -476,6 +487,7 @@ fn hold(
         b"press" => of_press(alloc, &mut lists.abi, fields),
         b"filter" => of_filter(alloc, fields),
         b"command" => of_command(alloc, fields),
+        b"demangle" => of_demangle(alloc, fields),
         _ => Ok(false),
     }
 }

@@ -1,0 +1,4 @@
+pub mod CommandLemmas
+pub mod NameLemmas
+pub mod OptionLemmas
+pub mod StyleLemmas

@@ -1,0 +1,20 @@
+-- What is answered by a style.
+use Rattle.std.proofs.Common.{◌≡◌, ◌∙◌, ℕ, List, true, false}
+use Rattle.std.specs.Prelude.{Err}
+use Rattle.std.proofs.lemmas.Bool.{cond-true, cond-false}
+use Rattle.sym_core.specs.declared.refusal.Refusal.TheVariants.{Malformed}
+use Rattle.sym_print.specs.declared.detail.Detail.{Detail}
+use Rattle.sym_filter.specs.Languages.{wide_answer_of, legacy_wide_answer_of}
+use Rattle.sym_filter.specs.declared.kinds.Kind.{Kind}
+use Rattle.demangle_command.specs.Style.{leaves_out, reads_paths, styled_answer}
+use Rattle.demangle_command.specs.declared.style.Style.{Style}
+
+module _ (style : Style) (limit : ℕ) (detail : Detail) (kind : Kind) (symbol : List ℕ) where
+  pub left-out : leaves_out style kind.lang symbol ≡ true → styled_answer style limit detail kind symbol ≡ Err (Malformed 0)
+  left-out out = cond-true (leaves_out style kind.lang symbol) _ _ out
+
+  pub as-path : leaves_out style kind.lang symbol ≡ false → reads_paths style ≡ true → styled_answer style limit detail kind symbol ≡ legacy_wide_answer_of limit detail kind symbol
+  as-path read paths = cond-false (leaves_out style kind.lang symbol) _ _ read ∙ cond-true (reads_paths style) _ _ paths
+
+  pub as-symbol : leaves_out style kind.lang symbol ≡ false → reads_paths style ≡ false → styled_answer style limit detail kind symbol ≡ wide_answer_of limit detail kind symbol
+  as-symbol read symbols = cond-false (leaves_out style kind.lang symbol) _ _ read ∙ cond-false (reads_paths style) _ _ symbols

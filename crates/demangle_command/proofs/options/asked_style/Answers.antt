@@ -1,0 +1,17 @@
+use Rattle.std.proofs.Common.{◌∙◌, codes, ap, sym}
+use Rattle.std.specs.Prelude.{option_map}
+use Rattle.clap.specs.Words.{found_of, first_of, rows_of}
+use Rattle.clap.proofs.WalkLemmas.{first_value-rows}
+use Rattle.demangle_command.proofs.OptionLemmas.{asked-none, asked-some}
+use Rattle.demangle_command.proofs.options.asked_style.Goals as goal
+
+pub returns-in-None : goal.returns-in-None
+returns-in-None c =
+    let found = found_of c.args.matches.now in
+    asked-none (first_of (codes "format") (rows_of found)) (sym (ap (option_map (λ s. s.now)) c.in-None.is) ∙ c.get_str.ensures ∙ first_value-rows found (codes "format"))
+
+pub returns-in-Some : goal.returns-in-Some
+returns-in-Some c =
+    let found = found_of c.args.matches.now in
+    asked-some (first_of (codes "format") (rows_of found)) c.in-Some.name.now c.style_of.result
+    (sym (ap (option_map (λ s. s.now)) c.in-Some.is) ∙ c.get_str.ensures ∙ first_value-rows found (codes "format")) c.style_of.ensures

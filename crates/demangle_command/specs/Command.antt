@@ -1,0 +1,111 @@
+-- What a command line did to an input and two outputs.
+use Rattle.std.specs.Prelude.{◌≡◌, ◌≢◌, ◌⊎◌, ℕ, List, [], Bool, true, false, not, ◌==◌, Option, None}
+use Rattle.std.specs.Io.KnownBytes.{Appends}
+use Rattle.clap.specs.Words.{Row, Text, IsAmong}
+use Rattle.clap.specs.declared.error.kind.ErrorKind.{ErrorKind}
+use Rattle.clap.specs.declared.error.kind.ErrorKind.TheVariants.{DisplayHelp, DisplayVersion}
+use Rattle.sym_filter.specs.Runs.{Answering}
+use Rattle.sym_filter.specs.Streams.{BeginsWith, FiltersAll, FiltersFront}
+use Rattle.sym_filter.specs.declared.words.Tally.{Tally}
+use Rattle.sym_command.specs.Command.{Took}
+use Rattle.demangle_command.specs.CommandLine.{AreGiven, AreOptions, names_of, found_in, faults_in}
+use Rattle.demangle_command.specs.Names.{AnswersNames, NamesFront, summary_if, status_of}
+use Rattle.demangle_command.specs.Style.{styled_answer}
+use Rattle.demangle_command.specs.declared.options.Options.{Options}
+
+-- what is answered for symbols as options ask
+abbrev pub answers_of : Options → Answering
+answers_of options = styled_answer options.style options.limit options.detail
+
+-- ## An input
+
+-- It was filtered to its end, and then it was said how much stays, where that is asked.
+pub record FiltersInput (answers : Answering) (why strict : Bool) (coming coming' out out' err err' : Option (List ℕ)) (status : ℕ) : Type 0 where
+  pub tally : Tally
+  pub filtered : FiltersAll answers coming coming' out out' tally
+  pub says : Appends err err' (summary_if why tally)
+  pub ends : status ≡ status_of strict (not (tally.refused == 0))
+
+-- some of it was filtered before a fault
+pub record FiltersInputFront (answers : Answering) (why : Bool) (coming coming' out out' err err' : Option (List ℕ)) : Type 0 where
+  pub filtered : FiltersFront answers coming coming' out out'
+  pub tally : Tally
+  pub said : List ℕ
+  pub says : Appends err err' said
+  pub said_begins : BeginsWith (summary_if why tally) said
+
+-- ## A command line that its parser takes, by what it found
+
+-- its names are answered as its options ask
+pub record Answered (rows : List Row) (status : ℕ) (lines said : List ℕ) : Type 0 where
+  pub options : Options
+  pub given : AreGiven rows options
+  pub some : names_of rows ≢ []
+  pub one_stays : Bool
+  pub answered : AnswersNames (answers_of options) options.why (names_of rows) one_stays lines said
+  pub ends : status ≡ status_of options.strict one_stays
+
+pub record AnsweredFront (rows : List Row) (lines said : List ℕ) : Type 0 where
+  pub options : Options
+  pub given : AreGiven rows options
+  pub front : NamesFront (answers_of options) options.why (names_of rows) lines said
+
+-- it has no names, and the input was filtered as its options ask
+pub record Filtered (rows : List Row) (coming coming' out out' err err' : Option (List ℕ)) (status : ℕ) : Type 0 where
+  pub options : Options
+  pub given : AreGiven rows options
+  pub none : names_of rows ≡ []
+  pub filtered : FiltersInput (answers_of options) options.why options.strict coming coming' out out' err err' status
+
+pub record FilteredFront (rows : List Row) (coming coming' out out' err err' : Option (List ℕ)) : Type 0 where
+  pub options : Options
+  pub given : AreGiven rows options
+  pub none : names_of rows ≡ []
+  pub filtered : FiltersInputFront (answers_of options) options.why coming coming' out out' err err'
+
+-- its names are answered; or no style has the name that is given, and no line was written
+abbrev pub IsEndedOf : List Row → ℕ → List ℕ → List ℕ → Type 0
+IsEndedOf rows status lines said = Answered rows status lines said ⊎ ((status ≡ 2) × (lines ≡ []) × AreOptions rows None)
+
+-- without a whole answer: beginnings, or no line
+abbrev pub IsStoppedOf : List Row → List ℕ → List ℕ → Type 0
+IsStoppedOf rows lines said = AnsweredFront rows lines said ⊎ (lines ≡ [])
+
+-- the same of the whole command line, which may filter the input
+abbrev pub EndsOf : List Row → (coming coming' out out' err err' : Option (List ℕ)) → ℕ → Type 0
+EndsOf rows coming coming' out out' err err' status =
+    ((coming' ≡ coming) × Took out out' err err' (IsEndedOf rows status)) ⊎ Filtered rows coming coming' out out' err err' status
+
+abbrev pub StopsOf : List Row → (coming coming' out out' err err' : Option (List ℕ)) → Type 0
+StopsOf rows coming coming' out out' err err' =
+    ((coming' ≡ coming) × Took out out' err err' (IsStoppedOf rows)) ⊎ FilteredFront rows coming coming' out out' err err'
+
+-- ## One that it doesn't take
+
+-- whether it asks for help or the version
+abbrev pub is_request : ErrorKind → Bool
+is_request DisplayHelp = true
+is_request DisplayVersion = true
+is_request other = false
+
+-- What is asked for is on standard output, and the status is 0; why a command line is wrong is on standard error, and it is 2.
+abbrev pub IsTold : Bool → ℕ → List ℕ → List ℕ → Type 0
+IsTold true status lines said = (status ≡ 0) × (said ≡ [])
+IsTold false status lines said = (status ≡ 2) × (lines ≡ [])
+
+abbrev pub IsUntaken : List Text → ℕ → List ℕ → List ℕ → Type 0
+IsUntaken words status lines said = (kind : ErrorKind) × IsAmong kind (faults_in words) × IsTold (is_request kind) status lines said
+
+-- ## The words of a command line
+
+-- Its parser takes them, and they did what it found; or it doesn't.
+abbrev pub Ends : List Text → (coming coming' out out' err err' : Option (List ℕ)) → ℕ → Type 0
+Ends words coming coming' out out' err err' status =
+    ((faults_in words ≡ []) × EndsOf (found_in words) coming coming' out out' err err' status)
+    ⊎ ((coming' ≡ coming) × Took out out' err err' (IsUntaken words status))
+
+-- Up to a fault: before it is known what the parser finds, nothing was written but what it says.
+abbrev pub Stops : List Text → (coming coming' out out' err err' : Option (List ℕ)) → Type 0
+Stops words coming coming' out out' err err' =
+    StopsOf (found_in words) coming coming' out out' err err'
+    ⊎ ((coming' ≡ coming) × Took out out' err err' (λ lines said. (faults_in words ≢ []) ⊎ ((lines ≡ []) × (said ≡ []))))

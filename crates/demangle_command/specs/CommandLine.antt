@@ -1,0 +1,98 @@
+-- The command line: which options there are, what they ask, and what its parser finds in its words.
+use Rattle.std.specs.Prelude.{◌≡◌, List, [], ◌∷◌, Bool, true, Option, Some, None, codes, unwrap_or}
+use Rattle.clap.specs.Lexer.{usize_max}
+use Rattle.clap.specs.Words.{Text, Rule, Row, App, Kinds, new_rule, new_app, matches_of, fault_of, first_of, all_of}
+use Rattle.clap.specs.declared.builder.action.ArgAction.TheVariants.{SetTrue, Append, Version}
+use Rattle.sym_command.specs.CommandLine.{flag, limit, detail_by, IsFlag, IsLimit}
+use Rattle.demangle_command.specs.Style.{IsStyle}
+use Rattle.demangle_command.specs.declared.style.Style.{Style}
+use Rattle.demangle_command.specs.declared.style.Style.TheVariants.{Auto}
+use Rattle.demangle_command.specs.declared.options.Options.{Options}
+
+-- ## What the parser is told
+
+-- `-p`, `--no-params`
+abbrev pub no_params : Rule
+no_params = record (flag (codes "no-params")) { short = Some 112 }
+
+-- `-s`, `--format`, with the name of a style
+abbrev pub style_option : Rule
+style_option = record (new_rule (codes "format")) { long = Some (codes "format"); short = Some 115; value_names = 1 }
+
+-- `-v`, `-V`, `--version`
+abbrev pub version_flag : Rule
+version_flag = record (new_rule (codes "version")) { long = Some (codes "version"); short = Some 118; action = Some Version }
+
+abbrev pub version_option : Rule
+version_option = record version_flag { short_aliases = 86 ∷ [] }
+
+-- `-n`, `-_`, `-i`, `-r`, `-R` and their long names, which are taken and say nothing
+abbrev pub taken_option : Rule
+taken_option = record (flag (codes "no-strip-underscore")) { short = Some 110 }
+
+abbrev pub taken_options : Rule
+taken_options = record taken_option {
+  short_aliases = 95 ∷ 105 ∷ 114 ∷ 82 ∷ [];
+  aliases = codes "strip-underscore" ∷ codes "no-verbose" ∷ codes "no-recurse-limit" ∷ codes "no-recursion-limit"
+      ∷ codes "recurse-limit" ∷ codes "recursion-limit" ∷ [];
+}
+
+-- any number of names
+abbrev pub name_arguments : Rule
+name_arguments = record (new_rule (codes "NAME")) {
+  action = Some Append;
+  range = Some (record { start_inclusive = 0; end_inclusive = usize_max });
+}
+
+-- The program's command line. Its parser adds help. An option may be given again.
+unfoldable pub command_line : App
+command_line = record {
+  top = record (new_app (codes "demangle")).top {
+    has_version = true;
+    disable_version_flag = true;
+    args_override_self = true;
+    rules = no_params ∷ flag (codes "brief") ∷ limit ∷ style_option ∷ flag (codes "why") ∷ flag (codes "strict") ∷ version_option ∷ taken_options ∷ name_arguments ∷ [];
+  };
+  subs = [];
+}
+
+-- ## What the options ask
+
+-- the style that `--format` names, `auto` where it isn't given; none of another name
+abbrev pub IsAsked : Option Text → Option Style → Type 0
+IsAsked None asked = asked ≡ Some Auto
+IsAsked (Some name) asked = IsStyle name asked
+
+abbrev pub IsAskedStyle : List Row → Option Style → Type 0
+IsAskedStyle rows asked = IsAsked (first_of (codes "format") rows) asked
+
+-- options as the parser found them
+pub record AreGiven (rows : List Row) (options : Options) : Type 0 where
+  pub brief : Bool
+  pub no_params : Bool
+  pub is_brief : IsFlag rows (codes "brief") brief
+  pub is_no_params : IsFlag rows (codes "no-params") no_params
+  pub detail : options.detail ≡ detail_by brief no_params
+  pub limit : IsLimit rows options.limit
+  pub style : IsAskedStyle rows (Some options.style)
+  pub why : IsFlag rows (codes "why") options.why
+  pub strict : IsFlag rows (codes "strict") options.strict
+
+-- the options, or none where no style has the name that is given
+abbrev pub AreOptions : List Row → Option Options → Type 0
+AreOptions rows (Some options) = AreGiven rows options
+AreOptions rows None = IsAskedStyle rows None
+
+-- the names, as the parser found them
+abbrev pub names_of : List Row → List Text
+names_of rows = unwrap_or (all_of (codes "NAME") rows) []
+
+-- ## The words of a command line, the program's name first
+
+-- what the parser finds in them
+abbrev pub found_in : List Text → List Row
+found_in words = matches_of command_line words
+
+-- the kinds of fault for which it refuses them, help and the version among them: none where it takes them
+abbrev pub faults_in : List Text → Kinds
+faults_in words = fault_of command_line words

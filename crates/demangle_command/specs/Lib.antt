@@ -1,0 +1,4 @@
+pub mod Command
+pub mod CommandLine
+pub mod Names
+pub mod Style

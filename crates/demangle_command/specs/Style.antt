@@ -1,0 +1,42 @@
+-- Which names a style reads, and what is answered for them.
+use Rattle.std.specs.Prelude.{◌≡◌, ◌≢◌, ℕ, List, Bool, true, false, not, is_some, Option, Some, None, Result, Err, codes, if◌then◌else◌}
+use Rattle.sym_core.specs.declared.refusal.Refusal.{Refusal}
+use Rattle.sym_core.specs.declared.refusal.Refusal.TheVariants.{Malformed}
+use Rattle.sym_print.specs.declared.detail.Detail.{Detail}
+use Rattle.rust_legacy.specs.Path.{legacy_of}
+use Rattle.sym_filter.specs.Runs.{Answering}
+use Rattle.sym_filter.specs.Languages.{wide_answer_of, legacy_wide_answer_of}
+use Rattle.sym_filter.specs.declared.kinds.Lang.{Lang}
+use Rattle.sym_filter.specs.declared.kinds.Lang.TheVariants as lang
+use Rattle.demangle_command.specs.declared.style.Style.{Style}
+use Rattle.demangle_command.specs.declared.style.Style.TheVariants as style
+
+-- the style of a name, or none
+abbrev pub IsStyle : List ℕ → Option Style → Type 0
+IsStyle name (Some style.Auto) = name ≡ codes "auto"
+IsStyle name (Some style.GnuV3) = name ≡ codes "gnu-v3"
+IsStyle name (Some style.Rust) = name ≡ codes "rust"
+IsStyle name (Some style.Nothing) = name ≡ codes "none"
+IsStyle name None = (name ≢ codes "auto") × (name ≢ codes "gnu-v3") × (name ≢ codes "rust") × (name ≢ codes "none")
+
+-- whether a symbol of a mangling is left out
+abbrev pub leaves_out : Style → Lang → List ℕ → Bool
+leaves_out style.Auto mangling symbol = false
+leaves_out style.GnuV3 lang.Cpp symbol = false
+leaves_out style.GnuV3 lang.Rust symbol = true
+leaves_out style.Rust lang.Cpp symbol = not (is_some (legacy_of symbol))
+leaves_out style.Rust lang.Rust symbol = false
+leaves_out style.Nothing mangling symbol = true
+
+-- whether legacy Rust names, each of which is a C++ symbol, are read as paths
+abbrev pub reads_paths : Style → Bool
+reads_paths style.Auto = true
+reads_paths style.GnuV3 = false
+reads_paths style.Rust = true
+reads_paths style.Nothing = true
+
+-- What is answered, with C++ by the wide grammar. A symbol that is left out is refused at its first byte.
+abbrev pub styled_answer : Style → ℕ → Detail → Answering
+styled_answer by limit detail kind symbol =
+    if leaves_out by kind.lang symbol then Err (Malformed 0)
+    else (if reads_paths by then legacy_wide_answer_of limit detail kind symbol else wide_answer_of limit detail kind symbol)

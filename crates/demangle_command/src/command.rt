@@ -1,0 +1,250 @@
+// The command line.
+ghost use Rattle.std.specs.Prelude.{◌≡◌, ◌≢◌, ◌⊎◌, ◌+◌, ◌-◌, ◌^◌, ◌<◌, [], not, ◌==◌, IfOk, OnOk, OnErr, IfErr, map};
+ghost use Rattle.std.specs.Io.KnownBytes.{Appends};
+ghost use Rattle.clap.specs.Words.{found_of, kind_of, rows_of};
+ghost use Rattle.clap.specs.declared.error.kind.ErrorKind.{ErrorKind as ErrorKind-type};
+ghost use Rattle.sym_filter.specs.Streams.{PutsFront, reader_faults, writer_faults};
+ghost use Rattle.sym_command.specs.Command.{Took, Says};
+ghost use Rattle.demangle_command.specs.Command.{answers_of, Ends, Stops, EndsOf, StopsOf, FiltersInput, FiltersInputFront, IsTold, is_request};
+ghost use Rattle.demangle_command.specs.Names.{status_of, summary_if};
+
+use crate::names::answer_names;
+use crate::options::{Options, found_in, names_of, options_of};
+use crate::styled::Styled;
+use clap::error::ErrorKind;
+use clap::{ArgMatches, Error};
+use std::alloc::Global;
+use sym_command::WRONG_USE;
+use sym_filter::{
+    Demangler, FilterFault, Languages, Letters, Sink, Source, Tally, Wide, filter_words, write_all,
+};
+
+/// The status where the command line did what it asks.
+const DONE: u8 = 0;
+
+/// The status where a name is left, and none may be.
+const LEFT: u8 = 1;
+
+/// Runs the program over an input and two outputs: writes the line of each name with its symbols replaced, or filters the input where
+/// there is no name. The words are those of the command line, the program's name first, and the result is the status.
+///
+/// # Errors
+///
+/// `Read` and `Write` where a stream failed, `Memory`. What was written is a beginning of what would have been.
+pub fn run_over<S: Source, W: Sink, E: Sink>(
+    alloc: Global,
+    words: &[&str],
+    input: &mut S,
+    out: &mut W,
+    err: &mut E,
+) -> Result<u8, FilterFault>
+    requires in_failures { S.failure_count input.old < 2 ^ 64 - 1 }
+    requires out_failures { W.failure_count out.old < 2 ^ 64 - 1 }
+    requires err_failures { E.failure_count err.old < 2 ^ 64 - 1 }
+    ensures ok { IfOk result (Ends (map (λ word. word.now) words.now) (S.coming input.old) (S.coming input.new)
+        (W.taken out.old) (W.taken out.new) (E.taken err.old) (E.taken err.new)) }
+    ensures err { OnErr result (Stops (map (λ word. word.now) words.now) (S.coming input.old) (S.coming input.new)
+        (W.taken out.old) (W.taken out.new) (E.taken err.old) (E.taken err.new)) }
+    ensures read_failed { S.failure_count input.new ≡ S.failure_count input.old + reader_faults result }
+    ensures write_failed { W.failure_count out.new + E.failure_count err.new
+        ≡ W.failure_count out.old + E.failure_count err.old + writer_faults result }
+{
+    match found_in(alloc, words) {
+        Ok(matches) => run_found(alloc, &matches, input, out, err),
+        Err(error) => tell(alloc, &error, out, err),
+    }
+}
+
+/// Whether an error is a wish for help or the version.
+fn is_request(kind: ErrorKind) -> bool
+    ensures { result ≡ is_request kind }
+{
+    match kind {
+        ErrorKind::DisplayHelp => true,
+        ErrorKind::DisplayVersion => true,
+        _ => false,
+    }
+}
+
+/// Writes what the command line's parser says of an error, or what is asked of it, and answers the status.
+fn tell<W: Sink, E: Sink>(
+    alloc: Global,
+    error: &Error,
+    out: &mut W,
+    err: &mut E,
+) -> Result<u8, FilterFault>
+    requires out_failures { W.failure_count out.old < 2 ^ 64 - 1 }
+    requires err_failures { E.failure_count err.old < 2 ^ 64 - 1 }
+    ensures known { OnOk result (kind_of error.now ≢ ErrorKind-type.OutOfMemory) }
+    ensures ok { IfOk result (λ status. Took (W.taken out.old) (W.taken out.new) (E.taken err.old) (E.taken err.new)
+        (IsTold (is_request (kind_of error.now)) status)) }
+    ensures err { OnErr result (Took (W.taken out.old) (W.taken out.new) (E.taken err.old) (E.taken err.new)
+        (λ lines said. (kind_of error.now ≢ ErrorKind-type.OutOfMemory) ⊎ ((lines ≡ []) × (said ≡ [])))) }
+    ensures fault { IfErr result (λ fault. fault ≢ FilterFault.Read) }
+    ensures failures { W.failure_count out.new + E.failure_count err.new
+        ≡ W.failure_count out.old + E.failure_count err.old + writer_faults result }
+{
+    if error.kind() == ErrorKind::OutOfMemory {
+        return Err(FilterFault::Memory);
+    }
+    let text = format!(in alloc; "{error}")?;
+    if is_request(error.kind()) {
+        return end_with(out, text.as_bytes(), DONE);
+    }
+    end_with(err, text.as_bytes(), WRONG_USE)
+}
+
+/// Writes what is said in place of all else, and answers the status.
+fn end_with<S: Sink>(sink: &mut S, text: &[u8], status: u8) -> Result<u8, FilterFault>
+    requires { S.failure_count sink.old < 2 ^ 64 - 1 }
+    ensures says { Says (S.taken sink.old) (S.taken sink.new) }
+    ensures status { IfOk result (λ ended. ended ≡ status) }
+    ensures fault { IfErr result (λ fault. fault ≢ FilterFault.Read) }
+    ensures failures { S.failure_count sink.new ≡ S.failure_count sink.old + writer_faults result }
+{
+    match write_all(sink, text) {
+        Ok(()) => Ok(status),
+        Err(fault) => Err(fault),
+    }
+}
+
+/// Does what the command line's parser found.
+fn run_found<S: Source, W: Sink, E: Sink>(
+    alloc: Global,
+    matches: &ArgMatches<'_>,
+    input: &mut S,
+    out: &mut W,
+    err: &mut E,
+) -> Result<u8, FilterFault>
+    requires in_failures { S.failure_count input.old < 2 ^ 64 - 1 }
+    requires out_failures { W.failure_count out.old < 2 ^ 64 - 1 }
+    requires err_failures { E.failure_count err.old < 2 ^ 64 - 1 }
+    ensures ok { IfOk result (EndsOf (rows_of (found_of matches.now)) (S.coming input.old) (S.coming input.new)
+        (W.taken out.old) (W.taken out.new) (E.taken err.old) (E.taken err.new)) }
+    ensures err { OnErr result (StopsOf (rows_of (found_of matches.now)) (S.coming input.old) (S.coming input.new)
+        (W.taken out.old) (W.taken out.new) (E.taken err.old) (E.taken err.new)) }
+    ensures read_failed { S.failure_count input.new ≡ S.failure_count input.old + reader_faults result }
+    ensures write_failed { W.failure_count out.new + E.failure_count err.new
+        ≡ W.failure_count out.old + E.failure_count err.old + writer_faults result }
+{
+    let Some(options) = options_of(matches) else {
+        return refuse_style(alloc, matches, err);
+    };
+    let demangler = demangler_of(options);
+    let names = names_of(matches);
+    if names.is_empty() {
+        return match filter_input(alloc, &demangler, options, input, out, err) {
+            Ok(status) => Ok(status),
+            Err(fault) => Err(fault),
+        };
+    }
+    match answer_names(alloc, &demangler, options.why, names, out, err) {
+        Ok(one_stays) => Ok(status_of(options.strict, one_stays)),
+        Err(fault) => Err(fault),
+    }
+}
+
+/// The demangler that options ask for.
+fn demangler_of(options: Options) -> Styled
+    ensures style { result.style ≡ options.style }
+    ensures limit { result.languages.limit ≡ options.limit }
+    ensures detail { result.languages.detail ≡ options.detail }
+{
+    let Options {
+        limit,
+        detail,
+        style,
+        ..
+    } = options;
+    Styled {
+        style,
+        languages: Languages {
+            limit,
+            detail,
+            cpp: Wide,
+        },
+    }
+}
+
+/// Says that no style has the name that is given.
+fn refuse_style<E: Sink>(
+    alloc: Global,
+    matches: &ArgMatches<'_>,
+    err: &mut E,
+) -> Result<u8, FilterFault>
+    requires err_failures { E.failure_count err.old < 2 ^ 64 - 1 }
+    ensures says { Says (E.taken err.old) (E.taken err.new) }
+    ensures wrong_use { IfOk result (λ status. status ≡ 2) }
+    ensures fault { IfErr result (λ fault. fault ≢ FilterFault.Read) }
+    ensures failures { E.failure_count err.new ≡ E.failure_count err.old + writer_faults result }
+{
+    let name = matches.get_str("format").unwrap_or_default();
+    let line = format!(in alloc;
+        "demangle: {name} is no style of names that is read: auto, gnu-v3, rust or none\n"
+    )?;
+    end_with(err, line.as_bytes(), WRONG_USE)
+}
+
+/// The status where a name is left, or none.
+fn status_of(strict: bool, one_stays: bool) -> u8
+    ensures { result ≡ status_of strict one_stays }
+{
+    if strict && one_stays {
+        return LEFT;
+    }
+    DONE
+}
+
+/// Filters an input, says how much of it stays where that is asked, and answers the status.
+fn filter_input<D: Demangler, S: Source, W: Sink, E: Sink>(
+    alloc: Global,
+    demangler: &D,
+    options: Options,
+    input: &mut S,
+    out: &mut W,
+    err: &mut E,
+) -> Result<u8, FilterFault>
+    requires in_failures { S.failure_count input.old < 2 ^ 64 - 1 }
+    requires out_failures { W.failure_count out.old < 2 ^ 64 - 1 }
+    requires err_failures { E.failure_count err.old < 2 ^ 64 - 1 }
+    ensures ok { IfOk result (FiltersInput (D.answer demangler.now) options.why options.strict (S.coming input.old) (S.coming input.new)
+        (W.taken out.old) (W.taken out.new) (E.taken err.old) (E.taken err.new)) }
+    ensures err { OnErr result (FiltersInputFront (D.answer demangler.now) options.why (S.coming input.old) (S.coming input.new)
+        (W.taken out.old) (W.taken out.new) (E.taken err.old) (E.taken err.new)) }
+    ensures read_failed { S.failure_count input.new ≡ S.failure_count input.old + reader_faults result }
+    ensures write_failed { W.failure_count out.new + E.failure_count err.new
+        ≡ W.failure_count out.old + E.failure_count err.old + writer_faults result }
+{
+    let tally = match filter_words(alloc, input, out, demangler, Letters::Any) {
+        Ok(tally) => tally,
+        Err(fault) => return Err(fault),
+    };
+    match say_summary(alloc, options.why, tally, err) {
+        Ok(()) => Ok(status_of(options.strict, tally.refused != 0)),
+        Err(fault) => Err(fault),
+    }
+}
+
+/// Says how many symbols of an input stay, where that is asked.
+fn say_summary<E: Sink>(
+    alloc: Global,
+    asked: bool,
+    tally: Tally,
+    err: &mut E,
+) -> Result<(), FilterFault>
+    requires err_failures { E.failure_count err.old < 2 ^ 64 - 1 }
+    ensures ok { OnOk result (Appends (E.taken err.old) (E.taken err.new) (summary_if asked tally)) }
+    ensures err { OnErr result (PutsFront (E.taken err.old) (E.taken err.new) [] (summary_if asked tally)) }
+    ensures fault { IfErr result (λ fault. fault ≢ FilterFault.Read) }
+    ensures failures { E.failure_count err.new ≡ E.failure_count err.old + writer_faults result }
+{
+    if !asked {
+        return Ok(());
+    }
+    let Tally { words, refused, .. } = tally;
+    let line = format!(in alloc; "demangle: {refused} of {words} symbols stay\n")?;
+    match write_all(err, line.as_bytes()) {
+        Ok(()) => Ok(()),
+        Err(fault) => Err(fault),
+    }
+}

@@ -1,0 +1,207 @@
+// The options of a command line, and its names.
+ghost use Rattle.std.specs.Prelude.{◌≡◌, IfOk, false, map};
+ghost use Rattle.clap.specs.Words.{FailsBy, found_of, rows_of, matches_of, fault_of, app_of, rule_of, with_rule};
+ghost use Rattle.demangle_command.specs.CommandLine.{command_line, no_params, style_option, version_flag, version_option, taken_option, taken_options, name_arguments, AreOptions, IsAskedStyle, names_of};
+
+use crate::style::{Style, style_of};
+use clap::{Arg, ArgAction, ArgMatches, Command, Error};
+use std::alloc::{AllocError, Global};
+use sym_command::{detail_of, flag, has_flag, limit, limit_of, with_flag};
+use sym_print::Detail;
+
+const VERSION: &str =
+    "0.1.0 (C++ by the Itanium ABI 5.1, Rust v0 by RFC 2603, and legacy Rust names)";
+
+/// What help shows before the options.
+const ABOUT: &str = "\
+Demangles C++ (Itanium ABI) and Rust (v0 and legacy) names.
+
+Without names standard input is copied to standard output with each mangled name replaced.
+A name that cannot be read is left as it is.";
+
+const BRIEF: &str = "Leave out template and generic arguments";
+
+const WHY: &str = "Say on standard error why a name is left";
+
+const STRICT: &str = "Exit with status 1 if a name is left";
+
+/// What help shows after the options.
+const EXAMPLES: &str = "\
+Accepted for compatibility with c++filt; they change nothing:
+  -n, --no-strip-underscore   -_, --strip-underscore   -i, --no-verbose
+  -r, --no-recurse-limit      -R, --recurse-limit
+
+Examples:
+  nm prog | demangle
+  demangle < crash.log
+  make 2>&1 | demangle
+  perf script --no-demangle | demangle --no-params --brief
+  demangle _ZN3foo3barEi";
+
+/// How names are answered.
+#[derive(Clone, Copy, Debug, PartialEq, Eq)]
+pub struct Options {
+    /// The greatest cost of a text.
+    pub limit: u32,
+    pub detail: Detail,
+    pub style: Style,
+    /// Whether it is said why a name stays.
+    pub why: bool,
+    /// Whether the status is 1 where one stays.
+    pub strict: bool,
+}
+
+/// The options and names that the words of a command line have, the program's name first.
+pub(crate) fn found_in<'a>(alloc: Global, words: &'a [&'a str]) -> Result<ArgMatches<'a>, Error>
+    ensures found { IfOk result (λ matches. rows_of (found_of matches) ≡ matches_of command_line (map (λ word. word.now) words.entry.now)) }
+    ensures fails { FailsBy (fault_of command_line (map (λ word. word.now) words.entry.now)) result }
+{
+    let command = command_line(alloc)?;
+    command.try_get_matches_from(words)
+}
+
+/// The program's command line.
+fn command_line<'a>(alloc: Global) -> Result<Command<'a>, AllocError>
+    ensures { IfOk result (λ command. app_of command ≡ command_line) }
+{
+    let command = Command::new(alloc, "demangle")
+        .version(VERSION)
+        .disable_version_flag(true)
+        .args_override_self(true)
+        .about(ABOUT)
+        .after_help(EXAMPLES)
+        .arg(no_params(alloc))?;
+    let command = with_flag(alloc, command, "brief", BRIEF)?;
+    let command = command.arg(limit(alloc))?.arg(style_option(alloc))?;
+    let command = with_flag(alloc, command, "why", WHY)?;
+    let command = with_flag(alloc, command, "strict", STRICT)?;
+    let command = with_version(alloc, command)?;
+    let command = with_taken(alloc, command)?;
+    command.arg(name_arguments(alloc))
+}
+
+/// A command line with the option for the version.
+fn with_version<'a>(alloc: Global, command: Command<'a>) -> Result<Command<'a>, AllocError>
+    ensures { IfOk result (λ with_it. app_of with_it ≡ with_rule (app_of command.entry) version_option) }
+{
+    let version = version_option(alloc)?;
+    command.arg(version)
+}
+
+/// A command line with the options that are taken and say nothing.
+fn with_taken<'a>(alloc: Global, command: Command<'a>) -> Result<Command<'a>, AllocError>
+    ensures { IfOk result (λ with_it. app_of with_it ≡ with_rule (app_of command.entry) taken_options) }
+{
+    let taken = taken_options(alloc)?;
+    command.arg(taken)
+}
+
+/// The option for names alone.
+fn no_params<'a>(alloc: Global) -> Arg<'a>
+    ensures rule { rule_of result ≡ no_params }
+    ensures local { result.global ≡ false }
+{
+    flag(alloc, "no-params")
+        .short('p')
+        .help("Print C++ functions without parameters and return types")
+}
+
+/// The option that names a style.
+fn style_option<'a>(alloc: Global) -> Arg<'a>
+    ensures rule { rule_of result ≡ style_option }
+    ensures local { result.global ≡ false }
+{
+    Arg::new(alloc, "format")
+        .long("format")
+        .short('s')
+        .value_name("STYLE")
+        .help("Which names: auto, gnu-v3, rust, none [default: auto]")
+}
+
+/// The option for the version.
+fn version_option<'a>(alloc: Global) -> Result<Arg<'a>, AllocError>
+    ensures rule { IfOk result (λ version. rule_of version ≡ version_option) }
+    ensures local { IfOk result (λ version. version.global ≡ false) }
+{
+    version_flag(alloc).short_alias('V')
+}
+
+/// The option for the version, by its first letter.
+fn version_flag<'a>(alloc: Global) -> Arg<'a>
+    ensures rule { rule_of result ≡ version_flag }
+    ensures local { result.global ≡ false }
+{
+    Arg::new(alloc, "version")
+        .long("version")
+        .short('v')
+        .action(ArgAction::Version)
+        .help("Print version")
+}
+
+/// The options that are taken and say nothing.
+fn taken_options<'a>(alloc: Global) -> Result<Arg<'a>, AllocError>
+    ensures rule { IfOk result (λ taken. rule_of taken ≡ taken_options) }
+    ensures local { IfOk result (λ taken. taken.global ≡ false) }
+{
+    taken_option(alloc)
+        .short_alias('_')?
+        .short_alias('i')?
+        .short_alias('r')?
+        .short_alias('R')?
+        .alias("strip-underscore")?
+        .alias("no-verbose")?
+        .alias("no-recurse-limit")?
+        .alias("no-recursion-limit")?
+        .alias("recurse-limit")?
+        .alias("recursion-limit")
+}
+
+/// The first of the options that are taken and say nothing.
+fn taken_option<'a>(alloc: Global) -> Arg<'a>
+    ensures rule { rule_of result ≡ taken_option }
+    ensures local { result.global ≡ false }
+{
+    flag(alloc, "no-strip-underscore").short('n').hide(true)
+}
+
+/// The names.
+fn name_arguments<'a>(alloc: Global) -> Arg<'a>
+    ensures rule { rule_of result ≡ name_arguments }
+    ensures local { result.global ≡ false }
+{
+    Arg::new(alloc, "NAME")
+        .num_args(0..)
+        .action(ArgAction::Append)
+        .help("Names; with none, standard input is filtered")
+}
+
+/// The style that is asked for; none where no style has the name that is given.
+fn asked_style(matches: &ArgMatches<'_>) -> Option<Style>
+    ensures { IsAskedStyle (rows_of (found_of matches.now)) result }
+{
+    match matches.get_str("format") {
+        None => Some(Style::Auto),
+        Some(name) => style_of(name),
+    }
+}
+
+/// The options of a command line; none where no style has the name that is given.
+pub(crate) fn options_of(matches: &ArgMatches<'_>) -> Option<Options>
+    ensures { AreOptions (rows_of (found_of matches.now)) result }
+{
+    let style = asked_style(matches)?;
+    Some(Options {
+        limit: limit_of(matches),
+        detail: detail_of(has_flag(matches, "brief"), has_flag(matches, "no-params")),
+        style,
+        why: has_flag(matches, "why"),
+        strict: has_flag(matches, "strict"),
+    })
+}
+
+/// The names of a command line.
+pub(crate) fn names_of<'m, 'a>(matches: &'m ArgMatches<'a>) -> &'m [&'a str]
+    ensures { map (λ name. name.now) result.now ≡ names_of (rows_of (found_of matches.now)) }
+{
+    matches.get_strs("NAME").unwrap_or_default()
+}

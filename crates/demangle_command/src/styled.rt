@@ -1,0 +1,69 @@
+// The demangler over both manglings, where a style may leave symbols out.
+ghost use Rattle.demangle_command.specs.Style.{styled_answer};
+ghost use Rattle.sym_filter.specs.Languages.{AreWideCountsOf};
+
+use crate::style::Style;
+use std::alloc::{AllocError, Global};
+use sym_core::Refusal;
+use sym_filter::languages::Lists;
+use sym_filter::{Demangled, Demangler, Kind, Lang, Languages, Legacy, Wide};
+
+/// The answer to a symbol that a style leaves out: no symbol of the style begins so.
+const LEFT_OUT: Refusal = Refusal::Malformed { at: 0 };
+
+/// Both manglings, with C++ by the wide grammar and legacy Rust names as paths, where a style may leave symbols out.
+#[derive(Clone, Copy, Drop)]
+pub struct Styled {
+    pub style: Style,
+    pub languages: Languages<Wide>,
+}
+
+impl Demangler for Styled {
+    type Lists = Lists<Wide>;
+
+    ghost answer = { λ styled kind symbol. styled_answer styled.style styled.languages.limit styled.languages.detail kind symbol };
+
+    ghost are_counts = { λ styled lang symbol counts. AreWideCountsOf lang symbol counts };
+
+    fn lists(&self, alloc: Global) -> Result<Lists<Wide>, AllocError> {
+        self.languages.lists(alloc)
+    }
+
+    fn read_ahead(&self, lists: &mut Lists<Wide>, lang: Lang, front: &[u8]) {
+        self.languages.read_ahead(lists, lang, front);
+    }
+
+    fn demangle(
+        &self,
+        lists: &mut Lists<Wide>,
+        kind: Kind,
+        symbol: &[u8],
+        out: &mut Vec<u8>,
+    ) -> Demangled {
+        if self.style.leaves_out(kind.lang, symbol) {
+            return Demangled::Refused(LEFT_OUT);
+        }
+        let languages = self.languages;
+        if self.style.reads_paths() {
+            return Legacy { languages }.demangle(lists, kind, symbol, out);
+        }
+        languages.demangle(lists, kind, symbol, out)
+    }
+
+    fn append(
+        &self,
+        lists: &mut Lists<Wide>,
+        kind: Kind,
+        symbol: &[u8],
+        out: &mut Vec<u8>,
+    ) -> Result<(), Refusal> {
+        if self.style.leaves_out(kind.lang, symbol) {
+            return Err(LEFT_OUT);
+        }
+        let languages = self.languages;
+        if self.style.reads_paths() {
+            return Legacy { languages }.append(lists, kind, symbol, out);
+        }
+        languages.append(lists, kind, symbol, out)
+    }
+}
