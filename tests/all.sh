@@ -99,7 +99,11 @@ else
     try texts tests/texts.py "$symfilt"
     leave demangle "\`rt run\` in crates/demangle builds it"
 fi
-try readme tests/readme.py "$symfilt"
+if [ -x "$demangle" ]; then
+    try readme tests/readme.py "$symfilt" "$demangle"
+else
+    try readme tests/readme.py "$symfilt"
+fi
 try calls tests/fail_calls.sh "$symfilt"
 if [ -x $check_rows ]; then
     try allocations tests/refuse_allocations.sh "$symfilt" $check_rows
