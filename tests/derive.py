@@ -58,9 +58,8 @@ class Table:
         self.rules = {kind: [(cls, production, "".join(grammar.klass(cls, production))) for cls, production in rules] for kind, (_, rules) in grammar.K.items()}
         self.parts = {production: symbols for production, (_, symbols) in grammar.P.items()}
         self.may_be_empty = {kind for kind, (empty, _) in grammar.K.items() if empty}
-        self.own = {rule for rule, mark in grammar.MARKED.items() if mark == "wide"} if wide else set()
-        self.type_argument = "AnyArgument" if wide else "TypeArgument"
-        self.argument_lists = {kind for kind, rules in self.rules.items() if any(production == self.type_argument for _, production, _ in rules)}
+        self.own = set(grammar.MARKED) if wide else set()
+        self.argument_lists = {kind for kind, rules in self.rules.items() if any(production == "AnyArgument" for _, production, _ in rules)}
         self.kept_distances = {}
         self.targets = [(kind, production) for kind, rules in self.rules.items() for _, production, _ in rules if "Symbol" in self.distances(kind)]
 
@@ -111,7 +110,7 @@ class Derivation:
     def types_of_types(self, size):
         """An encoding with a type that has two others, for a list in which each has the one before it twice."""
         self.left = size
-        rule = self.rng.choice((("ArgumentList", self.table.type_argument), ("FunctionRest", "RestItem")))
+        rule = self.rng.choice((("ArgumentList", "AnyArgument"), ("FunctionRest", "RestItem")))
         return self.derived("Symbol", 0, [("Encoding", "Encoding"), ("Items", "Items"), rule, rule])
 
     def weight(self, kind, cls, production):
@@ -162,7 +161,7 @@ class Derivation:
                 parts.append(Token(part, production))
             elif production == "Encoding" and number == 0 and way != 0 and (targets or self.rng.random() < 0.6):
                 # parameters are named only where the name ends in arguments
-                parts.append(self.derived(part, depth + 1, [("MaybeArguments", "Arguments"), ("ArgumentList", self.table.type_argument)]))
+                parts.append(self.derived(part, depth + 1, [("MaybeArguments", "Arguments"), ("ArgumentList", "AnyArgument")]))
             else:
                 # the rest of a list is as deep as the list
                 parts.append(self.derived(part, depth if part == kind else depth + 1, targets if number == way else ()))
@@ -351,7 +350,7 @@ class Spelling:
         return values
 
     def inside(self, node, around):
-        if node.production in ("Encoding", "Special", "Guard"):
+        if node.production in ("Encoding", "Special", "OtherSpecial"):
             self.encodings += 1
             self.listed = True
             return Around(self.encodings, None, False, False)
@@ -370,7 +369,7 @@ def leaves_candidate(node):
         return False
     inner = node.parts[0]
     if inner.production == "TypeWithS":
-        return inner.parts[0].production == "StdType" or inner.parts[1] is not None
+        return inner.parts[0].production == "TypeInStd" or inner.parts[1] is not None
     if inner.production in ("Parameter", "ParameterArgument"):
         return inner.parts[1] is not None
     return inner.production not in ("Builtin", "BuiltinWithD", "SizedFloat", "ConstrainedAuto", "DeclaredArgument")

@@ -14,20 +14,18 @@ TOKENS = {NAME: DIG, DECIMAL: DIG + "_", SEQ36: DIG + "ABCDEFGHIJKLMNOPQRSTUVWXY
 P = {}
 # kinds: name -> (may be empty, [(class, production)], chain production or list of chains)
 K = {}
-# The wide grammar is the same list of kinds and productions, with other alternatives: it has those that `wide` marks here, and
-# not those that `narrow` marks, which the ABI's grammar has in their place.
-MARKED = {}         # (kind, class, production): which of the two
-WIDENED = [False]   # whether K has the wide grammar's
+# The ABI's grammar is the wide one less the alternatives that `wide` marks here.
+MARKED = []         # (kind, class, production)
+WIDENED = [False]   # whether K has them
 def prod(name, *symbols, chain=False):
     v = (not chain, list(symbols))
     assert name not in P or P[name] == v, (name, P.get(name), v)
     P[name] = v
     return name
 def kind(name, *rules, empty=False):
-    MARKED.update({(name, *rule[:2]): rule[2] for rule in rules if len(rule) == 3})
-    K[name] = (empty, [rule[:2] for rule in rules if len(rule) == 2 or (rule[2] == "wide") == WIDENED[0]])
+    MARKED.extend((name, *rule[:2]) for rule in rules if len(rule) == 3)
+    K[name] = (empty, [rule[:2] for rule in rules if len(rule) == 2 or WIDENED[0]])
 def wide(rule): return (*rule, "wide")
-def narrow(rule): return (*rule, "narrow")
 def eats(cls, name, *symbols): return (cls, prod(name, *symbols))
 def chain(name, *symbols): return (None, prod(name, *symbols, chain=True))
 
@@ -59,7 +57,7 @@ def build(extended=True, widened=False):
     kind("MaybeSuffix", eats(".", "Suffix", "SuffixFirst"), empty=True)
     kind("SuffixFirst", eats(WORD, "SuffixByte", "SuffixMore"))
     kind("SuffixMore", eats(WORD, "SuffixByte", "SuffixMore"), empty=True)
-    kind("Encoding", eats("T", "Special", "Special"), narrow(eats("G", "Guard", "'V'", "CompleteName")), wide(chain("OtherSpecial", "SpecialMark", "SpecialAfterG")),
+    kind("Encoding", eats("T", "Special", "Special"), chain("OtherSpecial", "SpecialMark", "SpecialAfterG"),
          chain("Encoding", "CompleteName", "Items"))
     kind("Special", eats(SPECIAL, "SpecialType", "Type"), eats("h", "NonVirtualThunk", "Integer", "'_'", "Encoding"),
          eats("v", "VirtualThunk", "Integer", "'_'", "Integer", "'_'", "Encoding"), eats("c", "CovariantThunk", "CallOffset", "CallOffset", "Encoding"),
@@ -77,7 +75,7 @@ def build(extended=True, widened=False):
     kind("Nest", eats("S", "NestWithS", "NestAfterS"), eats("T", "NestParameter", DECIMAL, "NestRestAlone"), eats("L", "NestInternal", NAME, "NestRest"),
          eats("U", "NestLocalType", "Anonymous", "NestRest"), chain("NestSource", NAME, "NestRest"))
     kind("NestAfterS", eats("t", "NestStd", "Unqualified", "MaybeArguments", "NestTail"),
-         narrow(chain("NestAbbreviated", "Abbreviation", "NestRestAlone")), wide(chain("NestTemplate", "Abbreviation", "NestRestOrEnd")))
+         chain("NestTemplate", "Abbreviation", "NestRestOrEnd"))
     NEST_REST = [eats("I", "NestArguments", "ArgumentsFirst", "'E'", "Component", "NestTail"), chain("NestNext", "Component", "NestTail")]
     kind("NestRest", *NEST_REST, wide(eats("B", "NestTag", NAME, "NestRest")))
     kind("NestTail", eats("E", "NestEnd"), chain("NestNext", "Component", "NestTail"))
@@ -85,7 +83,7 @@ def build(extended=True, widened=False):
                  L_NAME, U_NAME]
     # of operators those that begin with c stand apart, since one of them is a type's
     operators = [eats("c", "ComponentWithC", "ComponentAfterC"), chain("OtherOperatorName", "OtherOperator", "MaybeArguments")]
-    kind("Component", *component, narrow(OP_NAME), S_NAME, *map(wide, operators), wide(chain("Holder", "HolderMark", "HeldComponent")))
+    kind("Component", *component, S_NAME, *operators, wide(chain("Holder", "HolderMark", "HeldComponent")))
     kind("ConstructorDigit", MARK("123"), wide(MARK("45")))
     kind("DestructorDigit", MARK("012"), wide(MARK("45")))
     kind("Abbreviation", eats(ABBREVIATED, "Abbreviation"), chain("Substitution", SEQ36))
@@ -115,11 +113,11 @@ def build(extended=True, widened=False):
              eats("S", "TypeWithS", "TypeAfterS", "ArgumentsAlone"), eats("N", "NestedType", "Nest"),
              eats("Z", "LocalType", "Encoding", "'E'", "TypeEntity", "MaybeDiscriminator"), U_NAME, S_NAME]
     solid = [eats(builtins(False), "Builtin"), eats("u", "Vendor", NAME),
-             narrow(eats("A", "Array", DECIMAL, "Type")), wide(chain("ArrayType", "AnyArray")),
+             chain("ArrayType", "AnyArray"),
              eats("F", "Function", "MaybeCLinkage", "Type", "FunctionRest"), *([eats("C", "Complex", "Type")] if extended else []), *NAMED]
     kind("Solid", *solid)
     kind("MaybeCLinkage", MARK("Y"), empty=True)
-    kind("TypeAfterS", narrow(eats("t", "StdType", "SourceOrLocal")), wide(chain("TypeInStd", "TypeInStd")), chain("AbbreviatedType", "Abbreviation"))
+    kind("TypeAfterS", chain("TypeInStd", "TypeInStd"), chain("AbbreviatedType", "Abbreviation"))
     kind("SourceOrLocal", *BARE)
     kind("FunctionRest", eats("E", "RestEnd"), eats("R", "RestLvalue", "AfterR"), eats("O", "RestRvalue", "AfterO"), chain("RestItem", "ItemButRef", "FunctionRest"))
     kind("AfterR", eats("E", "RefEnd"), chain("LvalueItem", "Type", "FunctionRest"))
@@ -129,12 +127,10 @@ def build(extended=True, widened=False):
     kind("MaybeArguments", ARGUMENTS, wide(eats("B", "Tag", NAME, "MaybeArguments")), empty=True)
     kind("Arguments", ARGUMENTS)
     arguments = [eats("J", "PackArgument", "PackList", "'E'", "ArgumentList"), eats("L", "LiteralArgument", "Literal", "'E'", "ArgumentList"),
-                 narrow(eats("X", "AddressArgument", "'a'", "'d'", "Address", "ArgumentList")), narrow(chain("TypeArgument", "Item", "ArgumentList")),
-                 wide(chain("AnyArgument", "Argument", "ArgumentList"))]
+                 chain("AnyArgument", "Argument", "ArgumentList")]
     kind("ArgumentList", *arguments, empty=True)
     kind("PackList", eats("L", "LiteralElement", "Literal", "'E'", "PackList"),
-         narrow(eats("X", "AddressElement", "'a'", "'d'", "Address", "PackList")), narrow(chain("TypeElement", "Item", "PackList")),
-         wide(chain("AnyElement", "Argument", "PackList")), empty=True)
+         chain("AnyElement", "Argument", "PackList"), empty=True)
     kind("Address", eats("L", "Address", "'_'", "'Z'", "Encoding", "'E'", "'E'"))
     kind("Literal", eats("_", "EncodingLiteral", "'Z'", "Encoding"), eats("b", "BoolLiteral", "Bit"), eats("D", "LiteralWithD", "LiteralAfterD"),
          chain("IntegerLiteral", "LiteralType", "Integer"))
@@ -148,16 +144,14 @@ def build(extended=True, widened=False):
         rules = [MARK(second)]
         if a == "l": rules.append(eats("i", "LiteralOperator", NAME))
         kind("OperatorAfter" + a.upper(), *rules)
-    # the wide grammar's own kinds and productions stand last, so that the numbers of the others are those of the ABI's grammar
-    abi_kinds = list(K)
-    kind("NestRestOrEnd", eats("I", "NestInstance", "ArgumentsFirst", "'E'", "NestTail"), chain("NestNext", "Component", "NestTail"))
+    kind("NestRestOrEnd", eats("I", "NestInstance", "ArgumentsFirst", "'E'", "NestMoreOrEnd"), chain("NestNext", "Component", "NestTail"))
     # behind a parameter and a substitution no tag may come: in the ABI's grammar these are as MaybeArguments and NestRest
     kind("ArgumentsAlone", ARGUMENTS, empty=True)
     kind("NestRestAlone", *NEST_REST)
     kind("HolderMark", MARK("M"))
     kind("HeldComponent", *component, S_NAME, *operators)
     kind("FloatEnd", MARK("_bx"))
-    kind("ComponentAfterC", eats("v", "Conversion", "Type"), chain("OperatorNameWithC", "OperatorAfterC", "MaybeArguments"))
+    kind("ComponentAfterC", wide(eats("v", "Conversion", "Type")), chain("OperatorNameWithC", "OperatorAfterC", "MaybeArguments"))
     kind("OtherOperator", *[rule for a, rule in by_letter.items() if a != "c"])
     # a pack begins with an I where it is the first argument alone: behind a name that I would begin the arguments of the name
     kind("ArgumentsFirst", *arguments, wide(eats("I", "PackArgument", "PackList", "'E'", "ArgumentList")), empty=True)
@@ -165,28 +159,28 @@ def build(extended=True, widened=False):
     kind("PlainTypeEntity", *plain_type_entity)
     # behind a G and an St the wide grammar has more than the other: a chain leads to a kind that takes these bytes
     kind("SpecialMark", MARK("G"))
-    kind("SpecialAfterG", eats("V", "SpecialName", "CompleteName"), eats("T", "Clone", "CloneLetter", "Encoding"))
+    kind("SpecialAfterG", eats("V", "SpecialName", "CompleteName"), wide(eats("T", "Clone", "CloneLetter", "Encoding")))
     kind("CloneLetter", MARK("tn"))
     kind("TypeInStd", eats("t", "TaggedStdType", "SourceOrLocal", "MaybeTags"))
-    kind("MaybeTags", eats("B", "TypeTag", NAME, "MaybeTags"), empty=True)
+    kind("MaybeTags", wide(eats("B", "TypeTag", NAME, "MaybeTags")), empty=True)
     # an argument: behind an X an expression, the address of an encoding or a parameter; behind a T a parameter, or what is declared of
     # the argument that follows, which may be a pack; or a type that begins with no T
     argument = [*QUALS, eats("D", "ItemWithD", "ItemAfterD"), REF, eats("X", "Expression", "ExpressionRest"), eats("T", "ArgumentWithT", "ArgumentAfterT"),
                 chain("PlainArgument", "SolidButT")]
     kind("Argument", *argument)
-    kind("ArgumentAfterT", chain("DeclaredArgument", "DeclarationAfterT", "OneArgument"), chain("ParameterArgument", DECIMAL, "ArgumentsAlone"))
+    kind("ArgumentAfterT", wide(chain("DeclaredArgument", "DeclarationAfterT", "OneArgument")), chain("ParameterArgument", DECIMAL, "ArgumentsAlone"))
     kind("OneArgument", eats("L", "OneLiteral", "Literal", "'E'"), eats("J", "OnePack", "PackList", "'E'"), *argument)
     kind("DeclarationAfterT", eats("y", "AnyType"), eats("n", "ValueOf", "Type"), eats("k", "OfConcept", "Concept"), eats("t", "TemplateOf", "Declarations", "'E'"),
          eats("p", "PackOf", "'T'", "DeclarationAfterT"))
     kind("Declarations", eats("T", "Declarations", "DeclarationAfterT", "Declarations"), empty=True)
     kind("Concept", eats("S", "TypeWithS", "TypeAfterS", "ArgumentsAlone"), eats("N", "NestedType", "Nest"), S_NAME)
-    kind("SolidButT", *[rule[:2] for rule in solid if rule[1] not in ("Parameter", "Array")])
-    kind("ExpressionRest", eats("a", "AddressExpression", "'d'", "Address"), eats("T", "ParameterExpression", DECIMAL, "'E'"))
+    kind("SolidButT", *[rule for rule in solid if rule[1] != "Parameter"])
+    kind("ExpressionRest", eats("a", "AddressExpression", "'d'", "Address"), wide(eats("T", "ParameterExpression", DECIMAL, "'E'")))
     # an array whose length is a parameter, or a number, or isn't said
     kind("AnyArray", eats("A", "AnyArray", "ArrayRest"))
-    kind("ArrayRest", eats("T", "BoundedArray", DECIMAL, "'_'", "Type"), chain("LengthArray", DECIMAL, "Type"))
-    shared = {p for k in abi_kinds for cls, p in K[k][1] if (k, cls, p) not in MARKED}
-    for p in [p for (k, cls, p), mark in MARKED.items() if mark == "wide" and p not in shared]: P[p] = P.pop(p)
+    kind("ArrayRest", wide(eats("T", "BoundedArray", DECIMAL, "'_'", "Type")), chain("LengthArray", DECIMAL, "Type"))
+    # behind the arguments of a substitution in a nested name: by the ABI the name doesn't end there
+    kind("NestMoreOrEnd", wide(eats("E", "NestEnd")), chain("NestNext", "Component", "NestTail"))
 
 def is_kind(s): return s in KS
 def begins_symbol(s):
@@ -204,9 +198,6 @@ def begins(k):
         out |= set(cls) if cls is not None else begins_symbol(P[p][1][0])
     memo[k] = out
     return out
-def in_place_of(k, cls):
-    """the chain that the wide grammar has in the place of a rule that takes a byte"""
-    return next((q for (name, c, q), mark in MARKED.items() if (name, c, mark) == (k, None, "wide") and begins_symbol(P[q][1][0]) >= set(cls)), None)
 def empty(s): return sym_class(s) == "kind" and K[s][0]
 def laws():
     KINDSET.clear(); KINDSET.update(K); memo.clear()
@@ -281,8 +272,6 @@ def laws():
     used |= {p for _, _, p in MARKED}
     for p in P:
         if p not in used: bad.append(f"production {p} is unused")
-    for (k, cls, p), mark in MARKED.items():
-        if mark == "narrow" and cls is not None and in_place_of(k, cls) is None: bad.append(f"{k}/{p}: takes a byte, and so does what the wide grammar has there")
     return bad, after, depth, height
 
 def klass(cls, p):
@@ -513,7 +502,7 @@ pick (a ∷ rest) byte = cond (is_in a byte) (Some a.production) (pick rest byte
 '''
 
 def antt_alternatives(name):
-    return [f"{name} Kind.{k} = " + " ∷ ".join(on(klass(c, p), p) for c, p in rules) + " ∷ []" for k, (e, rules) in K.items()]
+    return [f"{name} Kind.{k} = " + "".join(on(klass(c, p), p) + " ∷ " for c, p in rules) + "[]" for k, (e, rules) in K.items()]
 
 def antt_grammar():
     out = [GRAMMAR_HEAD.rstrip("\n"), "", "-- the numbers of the kinds", "unfoldable pub number_of_kind : Kind → ℕ"]
@@ -580,37 +569,6 @@ def antt_wide():
             "wide_choose kind byte = pick (wide_alternatives kind) byte"]
     return "\n".join(out) + "\n"
 
-# no symbol has this byte
-NO_BYTE = "!"
-
-EITHER_HEAD = f'''-- Generated by tools/grammar.py. Both grammars in one table: the wide one's alternatives, and those that the ABI's grammar has in their place.
--- Where both have one at a byte, one of them takes no byte of its own, so none is in its trees: it stands at the byte {NO_BYTE}, which no symbol
--- has. The trees of both grammars are trees of this table, which finds what a tree stands for, and reads no symbol.
-use Rattle.std.specs.Prelude.{{ℕ, List, [], ◌∷◌, Option, codes}}
-use Prim.Native.String.{{String}}
-use Rattle.cpp_grammar.specs.declared.kind.Kind.{{Kind}}
-use Rattle.cpp_grammar.specs.declared.production.Production.{{Production}}
-use Rattle.cpp_grammar.specs.Grammar.{{Alternative, pick}}
-use Rattle.cpp_grammar.specs.Wide.{{wide_alternatives}}
-
-{ALTERNATIVES}
--- what a kind may begin with, and the production that is then taken
-unfoldable pub either_alternatives : Kind → List Alternative
-'''
-
-def antt_either():
-    out = [EITHER_HEAD.rstrip("\n")]
-    for k, (e, rules) in K.items():
-        narrow_of = [(cls, p) for (name, cls, p), mark in MARKED.items() if mark == "narrow" and name == k]
-        # a chain of the wide grammar that stands for several rules is the one that stands aside
-        aside = [in_place_of(k, cls) for cls, p in narrow_of if cls is not None] or [p for cls, p in narrow_of if cls is None]
-        assert len(aside) < 2, k
-        at = [on(klass(c, p), p) for c, p in rules + narrow_of if p not in aside] + [f'on "{NO_BYTE}" Production.{p}' for p in aside]
-        if aside: out.append(f"either_alternatives Kind.{k} = " + " ∷ ".join(at) + " ∷ []")
-    out += ["either_alternatives kind = wide_alternatives kind", "", "-- the production that a kind takes at a byte", "unfoldable pub either_choose : Kind → ℕ → Option Production",
-            "either_choose kind byte = pick (either_alternatives kind) byte"]
-    return "\n".join(out) + "\n"
-
 BEFORE_HEAD = '''-- Generated by tools/grammar.py. The grammar before vector types, noexcept function types and complex types were added.
 use Rattle.std.specs.Prelude.{List, [], ◌∷◌, codes}
 use Prim.Native.String.{String}
@@ -636,17 +594,14 @@ def antt_before():
 def files():
     """what is written: each file's path in the folder of the crates, and its text"""
     yield "cpp_grammar/specs/Before.antt", antt_before()
-    # what may come after each kind is said once, of both grammars; how many chains begin it, of the wide one; how low its lowest tree
-    # is, of the other, whose trees the wide grammar has
-    build(True); bad, after_narrow, _, height = laws()
+    # what may come after each kind, and how many chains begin it, are the wide grammar's; how low its lowest tree is, is the other's, whose
+    # trees the wide grammar has
+    build(True); bad, _, _, height = laws()
     assert not bad, bad
-    build(True, widened=True); bad, after_wide, depth, _ = laws()
+    build(True, widened=True); bad, after, depth, _ = laws()
     assert not bad, bad
-    after = {k: after_narrow[k] | after_wide[k] for k in K}
-    for k in K: assert not K[k][0] or not begins(k) & after[k], k
     yield "cpp_grammar/src/wide_table.rt", rust_wide_table()
     yield "cpp_grammar/specs/Wide.antt", antt_wide()
-    yield "cpp_grammar/specs/Either.antt", antt_either()
     yield "cpp_grammar/specs/Follow.antt", antt_follow(after, depth, height)
     build(True); bad = laws()[0]
     assert not bad, bad
@@ -664,15 +619,13 @@ def write(crates):
 
 def markdown():
     build(True, widened=True); laws()
-    print("| Kind | Empty | Rules (those in parentheses of the wide grammar alone, those in brackets of the other alone) |\n|---|---|---|")
+    print("| Kind | Empty | Rules (those in parentheses of the wide grammar alone) |\n|---|---|---|")
     for k, (e, rules) in K.items():
         cells = []
         for cls, p in rules:
             symbols = " ".join(P[p][1])
             cell = (f"`{cls}` " if cls is not None else "chain ") + f"**{p}**" + (f" {symbols}" if symbols else "")
             cells.append(f"({cell})" if (k, cls, p) in MARKED else cell)
-        for (name, cls, p), mark in MARKED.items():
-            if name == k and mark == "narrow": cells.append(f"[{'chain' if cls is None else f'`{cls}`'} **{p}** {' '.join(P[p][1])}]")
         print(f"| {k} | {'yes' if e else ''} | {'; '.join(cells)} |")
 
 def main():

@@ -17,7 +17,7 @@ use Rattle.cpp_grammar.specs.Table.{rule_of}
 use Rattle.cpp_grammar.specs.Values.{State, Around, Value, nothing_there, text}
 use Rattle.cpp_grammar.specs.Between.{Going, between}
 use Rattle.cpp_grammar.specs.Unfolding.{cpp, opening, close, byte_of}
-use Rattle.cpp_grammar.specs.Either.{either_choose}
+use Rattle.cpp_grammar.specs.Wide.{wide_choose}
 use Rattle.cpp_grammar.proofs.ClosedTrees.{at_number, its_symbols}
 use Rattle.cpp_direct.proofs.Tables as tables
 use Rattle.cpp_direct.proofs.Tables.{takes-by, empty-by, names-by}
@@ -40,7 +40,7 @@ pub takes-it : (s : Symbol) (kind : Kind) (p : Production) (byte : ℕ) (taken :
 takes-it s kind p byte taken chosen small takes = takes-by s.is_wide kind (number_of_kind kind) byte p taken (kind-at kind) chosen small takes
 
 -- one that the wide grammar alone has
-pub takes-wide : (s : Symbol) (kind : Kind) (p : Production) (byte : ℕ) (taken : List ℕ) → s.is_wide ≡ true → either_choose kind byte ≡ Some p → byte < 256
+pub takes-wide : (s : Symbol) (kind : Kind) (p : Production) (byte : ℕ) (taken : List ℕ) → s.is_wide ≡ true → wide_choose kind byte ≡ Some p → byte < 256
     → taken ≡ (if not (is_chain p) then byte ∷ [] else []) → TakesRule (table_by s.is_wide) (number_of_kind kind) (rule_of p) taken
 takes-wide s kind p byte taken wide chosen small takes =
     tables.takes-wide s.is_wide kind (number_of_kind kind) byte p taken wide (kind-at kind) chosen small takes
@@ -293,7 +293,7 @@ letter-comes s kind p byte around os at st w after chosen small chain begins par
 
 -- one without parts that takes its byte
 pub wide-letter : (s : Symbol) (kind : Kind) (p : Production) (byte : ℕ) (around : Around) (os : List Opened) (at : ℕ) (st : State) (w : Value) (after : State)
-    → s.is_wide ≡ true → either_choose kind byte ≡ Some p → byte < 256 → is_chain p ≡ false → ((f : Forest) → opening p f at st ≡ Ok st) → parts_of p ≡ []
+    → s.is_wide ≡ true → wide_choose kind byte ≡ Some p → byte < 256 → is_chain p ≡ false → ((f : Forest) → opening p f at st ≡ Ok st) → parts_of p ≡ []
     → close p byte around at st [] st ≡ Ok (found w after)
     → Expects s kind around os at st → StandsAt s.bytes at (byte ∷ []) → Comes s os w (at + 1) after
 unfolding byte_of
@@ -306,7 +306,7 @@ wide-letter s kind p byte around os at st w after wide chosen small chain begins
 -- the first part of one that takes its byte
 pub wide-first-of : (s : Symbol) (kind : Kind) (p : Production) (byte : ℕ) (around : Around) (os : List Opened) (at : ℕ) (st : State) (x : Sym)
     (todo : List Sym) (context : Around) (values : List Value) (state : State)
-    → s.is_wide ≡ true → either_choose kind byte ≡ Some p → byte < 256 → is_chain p ≡ false → ((f : Forest) → opening p f at st ≡ Ok st) → parts_of p ≡ x ∷ todo
+    → s.is_wide ≡ true → wide_choose kind byte ≡ Some p → byte < 256 → is_chain p ≡ false → ((f : Forest) → opening p f at st ≡ Ok st) → parts_of p ≡ x ∷ todo
     → ◌≡◌ {A = Going} (between p around at [] st) (Ok (record { context = context; values = values; state = state }))
     → Expects s kind around os at st → StandsAt s.bytes at (byte ∷ [])
     → ExpectsSym s x context (opened (standing (rule_of p) (byte ∷ []) at around st) values todo ∷ os) (at + 1) state
@@ -314,16 +314,3 @@ wide-first-of s kind p byte around os at st x todo context values state wide cho
     needs-next s p (byte ∷ []) at around st [] x todo os (at + 1) st context values state goes
     (subst (λ l. Needs s os (standing (rule_of p) (byte ∷ []) at around st) [] l (at + 1) st) parts
     (opens-by s kind p (byte ∷ []) around os at st (takes-wide s kind p byte (byte ∷ []) wide chosen small (takes-byte p byte chain)) begins expects stands))
-
--- The first part of one that takes no byte; the byte is any at which it is taken.
-pub wide-first-of-chain : (s : Symbol) (kind : Kind) (p : Production) (byte : ℕ) (around : Around) (os : List Opened) (at : ℕ) (st : State) (x : Sym)
-    (todo : List Sym) (context : Around) (values : List Value) (state : State)
-    → s.is_wide ≡ true → either_choose kind byte ≡ Some p → byte < 256 → is_chain p ≡ true → ((f : Forest) → opening p f at st ≡ Ok st) → parts_of p ≡ x ∷ todo
-    → ◌≡◌ {A = Going} (between p around at [] st) (Ok (record { context = context; values = values; state = state }))
-    → Expects s kind around os at st
-    → ExpectsSym s x context (opened (standing (rule_of p) [] at around st) values todo ∷ os) at state
-wide-first-of-chain s kind p byte around os at st x todo context values state wide chosen small chain begins parts goes expects =
-    needs-next s p [] at around st [] x todo os at st context values state goes
-    (subst (λ l. Needs s os (standing (rule_of p) [] at around st) [] l at st) parts
-    (subst (λ k. Needs s os (standing (rule_of p) [] at around st) [] (parts_of p) k st) (omega arith)
-    (opens-by s kind p [] around os at st (takes-wide s kind p byte [] wide chosen small (takes-none p byte chain)) begins expects (stands-none s.bytes at))))

@@ -7,7 +7,7 @@ use Rattle.sym_link.specs.Unfold.{standing}
 use Rattle.cpp_grammar.specs.declared.kind.Kind.{Kind}
 use Rattle.cpp_grammar.specs.declared.production.Production.{Production}
 use Rattle.cpp_grammar.specs.Grammar.{in_ranges, among, is_in, pick, number_of_kind, alternatives, choose, parts_of, is_chain}
-use Rattle.cpp_grammar.specs.KindNumbers.{TYPE}
+use Rattle.cpp_grammar.specs.KindNumbers.{TYPE, ANY_ARRAY, ARRAY_REST}
 use Rattle.cpp_grammar.specs.Table.{rule_of}
 use Rattle.cpp_grammar.specs.Term.{array}
 use Rattle.cpp_grammar.specs.Values as values
@@ -22,7 +22,7 @@ use Rattle.cpp_direct.specs.declared.open.Access.TheVariants as accesses
 use Rattle.cpp_direct.specs.Holes.{Opened, opened, StandsAt, Comes, Expects, ExpectsSym, IsReferable, IsTyped, with_candidate}
 use Rattle.cpp_direct.specs.HolesOfArrays.{IsSizeAt, ArrayOpened, access_letters}
 use Rattle.cpp_direct.specs.HolesOfTypes.{IsQualifiable}
-use Rattle.cpp_direct.proofs.Moves.{stands-split, comes-moved, expects-number, first-of, next-of, last-of}
+use Rattle.cpp_direct.proofs.Moves.{stands-split, comes-moved, expects-number, first-of, first-of-chain, next-of, last-of}
 use Rattle.cpp_direct.proofs.MovesOfTypes.{whole-opens, pointer-opens, lvalue-opens}
 
 -- the size of an array
@@ -38,17 +38,26 @@ plain-array-opens : (s : Symbol) (kind : Kind) (os : List Opened) (around : Arou
     → Expects s kind around os at st → StandsAt s.bytes at (65 ∷ []) → IsSizeAt s.bytes (at + 1) digits end → ArrayOpened s os around accesses.Plain digits end st
 unfolding choose alternatives pick is_in in_ranges among is_chain parts_of number_of_kind between opening close unfolding_.behind meaning byte_of tree_of text_of part
 plain-array-opens s kind os around at st digits end whole expects stands is =
-    let p = Production.Array in
+    let p = Production.LengthArray in
+    let q = Production.AnyArray in
     let w = whole-opens s kind around os at st whole expects in
-    let rule = standing (rule_of p) (65 ∷ []) at around st in
+    let os1 = opened (standing (rule_of Production.ArrayType) [] at around st) [] [] ∷ w.inner in
+    let os2 = opened (standing (rule_of q) (65 ∷ []) at around st) [] [] ∷ os1 in
+    let rule = standing (rule_of p) [] (at + 1) around st in
     let t = OfKind TYPE in
-    let size = expects-size s around (opened rule [] (t ∷ []) ∷ w.inner) (at + 1) st digits end
-    (first-of s Kind.Solid p 65 around w.inner at st (Number Decimal) (t ∷ []) around [] st refl (omega arith) refl (λ f. refl) refl refl w.awaits stands) is in
+    let behind_letter = first-of s Kind.AnyArray q 65 around os1 at st (OfKind ARRAY_REST) [] around [] st refl (omega arith) refl (λ f. refl) refl refl
+    (first-of-chain s Kind.Solid Production.ArrayType 65 around w.inner at st (OfKind ANY_ARRAY) [] around [] st refl (omega arith) refl (λ f. refl) refl refl w.awaits) stands in
+    let size = expects-size s around (opened rule [] (t ∷ []) ∷ os2) (at + 1) st digits end
+    (first-of-chain s Kind.ArrayRest p 48 around os2 (at + 1) st (Number Decimal) (t ∷ []) around [] st refl (omega arith) refl (λ f. refl) refl refl behind_letter) is in
     record {
-      inner = opened rule (values.text digits ∷ []) [] ∷ w.inner;
-      awaits = next-of s p (65 ∷ []) at around st [] (values.text digits) t [] w.inner end st around (values.text digits ∷ []) st refl size;
-      onward = λ u here now comes. w.passes (array (values.normal digits) u) false here now
-          (last-of s p (65 ∷ []) at around st (values.text digits ∷ []) (tree u true) w.inner here now (tree (array (values.normal digits) u) false) now refl comes);
+      inner = opened rule (values.text digits ∷ []) [] ∷ os2;
+      awaits = next-of s p [] (at + 1) around st [] (values.text digits) t [] os2 end st around (values.text digits ∷ []) st refl size;
+      onward = λ u here now comes.
+          let v = tree (array (values.normal digits) u) false in
+          w.passes (array (values.normal digits) u) false here now
+          (last-of s Production.ArrayType [] at around st [] v w.inner here now v now refl
+          (last-of s q (65 ∷ []) at around st [] v os1 here now v now refl
+          (last-of s p [] (at + 1) around st (values.text digits ∷ []) (tree u true) os2 here now v now refl comes)));
     }
 
 typed : (k : Kind) → IsQualifiable k → IsTyped k

@@ -23,7 +23,7 @@ use Rattle.cpp_direct.specs.ItemBytes.{is_integer_letter}
 use Rattle.cpp_direct.specs.Letters.{integer_letters}
 use Rattle.cpp_direct.proofs.LettersTested.{each_passes, tested-one, is_small, small, takes, taken}
 use Rattle.cpp_direct.specs.HolesOfLists.{ArgumentsOpened, IsArgumentKind, LiteralOpened, PackOpened, EnumeratorOpened, IsDigitsAt, minus_sign}
-use Rattle.cpp_direct.proofs.Alone.{any-list}
+use Rattle.cpp_direct.proofs.Alone.{any-list, any-argument}
 use Rattle.cpp_direct.proofs.Moves.{stands-split, opens, opens-chain, needs-next, ends, expects-byte, expects-number}
 
 -- ## Marks
@@ -76,31 +76,31 @@ pub element-awaits : (s : Symbol) (kind : Kind) (os : List Opened) (around : Aro
     → IsListKind kind → Expects s kind around os at st → AwaitsElement s kind os around at st
 unfolding choose alternatives pick is_in in_ranges among is_chain parts_of between opening close unfolding_.behind meaning part tree_of
 element-awaits s Kind.ArgumentList os around at st list_kind expects =
-    let rule = standing (rule_of Production.TypeArgument) [] at around st in
-    let needs = opens-chain s Kind.ArgumentList Production.TypeArgument 80 around os at st refl (omega arith) refl (λ f. refl) expects in
+    let rule = standing (rule_of Production.AnyArgument) [] at around st in
+    let needs = opens-chain s Kind.ArgumentList Production.AnyArgument 80 around os at st refl (omega arith) refl (λ f. refl) expects in
     let rest = OfKind (number_of_kind Kind.ArgumentList) in
     record {
       inner = opened rule [] (rest ∷ []) ∷ os;
-      awaits = needs-next s Production.TypeArgument [] at around st [] (OfKind (number_of_kind Kind.Item)) (rest ∷ []) os at st around []
-          st refl needs;
+      awaits = any-argument s around (opened rule [] (rest ∷ []) ∷ os) at st
+          (needs-next s Production.AnyArgument [] at around st [] (OfKind (number_of_kind Kind.Argument)) (rest ∷ []) os at st around [] st refl needs);
       onward = λ t here now comes. record {
         inner = opened rule (tree t true ∷ []) [] ∷ os;
-        awaits = needs-next s Production.TypeArgument [] at around st (tree t true ∷ []) rest [] os here now around (tree t true ∷ []) now refl comes;
-        passes = λ l there then_ last. ends s Production.TypeArgument [] at around st (tree t true ∷ l ∷ []) os there then_ _ then_ last refl;
+        awaits = needs-next s Production.AnyArgument [] at around st (tree t true ∷ []) rest [] os here now around (tree t true ∷ []) now refl comes;
+        passes = λ l there then_ last. ends s Production.AnyArgument [] at around st (tree t true ∷ l ∷ []) os there then_ _ then_ last refl;
       };
     }
 element-awaits s Kind.PackList os around at st list_kind expects =
-    let rule = standing (rule_of Production.TypeElement) [] at around st in
-    let needs = opens-chain s Kind.PackList Production.TypeElement 80 around os at st refl (omega arith) refl (λ f. refl) expects in
+    let rule = standing (rule_of Production.AnyElement) [] at around st in
+    let needs = opens-chain s Kind.PackList Production.AnyElement 80 around os at st refl (omega arith) refl (λ f. refl) expects in
     let rest = OfKind (number_of_kind Kind.PackList) in
     record {
       inner = opened rule [] (rest ∷ []) ∷ os;
-      awaits = needs-next s Production.TypeElement [] at around st [] (OfKind (number_of_kind Kind.Item)) (rest ∷ []) os at st around []
-          st refl needs;
+      awaits = any-argument s around (opened rule [] (rest ∷ []) ∷ os) at st
+          (needs-next s Production.AnyElement [] at around st [] (OfKind (number_of_kind Kind.Argument)) (rest ∷ []) os at st around [] st refl needs);
       onward = λ t here now comes. record {
         inner = opened rule (tree t true ∷ []) [] ∷ os;
-        awaits = needs-next s Production.TypeElement [] at around st (tree t true ∷ []) rest [] os here now around (tree t true ∷ []) now refl comes;
-        passes = λ l there then_ last. ends s Production.TypeElement [] at around st (tree t true ∷ l ∷ []) os there then_ _ then_ last refl;
+        awaits = needs-next s Production.AnyElement [] at around st (tree t true ∷ []) rest [] os here now around (tree t true ∷ []) now refl comes;
+        passes = λ l there then_ last. ends s Production.AnyElement [] at around st (tree t true ∷ l ∷ []) os there then_ _ then_ last refl;
       };
     }
 element-awaits s Kind.Items os around at st list_kind expects =

@@ -12,8 +12,8 @@ use Rattle.cpp_grammar.specs.declared.kind.Kind.{Kind}
 use Rattle.cpp_grammar.specs.declared.production.Production.{Production}
 use Rattle.cpp_grammar.specs.Grammar.{in_ranges, among, is_in, pick, number_of_kind, alternatives, choose, parts_of, is_chain, may_be_empty}
 use Rattle.cpp_grammar.specs.Table.{rule_of, padded}
-use Rattle.cpp_grammar.specs.Term.{Term, source, within, lambda, builtin, nil, list}
-use Rattle.cpp_grammar.specs.Values.{State, Around, outermost, normal, nothing_there, text, tree, piece, tree_of, text_of, piece_of, is_listed, qualifiers_of, ref_of, is_there, local_number, part}
+use Rattle.cpp_grammar.specs.Term.{Term, source, within, lambda, builtin, nil, list, of_name}
+use Rattle.cpp_grammar.specs.Values.{State, Around, outermost, normal, nothing_there, letter, text, tree, piece, tree_of, text_of, piece_of, is_listed, qualifiers_of, ref_of, is_there, local_number, part}
 use Rattle.cpp_grammar.specs.References.{with_type}
 use Rattle.cpp_grammar.specs.Between.{between, no_items, after, in_signature, in_name, extended, applied, piece_so_far, named_so_far}
 use Rattle.cpp_grammar.specs.Meaning.{meaning, parameters, is_void, is_nil, listed_value}
@@ -29,6 +29,7 @@ use Rattle.cpp_direct.specs.Stands.{ItemsGoOn, nowhere}
 use Rattle.cpp_direct.proofs.Scopes.{none-known}
 use Rattle.cpp_direct.proofs.ShortNumbers.{lambda-begins}
 use Rattle.cpp_direct.specs.HolesOfTypes.{IsNamedKind}
+use Rattle.cpp_direct.proofs.MovesOfLists.{mark-comes}
 use Rattle.cpp_direct.proofs.Moves.{stands-split, comes-moved, kind-at, reads-rule, joins, none-left, opens, opens-where, opens-chain, needs-next, ends, expects-empty, expects-byte, expects-name, expects-number}
 use Rattle.cpp_direct.proofs.Tables.{empty-by, names-by}
 
@@ -124,8 +125,8 @@ name-comes : (s : Symbol) (os : List Opened) (around : Around) (e : Term) (at : 
     → Expects s Kind.Entity (after e true around) os at st → (internal ≡ true → StandsAt s.bytes at (76 ∷ []))
     → IsNameAt s.bytes (at + cond internal 1 0) name end → Comes s os (tree (within e (source internal name)) false) end st
 unfolding choose alternatives pick is_in in_ranges among
-name-comes s os around e at true name end st expects letter is = internal-comes s os around e at name end st expects (letter refl) is
-name-comes s os around e at false name end st expects letter is =
+name-comes s os around e at true name end st expects marked is = internal-comes s os around e at name end st expects (marked refl) is
+name-comes s os around e at false name end st expects marked is =
     let same : at + 0 ≡ at = omega arith in
     source-comes s Kind.Entity os around e at name end st refl expects (subst (λ n. IsNameAt s.bytes n name end) same is)
 
@@ -285,12 +286,12 @@ local-type-opens s kind os around at st named_ expects stands =
       inner = opened rule [] (Byte 69 ∷ entity ∷ last ∷ []) ∷ os;
       awaits = needs-next s p (90 ∷ []) at around st [] encoding (Byte 69 ∷ entity ∷ last ∷ []) os (at + 1) st around [] st refl
           (opens s kind p 90 (90 ∷ []) around os at st (local-taken kind named_) (omega arith) refl (λ f. refl) expects stands);
-      onward = λ e here now comes letter.
+      onward = λ e here now comes closed.
           let inside : Around = after e true around in
           let one = tree e true ∷ [] in
           let two = tree e true ∷ nothing_there ∷ [] in
           let marked = expects-byte s 69 inside (opened rule one (entity ∷ last ∷ []) ∷ os) here now
-          (needs-next s p (90 ∷ []) at around st one (Byte 69) (entity ∷ last ∷ []) os here now inside one now refl comes) letter in
+          (needs-next s p (90 ∷ []) at around st one (Byte 69) (entity ∷ last ∷ []) os here now inside one now refl comes) closed in
           record {
             around = around;
             inner = opened rule two (last ∷ []) ∷ os;
@@ -381,19 +382,27 @@ lambda-opens s os around e at st short expects stands =
 -- a guard variable begins with GV, and the name is expected of what it guards
 pub guard-opens : (s : Symbol) (os : List Opened) (around : Around) (at : ℕ) (st : State)
     → Expects s Kind.Encoding around os at st → StandsAt s.bytes at (71 ∷ 86 ∷ []) → GuardOpened s os at (at + 2) st
-unfolding choose alternatives pick is_in in_ranges among is_chain parts_of between opening close unfolding_.behind meaning part
+unfolding choose alternatives pick is_in in_ranges among is_chain parts_of number_of_kind between opening close unfolding_.behind meaning byte_of part
 guard-opens s os around at st expects stands =
-    let p = Production.Guard in
-    let rule = standing (rule_of p) (71 ∷ []) at around st in
-    let name = OfKind (number_of_kind Kind.CompleteName) in
+    let p = Production.OtherSpecial in
+    let q = Production.SpecialName in
+    let here = in_name at in
+    let rule = standing (rule_of p) [] at around st in
+    let inner_rule = standing (rule_of q) (86 ∷ []) (at + 1) here st in
+    let after_g = OfKind (number_of_kind Kind.SpecialAfterG) in
+    let os1 = opened rule (letter 71 ∷ []) [] ∷ os in
     let places = stands-split s.bytes at (71 ∷ []) (86 ∷ []) stands in
-    let marked = expects-byte s 86 (in_name at) (opened rule [] (name ∷ []) ∷ os) (at + 1) st
-    (needs-next s p (71 ∷ []) at around st [] (Byte 86) (name ∷ []) os (at + 1) st (in_name at) [] st refl
-    (opens s Kind.Encoding p 71 (71 ∷ []) around os at st refl (omega arith) refl (λ f. refl) expects places.0)) places.1 in
-    let awaited = needs-next s p (71 ∷ []) at around st (nothing_there ∷ []) name [] os (at + 1 + 1) st (in_name at) (nothing_there ∷ []) st refl marked in
-    let known = nothing_there ∷ [] in
+    let marked = mark-comes s (opened rule [] (after_g ∷ []) ∷ os) Kind.SpecialMark 71 here at st refl (omega arith)
+    (needs-next s p [] at around st [] (OfKind (number_of_kind Kind.SpecialMark)) (after_g ∷ []) os at st here [] st refl
+    (opens-chain s Kind.Encoding p 71 around os at st refl (omega arith) refl (λ f. refl) expects)) places.0 in
+    let behind_g = needs-next s p [] at around st (letter 71 ∷ []) after_g [] os (at + 1) st here (letter 71 ∷ []) st refl marked in
+    let awaited = needs-next s q (86 ∷ []) (at + 1) here st [] (OfKind (number_of_kind Kind.CompleteName)) [] os1 (at + 1 + 1) st here [] st refl
+    (opens s Kind.SpecialAfterG q 86 (86 ∷ []) here os1 (at + 1) st refl (omega arith) refl (λ f. refl) behind_g places.1) in
     record {
-      inner = opened rule known [] ∷ os;
-      awaits = subst (λ n. Expects s Kind.CompleteName (in_name at) (opened rule known [] ∷ os) n st) (omega arith) awaited;
-      onward = λ v here now comes. ends s p (71 ∷ []) at around st (nothing_there ∷ v ∷ []) os here now _ now comes refl;
+      inner = opened inner_rule [] [] ∷ os1;
+      awaits = subst (λ n. Expects s Kind.CompleteName here (opened inner_rule [] [] ∷ os1) n st) (omega arith) awaited;
+      onward = λ v here_ now comes.
+          let guard = tree (of_name 86 (tree_of v) (qualifiers_of v) (ref_of v)) true in
+          ends s p [] at around st (letter 71 ∷ guard ∷ []) os here_ now guard now
+          (ends s q (86 ∷ []) (at + 1) here st (v ∷ []) os1 here_ now guard now comes refl) refl;
     }

@@ -11,9 +11,8 @@ use Rattle.sym_link.specs.Reading.{Found, ◌>>=◌}
 use Rattle.sym_link.specs.Unfold.{found, standing}
 use Rattle.cpp_grammar.specs.declared.kind.Kind.{Kind}
 use Rattle.cpp_grammar.specs.declared.production.Production.{Production}
-use Rattle.cpp_grammar.specs.KindNumbers.{UNQUALIFIED, NEST_AFTER_S, NEST_REST, NEST_REST_ALONE, NEST_REST_OR_END, NEST_TAIL, ABBREVIATION, MAYBE_ARGUMENTS}
+use Rattle.cpp_grammar.specs.KindNumbers.{UNQUALIFIED, NEST_AFTER_S, NEST_REST, NEST_REST_OR_END, NEST_TAIL, ABBREVIATION, MAYBE_ARGUMENTS}
 use Rattle.cpp_grammar.specs.Grammar.{in_ranges, among, is_in, pick, alternatives, number_of_kind, choose, parts_of, is_chain}
-use Rattle.cpp_grammar.specs.Either.{either_alternatives, either_choose}
 use Rattle.cpp_grammar.specs.Table.{rule_of}
 use Rattle.cpp_grammar.specs.Term.{Term, alone, in_std, abbreviation, source}
 use Rattle.cpp_grammar.specs.Scope.{is_open, pack_length}
@@ -26,9 +25,8 @@ use Rattle.cpp_grammar.specs.Unfolding as unfolding_
 use Rattle.cpp_grammar.specs.Unfolding.{opening, close, byte_of}
 use Rattle.cpp_direct.specs.Symbol.{Symbol}
 use Rattle.cpp_direct.specs.Holes.{Opened, opened, StandsAt, Comes, Expects, IsNameAt, IsSeqAt, SamePasses, NestGoesOn, NestNamed, bare_name}
-use Rattle.cpp_direct.specs.HolesOfNests.{NestKnown}
 use Rattle.cpp_direct.proofs.Alone.{alone-rest}
-use Rattle.cpp_direct.proofs.Moves.{stands-split, comes-moved, expects-name, expects-seq, first-of, first-of-chain, wide-first-of-chain, next-of, last-of, letter-comes}
+use Rattle.cpp_direct.proofs.Moves.{stands-split, comes-moved, expects-name, expects-seq, first-of, first-of-chain, next-of, last-of, letter-comes}
 
 -- ## Productions
 
@@ -136,56 +134,28 @@ s-passes s os around at st = last-passes s Production.NestWithS (83 ∷ []) at a
 nest-known : (s : Symbol) (os : List Opened) (around : Around) (at : ℕ) (st : State) (t : Term) (end : ℕ)
     → Expects s Kind.Nest around os at st → StandsAt s.bytes at (83 ∷ [])
     → ((inner : List Opened) → Expects s Kind.Abbreviation around inner (at + 1) st → Comes s inner (tree t true) end st)
-    → NestGoesOn s Kind.NestRestAlone os around t true end st
+    → NestGoesOn s Kind.NestRestOrEnd os around t true end st
 unfolding choose alternatives pick is_in in_ranges among is_chain parts_of number_of_kind between opening close unfolding_.behind meaning listed_so_far tree_of part
 nest-known s os around at st t end expects here comes =
-    let p : Production = Production.NestAbbreviated in
-    let os1 : List Opened = opened (standing (rule_of Production.NestWithS) (83 ∷ []) at around st) [] [] ∷ os in
-    record {
-      inner = opened (standing (rule_of p) [] (at + 1) around st) (tree t true ∷ []) [] ∷ os1;
-      awaits = next-of s p [] (at + 1) around st [] (tree t true) (OfKind NEST_REST_ALONE) [] os1 end st (after t true around) (tree t true ∷ []) st refl
-          (comes (opened (standing (rule_of p) [] (at + 1) around st) [] (OfKind NEST_REST_ALONE ∷ []) ∷ os1)
-          (first-of-chain s Kind.NestAfterS p 97 around os1 (at + 1) st (OfKind ABBREVIATION) (OfKind NEST_REST_ALONE ∷ []) around [] st refl (omega arith) refl (λ f. refl)
-          refl refl (behind-s s os around at st expects here)));
-      passes = λ v to later given. s-passes s os around at st v to later
-          (last-passes s p [] (at + 1) around st (tree t true ∷ []) os1 (λ w x. refl) v to later given);
-    }
-
--- the same by the wide grammar, where it may end behind its arguments
-nest-template : (s : Symbol) (os : List Opened) (around : Around) (at : ℕ) (st : State) (t : Term) (end : ℕ) → s.is_wide ≡ true
-    → Expects s Kind.Nest around os at st → StandsAt s.bytes at (83 ∷ [])
-    → ((inner : List Opened) → Expects s Kind.Abbreviation around inner (at + 1) st → Comes s inner (tree t true) end st)
-    → NestGoesOn s Kind.NestRestOrEnd os around t true end st
-unfolding either_choose either_alternatives pick is_in in_ranges among is_chain parts_of number_of_kind between opening close unfolding_.behind meaning listed_so_far tree_of part
-nest-template s os around at st t end wide expects here comes =
     let p : Production = Production.NestTemplate in
     let os1 : List Opened = opened (standing (rule_of Production.NestWithS) (83 ∷ []) at around st) [] [] ∷ os in
     record {
       inner = opened (standing (rule_of p) [] (at + 1) around st) (tree t true ∷ []) [] ∷ os1;
       awaits = next-of s p [] (at + 1) around st [] (tree t true) (OfKind NEST_REST_OR_END) [] os1 end st (after t true around) (tree t true ∷ []) st refl
           (comes (opened (standing (rule_of p) [] (at + 1) around st) [] (OfKind NEST_REST_OR_END ∷ []) ∷ os1)
-          (wide-first-of-chain s Kind.NestAfterS p 97 around os1 (at + 1) st (OfKind ABBREVIATION) (OfKind NEST_REST_OR_END ∷ []) around [] st wide refl
-          (omega arith) refl (λ f. refl) refl refl (behind-s s os around at st expects here)));
+          (first-of-chain s Kind.NestAfterS p 97 around os1 (at + 1) st (OfKind ABBREVIATION) (OfKind NEST_REST_OR_END ∷ []) around [] st refl (omega arith) refl (λ f. refl)
+          refl refl (behind-s s os around at st expects here)));
       passes = λ v to later given. s-passes s os around at st v to later
           (last-passes s p [] (at + 1) around st (tree t true ∷ []) os1 (λ w x. refl) v to later given);
     }
 
-nest-either : (s : Symbol) (os : List Opened) (around : Around) (at : ℕ) (st : State) (t : Term) (end : ℕ)
-    → Expects s Kind.Nest around os at st → StandsAt s.bytes at (83 ∷ [])
-    → ((inner : List Opened) → Expects s Kind.Abbreviation around inner (at + 1) st → Comes s inner (tree t true) end st)
-    → NestKnown s os around t end st
-nest-either s os around at st t end expects here comes = record {
-  goes = nest-known s os around at st t end expects here comes;
-  may_end = λ wide. nest-template s os around at st t end wide expects here comes;
-}
-
 -- a letter for a name of std at the front of a nested name
 pub nest-abbreviation : (s : Symbol) (os : List Opened) (around : Around) (at : ℕ) (st : State) (code : ℕ)
     → Expects s Kind.Nest around os at st → StandsAt s.bytes at (83 ∷ code ∷ []) → among (codes "abdios") code ≡ true
-    → NestKnown s os around (abbreviation code) (at + 2) st
+    → NestGoesOn s Kind.NestRestOrEnd os around (abbreviation code) true (at + 2) st
 nest-abbreviation s os around at st code expects here is =
     let two = stands-split s.bytes at (83 ∷ []) (code ∷ []) here in
-    nest-either s os around at st (abbreviation code) (at + 2) expects two.0
+    nest-known s os around at st (abbreviation code) (at + 2) expects two.0
     (λ inner awaits. comes-moved s inner (tree (abbreviation code) true) (at + 1 + 1) (at + 2) st (omega arith)
     (abbreviation-comes s inner around (at + 1) st code awaits two.1 is))
 
@@ -194,9 +164,9 @@ pub nest-substitution : (s : Symbol) (os : List Opened) (around : Around) (at : 
     → Expects s Kind.Nest around os at st → StandsAt s.bytes at (83 ∷ []) → IsSeqAt s.bytes (at + 1) digits end
     → slice_get st.candidates (counted_value Seq36 digits) ≡ Some c → is_open c.tree ≡ false
     → ((scope : Term) → pack_length scope c.tree ≡ None)
-    → NestKnown s os around c.tree end st
+    → NestGoesOn s Kind.NestRestOrEnd os around c.tree true end st
 nest-substitution s os around at st digits end c expects here is there bound none =
-    nest-either s os around at st c.tree end expects here
+    nest-known s os around at st c.tree end expects here
     (λ inner awaits. reference-comes s inner around (at + 1) st digits end c awaits is there bound none)
 
 -- a name of std at the front of a nested name

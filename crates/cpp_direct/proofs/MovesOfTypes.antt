@@ -10,8 +10,8 @@ use Rattle.sym_link.specs.Reading.{Found, ◌>>=◌}
 use Rattle.sym_link.specs.Unfold.{found, standing}
 use Rattle.cpp_grammar.specs.declared.kind.Kind.{Kind}
 use Rattle.cpp_grammar.specs.declared.production.Production.{Production}
-use Rattle.cpp_grammar.specs.KindNumbers.{NEST, ABBREVIATION, TYPE, PLAIN, ITEM_AFTER_D, AFTER_D, SOLID, TYPE_AFTER_S, SOURCE_OR_LOCAL, MAYBE_ARGUMENTS, ARGUMENTS_ALONE}
-use Rattle.cpp_grammar.specs.Grammar.{in_ranges, among, is_in, pick, number_of_kind, alternatives, choose, parts_of, is_chain, number_of}
+use Rattle.cpp_grammar.specs.KindNumbers.{NEST, ABBREVIATION, TYPE, PLAIN, ITEM_AFTER_D, AFTER_D, SOLID, TYPE_AFTER_S, TYPE_IN_STD, SOURCE_OR_LOCAL, MAYBE_TAGS, MAYBE_ARGUMENTS, ARGUMENTS_ALONE}
+use Rattle.cpp_grammar.specs.Grammar.{in_ranges, among, is_in, pick, number_of_kind, alternatives, choose, parts_of, is_chain, may_be_empty, number_of}
 use Rattle.cpp_grammar.specs.Table.{rule_of}
 use Rattle.cpp_grammar.specs.Term.{Term, alone, in_std, abbreviation, source, builtin, pointer, lvalue, rvalue, instance}
 use Rattle.cpp_grammar.specs.Scope.{is_open, pack_length}
@@ -28,7 +28,7 @@ use Rattle.cpp_direct.proofs.Alone.{alone-arguments}
 use Rattle.cpp_direct.proofs.LettersTested.{each_passes, tested, is_small, small, takes, taken}
 use Rattle.cpp_direct.specs.Holes.{Opened, opened, StandsAt, Comes, Expects, IsNameAt, IsSeqAt, IsReferable, IsTyped, TypeNamed, with_candidate, unless_listed}
 use Rattle.cpp_direct.specs.HolesOfTypes.{as_const, IsQualifiable, TypeOpens, TreePasses, TreeOpens, NameOpens, IsNamedKind}
-use Rattle.cpp_direct.proofs.Moves.{stands-split, expects-name, expects-seq, first-of, first-of-chain, next-of, last-of, letter-comes}
+use Rattle.cpp_direct.proofs.Moves.{stands-split, expects-empty, expects-name, expects-seq, first-of, first-of-chain, next-of, last-of, letter-comes}
 
 -- ## Solid types
 
@@ -373,21 +373,29 @@ name-with-s-opens s kind around os at st is_named solid stands =
 pub std-opens : (s : Symbol) (kind : Kind) (around : Around) (os : List Opened) (at : ℕ) (st : State) (name : List ℕ) (end : ℕ) → IsNamedKind kind
     → TreeOpens s kind os around at st → StandsAt s.bytes at (83 ∷ 116 ∷ []) → IsNameAt s.bytes (at + 2) name end
     → TypeNamed s os around (in_std (source false name)) false end st
-unfolding choose alternatives pick is_in in_ranges among is_chain parts_of number_of_kind between opening close unfolding_.behind meaning byte_of piece_of part text_of
+unfolding choose alternatives pick is_in in_ranges among is_chain parts_of number_of_kind may_be_empty between named_so_far after applied is_there tree_of opening close unfolding_.behind meaning byte_of piece_of part text_of
 std-opens s kind around os at st name end is_named solid stands is =
     let both = stands-split s.bytes at (83 ∷ []) (116 ∷ []) stands in
     let w = name-with-s-opens s kind around os at st is_named solid both.0 in
-    let std = opened (standing (rule_of Production.StdType) (116 ∷ []) (at + 1) around st) [] [] ∷ w.inner in
-    let expects_piece = first-of s Kind.TypeAfterS Production.StdType 116 around w.inner (at + 1) st (OfKind SOURCE_OR_LOCAL) [] around [] st refl (omega arith)
-    refl (λ f. refl) refl refl w.awaits both.1 in
+    let p = Production.TaggedStdType in
+    let piece_ : Value = piece (source false name) in
+    let t : Term = in_std (source false name) in
+    let in_kind = opened (standing (rule_of Production.TypeInStd) [] (at + 1) around st) [] [] ∷ w.inner in
+    let std = opened (standing (rule_of p) (116 ∷ []) (at + 1) around st) [] (OfKind MAYBE_TAGS ∷ []) ∷ in_kind in
+    let expects_piece = first-of s Kind.TypeInStd p 116 around in_kind (at + 1) st (OfKind SOURCE_OR_LOCAL) (OfKind MAYBE_TAGS ∷ []) around [] st refl (omega arith)
+    refl (λ f. refl) refl refl
+    (first-of-chain s Kind.TypeAfterS Production.TypeInStd 116 around w.inner (at + 1) st (OfKind TYPE_IN_STD) [] around [] st refl (omega arith) refl (λ f. refl) refl refl w.awaits)
+    both.1 in
     let expects_own = first-of-chain s Kind.SourceOrLocal Production.SourcePiece 48 around std (at + 1 + 1) st Name [] around [] st refl
     (omega arith) refl (λ f. refl) refl refl expects_piece in
-    w.named (in_std (source false name)) false end st
-    (last-of s Production.StdType (116 ∷ []) (at + 1) around st [] (piece (source false name)) w.inner end st
-    (tree (in_std (source false name)) false) st refl
-    (last-of s Production.SourcePiece [] (at + 1 + 1) around st [] (text name) std end st (piece (source false name)) st refl
+    let tagless = next-of s p (116 ∷ []) (at + 1) around st [] piece_ (OfKind MAYBE_TAGS) [] in_kind end st (after t false around) (tree t false ∷ []) st refl
+    (last-of s Production.SourcePiece [] (at + 1 + 1) around st [] (text name) std end st piece_ st refl
     (expects-name s around (opened (standing (rule_of Production.SourcePiece) [] (at + 1 + 1) around st) [] [] ∷ std) (at + 1 + 1) st name end
-    expects_own (subst (λ k. IsNameAt s.bytes k name end) (omega arith) is))))
+    expects_own (subst (λ k. IsNameAt s.bytes k name end) (omega arith) is))) in
+    w.named t false end st
+    (last-of s Production.TypeInStd [] (at + 1) around st [] (tree t false) w.inner end st (tree t false) st refl
+    (last-of s p (116 ∷ []) (at + 1) around st (tree t false ∷ []) nothing_there in_kind end st (tree t false) st refl
+    (expects-empty s Kind.MaybeTags (after t false around) (opened (standing (rule_of p) (116 ∷ []) (at + 1) around st) (tree t false ∷ []) [] ∷ in_kind) end st tagless refl)))
 
 abbreviation-taken : (byte : ℕ) → is_abbreviated byte ≡ true → choose Kind.Abbreviation byte ≡ Some Production.Abbreviation
 unfolding choose alternatives pick is_in in_ranges is_abbreviated among each_passes takes number_of

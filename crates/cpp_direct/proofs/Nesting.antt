@@ -27,16 +27,16 @@ use Rattle.cpp_direct.specs.declared.open.Step.{Step}
 use Rattle.cpp_direct.specs.declared.open.Step.TheVariants as steps
 use Rattle.cpp_direct.specs.declared.direct.Direct.{Direct}
 use Rattle.cpp_direct.specs.Holes.{Opened, Comes, StandsAt, IsNameAt, IsSeqAt, SamePasses, NestGoesOn, AwaitsComponent, with_candidate, unless_listed, IsTagAt}
-use Rattle.cpp_direct.specs.HolesOfNests.{IsRest, NestKnown}
+use Rattle.cpp_direct.specs.HolesOfNests.{IsRest, IsFirstRest}
 use Rattle.cpp_direct.specs.Names.{tag_text}
 use Rattle.cpp_direct.specs.Prints.{Prints, NamesClass}
 use Rattle.cpp_direct.specs.Stands.{HasArguments, AreCandidates, IsNest, IsNesting, IsOwn, IsTemplate, ArgumentsGoOn, Serves, Stands, IsWriting, qualifiers, IsKnown, nowhere, place_of}
 use Rattle.cpp_direct.specs.Ways.{AwaitsNest, IsNestKnown, IsNestNamed, IsNameEnded, IsOperatorRead}
 use Rattle.cpp_direct.specs.Written.{Reads, added, added_unless}
-use Rattle.cpp_direct.proofs.Alone.{alone-arguments}
+use Rattle.cpp_direct.proofs.Alone.{alone-arguments, any-tail}
 use Rattle.cpp_direct.proofs.Kept.{arguments-begun, candidates-read, candidates-stay, candidates-with, candidates-unless, candidate-found, piece-found, nest-stays, reverse-last, plainly-prints}
 use Rattle.cpp_direct.proofs.Moves.{expects-empty, stands-join, comes-moved}
-use Rattle.cpp_direct.proofs.MovesOfComponents.{component-awaits, first-arguments, instance-arguments, nest-end}
+use Rattle.cpp_direct.proofs.MovesOfComponents.{component-awaits, component-outside, any-arguments, instance-arguments, nest-end}
 use Rattle.cpp_direct.proofs.MovesOfLists.{arguments-open}
 use Rattle.cpp_direct.proofs.MovesOfNests.{nest-source, nest-abbreviation, nest-substitution, nest-std}
 use Rattle.cpp_direct.proofs.PrintedNames.{as-name, source-prints, source-class, std-prints, std-class, abbreviation-prints}
@@ -194,6 +194,8 @@ known-goes-on s w n = record {
   candidates = n.candidates;
   is_before = (
     n.own,
+    Kind.NestRestOrEnd,
+    tt,
     record {
       front = n.front;
       around = n.around;
@@ -201,7 +203,7 @@ known-goes-on s w n = record {
       bytes = n.bytes;
       written = n.written;
       is_nest = n.is_nest;
-      goes = subst (λ b. NestGoesOn s Kind.NestRestAlone n.outer n.around n.own b w.at n.state) (sym n.listed) n.known.goes;
+      goes = subst (λ b. NestGoesOn s Kind.NestRestOrEnd n.outer n.around n.own b w.at n.state) (sym n.listed) n.known;
       serves = n.serves;
     },
   );
@@ -213,12 +215,18 @@ nest-outside : (s : Symbol) (kind : Kind) (inner outer : List Opened) (around : 
 nest-outside s kind inner outer around t listed at st passes g =
     record { inner = g.inner; awaits = g.awaits; passes = λ v to later came. passes v to later (g.passes v to later came) }
 
+-- by the wide grammar it may end behind its arguments
+may-end : (s : Symbol) (outer : List Opened) (around : Around) (t : Term) (listed : Bool) (at : ℕ) (st : State) → s.is_wide ≡ true
+    → NestGoesOn s Kind.NestMoreOrEnd outer around t listed at st → NestGoesOn s Kind.NestTail outer around t listed at st
+may-end s outer around t listed at st wide g =
+    record { inner = g.inner; awaits = any-tail s (after t listed around) g.inner at st wide g.awaits; passes = g.passes }
+
 -- by the wide grammar arguments stand behind it, where it is a type
 pub known-opens : (s : Symbol) (old new : Direct) → IsNestKnown s old → s.is_wide ≡ true → old.nest.purpose ≡ purposes.Type → StandsAt s.bytes old.at (73 ∷ [])
     → OpensArguments old new (opens.NestArguments old.nest) → IsWriting s new (steps.List true)
 unfolding inside
 known-opens s old new n wide is_type here opening_ =
-    let g = n.known.may_end wide in
+    let g = n.known in
     let begun = instance-arguments s g.inner n.around n.own true old.at n.state g.awaits here in
     let not_own : IsOwn old.nest.purpose → ⊥ = λ own. subst IsOwn is_type own in
     list-begins s old old new old.candidates.list.items n.state (opens.NestArguments old.nest) n.front n.bytes n.own
@@ -234,23 +242,13 @@ known-opens s old new n wide is_type here opening_ =
       (λ l at st comes ended. (
         n.around,
         n.outer,
-        nest-outside s Kind.NestTail g.inner n.outer n.around (instance n.own (no_items l)) false (at + 1) st g.passes (begun.onward l at st comes ended),
+        nest-outside s Kind.NestTail g.inner n.outer n.around (instance n.own (no_items l)) false (at + 1) st g.passes
+            (may-end s g.inner n.around (instance n.own (no_items l)) false (at + 1) st wide (begun.onward l at st comes ended)),
         n.serves,
       )),
     )
 
 -- ## Behind a name so far
-
--- what is awaited within what comes is awaited of it
-component-outside : (s : Symbol) (inner outer : List Opened) (around : Around) (t : Term) (at : ℕ) (st : State)
-    → SamePasses s inner outer → AwaitsComponent s inner around t at st → AwaitsComponent s outer around t at st
-component-outside s inner outer around t at st passes a = record {
-  inner = a.inner;
-  awaits = a.awaits;
-  onward = λ u to later comes.
-      let g = a.onward u to later comes in
-      record { inner = g.inner; awaits = g.awaits; passes = λ v onto newer came. passes v onto newer (g.passes v onto newer came) };
-}
 
 -- a component follows
 pub component-next : (s : Symbol) (kind : Kind) (old new : Direct) (st : State) (t : Term) → IsRest kind
@@ -285,15 +283,15 @@ component-next s kind old new st t rest candidates n keeps =
     }
 
 -- arguments of the first piece follow
-pub first-opens : (s : Symbol) (old mid new : Direct) (st : State) (t : Term)
-    → AreCandidates old.text.list.items old.candidates.list.items st.candidates → IsNesting s Kind.NestRestAlone old t st → StandsAt s.bytes old.at (73 ∷ [])
+pub first-opens : (s : Symbol) (kind : Kind) (old mid new : Direct) (st : State) (t : Term) → IsFirstRest kind
+    → AreCandidates old.text.list.items old.candidates.list.items st.candidates → IsNesting s kind old t st → StandsAt s.bytes old.at (73 ∷ [])
     → Keeps old mid (added_unless old old.nest.is_listed old.nest.from) → OpensArguments mid new (opens.FirstArguments mid.nest)
     → IsWriting s new (steps.List true)
 unfolding inside
-first-opens s old mid new st t candidates n here keeps opening_ =
+first-opens s kind old mid new st t first candidates n here keeps opening_ =
     let around = n.around in
     let listed = old.nest.is_listed in
-    let begun = first-arguments s n.goes.inner n.around t listed old.at st n.goes.awaits here in
+    let begun = any-arguments s kind n.goes.inner n.around t listed old.at st first n.goes.awaits here in
     list-begins s old mid new (added_unless old listed old.nest.from) (unless_listed listed around t st) (opens.FirstArguments old.nest) n.front n.bytes t
     keeps (subst (λ x. OpensArguments mid new (opens.FirstArguments x)) keeps.nest opening_)
     (candidates-unless old st listed n.front n.bytes old.nest.from t around candidates n.written n.is_nest.from_is n.is_nest.prints)
@@ -465,6 +463,8 @@ nest-begins s old new purpose a t bytes text_is candidates_are waiting_is purpos
       (candidates-stay old.text.list.items bytes old.candidates.list.items a.state.candidates a.candidates));
   is_before = (
     t,
+    Kind.NestRestAlone,
+    tt,
     record {
       front = old.text.list.items;
       around = a.around;
@@ -483,7 +483,7 @@ nest-begins s old new purpose a t bytes text_is candidates_are waiting_is purpos
 known-begins : (s : Symbol) (old new : Direct) (purpose : Purpose) (a : AwaitsNest s old purpose) (t : Term) (bytes : List ℕ)
     → new.text.list.items ≡ old.text.list.items ++ bytes → new.candidates ≡ old.candidates → new.waiting ≡ old.waiting → new.nest.purpose ≡ purpose
     → IsNest old.text.list.items bytes (old.text.list.items ++ bytes) new.nest t → new.nest.is_listed ≡ true → new.nest.has_class ≡ false
-    → NestKnown s a.outer a.around t new.at a.state → IsNestKnown s new
+    → NestGoesOn s Kind.NestRestOrEnd a.outer a.around t true new.at a.state → IsNestKnown s new
 known-begins s old new purpose a t bytes text_is candidates_are waiting_is purpose_is is_nest listed classless known = record {
   state = a.state;
   candidates = subst (λ l. AreCandidates l new.candidates.list.items a.state.candidates) (sym text_is)
@@ -572,7 +572,7 @@ abbreviation-begins s old mid purpose letter a here behind there text_is candida
     let some : letter ≢ 0 = λ e. there (ap (λ l. look_up (l ∷ []) abbreviation_texts) e) in
     known-begins s old (record mid { nest = nest }) purpose a t bytes text_is candidates_are waiting_is refl
     (classless-nest old.text.list.items bytes nest t from_is from_is from_is refl (abbreviation-prints letter there))
-    refl refl (subst (λ n. NestKnown s a.outer a.around t n a.state) (omega (arith, at_is))
+    refl refl (subst (λ n. NestGoesOn s Kind.NestRestOrEnd a.outer a.around t true n a.state) (omega (arith, at_is))
     (nest-abbreviation s a.outer a.around old.at a.state letter a.awaits (stands-join s.bytes old.at (83 ∷ []) (letter ∷ []) here (behind some))
     (abbreviation-letter letter there)))
 

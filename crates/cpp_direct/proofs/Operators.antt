@@ -1,12 +1,12 @@
 -- The codes of operators: two letters, of which the first chooses among which letters the second is.
-use Rattle.std.proofs.Common.{◌≡◌, ◌≢◌, ℕ, ◌<◌, [], ◌∷◌, Bool, true, false, ◌&&◌, ltb, Option, Some, None, Ok, refl, subst, arith}
-use Rattle.std.proofs.lemmas.Bool.{false≢true, ltb-true, and_parts}
+use Rattle.std.proofs.Common.{◌≡◌, ◌≢◌, ℕ, ◌<◌, ◌⊎◌, inl, inr, [], ◌∷◌, Bool, true, false, ◌&&◌, ◌||◌, nat_eq, ltb, Option, Some, None, Ok, refl, ◌∙◌, subst, arith}
+use Rattle.std.proofs.lemmas.Bool.{false≢true, ltb-true, eqb-true, and_parts}
 use Rattle.sym_shape.specs.declared.rule.Sym.TheVariants.{Kind as OfKind}
 use Rattle.sym_shape.specs.Tree.{Forest}
 use Rattle.sym_link.specs.Unfold.{found}
 use Rattle.cpp_grammar.specs.declared.kind.Kind.{Kind}
 use Rattle.cpp_grammar.specs.declared.production.Production.{Production}
-use Rattle.cpp_grammar.specs.Grammar.{in_ranges, among, is_in, pick, alternatives, number_of_kind, choose, parts_of, is_chain}
+use Rattle.cpp_grammar.specs.Grammar.{in_ranges, among, is_in, pick, alternatives, number_of_kind, number_of, choose, parts_of, is_chain}
 use Rattle.cpp_grammar.specs.Term.{operator}
 use Rattle.cpp_grammar.specs.Texts.{look_up, operator_texts}
 use Rattle.cpp_grammar.specs.Values.{State, Around, letter, piece, letter_of, part}
@@ -14,6 +14,7 @@ use Rattle.cpp_grammar.specs.Between.{Going, between}
 use Rattle.cpp_grammar.specs.Meaning.{meaning, operator_or_literal}
 use Rattle.cpp_grammar.specs.Unfolding as unfolding_
 use Rattle.cpp_grammar.specs.Unfolding.{opening, close}
+use Rattle.cpp_grammar.proofs.Growing.{same_choice, kept}
 use Rattle.cpp_direct.proofs.PrintedLetters.{is_pair, are_pairs, pair-listed}
 
 -- ## The productions of first letters
@@ -111,9 +112,13 @@ byte-is b is =
     let more : 0 < b = ltb-true 0 b both.0 in
     (ltb-true b 256 both.1, λ e. omega (arith, e, more))
 
+-- within a nested name what begins with a c has a kind of its own, and any other operator is chosen as elsewhere
+is_component : ℕ → ℕ → Bool
+is_component first second = (nat_eq first 99 && is_mark (choose Kind.OperatorAfterC second)) || same_choice (choose Kind.Operator first) (choose Kind.OtherOperator first)
+
 -- two letters that are the code of an operator
 is_code : ℕ → ℕ → Bool
-is_code first second = (is_byte first && is_byte second) && is_code_by (choose Kind.Operator first) second
+is_code first second = ((is_byte first && is_byte second) && is_code_by (choose Kind.Operator first) second) && is_component first second
 
 -- They are read so.
 pub record IsOperator (first second : ℕ) : Type 0 where
@@ -126,17 +131,27 @@ pub record IsOperator (first second : ℕ) : Type 0 where
   pub second_filled : second ≢ 0
   pub chosen : choose Kind.Operator first ≡ Some production
   pub marked : choose kind second ≡ Some Production.Mark
+  pub component : ((first ≡ 99) × (choose Kind.OperatorAfterC second ≡ Some Production.Mark)) ⊎ (choose Kind.OtherOperator first ≡ Some production)
 
 read-so : (first second : ℕ) → is_code first second ≡ true → IsOperator first second
-unfolding is_code is_code_by is_second
+unfolding is_code is_code_by is_second is_component
 read-so first second is =
-    let both = and_parts (is_byte first && is_byte second) (is_code_by (choose Kind.Operator first) second) is in
+    let all = and_parts ((is_byte first && is_byte second) && is_code_by (choose Kind.Operator first) second) (is_component first second) is in
+    let both = and_parts (is_byte first && is_byte second) (is_code_by (choose Kind.Operator first) second) all.0 in
     let bytes = and_parts (is_byte first) (is_byte second) both.0 in
-    by-first (choose Kind.Operator first) refl both.1 (byte-is first bytes.0) (byte-is second bytes.1)
+    by-first (choose Kind.Operator first) refl both.1 (byte-is first bytes.0) (byte-is second bytes.1) all.1
   where
+    within : (p : Production) → choose Kind.Operator first ≡ Some p → (a b : Bool) → nat_eq first 99 && is_mark (choose Kind.OperatorAfterC second) ≡ a
+        → same_choice (choose Kind.Operator first) (choose Kind.OtherOperator first) ≡ b → (a || b) ≡ true
+        → ((first ≡ 99) × (choose Kind.OperatorAfterC second ≡ Some Production.Mark)) ⊎ (choose Kind.OtherOperator first ≡ Some p)
+    within p chosen true b c other h =
+        let both = and_parts (nat_eq first 99) (is_mark (choose Kind.OperatorAfterC second)) c in
+        inl (eqb-true first 99 both.0, mark-is (choose Kind.OperatorAfterC second) both.1)
+    within p chosen false b c other h = inr (kept (choose Kind.Operator first) (choose Kind.OtherOperator first) p (other ∙ h) chosen)
+
     by-kind : (p : Production) → choose Kind.Operator first ≡ Some p → (k : Option Kind) → second_kind p ≡ k → is_second k second ≡ true
-        → (first < 256) × (first ≢ 0) → (second < 256) × (second ≢ 0) → IsOperator first second
-    by-kind p chosen (Some kind) same is_one one two = record {
+        → (first < 256) × (first ≢ 0) → (second < 256) × (second ≢ 0) → is_component first second ≡ true → IsOperator first second
+    by-kind p chosen (Some kind) same is_one one two component = record {
       production = p;
       kind = kind;
       takes = takes-first p kind same;
@@ -146,15 +161,16 @@ read-so first second is =
       second_filled = two.1;
       chosen = chosen;
       marked = mark-is (choose kind second) is_one;
+      component = within p chosen (nat_eq first 99 && is_mark (choose Kind.OperatorAfterC second)) (same_choice (choose Kind.Operator first) (choose Kind.OtherOperator first)) refl refl component;
     }
-    by-kind p chosen None same is_one one two = absurd (false≢true is_one)
+    by-kind p chosen None same is_one one two component = absurd (false≢true is_one)
 
     by-first : (o : Option Production) → choose Kind.Operator first ≡ o → is_code_by o second ≡ true → (first < 256) × (first ≢ 0)
-        → (second < 256) × (second ≢ 0) → IsOperator first second
-    by-first (Some p) chosen is_one one two = by-kind p chosen (second_kind p) refl is_one one two
-    by-first None chosen is_one one two = absurd (false≢true is_one)
+        → (second < 256) × (second ≢ 0) → is_component first second ≡ true → IsOperator first second
+    by-first (Some p) chosen is_one one two component = by-kind p chosen (second_kind p) refl is_one one two component
+    by-first None chosen is_one one two component = absurd (false≢true is_one)
 
 -- Two letters with the text of an operator are read as its code.
 pub operator-listed : (first second : ℕ) → look_up (first ∷ second ∷ []) operator_texts ≢ [] → IsOperator first second
-unfolding operator_texts is_pair are_pairs is_code is_byte is_code_by is_second is_mark second_kind choose alternatives pick is_in in_ranges among
+unfolding operator_texts is_pair are_pairs is_code is_byte is_code_by is_second is_mark is_component same_choice number_of second_kind choose alternatives pick is_in in_ranges among
 operator-listed first second has = read-so first second (pair-listed operator_texts (λ a b. is_code a b) first second refl has)

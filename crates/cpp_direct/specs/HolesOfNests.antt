@@ -10,8 +10,16 @@ use Rattle.cpp_direct.specs.Holes.{Opened, StandsAt, Comes, Expects, unless_list
 -- a nested name may go on as one of these kinds
 abbrev pub IsRest : Kind → Type 0
 IsRest Kind.NestRestAlone = Unit {0}
+IsRest Kind.NestRestOrEnd = Unit {0}
+IsRest Kind.NestMoreOrEnd = Unit {0}
 IsRest Kind.NestTail = Unit {0}
 IsRest _ = ⊥
+
+-- and behind its first piece as one of these
+abbrev pub IsFirstRest : Kind → Type 0
+IsFirstRest Kind.NestRestAlone = Unit {0}
+IsFirstRest Kind.NestRestOrEnd = Unit {0}
+IsFirstRest _ = ⊥
 
 -- Arguments of the name so far are expected behind an I, and behind their E a component.
 pub record AwaitsArguments (s : Symbol) (outer : List Opened) (around : Around) (t : Term) (listed : Bool) (at : ℕ) (st : State) : Type 0 where
@@ -20,14 +28,9 @@ pub record AwaitsArguments (s : Symbol) (outer : List Opened) (around : Around) 
   pub onward : (l : Value) (at : ℕ) (st : State) → Comes s inner l at st → StandsAt s.bytes at (69 ∷ [])
       → AwaitsComponent s outer around (instance t (no_items l)) (at + 1) (with_candidate around (instance t (no_items l)) st)
 
--- The same by the wide grammar, where behind the E a component follows, or the name ends.
+-- The same of a name that an S stands for: behind the E a component follows, or by the wide grammar the name ends.
 pub record AwaitsInstance (s : Symbol) (outer : List Opened) (around : Around) (t : Term) (listed : Bool) (at : ℕ) (st : State) : Type 0 where
   pub inner : List Opened
   pub awaits : Expects s Kind.ArgumentList (inside around) inner (at + 1) (unless_listed listed around t st)
   pub onward : (l : Value) (at : ℕ) (st : State) → Comes s inner l at st → StandsAt s.bytes at (69 ∷ [])
-      → NestGoesOn s Kind.NestTail outer around (instance t (no_items l)) false (at + 1) st
-
--- A name that an S stands for was read at the front of a nested one, which by the wide grammar may end behind its arguments.
-pub record NestKnown (s : Symbol) (outer : List Opened) (around : Around) (t : Term) (at : ℕ) (st : State) : Type 0 where
-  pub goes : NestGoesOn s Kind.NestRestAlone outer around t true at st
-  pub may_end : s.is_wide ≡ true → NestGoesOn s Kind.NestRestOrEnd outer around t true at st
+      → NestGoesOn s Kind.NestMoreOrEnd outer around (instance t (no_items l)) false (at + 1) st

@@ -32,6 +32,7 @@ use Rattle.cpp_direct.specs.Holes.{Opened, Comes, Expects, StandsAt, TypePasses,
 use Rattle.cpp_direct.specs.HolesOfFunctions.{SignatureGoesOn, plain_function}
 use Rattle.cpp_direct.specs.HolesOfArrays.{accessed, with_accessed}
 use Rattle.cpp_direct.specs.HolesOfTypes.{NoReference}
+use Rattle.cpp_direct.specs.HolesOfNests.{IsFirstRest}
 use Rattle.cpp_direct.specs.HolesOfLists.{IsSuffix, IsDigitsAt, minus_sign}
 use Rattle.cpp_direct.specs.HolesOfLocals.{Discriminator, EntityOpened, IsDiscriminatorAt, IsEntityAt, IsLambdaDigit, lambda_ending, lambda_with, local_in}
 use Rattle.cpp_direct.specs.Marks.{has_const, called_on}
@@ -581,7 +582,7 @@ IsBefore s w st (steps.List is_first) =
     × (w.text.list.items ≡ led_by place.listing place.front place.name ++ elements)
     × (is_first ≡ true → ts ≡ []) × (is_first ≡ false → ts ≢ [])
     × GoesOn s place.listing place.owner (Stands s place.rest) place.front place.template ts w.at st
-IsBefore s w st steps.Rest = (t : Term) × IsNesting s Kind.NestRestAlone w t st
+IsBefore s w st steps.Rest = (t : Term) × (kind : Kind) × IsFirstRest kind × IsNesting s kind w t st
 IsBefore s w st steps.Tail =
     (t : Term) × IsNesting s Kind.NestTail w t st × (IsOwn w.nest.purpose → w.nest.is_instance && w.nest.has_class ≡ false → has_return_type t ≡ false)
     × (w.nest.is_instance && w.nest.has_class ≡ true → has_return_type t ≡ true)

@@ -2,7 +2,7 @@
 use Rattle.std.specs.Prelude.{ℕ, List, Bool, true, false}
 use Rattle.sym_shape.specs.Table.{Table}
 use Rattle.sym_demangle.specs.Mangled.{Mangled}
-use Rattle.cpp_grammar.specs.Table.{abi, either}
+use Rattle.cpp_grammar.specs.Table.{abi, wide}
 use Rattle.cpp_grammar.specs.Mangled.{cpp_mangled, wide_mangled}
 use Rattle.cpp_grammar.specs.Term.{Term}
 
@@ -14,9 +14,9 @@ pub record Symbol : Type 0 where
 abbrev pub symbol_by : (is_wide : Bool) → (bytes : List ℕ) → Symbol
 symbol_by is_wide bytes = record { bytes = bytes; is_wide = is_wide }
 
--- The table whose trees are read: by the wide grammar that of both, whose trees are, widened, those of the wide one.
+-- the table of that grammar
 abbrev pub table_by : (is_wide : Bool) → Table
-table_by true = either
+table_by true = wide
 table_by false = abi
 
 -- what is promised of the symbols of that grammar

@@ -21,11 +21,10 @@ use Rattle.cpp_direct.specs.declared.open.Arguments.{Arguments}
 use Rattle.cpp_direct.specs.declared.open.Open.TheVariants as opens
 use Rattle.cpp_direct.specs.declared.direct.Direct.{Direct}
 use Rattle.cpp_direct.specs.Bytes.{is_local}
-use Rattle.cpp_direct.specs.Holes.{Opened, StandsAt, Comes, Expects, IsReferable, IsTyped, TypeNamed, NestNamed, bare_name, with_candidate, IsSeqAt}
+use Rattle.cpp_direct.specs.Holes.{Opened, StandsAt, Comes, Expects, IsReferable, IsTyped, TypeNamed, NestGoesOn, NestNamed, bare_name, with_candidate, IsSeqAt}
 use Rattle.sym_core.specs.Value.{counted_value}
 use Rattle.sym_core.specs.declared.NumberKind.TheVariants.{Seq36}
 use Rattle.cpp_direct.specs.HolesOfFunctions.{SignatureGoesOn, plain_function, pointed, with_pointed}
-use Rattle.cpp_direct.specs.HolesOfNests.{NestKnown}
 use Rattle.cpp_direct.specs.HolesOfArrays.{accessed, with_accessed}
 use Rattle.cpp_direct.specs.HolesOfTypes.{IsNamedKind, NoReference, TreeOpens}
 use Rattle.cpp_direct.specs.Marks.{has_const, called_on, mark_text}
@@ -292,7 +291,7 @@ pub record IsNestKnown (s : Symbol) (w : Direct) : Type 0 where
   pub around : Around
   pub outer : List Opened
   pub own : Term
-  pub known : NestKnown s outer around own w.at state
+  pub known : NestGoesOn s Kind.NestRestOrEnd outer around own true w.at state
   pub front : List ℕ
   pub bytes : List ℕ
   pub written : w.text.list.items ≡ front ++ bytes

@@ -11,8 +11,7 @@ use Rattle.sym_shape.specs.Sheet as sheets
 use Rattle.cpp_grammar.specs.declared.kind.Kind.{Kind}
 use Rattle.cpp_grammar.specs.Grammar.{Alternative, in_ranges, among, is_in, pick, alternatives, choose, kinds, number_of_kind, may_be_empty}
 use Rattle.cpp_grammar.specs.Wide.{wide_alternatives, wide_choose}
-use Rattle.cpp_grammar.specs.Either.{either_alternatives, either_choose}
-use Rattle.cpp_grammar.specs.Table.{rule_of, rule_taken, ranges_of, class_of, choice_of, sheet_with, blank, sheet, abi, wide_sheet, wide, either_sheet, either}
+use Rattle.cpp_grammar.specs.Table.{rule_of, rule_taken, ranges_of, class_of, choice_of, sheet_with, blank, sheet, abi, wide_sheet, wide}
 
 is_above : (c byte : ℕ) → c ≤ byte → byte ≢ c → c < byte
 is_above c byte le other = elim (cases_order byte c) [ inl same ↦ absurd (other same) | inr apart ↦ elim apart [ inl below ↦ absurd (omega (arith, le, below)) | inr above ↦ above ] ]
@@ -116,22 +115,4 @@ pub is_wide_kind : (k : ℕ) → k < wide.kinds → slice_get kinds k ≡ None �
 is_wide_kind k lt none = elim (slice_get_cases kinds k).1 [
   | inl there ↦ (let clash : None ≡ Some there.0 = sym none ∙ there.2 in absurd cc)
   | inr past ↦ absurd (omega (arith, past.0, lt, wide_count))
-]
-
-pub either_rule_at : (k : ℕ) (kind : Kind) (byte : ℕ) → slice_get kinds k ≡ Some kind → either.rule k byte ≡ rule_taken (either_choose kind byte)
-unfolding either either_sheet sheet_with either_choose
-either_rule_at k kind byte at = ap (λ s. choice_at s.choices byte) (sheet_at either_alternatives k kind at) ∙ picked (either_alternatives kind) byte
-
-pub either_empty_at : (k : ℕ) (kind : Kind) → slice_get kinds k ≡ Some kind → either.may_be_empty k ≡ may_be_empty kind
-unfolding either either_sheet sheet_with
-either_empty_at k kind at = ap (λ s. s.may_be_empty) (sheet_at either_alternatives k kind at)
-
-either_count : either.kinds ≡ length kinds
-unfolding either either_sheet kinds
-either_count = refl
-
-pub is_either_kind : (k : ℕ) → k < either.kinds → slice_get kinds k ≡ None → ⊥
-is_either_kind k lt none = elim (slice_get_cases kinds k).1 [
-  | inl there ↦ (let clash : None ≡ Some there.0 = sym none ∙ there.2 in absurd cc)
-  | inr past ↦ absurd (omega (arith, past.0, lt, either_count))
 ]

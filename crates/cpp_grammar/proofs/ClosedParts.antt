@@ -70,7 +70,6 @@ fits_signature own around = record { encoding = refl; scope = λ h. refl; back =
 abbrev pub StaysInside : Production → Type 0
 StaysInside Production.Encoding = ⊥
 StaysInside Production.Special = ⊥
-StaysInside Production.Guard = ⊥
 StaysInside Production.OtherSpecial = ⊥
 StaysInside _ = Unit {0}
 
@@ -142,7 +141,6 @@ between_goes own Production.NestStd around place (v ∷ []) state n at stays apa
     named_goes own around at state (in_std (piece_of v)) false [] state n (record { closed = g.closed; scopes = g.scopes }) tt (grows_same own around at state state refl) e
 between_goes own Production.NestStd around place (v ∷ w ∷ []) state n at stays apart pre all e =
     named_goes own around at state (applied (tree_of v) w) false (w ∷ []) state n (good_applied _ (tree_of v) w (good_tree _ v all.0) (good_tree _ w all.1.0)) all.1 (grows_same own around at state state refl) e
-between_goes own Production.NestAbbreviated around place (v ∷ []) state n at stays apart pre all e = named_goes own around at state (tree_of v) true [] state n (good_tree _ v all.0) tt (grows_same own around at state state refl) e
 between_goes own Production.NestTemplate around place (v ∷ []) state n at stays apart pre all e = named_goes own around at state (tree_of v) true [] state n (good_tree _ v all.0) tt (grows_same own around at state state refl) e
 between_goes own Production.NestParameter around place (v ∷ []) state n at stays apart pre all e = parameter_goes own around place at state (index_of v) n e
 between_goes own Production.NestInternal around place (v ∷ []) state n at stays apart pre all e = piece_goes own around at state (source true (text_of v)) n pre (good_leaf _ true (text_of v)) e

@@ -17,10 +17,9 @@ use Rattle.cpp_grammar.specs.declared.kind.Kind.{Kind}
 use Rattle.cpp_grammar.specs.declared.production.Production.{Production}
 use Rattle.cpp_grammar.specs.KindNumbers.{KIND_COUNT, SYMBOL, SPECIAL, SPECIAL_MARK, SPECIAL_AFTER_G, COMPLETE_NAME, ITEMS}
 use Rattle.cpp_grammar.specs.Grammar.{Alternative, is_in, pick, kinds, productions, number_of, number_of_kind, parts_of, is_chain}
-use Rattle.cpp_grammar.specs.Wide.{wide_alternatives}
-use Rattle.cpp_grammar.specs.Either.{either_alternatives, either_choose}
-use Rattle.cpp_grammar.specs.Table.{either, either_sheet, rule_of, rule_taken, padded}
-use Rattle.cpp_grammar.proofs.Widening.{either_sound}
+use Rattle.cpp_grammar.specs.Wide.{wide_alternatives, wide_choose}
+use Rattle.cpp_grammar.specs.Table.{wide, wide_sheet, rule_of, rule_taken, padded}
+use Rattle.cpp_grammar.specs.TableLaws.{wide_sound}
 use Rattle.cpp_grammar.specs.Term.{Term}
 use Rattle.cpp_grammar.specs.Scope.{is_open}
 use Rattle.cpp_grammar.specs.Closed.{ScopesAreClosed}
@@ -29,7 +28,7 @@ use Rattle.cpp_grammar.specs.Between.{in_name, in_types, no_items, between}
 use Rattle.cpp_grammar.specs.Meaning.{meaning}
 use Rattle.cpp_grammar.specs.Unfolding as unfolding_
 use Rattle.cpp_grammar.specs.Unfolding.{last_token, number_tested, opening, close, production_at, byte_of, cpp, first_around, first_state, first_tree, unfold_cpp}
-use Rattle.cpp_grammar.proofs.Choosing.{kinds_numbered, number_at, either_rule_at, is_either_kind}
+use Rattle.cpp_grammar.proofs.Choosing.{kinds_numbered, number_at, wide_rule_at, is_wide_kind}
 use Rattle.cpp_grammar.proofs.ClosedValues.{good_where, Good, AllGood, GoodPrefix, HasClosedName, held, good_tree, good_encoding, good_no_items}
 use Rattle.cpp_grammar.proofs.ClosedStates.{Bare, Within, AllOld, AllNew, Grows, old_later, grows_same, grows_then, old_grows, ok_same, behind_bind, Comes, close_good, wide_close_good}
 use Rattle.cpp_grammar.proofs.ClosedParts.{Fits, Goes, StaysInside, goes_within, wide_goes}
@@ -52,7 +51,6 @@ its_symbols _ = refl
 unfoldable pub opens : Production → Bool
 opens Production.Encoding = true
 opens Production.Special = true
-opens Production.Guard = true
 opens Production.OtherSpecial = true
 opens _ = false
 
@@ -60,7 +58,6 @@ pub stays : (p : Production) → opens p ≡ false → StaysInside p
 unfolding opens
 stays Production.Encoding h = absurd (true≢false h)
 stays Production.Special h = absurd (true≢false h)
-stays Production.Guard h = absurd (true≢false h)
 stays Production.OtherSpecial h = absurd (true≢false h)
 stays _ h = tt
 
@@ -86,8 +83,8 @@ unfoldable may_open : List Alternative → Bool
 may_open [] = false
 may_open (a ∷ rest) = opens a.production || may_open rest
 
-only_encodings : (kind : Kind) → nat_eq (number_of_kind kind) 4 || not (may_open (either_alternatives kind)) ≡ true
-unfolding number_of_kind wide_alternatives either_alternatives may_open opens
+only_encodings : (kind : Kind) → nat_eq (number_of_kind kind) 4 || not (may_open (wide_alternatives kind)) ≡ true
+unfolding number_of_kind wide_alternatives may_open opens
 only_encodings Kind.Symbol = refl
 only_encodings _ = refl
 
@@ -104,9 +101,9 @@ picked_opens (a ∷ rest) byte p e h = go (is_in a byte) e (λ i. picked_opens r
     go true i later = let same : a.production ≡ p = cc in ap (λ q. opens q || may_open rest) same ∙ ap (λ b. b || may_open rest) h
     go false i later = or_true (opens a.production) (may_open rest) (later i)
 
-opens_in : (kind : Kind) (byte : ℕ) (p : Production) → either_choose kind byte ≡ Some p → opens p ≡ true → nat_eq (number_of_kind kind) 4 ≡ true
-unfolding either_choose
-opens_in kind byte p e h = go (nat_eq (number_of_kind kind) 4) (may_open (either_alternatives kind)) (picked_opens (either_alternatives kind) byte p e h) (only_encodings kind)
+opens_in : (kind : Kind) (byte : ℕ) (p : Production) → wide_choose kind byte ≡ Some p → opens p ≡ true → nat_eq (number_of_kind kind) 4 ≡ true
+unfolding wide_choose
+opens_in kind byte p e h = go (nat_eq (number_of_kind kind) 4) (may_open (wide_alternatives kind)) (picked_opens (wide_alternatives kind) byte p e h) (only_encodings kind)
   where
     go : (a b : Bool) → b ≡ true → a || not b ≡ true → a ≡ true
     go true b h k = refl
@@ -122,11 +119,11 @@ pub record Taken (k : ℕ) (rule : Rule) : Type 0 where
 pub same_rule : (p : Production) (rule : Rule) → ◌≡◌ {A = Option Rule} (Some (rule_of p)) (Some rule) → rule_of p ≡ rule
 same_rule p rule h = cc
 
-pub taken_rule : (k : ℕ) (rule : Rule) (taken : List ℕ) → k < either.kinds → TakesRule either k rule taken → Taken k rule
+pub taken_rule : (k : ℕ) (rule : Rule) (taken : List ℕ) → k < wide.kinds → TakesRule wide k rule taken → Taken k rule
 unfolding rule_taken
 taken_rule k rule taken lt takes = go (slice_get kinds k) refl
   where
-    chosen : (kind : Kind) → slice_get kinds k ≡ Some kind → (o : Option Production) → either_choose kind takes.byte ≡ o → rule_taken o ≡ Some rule → Taken k rule
+    chosen : (kind : Kind) → slice_get kinds k ≡ Some kind → (o : Option Production) → wide_choose kind takes.byte ≡ o → rule_taken o ≡ Some rule → Taken k rule
     chosen kind at None is h = let clash : ◌≡◌ {A = Option Rule} None (Some rule) = h in absurd cc
     chosen kind at (Some p) is h = record {
       production = p;
@@ -137,8 +134,8 @@ taken_rule k rule taken lt takes = go (slice_get kinds k) refl
     }
 
     go : (o : Option Kind) → slice_get kinds k ≡ o → Taken k rule
-    go None none = absurd (is_either_kind k lt none)
-    go (Some kind) at = chosen kind at (either_choose kind takes.byte) refl (sym (either_rule_at k kind takes.byte at) ∙ takes.found)
+    go None none = absurd (is_wide_kind k lt none)
+    go (Some kind) at = chosen kind at (wide_choose kind takes.byte) refl (sym (wide_rule_at k kind takes.byte at) ∙ takes.found)
 
 -- ## What a part comes to
 
@@ -229,7 +226,7 @@ one_good s v vs is good = subst (λ ws. AllGood s ws) (sym is) (good, tt)
 -- ## Trees
 
 abbrev pub TreeGood : Way → Tree → Type 0
-TreeGood w t = (x : Sym) (around : Around) (at : ℕ) (state : State) (r : Found (List Value) State) → IsSymbol either x → IsTree either x t → around.encoding ≤ at →
+TreeGood w t = (x : Sym) (around : Around) (at : ℕ) (state : State) (r : Found (List Value) State) → IsSymbol wide x → IsTree wide x t → around.encoding ≤ at →
     (is_encoding x ≡ true → around.encoding < at) → GoodPrefix (Bare w.own around) around.prefix → AllOld w.own around at state.candidates → unfold_tree (reading_by w) around at t state ≡ Ok r →
     TreeComes w.own around (at + length (spell t)) state r
 
@@ -274,11 +271,11 @@ pub record InnerComes (own : Bool) (production : Production) (around : Around) (
   pub means : (byte : ℕ) → Good (Bare own around) (held (meaning production byte around r.value))
   pub grows : Grows own around end old r.state
 
-kind_count : either.kinds ≡ KIND_COUNT
-unfolding either either_sheet kinds
+kind_count : wide.kinds ≡ KIND_COUNT
+unfolding wide wide_sheet kinds
 kind_count = refl
 
-pub known : (k : ℕ) → suc k ≤ KIND_COUNT → k < either.kinds
+pub known : (k : ℕ) → suc k ≤ KIND_COUNT → k < wide.kinds
 known k lt = omega (arith, lt, kind_count)
 
 -- a list of values that is known
@@ -311,13 +308,12 @@ pub inner_closes : (p : Production) → opens p ≡ true → (byte : ℕ) (aroun
 unfolding opens close unfolding_.behind
 inner_closes Production.Encoding o byte around place began vs state one e = ok_same (found (meaning Production.Encoding byte around vs) state) one e
 inner_closes Production.Special o byte around place began vs state one e = ok_same (found (meaning Production.Special byte around vs) state) one e
-inner_closes Production.Guard o byte around place began vs state one e = ok_same (found (meaning Production.Guard byte around vs) state) one e
 inner_closes Production.OtherSpecial o byte around place began vs state one e = ok_same (found (meaning Production.OtherSpecial byte around vs) state) one e
 inner_closes Production.Mark o byte around place began vs state one e = absurd (false≢true o)
 inner_closes _ o byte around place began vs state one e = absurd (false≢true o)
 
 -- where an encoding is among the symbols of a rule, the rule takes a byte
-pub takes_byte : (p : Production) (rule : Rule) (k : ℕ) (taken : List ℕ) → rule ≡ rule_of p → TakesRule either k rule taken → has_encoding (symbols_of rule) ≡ true → 0 < length taken
+pub takes_byte : (p : Production) (rule : Rule) (k : ℕ) (taken : List ℕ) → rule ≡ rule_of p → TakesRule wide k rule taken → has_encoding (symbols_of rule) ≡ true → 0 < length taken
 unfolding rule_of
 takes_byte p rule k taken is takes has = go (is_chain p) refl (behind_a_byte p)
   where
@@ -326,7 +322,7 @@ takes_byte p rule k taken is takes has = go (is_chain p) refl (behind_a_byte p)
 
     go : (chains : Bool) → is_chain p ≡ chains → chains && has_encoding (parts_of p) ≡ false → 0 < length taken
     go true e none = absurd (true≢false (sym there ∙ none))
-    go false e none = omega (arith, ap length (taken_eats either k rule taken takes (ap (λ x. x.eats) is ∙ ap not e)))
+    go false e none = omega (arith, ap length (taken_eats wide k rule taken takes (ap (λ x. x.eats) is ∙ ap not e)))
 
 -- a rule that stands
 abbrev pub Whole : Rule → List ℕ → ℕ → Around → State → Open State Around
@@ -348,7 +344,7 @@ first_good v vs is good = subst (λ ws. ScopesAreClosed (first_tree ws)) (sym is
 
 module _ (w : Way) (keeps : KeepsClosed w) where
   pub forest_good : (f : Forest) → AllTreesGood w f → (rule : Open State Around) (xs : List Sym) (vs : List Value) (at : ℕ) (state : State) (r : Found (List Value) State) →
-      StaysInside (production_at rule.rule.number) → AreSymbols either xs → AreTrees either xs f → rule.context.encoding ≤ at → (has_encoding xs ≡ true → rule.context.encoding < at) →
+      StaysInside (production_at rule.rule.number) → AreSymbols wide xs → AreTrees wide xs f → rule.context.encoding ≤ at → (has_encoding xs ≡ true → rule.context.encoding < at) →
       GoodPrefix (Bare w.own rule.context) rule.context.prefix → AllGood (Within w.own (production_at rule.rule.number) rule.context) vs → AllOld w.own rule.context at state.candidates → unfold_forest (reading_by w) rule vs at f state ≡ Ok r →
       ForestComes w.own (Within w.own (production_at rule.rule.number) rule.context) rule.context (at + length (spell_all f)) state r
   unfolding reading_by has_encoding
@@ -386,7 +382,7 @@ module _ (w : Way) (keeps : KeepsClosed w) where
       or_first a b h = ap (λ c. c || b) h
 
   -- one part of an encoding, in which nothing is named
-  pub name_comes : (t : Tree) → TreeGood w t → (x : Sym) (at from : ℕ) (state : State) (part : Found (List Value) State) → IsSymbol either x → IsTree either x t → is_encoding x ≡ false → at ≤ from → AllOld w.own (in_name at) from state.candidates →
+  pub name_comes : (t : Tree) → TreeGood w t → (x : Sym) (at from : ℕ) (state : State) (part : Found (List Value) State) → IsSymbol wide x → IsTree wide x t → is_encoding x ≡ false → at ≤ from → AllOld w.own (in_name at) from state.candidates →
       unfold_tree (reading_by w) (in_name at) from t state ≡ Ok part → TreeComes w.own (in_name at) (from + length (spell t)) state part
   unfolding in_name
   name_comes t good x at from state part known is other le old e =
@@ -403,7 +399,7 @@ module _ (w : Way) (keeps : KeepsClosed w) where
       record { part = c.value; is = c.is; rest = c.next }
 
   special_comes : (f : Forest) → AllTreesGood w f → (rule : Open State Around) (from : ℕ) (state : State) (r : Found (List Value) State) → production_at rule.rule.number ≡ Production.Special →
-      AreTrees either (parts_of Production.Special) f → rule.context.encoding < rule.place → rule.place ≤ from → rule.place < from + length (spell_all f) → AllOld w.own rule.context rule.place state.candidates →
+      AreTrees wide (parts_of Production.Special) f → rule.context.encoding < rule.place → rule.place ≤ from → rule.place < from + length (spell_all f) → AllOld w.own rule.context rule.place state.candidates →
       unfold_forest (reading_by w) rule [] from f state ≡ Ok r → InnerComes w.own Production.Special rule.context (from + length (spell_all f)) state r
   unfolding differs reading_by parts_of number_of_kind between meaning held is_encoding nameless part in_name
   special_comes (grown t nothing) all rule from state r is trees lt le more old e =
@@ -423,11 +419,11 @@ module _ (w : Way) (keeps : KeepsClosed w) where
   special_comes (grown t (grown u f)) all rule from state r is trees lt le more old e = absurd trees.1
 
   -- a production that begins an encoding, and has two parts in which nothing is named
-  two_come : (p : Production) (x y : Sym) → IsSymbol either x → IsSymbol either y → is_encoding x ≡ false → is_encoding y ≡ false →
+  two_come : (p : Production) (x y : Sym) → IsSymbol wide x → IsSymbol wide y → is_encoding x ≡ false → is_encoding y ≡ false →
       ((around : Around) (at : ℕ) (vs : List Value) (state : State) → w.between p around at vs state ≡ Ok (nameless at vs state)) →
       ((byte at : ℕ) (around : Around) (u v : Value) → Good (Bare w.own (in_name at)) (held v) → Good (Bare w.own around) (held (meaning p byte around (u ∷ v ∷ [])))) →
       (f : Forest) → AllTreesGood w f → (rule : Open State Around) (from : ℕ) (state : State) (r : Found (List Value) State) → production_at rule.rule.number ≡ p →
-      AreTrees either (x ∷ y ∷ []) f → rule.context.encoding < rule.place → rule.place ≤ from → rule.place < from + length (spell_all f) → AllOld w.own rule.context rule.place state.candidates →
+      AreTrees wide (x ∷ y ∷ []) f → rule.context.encoding < rule.place → rule.place ≤ from → rule.place < from + length (spell_all f) → AllOld w.own rule.context rule.place state.candidates →
       unfold_forest (reading_by w) rule [] from f state ≡ Ok r → InnerComes w.own p rule.context (from + length (spell_all f)) state r
   unfolding reading_by nameless in_name
   two_come p x y known_x known_y apart_x apart_y goes means (grown t (grown u nothing)) all rule from state r is trees lt le more old e =
@@ -455,24 +451,15 @@ module _ (w : Way) (keeps : KeepsClosed w) where
   two_come p x y known_x known_y apart_x apart_y goes means (grown t nothing) all rule from state r is trees lt le more old e = absurd trees.1
   two_come p x y known_x known_y apart_x apart_y goes means (grown t (grown u (grown v f))) all rule from state r is trees lt le more old e = absurd trees.1.1
 
-  guard_comes : (f : Forest) → AllTreesGood w f → (rule : Open State Around) (from : ℕ) (state : State) (r : Found (List Value) State) → production_at rule.rule.number ≡ Production.Guard →
-      AreTrees either (parts_of Production.Guard) f → rule.context.encoding < rule.place → rule.place ≤ from → rule.place < from + length (spell_all f) → AllOld w.own rule.context rule.place state.candidates →
-      unfold_forest (reading_by w) rule [] from f state ≡ Ok r → InnerComes w.own Production.Guard rule.context (from + length (spell_all f)) state r
-  unfolding differs parts_of number_of_kind between meaning held is_encoding nameless part is_open
-  guard_comes = two_come Production.Guard (Byte 86) (OfKind COMPLETE_NAME) (lit≤ tt) (known 8 (lit≤ tt)) refl refl (keeps.plain.between Production.Guard refl)
-      (λ byte at around u v good.
-      let named = always w.own (Bare w.own around) at (tree_of v) (good_tree (Bare w.own (in_name at)) v good) in
-      record { closed = λ h. refl; scopes = named.scopes })
-
   other_special_comes : (f : Forest) → AllTreesGood w f → (rule : Open State Around) (from : ℕ) (state : State) (r : Found (List Value) State) → production_at rule.rule.number ≡ Production.OtherSpecial →
-      AreTrees either (parts_of Production.OtherSpecial) f → rule.context.encoding < rule.place → rule.place ≤ from → rule.place < from + length (spell_all f) → AllOld w.own rule.context rule.place state.candidates →
+      AreTrees wide (parts_of Production.OtherSpecial) f → rule.context.encoding < rule.place → rule.place ≤ from → rule.place < from + length (spell_all f) → AllOld w.own rule.context rule.place state.candidates →
       unfold_forest (reading_by w) rule [] from f state ≡ Ok r → InnerComes w.own Production.OtherSpecial rule.context (from + length (spell_all f)) state r
   unfolding differs parts_of number_of_kind between meaning is_encoding nameless part
   other_special_comes = two_come Production.OtherSpecial (OfKind SPECIAL_MARK) (OfKind SPECIAL_AFTER_G) (known SPECIAL_MARK (lit≤ tt)) (known SPECIAL_AFTER_G (lit≤ tt)) refl refl (keeps.plain.between Production.OtherSpecial refl)
       (λ byte at around u v good. always w.own (Bare w.own around) at (held v) good)
 
   encoding_comes : (f : Forest) → AllTreesGood w f → (rule : Open State Around) (from : ℕ) (state : State) (r : Found (List Value) State) → production_at rule.rule.number ≡ Production.Encoding →
-      AreTrees either (parts_of Production.Encoding) f → rule.context.encoding < rule.place → rule.place ≤ from → rule.place < from + length (spell_all f) → AllOld w.own rule.context rule.place state.candidates →
+      AreTrees wide (parts_of Production.Encoding) f → rule.context.encoding < rule.place → rule.place ≤ from → rule.place < from + length (spell_all f) → AllOld w.own rule.context rule.place state.candidates →
       unfold_forest (reading_by w) rule [] from f state ≡ Ok r → InnerComes w.own Production.Encoding rule.context (from + length (spell_all f)) state r
   unfolding differs reading_by parts_of number_of_kind between meaning held is_encoding nameless part in_name in_types
   encoding_comes (grown t (grown u nothing)) all rule from state r is trees lt le more old e =
@@ -507,18 +494,17 @@ module _ (w : Way) (keeps : KeepsClosed w) where
   encoding_comes (grown t (grown u (grown v f))) all rule from state r is trees lt le more old e = absurd trees.1.1
 
   pub inner_comes : (p : Production) → opens p ≡ true → (f : Forest) → AllTreesGood w f → (rule : Open State Around) (from : ℕ) (state : State) (r : Found (List Value) State) → production_at rule.rule.number ≡ p →
-      AreTrees either (parts_of p) f → rule.context.encoding < rule.place → rule.place ≤ from → rule.place < from + length (spell_all f) → AllOld w.own rule.context rule.place state.candidates →
+      AreTrees wide (parts_of p) f → rule.context.encoding < rule.place → rule.place ≤ from → rule.place < from + length (spell_all f) → AllOld w.own rule.context rule.place state.candidates →
       unfold_forest (reading_by w) rule [] from f state ≡ Ok r → InnerComes w.own p rule.context (from + length (spell_all f)) state r
   unfolding opens
   inner_comes Production.Encoding o = encoding_comes
   inner_comes Production.Special o = special_comes
-  inner_comes Production.Guard o = guard_comes
   inner_comes Production.OtherSpecial o = other_special_comes
   inner_comes Production.Mark o = absurd (false≢true o)
   inner_comes _ o = absurd (false≢true o)
 
   pub plain_comes : (k : ℕ) (rule : Rule) (taken : List ℕ) (parts : Forest) → AllTreesGood w parts → (p : Production) → rule ≡ rule_of p → opens p ≡ false → (around : Around) (at : ℕ) (state : State)
-      (inner : Found (List Value) State) (one : Found Value State) → k < either.kinds → IsTree either (OfKind k) (branch rule taken parts) → around.encoding ≤ at → GoodPrefix (Bare w.own around) around.prefix →
+      (inner : Found (List Value) State) (one : Found Value State) → k < wide.kinds → IsTree wide (OfKind k) (branch rule taken parts) → around.encoding ≤ at → GoodPrefix (Bare w.own around) around.prefix →
       AllOld w.own around at state.candidates → unfold_forest (reading_by w) (Whole rule taken at around state) [] (at + length taken) parts state ≡ Ok inner →
       w.close (production_at rule.number) (byte_of taken) around at state inner.value inner.state ≡ Ok one → TreeComes w.own around (at + length (taken ++ spell_all parts)) state (found (one.value ∷ []) one.state)
   plain_comes k rule taken parts all p is plain around at state inner one lt tree le pre old e f =
@@ -526,7 +512,7 @@ module _ (w : Way) (keeps : KeepsClosed w) where
       let inside_ : StaysInside (production_at rule.number) = subst (λ q. StaysInside q) (sym number) (stays p plain) in
       let from = at + length taken in
       let end = at + length (taken ++ spell_all parts) in
-      let symbols = either_sound.symbols k tree.0.byte rule lt tree.0.is_byte tree.0.found in
+      let symbols = wide_sound.symbols k tree.0.byte rule lt tree.0.is_byte tree.0.found in
       let forest = forest_good parts all (Whole rule taken at around state) (symbols_of rule) [] from state inner inside_ symbols tree.1 (omega (arith, le))
       (λ has. omega (arith, le, takes_byte p rule k taken is tree.0 has)) pre tt (old_later w.own around at from state.candidates (omega arith) old) e in
       let grown1 = grows_on w.own around (from + length (spell_all parts)) end state inner.state (omega (arith, length-append taken (spell_all parts))) forest.grows in
@@ -535,15 +521,15 @@ module _ (w : Way) (keeps : KeepsClosed w) where
       record { value = one.value; is = refl; good = comes.good; grows = grows_then w.own around end end state inner.state one.state (omega arith) grown1 comes.grows }
 
   pub encoded_comes : (k : ℕ) (rule : Rule) (taken : List ℕ) (parts : Forest) → AllTreesGood w parts → (p : Production) → rule ≡ rule_of p → opens p ≡ true → (around : Around) (at : ℕ) (state : State)
-      (inner : Found (List Value) State) (one : Found Value State) → k < either.kinds → IsTree either (OfKind k) (branch rule taken parts) → around.encoding < at →
+      (inner : Found (List Value) State) (one : Found Value State) → k < wide.kinds → IsTree wide (OfKind k) (branch rule taken parts) → around.encoding < at →
       AllOld w.own around at state.candidates → unfold_forest (reading_by w) (Whole rule taken at around state) [] (at + length taken) parts state ≡ Ok inner →
       w.close (production_at rule.number) (byte_of taken) around at state inner.value inner.state ≡ Ok one → TreeComes w.own around (at + length (taken ++ spell_all parts)) state (found (one.value ∷ []) one.state)
   encoded_comes k rule taken parts all p is opening around at state inner one lt tree less old e f =
       let number : production_at rule.number ≡ p = ap (λ x. production_at x.number) is ∙ at_number p in
       let from = at + length taken in
       let end = at + length (taken ++ spell_all parts) in
-      let full = filled (taken ++ spell_all parts) (either_sound.filled k rule taken parts lt tree) in
-      let trees = subst (λ xs. AreTrees either xs parts) (ap symbols_of is ∙ its_symbols p) tree.1 in
+      let full = filled (taken ++ spell_all parts) (wide_sound.filled k rule taken parts lt tree) in
+      let trees = subst (λ xs. AreTrees wide xs parts) (ap symbols_of is ∙ its_symbols p) tree.1 in
       let comes = inner_comes p opening parts all (Whole rule taken at around state) from state inner number trees less (omega arith)
       (omega (arith, full, length-append taken (spell_all parts))) old e in
       let closed : close p (byte_of taken) around at state inner.value inner.state ≡ Ok one =
@@ -588,7 +574,7 @@ module _ (w : Way) (keeps : KeepsClosed w) where
     trees_good_by (grown t f) = (tree_good_by t, trees_good_by f)
 
   -- In the tree that a symbol stands for the arguments that are a scope have no free parameters.
-  pub scopes_are_closed_by : (shape : Tree) (t : Term) → IsTree either (OfKind SYMBOL) shape → (unfold_tree (reading_by w) first_around 0 shape first_state >>= λ whole. Ok (first_tree whole.value)) ≡ Ok t → ScopesAreClosed t
+  pub scopes_are_closed_by : (shape : Tree) (t : Term) → IsTree wide (OfKind SYMBOL) shape → (unfold_tree (reading_by w) first_around 0 shape first_state >>= λ whole. Ok (first_tree whole.value)) ≡ Ok t → ScopesAreClosed t
   unfolding first_around first_state first_tree is_encoding
   scopes_are_closed_by shape t is e =
       let whole = behind_bind (unfold_tree (reading_by w) first_around 0 shape first_state) (λ whole. Ok (first_tree whole.value)) t e in
@@ -602,14 +588,14 @@ pub abi_keeps : KeepsClosed abi_way
 unfolding abi_way
 abi_keeps = record { plain = abi_plain; goes = goes_within false; comes = close_good }
 
-pub tree_good : (t : Tree) (x : Sym) (around : Around) (at : ℕ) (state : State) (r : Found (List Value) State) → IsSymbol either x → IsTree either x t → around.encoding ≤ at →
+pub tree_good : (t : Tree) (x : Sym) (around : Around) (at : ℕ) (state : State) (r : Found (List Value) State) → IsSymbol wide x → IsTree wide x t → around.encoding ≤ at →
     (is_encoding x ≡ true → around.encoding < at) → GoodPrefix (Bare false around) around.prefix → AllOld false around at state.candidates → unfold_tree cpp around at t state ≡ Ok r →
     TreeComes false around (at + length (spell t)) state r
 unfolding cpp reading_by abi_way
 tree_good t = tree_good_by abi_way abi_keeps t
 
 -- In the tree that a symbol stands for the arguments that are a scope have no free parameters.
-pub scopes_are_closed : (shape : Tree) (t : Term) → IsTree either (OfKind SYMBOL) shape → unfold_cpp shape ≡ Ok t → ScopesAreClosed t
+pub scopes_are_closed : (shape : Tree) (t : Term) → IsTree wide (OfKind SYMBOL) shape → unfold_cpp shape ≡ Ok t → ScopesAreClosed t
 unfolding unfold_cpp cpp reading_by abi_way
 scopes_are_closed shape t is e = scopes_are_closed_by abi_way abi_keeps shape t is e
 
@@ -617,6 +603,6 @@ pub wide_keeps : KeepsClosed wide_way
 unfolding wide_way
 wide_keeps = record { plain = wide_plain; goes = wide_goes; comes = wide_close_good }
 
-pub wide_scopes_are_closed : (shape : Tree) (t : Term) → IsTree either (OfKind SYMBOL) shape → unfold_wide shape ≡ Ok t → ScopesAreClosed t
+pub wide_scopes_are_closed : (shape : Tree) (t : Term) → IsTree wide (OfKind SYMBOL) shape → unfold_wide shape ≡ Ok t → ScopesAreClosed t
 unfolding unfold_wide cpp_wide reading_by wide_way
 wide_scopes_are_closed shape t is e = scopes_are_closed_by wide_way wide_keeps shape t is e

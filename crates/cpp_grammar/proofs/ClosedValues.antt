@@ -215,7 +215,6 @@ pub meaning_good : (s : Type 0) (production : Production) (byte : ℕ) (around :
 unfolding meaning held tree_of is_open listed_value qualified_by function_of with_item
 meaning_good s Production.Symbol byte around vs pre all name = let g = good_part s vs 1 all in record { closed = λ h. refl; scopes = g.scopes }
 meaning_good s Production.Special byte around vs pre all name = good_held s vs 0 all
-meaning_good s Production.Guard byte around vs pre all name = let g = good_part s vs 1 all in record { closed = λ h. refl; scopes = g.scopes }
 meaning_good s Production.Encoding byte around vs pre all name =
     good_encoding s (part vs 0) (no_items (part vs 1)) name (good_part s vs 0 all).scopes (good_no_items s (part vs 1) (good_part s vs 1 all)).scopes
 meaning_good s Production.SpecialType byte around vs pre all name = let g = good_part s vs 0 all in record { closed = λ h. refl; scopes = g.scopes }
@@ -257,7 +256,6 @@ meaning_good s Production.NestInternal byte around vs pre all name = good_held s
 meaning_good s Production.NestLocalType byte around vs pre all name = good_held s vs 1 all
 meaning_good s Production.NestSource byte around vs pre all name = good_held s vs 1 all
 meaning_good s Production.NestStd byte around vs pre all name = good_held s vs 2 all
-meaning_good s Production.NestAbbreviated byte around vs pre all name = good_held s vs 1 all
 meaning_good s Production.NestTemplate byte around vs pre all name = good_held s vs 1 all
 meaning_good s Production.NestArguments byte around vs pre all name = good_held s vs 3 all
 meaning_good s Production.NestInstance byte around vs pre all name = good_held s vs 2 all
@@ -281,7 +279,6 @@ meaning_good s Production.ItemIsType byte around vs pre all name = good_held s v
 meaning_good s Production.Expansion byte around vs pre all name = let g = good_part s vs 0 all in record { closed = g.closed; scopes = g.scopes }
 meaning_good s Production.Vector byte around vs pre all name = let g = good_part s vs 2 all in record { closed = g.closed; scopes = g.scopes }
 meaning_good s Production.NoexceptFunction byte around vs pre all name = good_function s (is_there (part vs 1)) true (ref_of (part vs 3)) _ _ (good_part s vs 2 all) (good_part s vs 3 all)
-meaning_good s Production.Array byte around vs pre all name = let g = good_part s vs 1 all in record { closed = g.closed; scopes = g.scopes }
 meaning_good s Production.Function byte around vs pre all name = good_function s (is_there (part vs 0)) false (ref_of (part vs 2)) _ _ (good_part s vs 1 all) (good_part s vs 2 all)
 meaning_good s Production.Complex byte around vs pre all name = let g = good_part s vs 0 all in record { closed = g.closed; scopes = g.scopes }
 meaning_good s Production.Pointer byte around vs pre all name = let g = good_part s vs 0 all in record { closed = g.closed; scopes = g.scopes }
@@ -294,7 +291,6 @@ meaning_good s Production.Parameter byte around vs pre all name = good_name s vs
 meaning_good s Production.TypeWithS byte around vs pre all name = good_name s vs all
 meaning_good s Production.LocalType byte around vs pre all name =
     let e = good_part s vs 0 all in let g = good_part s vs 2 all in record { closed = g.closed; scopes = (e.scopes, g.scopes) }
-meaning_good s Production.StdType byte around vs pre all name = let g = good_piece_part s vs 0 all in record { closed = g.closed; scopes = g.scopes }
 meaning_good s Production.TypeInStd byte around vs pre all name = good_held s vs 0 all
 meaning_good s Production.TaggedStdType byte around vs pre all name = good_name s vs all
 meaning_good s Production.AbbreviatedType byte around vs pre all name = good_held s vs 0 all
@@ -307,8 +303,6 @@ meaning_good s Production.Items byte around vs pre all name = good_pair s vs 0 1
 meaning_good s Production.Arguments byte around vs pre all name = good_no_items s (part vs 0) (good_part s vs 0 all)
 meaning_good s Production.PackArgument byte around vs pre all name = good_pair s vs 0 2 all
 meaning_good s Production.LiteralArgument byte around vs pre all name = good_pair s vs 0 2 all
-meaning_good s Production.AddressArgument byte around vs pre all name = good_pair s vs 2 3 all
-meaning_good s Production.TypeArgument byte around vs pre all name = good_pair s vs 0 1 all
 meaning_good s Production.AnyArgument byte around vs pre all name = good_pair s vs 0 1 all
 meaning_good s Production.AnyElement byte around vs pre all name = good_pair s vs 0 1 all
 meaning_good s Production.PlainArgument byte around vs pre all name = good_part s vs 0 all
@@ -322,8 +316,6 @@ meaning_good s Production.Expression byte around vs pre all name = good_held s v
 meaning_good s Production.AddressExpression byte around vs pre all name = good_held s vs 1 all
 meaning_good s Production.ParameterExpression byte around vs pre all name = good_held s vs 0 all
 meaning_good s Production.LiteralElement byte around vs pre all name = good_pair s vs 0 2 all
-meaning_good s Production.AddressElement byte around vs pre all name = good_pair s vs 2 3 all
-meaning_good s Production.TypeElement byte around vs pre all name = good_pair s vs 0 1 all
 meaning_good s Production.Address byte around vs pre all name = let g = good_part s vs 2 all in record { closed = λ h. refl; scopes = g.scopes }
 meaning_good s Production.EncodingLiteral byte around vs pre all name = let g = good_part s vs 1 all in record { closed = λ h. refl; scopes = g.scopes }
 meaning_good s Production.LiteralWithD byte around vs pre all name = good_held s vs 0 all

@@ -1,6 +1,5 @@
--- Each tree of the earlier grammar is one of the grammar, and each of the grammar and of the wide one is one of the table of both.
-use Rattle.std.proofs.Common.{◌≡◌, ℕ, zero, suc, ◌<◌, List, [], ◌∷◌, map, get_or, slice_get, Bool, true, false, not, cond, ◌&&◌, ◌||◌, nat_eq, Option, Some, None, inl, inr, refl, ap, sym, ◌∙◌, subst, lit≤, arith}
-use Rattle.std.specs.Prelude.{◌⊎◌}
+-- Each tree of the earlier grammar is one of the grammar, and each of the grammar is one of the wide one.
+use Rattle.std.proofs.Common.{◌≡◌, ℕ, zero, suc, ◌<◌, List, [], ◌∷◌, map, get_or, slice_get, Bool, true, false, ◌&&◌, nat_eq, Option, Some, None, inl, inr, refl, ap, sym, ◌∙◌, subst, arith}
 use Rattle.std.proofs.lemmas.Bool.{eqb-true, and_parts, false≢true, cases_lt}
 use Rattle.std.proofs.lemmas.Option.{slice_get_cases, slice_get-map, unwrap_or-slice_get}
 use Rattle.std.specs.Option.{option_map, unwrap_or}
@@ -13,11 +12,10 @@ use Rattle.sym_shape.specs.Tree.{Tree, Forest, branch, empty, token, fixed, noth
 use Rattle.sym_core.specs.declared.NameClass.TheVariants.{Cpp}
 use Rattle.cpp_grammar.specs.declared.kind.Kind.{Kind}
 use Rattle.cpp_grammar.specs.declared.production.Production.{Production}
-use Rattle.cpp_grammar.specs.Grammar.{Alternative, in_ranges, among, is_in, pick, alternatives, kinds, productions, number_of, is_chain}
+use Rattle.cpp_grammar.specs.Grammar.{Alternative, in_ranges, among, is_in, pick, alternatives, choose, kinds, productions, number_of}
 use Rattle.cpp_grammar.specs.Before.{alternatives_before}
-use Rattle.cpp_grammar.specs.Wide.{wide_alternatives}
-use Rattle.cpp_grammar.specs.Either.{either_alternatives}
-use Rattle.cpp_grammar.specs.Table.{rule_of, rule_taken, sheet_with, sheet, blank, abi, sheet_before, abi_before, wide_sheet, wide, either_sheet, either}
+use Rattle.cpp_grammar.specs.Wide.{wide_alternatives, wide_choose}
+use Rattle.cpp_grammar.specs.Table.{rule_of, rule_taken, sheet_with, sheet, blank, abi, sheet_before, abi_before, wide_sheet, wide}
 use Rattle.cpp_grammar.proofs.Choosing.{sheet_at, picked}
 
 -- the later choice is the earlier one
@@ -30,31 +28,19 @@ unfoldable pub each_below : ℕ → (ℕ → Bool) → Bool
 each_below zero p = true
 each_below (suc n) p = p n && each_below n p
 
--- what takes no byte is the same at each
-unfoldable takes_no_byte : Option Production → Bool
-takes_no_byte None = false
-takes_no_byte (Some p) = is_chain p
-
--- what is chosen among some alternatives is chosen among the later ones too, at the same byte, or where it takes none at the one that no
--- symbol has
+-- what is chosen among some alternatives is chosen among the later ones too
 unfoldable keeps_choices : (earlier later : List Alternative) → Bool
-keeps_choices earlier later =
-    each_below 256 (λ b. same_choice (pick earlier b) (pick later b) || (takes_no_byte (pick earlier b) && same_choice (pick earlier b) (pick later 33)))
+keeps_choices earlier later = each_below 256 (λ b. same_choice (pick earlier b) (pick later b))
 
 before_kept : (kind : Kind) → keeps_choices (alternatives_before kind) (alternatives kind) ≡ true
-unfolding in_ranges among is_in pick alternatives number_of alternatives_before same_choice each_below takes_no_byte is_chain keeps_choices
+unfolding in_ranges among is_in pick alternatives number_of alternatives_before same_choice each_below keeps_choices
 before_kept Kind.Symbol = refl
 before_kept _ = refl
 
-abi_kept : (kind : Kind) → keeps_choices (alternatives kind) (either_alternatives kind) ≡ true
-unfolding in_ranges among is_in pick alternatives number_of wide_alternatives either_alternatives same_choice each_below takes_no_byte is_chain keeps_choices
+abi_kept : (kind : Kind) → keeps_choices (alternatives kind) (wide_alternatives kind) ≡ true
+unfolding in_ranges among is_in pick alternatives number_of wide_alternatives same_choice each_below keeps_choices
 abi_kept Kind.Symbol = refl
 abi_kept _ = refl
-
-wide_kept : (kind : Kind) → keeps_choices (wide_alternatives kind) (either_alternatives kind) ≡ true
-unfolding in_ranges among is_in pick number_of wide_alternatives either_alternatives same_choice each_below takes_no_byte is_chain keeps_choices
-wide_kept Kind.Symbol = refl
-wide_kept _ = refl
 
 numbered : (p : Production) → slice_get productions (number_of p) ≡ Some p
 unfolding productions number_of
@@ -84,29 +70,21 @@ kept None later p same is = absurd cc
 kept (Some q) None p same is = absurd (false≢true same)
 kept (Some q) (Some r) p same is = ap Some (sym (same_production q r same)) ∙ is
 
-pub or_parts : (a b : Bool) → a || b ≡ true → (a ≡ true) ⊎ (b ≡ true)
-or_parts true b h = inl refl
-or_parts false b h = inr h
-
-abbrev Kept : (later : List Alternative) (byte : ℕ) (p : Production) → Type 0
-Kept later byte p = (pick later byte ≡ Some p) ⊎ ((is_chain p ≡ true) × (pick later 33 ≡ Some p))
-
-kept_choice : (earlier later : List Alternative) (byte : ℕ) (p : Production) → keeps_choices earlier later ≡ true → byte < 256 → pick earlier byte ≡ Some p → Kept later byte p
-unfolding keeps_choices takes_no_byte
+kept_choice : (earlier later : List Alternative) (byte : ℕ) (p : Production) → keeps_choices earlier later ≡ true → byte < 256 → pick earlier byte ≡ Some p → pick later byte ≡ Some p
+unfolding keeps_choices
 kept_choice earlier later byte p each lt at =
-    let here = below 256 (λ b. same_choice (pick earlier b) (pick later b) || (takes_no_byte (pick earlier b) && same_choice (pick earlier b) (pick later 33))) byte each lt in
-    elim (or_parts (same_choice (pick earlier byte) (pick later byte)) (takes_no_byte (pick earlier byte) && same_choice (pick earlier byte) (pick later 33)) here) [
-      | inl same ↦ inl (kept (pick earlier byte) (pick later byte) p same at)
-      | inr apart ↦ (
-          let both = and_parts (takes_no_byte (pick earlier byte)) (same_choice (pick earlier byte) (pick later 33)) apart in
-          inr (sym (ap takes_no_byte at) ∙ both.0, kept (pick earlier byte) (pick later 33) p both.1 at))
-    ]
+    kept (pick earlier byte) (pick later byte) p (below 256 (λ b. same_choice (pick earlier b) (pick later b)) byte each lt) at
+
+-- what the grammar chooses the wide one chooses
+pub wide_kept : (kind : Kind) (byte : ℕ) (p : Production) → byte < 256 → choose kind byte ≡ Some p → wide_choose kind byte ≡ Some p
+unfolding choose wide_choose
+wide_kept kind byte p lt at = kept_choice (alternatives kind) (wide_alternatives kind) byte p (abi_kept kind) lt at
 
 -- the table of some alternatives
-abbrev table_with : (Kind → List Alternative) → Table
+abbrev pub table_with : (Kind → List Alternative) → Table
 table_with begins = table_of blank (map (sheet_with begins) kinds) Cpp
 
-rule_with : (begins : Kind → List Alternative) (k : ℕ) (kind : Kind) (byte : ℕ) → slice_get kinds k ≡ Some kind → (table_with begins).rule k byte ≡ rule_taken (pick (begins kind) byte)
+pub rule_with : (begins : Kind → List Alternative) (k : ℕ) (kind : Kind) (byte : ℕ) → slice_get kinds k ≡ Some kind → (table_with begins).rule k byte ≡ rule_taken (pick (begins kind) byte)
 unfolding sheet_with
 rule_with begins k kind byte at = ap (λ s. choice_at s.choices byte) (sheet_at begins k kind at) ∙ picked (begins kind) byte
 
@@ -116,7 +94,7 @@ past_kinds begins k past =
     sym (unwrap_or-slice_get (map (sheet_with begins) kinds) k blank)
     ∙ ap (λ o. unwrap_or o blank) (slice_get-map (sheet_with begins) kinds k ∙ ap (option_map (sheet_with begins)) past)
 
-pub none_past : (begins : Kind → List Alternative) (k byte : ℕ) → slice_get kinds k ≡ None → (table_with begins).rule k byte ≡ None
+none_past : (begins : Kind → List Alternative) (k byte : ℕ) → slice_get kinds k ≡ None → (table_with begins).rule k byte ≡ None
 unfolding blank
 none_past begins k byte past = ap (λ s. choice_at s.choices byte) (past_kinds begins k past)
 
@@ -128,42 +106,26 @@ full_past begins k past = ap (λ s. s.may_be_empty) (past_kinds begins k past)
 abbrev Keeps : (was now : Kind → List Alternative) → Type 0
 Keeps was now = (kind : Kind) → keeps_choices (was kind) (now kind) ≡ true
 
-pub empty_keeps : (was now : Kind → List Alternative) (k : ℕ) → (table_with was).may_be_empty k ≡ true → (table_with now).may_be_empty k ≡ true
+empty_keeps : (was now : Kind → List Alternative) (k : ℕ) → (table_with was).may_be_empty k ≡ true → (table_with now).may_be_empty k ≡ true
 unfolding sheet_with
 empty_keeps was now k is = elim (slice_get_cases kinds k).1 [
   | inl there ↦ ap (λ s. s.may_be_empty) (sheet_at now k there.0 there.2) ∙ sym (ap (λ s. s.may_be_empty) (sheet_at was k there.0 there.2)) ∙ is
   | inr past ↦ absurd (false≢true (sym (full_past was k past.1) ∙ is))
 ]
 
-rule_kept : (was now : Kind → List Alternative) (k byte : ℕ) (rule : Rule) → Keeps was now → byte < 256 → (table_with was).rule k byte ≡ Some rule
-    → ((table_with now).rule k byte ≡ Some rule) ⊎ ((rule.eats ≡ false) × ((table_with now).rule k 33 ≡ Some rule))
-unfolding rule_taken rule_of
+rule_kept : (was now : Kind → List Alternative) (k byte : ℕ) (rule : Rule) → Keeps was now → byte < 256 → (table_with was).rule k byte ≡ Some rule → (table_with now).rule k byte ≡ Some rule
+unfolding rule_taken
 rule_kept was now k byte rule each lt found = elim (slice_get_cases kinds k).1 [
   | inl there ↦ by there.0 there.2 (pick (was there.0) byte) refl (sym (rule_with was k there.0 byte there.2) ∙ found)
   | inr past ↦ (let clash : None ≡ Some rule = sym (none_past was k byte past.1) ∙ found in absurd cc)
 ]
   where
-    by : (kind : Kind) → slice_get kinds k ≡ Some kind → (chosen : Option Production) → pick (was kind) byte ≡ chosen → rule_taken chosen ≡ Some rule
-        → ((table_with now).rule k byte ≡ Some rule) ⊎ ((rule.eats ≡ false) × ((table_with now).rule k 33 ≡ Some rule))
+    by : (kind : Kind) → slice_get kinds k ≡ Some kind → (chosen : Option Production) → pick (was kind) byte ≡ chosen → rule_taken chosen ≡ Some rule → (table_with now).rule k byte ≡ Some rule
     by kind at None is h = let clash : None ≡ Some rule = h in absurd cc
-    by kind at (Some p) is h = elim (kept_choice (was kind) (now kind) byte p (each kind) lt is) [
-      | inl here ↦ inl (rule_with now k kind byte at ∙ ap rule_taken here ∙ h)
-      | inr apart ↦ inr (
-        sym (ap (λ r. r.eats) (let same : ◌≡◌ {A = Option Rule} (Some (rule_of p)) (Some rule) = h in let own : rule_of p ≡ rule = cc in own)) ∙ ap not apart.0,
-        rule_with now k kind 33 at ∙ ap rule_taken apart.1 ∙ h,
-      )
-    ]
+    by kind at (Some p) is h = rule_with now k kind byte at ∙ ap rule_taken (kept_choice (was kind) (now kind) byte p (each kind) lt is) ∙ h
 
 takes : (was now : Kind → List Alternative) (k : ℕ) (rule : Rule) (taken : List ℕ) → Keeps was now → TakesRule (table_with was) k rule taken → TakesRule (table_with now) k rule taken
-takes was now k rule taken each t = elim (rule_kept was now k t.byte rule each t.is_byte t.found) [
-  | inl here ↦ record { byte = t.byte; is_byte = t.is_byte; found = here; takes = t.takes }
-  | inr apart ↦ record {
-    byte = 33;
-    is_byte = lit≤ tt;
-    found = apart.1;
-    takes = t.takes ∙ ap (λ b. cond b (t.byte ∷ []) []) apart.0 ∙ sym (ap (λ b. cond b (33 ∷ []) []) apart.0);
-  }
-]
+takes was now k rule taken each t = record { byte = t.byte; is_byte = t.is_byte; found = rule_kept was now k t.byte rule each t.is_byte t.found; takes = t.takes }
 
 mutual
   tree_keeps : (was now : Kind → List Alternative) → Keeps was now → (x : Sym) (t : Tree) → IsTree (table_with was) x t → IsTree (table_with now) x t
@@ -183,16 +145,6 @@ pub earlier_tree : (x : Sym) (t : Tree) → IsTree abi_before x t → IsTree abi
 unfolding abi_before abi sheet_before sheet
 earlier_tree x t is = tree_keeps alternatives_before alternatives before_kept x t is
 
--- a rule of the wide grammar is one of the table of both, at the same byte or at the one that no symbol has
-pub wide_rule_kept : (k byte : ℕ) (rule : Rule) → byte < 256 → wide.rule k byte ≡ Some rule → (either.rule k byte ≡ Some rule) ⊎ ((rule.eats ≡ false) × (either.rule k 33 ≡ Some rule))
-unfolding wide either wide_sheet either_sheet
-wide_rule_kept k byte rule lt found = rule_kept wide_alternatives either_alternatives k byte rule wide_kept lt found
-
--- the trees of both grammars are trees of one table
-pub abi_either : (x : Sym) (t : Tree) → IsTree abi x t → IsTree either x t
-unfolding abi either sheet either_sheet
-abi_either x t is = tree_keeps alternatives either_alternatives abi_kept x t is
-
-pub wide_either : (x : Sym) (t : Tree) → IsTree wide x t → IsTree either x t
-unfolding wide either wide_sheet either_sheet
-wide_either x t is = tree_keeps wide_alternatives either_alternatives wide_kept x t is
+pub abi_wide : (x : Sym) (t : Tree) → IsTree abi x t → IsTree wide x t
+unfolding abi wide sheet wide_sheet
+abi_wide x t is = tree_keeps alternatives wide_alternatives abi_kept x t is

@@ -3,12 +3,8 @@ pub mod Alone
 pub mod Letters
 pub mod WideLetters
 pub mod Growing
-pub mod WideRules
-pub mod Widening
-pub mod WidenedMeaning
-pub mod WidenedPlaces
-pub mod Joining
-pub mod JoinedMeaning
+pub mod Arguments
+pub mod Rests
 pub mod Reader
 pub mod Row
 pub mod ListedRows

@@ -19,9 +19,8 @@ use Rattle.cpp_grammar.specs.declared.kind.Kind.{Kind}
 use Rattle.cpp_grammar.specs.declared.production.Production.{Production}
 use Rattle.cpp_grammar.specs.KindNumbers.{SYMBOL, SPECIAL, SPECIAL_MARK, SPECIAL_AFTER_G}
 use Rattle.cpp_grammar.specs.Grammar.{Alternative, is_in, pick, kinds, number_of_kind, parts_of}
-use Rattle.cpp_grammar.specs.Wide.{wide_alternatives}
-use Rattle.cpp_grammar.specs.Either.{either_alternatives, either_choose}
-use Rattle.cpp_grammar.specs.Table.{either, rule_of, rule_taken}
+use Rattle.cpp_grammar.specs.Wide.{wide_alternatives, wide_choose}
+use Rattle.cpp_grammar.specs.Table.{wide, rule_of, rule_taken}
 use Rattle.cpp_grammar.specs.Term.{Term, in_std, instance, holder, parameter, lvalue, rvalue, source, operator, constructor, destructor, lambda, generic_lambda, list}
 use Rattle.cpp_grammar.specs.Scope.{count, element, is_open, free_in, length_if_pack}
 use Rattle.cpp_grammar.specs.Values.{Candidate, State, Around, prefix_tree, prefix_listed, Value, nothing_there, text, tree, piece, tree_of, piece_of, is_listed, letter_of, text_of, local_number, part}
@@ -31,8 +30,8 @@ use Rattle.cpp_grammar.specs.Meaning.{parameters, meaning}
 use Rattle.cpp_grammar.specs.Unfolding as unfolding_
 use Rattle.cpp_grammar.specs.Unfolding.{opening, close, production_at, byte_of, cpp, first_around, first_state, first_tree, unfold_cpp}
 use Rattle.cpp_grammar.specs.Rescoping.{generic_so_far, parameter_here, lambda_with, with_own, has_held, is_counted_alike, is_foreign, restated, substituted_wide, numbered, holder_so_far, between_wide, close_wide, cpp_wide, unfold_wide, argument_here, generic_number}
-use Rattle.cpp_grammar.proofs.Widening.{either_sound}
-use Rattle.cpp_grammar.proofs.Choosing.{kinds_numbered, number_at, either_rule_at, is_either_kind}
+use Rattle.cpp_grammar.specs.TableLaws.{wide_sound}
+use Rattle.cpp_grammar.proofs.Choosing.{kinds_numbered, number_at, wide_rule_at, is_wide_kind}
 use Rattle.cpp_grammar.proofs.ClosedValues.{held}
 use Rattle.cpp_grammar.proofs.ClosedStates.{ok_same, behind_bind}
 use Rattle.cpp_grammar.proofs.ClosedTrees.{opens, at_number, its_symbols, taken_rule, same_rule, opening_keeps, known}
@@ -238,7 +237,6 @@ unfolding are_closed is_shut has_specials opens after inside under_expansion in_
 between_none Production.Encoding around place [] state settled all cs = record { values = λ l. absurd (false≢true l); inside = λ l. absurd (false≢true l); context = name_none place; candidates = cs }
 between_none Production.Encoding around place (v ∷ vs) state settled all cs = record { values = λ l. absurd (false≢true l); inside = λ l. absurd (false≢true l); context = types_none place (tree_of v); candidates = cs }
 between_none Production.Special around place vs state settled all cs = record { values = all; inside = λ l. refl; context = name_none place; candidates = cs }
-between_none Production.Guard around place vs state settled all cs = record { values = λ l. absurd (false≢true l); inside = λ l. absurd (false≢true l); context = name_none place; candidates = cs }
 between_none Production.OtherSpecial around place vs state settled all cs = record { values = all; inside = λ l. refl; context = name_none place; candidates = cs }
 between_none Production.LocalName around place (v ∷ vs) state settled all cs = record { inside = λ l. l; values = all; context = after_none around (tree_of v) true settled (λ l. none_tree v (all l).0); candidates = cs }
 between_none Production.LocalType around place (v ∷ vs) state settled all cs = record { inside = λ l. l; values = all; context = after_none around (tree_of v) true settled (λ l. none_tree v (all l).0); candidates = cs }
@@ -262,7 +260,6 @@ between_none Production.AbbreviatedName around place (v ∷ []) state settled al
 between_none Production.NestStd around place (v ∷ []) state settled all cs = named_none around (in_std (piece_of v)) false [] state settled (λ l. none_piece v (all l).0) (λ l. tt) cs
 between_none Production.NestStd around place (v ∷ w ∷ []) state settled all cs =
     named_none around (applied (tree_of v) w) false (w ∷ []) state settled (λ l. none_applied (tree_of v) w (none_tree v (all l).0) (none_tree w (all l).1.0)) (λ l. (all l).1) cs
-between_none Production.NestAbbreviated around place (v ∷ []) state settled all cs = named_none around (tree_of v) true [] state settled (λ l. none_tree v (all l).0) (λ l. tt) cs
 between_none Production.NestTemplate around place (v ∷ []) state settled all cs = named_none around (tree_of v) true [] state settled (λ l. none_tree v (all l).0) (λ l. tt) cs
 between_none Production.NestParameter around place (v ∷ []) state settled all cs = parameter_none around place (index_of v) state settled cs
 between_none Production.NestInternal around place (v ∷ []) state settled all cs = piece_none around (source true (text_of v)) state settled (λ l. refl) cs
@@ -306,7 +303,6 @@ between_none _ around place vs state settled all cs = record { inside = λ l. l;
 means_none : (p : Production) (byte : ℕ) (around : Around) (vs : List Value) → Settled around → (are_closed p around ≡ true → AllNone vs) → around.in_lambda ≡ true → HasNone (held (meaning p byte around vs))
 unfolding are_closed is_shut opens meaning held is_open
 means_none Production.Encoding byte around vs settled all l = none_encoding (part vs 0) (no_items (part vs 1))
-means_none Production.Guard byte around vs settled all l = refl
 means_none Production.Special byte around vs settled all l = meaning_none Production.Special byte around vs (settled.prefix l) (all refl)
 means_none Production.OtherSpecial byte around vs settled all l = meaning_none Production.OtherSpecial byte around vs (settled.prefix l) (all refl)
 means_none Production.Lambda byte around vs settled all l = meaning_none Production.Lambda byte around vs (settled.prefix l) (all refl)
@@ -457,8 +453,8 @@ lambda_stays around byte vs all = go (is_open (parameters (list (tree_of (part v
     go false h = refl
 
 closed_stays : (p : Production) (byte : ℕ) (around : Around) (began : State) (vs : List Value) (state : State) (r : Found Value State) → Settled around → (are_closed p around ≡ true → AllNone vs) → AllHaveNone state.candidates →
-    ◌≡◌ {A = Result (Found Value State) Refusal} (Ok (found (meaning p byte around vs) (unfolding_.behind p byte around began vs state))) (Ok r) → (wide : Result (Found Value State) Refusal) → wide ≡ Ok r → Closes around wide r
-closed_stays p byte around began vs state r settled all cs e wide is =
+    ◌≡◌ {A = Result (Found Value State) Refusal} (Ok (found (meaning p byte around vs) (unfolding_.behind p byte around began vs state))) (Ok r) → (read : Result (Found Value State) Refusal) → read ≡ Ok r → Closes around read r
+closed_stays p byte around began vs state r settled all cs e read is =
     let whole = found (meaning p byte around vs) (unfolding_.behind p byte around began vs state) in
     let same : whole ≡ r = ok_same whole r e in
     record {
@@ -503,8 +499,8 @@ unfoldable make_special : List Alternative → Bool
 make_special [] = true
 make_special (a ∷ rest) = makes_special a.production && make_special rest
 
-only_special : (kind : Kind) → not (is_special (OfKind (number_of_kind kind))) || make_special (either_alternatives kind) ≡ true
-unfolding is_special number_of_kind wide_alternatives either_alternatives make_special makes_special
+only_special : (kind : Kind) → not (is_special (OfKind (number_of_kind kind))) || make_special (wide_alternatives kind) ≡ true
+unfolding is_special number_of_kind wide_alternatives make_special makes_special
 only_special Kind.Symbol = refl
 only_special _ = refl
 
@@ -544,21 +540,21 @@ implied true b h k = h
 implied false b h k = absurd (false≢true k)
 
 -- the production of a tree of such a kind
-special_taken : (k : ℕ) (rule : Rule) (taken : List ℕ) → k < either.kinds → TakesRule either k rule taken → is_special (OfKind k) ≡ true → makes_special (production_at rule.number) ≡ true
-unfolding rule_taken either_choose
+special_taken : (k : ℕ) (rule : Rule) (taken : List ℕ) → k < wide.kinds → TakesRule wide k rule taken → is_special (OfKind k) ≡ true → makes_special (production_at rule.number) ≡ true
+unfolding rule_taken wide_choose
 special_taken k rule taken lt takes special = go (slice_get kinds k) refl
   where
-    chosen : (kind : Kind) → slice_get kinds k ≡ Some kind → (o : Option Production) → either_choose kind takes.byte ≡ o → rule_taken o ≡ Some rule → makes_special (production_at rule.number) ≡ true
+    chosen : (kind : Kind) → slice_get kinds k ≡ Some kind → (o : Option Production) → wide_choose kind takes.byte ≡ o → rule_taken o ≡ Some rule → makes_special (production_at rule.number) ≡ true
     chosen kind at None is h = let clash : ◌≡◌ {A = Option Rule} None (Some rule) = h in absurd cc
     chosen kind at (Some p) is h =
         let number : k ≡ number_of_kind kind = omega (arith, number_at 0 kinds k kind kinds_numbered at) in
-        let made = picked_special (either_alternatives kind) takes.byte p (implied (is_special (OfKind (number_of_kind kind))) (make_special (either_alternatives kind)) (only_special kind) (sym (ap (λ n. is_special (OfKind n)) number) ∙ special)) is in
+        let made = picked_special (wide_alternatives kind) takes.byte p (implied (is_special (OfKind (number_of_kind kind))) (make_special (wide_alternatives kind)) (only_special kind) (sym (ap (λ n. is_special (OfKind n)) number) ∙ special)) is in
         let same : rule_of p ≡ rule = same_rule p rule h in
         ap makes_special (sym (ap (λ x. production_at x.number) same) ∙ at_number p) ∙ made
 
     go : (o : Option Kind) → slice_get kinds k ≡ o → makes_special (production_at rule.number) ≡ true
-    go None none = absurd (is_either_kind k lt none)
-    go (Some kind) at = chosen kind at (either_choose kind takes.byte) refl (sym (either_rule_at k kind takes.byte at) ∙ takes.found)
+    go None none = absurd (is_wide_kind k lt none)
+    go (Some kind) at = chosen kind at (wide_choose kind takes.byte) refl (sym (wide_rule_at k kind takes.byte at) ∙ takes.found)
 
 special_closes : (p : Production) (byte : ℕ) (around : Around) (place : ℕ) (began : State) (vs : List Value) (state : State) (one : Found Value State) → makes_special p ≡ true →
     close p byte around place began vs state ≡ Ok one → HasNone (held one.value)
@@ -591,7 +587,7 @@ leaf_stays b v state r none cs e =
 mutual
   unfolding cpp cpp_wide held is_open are_special
 
-  tree_stays : (t : Tree) (x : Sym) (around : Around) (place : ℕ) (state : State) (r : Found (List Value) State) → IsSymbol either x → IsTree either x t → Settled around → AllHaveNone state.candidates →
+  tree_stays : (t : Tree) (x : Sym) (around : Around) (place : ℕ) (state : State) (r : Found (List Value) State) → IsSymbol wide x → IsTree wide x t → Settled around → AllHaveNone state.candidates →
       unfold_tree cpp around place t state ≡ Ok r → Stays (is_special x || around.in_lambda) (unfold_tree cpp_wide around place t state) r
   tree_stays (branch rule taken parts) (OfKind k) around place state r lt is settled cs e =
       let whole = standing rule taken place around state in
@@ -606,7 +602,7 @@ mutual
       let number : p ≡ took.production = ap (λ x. production_at x.number) took.is ∙ at_number took.production in
       let specials : has_specials p ≡ true → are_special (symbols_of rule) ≡ true =
       λ h. ap are_special (ap symbols_of took.is ∙ its_symbols took.production) ∙ implied (has_specials took.production) (are_special (parts_of took.production)) (special_parts took.production) (sym (ap has_specials number) ∙ h) in
-      let symbols = either_sound.symbols k is.0.byte rule lt is.0.is_byte is.0.found in
+      let symbols = wide_sound.symbols k is.0.byte rule lt is.0.is_byte is.0.found in
       let forest = forest_stays parts whole (symbols_of rule) [] from begun.value inner.value symbols is.1 specials settled (λ l. tt) (subst (λ s. AllHaveNone s.candidates) (sym kept) cs) inner.is in
       let closes = close_stays p (byte_of taken) around place state inner.value.value inner.value.state one settled forest.values forest.candidates ended.is in
       let same : found (one.value ∷ []) one.state ≡ r = ok_same (found (one.value ∷ []) one.state) r ended.next in
@@ -626,7 +622,7 @@ mutual
   tree_stays (token t) x around place state r lt is settled cs e = leaf_stays (is_special x || around.in_lambda) (text t.own) state r refl cs e
   tree_stays (fixed byte) x around place state r lt is settled cs e = leaf_stays (is_special x || around.in_lambda) nothing_there state r refl cs e
 
-  forest_stays : (f : Forest) (rule : Open State Around) (xs : List Sym) (vs : List Value) (place : ℕ) (state : State) (r : Found (List Value) State) → AreSymbols either xs → AreTrees either xs f →
+  forest_stays : (f : Forest) (rule : Open State Around) (xs : List Sym) (vs : List Value) (place : ℕ) (state : State) (r : Found (List Value) State) → AreSymbols wide xs → AreTrees wide xs f →
       (has_specials (production_at rule.rule.number) ≡ true → are_special xs ≡ true) → Settled rule.context → (are_closed (production_at rule.rule.number) rule.context ≡ true → AllNone vs) → AllHaveNone state.candidates →
       unfold_forest cpp rule vs place f state ≡ Ok r → Stays (are_closed (production_at rule.rule.number) rule.context) (unfold_forest cpp_wide rule vs place f state) r
   forest_stays nothing rule xs vs place state r symbols trees specials settled all cs e =
@@ -655,7 +651,7 @@ mutual
       }
 
 -- A tree that a symbol stands for by the ABI's grammar it stands for by the wide one.
-pub meaning_stays : (shape : Tree) (t : Term) → IsTree either (OfKind SYMBOL) shape → unfold_cpp shape ≡ Ok t → unfold_wide shape ≡ Ok t
+pub meaning_stays : (shape : Tree) (t : Term) → IsTree wide (OfKind SYMBOL) shape → unfold_cpp shape ≡ Ok t → unfold_wide shape ≡ Ok t
 unfolding unfold_cpp unfold_wide first_around first_state
 meaning_stays shape t is e =
     let whole = behind_bind (unfold_tree cpp first_around 0 shape first_state) (λ whole. Ok (first_tree whole.value)) t e in

@@ -34,7 +34,7 @@ after_ranges Kind.DiscriminatorRest = codes ".-.0-9A-AC-FJ-PR-VX-XZ-Za-jl-pr-z"
 after_ranges Kind.Anonymous = codes ".-.0-9A-FI-PR-VX-XZ-Z_-_a-jl-pr-z"
 after_ranges Kind.Type = codes ".-.0-9A-AC-FJ-PR-VX-XZ-Za-jl-pr-z"
 after_ranges Kind.Plain = codes ".-.0-9A-AC-FJ-PR-VX-XZ-Za-jl-pr-z"
-after_ranges Kind.Item = codes ".-.0-9A-AC-FJ-PR-VX-XZ-Za-jl-or-z"
+after_ranges Kind.Item = codes ".-.0-9A-AC-FK-KM-PR-VZ-Za-jl-or-z"
 after_ranges Kind.ItemButRef = codes "0-9A-AC-FK-KM-PR-VZ-Za-jl-or-z"
 after_ranges Kind.ItemAfterD = codes ".-.0-9A-AC-FJ-PR-VX-XZ-Za-jl-or-z"
 after_ranges Kind.AfterD = codes ".-.0-9A-AC-FJ-PR-VX-XZ-Za-jl-pr-z"
@@ -96,6 +96,7 @@ after_ranges Kind.SolidButT = codes "0-9A-AC-FJ-PR-VX-XZ-Za-jl-or-z"
 after_ranges Kind.ExpressionRest = codes "0-9A-AC-FJ-PR-VX-XZ-Za-jl-or-z"
 after_ranges Kind.AnyArray = codes ".-.0-9A-AC-FJ-PR-VX-XZ-Za-jl-pr-z"
 after_ranges Kind.ArrayRest = codes ".-.0-9A-AC-FJ-PR-VX-XZ-Za-jl-pr-z"
+after_ranges Kind.NestMoreOrEnd = codes ".-.0-9A-AC-FJ-PR-VX-XZ-Z_-_a-jl-pr-z"
 
 -- how many chains may stand on one another at the beginning of a kind
 unfoldable pub rank : Kind → ℕ
@@ -141,6 +142,7 @@ rank Kind.OneArgument = 2
 rank Kind.Concept = 1
 rank Kind.SolidButT = 1
 rank Kind.ArrayRest = 1
+rank Kind.NestMoreOrEnd = 2
 rank _ = 0
 
 -- how high the lowest tree of a kind is
@@ -217,7 +219,8 @@ height Kind.OneArgument = 1
 height Kind.DeclarationAfterT = 1
 height Kind.Concept = 1
 height Kind.SolidButT = 1
-height Kind.ExpressionRest = 1
+height Kind.ExpressionRest = 4
 height Kind.AnyArray = 4
 height Kind.ArrayRest = 3
+height Kind.NestMoreOrEnd = 2
 height _ = 0

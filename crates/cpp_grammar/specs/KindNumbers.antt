@@ -3,10 +3,10 @@ use Rattle.std.specs.Prelude.{ℕ}
 
 -- how many kinds there are, and how many productions
 abbrev pub KIND_COUNT : ℕ
-KIND_COUNT = 92
+KIND_COUNT = 93
 
 abbrev pub PRODUCTION_COUNT : ℕ
-PRODUCTION_COUNT = 153
+PRODUCTION_COUNT = 145
 
 abbrev pub SYMBOL : ℕ
 SYMBOL = 0
@@ -283,3 +283,6 @@ ANY_ARRAY = 90
 
 abbrev pub ARRAY_REST : ℕ
 ARRAY_REST = 91
+
+abbrev pub NEST_MORE_OR_END : ℕ
+NEST_MORE_OR_END = 92

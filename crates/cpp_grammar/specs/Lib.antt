@@ -2,10 +2,8 @@ pub mod Grammar
 pub mod KindNumbers
 pub mod Before
 pub mod Wide
-pub mod Either
 pub mod Follow
 pub mod Table
-pub mod Widened
 pub mod TableLaws
 pub mod Term
 pub mod Scope
@@ -15,7 +13,6 @@ pub mod Between
 pub mod Meaning
 pub mod Unfolding
 pub mod Rescoping
-pub mod Joined
 pub mod Texts
 pub mod Items
 pub mod Parts

@@ -17,7 +17,6 @@ use Rattle.cpp_grammar.specs.Grammar.{Alternative, alternatives, parts_of, is_ch
 use Rattle.cpp_grammar.specs.Follow.{after_ranges, rank, height}
 use Rattle.cpp_grammar.specs.Before.{alternatives_before}
 use Rattle.cpp_grammar.specs.Wide.{wide_alternatives}
-use Rattle.cpp_grammar.specs.Either.{either_alternatives}
 
 -- five symbols, of which the last ones don't count
 unfoldable pub padded : ℕ → List Sym → List Sym
@@ -89,10 +88,3 @@ wide_sheet = map (sheet_with wide_alternatives) kinds
 -- the wide table: that of C++ symbols, with what compilers write beside them
 unfoldable pub wide : Table
 wide = table_of blank wide_sheet Cpp
-
-unfoldable pub either_sheet : List KindSheet
-either_sheet = map (sheet_with either_alternatives) kinds
-
--- the trees of both grammars are among the trees of this table, by which no symbol is read: some would have two
-unfoldable pub either : Table
-either = table_of blank either_sheet Cpp

@@ -1,8 +1,9 @@
--- The table keeps to the laws of a grammar.
+-- The tables keep to the laws of a grammar.
 use Rattle.std.specs.Prelude.{◌≡◌, refl, true}
 use Rattle.sym_shape.specs.Sheet.{is_lawful_sheet}
 use Rattle.sym_shape.specs.SheetLaws.{lawful_sheet}
 use Rattle.sym_shape.specs.Law.{IsLawful}
+use Rattle.sym_link.specs.Sound.{IsSound, lawful_sound}
 use Rattle.sym_core.specs.declared.NameClass.TheVariants.{Cpp}
 use Rattle.cpp_grammar.specs.Grammar.{in_ranges, among, is_in, pick, number_of_kind, alternatives, choose, parts_of, is_chain, may_be_empty, kinds, productions, number_of}
 use Rattle.cpp_grammar.specs.Wide.{wide_alternatives}
@@ -24,3 +25,6 @@ is_lawful_wide = refl
 pub wide_lawful : IsLawful wide
 unfolding wide
 wide_lawful = lawful_sheet blank wide_sheet Cpp is_lawful_wide
+
+pub wide_sound : IsSound wide
+wide_sound = lawful_sound wide wide_lawful

@@ -105,6 +105,7 @@ wide_alternatives Kind.SolidButT = on_ranges "a-jl-ov-z" "st" Production.Builtin
 wide_alternatives Kind.ExpressionRest = on "a" Production.AddressExpression ∷ on "T" Production.ParameterExpression ∷ []
 wide_alternatives Kind.AnyArray = on "A" Production.AnyArray ∷ []
 wide_alternatives Kind.ArrayRest = on "T" Production.BoundedArray ∷ on_ranges "0-9" "_" Production.LengthArray ∷ []
+wide_alternatives Kind.NestMoreOrEnd = on "E" Production.NestEnd ∷ on_ranges "0-9c-el-p" "CDLMUagirs" Production.NestNext ∷ []
 
 -- the production that a kind takes at a byte
 unfoldable pub wide_choose : Kind → ℕ → Option Production

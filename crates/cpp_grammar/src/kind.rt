@@ -98,6 +98,7 @@ pub enum Kind {
     ExpressionRest,
     AnyArray,
     ArrayRest,
+    NestMoreOrEnd,
 }
 
 /// The kind with a number.
@@ -198,6 +199,7 @@ pub fn kind_of(number: u16) -> Option<Kind>
         89 => Some(Kind::ExpressionRest),
         90 => Some(Kind::AnyArray),
         91 => Some(Kind::ArrayRest),
+        92 => Some(Kind::NestMoreOrEnd),
         _ => None,
     }
 }

@@ -11,8 +11,7 @@ mod wide_table;
 
 pub use abi::Abi;
 pub use laws::{
-    abi_answers_stay, abi_meanings_stay, abi_trees_stay, both_are_linked, earlier_trees_stay,
-    joined_symbols_stay, no_first_packs_in_abi, no_tags_in_abi, parts_are_few_and_smaller,
-    refuses_bad_tokens, scopes_are_closed,
+    abi_answers_stay, abi_meanings_stay, abi_trees_stay, earlier_trees_stay, no_first_packs_in_abi,
+    no_tags_in_abi, parts_are_few_and_smaller, refuses_bad_tokens, scopes_are_closed,
 };
 pub use wide::Wide;

@@ -193,6 +193,8 @@ const ANY_ARRAY: Sym = Sym::Kind(90);
 
 const ARRAY_REST: Sym = Sym::Kind(91);
 
+const NEST_MORE_OR_END: Sym = Sym::Kind(92);
+
 const NAME: Sym = Sym::Name;
 
 const DECIMAL: Sym = Sym::Number(NumberKind::Decimal);
@@ -205,7 +207,7 @@ const DIGITS: Sym = Sym::Number(NumberKind::Digits);
 pub const FIRST_LETTER: u8 = b'!';
 
 // For each kind a row: for each byte from `$` to `z` the letter of the production that the kind takes there.
-static LETTERS: [[u8; 87]; 92] = [
+static LETTERS: [[u8; 87]; 93] = [
     // $%&'()*+,-./0123456789:;<=>?@ABCDEFGHIJKLMNOPQRSTUVWXYZ[\]^_`abcdefghijklmnopqrstuvwxyz
     *b"                                                           *                           ", // Symbol
     *b"          +                                                                            ", // MaybeSuffix
@@ -213,53 +215,53 @@ static LETTERS: [[u8; 87]; 92] = [
     *b",         , ,,,,,,,,,,       ,,,,,,,,,,,,,,,,,,,,,,,,,,    , ,,,,,,,,,,,,,,,,,,,,,,,,,,", // SuffixMore
     *b"            //////////             .    / /    /-/    /      / /// / /  ///// //       ", // Encoding
     *b"                                     0         00 0            3    1             2    ", // Special
-    *b"                                                                    4             5    ", // CallOffset
-    *b"            7777777777                                                    6            ", // Integer
-    *b"            $$$$$$$$$$                  \" )    8 #    9      % %%% % %  %%%%% %%       ", // CompleteName
+    *b"                                                                    6             7    ", // CallOffset
+    *b"            9999999999                                                    8            ", // Integer
+    *b"            $$$$$$$$$$                  \" )    : #    ;      % %%% % %  %%%%% %%       ", // CompleteName
     *b"                                                                              !        ", // MaybeRestrict
     *b"                                                  !                                    ", // MaybeVolatile
     *b"                                       !                                               ", // MaybeConst
     *b"                                           !  !                                        ", // MaybeRef
-    *b"            ;;;;;;;;;;       ;;;;;;;;;;;;;;;;;;;;;;;;;;    ; ;; ;    ;     ;   ;:      ", // NameAfterS
-    *b"            ((((((((((                  &        '           < <<< < <  <<<<< <<       ", // Unqualified
-    *b"            AAAAAAAAAA                  ?      =>@                                     ", // Nest
-    *b"            CCCCCCCCCC       CCCCCCCCCCCCCCCCCCCCCCCCCC    C CC C    C     C   CB      ", // NestAfterS
-    *b"            EEEEEEEEEE         EE    D  E        E           E EEE E E  EEEEE EE       ", // NestRest
-    *b"            EEEEEEEEEE         EEF      E        E           E EEE E E  EEEEE EE       ", // NestTail
-    *b"            $$$$$$$$$$         GH       \"        #           % %%% % %  %%%%% %%       ", // Component
+    *b"            ==========       ==========================    = == =    =     =   =<      ", // NameAfterS
+    *b"            ((((((((((                  &        '           > >>> > >  >>>>> >>       ", // Unqualified
+    *b"            CCCCCCCCCC                  A      ?@B                                     ", // Nest
+    *b"            EEEEEEEEEE       EEEEEEEEEEEEEEEEEEEEEEEEEE    E EE E    E     E   ED      ", // NestAfterS
+    *b"            GGGGGGGGGG         GG    F  G        G           G GGG G G  GGGGG GG       ", // NestRest
+    *b"            GGGGGGGGGG         GGI      G        G           G GGG G G  GGGGG GG       ", // NestTail
+    *b"            $$$$$$$$$$         JK       \"        #           M LMM M M  MMMMM MM       ", // Component
     *b"             !!!                                                                       ", // ConstructorDigit
     *b"            !!!                                                                        ", // DestructorDigit
-    *b"            JJJJJJJJJJ       JJJJJJJJJJJJJJJJJJJJJJJJJJ    J II I    I     I   I       ", // Abbreviation
-    *b"            $$$$$$$$$$                  \" )      #                             L       ", // Entity
-    *b"            $$$$$$$$$$                  \" K      #                                     ", // TypeEntity
-    *b"                                                           M                           ", // MaybeDiscriminator
-    *b"            NNNNNNNNNN                                     O                           ", // DiscriminatorRest
-    *b"                                                                        P       Q      ", // Anonymous
-    *b"            VVVVVVVVVV       V VW V    T VVUV UVVVS   V      VVVVVVVVVV VVVV  RVVVVVVVV", // Type
-    *b"            YYYYYYYYYY       Y YX Y      YYUY UYYY    Y      YYYYYYYYYY YYYY   YYYYYYYY", // Plain
-    *b"            VVVVVVVVVV       V VZ V    T VVUV UVVVS   V      VVVVVVVVVV VVVV  RVVVVVVVV", // Item
-    *b"            VVVVVVVVVV       V VZ V    T VV V  VVVS   V      VVVVVVVVVV VVVV  RVVVVVVVV", // ItemButRef
-    *b"                                                             \\ \\     \\    \\\\[  \\ \\\\    ", // ItemAfterD
-    *b"                                                             ] ]     ]    ]_   ] ]^    ", // AfterD
-    *b"            $$$$$$$$$$       g i  h      aK `  cb#    d      eeeeeeeeee eeee   eefeeeee", // Solid
+    *b"            PPPPPPPPPP       PPPPPPPPPPPPPPPPPPPPPPPPPP    P OO O    O     O   O       ", // Abbreviation
+    *b"            $$$$$$$$$$                  \" )      #                             R       ", // Entity
+    *b"            $$$$$$$$$$                  \" Q      #                                     ", // TypeEntity
+    *b"                                                           U                           ", // MaybeDiscriminator
+    *b"            VVVVVVVVVV                                     W                           ", // DiscriminatorRest
+    *b"                                                                        X       Y      ", // Anonymous
+    *b"            ^^^^^^^^^^       ^ ^_ ^    \\ ^^]^ ]^^^[   ^      ^^^^^^^^^^ ^^^^  Z^^^^^^^^", // Type
+    *b"            aaaaaaaaaa       a a` a      aa]a ]aaa    a      aaaaaaaaaa aaaa   aaaaaaaa", // Plain
+    *b"            ^^^^^^^^^^       ^ ^b ^    \\ ^^]^ ]^^^[   ^      ^^^^^^^^^^ ^^^^  Z^^^^^^^^", // Item
+    *b"            ^^^^^^^^^^       ^ ^b ^    \\ ^^ ^  ^^^[   ^      ^^^^^^^^^^ ^^^^  Z^^^^^^^^", // ItemButRef
+    *b"                                                             d d     d    ddc  d dd    ", // ItemAfterD
+    *b"                                                             e e     e    eg   e ef    ", // AfterD
+    *b"            $$$$$$$$$$       q s  r      kQ j  ml#    n      oooooooooo oooo   oopooooo", // Solid
     *b"                                                     !                                 ", // MaybeCLinkage
-    *b"            kkkkkkkkkk       kkkkkkkkkkkkkkkkkkkkkkkkkk    k kk k    k     k   kj      ", // TypeAfterS
+    *b"            uuuuuuuuuu       uuuuuuuuuuuuuuuuuuuuuuuuuu    u uu u    u     u   ut      ", // TypeAfterS
     *b"            ((((((((((                  &        '                                     ", // SourceOrLocal
-    *b"            oooooooooo       o oolo    o oono moooo   o      oooooooooo oooo  ooooooooo", // FunctionRest
-    *b"            qqqqqqqqqq       q qqpq    q qqqq qqqqq   q      qqqqqqqqqq qqqq  qqqqqqqqq", // AfterR
-    *b"            rrrrrrrrrr       r rrpr    r rrrr rrrrr   r      rrrrrrrrrr rrrr  rrrrrrrrr", // AfterO
-    *b"            ssssssssss       s ss s    s ssss sssss   s      ssssssssss ssss  sssssssss", // Items
-    *b"                                     t                                                 ", // MaybeArguments
-    *b"                                     t                                                 ", // Arguments
-    *b"            xxxxxxxxxx       x xx x   uxvxxxx xxxxx w x      xxxxxxxxxx xxxx  xxxxxxxxx", // ArgumentList
-    *b"            {{{{{{{{{{       { {{ {    {y{{{{ {{{{{ z {      {{{{{{{{{{ {{{{  {{{{{{{{{", // PackList
-    *b"                                        |                                              ", // Address
-    *b"            \x80\x80\x80\x80\x80\x80\x80\x80\x80\x80          \x7f        \x80\x80 \x80  \x80\x80\x80    \x80    } \x80~\x80    \x80\x80\x80 \x80\x80\x80\x80   \x80\x80  \x80\x80\x80 ", // Literal
+    *b"            yyyyyyyyyy       y yyvy    y yyxy wyyyy   y      yyyyyyyyyy yyyy  yyyyyyyyy", // FunctionRest
+    *b"            {{{{{{{{{{       { {{z{    { {{{{ {{{{{   {      {{{{{{{{{{ {{{{  {{{{{{{{{", // AfterR
+    *b"            ||||||||||       | ||z|    | |||| |||||   |      |||||||||| ||||  |||||||||", // AfterO
+    *b"            }}}}}}}}}}       } }} }    } }}}} }}}}}   }      }}}}}}}}}} }}}}  }}}}}}}}}", // Items
+    *b"                                     ~                                                 ", // MaybeArguments
+    *b"                                     ~                                                 ", // Arguments
+    *b"            \x82\x82\x82\x82\x82\x82\x82\x82\x82\x82       \x82 \x82\x82 \x82   \x80\x82\x81\x82\x82\x82\x82 \x82\x82\x82\x82\x82 \x82 \x82      \x82\x82\x82\x82\x82\x82\x82\x82\x82\x82 \x82\x82\x82\x82  \x82\x82\x82\x82\x82\x82\x82\x82\x82", // ArgumentList
+    *b"            \x84\x84\x84\x84\x84\x84\x84\x84\x84\x84       \x84 \x84\x84 \x84    \x84\x83\x84\x84\x84\x84 \x84\x84\x84\x84\x84 \x84 \x84      \x84\x84\x84\x84\x84\x84\x84\x84\x84\x84 \x84\x84\x84\x84  \x84\x84\x84\x84\x84\x84\x84\x84\x84", // PackList
+    *b"                                        \x85                                              ", // Address
+    *b"            \x89\x89\x89\x89\x89\x89\x89\x89\x89\x89          \x88        \x89\x89 \x89  \x89\x89\x89    \x89    \x86 \x89\x87\x89    \x89\x89\x89 \x89\x89\x89\x89   \x89\x89  \x89\x89\x89 ", // Literal
     *b"            !!                                                                         ", // Bit
-    *b"                                                                     \x82    \x81    \x82 \x82     ", // LiteralAfterD
+    *b"                                                                     \x8b    \x8a    \x8b \x8b     ", // LiteralAfterD
     *b"            !                                                                          ", // MaybeZero
-    *b"            $$$$$$$$$$                   aK `  cb#    d      e e    eee eeee   ee  eee ", // LiteralType
-    *b"                                                             \x85 \x87\x84\x8b \x8f \x8e  \x8c\x88\x83\x8a\x86 \x89\x8d       ", // Operator
+    *b"            $$$$$$$$$$                   kQ j  ml#    n      o o    ooo oooo   oo  ooo ", // LiteralType
+    *b"                                                             \x8e \x90\x8d\x94 \x98 \x97  \x95\x91\x8c\x93\x8f \x92\x96       ", // Operator
     *b"                                                             !   ! !            !  !   ", // OperatorAfterN
     *b"                                                  !          !   !      !         !    ", // OperatorAfterD
     *b"                                          !    !             !  !         !        !   ", // OperatorAfterA
@@ -269,36 +271,37 @@ static LETTERS: [[u8; 87]; 92] = [
     *b"                                         !     !                         !     !       ", // OperatorAfterR
     *b"                                              !                            !  !        ", // OperatorAfterO
     *b"                                           !                               ! !         ", // OperatorAfterE
-    *b"                                               !                 !   \x90         !!      ", // OperatorAfterL
+    *b"                                               !                 !   \x99         !!      ", // OperatorAfterL
     *b"                                                                               !       ", // OperatorAfterS
     *b"                                                                                    !  ", // OperatorAfterI
     *b"                                                                 !              !      ", // OperatorAfterG
-    *b"            EEEEEEEEEE         EE    \x91  E        E           E EEE E E  EEEEE EE       ", // NestRestOrEnd
-    *b"                                     t                                                 ", // ArgumentsAlone
-    *b"            EEEEEEEEEE         EE    D  E        E           E EEE E E  EEEEE EE       ", // NestRestAlone
+    *b"            GGGGGGGGGG         GG    \x9a  G        G           G GGG G G  GGGGG GG       ", // NestRestOrEnd
+    *b"                                     ~                                                 ", // ArgumentsAlone
+    *b"            GGGGGGGGGG         GG    F  G        G           G GGG G G  GGGGG GG       ", // NestRestAlone
     *b"                                         !                                             ", // HolderMark
-    *b"            $$$$$$$$$$         GH       \"        #           \xaf \xae\xaf\xaf \xaf \xaf  \xaf\xaf\xaf\xaf\xaf \xaf\xaf       ", // HeldComponent
+    *b"            $$$$$$$$$$         JK       \"        #           M LMM M M  MMMMM MM       ", // HeldComponent
     *b"                                                           !  !                     !  ", // FloatEnd
-    *b"                                                                        \x93\x93 \x93      \x92    ", // ComponentAfterC
-    *b"                                                             \x85  \x84\x8b \x8f \x8e  \x8c\x88\x83\x8a\x86 \x89\x8d       ", // OtherOperator
-    *b"            xxxxxxxxxx       x xx x   uxvxxxx xxxxx w x      xxxxxxxxxx xxxx  xxxxxxxxx", // ArgumentsFirst
+    *b"                                                                        \x9c\x9c \x9c           ", // ComponentAfterC
+    *b"                                                             \x8e  \x8d\x94 \x98 \x97  \x95\x91\x8c\x93\x8f \x92\x96       ", // OtherOperator
+    *b"            \x82\x82\x82\x82\x82\x82\x82\x82\x82\x82       \x82 \x82\x82 \x82   \x80\x82\x81\x82\x82\x82\x82 \x82\x82\x82\x82\x82 \x82 \x82      \x82\x82\x82\x82\x82\x82\x82\x82\x82\x82 \x82\x82\x82\x82  \x82\x82\x82\x82\x82\x82\x82\x82\x82", // ArgumentsFirst
     *b"            $$$$$$$$$$                  \" )      #                                     ", // PlainEntity
-    *b"            $$$$$$$$$$                  \" K      #                                     ", // PlainTypeEntity
+    *b"            $$$$$$$$$$                  \" Q      #                                     ", // PlainTypeEntity
     *b"                                   !                                                   ", // SpecialMark
-    *b"                                                \x94 \xaa                                    ", // SpecialAfterG
+    *b"                                                  4                                    ", // SpecialAfterG
     *b"                                                                          !     !      ", // CloneLetter
-    *b"                                                                                \x95      ", // TypeInStd
-    *b"                              \x96                                                        ", // MaybeTags
-    *b"            \x99\x99\x99\x99\x99\x99\x99\x99\x99\x99       \x99 \x99Z \x99    T \x99\x99U\x99 U\x99\x98\x99S \x97 \x99      \x99\x99\x99\x99\x99\x99\x99\x99\x99\x99 \x99\x99\x99\x99  R\x99\x99\x99\x99\x99\x99\x99\x99", // Argument
-    *b"            \x9b\x9b\x9b\x9b\x9b\x9b\x9b\x9b\x9b\x9b                                     \x9b           \x9a  \x9a \x9a   \x9a    \x9a ", // ArgumentAfterT
-    *b"            \x99\x99\x99\x99\x99\x99\x99\x99\x99\x99       \x99 \x99Z \x99   \x9dT\x9c\x99\x99U\x99 U\x99\x98\x99S \x97 \x99      \x99\x99\x99\x99\x99\x99\x99\x99\x99\x99 \x99\x99\x99\x99  R\x99\x99\x99\x99\x99\x99\x99\x99", // OneArgument
-    *b"                                                                       \xa0  \x9f \xa2   \xa1    \x9e ", // DeclarationAfterT
-    *b"                                                \xa3                                      ", // Declarations
-    *b"            $$$$$$$$$$                    K    c                                       ", // Concept
-    *b"            $$$$$$$$$$       \xb5 i  h      aK `  c #    d      eeeeeeeeee eeee   eefeeeee", // SolidButT
-    *b"                                                \xa5            \xa4                         ", // ExpressionRest
-    *b"                             \xa6                                                         ", // AnyArray
-    *b"            \xa8\xa8\xa8\xa8\xa8\xa8\xa8\xa8\xa8\xa8                          \xa7          \xa8                           ", // ArrayRest
+    *b"                                                                                \x9e      ", // TypeInStd
+    *b"                                                                                       ", // MaybeTags
+    *b"            \xa2\xa2\xa2\xa2\xa2\xa2\xa2\xa2\xa2\xa2       \xa2 \xa2b \xa2    \\ \xa2\xa2]\xa2 ]\xa2\xa1\xa2[ \xa0 \xa2      \xa2\xa2\xa2\xa2\xa2\xa2\xa2\xa2\xa2\xa2 \xa2\xa2\xa2\xa2  Z\xa2\xa2\xa2\xa2\xa2\xa2\xa2\xa2", // Argument
+    *b"            \xa4\xa4\xa4\xa4\xa4\xa4\xa4\xa4\xa4\xa4                                     \xa4                           ", // ArgumentAfterT
+    *b"            \xa2\xa2\xa2\xa2\xa2\xa2\xa2\xa2\xa2\xa2       \xa2 \xa2b \xa2   \xa6\\\xa5\xa2\xa2]\xa2 ]\xa2\xa1\xa2[ \xa0 \xa2      \xa2\xa2\xa2\xa2\xa2\xa2\xa2\xa2\xa2\xa2 \xa2\xa2\xa2\xa2  Z\xa2\xa2\xa2\xa2\xa2\xa2\xa2\xa2", // OneArgument
+    *b"                                                                       \xa9  \xa8 \xab   \xaa    \xa7 ", // DeclarationAfterT
+    *b"                                                \xac                                      ", // Declarations
+    *b"            $$$$$$$$$$                    Q    m                                       ", // Concept
+    *b"            $$$$$$$$$$       q s  r      kQ j  m #    n      oooooooooo oooo   oopooooo", // SolidButT
+    *b"                                                             \xad                         ", // ExpressionRest
+    *b"                             \xaf                                                         ", // AnyArray
+    *b"            \xb1\xb1\xb1\xb1\xb1\xb1\xb1\xb1\xb1\xb1                                     \xb1                           ", // ArrayRest
+    *b"            GGGGGGGGGG         GG       G        G           G GGG G G  GGGGG GG       ", // NestMoreOrEnd
 ];
 
 /// A rule without its number and its symbols.
@@ -328,7 +331,7 @@ macro_rules! chains {
 }
 
 // The rules of the productions, in the order of their numbers.
-pub static HEADS: [Head; 153] = [
+pub static HEADS: [Head; 145] = [
     takes!(0), // ! Mark
     takes!(2), // \" InternalName
     takes!(2), // # LocalTypeName
@@ -342,150 +345,142 @@ pub static HEADS: [Head; 153] = [
     takes!(1), // + Suffix
     takes!(1), // , SuffixByte
     takes!(1), // - Special
-    takes!(2), // . Guard
+    chains!(2), // . OtherSpecial
     chains!(2), // / Encoding
     takes!(1), // 0 SpecialType
     takes!(3), // 1 NonVirtualThunk
     takes!(5), // 2 VirtualThunk
     takes!(3), // 3 CovariantThunk
-    takes!(2), // 4 NonVirtualOffset
-    takes!(4), // 5 VirtualOffset
-    takes!(1), // 6 Negative
-    chains!(1), // 7 Positive
-    takes!(1), // 8 NameWithS
-    takes!(4), // 9 LocalName
-    takes!(2), // : StdName
-    chains!(2), // ; AbbreviatedName
-    chains!(1), // < OperatorPiece
-    takes!(1), // = NestWithS
-    takes!(2), // > NestParameter
-    takes!(2), // ? NestInternal
-    takes!(2), // @ NestLocalType
-    chains!(2), // A NestSource
-    takes!(3), // B NestStd
-    chains!(2), // C NestAbbreviated
-    takes!(4), // D NestArguments
-    chains!(2), // E NestNext
-    takes!(0), // F NestEnd
-    takes!(2), // G Constructor
-    takes!(2), // H Destructor
-    takes!(0), // I Abbreviation
-    chains!(1), // J Substitution
-    takes!(1), // K NestedType
-    takes!(0), // L StringLiteral
-    takes!(1), // M Discriminator
-    takes!(0), // N OneDigit
-    takes!(2), // O ManyDigits
-    takes!(4), // P Lambda
-    takes!(1), // Q Unnamed
-    takes!(3), // R RestrictType
-    takes!(2), // S VolatileType
-    takes!(1), // T ConstType
-    takes!(1), // U ReferenceType
-    chains!(1), // V PlainType
-    takes!(1), // W TypeWithD
-    takes!(1), // X PlainWithD
-    chains!(1), // Y QualifiedPlain
-    takes!(1), // Z ItemWithD
-    takes!(1), // [ Expansion
-    chains!(1), // \\ ItemIsType
-    takes!(0), // ] BuiltinWithD
-    takes!(3), // ^ Vector
-    takes!(4), // _ NoexceptFunction
-    takes!(1), // ` Pointer
-    takes!(2), // a MemberPointer
-    takes!(2), // b Parameter
-    takes!(2), // c TypeWithS
-    takes!(4), // d LocalType
-    takes!(0), // e Builtin
-    takes!(1), // f Vendor
-    takes!(2), // g Array
-    takes!(3), // h Function
-    takes!(1), // i Complex
-    takes!(1), // j StdType
-    chains!(1), // k AbbreviatedType
-    takes!(0), // l RestEnd
-    takes!(1), // m RestLvalue
-    takes!(1), // n RestRvalue
-    chains!(2), // o RestItem
-    takes!(0), // p RefEnd
-    chains!(2), // q LvalueItem
-    chains!(2), // r RvalueItem
-    chains!(2), // s Items
-    takes!(2), // t Arguments
-    takes!(3), // u PackArgument
-    takes!(3), // v LiteralArgument
-    takes!(4), // w AddressArgument
-    chains!(2), // x TypeArgument
-    takes!(3), // y LiteralElement
-    takes!(4), // z AddressElement
-    chains!(2), // { TypeElement
-    takes!(5), // | Address
-    takes!(2), // } EncodingLiteral
-    takes!(1), // ~ BoolLiteral
-    takes!(1), // \x7f LiteralWithD
-    chains!(2), // \x80 IntegerLiteral
-    takes!(1), // \x81 NullLiteral
-    takes!(1), // \x82 CharLiteral
-    takes!(1), // \x83 OperatorN
-    takes!(1), // \x84 OperatorD
-    takes!(1), // \x85 OperatorA
-    takes!(1), // \x86 OperatorP
-    takes!(1), // \x87 OperatorC
-    takes!(1), // \x88 OperatorM
-    takes!(1), // \x89 OperatorR
-    takes!(1), // \x8a OperatorO
-    takes!(1), // \x8b OperatorE
-    takes!(1), // \x8c OperatorL
-    takes!(1), // \x8d OperatorS
-    takes!(1), // \x8e OperatorI
-    takes!(1), // \x8f OperatorG
-    takes!(1), // \x90 LiteralOperator
-    takes!(3), // \x91 NestInstance
-    takes!(1), // \x92 Conversion
-    chains!(2), // \x93 OperatorNameWithC
-    takes!(2), // \x94 Clone
-    takes!(2), // \x95 TaggedStdType
-    takes!(2), // \x96 TypeTag
-    takes!(1), // \x97 Expression
-    takes!(1), // \x98 ArgumentWithT
-    chains!(1), // \x99 PlainArgument
-    chains!(2), // \x9a DeclaredArgument
-    chains!(2), // \x9b ParameterArgument
-    takes!(2), // \x9c OneLiteral
-    takes!(2), // \x9d OnePack
-    takes!(0), // \x9e AnyType
-    takes!(1), // \x9f ValueOf
-    takes!(1), // \xa0 OfConcept
-    takes!(2), // \xa1 TemplateOf
-    takes!(2), // \xa2 PackOf
-    takes!(2), // \xa3 Declarations
-    takes!(2), // \xa4 AddressExpression
-    takes!(2), // \xa5 ParameterExpression
-    takes!(1), // \xa6 AnyArray
-    takes!(3), // \xa7 BoundedArray
-    chains!(2), // \xa8 LengthArray
-    chains!(2), // \xa9 OtherSpecial
-    takes!(1), // \xaa SpecialName
-    takes!(4), // \xab ConstructionVtable
-    chains!(2), // \xac NestTemplate
-    takes!(2), // \xad NestTag
-    takes!(1), // \xae ComponentWithC
-    chains!(2), // \xaf OtherOperatorName
-    chains!(2), // \xb0 Holder
-    takes!(2), // \xb1 DefaultEntity
-    takes!(2), // \xb2 DefaultTypeEntity
-    takes!(2), // \xb3 SizedFloat
-    takes!(1), // \xb4 ConstrainedAuto
-    chains!(1), // \xb5 ArrayType
-    chains!(1), // \xb6 TypeInStd
-    takes!(2), // \xb7 Tag
-    chains!(2), // \xb8 AnyElement
-    chains!(2), // \xb9 AnyArgument
+    takes!(1), // 4 SpecialName
+    takes!(4), // 5 ConstructionVtable
+    takes!(2), // 6 NonVirtualOffset
+    takes!(4), // 7 VirtualOffset
+    takes!(1), // 8 Negative
+    chains!(1), // 9 Positive
+    takes!(1), // : NameWithS
+    takes!(4), // ; LocalName
+    takes!(2), // < StdName
+    chains!(2), // = AbbreviatedName
+    chains!(1), // > OperatorPiece
+    takes!(1), // ? NestWithS
+    takes!(2), // @ NestParameter
+    takes!(2), // A NestInternal
+    takes!(2), // B NestLocalType
+    chains!(2), // C NestSource
+    takes!(3), // D NestStd
+    chains!(2), // E NestTemplate
+    takes!(4), // F NestArguments
+    chains!(2), // G NestNext
+    takes!(2), // H NestTag
+    takes!(0), // I NestEnd
+    takes!(2), // J Constructor
+    takes!(2), // K Destructor
+    takes!(1), // L ComponentWithC
+    chains!(2), // M OtherOperatorName
+    chains!(2), // N Holder
+    takes!(0), // O Abbreviation
+    chains!(1), // P Substitution
+    takes!(1), // Q NestedType
+    takes!(0), // R StringLiteral
+    takes!(2), // S DefaultEntity
+    takes!(2), // T DefaultTypeEntity
+    takes!(1), // U Discriminator
+    takes!(0), // V OneDigit
+    takes!(2), // W ManyDigits
+    takes!(4), // X Lambda
+    takes!(1), // Y Unnamed
+    takes!(3), // Z RestrictType
+    takes!(2), // [ VolatileType
+    takes!(1), // \\ ConstType
+    takes!(1), // ] ReferenceType
+    chains!(1), // ^ PlainType
+    takes!(1), // _ TypeWithD
+    takes!(1), // ` PlainWithD
+    chains!(1), // a QualifiedPlain
+    takes!(1), // b ItemWithD
+    takes!(1), // c Expansion
+    chains!(1), // d ItemIsType
+    takes!(0), // e BuiltinWithD
+    takes!(3), // f Vector
+    takes!(4), // g NoexceptFunction
+    takes!(2), // h SizedFloat
+    takes!(1), // i ConstrainedAuto
+    takes!(1), // j Pointer
+    takes!(2), // k MemberPointer
+    takes!(2), // l Parameter
+    takes!(2), // m TypeWithS
+    takes!(4), // n LocalType
+    takes!(0), // o Builtin
+    takes!(1), // p Vendor
+    chains!(1), // q ArrayType
+    takes!(3), // r Function
+    takes!(1), // s Complex
+    chains!(1), // t TypeInStd
+    chains!(1), // u AbbreviatedType
+    takes!(0), // v RestEnd
+    takes!(1), // w RestLvalue
+    takes!(1), // x RestRvalue
+    chains!(2), // y RestItem
+    takes!(0), // z RefEnd
+    chains!(2), // { LvalueItem
+    chains!(2), // | RvalueItem
+    chains!(2), // } Items
+    takes!(2), // ~ Arguments
+    takes!(2), // \x7f Tag
+    takes!(3), // \x80 PackArgument
+    takes!(3), // \x81 LiteralArgument
+    chains!(2), // \x82 AnyArgument
+    takes!(3), // \x83 LiteralElement
+    chains!(2), // \x84 AnyElement
+    takes!(5), // \x85 Address
+    takes!(2), // \x86 EncodingLiteral
+    takes!(1), // \x87 BoolLiteral
+    takes!(1), // \x88 LiteralWithD
+    chains!(2), // \x89 IntegerLiteral
+    takes!(1), // \x8a NullLiteral
+    takes!(1), // \x8b CharLiteral
+    takes!(1), // \x8c OperatorN
+    takes!(1), // \x8d OperatorD
+    takes!(1), // \x8e OperatorA
+    takes!(1), // \x8f OperatorP
+    takes!(1), // \x90 OperatorC
+    takes!(1), // \x91 OperatorM
+    takes!(1), // \x92 OperatorR
+    takes!(1), // \x93 OperatorO
+    takes!(1), // \x94 OperatorE
+    takes!(1), // \x95 OperatorL
+    takes!(1), // \x96 OperatorS
+    takes!(1), // \x97 OperatorI
+    takes!(1), // \x98 OperatorG
+    takes!(1), // \x99 LiteralOperator
+    takes!(3), // \x9a NestInstance
+    takes!(1), // \x9b Conversion
+    chains!(2), // \x9c OperatorNameWithC
+    takes!(2), // \x9d Clone
+    takes!(2), // \x9e TaggedStdType
+    takes!(2), // \x9f TypeTag
+    takes!(1), // \xa0 Expression
+    takes!(1), // \xa1 ArgumentWithT
+    chains!(1), // \xa2 PlainArgument
+    chains!(2), // \xa3 DeclaredArgument
+    chains!(2), // \xa4 ParameterArgument
+    takes!(2), // \xa5 OneLiteral
+    takes!(2), // \xa6 OnePack
+    takes!(0), // \xa7 AnyType
+    takes!(1), // \xa8 ValueOf
+    takes!(1), // \xa9 OfConcept
+    takes!(2), // \xaa TemplateOf
+    takes!(2), // \xab PackOf
+    takes!(2), // \xac Declarations
+    takes!(2), // \xad AddressExpression
+    takes!(2), // \xae ParameterExpression
+    takes!(1), // \xaf AnyArray
+    takes!(3), // \xb0 BoundedArray
+    chains!(2), // \xb1 LengthArray
 ];
 
 // The symbols of the rules, in the same order.
-pub static SYMBOLS: [Sym; 924] = symbols_listed! {
+pub static SYMBOLS: [Sym; 876] = symbols_listed! {
     [NONE, NONE, NONE, NONE, NONE], // ! Mark
     [NAME, MAYBE_ARGUMENTS, NONE, NONE, NONE], // \" InternalName
     [ANONYMOUS, MAYBE_ARGUMENTS, NONE, NONE, NONE], // # LocalTypeName
@@ -499,153 +494,145 @@ pub static SYMBOLS: [Sym; 924] = symbols_listed! {
     [SUFFIX_FIRST, NONE, NONE, NONE, NONE], // + Suffix
     [SUFFIX_MORE, NONE, NONE, NONE, NONE], // , SuffixByte
     [SPECIAL, NONE, NONE, NONE, NONE], // - Special
-    [Sym::Byte(b'V'), COMPLETE_NAME, NONE, NONE, NONE], // . Guard
+    [SPECIAL_MARK, SPECIAL_AFTER_G, NONE, NONE, NONE], // . OtherSpecial
     [COMPLETE_NAME, ITEMS, NONE, NONE, NONE], // / Encoding
     [TYPE, NONE, NONE, NONE, NONE], // 0 SpecialType
     [INTEGER, Sym::Byte(b'_'), ENCODING, NONE, NONE], // 1 NonVirtualThunk
     [INTEGER, Sym::Byte(b'_'), INTEGER, Sym::Byte(b'_'), ENCODING], // 2 VirtualThunk
     [CALL_OFFSET, CALL_OFFSET, ENCODING, NONE, NONE], // 3 CovariantThunk
-    [INTEGER, Sym::Byte(b'_'), NONE, NONE, NONE], // 4 NonVirtualOffset
-    [INTEGER, Sym::Byte(b'_'), INTEGER, Sym::Byte(b'_'), NONE], // 5 VirtualOffset
-    [DIGITS, NONE, NONE, NONE, NONE], // 6 Negative
-    [DIGITS, NONE, NONE, NONE, NONE], // 7 Positive
-    [NAME_AFTER_S, NONE, NONE, NONE, NONE], // 8 NameWithS
-    [ENCODING, Sym::Byte(b'E'), ENTITY, MAYBE_DISCRIMINATOR, NONE], // 9 LocalName
-    [UNQUALIFIED, MAYBE_ARGUMENTS, NONE, NONE, NONE], // : StdName
-    [ABBREVIATION, ARGUMENTS, NONE, NONE, NONE], // ; AbbreviatedName
-    [OPERATOR, NONE, NONE, NONE, NONE], // < OperatorPiece
-    [NEST_AFTER_S, NONE, NONE, NONE, NONE], // = NestWithS
-    [DECIMAL, NEST_REST_ALONE, NONE, NONE, NONE], // > NestParameter
-    [NAME, NEST_REST, NONE, NONE, NONE], // ? NestInternal
-    [ANONYMOUS, NEST_REST, NONE, NONE, NONE], // @ NestLocalType
-    [NAME, NEST_REST, NONE, NONE, NONE], // A NestSource
-    [UNQUALIFIED, MAYBE_ARGUMENTS, NEST_TAIL, NONE, NONE], // B NestStd
-    [ABBREVIATION, NEST_REST_ALONE, NONE, NONE, NONE], // C NestAbbreviated
-    [ARGUMENTS_FIRST, Sym::Byte(b'E'), COMPONENT, NEST_TAIL, NONE], // D NestArguments
-    [COMPONENT, NEST_TAIL, NONE, NONE, NONE], // E NestNext
-    [NONE, NONE, NONE, NONE, NONE], // F NestEnd
-    [CONSTRUCTOR_DIGIT, MAYBE_ARGUMENTS, NONE, NONE, NONE], // G Constructor
-    [DESTRUCTOR_DIGIT, MAYBE_ARGUMENTS, NONE, NONE, NONE], // H Destructor
-    [NONE, NONE, NONE, NONE, NONE], // I Abbreviation
-    [SEQ36, NONE, NONE, NONE, NONE], // J Substitution
-    [NEST, NONE, NONE, NONE, NONE], // K NestedType
-    [NONE, NONE, NONE, NONE, NONE], // L StringLiteral
-    [DISCRIMINATOR_REST, NONE, NONE, NONE, NONE], // M Discriminator
-    [NONE, NONE, NONE, NONE, NONE], // N OneDigit
-    [DIGITS, Sym::Byte(b'_'), NONE, NONE, NONE], // O ManyDigits
-    [ITEM, ITEMS, Sym::Byte(b'E'), DECIMAL, NONE], // P Lambda
-    [DECIMAL, NONE, NONE, NONE, NONE], // Q Unnamed
-    [MAYBE_VOLATILE, MAYBE_CONST, PLAIN, NONE, NONE], // R RestrictType
-    [MAYBE_CONST, PLAIN, NONE, NONE, NONE], // S VolatileType
-    [PLAIN, NONE, NONE, NONE, NONE], // T ConstType
-    [TYPE, NONE, NONE, NONE, NONE], // U ReferenceType
-    [SOLID, NONE, NONE, NONE, NONE], // V PlainType
-    [AFTER_D, NONE, NONE, NONE, NONE], // W TypeWithD
-    [AFTER_D, NONE, NONE, NONE, NONE], // X PlainWithD
-    [SOLID, NONE, NONE, NONE, NONE], // Y QualifiedPlain
-    [ITEM_AFTER_D, NONE, NONE, NONE, NONE], // Z ItemWithD
-    [TYPE, NONE, NONE, NONE, NONE], // [ Expansion
-    [AFTER_D, NONE, NONE, NONE, NONE], // \\ ItemIsType
-    [NONE, NONE, NONE, NONE, NONE], // ] BuiltinWithD
-    [DIGITS, Sym::Byte(b'_'), TYPE, NONE, NONE], // ^ Vector
-    [Sym::Byte(b'F'), MAYBE_C_LINKAGE, TYPE, FUNCTION_REST, NONE], // _ NoexceptFunction
-    [TYPE, NONE, NONE, NONE, NONE], // ` Pointer
-    [TYPE, TYPE, NONE, NONE, NONE], // a MemberPointer
-    [DECIMAL, ARGUMENTS_ALONE, NONE, NONE, NONE], // b Parameter
-    [TYPE_AFTER_S, ARGUMENTS_ALONE, NONE, NONE, NONE], // c TypeWithS
-    [ENCODING, Sym::Byte(b'E'), TYPE_ENTITY, MAYBE_DISCRIMINATOR, NONE], // d LocalType
-    [NONE, NONE, NONE, NONE, NONE], // e Builtin
-    [NAME, NONE, NONE, NONE, NONE], // f Vendor
-    [DECIMAL, TYPE, NONE, NONE, NONE], // g Array
-    [MAYBE_C_LINKAGE, TYPE, FUNCTION_REST, NONE, NONE], // h Function
-    [TYPE, NONE, NONE, NONE, NONE], // i Complex
-    [SOURCE_OR_LOCAL, NONE, NONE, NONE, NONE], // j StdType
-    [ABBREVIATION, NONE, NONE, NONE, NONE], // k AbbreviatedType
-    [NONE, NONE, NONE, NONE, NONE], // l RestEnd
-    [AFTER_R, NONE, NONE, NONE, NONE], // m RestLvalue
-    [AFTER_O, NONE, NONE, NONE, NONE], // n RestRvalue
-    [ITEM_BUT_REF, FUNCTION_REST, NONE, NONE, NONE], // o RestItem
-    [NONE, NONE, NONE, NONE, NONE], // p RefEnd
-    [TYPE, FUNCTION_REST, NONE, NONE, NONE], // q LvalueItem
-    [TYPE, FUNCTION_REST, NONE, NONE, NONE], // r RvalueItem
-    [ITEM, ITEMS, NONE, NONE, NONE], // s Items
-    [ARGUMENTS_FIRST, Sym::Byte(b'E'), NONE, NONE, NONE], // t Arguments
-    [PACK_LIST, Sym::Byte(b'E'), ARGUMENT_LIST, NONE, NONE], // u PackArgument
-    [LITERAL, Sym::Byte(b'E'), ARGUMENT_LIST, NONE, NONE], // v LiteralArgument
-    [Sym::Byte(b'a'), Sym::Byte(b'd'), ADDRESS, ARGUMENT_LIST, NONE], // w AddressArgument
-    [ITEM, ARGUMENT_LIST, NONE, NONE, NONE], // x TypeArgument
-    [LITERAL, Sym::Byte(b'E'), PACK_LIST, NONE, NONE], // y LiteralElement
-    [Sym::Byte(b'a'), Sym::Byte(b'd'), ADDRESS, PACK_LIST, NONE], // z AddressElement
-    [ITEM, PACK_LIST, NONE, NONE, NONE], // { TypeElement
-    [Sym::Byte(b'_'), Sym::Byte(b'Z'), ENCODING, Sym::Byte(b'E'), Sym::Byte(b'E')], // | Address
-    [Sym::Byte(b'Z'), ENCODING, NONE, NONE, NONE], // } EncodingLiteral
-    [BIT, NONE, NONE, NONE, NONE], // ~ BoolLiteral
-    [LITERAL_AFTER_D, NONE, NONE, NONE, NONE], // \x7f LiteralWithD
-    [LITERAL_TYPE, INTEGER, NONE, NONE, NONE], // \x80 IntegerLiteral
-    [MAYBE_ZERO, NONE, NONE, NONE, NONE], // \x81 NullLiteral
-    [INTEGER, NONE, NONE, NONE, NONE], // \x82 CharLiteral
-    [OPERATOR_AFTER_N, NONE, NONE, NONE, NONE], // \x83 OperatorN
-    [OPERATOR_AFTER_D, NONE, NONE, NONE, NONE], // \x84 OperatorD
-    [OPERATOR_AFTER_A, NONE, NONE, NONE, NONE], // \x85 OperatorA
-    [OPERATOR_AFTER_P, NONE, NONE, NONE, NONE], // \x86 OperatorP
-    [OPERATOR_AFTER_C, NONE, NONE, NONE, NONE], // \x87 OperatorC
-    [OPERATOR_AFTER_M, NONE, NONE, NONE, NONE], // \x88 OperatorM
-    [OPERATOR_AFTER_R, NONE, NONE, NONE, NONE], // \x89 OperatorR
-    [OPERATOR_AFTER_O, NONE, NONE, NONE, NONE], // \x8a OperatorO
-    [OPERATOR_AFTER_E, NONE, NONE, NONE, NONE], // \x8b OperatorE
-    [OPERATOR_AFTER_L, NONE, NONE, NONE, NONE], // \x8c OperatorL
-    [OPERATOR_AFTER_S, NONE, NONE, NONE, NONE], // \x8d OperatorS
-    [OPERATOR_AFTER_I, NONE, NONE, NONE, NONE], // \x8e OperatorI
-    [OPERATOR_AFTER_G, NONE, NONE, NONE, NONE], // \x8f OperatorG
-    [NAME, NONE, NONE, NONE, NONE], // \x90 LiteralOperator
-    [ARGUMENTS_FIRST, Sym::Byte(b'E'), NEST_TAIL, NONE, NONE], // \x91 NestInstance
-    [TYPE, NONE, NONE, NONE, NONE], // \x92 Conversion
-    [OPERATOR_AFTER_C, MAYBE_ARGUMENTS, NONE, NONE, NONE], // \x93 OperatorNameWithC
-    [CLONE_LETTER, ENCODING, NONE, NONE, NONE], // \x94 Clone
-    [SOURCE_OR_LOCAL, MAYBE_TAGS, NONE, NONE, NONE], // \x95 TaggedStdType
-    [NAME, MAYBE_TAGS, NONE, NONE, NONE], // \x96 TypeTag
-    [EXPRESSION_REST, NONE, NONE, NONE, NONE], // \x97 Expression
-    [ARGUMENT_AFTER_T, NONE, NONE, NONE, NONE], // \x98 ArgumentWithT
-    [SOLID_BUT_T, NONE, NONE, NONE, NONE], // \x99 PlainArgument
-    [DECLARATION_AFTER_T, ONE_ARGUMENT, NONE, NONE, NONE], // \x9a DeclaredArgument
-    [DECIMAL, ARGUMENTS_ALONE, NONE, NONE, NONE], // \x9b ParameterArgument
-    [LITERAL, Sym::Byte(b'E'), NONE, NONE, NONE], // \x9c OneLiteral
-    [PACK_LIST, Sym::Byte(b'E'), NONE, NONE, NONE], // \x9d OnePack
-    [NONE, NONE, NONE, NONE, NONE], // \x9e AnyType
-    [TYPE, NONE, NONE, NONE, NONE], // \x9f ValueOf
-    [CONCEPT, NONE, NONE, NONE, NONE], // \xa0 OfConcept
-    [DECLARATIONS, Sym::Byte(b'E'), NONE, NONE, NONE], // \xa1 TemplateOf
-    [Sym::Byte(b'T'), DECLARATION_AFTER_T, NONE, NONE, NONE], // \xa2 PackOf
-    [DECLARATION_AFTER_T, DECLARATIONS, NONE, NONE, NONE], // \xa3 Declarations
-    [Sym::Byte(b'd'), ADDRESS, NONE, NONE, NONE], // \xa4 AddressExpression
-    [DECIMAL, Sym::Byte(b'E'), NONE, NONE, NONE], // \xa5 ParameterExpression
-    [ARRAY_REST, NONE, NONE, NONE, NONE], // \xa6 AnyArray
-    [DECIMAL, Sym::Byte(b'_'), TYPE, NONE, NONE], // \xa7 BoundedArray
-    [DECIMAL, TYPE, NONE, NONE, NONE], // \xa8 LengthArray
-    [SPECIAL_MARK, SPECIAL_AFTER_G, NONE, NONE, NONE], // \xa9 OtherSpecial
-    [COMPLETE_NAME, NONE, NONE, NONE, NONE], // \xaa SpecialName
-    [TYPE, DIGITS, Sym::Byte(b'_'), TYPE, NONE], // \xab ConstructionVtable
-    [ABBREVIATION, NEST_REST_OR_END, NONE, NONE, NONE], // \xac NestTemplate
-    [NAME, NEST_REST, NONE, NONE, NONE], // \xad NestTag
-    [COMPONENT_AFTER_C, NONE, NONE, NONE, NONE], // \xae ComponentWithC
-    [OTHER_OPERATOR, MAYBE_ARGUMENTS, NONE, NONE, NONE], // \xaf OtherOperatorName
-    [HOLDER_MARK, HELD_COMPONENT, NONE, NONE, NONE], // \xb0 Holder
-    [DECIMAL, PLAIN_ENTITY, NONE, NONE, NONE], // \xb1 DefaultEntity
-    [DECIMAL, PLAIN_TYPE_ENTITY, NONE, NONE, NONE], // \xb2 DefaultTypeEntity
-    [DIGITS, FLOAT_END, NONE, NONE, NONE], // \xb3 SizedFloat
-    [CONCEPT, NONE, NONE, NONE, NONE], // \xb4 ConstrainedAuto
-    [ANY_ARRAY, NONE, NONE, NONE, NONE], // \xb5 ArrayType
-    [TYPE_IN_STD, NONE, NONE, NONE, NONE], // \xb6 TypeInStd
-    [NAME, MAYBE_ARGUMENTS, NONE, NONE, NONE], // \xb7 Tag
-    [ARGUMENT, PACK_LIST, NONE, NONE, NONE], // \xb8 AnyElement
-    [ARGUMENT, ARGUMENT_LIST, NONE, NONE, NONE], // \xb9 AnyArgument
+    [COMPLETE_NAME, NONE, NONE, NONE, NONE], // 4 SpecialName
+    [TYPE, DIGITS, Sym::Byte(b'_'), TYPE, NONE], // 5 ConstructionVtable
+    [INTEGER, Sym::Byte(b'_'), NONE, NONE, NONE], // 6 NonVirtualOffset
+    [INTEGER, Sym::Byte(b'_'), INTEGER, Sym::Byte(b'_'), NONE], // 7 VirtualOffset
+    [DIGITS, NONE, NONE, NONE, NONE], // 8 Negative
+    [DIGITS, NONE, NONE, NONE, NONE], // 9 Positive
+    [NAME_AFTER_S, NONE, NONE, NONE, NONE], // : NameWithS
+    [ENCODING, Sym::Byte(b'E'), ENTITY, MAYBE_DISCRIMINATOR, NONE], // ; LocalName
+    [UNQUALIFIED, MAYBE_ARGUMENTS, NONE, NONE, NONE], // < StdName
+    [ABBREVIATION, ARGUMENTS, NONE, NONE, NONE], // = AbbreviatedName
+    [OPERATOR, NONE, NONE, NONE, NONE], // > OperatorPiece
+    [NEST_AFTER_S, NONE, NONE, NONE, NONE], // ? NestWithS
+    [DECIMAL, NEST_REST_ALONE, NONE, NONE, NONE], // @ NestParameter
+    [NAME, NEST_REST, NONE, NONE, NONE], // A NestInternal
+    [ANONYMOUS, NEST_REST, NONE, NONE, NONE], // B NestLocalType
+    [NAME, NEST_REST, NONE, NONE, NONE], // C NestSource
+    [UNQUALIFIED, MAYBE_ARGUMENTS, NEST_TAIL, NONE, NONE], // D NestStd
+    [ABBREVIATION, NEST_REST_OR_END, NONE, NONE, NONE], // E NestTemplate
+    [ARGUMENTS_FIRST, Sym::Byte(b'E'), COMPONENT, NEST_TAIL, NONE], // F NestArguments
+    [COMPONENT, NEST_TAIL, NONE, NONE, NONE], // G NestNext
+    [NAME, NEST_REST, NONE, NONE, NONE], // H NestTag
+    [NONE, NONE, NONE, NONE, NONE], // I NestEnd
+    [CONSTRUCTOR_DIGIT, MAYBE_ARGUMENTS, NONE, NONE, NONE], // J Constructor
+    [DESTRUCTOR_DIGIT, MAYBE_ARGUMENTS, NONE, NONE, NONE], // K Destructor
+    [COMPONENT_AFTER_C, NONE, NONE, NONE, NONE], // L ComponentWithC
+    [OTHER_OPERATOR, MAYBE_ARGUMENTS, NONE, NONE, NONE], // M OtherOperatorName
+    [HOLDER_MARK, HELD_COMPONENT, NONE, NONE, NONE], // N Holder
+    [NONE, NONE, NONE, NONE, NONE], // O Abbreviation
+    [SEQ36, NONE, NONE, NONE, NONE], // P Substitution
+    [NEST, NONE, NONE, NONE, NONE], // Q NestedType
+    [NONE, NONE, NONE, NONE, NONE], // R StringLiteral
+    [DECIMAL, PLAIN_ENTITY, NONE, NONE, NONE], // S DefaultEntity
+    [DECIMAL, PLAIN_TYPE_ENTITY, NONE, NONE, NONE], // T DefaultTypeEntity
+    [DISCRIMINATOR_REST, NONE, NONE, NONE, NONE], // U Discriminator
+    [NONE, NONE, NONE, NONE, NONE], // V OneDigit
+    [DIGITS, Sym::Byte(b'_'), NONE, NONE, NONE], // W ManyDigits
+    [ITEM, ITEMS, Sym::Byte(b'E'), DECIMAL, NONE], // X Lambda
+    [DECIMAL, NONE, NONE, NONE, NONE], // Y Unnamed
+    [MAYBE_VOLATILE, MAYBE_CONST, PLAIN, NONE, NONE], // Z RestrictType
+    [MAYBE_CONST, PLAIN, NONE, NONE, NONE], // [ VolatileType
+    [PLAIN, NONE, NONE, NONE, NONE], // \\ ConstType
+    [TYPE, NONE, NONE, NONE, NONE], // ] ReferenceType
+    [SOLID, NONE, NONE, NONE, NONE], // ^ PlainType
+    [AFTER_D, NONE, NONE, NONE, NONE], // _ TypeWithD
+    [AFTER_D, NONE, NONE, NONE, NONE], // ` PlainWithD
+    [SOLID, NONE, NONE, NONE, NONE], // a QualifiedPlain
+    [ITEM_AFTER_D, NONE, NONE, NONE, NONE], // b ItemWithD
+    [TYPE, NONE, NONE, NONE, NONE], // c Expansion
+    [AFTER_D, NONE, NONE, NONE, NONE], // d ItemIsType
+    [NONE, NONE, NONE, NONE, NONE], // e BuiltinWithD
+    [DIGITS, Sym::Byte(b'_'), TYPE, NONE, NONE], // f Vector
+    [Sym::Byte(b'F'), MAYBE_C_LINKAGE, TYPE, FUNCTION_REST, NONE], // g NoexceptFunction
+    [DIGITS, FLOAT_END, NONE, NONE, NONE], // h SizedFloat
+    [CONCEPT, NONE, NONE, NONE, NONE], // i ConstrainedAuto
+    [TYPE, NONE, NONE, NONE, NONE], // j Pointer
+    [TYPE, TYPE, NONE, NONE, NONE], // k MemberPointer
+    [DECIMAL, ARGUMENTS_ALONE, NONE, NONE, NONE], // l Parameter
+    [TYPE_AFTER_S, ARGUMENTS_ALONE, NONE, NONE, NONE], // m TypeWithS
+    [ENCODING, Sym::Byte(b'E'), TYPE_ENTITY, MAYBE_DISCRIMINATOR, NONE], // n LocalType
+    [NONE, NONE, NONE, NONE, NONE], // o Builtin
+    [NAME, NONE, NONE, NONE, NONE], // p Vendor
+    [ANY_ARRAY, NONE, NONE, NONE, NONE], // q ArrayType
+    [MAYBE_C_LINKAGE, TYPE, FUNCTION_REST, NONE, NONE], // r Function
+    [TYPE, NONE, NONE, NONE, NONE], // s Complex
+    [TYPE_IN_STD, NONE, NONE, NONE, NONE], // t TypeInStd
+    [ABBREVIATION, NONE, NONE, NONE, NONE], // u AbbreviatedType
+    [NONE, NONE, NONE, NONE, NONE], // v RestEnd
+    [AFTER_R, NONE, NONE, NONE, NONE], // w RestLvalue
+    [AFTER_O, NONE, NONE, NONE, NONE], // x RestRvalue
+    [ITEM_BUT_REF, FUNCTION_REST, NONE, NONE, NONE], // y RestItem
+    [NONE, NONE, NONE, NONE, NONE], // z RefEnd
+    [TYPE, FUNCTION_REST, NONE, NONE, NONE], // { LvalueItem
+    [TYPE, FUNCTION_REST, NONE, NONE, NONE], // | RvalueItem
+    [ITEM, ITEMS, NONE, NONE, NONE], // } Items
+    [ARGUMENTS_FIRST, Sym::Byte(b'E'), NONE, NONE, NONE], // ~ Arguments
+    [NAME, MAYBE_ARGUMENTS, NONE, NONE, NONE], // \x7f Tag
+    [PACK_LIST, Sym::Byte(b'E'), ARGUMENT_LIST, NONE, NONE], // \x80 PackArgument
+    [LITERAL, Sym::Byte(b'E'), ARGUMENT_LIST, NONE, NONE], // \x81 LiteralArgument
+    [ARGUMENT, ARGUMENT_LIST, NONE, NONE, NONE], // \x82 AnyArgument
+    [LITERAL, Sym::Byte(b'E'), PACK_LIST, NONE, NONE], // \x83 LiteralElement
+    [ARGUMENT, PACK_LIST, NONE, NONE, NONE], // \x84 AnyElement
+    [Sym::Byte(b'_'), Sym::Byte(b'Z'), ENCODING, Sym::Byte(b'E'), Sym::Byte(b'E')], // \x85 Address
+    [Sym::Byte(b'Z'), ENCODING, NONE, NONE, NONE], // \x86 EncodingLiteral
+    [BIT, NONE, NONE, NONE, NONE], // \x87 BoolLiteral
+    [LITERAL_AFTER_D, NONE, NONE, NONE, NONE], // \x88 LiteralWithD
+    [LITERAL_TYPE, INTEGER, NONE, NONE, NONE], // \x89 IntegerLiteral
+    [MAYBE_ZERO, NONE, NONE, NONE, NONE], // \x8a NullLiteral
+    [INTEGER, NONE, NONE, NONE, NONE], // \x8b CharLiteral
+    [OPERATOR_AFTER_N, NONE, NONE, NONE, NONE], // \x8c OperatorN
+    [OPERATOR_AFTER_D, NONE, NONE, NONE, NONE], // \x8d OperatorD
+    [OPERATOR_AFTER_A, NONE, NONE, NONE, NONE], // \x8e OperatorA
+    [OPERATOR_AFTER_P, NONE, NONE, NONE, NONE], // \x8f OperatorP
+    [OPERATOR_AFTER_C, NONE, NONE, NONE, NONE], // \x90 OperatorC
+    [OPERATOR_AFTER_M, NONE, NONE, NONE, NONE], // \x91 OperatorM
+    [OPERATOR_AFTER_R, NONE, NONE, NONE, NONE], // \x92 OperatorR
+    [OPERATOR_AFTER_O, NONE, NONE, NONE, NONE], // \x93 OperatorO
+    [OPERATOR_AFTER_E, NONE, NONE, NONE, NONE], // \x94 OperatorE
+    [OPERATOR_AFTER_L, NONE, NONE, NONE, NONE], // \x95 OperatorL
+    [OPERATOR_AFTER_S, NONE, NONE, NONE, NONE], // \x96 OperatorS
+    [OPERATOR_AFTER_I, NONE, NONE, NONE, NONE], // \x97 OperatorI
+    [OPERATOR_AFTER_G, NONE, NONE, NONE, NONE], // \x98 OperatorG
+    [NAME, NONE, NONE, NONE, NONE], // \x99 LiteralOperator
+    [ARGUMENTS_FIRST, Sym::Byte(b'E'), NEST_MORE_OR_END, NONE, NONE], // \x9a NestInstance
+    [TYPE, NONE, NONE, NONE, NONE], // \x9b Conversion
+    [OPERATOR_AFTER_C, MAYBE_ARGUMENTS, NONE, NONE, NONE], // \x9c OperatorNameWithC
+    [CLONE_LETTER, ENCODING, NONE, NONE, NONE], // \x9d Clone
+    [SOURCE_OR_LOCAL, MAYBE_TAGS, NONE, NONE, NONE], // \x9e TaggedStdType
+    [NAME, MAYBE_TAGS, NONE, NONE, NONE], // \x9f TypeTag
+    [EXPRESSION_REST, NONE, NONE, NONE, NONE], // \xa0 Expression
+    [ARGUMENT_AFTER_T, NONE, NONE, NONE, NONE], // \xa1 ArgumentWithT
+    [SOLID_BUT_T, NONE, NONE, NONE, NONE], // \xa2 PlainArgument
+    [DECLARATION_AFTER_T, ONE_ARGUMENT, NONE, NONE, NONE], // \xa3 DeclaredArgument
+    [DECIMAL, ARGUMENTS_ALONE, NONE, NONE, NONE], // \xa4 ParameterArgument
+    [LITERAL, Sym::Byte(b'E'), NONE, NONE, NONE], // \xa5 OneLiteral
+    [PACK_LIST, Sym::Byte(b'E'), NONE, NONE, NONE], // \xa6 OnePack
+    [NONE, NONE, NONE, NONE, NONE], // \xa7 AnyType
+    [TYPE, NONE, NONE, NONE, NONE], // \xa8 ValueOf
+    [CONCEPT, NONE, NONE, NONE, NONE], // \xa9 OfConcept
+    [DECLARATIONS, Sym::Byte(b'E'), NONE, NONE, NONE], // \xaa TemplateOf
+    [Sym::Byte(b'T'), DECLARATION_AFTER_T, NONE, NONE, NONE], // \xab PackOf
+    [DECLARATION_AFTER_T, DECLARATIONS, NONE, NONE, NONE], // \xac Declarations
+    [Sym::Byte(b'd'), ADDRESS, NONE, NONE, NONE], // \xad AddressExpression
+    [DECIMAL, Sym::Byte(b'E'), NONE, NONE, NONE], // \xae ParameterExpression
+    [ARRAY_REST, NONE, NONE, NONE, NONE], // \xaf AnyArray
+    [DECIMAL, Sym::Byte(b'_'), TYPE, NONE, NONE], // \xb0 BoundedArray
+    [DECIMAL, TYPE, NONE, NONE, NONE], // \xb1 LengthArray
 };
 
 /// The number of the rule that a kind takes at a byte, if it takes one.
 #[inline]
 fn number(kind: u16, byte: u8) -> Option<usize>
     requires { kind < abi.kinds }
-    ensures few { IfSome result (λ number. number < 153) }
+    ensures few { IfSome result (λ number. number < 145) }
     ensures rule { (head : Head) → MatchOption result (abi.rule kind byte ≡ None) (λ number. abi.rule kind byte ≡ Some (listed_rule head number)) }
 {
     match letter_in(&LETTERS[kind as usize], byte) {

@@ -8,61 +8,61 @@ use crate::table::{FIRST_LETTER, HEADS, SYMBOLS};
 use sym_shape::{Rule, letter_in, place_of, symbols_from};
 
 // For each kind a row: for each byte from `$` to `z` the letter of the production that the kind takes there.
-static WIDE_LETTERS: [[u8; 87]; 92] = [
+static WIDE_LETTERS: [[u8; 87]; 93] = [
     // $%&'()*+,-./0123456789:;<=>?@ABCDEFGHIJKLMNOPQRSTUVWXYZ[\]^_`abcdefghijklmnopqrstuvwxyz
     *b"                                                           *                           ", // Symbol
     *b"          +                                                                            ", // MaybeSuffix
     *b",         , ,,,,,,,,,,       ,,,,,,,,,,,,,,,,,,,,,,,,,,    , ,,,,,,,,,,,,,,,,,,,,,,,,,,", // SuffixFirst
     *b",         , ,,,,,,,,,,       ,,,,,,,,,,,,,,,,,,,,,,,,,,    , ,,,,,,,,,,,,,,,,,,,,,,,,,,", // SuffixMore
-    *b"            //////////             \xa9    / /    /-/    /      / /// / /  ///// //       ", // Encoding
-    *b"                               \xab    \xaa0         00 0\xaa           3    1             2    ", // Special
-    *b"                                                                    4             5    ", // CallOffset
-    *b"            7777777777                                                    6            ", // Integer
-    *b"            $$$$$$$$$$                  \" )    8 #    9      % %%% % %  %%%%% %%       ", // CompleteName
+    *b"            //////////             .    / /    /-/    /      / /// / /  ///// //       ", // Encoding
+    *b"                               5    40         00 04           3    1             2    ", // Special
+    *b"                                                                    6             7    ", // CallOffset
+    *b"            9999999999                                                    8            ", // Integer
+    *b"            $$$$$$$$$$                  \" )    : #    ;      % %%% % %  %%%%% %%       ", // CompleteName
     *b"                                                                              !        ", // MaybeRestrict
     *b"                                                  !                                    ", // MaybeVolatile
     *b"                                       !                                               ", // MaybeConst
     *b"                                           !  !                                        ", // MaybeRef
-    *b"            ;;;;;;;;;;       ;;;;;;;;;;;;;;;;;;;;;;;;;;    ; ;; ;    ;     ;   ;:      ", // NameAfterS
-    *b"            ((((((((((                  &        '           < <<< < <  <<<<< <<       ", // Unqualified
-    *b"            AAAAAAAAAA                  ?      =>@                                     ", // Nest
-    *b"            \xac\xac\xac\xac\xac\xac\xac\xac\xac\xac       \xac\xac\xac\xac\xac\xac\xac\xac\xac\xac\xac\xac\xac\xac\xac\xac\xac\xac\xac\xac\xac\xac\xac\xac\xac\xac    \xac \xac\xac \xac    \xac     \xac   \xacB      ", // NestAfterS
-    *b"            EEEEEEEEEE        \xadEE    D  EE       E           E EEE E E  EEEEE EE       ", // NestRest
-    *b"            EEEEEEEEEE         EEF      EE       E           E EEE E E  EEEEE EE       ", // NestTail
-    *b"            $$$$$$$$$$         GH       \"\xb0       #           \xaf \xae\xaf\xaf \xaf \xaf  \xaf\xaf\xaf\xaf\xaf \xaf\xaf       ", // Component
+    *b"            ==========       ==========================    = == =    =     =   =<      ", // NameAfterS
+    *b"            ((((((((((                  &        '           > >>> > >  >>>>> >>       ", // Unqualified
+    *b"            CCCCCCCCCC                  A      ?@B                                     ", // Nest
+    *b"            EEEEEEEEEE       EEEEEEEEEEEEEEEEEEEEEEEEEE    E EE E    E     E   ED      ", // NestAfterS
+    *b"            GGGGGGGGGG        HGG    F  GG       G           G GGG G G  GGGGG GG       ", // NestRest
+    *b"            GGGGGGGGGG         GGI      GG       G           G GGG G G  GGGGG GG       ", // NestTail
+    *b"            $$$$$$$$$$         JK       \"N       #           M LMM M M  MMMMM MM       ", // Component
     *b"             !!!!!                                                                     ", // ConstructorDigit
     *b"            !!! !!                                                                     ", // DestructorDigit
-    *b"            JJJJJJJJJJ       JJJJJJJJJJJJJJJJJJJJJJJJJJ    J II I    I     I   I       ", // Abbreviation
-    *b"            $$$$$$$$$$                  \" )      #              \xb1              L       ", // Entity
-    *b"            $$$$$$$$$$                  \" K      #              \xb2                      ", // TypeEntity
-    *b"                                                           M                           ", // MaybeDiscriminator
-    *b"            NNNNNNNNNN                                     O                           ", // DiscriminatorRest
-    *b"                                                                        P       Q      ", // Anonymous
-    *b"            VVVVVVVVVV       V VW V    T VVUV UVVVS   V      VVVVVVVVVV VVVV  RVVVVVVVV", // Type
-    *b"            YYYYYYYYYY       Y YX Y      YYUY UYYY    Y      YYYYYYYYYY YYYY   YYYYYYYY", // Plain
-    *b"            VVVVVVVVVV       V VZ V    T VVUV UVVVS   V      VVVVVVVVVV VVVV  RVVVVVVVV", // Item
-    *b"            VVVVVVVVVV       V VZ V    T VV V  VVVS   V      VVVVVVVVVV VVVV  RVVVVVVVV", // ItemButRef
-    *b"                                  \\    \\                     \\ \\\\\\\\ \\\\ \\  \\\\[  \\ \\\\    ", // ItemAfterD
-    *b"                                  \xb3    \xb4                     ] ]]]] ]] \xb4  ]_   ] ]^    ", // AfterD
-    *b"            $$$$$$$$$$       \xb5 i  h      aK `  cb#    d      eeeeeeeeee eeee   eefeeeee", // Solid
+    *b"            PPPPPPPPPP       PPPPPPPPPPPPPPPPPPPPPPPPPP    P OO O    O     O   O       ", // Abbreviation
+    *b"            $$$$$$$$$$                  \" )      #              S              R       ", // Entity
+    *b"            $$$$$$$$$$                  \" Q      #              T                      ", // TypeEntity
+    *b"                                                           U                           ", // MaybeDiscriminator
+    *b"            VVVVVVVVVV                                     W                           ", // DiscriminatorRest
+    *b"                                                                        X       Y      ", // Anonymous
+    *b"            ^^^^^^^^^^       ^ ^_ ^    \\ ^^]^ ]^^^[   ^      ^^^^^^^^^^ ^^^^  Z^^^^^^^^", // Type
+    *b"            aaaaaaaaaa       a a` a      aa]a ]aaa    a      aaaaaaaaaa aaaa   aaaaaaaa", // Plain
+    *b"            ^^^^^^^^^^       ^ ^b ^    \\ ^^]^ ]^^^[   ^      ^^^^^^^^^^ ^^^^  Z^^^^^^^^", // Item
+    *b"            ^^^^^^^^^^       ^ ^b ^    \\ ^^ ^  ^^^[   ^      ^^^^^^^^^^ ^^^^  Z^^^^^^^^", // ItemButRef
+    *b"                                  d    d                     d dddd dd d  ddc  d dd    ", // ItemAfterD
+    *b"                                  h    i                     e eeee ee i  eg   e ef    ", // AfterD
+    *b"            $$$$$$$$$$       q s  r      kQ j  ml#    n      oooooooooo oooo   oopooooo", // Solid
     *b"                                                     !                                 ", // MaybeCLinkage
-    *b"            kkkkkkkkkk       kkkkkkkkkkkkkkkkkkkkkkkkkk    k kk k    k     k   k\xb6      ", // TypeAfterS
+    *b"            uuuuuuuuuu       uuuuuuuuuuuuuuuuuuuuuuuuuu    u uu u    u     u   ut      ", // TypeAfterS
     *b"            ((((((((((                  &        '                                     ", // SourceOrLocal
-    *b"            oooooooooo       o oolo    o oono moooo   o      oooooooooo oooo  ooooooooo", // FunctionRest
-    *b"            qqqqqqqqqq       q qqpq    q qqqq qqqqq   q      qqqqqqqqqq qqqq  qqqqqqqqq", // AfterR
-    *b"            rrrrrrrrrr       r rrpr    r rrrr rrrrr   r      rrrrrrrrrr rrrr  rrrrrrrrr", // AfterO
-    *b"            ssssssssss       s ss s    s ssss sssss   s      ssssssssss ssss  sssssssss", // Items
-    *b"                              \xb7      t                                                 ", // MaybeArguments
-    *b"                                     t                                                 ", // Arguments
-    *b"            \xb9\xb9\xb9\xb9\xb9\xb9\xb9\xb9\xb9\xb9       \xb9 \xb9\xb9 \xb9   u\xb9v\xb9\xb9\xb9\xb9 \xb9\xb9\xb9\xb9\xb9 \xb9 \xb9      \xb9\xb9\xb9\xb9\xb9\xb9\xb9\xb9\xb9\xb9 \xb9\xb9\xb9\xb9  \xb9\xb9\xb9\xb9\xb9\xb9\xb9\xb9\xb9", // ArgumentList
-    *b"            \xb8\xb8\xb8\xb8\xb8\xb8\xb8\xb8\xb8\xb8       \xb8 \xb8\xb8 \xb8    \xb8y\xb8\xb8\xb8\xb8 \xb8\xb8\xb8\xb8\xb8 \xb8 \xb8      \xb8\xb8\xb8\xb8\xb8\xb8\xb8\xb8\xb8\xb8 \xb8\xb8\xb8\xb8  \xb8\xb8\xb8\xb8\xb8\xb8\xb8\xb8\xb8", // PackList
-    *b"                                        |                                              ", // Address
-    *b"            \x80\x80\x80\x80\x80\x80\x80\x80\x80\x80          \x7f        \x80\x80 \x80  \x80\x80\x80    \x80    } \x80~\x80    \x80\x80\x80 \x80\x80\x80\x80   \x80\x80  \x80\x80\x80 ", // Literal
+    *b"            yyyyyyyyyy       y yyvy    y yyxy wyyyy   y      yyyyyyyyyy yyyy  yyyyyyyyy", // FunctionRest
+    *b"            {{{{{{{{{{       { {{z{    { {{{{ {{{{{   {      {{{{{{{{{{ {{{{  {{{{{{{{{", // AfterR
+    *b"            ||||||||||       | ||z|    | |||| |||||   |      |||||||||| ||||  |||||||||", // AfterO
+    *b"            }}}}}}}}}}       } }} }    } }}}} }}}}}   }      }}}}}}}}}} }}}}  }}}}}}}}}", // Items
+    *b"                              \x7f      ~                                                 ", // MaybeArguments
+    *b"                                     ~                                                 ", // Arguments
+    *b"            \x82\x82\x82\x82\x82\x82\x82\x82\x82\x82       \x82 \x82\x82 \x82   \x80\x82\x81\x82\x82\x82\x82 \x82\x82\x82\x82\x82 \x82 \x82      \x82\x82\x82\x82\x82\x82\x82\x82\x82\x82 \x82\x82\x82\x82  \x82\x82\x82\x82\x82\x82\x82\x82\x82", // ArgumentList
+    *b"            \x84\x84\x84\x84\x84\x84\x84\x84\x84\x84       \x84 \x84\x84 \x84    \x84\x83\x84\x84\x84\x84 \x84\x84\x84\x84\x84 \x84 \x84      \x84\x84\x84\x84\x84\x84\x84\x84\x84\x84 \x84\x84\x84\x84  \x84\x84\x84\x84\x84\x84\x84\x84\x84", // PackList
+    *b"                                        \x85                                              ", // Address
+    *b"            \x89\x89\x89\x89\x89\x89\x89\x89\x89\x89          \x88        \x89\x89 \x89  \x89\x89\x89    \x89    \x86 \x89\x87\x89    \x89\x89\x89 \x89\x89\x89\x89   \x89\x89  \x89\x89\x89 ", // Literal
     *b"            !!                                                                         ", // Bit
-    *b"                                                                     \x82    \x81    \x82 \x82     ", // LiteralAfterD
+    *b"                                                                     \x8b    \x8a    \x8b \x8b     ", // LiteralAfterD
     *b"            !                                                                          ", // MaybeZero
-    *b"            $$$$$$$$$$                   aK `  cb#    d      e e    eee eeee   ee  eee ", // LiteralType
-    *b"                                                             \x85 \x87\x84\x8b \x8f \x8e  \x8c\x88\x83\x8a\x86 \x89\x8d       ", // Operator
+    *b"            $$$$$$$$$$                   kQ j  ml#    n      o o    ooo oooo   oo  ooo ", // LiteralType
+    *b"                                                             \x8e \x90\x8d\x94 \x98 \x97  \x95\x91\x8c\x93\x8f \x92\x96       ", // Operator
     *b"                                                             !   ! !            !  !   ", // OperatorAfterN
     *b"                                                  !          !   !      !         !    ", // OperatorAfterD
     *b"                                          !    !             !  !         !        !   ", // OperatorAfterA
@@ -72,43 +72,44 @@ static WIDE_LETTERS: [[u8; 87]; 92] = [
     *b"                                         !     !                         !     !       ", // OperatorAfterR
     *b"                                              !                            !  !        ", // OperatorAfterO
     *b"                                           !                               ! !         ", // OperatorAfterE
-    *b"                                               !                 !   \x90         !!      ", // OperatorAfterL
+    *b"                                               !                 !   \x99         !!      ", // OperatorAfterL
     *b"                                                                               !       ", // OperatorAfterS
     *b"                                                                                    !  ", // OperatorAfterI
     *b"                                                                 !              !      ", // OperatorAfterG
-    *b"            EEEEEEEEEE         EE    \x91  EE       E           E EEE E E  EEEEE EE       ", // NestRestOrEnd
-    *b"                                     t                                                 ", // ArgumentsAlone
-    *b"            EEEEEEEEEE         EE    D  EE       E           E EEE E E  EEEEE EE       ", // NestRestAlone
+    *b"            GGGGGGGGGG         GG    \x9a  GG       G           G GGG G G  GGGGG GG       ", // NestRestOrEnd
+    *b"                                     ~                                                 ", // ArgumentsAlone
+    *b"            GGGGGGGGGG         GG    F  GG       G           G GGG G G  GGGGG GG       ", // NestRestAlone
     *b"                                         !                                             ", // HolderMark
-    *b"            $$$$$$$$$$         GH       \"        #           \xaf \xae\xaf\xaf \xaf \xaf  \xaf\xaf\xaf\xaf\xaf \xaf\xaf       ", // HeldComponent
+    *b"            $$$$$$$$$$         JK       \"        #           M LMM M M  MMMMM MM       ", // HeldComponent
     *b"                                                           !  !                     !  ", // FloatEnd
-    *b"                                                                        \x93\x93 \x93      \x92    ", // ComponentAfterC
-    *b"                                                             \x85  \x84\x8b \x8f \x8e  \x8c\x88\x83\x8a\x86 \x89\x8d       ", // OtherOperator
-    *b"            \xb9\xb9\xb9\xb9\xb9\xb9\xb9\xb9\xb9\xb9       \xb9 \xb9\xb9 \xb9  uu\xb9v\xb9\xb9\xb9\xb9 \xb9\xb9\xb9\xb9\xb9 \xb9 \xb9      \xb9\xb9\xb9\xb9\xb9\xb9\xb9\xb9\xb9\xb9 \xb9\xb9\xb9\xb9  \xb9\xb9\xb9\xb9\xb9\xb9\xb9\xb9\xb9", // ArgumentsFirst
+    *b"                                                                        \x9c\x9c \x9c      \x9b    ", // ComponentAfterC
+    *b"                                                             \x8e  \x8d\x94 \x98 \x97  \x95\x91\x8c\x93\x8f \x92\x96       ", // OtherOperator
+    *b"            \x82\x82\x82\x82\x82\x82\x82\x82\x82\x82       \x82 \x82\x82 \x82  \x80\x80\x82\x81\x82\x82\x82\x82 \x82\x82\x82\x82\x82 \x82 \x82      \x82\x82\x82\x82\x82\x82\x82\x82\x82\x82 \x82\x82\x82\x82  \x82\x82\x82\x82\x82\x82\x82\x82\x82", // ArgumentsFirst
     *b"            $$$$$$$$$$                  \" )      #                                     ", // PlainEntity
-    *b"            $$$$$$$$$$                  \" K      #                                     ", // PlainTypeEntity
+    *b"            $$$$$$$$$$                  \" Q      #                                     ", // PlainTypeEntity
     *b"                                   !                                                   ", // SpecialMark
-    *b"                                                \x94 \xaa                                    ", // SpecialAfterG
+    *b"                                                \x9d 4                                    ", // SpecialAfterG
     *b"                                                                          !     !      ", // CloneLetter
-    *b"                                                                                \x95      ", // TypeInStd
-    *b"                              \x96                                                        ", // MaybeTags
-    *b"            \x99\x99\x99\x99\x99\x99\x99\x99\x99\x99       \x99 \x99Z \x99    T \x99\x99U\x99 U\x99\x98\x99S \x97 \x99      \x99\x99\x99\x99\x99\x99\x99\x99\x99\x99 \x99\x99\x99\x99  R\x99\x99\x99\x99\x99\x99\x99\x99", // Argument
-    *b"            \x9b\x9b\x9b\x9b\x9b\x9b\x9b\x9b\x9b\x9b                                     \x9b           \x9a  \x9a \x9a   \x9a    \x9a ", // ArgumentAfterT
-    *b"            \x99\x99\x99\x99\x99\x99\x99\x99\x99\x99       \x99 \x99Z \x99   \x9dT\x9c\x99\x99U\x99 U\x99\x98\x99S \x97 \x99      \x99\x99\x99\x99\x99\x99\x99\x99\x99\x99 \x99\x99\x99\x99  R\x99\x99\x99\x99\x99\x99\x99\x99", // OneArgument
-    *b"                                                                       \xa0  \x9f \xa2   \xa1    \x9e ", // DeclarationAfterT
-    *b"                                                \xa3                                      ", // Declarations
-    *b"            $$$$$$$$$$                    K    c                                       ", // Concept
-    *b"            $$$$$$$$$$       \xb5 i  h      aK `  c #    d      eeeeeeeeee eeee   eefeeeee", // SolidButT
-    *b"                                                \xa5            \xa4                         ", // ExpressionRest
-    *b"                             \xa6                                                         ", // AnyArray
-    *b"            \xa8\xa8\xa8\xa8\xa8\xa8\xa8\xa8\xa8\xa8                          \xa7          \xa8                           ", // ArrayRest
+    *b"                                                                                \x9e      ", // TypeInStd
+    *b"                              \x9f                                                        ", // MaybeTags
+    *b"            \xa2\xa2\xa2\xa2\xa2\xa2\xa2\xa2\xa2\xa2       \xa2 \xa2b \xa2    \\ \xa2\xa2]\xa2 ]\xa2\xa1\xa2[ \xa0 \xa2      \xa2\xa2\xa2\xa2\xa2\xa2\xa2\xa2\xa2\xa2 \xa2\xa2\xa2\xa2  Z\xa2\xa2\xa2\xa2\xa2\xa2\xa2\xa2", // Argument
+    *b"            \xa4\xa4\xa4\xa4\xa4\xa4\xa4\xa4\xa4\xa4                                     \xa4           \xa3  \xa3 \xa3   \xa3    \xa3 ", // ArgumentAfterT
+    *b"            \xa2\xa2\xa2\xa2\xa2\xa2\xa2\xa2\xa2\xa2       \xa2 \xa2b \xa2   \xa6\\\xa5\xa2\xa2]\xa2 ]\xa2\xa1\xa2[ \xa0 \xa2      \xa2\xa2\xa2\xa2\xa2\xa2\xa2\xa2\xa2\xa2 \xa2\xa2\xa2\xa2  Z\xa2\xa2\xa2\xa2\xa2\xa2\xa2\xa2", // OneArgument
+    *b"                                                                       \xa9  \xa8 \xab   \xaa    \xa7 ", // DeclarationAfterT
+    *b"                                                \xac                                      ", // Declarations
+    *b"            $$$$$$$$$$                    Q    m                                       ", // Concept
+    *b"            $$$$$$$$$$       q s  r      kQ j  m #    n      oooooooooo oooo   oopooooo", // SolidButT
+    *b"                                                \xae            \xad                         ", // ExpressionRest
+    *b"                             \xaf                                                         ", // AnyArray
+    *b"            \xb1\xb1\xb1\xb1\xb1\xb1\xb1\xb1\xb1\xb1                          \xb0          \xb1                           ", // ArrayRest
+    *b"            GGGGGGGGGG         GGI      GG       G           G GGG G G  GGGGG GG       ", // NestMoreOrEnd
 ];
 
 /// The number of the rule that a kind takes at a byte, if it takes one.
 #[inline]
 fn number(kind: u16, byte: u8) -> Option<usize>
     requires { kind < wide.kinds }
-    ensures few { IfSome result (λ number. number < 153) }
+    ensures few { IfSome result (λ number. number < 145) }
     ensures rule { (head : Head) → MatchOption result (wide.rule kind byte ≡ None) (λ number. wide.rule kind byte ≡ Some (listed_rule head number)) }
 {
     match letter_in(&WIDE_LETTERS[kind as usize], byte) {

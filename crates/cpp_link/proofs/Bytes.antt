@@ -7,7 +7,7 @@ use Rattle.sym_link.specs.Reading.{Open}
 use Rattle.sym_link.specs.Threads.{IsThere}
 use Rattle.cpp_grammar.specs.declared.production.Production.{Production}
 use Rattle.cpp_grammar.specs.Grammar.{is_chain}
-use Rattle.cpp_grammar.specs.Table.{either, rule_of}
+use Rattle.cpp_grammar.specs.Table.{wide, rule_of}
 use Rattle.cpp_grammar.specs.Unfolding.{production_at, byte_of}
 use Rattle.cpp_grammar.proofs.ClosedTrees.{Taken, taken_rule, at_number}
 use Rattle.cpp_term.specs.Values.{State, Value, Around}
@@ -29,7 +29,6 @@ any_byte s Production.Positive b c around place began vs state chain = refl
 any_byte s Production.AbbreviatedName b c around place began vs state chain = refl
 any_byte s Production.OperatorPiece b c around place began vs state chain = refl
 any_byte s Production.NestSource b c around place began vs state chain = refl
-any_byte s Production.NestAbbreviated b c around place began vs state chain = refl
 any_byte s Production.NestTemplate b c around place began vs state chain = refl
 any_byte s Production.Holder b c around place began vs state chain = refl
 any_byte s Production.OtherSpecial b c around place began vs state chain = refl
@@ -44,8 +43,6 @@ any_byte s Production.RestItem b c around place began vs state chain = refl
 any_byte s Production.LvalueItem b c around place began vs state chain = refl
 any_byte s Production.RvalueItem b c around place began vs state chain = refl
 any_byte s Production.Items b c around place began vs state chain = refl
-any_byte s Production.TypeArgument b c around place began vs state chain = refl
-any_byte s Production.TypeElement b c around place began vs state chain = refl
 any_byte s Production.AnyArgument b c around place began vs state chain = refl
 any_byte s Production.AnyElement b c around place began vs state chain = refl
 any_byte s Production.PlainArgument b c around place began vs state chain = refl
@@ -72,7 +69,7 @@ by_eating : (s : List ℕ) (place b : ℕ) (taken more : List ℕ) (p : Producti
 by_eating s place b taken more p true around began vs state chain is at = any_byte s p (byte_of taken) (slice_index s place) around place began vs state chain
 by_eating s place b taken more p false around began vs state chain is at = ap (λ c. link_close s p c around place began vs state) (byte_is s place b taken more is at)
 
-pub byte_serves : (s : List ℕ) (rule : Open State Around) (known : List Value) (state : State) → IsThere either s rule
+pub byte_serves : (s : List ℕ) (rule : Open State Around) (known : List Value) (state : State) → IsThere wide s rule
     → link_close s (production_at rule.rule.number) (byte_of rule.taken) rule.context rule.place rule.before known state
     ≡ link_close s (production_at rule.rule.number) (slice_index s rule.place) rule.context rule.place rule.before known state
 unfolding rule_of

@@ -37,11 +37,11 @@ unfoldable pub becomes_candidate : ℕ → Bool
 becomes_candidate k =
     nat_eq k 15 || nat_eq k 16 || nat_eq k 17 || nat_eq k 18 || nat_eq k 22
     || nat_eq k 32 || nat_eq k 33 || nat_eq k 34 || nat_eq k 36 || nat_eq k 51 || nat_eq k 66 || nat_eq k 68 || nat_eq k 80
-    || nat_eq k 83 || nat_eq k 87 || nat_eq k 88 || nat_eq k 90 || nat_eq k 91
+    || nat_eq k 83 || nat_eq k 87 || nat_eq k 88 || nat_eq k 90 || nat_eq k 91 || nat_eq k 92
 
 -- what goes on with the name so far, and arguments behind it
 unfoldable pub goes_on : ℕ → Bool
-goes_on k = nat_eq k 17 || nat_eq k 18 || nat_eq k 66 || nat_eq k 68
+goes_on k = nat_eq k 17 || nat_eq k 18 || nat_eq k 66 || nat_eq k 68 || nat_eq k 92
 
 unfoldable pub is_arguments : ℕ → Bool
 is_arguments k = nat_eq k 42 || nat_eq k 43 || nat_eq k 67 || nat_eq k 81
@@ -87,7 +87,6 @@ may_leave Production.NestInternal = true
 may_leave Production.NestLocalType = true
 may_leave Production.NestSource = true
 may_leave Production.NestStd = true
-may_leave Production.NestAbbreviated = true
 may_leave Production.NestTemplate = true
 may_leave Production.NestArguments = true
 may_leave Production.NestInstance = true
@@ -109,10 +108,8 @@ may_leave Production.TypeWithS = true
 may_leave Production.LocalType = true
 may_leave Production.Builtin = true
 may_leave Production.Vendor = true
-may_leave Production.Array = true
 may_leave Production.Function = true
 may_leave Production.Complex = true
-may_leave Production.StdType = true
 may_leave Production.AbbreviatedType = true
 may_leave Production.SizedFloat = true
 may_leave Production.TaggedStdType = true

@@ -1,16 +1,14 @@
 -- Each production appends to the candidates what was pending or what it makes.
 use Rattle.std.proofs.Common.{◌≡◌, refl, ap, sym, ◌∙◌, subst, arith, ℕ, ◌+◌, ◌≤◌, List, [], ◌∷◌, length, Bool, true, false, not, ◌&&◌, cond, Result, Ok, Err}
 use Rattle.sym_core.specs.declared.refusal.Refusal.TheVariants.{BadReference}
-use Rattle.std.specs.Prelude.{None}
-use Rattle.sym_core.specs.declared.NumberKind.TheVariants.{Decimal}
+use Rattle.std.specs.Prelude.{None, ◌-◌, slice_get}
+use Rattle.sym_core.specs.declared.NumberKind.TheVariants.{Decimal, Seq36}
 use Rattle.sym_core.specs.Value.{counted_value}
-use Rattle.sym_core.specs.declared.NumberKind.TheVariants.{Seq36}
-use Rattle.std.specs.Prelude.{◌-◌, slice_get}
 use Rattle.sym_shape.specs.declared.rule.Sym.TheVariants.{Kind as OfKind, Name, Number, Byte}
 use Rattle.sym_link.specs.Reading.{Found, Next}
 use Rattle.sym_link.specs.Unfold.{found}
 use Rattle.cpp_grammar.specs.declared.production.Production.{Production}
-use Rattle.cpp_grammar.specs.KindNumbers.{INTEGER, UNQUALIFIED, NEST, NEST_AFTER_S, NEST_REST, NEST_REST_OR_END, NEST_REST_ALONE, ARGUMENTS_ALONE, NEST_TAIL, COMPONENT, HOLDER_MARK, HELD_COMPONENT, COMPONENT_AFTER_C, OPERATOR_AFTER_C, OTHER_OPERATOR, CONSTRUCTOR_DIGIT, DESTRUCTOR_DIGIT, ABBREVIATION, ANONYMOUS, ITEM_AFTER_D, AFTER_D, SOLID, TYPE_AFTER_S, TYPE_IN_STD, SOURCE_OR_LOCAL, MAYBE_TAGS, ARGUMENT_AFTER_T, SOLID_BUT_T, ANY_ARRAY, ARRAY_REST, MAYBE_ARGUMENTS, ARGUMENTS, ARGUMENTS_FIRST, LITERAL_TYPE, OPERATOR}
+use Rattle.cpp_grammar.specs.KindNumbers.{INTEGER, UNQUALIFIED, NEST, NEST_AFTER_S, NEST_REST, NEST_REST_OR_END, NEST_MORE_OR_END, NEST_REST_ALONE, ARGUMENTS_ALONE, NEST_TAIL, COMPONENT, HOLDER_MARK, HELD_COMPONENT, COMPONENT_AFTER_C, OPERATOR_AFTER_C, OTHER_OPERATOR, CONSTRUCTOR_DIGIT, DESTRUCTOR_DIGIT, ABBREVIATION, ANONYMOUS, ITEM_AFTER_D, AFTER_D, SOLID, TYPE_AFTER_S, TYPE_IN_STD, SOURCE_OR_LOCAL, MAYBE_TAGS, ARGUMENT_AFTER_T, SOLID_BUT_T, ANY_ARRAY, ARRAY_REST, MAYBE_ARGUMENTS, ARGUMENTS, ARGUMENTS_FIRST, LITERAL_TYPE, OPERATOR}
 use Rattle.cpp_grammar.specs.Grammar.{parts_of, number_of_kind}
 use Rattle.cpp_grammar.proofs.ClosedStates.{ok_same}
 use Rattle.cpp_term.specs.Term.{Term, source, operator, constructor, destructor, in_std, instance, pack, lvalue, rvalue}
@@ -291,16 +289,6 @@ nest-local-type around place =
     nest-flow Production.NestLocalType around place (OfKind ANONYMOUS) (λ v. extended around.prefix (piece_of v)) (λ a v. refl) (λ state. refl)
     (λ v state. refl) (λ v. refl) (λ v. refl) (λ byte began state u w. refl)
 
-nest-abbreviated : (around : Around) (place : ℕ) → Flow Production.NestAbbreviated around place (OfKind ABBREVIATION ∷ OfKind NEST_REST_ALONE ∷ []) [] 0
-unfolding pending pending_around goes_on is_arguments is_component becomes_candidate between listed_so_far makes_before made_before part leaves makes_name may_leave meaning close behind
-nest-abbreviated around place = λ state next e. came (going [] around state) next e
-    (quiet (going [] around state) (omega arith) (λ v. refl) (λ v.
-    λ later after_ f. came (going (tree (tree_of v) true ∷ []) (after (tree_of v) true around) later) after_ f
-    (rest-step Production.NestAbbreviated around place 68 0 0 later (tree (tree_of v) true ∷ []) (tree_of v) true later (λ a w. refl)
-    (λ w. refl)
-    (omega arith)
-    (λ w. same-closes Production.NestAbbreviated around place (tree (tree_of v) true ∷ w ∷ []) w (λ u. refl) (λ byte began last. refl)))))
-
 nest-template : (around : Around) (place : ℕ) → Flow Production.NestTemplate around place (OfKind ABBREVIATION ∷ OfKind NEST_REST_OR_END ∷ []) [] 0
 unfolding pending pending_around goes_on is_arguments is_component becomes_candidate between listed_so_far makes_before made_before part leaves makes_name may_leave meaning close behind
 nest-template around place = λ state next e. came (going [] around state) next e
@@ -402,7 +390,7 @@ nest-arguments around place = λ state next e. came (going [] (inside around) (w
         (quiet (going (v ∷ []) around state) (omega arith) (λ b. refl) (λ b. made v b))
 
 nest-instance : (around : Around) (place : ℕ)
-    → Flow Production.NestInstance around place (OfKind ARGUMENTS_FIRST ∷ Byte 69 ∷ OfKind NEST_TAIL ∷ []) [] (unlisted_around around)
+    → Flow Production.NestInstance around place (OfKind ARGUMENTS_FIRST ∷ Byte 69 ∷ OfKind NEST_MORE_OR_END ∷ []) [] (unlisted_around around)
 unfolding pending pending_around goes_on is_arguments is_component becomes_candidate between named_so_far makes_before made_before part leaves makes_name may_leave meaning close behind
 nest-instance around place = λ state next e. came (going [] (inside around) (with_prefix around state)) next e (record {
   over = 0;
@@ -410,15 +398,15 @@ nest-instance around place = λ state next e. came (going [] (inside around) (wi
   later = λ v. record { now = 0; few = omega arith; goes = ended-by v };
 })
   where
-    made : (v b : Value) → Flow Production.NestInstance around place (OfKind NEST_TAIL ∷ []) (v ∷ b ∷ []) 0
+    made : (v b : Value) → Flow Production.NestInstance around place (OfKind NEST_MORE_OR_END ∷ []) (v ∷ b ∷ []) 0
     made v b = λ state next e. (
         let t : Term = instance (prefix_tree around.prefix) (no_items v) in
         came (going (tree t false ∷ b ∷ []) (after t false around) state) next e
-        (rest-step Production.NestInstance around place 18 1 0 state (tree t false ∷ b ∷ []) t false state (λ a w. refl) (λ w. refl)
+        (rest-step Production.NestInstance around place 92 1 0 state (tree t false ∷ b ∷ []) t false state (λ a w. refl) (λ w. refl)
         (omega arith)
         (λ w. same-closes Production.NestInstance around place (tree t false ∷ b ∷ w ∷ []) w (λ x. refl) (λ byte began last. refl))))
 
-    ended-by : (v : Value) → Flow Production.NestInstance around place (Byte 69 ∷ OfKind NEST_TAIL ∷ []) (v ∷ []) 0
+    ended-by : (v : Value) → Flow Production.NestInstance around place (Byte 69 ∷ OfKind NEST_MORE_OR_END ∷ []) (v ∷ []) 0
     ended-by v = λ state next e. came (going (v ∷ []) around state) next e
         (quiet (going (v ∷ []) around state) (omega arith) (λ b. refl) (λ b. made v b))
 
@@ -602,7 +590,6 @@ flows Production.TypeWithS around place = with-s-type around place
 flows Production.NestInternal around place = nest-internal around place
 flows Production.NestSource around place = nest-source around place
 flows Production.NestLocalType around place = nest-local-type around place
-flows Production.NestAbbreviated around place = nest-abbreviated around place
 flows Production.NestTemplate around place = nest-template around place
 flows Production.NestParameter around place = nest-parameter around place
 flows Production.NestStd around place = nest-std around place
@@ -619,9 +606,6 @@ flows Production.Special around place = plain-flow Production.Special around pla
     (λ vs state next e. kept vs (in_name place) state next 0 e)
     (plain-closes Production.Special around place (λ byte began vs state. refl) (λ byte began vs state. refl) (λ byte vs. omega arith))
     (parts_of Production.Special) refl []
-flows Production.Guard around place = plain-flow Production.Guard around place (λ vs state next e. kept vs (in_name place) state next 0 e)
-    (plain-closes Production.Guard around place (λ byte began vs state. refl) (λ byte began vs state. refl) (λ byte vs. omega arith))
-    (parts_of Production.Guard) refl []
 flows Production.OtherSpecial around place = plain-flow Production.OtherSpecial around place (λ vs state next e. kept vs (in_name place) state next 0 e)
     (plain-closes Production.OtherSpecial around place (λ byte began vs state. refl) (λ byte began vs state. refl) (λ byte vs. omega arith))
     (parts_of Production.OtherSpecial) refl []

@@ -17,13 +17,12 @@ use Rattle.cpp_grammar.specs.declared.kind.Kind.{Kind}
 use Rattle.cpp_grammar.specs.declared.production.Production.{Production}
 use Rattle.cpp_grammar.specs.KindNumbers.{SYMBOL}
 use Rattle.cpp_grammar.specs.Grammar.{Alternative, is_in, pick, kinds, may_be_empty, number_of_kind, parts_of}
-use Rattle.cpp_grammar.specs.Wide.{wide_alternatives}
-use Rattle.cpp_grammar.specs.Either.{either_alternatives, either_choose}
-use Rattle.cpp_grammar.specs.Table.{either, rule_of, rule_taken}
-use Rattle.cpp_grammar.proofs.Widening.{either_sound}
+use Rattle.cpp_grammar.specs.Wide.{wide_alternatives, wide_choose}
+use Rattle.cpp_grammar.specs.Table.{wide, rule_of, rule_taken}
+use Rattle.cpp_grammar.specs.TableLaws.{wide_sound}
 use Rattle.cpp_grammar.specs.Values.{local_number}
 use Rattle.cpp_grammar.specs.Unfolding.{last_token, production_at, byte_of}
-use Rattle.cpp_grammar.proofs.Choosing.{kinds_numbered, number_at, either_rule_at, either_empty_at, is_either_kind}
+use Rattle.cpp_grammar.proofs.Choosing.{kinds_numbered, number_at, wide_rule_at, wide_empty_at, is_wide_kind}
 use Rattle.cpp_grammar.proofs.ClosedStates.{ok_same, behind_bind}
 use Rattle.cpp_grammar.proofs.ClosedTrees.{at_number, its_symbols, same_rule, known}
 use Rattle.cpp_grammar.specs.Values as leaf_
@@ -50,8 +49,8 @@ unfoldable all_fit : (k : ℕ) → List Alternative → Bool
 all_fit k [] = true
 all_fit k (a ∷ rest) = fits k a.production && all_fit k rest
 
-kinds-fit : (kind : Kind) → all_fit (number_of_kind kind) (either_alternatives kind) ≡ true
-unfolding all_fit fits wide_alternatives either_alternatives number_of_kind is_component becomes_candidate goes_on is_arguments makes_name may_leave takes_name begins_arguments
+kinds-fit : (kind : Kind) → all_fit (number_of_kind kind) (wide_alternatives kind) ≡ true
+unfolding all_fit fits wide_alternatives number_of_kind is_component becomes_candidate goes_on is_arguments makes_name may_leave takes_name begins_arguments
 kinds-fit Kind.Symbol = refl
 kinds-fit _ = refl
 
@@ -152,11 +151,11 @@ record OfRule (k : ℕ) (rule : Rule) : Type 0 where
   is : rule ≡ rule_of production
   fit : fits k production ≡ true
 
-rule-taken : (k byte : ℕ) (rule : Rule) → k < either.kinds → either.rule k byte ≡ Some rule → OfRule k rule
-unfolding rule_taken either_choose
+rule-taken : (k byte : ℕ) (rule : Rule) → k < wide.kinds → wide.rule k byte ≡ Some rule → OfRule k rule
+unfolding rule_taken wide_choose
 rule-taken k byte rule lt takes = go (slice_get kinds k) refl
   where
-    chosen : (kind : Kind) → slice_get kinds k ≡ Some kind → (o : Option Production) → either_choose kind byte ≡ o → rule_taken o ≡ Some rule
+    chosen : (kind : Kind) → slice_get kinds k ≡ Some kind → (o : Option Production) → wide_choose kind byte ≡ o → rule_taken o ≡ Some rule
         → OfRule k rule
     chosen kind at None is h = let clash : ◌≡◌ {A = Option Rule} None (Some rule) = h in absurd cc
     chosen kind at (Some p) is h = record {
@@ -164,12 +163,12 @@ rule-taken k byte rule lt takes = go (slice_get kinds k) refl
       is = sym (same_rule p rule h);
       fit = (
           let number : number_of_kind kind ≡ k = omega (arith, number_at 0 kinds k kind kinds_numbered at) in
-          ap (λ n. fits n p) (sym number) ∙ picked-fits (number_of_kind kind) (either_alternatives kind) byte p is (kinds-fit kind));
+          ap (λ n. fits n p) (sym number) ∙ picked-fits (number_of_kind kind) (wide_alternatives kind) byte p is (kinds-fit kind));
     }
 
     go : (o : Option Kind) → slice_get kinds k ≡ o → OfRule k rule
-    go None none = absurd (is_either_kind k lt none)
-    go (Some kind) at = chosen kind at (either_choose kind byte) refl (sym (either_rule_at k kind byte at) ∙ takes)
+    go None none = absurd (is_wide_kind k lt none)
+    go (Some kind) at = chosen kind at (wide_choose kind byte) refl (sym (wide_rule_at k kind byte at) ∙ takes)
 
 -- nothing is pending behind a kind that is empty
 never-empty : (kind : Kind) → not (may_be_empty kind) || not (is_component (number_of_kind kind) || becomes_candidate
@@ -178,7 +177,7 @@ unfolding may_be_empty number_of_kind is_component becomes_candidate
 never-empty Kind.Symbol = refl
 never-empty _ = refl
 
-empty-leaves : (k : ℕ) → k < either.kinds → either.may_be_empty k ≡ true → pending (OfKind k) nothing_there ≡ 0
+empty-leaves : (k : ℕ) → k < wide.kinds → wide.may_be_empty k ≡ true → pending (OfKind k) nothing_there ≡ 0
 unfolding pending in_place
 empty-leaves k lt may = go (slice_get kinds k) refl
   where
@@ -193,10 +192,10 @@ empty-leaves k lt may = go (slice_get kinds k) refl
     tested true false false a is h = none a
 
     go : (o : Option Kind) → slice_get kinds k ≡ o → cond (is_component k) 1 (cond (becomes_candidate k) (unlisted nothing_there) (cond (is_arguments k) 0 0)) ≡ 0
-    go None none = absurd (is_either_kind k lt none)
+    go None none = absurd (is_wide_kind k lt none)
     go (Some kind) at =
         let number : number_of_kind kind ≡ k = omega (arith, number_at 0 kinds k kind kinds_numbered at) in
-        tested (may_be_empty kind) (is_component k) (becomes_candidate k) (is_arguments k) (sym (either_empty_at k kind at) ∙ may)
+        tested (may_be_empty kind) (is_component k) (becomes_candidate k) (is_arguments k) (sym (wide_empty_at k kind at) ∙ may)
         (ap (λ n. not (may_be_empty kind) || not (is_component n || becomes_candidate n)) (sym number) ∙ never-empty kind)
 
 -- ## Trees
@@ -212,7 +211,7 @@ record Few (x : Sym) (around : Around) (old : State) (m : ℕ) (r : Found (List 
 
 abbrev TreeFew : Tree → Type 0
 TreeFew t =
-    (x : Sym) (around : Around) (at : ℕ) (old : State) (m : ℕ) (r : Found (List Value) (Tally State)) → IsSymbol either x → IsTree either x t
+    (x : Sym) (around : Around) (at : ℕ) (old : State) (m : ℕ) (r : Found (List Value) (Tally State)) → IsSymbol wide x → IsTree wide x t
     → unfold_tree counted around at t (tally old m) ≡ Ok r → Few x around old m r
 
 abbrev AllFew : Forest → Type 0
@@ -235,7 +234,7 @@ ends-same p around place state m now vs r flow e =
 
 forest-few : (f : Forest) → AllFew f → (p : Production) (rule : Open (Tally State) Around) → production_at rule.rule.number ≡ p →
     (xs : List Sym)
-    → AreSymbols either xs → AreTrees either xs f → (vs : List Value) (from : ℕ) (state : State) (m now : ℕ)
+    → AreSymbols wide xs → AreTrees wide xs f → (vs : List Value) (from : ℕ) (state : State) (m now : ℕ)
     → Flow p rule.context rule.place xs vs now
     → (r : Found (List Value) (Tally State)) → unfold_forest counted rule vs from f (tally state m) ≡ Ok r
     → Ends p rule.context rule.place state m now r
@@ -294,8 +293,8 @@ branch-few rule taken parts all (OfKind k) around at old m r lt is e =
     let p : Production = t.production in
     let number : production_at rule.number ≡ p = ap (λ y. production_at y.number) t.is ∙ at_number p in
     let own : symbols_of rule ≡ parts_of p = ap symbols_of t.is ∙ its_symbols p in
-    let symbols = subst (AreSymbols either) own (either_sound.symbols k is.0.byte rule lt is.0.is_byte is.0.found) in
-    let trees = subst (λ xs. AreTrees either xs parts) own is.1 in
+    let symbols = subst (AreSymbols wide) own (wide_sound.symbols k is.0.byte rule lt is.0.is_byte is.0.found) in
+    let trees = subst (λ xs. AreTrees wide xs parts) own is.1 in
     let whole : Open (Tally State) Around = standing rule taken at around (tally old m) in
     let from : ℕ = at + length taken in
     let begun : State → Result (Tally State) Refusal = λ state. Ok (tally state m) in
@@ -378,7 +377,7 @@ mutual
 
 -- ## Symbols
 
-noted-few : (shape : Tree) → IsTree either (OfKind SYMBOL) shape → (read : Found (List Value) State)
+noted-few : (shape : Tree) → IsTree wide (OfKind SYMBOL) shape → (read : Found (List Value) State)
     → unfold_tree cpp first_around 0 shape first_state ≡ Ok read
     → 4 + length read.state.candidates ≤ nodes_of_shape shape
 unfolding first_state pending_around goes_on is_arguments
@@ -393,7 +392,7 @@ noted-few shape is read e =
       ap counted_nodes a.is,
     )
 
-pub candidates-few : (shape : Tree) → IsTree either (OfKind SYMBOL) shape → (read : Found (List leaf_.Value) leaf_.State)
+pub candidates-few : (shape : Tree) → IsTree wide (OfKind SYMBOL) shape → (read : Found (List leaf_.Value) leaf_.State)
     → unfold_tree unfolding_.cpp unfolding_.first_around 0 shape unfolding_.first_state ≡ Ok read
     → 4 + length read.state.candidates ≤ nodes_of_shape shape
 candidates-few shape is read e =

@@ -18,7 +18,7 @@ use Rattle.sym_link.specs.Unfold.{standing}
 use Rattle.sym_link.specs.Linking.{IsRuleRow}
 use Rattle.cpp_grammar.specs.declared.production.Production.{Production}
 use Rattle.cpp_grammar.specs.Grammar.{parts_of}
-use Rattle.cpp_grammar.specs.Table.{either}
+use Rattle.cpp_grammar.specs.Table.{wide}
 use Rattle.cpp_grammar.specs.Unfolding.{last_token, production_at}
 use Rattle.cpp_grammar.specs.Values.{local_number}
 use Rattle.cpp_grammar.proofs.ClosedTrees.{at_number, its_symbols, taken_rule}
@@ -157,7 +157,7 @@ digits_last s rows row rule taken inner place behind other row_is inside at last
     }
 
 number_is : (s : List ℕ) (rows : List Row) (row : Row) (rule : Rule) (taken : List ℕ) (inner : Forest) (place kind : ℕ) (behind : List ℕ) (other : Row)
-    → IsRuleRow rows row rule taken inner place → place < length s → kind < either.kinds → IsTree either (Kind kind) (branch rule taken inner)
+    → IsRuleRow rows row rule taken inner place → place < length s → kind < wide.kinds → IsTree wide (Kind kind) (branch rule taken inner)
     → drop place s ≡ taken ++ (spell_all inner ++ behind) → is_numbered (production_at row.rule) ≡ true
     → HasDigits s (get_or rows (row.end - 1) other) (last_token inner [])
 number_is s rows row rule taken inner place kind behind other row_is inside known tree at numbered =
@@ -165,7 +165,7 @@ number_is s rows row rule taken inner place kind behind other row_is inside know
     let same : production_at row.rule ≡ t.production = ap production_at row_is.rule_is ∙ ap (λ r. production_at r.number) t.is ∙ at_number t.production in
     let symbols : symbols_of rule ≡ parts_of t.production = ap symbols_of t.is ∙ its_symbols t.production in
     digits_last s rows row rule taken inner place behind other row_is inside at
-    (last_part either (parts_of t.production) inner (ends_with_number t.production (sym (ap is_numbered same) ∙ numbered)) (subst (λ ss. AreTrees either ss inner) symbols tree.1))
+    (last_part wide (parts_of t.production) inner (ends_with_number t.production (sym (ap is_numbered same) ∙ numbered)) (subst (λ ss. AreTrees wide ss inner) symbols tree.1))
 
 -- ## What the reading says
 
@@ -216,7 +216,7 @@ module _ (s : List ℕ) (rows : List Row) (row : Row) (rule : Rule) (taken : Lis
       go false = ap (λ n. opening (production_at n) inner place state) (sym row_is.rule_is) ∙ opens_plain (production_at row.rule) inner place state plain
 
   pub number_opens : (before kind : ℕ) (behind : List ℕ) (other : Row) (fits : Bool) → place ≡ before + 1 → place < length s → row.end ≤ length rows
-      → kind < either.kinds → IsTree either (Kind kind) (branch rule taken inner)
+      → kind < wide.kinds → IsTree wide (Kind kind) (branch rule taken inner)
       → drop place s ≡ taken ++ (spell_all inner ++ behind) → is_numbered (production_at row.rule) ≡ true
       → (row.end - 1 < length rows → (d : Row) → IsRange s (get_or rows (row.end - 1) d)
       → fits ≡ nat_lt (local_number (slice_range s (get_or rows (row.end - 1) d).from (get_or rows (row.end - 1) d).to)) (2 ^ 64))

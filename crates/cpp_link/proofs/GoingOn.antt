@@ -116,7 +116,6 @@ quiet_between : (p : Production) (around : Around) (place : ℕ) (vs : List Valu
 unfolding between quiet_parts
 quiet_between Production.Encoding around place vs state less = absurd (never vs less)
 quiet_between Production.Special around place vs state less = absurd (never vs less)
-quiet_between Production.Guard around place vs state less = absurd (never vs less)
 quiet_between Production.NestArguments around place vs state less = absurd (never vs less)
 quiet_between Production.NestInstance around place vs state less = absurd (never vs less)
 quiet_between Production.NestNext around place vs state less = absurd (never vs less)
@@ -149,8 +148,6 @@ quiet_between Production.AbbreviatedName around place [] state less = refl
 quiet_between Production.AbbreviatedName around place (v ∷ vs) state less = absurd (not_first vs less)
 quiet_between Production.NestStd around place [] state less = refl
 quiet_between Production.NestStd around place (v ∷ vs) state less = absurd (not_first vs less)
-quiet_between Production.NestAbbreviated around place [] state less = refl
-quiet_between Production.NestAbbreviated around place (v ∷ vs) state less = absurd (not_first vs less)
 quiet_between Production.NestTemplate around place [] state less = refl
 quiet_between Production.NestTemplate around place (v ∷ vs) state less = absurd (not_first vs less)
 quiet_between Production.NestParameter around place [] state less = refl

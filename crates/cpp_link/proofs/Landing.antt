@@ -1,24 +1,18 @@
 -- A number that is that of the next part with a row, whichever part that is.
-use Rattle.std.specs.Prelude.{◌⊎◌}
 use Rattle.std.proofs.Common.{◌≡◌, refl, sym, ◌∙◌, ap, subst, arith, ℕ, zero, suc, ◌+◌, ◌<◌, ◌≤◌, List, [], ◌∷◌, ◌++◌, length, drop, Bool, true, false, not, ◌&&◌, ◌||◌, Option, Some, None, nat_eq, inl, inr}
 use Rattle.std.proofs.lemmas.Bool.{false≢true, and_parts, eqb-true, cases_eq}
 use Rattle.sym_shape.specs.declared.rule.Rule.{Rule}
 use Rattle.sym_shape.specs.declared.rule.Sym.{Sym}
 use Rattle.sym_shape.specs.declared.rule.Sym.TheVariants.{Kind, Name, Number, Byte}
-use Rattle.sym_shape.specs.Law.{AreSymbols}
+use Rattle.sym_shape.specs.Law.{AreSymbols, IsLawful}
 use Rattle.sym_shape.specs.Table.{Table, Token}
 use Rattle.sym_shape.specs.Tree.{Tree, Forest, branch, empty, token, fixed, nothing, grown, spell_all, IsTree, AreTrees, row_count_all}
+use Rattle.sym_shape.proofs.Firsts.{branch_first}
 use Rattle.sym_link.specs.Parts.{skipped, joined, values_in}
 use Rattle.sym_link.specs.Threads.{skips}
 
 module _ (g : Table) where
-  -- a tree's rule is taken at the first byte that it spells, or at one that no tree spells
-  abbrev pub BeginsBy : (spare : ℕ) → Type 0
-  BeginsBy spare =
-      (k : ℕ) (rule : Rule) (taken : List ℕ) (inner : Forest) (byte : ℕ) (w : List ℕ) → k < g.kinds → IsTree g (Kind k) (branch rule taken inner) → taken ++ spell_all inner ≡ byte ∷ w
-      → (byte < 256) × ((g.rule k byte ≡ Some rule) ⊎ (g.rule k spare ≡ Some rule))
-
-  module _ (spare : ℕ) (f : (number byte : ℕ) → ℕ) where
+  module _ (f : (number byte : ℕ) → ℕ) where
     -- of the rule that is taken at a byte the number is this
     abbrev answers : (n byte : ℕ) → Option Rule → Bool
     answers n byte None = true
@@ -28,19 +22,10 @@ module _ (g : Table) where
     answers_below n k zero = true
     answers_below n k (suc byte) = answers n byte (g.rule k byte) && answers_below n k byte
 
-    -- whatever byte its tree begins with
-    abbrev answers_any : (n bytes : ℕ) → Option Rule → Bool
-    answers_any n bytes None = true
-    answers_any n zero (Some rule) = true
-    answers_any n (suc byte) (Some rule) = nat_eq (f rule.number byte) n && answers_any n byte (Some rule)
-
-    abbrev answers_kind : (n k : ℕ) → Bool
-    answers_kind n k = answers_below n k 256 && answers_any n 256 (g.rule k spare)
-
     -- where these parts are left behind n others, the number is that of the next part with a rule
     abbrev pub lands : (n : ℕ) → List Sym → Bool
     lands n (Byte c ∷ ss) = lands (n + 1) ss
-    lands n (Kind k ∷ ss) = answers_kind n k && (not (g.may_be_empty k) || lands (n + 1) ss)
+    lands n (Kind k ∷ ss) = answers_below n k 256 && (not (g.may_be_empty k) || lands (n + 1) ss)
     lands n _ = true
 
     answers_at : (n k bytes byte : ℕ) → answers_below n k bytes ≡ true → byte < bytes → answers n byte (g.rule k byte) ≡ true
@@ -50,33 +35,21 @@ module _ (g : Table) where
       | inr other ↦ answers_at n k b byte (and_parts (answers n b (g.rule k b)) (answers_below n k b) h).1 (omega (arith, less, other))
     ]
 
-    any_at : (n bytes byte : ℕ) (rule : Rule) → answers_any n bytes (Some rule) ≡ true → byte < bytes → nat_eq (f rule.number byte) n ≡ true
-    any_at n zero byte rule h less = absurd (omega (arith, less))
-    any_at n (suc b) byte rule h less = elim (cases_eq byte b) [
-      | inl same ↦ subst (λ i. nat_eq (f rule.number i) n ≡ true) (sym same) (and_parts (nat_eq (f rule.number b) n) (answers_any n b (Some rule)) h).0
-      | inr other ↦ any_at n b byte rule (and_parts (nat_eq (f rule.number b) n) (answers_any n b (Some rule)) h).1 (omega (arith, less, other))
-    ]
-
-    kind_at : (n k byte : ℕ) (rule : Rule) → answers_kind n k ≡ true → byte < 256 → (g.rule k byte ≡ Some rule) ⊎ (g.rule k spare ≡ Some rule) → nat_eq (f rule.number byte) n ≡ true
-    kind_at n k byte rule h less (inl at) = sym (ap (λ o. answers n byte o) at) ∙ answers_at n k 256 byte (and_parts (answers_below n k 256) (answers_any n 256 (g.rule k spare)) h).0 less
-    kind_at n k byte rule h less (inr at) =
-        any_at n 256 byte rule (sym (ap (λ o. answers_any n 256 o) at) ∙ (and_parts (answers_below n k 256) (answers_any n 256 (g.rule k spare)) h).1) less
-
     goes_on : (e l : Bool) → e ≡ true → (not e || l) ≡ true → l ≡ true
     goes_on true l is h = h
     goes_on false l is h = absurd (false≢true is)
 
-    module _ (begins : BeginsBy spare) (rule : Rule) (taken : List ℕ) (inner : Forest) (byte : ℕ) (w : List ℕ) (spelled : taken ++ spell_all inner ≡ byte ∷ w) where
+    module _ (lawful : IsLawful g) (rule : Rule) (taken : List ℕ) (inner : Forest) (byte : ℕ) (w : List ℕ) (spelled : taken ++ spell_all inner ≡ byte ∷ w) where
       pub landed : (n : ℕ) (ss : List Sym) (left rest : Forest) → AreSymbols g ss → lands n ss ≡ true → AreTrees g ss left → skipped left ≡ grown (branch rule taken inner) rest
           → f rule.number byte ≡ n + skips left
       landed n (Kind k ∷ ss) (grown (branch r t i) f_) rest known lands_so trees is =
           let same : branch r t i ≡ branch rule taken inner = cc in
-          let first = begins k rule taken inner byte w known.0 (subst (λ x. IsTree g (Kind k) x) same trees.0) spelled in
-          let here = (and_parts (answers_kind n k) (not (g.may_be_empty k) || lands (n + 1) ss) lands_so).0 in
-          let number = eqb-true (f rule.number byte) n (kind_at n k byte rule here first.0 first.1) in
+          let first = branch_first g lawful k rule taken inner byte w known.0 (subst (λ x. IsTree g (Kind k) x) same trees.0) spelled in
+          let here = (and_parts (answers_below n k 256) (not (g.may_be_empty k) || lands (n + 1) ss) lands_so).0 in
+          let number = eqb-true (f rule.number byte) n (sym (ap (λ o. answers n byte o) first.1) ∙ answers_at n k 256 byte here first.0) in
           omega (arith, number)
       landed n (Kind k ∷ ss) (grown empty f_) rest known lands_so trees is =
-          let later = (and_parts (answers_kind n k) (not (g.may_be_empty k) || lands (n + 1) ss) lands_so).1 in
+          let later = (and_parts (answers_below n k 256) (not (g.may_be_empty k) || lands (n + 1) ss) lands_so).1 in
           omega (arith, landed (n + 1) ss f_ rest known.1 (goes_on (g.may_be_empty k) (lands (n + 1) ss) trees.0 later) trees.1 is)
       landed n (Byte c ∷ ss) (grown (fixed d) f_) rest known lands_so trees is = omega (arith, landed (n + 1) ss f_ rest known.1 lands_so trees.1 is)
       landed n ss (grown (token t) f_) rest known lands_so trees is = cc

@@ -1,8 +1,7 @@
 -- The reading that the linker follows says of each symbol what C++'s reading says.
 use Rattle.std.proofs.Common.{slice_get, ◌≡◌, refl, sym, ◌∙◌, ap, subst, arith, ℕ, ◌+◌, ◌-◌, ◌^◌, ◌<◌, ◌||◌, ◌⊎◌, inl, inr, List, [], ◌∷◌, ◌++◌, length, take, drop, Bool, true, false, not, Option, Some, None, Ok, Err, append-nil}
 use Rattle.std.specs.Prelude.{Result, nat_eq, nat_lt, if◌then◌else◌}
-use Rattle.std.proofs.lemmas.Bool.{true≢false, false≢true, cases_Bool}
-use Rattle.std.proofs.lemmas.Bool.{eqb-true}
+use Rattle.std.proofs.lemmas.Bool.{true≢false, false≢true, cases_Bool, eqb-true}
 use Rattle.std.proofs.Math.Seq.{take-append_seam}
 use Rattle.sym_core.specs.declared.refusal.Refusal.{Refusal}
 use Rattle.sym_core.specs.declared.refusal.Refusal.TheVariants.{BadValue}
@@ -18,11 +17,10 @@ use Rattle.cpp_grammar.specs.declared.production.Production.{Production}
 use Rattle.cpp_grammar.specs.declared.kind.Kind.{Kind}
 use Rattle.cpp_grammar.specs.KindNumbers.{SYMBOL, SUFFIX_FIRST, SUFFIX_MORE}
 use Rattle.cpp_grammar.specs.Grammar.{parts_of, number_of_kind, kinds, productions, number_of, is_chain, pick, is_in, in_ranges, among, may_be_empty}
-use Rattle.cpp_grammar.specs.Wide.{wide_alternatives}
-use Rattle.cpp_grammar.specs.Either.{either_choose, either_alternatives}
-use Rattle.cpp_grammar.specs.Table.{either, rule_of, rule_taken, either_sheet, sheet_with, blank}
-use Rattle.cpp_grammar.proofs.Choosing.{either_rule_at, is_either_kind}
-use Rattle.cpp_grammar.proofs.Widening.{either_sound}
+use Rattle.cpp_grammar.specs.Wide.{wide_alternatives, wide_choose}
+use Rattle.cpp_grammar.specs.Table.{wide, rule_of, rule_taken, wide_sheet, sheet_with, blank}
+use Rattle.cpp_grammar.proofs.Choosing.{wide_rule_at, is_wide_kind}
+use Rattle.cpp_grammar.specs.TableLaws.{wide_sound}
 use Rattle.cpp_grammar.specs.Unfolding.{last_token, production_at, byte_of}
 use Rattle.cpp_grammar.specs.Values.{local_number}
 use Rattle.cpp_grammar.proofs.ClosedTrees.{Taken, taken_rule, at_number, its_symbols, same_rule}
@@ -97,10 +95,10 @@ data OfSuffix : ℕ → Type 0 where
   in_front : OfSuffix 2
   behind_it : OfSuffix 3
 
-suffix_rule : (kind : ℕ) → OfSuffix kind → (rule : Rule) (taken : List ℕ) → TakesRule either kind rule taken → rule ≡ rule_of Production.SuffixByte
-unfolding either_choose wide_alternatives either_alternatives pick kinds
-suffix_rule kind in_front rule taken takes = chosen_byte _ rule (sym (either_rule_at SUFFIX_FIRST Kind.SuffixFirst takes.byte refl) ∙ takes.found)
-suffix_rule kind behind_it rule taken takes = chosen_byte _ rule (sym (either_rule_at SUFFIX_MORE Kind.SuffixMore takes.byte refl) ∙ takes.found)
+suffix_rule : (kind : ℕ) → OfSuffix kind → (rule : Rule) (taken : List ℕ) → TakesRule wide kind rule taken → rule ≡ rule_of Production.SuffixByte
+unfolding wide_choose wide_alternatives pick kinds
+suffix_rule kind in_front rule taken takes = chosen_byte _ rule (sym (wide_rule_at SUFFIX_FIRST Kind.SuffixFirst takes.byte refl) ∙ takes.found)
+suffix_rule kind behind_it rule taken takes = chosen_byte _ rule (sym (wide_rule_at SUFFIX_MORE Kind.SuffixMore takes.byte refl) ∙ takes.found)
 
 takes_byte : (byte : ℕ) (rule : Rule) (taken : List ℕ) (p : Production) → rule ≡ rule_of p → is_chain p ≡ false → taken ≡ (if rule.eats then byte ∷ [] else []) → taken ≡ byte ∷ []
 unfolding rule_of
@@ -110,9 +108,9 @@ suffix_chain : is_chain Production.SuffixByte ≡ false
 unfolding is_chain
 suffix_chain = refl
 
-suffix_parts : (rule : Rule) (parts : Forest) → rule ≡ rule_of Production.SuffixByte → AreTrees either (symbols_of rule) parts → AreTrees either (OfKind SUFFIX_MORE ∷ []) parts
+suffix_parts : (rule : Rule) (parts : Forest) → rule ≡ rule_of Production.SuffixByte → AreTrees wide (symbols_of rule) parts → AreTrees wide (OfKind SUFFIX_MORE ∷ []) parts
 unfolding parts_of number_of_kind
-suffix_parts rule parts is trees = subst (λ ss. AreTrees either ss parts) (ap symbols_of is ∙ its_symbols Production.SuffixByte) trees
+suffix_parts rule parts is trees = subst (λ ss. AreTrees wide ss parts) (ap symbols_of is ∙ its_symbols Production.SuffixByte) trees
 
 -- the bytes of a suffix from its place on
 suffix_there : (xs t rest : List ℕ) (byte : ℕ) → xs ≡ (byte ∷ []) ++ ((t ++ []) ++ rest) → take (length t + 1) xs ≡ byte ∷ t
@@ -152,7 +150,7 @@ last_of a b c t =
 abbrev ClosesRule : NotedWay → List ℕ → Production → Type 0
 ClosesRule way s p =
     (kind : ℕ) (taken : List ℕ) (parts : Forest) (place : ℕ) (context : Around) (before begun : State) (inner : Found (List Value) State) (rest : List ℕ)
-    → TakesRule either kind (rule_of p) taken → AreTrees either (parts_of p) parts → drop place s ≡ taken ++ (spell_all parts ++ rest)
+    → TakesRule wide kind (rule_of p) taken → AreTrees wide (parts_of p) parts → drop place s ≡ taken ++ (spell_all parts ++ rest)
     → cpp.begin (standing (rule_of p) taken place context before) parts ≡ Ok begun
     → unfold_forest (reading_noted_by way) (standing (rule_of p) taken place context before) [] (place + length taken) parts begun ≡ Ok inner
     → (linked s).close (standing (rule_of p) taken place context before) inner.value inner.state ≡ cpp.close (standing (rule_of p) taken place context before) inner.value inner.state
@@ -191,7 +189,7 @@ module _ (way : NotedWay) (plain_way : IsPlainNoted way) (plain_lambda : IsPlain
       ∙ ap (λ m. (m >>= λ one. Ok (found one.value one.state)) >>= closes) is
       ∙ ap (λ m. m >>= alone) (plain_way.close Production.SuffixByte refl byte around place state (v ∷ []) state)
 
-  suffix_read : (kind : ℕ) → OfSuffix kind → (tree : Tree) (around : Around) (place : ℕ) (state : State) → IsTree either (OfKind kind) tree → SuffixRead around place tree state
+  suffix_read : (kind : ℕ) → OfSuffix kind → (tree : Tree) (around : Around) (place : ℕ) (state : State) → IsTree wide (OfKind kind) tree → SuffixRead around place tree state
   unfolding cpp reading_noted_by text_of
   suffix_read kind one empty around place state is = record { value = nothing_there; is = refl; text_is = refl }
   suffix_read kind one (token t) around place state is = absurd is
@@ -327,7 +325,7 @@ module _ (way : NotedWay) (plain_way : IsPlainNoted way) (plain_lambda : IsPlain
   numbered_plain _ other s = absurd (true≢false other)
 
 -- each rule that stands in a symbol closes to the same
-pub closes_same : (s : List ℕ) → ClosesSame either s cpp (linked s).close
+pub closes_same : (s : List ℕ) → ClosesSame wide s cpp (linked s).close
 unfolding cpp reading_noted_by abi_noted
 closes_same s kind rule taken parts place context before begun inner rest known is at is_begun is_inner =
     let t = taken_rule kind rule taken known is.0 in
@@ -336,7 +334,7 @@ closes_same s kind rule taken parts place context before begun inner rest known 
       | inl plain ↦ plain_closes s (production_at rule.number) (byte_of taken) context place before inner.value inner.state (ap is_plain number ∙ plain)
       | inr other ↦ subst (λ r. Equal r) (sym t.is)
           (numbered_plain abi_noted abi_is_noted.plain (λ around place vs state. refl) t.production other s kind taken parts place context before begun inner rest
-          (subst (λ r. TakesRule either kind r taken) t.is is.0) (subst (λ ss. AreTrees either ss parts) (ap symbols_of t.is ∙ its_symbols t.production) is.1) at
+          (subst (λ r. TakesRule wide kind r taken) t.is is.0) (subst (λ ss. AreTrees wide ss parts) (ap symbols_of t.is ∙ its_symbols t.production) is.1) at
           (subst (λ r. cpp.begin (standing r taken place context before) parts ≡ Ok begun) t.is is_begun)
           (subst (λ r. unfold_forest cpp (standing r taken place context before) [] (place + length taken) parts begun ≡ Ok inner) t.is is_inner))
     ]
@@ -364,7 +362,7 @@ wide_lambda : IsPlainLambda wide_noted
 unfolding wide_noted between_wide
 wide_lambda around place vs state = refl
 
-pub wide_closes_same : (s : List ℕ) → ClosesSame either s cpp_wide (linked_wide s).close
+pub wide_closes_same : (s : List ℕ) → ClosesSame wide s cpp_wide (linked_wide s).close
 unfolding cpp cpp_wide reading_noted_by wide_noted
 wide_closes_same s kind rule taken parts place context before begun inner rest known is at is_begun is_inner =
     let t = taken_rule kind rule taken known is.0 in
@@ -374,7 +372,7 @@ wide_closes_same s kind rule taken parts place context before begun inner rest k
       | inr other ↦ other_closes s (production_at rule.number) (ap is_plain number ∙ other) (byte_of taken) context place before inner.value inner.state
           (subst (λ r. Equal r) (sym t.is)
           (numbered_plain wide_noted wide_is_noted.plain wide_lambda t.production other s kind taken parts place context before begun inner rest
-          (subst (λ r. TakesRule either kind r taken) t.is is.0) (subst (λ ss. AreTrees either ss parts) (ap symbols_of t.is ∙ its_symbols t.production) is.1) at
+          (subst (λ r. TakesRule wide kind r taken) t.is is.0) (subst (λ ss. AreTrees wide ss parts) (ap symbols_of t.is ∙ its_symbols t.production) is.1) at
           (subst (λ r. cpp.begin (standing r taken place context before) parts ≡ Ok begun) t.is is_begun)
           (subst (λ r. unfold_forest cpp_wide (standing r taken place context before) [] (place + length taken) parts begun ≡ Ok inner) t.is is_inner)))
     ]
@@ -386,27 +384,27 @@ wide_closes_same s kind rule taken parts place context before begun inner rest k
 
 -- the production that a kind takes at a byte has a number
 unfoldable numbered_at : Kind → ℕ → Bool
-numbered_at kind byte = elim (either_choose kind byte) [ None ↦ false | Some p ↦ is_numbered p ]
+numbered_at kind byte = elim (wide_choose kind byte) [ None ↦ false | Some p ↦ is_numbered p ]
 
 -- none does at the byte with which a symbol begins
 none_numbered : (kind : Kind) → numbered_at kind 95 ≡ false
-unfolding numbered_at either_choose wide_alternatives either_alternatives pick is_in in_ranges among is_numbered
+unfolding numbered_at wide_choose wide_alternatives pick is_in in_ranges among is_numbered
 none_numbered Kind.Symbol = refl
 none_numbered _ = refl
 
-first_plain : (k : ℕ) (rule : Rule) → k < either.kinds → either.rule k 95 ≡ Some rule → is_numbered (production_at rule.number) ≡ false
+first_plain : (k : ℕ) (rule : Rule) → k < wide.kinds → wide.rule k 95 ≡ Some rule → is_numbered (production_at rule.number) ≡ false
 unfolding rule_taken numbered_at
 first_plain k rule known found_ = go (slice_get kinds k) refl
   where
-    chosen : (kind : Kind) → (o : Option Production) → either_choose kind 95 ≡ o → rule_taken o ≡ Some rule → is_numbered (production_at rule.number) ≡ false
+    chosen : (kind : Kind) → (o : Option Production) → wide_choose kind 95 ≡ o → rule_taken o ≡ Some rule → is_numbered (production_at rule.number) ≡ false
     chosen kind None is h = let clash : ◌≡◌ {A = Option Rule} None (Some rule) = h in absurd cc
     chosen kind (Some p) is h =
         ap (λ (r : Rule). is_numbered (production_at r.number)) (sym (same_rule p rule h)) ∙ ap is_numbered (at_number p)
         ∙ sym (ap (λ (o : Option Production). elim o [ None ↦ false | Some q ↦ is_numbered q ]) is) ∙ none_numbered kind
 
     go : (o : Option Kind) → slice_get kinds k ≡ o → is_numbered (production_at rule.number) ≡ false
-    go None none = absurd (is_either_kind k known none)
-    go (Some kind) at = chosen kind (either_choose kind 95) refl (sym (either_rule_at k kind 95 at) ∙ found_)
+    go None none = absurd (is_wide_kind k known none)
+    go (Some kind) at = chosen kind (wide_choose kind 95) refl (sym (wide_rule_at k kind 95 at) ∙ found_)
 
 first_byte : (byte b : ℕ) (more rest : List ℕ) → (byte ∷ more) ≡ (b ∷ rest) → byte ≡ b
 first_byte byte b more rest is = cc
@@ -423,7 +421,7 @@ numbered_eats Production.Lambda is = refl
 numbered_eats Production.Unnamed is = refl
 numbered_eats _ is = absurd (false≢true is)
 
-begins_first : (s more : List ℕ) (kind : ℕ) (rule : Rule) (taken rest : List ℕ) → s ≡ 95 ∷ more → kind < either.kinds → TakesRule either kind rule taken → s ≡ taken ++ rest
+begins_first : (s more : List ℕ) (kind : ℕ) (rule : Rule) (taken rest : List ℕ) → s ≡ 95 ∷ more → kind < wide.kinds → TakesRule wide kind rule taken → s ≡ taken ++ rest
     → is_numbered (production_at rule.number) ≡ false
 begins_first s more kind rule taken rest begins known takes at = go (is_numbered (production_at rule.number)) refl
   where
@@ -438,9 +436,9 @@ begins_first s more kind rule taken rest begins known takes at = go (is_numbered
     go true is =
         let eaten : taken ≡ takes.byte ∷ [] = takes_byte takes.byte rule taken t.production t.is (numbered_eats t.production (sym (ap is_numbered number) ∙ is)) takes.takes in
         let byte : takes.byte ≡ 95 = first_byte takes.byte 95 rest more (ap (λ x. x ++ rest) (sym eaten) ∙ sym at ∙ begins) in
-        absurd (true≢false (sym is ∙ first_plain kind rule known (ap (λ b. either.rule kind b) (sym byte) ∙ takes.found)))
+        absurd (true≢false (sym is ∙ first_plain kind rule known (ap (λ b. wide.rule kind b) (sym byte) ∙ takes.found)))
 
-pub begins_same : (s more : List ℕ) → s ≡ 95 ∷ more → BeginsSame either s cpp link_begin
+pub begins_same : (s more : List ℕ) → s ≡ 95 ∷ more → BeginsSame wide s cpp link_begin
 unfolding cpp link_begin
 begins_same s more begins kind rule taken parts place context before rest known is at = go (nat_eq place 0) refl
   where
@@ -452,7 +450,7 @@ begins_same s more begins kind rule taken parts place context before rest known 
         sym (opens_plain (production_at rule.number) parts place before
         (begins_first s more kind rule taken (spell_all parts ++ rest) begins known is.0 (ap (λ n. drop n s) (sym here) ∙ at)))
 
-wide_begins_same : (s more : List ℕ) → s ≡ 95 ∷ more → BeginsSame either s cpp_wide link_begin
+wide_begins_same : (s more : List ℕ) → s ≡ 95 ∷ more → BeginsSame wide s cpp_wide link_begin
 unfolding cpp cpp_wide
 wide_begins_same s more begins = begins_same s more begins
 
@@ -463,13 +461,13 @@ or_none true is = refl
 or_none false is = is
 
 -- a symbol begins with this byte
-pub symbol_begins : (shape : Tree) → IsTree either (OfKind SYMBOL) shape → (more : List ℕ) × (spell shape ≡ 95 ∷ more)
-unfolding either_choose wide_alternatives either_alternatives pick kinds is_in in_ranges among rule_taken either either_sheet sheet_with blank may_be_empty
+pub symbol_begins : (shape : Tree) → IsTree wide (OfKind SYMBOL) shape → (more : List ℕ) × (spell shape ≡ 95 ∷ more)
+unfolding wide_choose wide_alternatives pick kinds is_in in_ranges among rule_taken wide wide_sheet sheet_with blank may_be_empty
 symbol_begins empty is = absurd (false≢true is)
 symbol_begins (token t) is = absurd is
 symbol_begins (fixed b) is = absurd is
 symbol_begins (branch rule taken parts) is =
-    let is_rule = chosen (nat_eq is.0.byte 95 || false) (sym (either_rule_at SYMBOL Kind.Symbol is.0.byte refl) ∙ is.0.found) in
+    let is_rule = chosen (nat_eq is.0.byte 95 || false) (sym (wide_rule_at SYMBOL Kind.Symbol is.0.byte refl) ∙ is.0.found) in
     let eaten : taken ≡ is.0.byte ∷ [] = takes_byte is.0.byte rule taken Production.Symbol is_rule.0 symbol_eats is.0.takes in
     (spell_all parts, ap (λ x. x ++ spell_all parts) (eaten ∙ ap (λ b. b ∷ []) (eqb-true is.0.byte 95 (or_none (nat_eq is.0.byte 95) is_rule.1))))
   where
@@ -478,7 +476,7 @@ symbol_begins (branch rule taken parts) is =
     chosen false h = let clash : ◌≡◌ {A = Option Rule} None (Some rule) = h in absurd cc
 
 -- What the linker's reading says of a symbol is what C++'s says, also where nodes are counted.
-module _ (s : List ℕ) (shape : Tree) (is : IsTree either (OfKind SYMBOL) shape) (spelled : spell shape ≡ s) where
+module _ (s : List ℕ) (shape : Tree) (is : IsTree wide (OfKind SYMBOL) shape) (spelled : spell shape ≡ s) where
   abbrev more : List ℕ
   more = (symbol_begins shape is).0
 
@@ -489,14 +487,14 @@ module _ (s : List ℕ) (shape : Tree) (is : IsTree either (OfKind SYMBOL) shape
   at_front = sym spelled ∙ sym (append-nil (spell shape))
 
   pub meaning_same : unfold_tree (linked s) first_around 0 shape first_state ≡ unfold_tree cpp first_around 0 shape first_state
-  meaning_same = tree_same either either_sound s cpp link_begin (linked s).close (begins_same s more begins) (closes_same s) (OfKind SYMBOL) first_around 0 shape first_state [] either_sound.start is at_front
+  meaning_same = tree_same wide wide_sound s cpp link_begin (linked s).close (begins_same s more begins) (closes_same s) (OfKind SYMBOL) first_around 0 shape first_state [] wide_sound.start is at_front
 
   module _ (makes : Makes Value State Around) where
-    counts_begin : BeginsSame either s (tallied cpp makes) (tallied (linked s) makes).begin
+    counts_begin : BeginsSame wide s (tallied cpp makes) (tallied (linked s) makes).begin
     counts_begin kind rule taken parts place context before rest known tree at =
         ap (λ m. m >>= λ state. Ok (tally state before.nodes)) (begins_same s more begins kind rule taken parts place context before.state rest known tree at)
 
-    counts_close : ClosesSame either s (tallied cpp makes) (tallied (linked s) makes).close
+    counts_close : ClosesSame wide s (tallied cpp makes) (tallied (linked s) makes).close
     counts_close kind rule taken parts place context before begun inner rest known tree at is_begun is_inner =
         let o = standing rule taken place context before.state in
         let first = both_ok (cpp.begin o parts) (λ state. Ok (tally state before.nodes)) begun is_begun in
@@ -508,11 +506,11 @@ module _ (s : List ℕ) (shape : Tree) (is : IsTree either (OfKind SYMBOL) shape
 
     pub counted_same : unfold_tree (tallied (linked s) makes) first_around 0 shape (tally first_state 0) ≡ unfold_tree (tallied cpp makes) first_around 0 shape (tally first_state 0)
     counted_same =
-        tree_same either either_sound s (tallied cpp makes) (tallied (linked s) makes).begin (tallied (linked s) makes).close counts_begin counts_close (OfKind SYMBOL) first_around 0 shape (tally first_state 0) []
-        either_sound.start is at_front
+        tree_same wide wide_sound s (tallied cpp makes) (tallied (linked s) makes).begin (tallied (linked s) makes).close counts_begin counts_close (OfKind SYMBOL) first_around 0 shape (tally first_state 0) []
+        wide_sound.start is at_front
 
 -- And so it is by the wide grammar.
-module _ (s : List ℕ) (shape : Tree) (is : IsTree either (OfKind SYMBOL) shape) (spelled : spell shape ≡ s) where
+module _ (s : List ℕ) (shape : Tree) (is : IsTree wide (OfKind SYMBOL) shape) (spelled : spell shape ≡ s) where
   abbrev wide_more : List ℕ
   wide_more = (symbol_begins shape is).0
 
@@ -523,14 +521,14 @@ module _ (s : List ℕ) (shape : Tree) (is : IsTree either (OfKind SYMBOL) shape
   wide_at_front = sym spelled ∙ sym (append-nil (spell shape))
 
   pub wide_meaning_same : unfold_tree (linked_wide s) first_around 0 shape first_state ≡ unfold_tree cpp_wide first_around 0 shape first_state
-  wide_meaning_same = tree_same either either_sound s cpp_wide link_begin (linked_wide s).close (wide_begins_same s wide_more wide_begins) (wide_closes_same s) (OfKind SYMBOL) first_around 0 shape first_state [] either_sound.start is wide_at_front
+  wide_meaning_same = tree_same wide wide_sound s cpp_wide link_begin (linked_wide s).close (wide_begins_same s wide_more wide_begins) (wide_closes_same s) (OfKind SYMBOL) first_around 0 shape first_state [] wide_sound.start is wide_at_front
 
   module _ (makes : Makes Value State Around) where
-    wide_counts_begin : BeginsSame either s (tallied cpp_wide makes) (tallied (linked_wide s) makes).begin
+    wide_counts_begin : BeginsSame wide s (tallied cpp_wide makes) (tallied (linked_wide s) makes).begin
     wide_counts_begin kind rule taken parts place context before rest known tree at =
         ap (λ m. m >>= λ state. Ok (tally state before.nodes)) (wide_begins_same s wide_more wide_begins kind rule taken parts place context before.state rest known tree at)
 
-    wide_counts_close : ClosesSame either s (tallied cpp_wide makes) (tallied (linked_wide s) makes).close
+    wide_counts_close : ClosesSame wide s (tallied cpp_wide makes) (tallied (linked_wide s) makes).close
     wide_counts_close kind rule taken parts place context before begun inner rest known tree at is_begun is_inner =
         let o = standing rule taken place context before.state in
         let first = both_ok (cpp_wide.begin o parts) (λ state. Ok (tally state before.nodes)) begun is_begun in
@@ -542,5 +540,5 @@ module _ (s : List ℕ) (shape : Tree) (is : IsTree either (OfKind SYMBOL) shape
 
     pub wide_counted_same : unfold_tree (tallied (linked_wide s) makes) first_around 0 shape (tally first_state 0) ≡ unfold_tree (tallied cpp_wide makes) first_around 0 shape (tally first_state 0)
     wide_counted_same =
-        tree_same either either_sound s (tallied cpp_wide makes) (tallied (linked_wide s) makes).begin (tallied (linked_wide s) makes).close wide_counts_begin wide_counts_close (OfKind SYMBOL) first_around 0 shape (tally first_state 0) []
-        either_sound.start is wide_at_front
+        tree_same wide wide_sound s (tallied cpp_wide makes) (tallied (linked_wide s) makes).begin (tallied (linked_wide s) makes).close wide_counts_begin wide_counts_close (OfKind SYMBOL) first_around 0 shape (tally first_state 0) []
+        wide_sound.start is wide_at_front

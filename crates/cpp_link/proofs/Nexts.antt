@@ -15,11 +15,10 @@ use Rattle.sym_link.specs.declared.language.Frame.{Frame}
 use Rattle.sym_link.proofs.Standing.{joined_spell, stands_skip, stands_left, stands_inner}
 use Rattle.cpp_grammar.specs.declared.production.Production.{Production}
 use Rattle.cpp_grammar.specs.Grammar.{in_ranges, among, is_in, pick, number_of_kind, parts_of, is_chain, may_be_empty, kinds, productions, number_of}
-use Rattle.cpp_grammar.specs.Wide.{wide_alternatives}
-use Rattle.cpp_grammar.specs.Either.{either_alternatives, either_choose}
+use Rattle.cpp_grammar.specs.Wide.{wide_alternatives, wide_choose}
 use Rattle.cpp_grammar.specs.Follow.{after_ranges, rank, height}
-use Rattle.cpp_grammar.specs.Table.{padded, rule_of, ranges_of, class_of, choice_of, sheet_with, blank, either_sheet, either}
-use Rattle.cpp_grammar.proofs.Widening.{either_sound, either_first}
+use Rattle.cpp_grammar.specs.Table.{padded, rule_of, ranges_of, class_of, choice_of, sheet_with, blank, wide_sheet, wide}
+use Rattle.cpp_grammar.specs.TableLaws.{wide_lawful, wide_sound}
 use Rattle.cpp_grammar.specs.Unfolding.{production_at}
 use Rattle.cpp_grammar.proofs.ClosedTrees.{at_number, its_symbols, taken_rule}
 use Rattle.cpp_term.specs.Unfolding.{cpp}
@@ -63,36 +62,32 @@ few_parts _ = refl
 none_behind : (p : Production) (held : ℕ) → 5 ≤ held → drop held (parts_of p) ≡ []
 none_behind p held past = drop_all held (parts_of p) (omega (arith, leb-true (length (parts_of p)) 5 (few_parts p), past))
 
--- no symbol has this byte, at which the table has rules of the one grammar that the other has not
-abbrev no_byte : ℕ
-no_byte = 33
-
 abbrev lands_behind : Production → (held : ℕ) → Bool
-lands_behind p held = lands either no_byte (λ number byte. next_part p held number byte) held (drop held (parts_of p))
+lands_behind p held = lands wide (λ number byte. next_part p held number byte) held (drop held (parts_of p))
 
 each_lands : (p : Production) → all_below (lands_behind p) 5 ≡ true
-unfolding in_ranges among is_in pick wide_alternatives either_alternatives either_choose number_of_kind parts_of is_chain may_be_empty kinds productions number_of after_ranges rank height padded rule_of ranges_of class_of choice_of sheet_with blank either_sheet either at_least over is_mark is_list is_argument is_element nested_mark type_mark behind_bytes behind_list next_part
+unfolding in_ranges among is_in pick wide_alternatives wide_choose number_of_kind parts_of is_chain may_be_empty kinds productions number_of after_ranges rank height padded rule_of ranges_of class_of choice_of sheet_with blank wide_sheet wide at_least over is_mark is_list is_argument is_element nested_mark type_mark behind_bytes behind_list next_part
 each_lands Production.Mark = refl
 each_lands _ = refl
 
 lands_at : (p : Production) (held : ℕ) → lands_behind p held ≡ true
 lands_at p held = elim (cases_lt held 5) [
   | inl less ↦ one_below (lands_behind p) 5 held (each_lands p) less
-  | inr past ↦ ap (λ ss. lands either no_byte (λ number byte. next_part p held number byte) held ss) (none_behind p held past)
+  | inr past ↦ ap (λ ss. lands wide (λ number byte. next_part p held number byte) held ss) (none_behind p held past)
 ]
 
 abbrev stops_behind : Production → (held : ℕ) → Bool
-stops_behind p held = stops either (token_part p held) held (drop held (parts_of p))
+stops_behind p held = stops wide (token_part p held) held (drop held (parts_of p))
 
 each_stops : (p : Production) → all_below (stops_behind p) 5 ≡ true
-unfolding number_of_kind parts_of may_be_empty kinds sheet_with blank either_sheet either token_part
+unfolding number_of_kind parts_of may_be_empty kinds sheet_with blank wide_sheet wide token_part
 each_stops Production.Mark = refl
 each_stops _ = refl
 
 stops_at : (p : Production) (held : ℕ) → stops_behind p held ≡ true
 stops_at p held = elim (cases_lt held 5) [
   | inl less ↦ one_below (stops_behind p) 5 held (each_stops p) less
-  | inr past ↦ ap (λ ss. stops either (token_part p held) held ss) (none_behind p held past)
+  | inr past ↦ ap (λ ss. stops wide (token_part p held) held ss) (none_behind p held past)
 ]
 
 -- ## The byte at which a rule begins
@@ -130,25 +125,25 @@ module _ (s : List ℕ) (l : Linked) (frame : Frame Kept) (own : List Part) (aro
       ap symbols_of t.is ∙ its_symbols t.production
       ∙ ap parts_of (sym (at_number t.production) ∙ ap (λ r. production_at r.number) (sym t.is) ∙ ap production_at (sym is.number))
 
-  behind : AreBehind either (parts_of production) (length known) left
+  behind : AreBehind wide (parts_of production) (length known) left
   unfolding cpp
   behind =
       let st = is.stands in
-      let symbols = either_sound.symbols st.kind st.takes.byte around.rule st.is_kind st.takes.is_byte st.takes.found in
+      let symbols = wide_sound.symbols st.kind st.takes.byte around.rule st.is_kind st.takes.is_byte st.takes.found in
       let count : values_in 1 st.passed ≡ length known = sym st.counted in
-      subst (λ ss. AreBehind either ss (length known) left) its_parts
-      (subst (λ n. AreBehind either (symbols_of around.rule) n left) count (behind_passed either (symbols_of around.rule) st.passed left st.trees symbols))
+      subst (λ ss. AreBehind wide ss (length known) left) its_parts
+      (subst (λ n. AreBehind wide (symbols_of around.rule) n left) count (behind_passed wide (symbols_of around.rule) st.passed left st.trees symbols))
 
   begins_with : (rule : Rule) (taken : List ℕ) (inner rest : Forest) → skipped left ≡ grown (branch rule taken inner) rest → FirstByte s (skipped_from from left) (taken ++ spell_all inner)
   begins_with rule taken inner rest left_is =
       let rowless = length cpp.rowless in
       let held = length known + values_in rowless (passed_by left) in
       let place = skipped_from from left in
-      let skip = subst (λ f. Stands either s rowless around held place f) left_is (stands_skip either s rowless around (length known) from left is.stands) in
-      let begun = stands_inner either s rowless around held place rule taken inner rest around.context state either_sound skip in
+      let skip = subst (λ f. Stands wide s rowless around held place f) left_is (stands_skip wide s rowless around (length known) from left is.stands) in
+      let begun = stands_inner wide s rowless around held place rule taken inner rest around.context state wide_sound skip in
       first_byte s place (taken ++ spell_all inner) (spell_all rest ++ skip.behind)
-      (stands_left either s rowless around held place (grown (branch rule taken inner) rest) skip ∙ append_assoc (taken ++ spell_all inner) (spell_all rest) skip.behind)
-      (λ none. either_sound.filled begun.kind rule taken (joined begun.passed inner) begun.is_kind (begun.takes, begun.trees) (none_spelled taken begun.passed inner (omega (arith, begun.starts)) none))
+      (stands_left wide s rowless around held place (grown (branch rule taken inner) rest) skip ∙ append_assoc (taken ++ spell_all inner) (spell_all rest) skip.behind)
+      (λ none. wide_sound.filled begun.kind rule taken (joined begun.passed inner) begun.is_kind (begun.takes, begun.trees) (none_spelled taken begun.passed inner (omega (arith, begun.starts)) none))
 
   pub next_right : (rows : List Row) (row : Row) (rule : Rule) (taken : List ℕ) (inner rest : Forest) → skipped left ≡ grown (branch rule taken inner) rest
       → IsRuleRow rows row rule taken inner (skipped_from from left)
@@ -159,12 +154,12 @@ module _ (s : List ℕ) (l : Linked) (frame : Frame Kept) (own : List Part) (aro
       ap (λ n. next_part production held n (slice_index s row.from)) row_is.rule_is
       ∙ ap (λ p. next_part production held rule.number (slice_index s p)) row_is.from
       ∙ ap (λ b. next_part production held rule.number b) first.there
-      ∙ landed either no_byte (λ number byte. next_part production held number byte) either_first rule taken inner first.byte first.more first.spelled held (drop held (parts_of production)) left rest behind.symbols (lands_at production held) behind.trees left_is
+      ∙ landed wide (λ number byte. next_part production held number byte) wide_lawful rule taken inner first.byte first.more first.spelled held (drop held (parts_of production)) left rest behind.symbols (lands_at production held) behind.trees left_is
 
   pub token_right : (t : Token) (rest : Forest) → skipped left ≡ grown (token t) rest → token_part production (length known) ≡ length known + skips left
   token_right t rest left_is =
-      stopped either (token_part production (length known)) (length known) (drop (length known) (parts_of production)) t left rest (stops_at production (length known)) behind.trees left_is
+      stopped wide (token_part production (length known)) (length known) (drop (length known) (parts_of production)) t left rest (stops_at production (length known)) behind.trees left_is
 
   pub count_right : row_count_all left ≡ 0 → length (parts_of production) ≡ length known + skips left
   count_right none =
-      omega (arith, all_passed either (drop (length known) (parts_of production)) left behind.trees none, length-drop (length known) (parts_of production), behind.within)
+      omega (arith, all_passed wide (drop (length known) (parts_of production)) left behind.trees none, length-drop (length known) (parts_of production), behind.within)

@@ -6,11 +6,10 @@ use Rattle.std.proofs.lemmas.Bool.{true≢false, false≢true}
 use Rattle.sym_core.specs.declared.refusal.Refusal.{Refusal}
 use Rattle.sym_core.specs.declared.refusal.Refusal.TheVariants.{Memory}
 use Rattle.sym_link.specs.declared.language.Frame.{Frame}
-use Rattle.sym_link.specs.Reading.{Open}
+use Rattle.sym_link.specs.Reading.{Open, Found}
 use Rattle.sym_link.specs.Driving.{Fails}
 use Rattle.sym_link.specs.Linking.{Puts}
 use Rattle.sym_link.specs.Threads.{IsAt, Goes, GoesOn, ClosesAll}
-use Rattle.sym_link.specs.Reading.{Found}
 use Rattle.sym_link.specs.Unfold.{found}
 use Rattle.cpp_grammar.specs.declared.production.Production.{Production}
 use Rattle.cpp_grammar.specs.Rescoping.{generic_number}

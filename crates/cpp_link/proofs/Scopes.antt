@@ -44,7 +44,6 @@ unfolding between in_name in_types in_signature under_expansion after inside nam
 goes_closed Production.Encoding around place [] state closed = tt
 goes_closed Production.Encoding around place (name ∷ vs) state closed = closed_are (tree_of name)
 goes_closed Production.Special around place vs state closed = tt
-goes_closed Production.Guard around place vs state closed = tt
 goes_closed Production.OtherSpecial around place vs state closed = tt
 goes_closed Production.Lambda around place vs state closed = tt
 goes_closed Production.Parameter around place (v ∷ []) state closed = parameter_closed around place (index_of v) [] state closed
@@ -93,9 +92,6 @@ goes_closed Production.NestStd around place [] state closed = closed
 goes_closed Production.NestStd around place (v ∷ []) state closed = closed
 goes_closed Production.NestStd around place (v ∷ w ∷ []) state closed = closed
 goes_closed Production.NestStd around place (v ∷ w ∷ x ∷ vs) state closed = closed
-goes_closed Production.NestAbbreviated around place [] state closed = closed
-goes_closed Production.NestAbbreviated around place (v ∷ []) state closed = closed
-goes_closed Production.NestAbbreviated around place (v ∷ w ∷ vs) state closed = closed
 goes_closed Production.NestTemplate around place [] state closed = closed
 goes_closed Production.NestTemplate around place (v ∷ []) state closed = closed
 goes_closed Production.NestTemplate around place (v ∷ w ∷ vs) state closed = closed

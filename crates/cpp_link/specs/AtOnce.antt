@@ -16,10 +16,9 @@ use Rattle.sym_link.specs.Parts.{skipped, passed_by, joined, values_in, Stands}
 use Rattle.sym_link.specs.Reading.{Open}
 use Rattle.cpp_grammar.specs.declared.production.Production.{Production}
 use Rattle.cpp_grammar.specs.Grammar.{in_ranges as in_class, among, is_in, pick, number_of_kind, parts_of, is_chain, may_be_empty, kinds, productions, number_of}
-use Rattle.cpp_grammar.specs.Wide.{wide_alternatives}
-use Rattle.cpp_grammar.specs.Either.{either_alternatives, either_choose}
+use Rattle.cpp_grammar.specs.Wide.{wide_alternatives, wide_choose}
 use Rattle.cpp_grammar.specs.Follow.{after_ranges, rank, height}
-use Rattle.cpp_grammar.specs.Table.{padded, rule_of, ranges_of, class_of, choice_of, sheet_with, blank, either_sheet, either}
+use Rattle.cpp_grammar.specs.Table.{padded, rule_of, ranges_of, class_of, choice_of, sheet_with, blank, wide_sheet, wide}
 use Rattle.cpp_grammar.specs.Unfolding.{production_at}
 use Rattle.cpp_grammar.proofs.ClosedTrees.{at_number, its_symbols, taken_rule}
 use Rattle.cpp_term.specs.Values.{State, Around}
@@ -50,7 +49,7 @@ adds_two before behind p held = nat_le (before + owes_of p 0 + closes_most p hel
 -- these symbols may be parts without a row
 abbrev may_be_rowless : List Sym → Bool
 may_be_rowless [] = true
-may_be_rowless (Kind k ∷ ss) = either.may_be_empty k && may_be_rowless ss
+may_be_rowless (Kind k ∷ ss) = wide.may_be_empty k && may_be_rowless ss
 may_be_rowless (Byte b ∷ ss) = may_be_rowless ss
 may_be_rowless (Name ∷ ss) = false
 may_be_rowless (Number kind ∷ ss) = false
@@ -58,7 +57,7 @@ may_be_rowless (Number kind ∷ ss) = false
 -- so it is of a production that has so many parts, and these symbols left, wherever it closes in the step that begins it
 abbrev closes_two : (before behind : ℕ) → Production → (held : ℕ) → List Sym → Bool
 closes_two before behind p held [] = adds_two before behind p 0
-closes_two before behind p held (Kind k ∷ ss) = not (either.may_be_empty k) || closes_two before behind p (held + 1) ss
+closes_two before behind p held (Kind k ∷ ss) = not (wide.may_be_empty k) || closes_two before behind p (held + 1) ss
 closes_two before behind p held (Byte b ∷ ss) = closes_two before behind p (held + 1) ss
 closes_two before behind p held (Name ∷ ss) = not (may_be_rowless ss) || (adds_two before behind p (held + 1) && adds_two before behind p 0)
 closes_two before behind p held (Number kind ∷ ss) = not (may_be_rowless ss) || (adds_two before behind p (held + 1) && adds_two before behind p 0)
@@ -71,7 +70,7 @@ choices_two before behind (c ∷ cs) = closes_two before behind (production_at c
 -- and of each rule that may begin in a production that has so many parts, and these symbols left
 abbrev begins_two : Production → (before held : ℕ) → List Sym → Bool
 begins_two p before held [] = true
-begins_two p before held (Kind k ∷ ss) = choices_two before (owes_of p (held + 1)) (get_or either_sheet k blank).choices && (not (either.may_be_empty k) || begins_two p before (held + 1) ss)
+begins_two p before held (Kind k ∷ ss) = choices_two before (owes_of p (held + 1)) (get_or wide_sheet k blank).choices && (not (wide.may_be_empty k) || begins_two p before (held + 1) ss)
 begins_two p before held (Byte b ∷ ss) = begins_two p before (held + 1) ss
 begins_two p before held (Name ∷ ss) = true
 begins_two p before held (Number kind ∷ ss) = true
@@ -84,7 +83,7 @@ all_below is zero = true
 all_below is (suc n) = is n && all_below is n
 
 each_begins : (p : Production) → all_below (begins_behind p) 5 ≡ true
-unfolding in_class among is_in pick wide_alternatives either_alternatives either_choose number_of_kind parts_of is_chain may_be_empty kinds productions number_of after_ranges rank height padded rule_of ranges_of class_of choice_of sheet_with blank either_sheet either production_at made_before made_at_end sum_all owes_of pack_most_at closes_most
+unfolding in_class among is_in pick wide_alternatives wide_choose number_of_kind parts_of is_chain may_be_empty kinds productions number_of after_ranges rank height padded rule_of ranges_of class_of choice_of sheet_with blank wide_sheet wide production_at made_before made_at_end sum_all owes_of pack_most_at closes_most
 each_begins Production.Mark = refl
 each_begins _ = refl
 
@@ -117,9 +116,9 @@ both : (a b : Bool) → a ≡ true → b ≡ true → (a && b) ≡ true
 both true b is h = h
 both false b is h = is
 
-rowless : (ss : List Sym) (left : Forest) → AreTrees either ss left → no_part_has_row left ≡ true → may_be_rowless ss ≡ true
+rowless : (ss : List Sym) (left : Forest) → AreTrees wide ss left → no_part_has_row left ≡ true → may_be_rowless ss ≡ true
 rowless [] nothing trees none = refl
-rowless (Kind k ∷ ss) (grown empty f) trees none = both (either.may_be_empty k) (may_be_rowless ss) trees.0 (rowless ss f trees.1 none)
+rowless (Kind k ∷ ss) (grown empty f) trees none = both (wide.may_be_empty k) (may_be_rowless ss) trees.0 (rowless ss f trees.1 none)
 rowless (Byte b ∷ ss) (grown (fixed d) f) trees none = rowless ss f trees.1 none
 rowless (s ∷ ss) (grown (token t) f) trees none = absurd (false≢true none)
 rowless (s ∷ ss) (grown (branch r x i) f) trees none = absurd (false≢true none)
@@ -139,11 +138,11 @@ module _ (before behind : ℕ) (p : Production) where
   shifted : (b : Bool) (t x y : ℕ) → x ≡ y → t ≡ (if b then 0 else x) → t ≡ (if b then 0 else y)
   shifted b t x y same is = is ∙ ap (λ k. if b then 0 else k) same
 
-  closing : (held : ℕ) (ss : List Sym) (left : Forest) → AreTrees either ss left → closes_two before behind p held ss ≡ true → closes_at_once left ≡ true
+  closing : (held : ℕ) (ss : List Sym) (left : Forest) → AreTrees wide ss left → closes_two before behind p held ss ≡ true → closes_at_once left ≡ true
       → (t : ℕ) → t ≡ (if no_part_has_row left then 0 else (held + values_in 1 (passed_by left) + 1)) → Both t
   closing held [] nothing trees two once t is = rw is (two, two)
   closing held (Kind k ∷ ss) (grown empty f) trees two once t is =
-      closing (held + 1) ss f trees.1 (passes (either.may_be_empty k) (closes_two before behind p (held + 1) ss) trees.0 two) once t
+      closing (held + 1) ss f trees.1 (passes (wide.may_be_empty k) (closes_two before behind p (held + 1) ss) trees.0 two) once t
       (shifted (no_part_has_row f) t (held + (1 + values_in 1 (passed_by f)) + 1) (held + 1 + values_in 1 (passed_by f) + 1) (omega arith) is)
   closing held (Byte b ∷ ss) (grown (fixed d) f) trees two once t is =
       closing (held + 1) ss f trees.1 two once t
@@ -185,20 +184,20 @@ choice_two before behind (c ∷ cs) b rule h found =
 
 module _ (p : Production) (before : ℕ) (rule : Rule) (taken : List ℕ) (inner rest : Forest) where
   abbrev Begun : (held : ℕ) → Type 0
-  Begun held = (closes_two before (owes_of p (held + 1)) (production_at rule.number) 0 (symbols_of rule) ≡ true) × AreTrees either (symbols_of rule) inner
+  Begun held = (closes_two before (owes_of p (held + 1)) (production_at rule.number) 0 (symbols_of rule) ≡ true) × AreTrees wide (symbols_of rule) inner
 
-  begun : (held : ℕ) (ss : List Sym) (left : Forest) → AreTrees either ss left → begins_two p before held ss ≡ true → skipped left ≡ grown (branch rule taken inner) rest
+  begun : (held : ℕ) (ss : List Sym) (left : Forest) → AreTrees wide ss left → begins_two p before held ss ≡ true → skipped left ≡ grown (branch rule taken inner) rest
       → (t : ℕ) → t ≡ held + values_in 1 (passed_by left) → Begun t
-  unfolding either
+  unfolding wide
   begun held (Kind k ∷ ss) (grown (branch r x i) f) trees two is t there =
-      let parts = and_parts (choices_two before (owes_of p (held + 1)) (get_or either_sheet k blank).choices) (not (either.may_be_empty k) || begins_two p before (held + 1) ss) two in
+      let parts = and_parts (choices_two before (owes_of p (held + 1)) (get_or wide_sheet k blank).choices) (not (wide.may_be_empty k) || begins_two p before (held + 1) ss) two in
       let same_rule : r ≡ rule = cc in
       let same_inner : i ≡ inner = cc in
       let same : t ≡ held = omega (arith, there) in
-      rw (same, ← same_rule, ← same_inner) (choice_two before (owes_of p (held + 1)) (get_or either_sheet k blank).choices trees.0.0.byte r parts.0 trees.0.0.found, trees.0.1)
+      rw (same, ← same_rule, ← same_inner) (choice_two before (owes_of p (held + 1)) (get_or wide_sheet k blank).choices trees.0.0.byte r parts.0 trees.0.0.found, trees.0.1)
   begun held (Kind k ∷ ss) (grown empty f) trees two is t there =
-      let parts = and_parts (choices_two before (owes_of p (held + 1)) (get_or either_sheet k blank).choices) (not (either.may_be_empty k) || begins_two p before (held + 1) ss) two in
-      begun (held + 1) ss f trees.1 (passes (either.may_be_empty k) (begins_two p before (held + 1) ss) trees.0 parts.1) is t (omega (arith, there))
+      let parts = and_parts (choices_two before (owes_of p (held + 1)) (get_or wide_sheet k blank).choices) (not (wide.may_be_empty k) || begins_two p before (held + 1) ss) two in
+      begun (held + 1) ss f trees.1 (passes (wide.may_be_empty k) (begins_two p before (held + 1) ss) trees.0 parts.1) is t (omega (arith, there))
   begun held (Byte b ∷ ss) (grown (fixed d) f) trees two is t there = begun (held + 1) ss f trees.1 two is t (omega (arith, there))
   begun held ss (grown (token x) f) trees two is t there = cc
   begun held ss nothing trees two is t there = cc
@@ -229,10 +228,10 @@ most_right Production.TypeTag own = name_one own
 most_right Production.PackArgument own = pack_most own
 most_right p own = closes_owed p own
 
-behind_passed : (ss : List Sym) (passed left : Forest) → AreTrees either ss (joined passed left) → AreTrees either (drop (values_in 1 passed) ss) left
+behind_passed : (ss : List Sym) (passed left : Forest) → AreTrees wide ss (joined passed left) → AreTrees wide (drop (values_in 1 passed) ss) left
 behind_passed ss nothing left trees = trees
 behind_passed [] (grown t passed) left trees = absurd trees
-behind_passed (s ∷ ss) (grown t passed) left trees = subst (λ n. AreTrees either (drop n (s ∷ ss)) left) (one_more t) (behind_passed ss passed left trees.1)
+behind_passed (s ∷ ss) (grown t passed) left trees = subst (λ n. AreTrees wide (drop n (s ∷ ss)) left) (one_more t) (behind_passed ss passed left trees.1)
   where
     one_more : (t : Tree) → suc (values_in 1 passed) ≡ values_in 1 (grown t passed)
     one_more empty = omega arith
@@ -251,7 +250,7 @@ pub record AtOnce (around : ℕ) (held next : ℕ) (number : ℕ) (at_once : ℕ
   pub refused : owes around held + closes number [] ≤ owes around next + 2
 
 pub at_once_two : (s : List ℕ) (around : Open State Around) (held from : ℕ) (left : Forest) (rule : Rule) (taken : List ℕ) (parts rest : Forest)
-    → Stands either s 1 around held from left → skipped left ≡ grown (branch rule taken parts) rest → closes_at_once parts ≡ true
+    → Stands wide s 1 around held from left → skipped left ≡ grown (branch rule taken parts) rest → closes_at_once parts ≡ true
     → AtOnce around.rule.number held (held + values_in 1 (passed_by left) + 1) rule.number (if no_part_has_row parts then 0 else (values_in 1 (passed_by parts) + 1))
 unfolding owes closes
 at_once_two s around held from left rule taken parts rest st left_is once =
@@ -261,8 +260,8 @@ at_once_two s around held from left rule taken parts rest st left_is once =
     let number : production_at around.rule.number ≡ p = ap (λ r. production_at r.number) t.is ∙ at_number p in
     let symbols : symbols_of around.rule ≡ parts_of p = ap symbols_of t.is ∙ its_symbols p in
     let next = held + values_in 1 (passed_by left) + 1 in
-    let trees : AreTrees either (drop held (parts_of p)) left =
-    subst (λ ss. AreTrees either (drop held ss) left) symbols (subst (λ n. AreTrees either (drop n (symbols_of around.rule)) left) (sym st.counted) (behind_passed (symbols_of around.rule) st.passed left st.trees)) in
+    let trees : AreTrees wide (drop held (parts_of p)) left =
+    subst (λ ss. AreTrees wide (drop held ss) left) symbols (subst (λ n. AreTrees wide (drop n (symbols_of around.rule)) left) (sym st.counted) (behind_passed (symbols_of around.rule) st.passed left st.trees)) in
     let began = begun p (owes_of p held) rule taken parts rest held (drop held (parts_of p)) left trees (begins_at p held) left_is (held + values_in 1 (passed_by left)) refl in
     let at_once : ℕ = if no_part_has_row parts then 0 else (values_in 1 (passed_by parts) + 1) in
     let ends = closing (owes_of p held) (owes_of p next) q 0 (symbols_of rule) parts began.1 began.0 once at_once

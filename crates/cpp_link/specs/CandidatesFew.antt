@@ -4,7 +4,7 @@ use Rattle.sym_shape.specs.declared.rule.Sym.TheVariants.{Kind}
 use Rattle.sym_shape.specs.Tree.{Tree, IsTree}
 use Rattle.sym_link.specs.Reading.{Found}
 use Rattle.sym_link.specs.Unfold.{unfold_tree}
-use Rattle.cpp_grammar.specs.Table.{either}
+use Rattle.cpp_grammar.specs.Table.{wide}
 use Rattle.cpp_grammar.specs.Values.{State, Value}
 use Rattle.cpp_grammar.specs.Unfolding.{cpp, first_around, first_state}
 use Rattle.cpp_link.specs.NodeCount.{nodes_of_shape}
@@ -12,6 +12,6 @@ use Rattle.cpp_link.specs.NodeCount.{nodes_of_shape}
 -- Each candidate of a symbol that is read was made as a node, beside the four with which a table begins.
 abbrev pub CandidatesAreFew : Type 0
 CandidatesAreFew =
-    (shape : Tree) → IsTree either (Kind 0) shape → (read : Found (List Value) State)
+    (shape : Tree) → IsTree wide (Kind 0) shape → (read : Found (List Value) State)
     → unfold_tree cpp first_around 0 shape first_state ≡ Ok read
     → 4 + length read.state.candidates ≤ nodes_of_shape shape

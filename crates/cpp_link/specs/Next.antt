@@ -1,5 +1,5 @@
 -- The number of the next part of a production that has a row.
-use Rattle.std.specs.Prelude.{ℕ, ◌+◌, Bool, true, false, ◌&&◌, ◌||◌, nat_eq, nat_le, nat_lt}
+use Rattle.std.specs.Prelude.{ℕ, ◌+◌, Bool, true, false, ◌||◌, nat_eq, nat_lt}
 use Rattle.cpp_grammar.specs.declared.production.Production.{Production}
 use Rattle.cpp_grammar.specs.Grammar.{number_of}
 
@@ -20,11 +20,12 @@ is_list rule = nat_eq rule (number_of Production.Arguments) || nat_eq rule (numb
 
 -- one of some arguments, of which none is a list by itself
 unfoldable pub is_argument : ℕ → Bool
-is_argument rule = (nat_le (number_of Production.PackArgument) rule && nat_le rule (number_of Production.TypeArgument)) || nat_eq rule (number_of Production.AnyArgument)
+is_argument rule =
+    nat_eq rule (number_of Production.PackArgument) || nat_eq rule (number_of Production.LiteralArgument) || nat_eq rule (number_of Production.AnyArgument)
 
 -- one of a pack's elements
 unfoldable pub is_element : ℕ → Bool
-is_element rule = (nat_le (number_of Production.LiteralElement) rule && nat_le rule (number_of Production.TypeElement)) || nat_eq rule (number_of Production.AnyElement)
+is_element rule = nat_eq rule (number_of Production.LiteralElement) || nat_eq rule (number_of Production.AnyElement)
 
 -- r, V, K, and one of R and O: which of the marks of a nested name it is
 unfoldable pub nested_mark : ℕ → ℕ
@@ -40,10 +41,7 @@ type_mark byte = elim (nat_eq byte 86) [ true ↦ 0 | false ↦ 1 ]
 -- behind fixed bytes
 unfoldable pub behind_bytes : Production → (held : ℕ) → ℕ
 behind_bytes Production.Symbol held = at_least 1 held
-behind_bytes Production.Guard held = at_least 1 held
 behind_bytes Production.EncodingLiteral held = at_least 1 held
-behind_bytes Production.AddressArgument held = at_least 2 held
-behind_bytes Production.AddressElement held = at_least 2 held
 behind_bytes Production.Address held = at_least 2 held
 behind_bytes Production.NonVirtualThunk held = over 1 held
 behind_bytes Production.VirtualThunk held = over 3 (over 1 held)

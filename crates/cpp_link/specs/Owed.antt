@@ -42,7 +42,6 @@ made_at_end Production.LocalTypeName = 1
 made_at_end Production.SourceName = 1
 made_at_end Production.OperatorName = 1
 made_at_end Production.Symbol = 1
-made_at_end Production.Guard = 1
 made_at_end Production.Encoding = 1
 made_at_end Production.SpecialType = 1
 made_at_end Production.NonVirtualThunk = 1
@@ -71,21 +70,15 @@ made_at_end Production.TypeWithS = 1
 made_at_end Production.LocalType = 1
 made_at_end Production.Builtin = 1
 made_at_end Production.Vendor = 1
-made_at_end Production.Array = 1
 made_at_end Production.Function = 1
 made_at_end Production.Complex = 1
-made_at_end Production.StdType = 1
 made_at_end Production.RestItem = 1
 made_at_end Production.LvalueItem = 1
 made_at_end Production.RvalueItem = 1
 made_at_end Production.Items = 1
 made_at_end Production.PackArgument = 1
 made_at_end Production.LiteralArgument = 1
-made_at_end Production.AddressArgument = 1
-made_at_end Production.TypeArgument = 1
 made_at_end Production.LiteralElement = 1
-made_at_end Production.AddressElement = 1
-made_at_end Production.TypeElement = 1
 made_at_end Production.Address = 1
 made_at_end Production.EncodingLiteral = 1
 made_at_end Production.BoolLiteral = 1
@@ -127,4 +120,4 @@ owes number held = owes_of (production_at number) held
 
 -- A tree of the kind makes at most two nodes a byte, and this, less the base.
 unfoldable pub slack : List ℕ
-slack = 6 ∷ 10 ∷ 8 ∷ 10 ∷ 9 ∷ 8 ∷ 4 ∷ 8 ∷ 8 ∷ 10 ∷ 10 ∷ 10 ∷ 10 ∷ 7 ∷ 6 ∷ 4 ∷ 6 ∷ 6 ∷ 8 ∷ 8 ∷ 8 ∷ 8 ∷ 10 ∷ 9 ∷ 8 ∷ 10 ∷ 8 ∷ 6 ∷ 9 ∷ 9 ∷ 9 ∷ 9 ∷ 9 ∷ 9 ∷ 9 ∷ 10 ∷ 10 ∷ 6 ∷ 8 ∷ 9 ∷ 9 ∷ 10 ∷ 10 ∷ 6 ∷ 10 ∷ 10 ∷ 0 ∷ 8 ∷ 8 ∷ 9 ∷ 10 ∷ 9 ∷ 6 ∷ 8 ∷ 8 ∷ 8 ∷ 8 ∷ 8 ∷ 8 ∷ 8 ∷ 8 ∷ 8 ∷ 8 ∷ 8 ∷ 8 ∷ 8 ∷ 6 ∷ 10 ∷ 6 ∷ 8 ∷ 8 ∷ 8 ∷ 10 ∷ 6 ∷ 10 ∷ 8 ∷ 8 ∷ 8 ∷ 7 ∷ 8 ∷ 6 ∷ 10 ∷ 9 ∷ 10 ∷ 9 ∷ 8 ∷ 10 ∷ 9 ∷ 9 ∷ 5 ∷ 6 ∷ 8 ∷ []
+slack = 6 ∷ 10 ∷ 8 ∷ 10 ∷ 9 ∷ 8 ∷ 4 ∷ 8 ∷ 8 ∷ 10 ∷ 10 ∷ 10 ∷ 10 ∷ 7 ∷ 6 ∷ 4 ∷ 6 ∷ 6 ∷ 8 ∷ 8 ∷ 8 ∷ 8 ∷ 10 ∷ 9 ∷ 8 ∷ 10 ∷ 8 ∷ 6 ∷ 9 ∷ 9 ∷ 9 ∷ 9 ∷ 9 ∷ 9 ∷ 9 ∷ 10 ∷ 10 ∷ 6 ∷ 8 ∷ 9 ∷ 9 ∷ 10 ∷ 10 ∷ 6 ∷ 10 ∷ 10 ∷ 0 ∷ 8 ∷ 8 ∷ 9 ∷ 10 ∷ 9 ∷ 6 ∷ 8 ∷ 8 ∷ 8 ∷ 8 ∷ 8 ∷ 8 ∷ 8 ∷ 8 ∷ 8 ∷ 8 ∷ 8 ∷ 8 ∷ 8 ∷ 6 ∷ 10 ∷ 6 ∷ 8 ∷ 8 ∷ 8 ∷ 10 ∷ 6 ∷ 10 ∷ 8 ∷ 8 ∷ 8 ∷ 7 ∷ 8 ∷ 6 ∷ 10 ∷ 9 ∷ 10 ∷ 9 ∷ 8 ∷ 10 ∷ 9 ∷ 9 ∷ 5 ∷ 6 ∷ 8 ∷ 8 ∷ []

@@ -6,7 +6,6 @@ use Rattle.cpp_grammar.specs.declared.production.Production.{Production}
 unfoldable pub quiet_parts : Production → ℕ
 quiet_parts Production.Encoding = 0
 quiet_parts Production.Special = 0
-quiet_parts Production.Guard = 0
 quiet_parts Production.NestArguments = 0
 quiet_parts Production.NestInstance = 0
 quiet_parts Production.NestNext = 0
@@ -26,7 +25,6 @@ quiet_parts Production.Destructor = 1
 quiet_parts Production.StdName = 1
 quiet_parts Production.AbbreviatedName = 1
 quiet_parts Production.NestStd = 1
-quiet_parts Production.NestAbbreviated = 1
 quiet_parts Production.NestTemplate = 1
 quiet_parts Production.NestParameter = 1
 quiet_parts Production.NestInternal = 1
@@ -55,10 +53,7 @@ quiet_parts _ = 5
 -- parts without a row may stand between those with one
 unfoldable pub skips_parts : Production → Bool
 skips_parts Production.Symbol = true
-skips_parts Production.Guard = true
 skips_parts Production.EncodingLiteral = true
-skips_parts Production.AddressArgument = true
-skips_parts Production.AddressElement = true
 skips_parts Production.Address = true
 skips_parts Production.NonVirtualThunk = true
 skips_parts Production.VirtualThunk = true

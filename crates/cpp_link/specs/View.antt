@@ -2,7 +2,7 @@
 use Rattle.std.specs.Prelude.{◌≡◌, ℕ, ◌-◌, ◌*◌, ◌<◌, ◌≤◌, List, length}
 use Rattle.sym_link.specs.Reading.{Open}
 use Rattle.sym_link.specs.Linking.{View}
-use Rattle.cpp_grammar.specs.Table.{either}
+use Rattle.cpp_grammar.specs.Table.{wide}
 use Rattle.cpp_term.specs.Unfolding.{first_around, first_state}
 use Rattle.cpp_term.specs.Values.{State, Value, Around}
 use Rattle.cpp_tree.specs.Nodes.{over, tree_at, IsTable}
@@ -54,7 +54,7 @@ pub record IsPaid (l : Linked) : Type 0 where
 
 abbrev pub cpp_view : List ℕ → View Linked Part Kept Value State Around
 cpp_view s = record {
-  table = either;
+  table = wide;
   reading = linked s;
   around = first_around;
   first = first_state;

@@ -5,8 +5,8 @@ use Rattle.sym_link.specs.Reading.{Open}
 use Rattle.sym_link.specs.Linking.{IsLinking}
 use Rattle.sym_link.specs.Threads.{IsThreading}
 use Rattle.cpp_grammar.specs.Grammar.{kinds, may_be_empty}
-use Rattle.cpp_grammar.specs.Table.{either_sheet, sheet_with, blank, either}
-use Rattle.cpp_grammar.proofs.Widening.{either_sound}
+use Rattle.cpp_grammar.specs.Table.{wide_sheet, sheet_with, blank, wide}
+use Rattle.cpp_grammar.specs.TableLaws.{wide_sound}
 use Rattle.cpp_grammar.specs.Unfolding.{production_at}
 use Rattle.cpp_term.specs.Unfolding.{cpp}
 use Rattle.cpp_term.specs.Values.{State, Value, Around}
@@ -39,8 +39,8 @@ surrounds_stays s old new kept around grows is = record {
 kept_stays : (s : List ℕ) (old new : Linked) (kept : Kept) (rule : Open State Around) → GoesOn s old new → IsKept s old kept rule → IsKept s new kept rule
 kept_stays s old new kept rule grows is = record { surrounds = surrounds_stays s old new kept rule.context grows is.surrounds; packs = is.packs }
 
-starts : either.may_be_empty 0 ≡ false
-unfolding either either_sheet sheet_with blank kinds may_be_empty
+starts : wide.may_be_empty 0 ≡ false
+unfolding wide wide_sheet sheet_with blank kinds may_be_empty
 starts = refl
 
 two : (number held : ℕ) → owes number held ≤ 2
@@ -54,7 +54,7 @@ closing number own = closes_owed (production_at number) own
 pub cpp_laws : (s : List ℕ) → IsLinking (cpp_view s)
 unfolding cpp
 cpp_laws s = record {
-  sound = either_sound;
+  sound = wide_sound;
   starts = starts;
   part_stays = λ old new part value grows is. part_stays s old new part value grows is;
   kept_stays = λ old new kept rule grows is. kept_stays s old new kept rule grows is;

@@ -53,7 +53,8 @@ fn is_list(rule: u16) -> bool
 fn is_argument(rule: u16) -> bool
     ensures { result ≡ is_argument rule }
 {
-    (Production::PackArgument as u16 <= rule && rule <= Production::TypeArgument as u16)
+    rule == Production::PackArgument as u16
+        || rule == Production::LiteralArgument as u16
         || rule == Production::AnyArgument as u16
 }
 
@@ -62,8 +63,7 @@ fn is_argument(rule: u16) -> bool
 fn is_element(rule: u16) -> bool
     ensures { result ≡ is_element rule }
 {
-    (Production::LiteralElement as u16 <= rule && rule <= Production::TypeElement as u16)
-        || rule == Production::AnyElement as u16
+    rule == Production::LiteralElement as u16 || rule == Production::AnyElement as u16
 }
 
 /// Which of the marks of a nested name it is: `r`, `V`, `K`, or one of `R` and `O`.
@@ -94,10 +94,7 @@ fn behind_bytes(production: Production, held: usize) -> usize
 {
     match production {
         Production::Symbol => at_least(1, held),
-        Production::Guard => at_least(1, held),
         Production::EncodingLiteral => at_least(1, held),
-        Production::AddressArgument => at_least(2, held),
-        Production::AddressElement => at_least(2, held),
         Production::Address => at_least(2, held),
         Production::NonVirtualThunk => over(1, held),
         Production::VirtualThunk => over(3, over(1, held)),

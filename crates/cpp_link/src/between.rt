@@ -290,12 +290,7 @@ impl Linked {
             Production::NestSource => self.go_as(symbol, Production::NestSource, frame, parts),
             Production::Encoding => self.go_as(symbol, Production::Encoding, frame, parts),
             Production::Arguments => self.go_as(symbol, Production::Arguments, frame, parts),
-            Production::NestAbbreviated => self.go_as(
-                symbol,
-                Production::NestAbbreviated,
-                frame,
-                parts,
-            ),
+            Production::NestTemplate => self.go_as(symbol, Production::NestTemplate, frame, parts),
             Production::TypeWithS => self.go_as(symbol, Production::TypeWithS, frame, parts),
             _ => match self.go_rare(symbol, production, frame, parts) {
                 Ok(then) => Ok(then),

@@ -352,9 +352,9 @@ impl Linked {
             Production::NestEnd => self.finish_as(symbol, Production::NestEnd, frame, parts),
             Production::Items => self.finish_as(symbol, Production::Items, frame, parts),
             Production::Builtin => self.finish_as(symbol, Production::Builtin, frame, parts),
-            Production::TypeArgument => self.finish_as(
+            Production::AnyArgument => self.finish_as(
                 symbol,
-                Production::TypeArgument,
+                Production::AnyArgument,
                 frame,
                 parts,
             ),
@@ -371,9 +371,9 @@ impl Linked {
             Production::NestedName => self.finish_as(symbol, Production::NestedName, frame, parts),
             Production::NestWithS => self.finish_as(symbol, Production::NestWithS, frame, parts),
             Production::Arguments => self.finish_as(symbol, Production::Arguments, frame, parts),
-            Production::NestAbbreviated => self.finish_as(
+            Production::NestTemplate => self.finish_as(
                 symbol,
-                Production::NestAbbreviated,
+                Production::NestTemplate,
                 frame,
                 parts,
             ),
@@ -405,7 +405,12 @@ impl Linked {
                 frame,
                 parts,
             ),
-            Production::StdType => self.finish_as(symbol, Production::StdType, frame, parts),
+            Production::PlainArgument => self.finish_as(
+                symbol,
+                Production::PlainArgument,
+                frame,
+                parts,
+            ),
             Production::Special => self.finish_as(symbol, Production::Special, frame, parts),
             _ => self.finish_rare(symbol, production, frame, parts),
         }

@@ -28,13 +28,13 @@ ghost use Rattle.std.specs.Prelude.{◌≤◌, ◌*◌, length};
 ghost use Rattle.sym_shape.specs.Tree.{Tree, IsTree, spell};
 ghost use Rattle.sym_shape.specs.declared.rule.Sym.TheVariants.{Kind};
 ghost use Rattle.sym_link.specs.Owing.{cost};
-ghost use Rattle.cpp_grammar.specs.Table.{either};
+ghost use Rattle.cpp_grammar.specs.Table.{wide};
 ghost use Rattle.cpp_link.specs.CandidatesFew.{CandidatesAreFew};
 ghost use Rattle.cpp_link.specs.Owed.{owes};
 
 /// The productions of a symbol's tree make at most two nodes for each byte.
 pub fn nodes_are_few()
-    ensures { (tree : Tree) → IsTree either (Kind 0) tree → cost owes tree ≤ 2 * length (spell tree) }
+    ensures { (tree : Tree) → IsTree wide (Kind 0) tree → cost owes tree ≤ 2 * length (spell tree) }
 {}
 
 /// Each candidate of a symbol that is read was made as a node, beside the four with which a table begins: a symbol has at least

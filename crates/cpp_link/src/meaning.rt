@@ -123,8 +123,6 @@ impl Linked {
             Production::NestStd => Meant::Given(self.given(symbol, parts, 2)),
             // <prefix> ::= <template-prefix> <template-args>
             Production::NestArguments => Meant::Given(self.given(symbol, parts, 3)),
-            // <prefix> ::= <substitution>, and what is within it, or <template-prefix> ::= <substitution>, and its arguments
-            Production::NestTemplate => Meant::Given(self.given(symbol, parts, 1)),
             // <nested-name> ::= N [<CV-qualifiers>] [<ref-qualifier>] <template-prefix> <template-args> E, or <prefix> likewise
             Production::NestInstance => Meant::Given(self.given(symbol, parts, 2)),
             // <prefix> ::= <data-member-prefix> <unqualified-name>, with <data-member-prefix> ::= <prefix> M
@@ -151,16 +149,6 @@ impl Linked {
                 list: NIL,
                 mark: Mark::Any,
             }),
-            // <special-name> ::= GV <object name>
-            Production::Guard => made(
-                Node::OfName {
-                    letter: b'V',
-                    name: self.tree(symbol, parts, 1),
-                    qualifiers: self.qualifiers(symbol, parts, 1),
-                    mark: self.reference(symbol, parts, 1),
-                },
-                true,
-            ),
             // <special-name> ::= TV <type> | TT <type> | TI <type> | TS <type>
             Production::SpecialType => made(
                 Node::Special {
@@ -329,43 +317,11 @@ impl Linked {
                 },
                 true,
             ),
-            // <template-arg> ::= X <expression> E, with <expression> ::= ad <expression>
-            Production::AddressArgument => made(
-                Node::Cell {
-                    first: self.tree(symbol, parts, 2),
-                    rest: self.list(symbol, parts, 3),
-                },
-                true,
-            ),
-            // <template-arg> ::= <type> | X <expression> E | <template-param-decl> <template-arg>, read by itself
-            Production::AnyArgument => made(
-                Node::Cell {
-                    first: self.tree(symbol, parts, 0),
-                    rest: self.list(symbol, parts, 1),
-                },
-                true,
-            ),
             // <template-arg> ::= <expr-primary>, in a pack
             Production::LiteralElement => made(
                 Node::Cell {
                     first: self.tree(symbol, parts, 0),
                     rest: self.list(symbol, parts, 2),
-                },
-                true,
-            ),
-            // <template-arg> ::= X <expression> E, in a pack
-            Production::AddressElement => made(
-                Node::Cell {
-                    first: self.tree(symbol, parts, 2),
-                    rest: self.list(symbol, parts, 3),
-                },
-                true,
-            ),
-            // <template-arg> ::= <type>, in a pack
-            Production::TypeElement => made(
-                Node::Cell {
-                    first: self.tree(symbol, parts, 0),
-                    rest: self.list(symbol, parts, 1),
                 },
                 true,
             ),
@@ -377,8 +333,6 @@ impl Linked {
                 },
                 true,
             ),
-            // <template-arg> ::= <type>, where the type is no parameter
-            Production::PlainArgument => tree(self.tree(symbol, parts, 0), true),
             // <template-arg> ::= <template-param> [<template-args>] | <template-param-decl> <template-arg>
             Production::ArgumentWithT => tree(self.tree(symbol, parts, 0), true),
             // <template-param> ::= T_ | T <parameter number> _, behind the T
@@ -577,14 +531,6 @@ impl Linked {
                 },
                 false,
             ),
-            // <array-type> ::= A <number> _ <element type>
-            Production::Array => made(
-                Node::Array {
-                    digits: normal(symbol, self.text(symbol, parts, 0)),
-                    element: self.tree(symbol, parts, 1),
-                },
-                false,
-            ),
             // <closure-type-name> ::= Ul <lambda-sig> E [ <nonnegative number> ] _
             Production::Lambda => self.lambda(symbol, parts),
             // <unnamed-type-name> ::= Ut [ <nonnegative number> ] _
@@ -604,25 +550,25 @@ impl Linked {
                 self.text(symbol, parts, 0),
             ))),
             Production::NestNext => unreachable!(),
+            Production::AnyArgument => unreachable!(),
+            Production::NestTemplate => unreachable!(),
+            Production::PlainArgument => unreachable!(),
             Production::SourceName => unreachable!(),
             Production::PlainType => unreachable!(),
             Production::NestEnd => unreachable!(),
             Production::Items => unreachable!(),
             Production::NestSource => unreachable!(),
             Production::Builtin => unreachable!(),
-            Production::TypeArgument => unreachable!(),
             Production::Symbol => unreachable!(),
             Production::NestedType => unreachable!(),
             Production::Encoding => unreachable!(),
             Production::NestedName => unreachable!(),
             Production::Arguments => unreachable!(),
             Production::NestWithS => unreachable!(),
-            Production::NestAbbreviated => unreachable!(),
             Production::TypeWithS => unreachable!(),
             Production::AbbreviatedType => unreachable!(),
             Production::Special => unreachable!(),
             Production::Substitution => unreachable!(),
-            Production::StdType => unreachable!(),
             Production::SourcePiece => unreachable!(),
             Production::Mark => unreachable!(),
             Production::QualifiedPlain => unreachable!(),
@@ -661,8 +607,8 @@ impl Linked {
             Production::NestWithS => Meant::Given(self.given(symbol, parts, 0)),
             // <prefix> ::= <source-name>
             Production::NestSource => Meant::Given(self.given(symbol, parts, 1)),
-            // <prefix> ::= <substitution>, and what is within it
-            Production::NestAbbreviated => Meant::Given(self.given(symbol, parts, 1)),
+            // <prefix> ::= <substitution>, and what is within it, or <template-prefix> ::= <substitution>, and its arguments
+            Production::NestTemplate => Meant::Given(self.given(symbol, parts, 1)),
             // <prefix> ::= <prefix> <unqualified-name>
             Production::NestNext => Meant::Given(self.given(symbol, parts, 1)),
             // <class-enum-type> ::= <nested-name>
@@ -679,6 +625,8 @@ impl Linked {
             ),
             // <type> ::= <class-enum-type> | .., without qualifiers
             Production::PlainType => tree(self.tree(symbol, parts, 0), true),
+            // <template-arg> ::= <type>, where the type is no parameter
+            Production::PlainArgument => tree(self.tree(symbol, parts, 0), true),
             // <builtin-type> ::= v | w | b | c | ..
             Production::Builtin => made(Node::Builtin(byte), true),
             // <bare-function-type> ::= <signature type>+
@@ -689,8 +637,8 @@ impl Linked {
                 },
                 true,
             ),
-            // <template-arg> ::= <type>
-            Production::TypeArgument => made(
+            // <template-arg> ::= <type> | X <expression> E | <template-param-decl> <template-arg>, read by itself
+            Production::AnyArgument => made(
                 Node::Cell {
                     first: self.tree(symbol, parts, 0),
                     rest: self.list(symbol, parts, 1),
@@ -731,8 +679,6 @@ impl Linked {
                 internal: false,
                 bytes: self.text(symbol, parts, 0),
             }),
-            // <unscoped-name> ::= St <unqualified-name>, as a type
-            Production::StdType => made(Node::InStd(self.piece(symbol, parts, 0)), false),
             // <encoding> ::= <special-name>
             Production::Special => Meant::Given(self.given(symbol, parts, 0)),
             // <substitution> ::= S_ | S <seq-id> _

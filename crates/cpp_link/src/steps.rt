@@ -145,7 +145,6 @@ impl Linked {
         match production {
             Production::Encoding => self.go(self.in_encoding(kept, place, None)),
             Production::Special => self.go(self.in_encoding(kept, place, None)),
-            Production::Guard => self.go(self.in_encoding(kept, place, None)),
             Production::OtherSpecial => self.go(self.in_encoding(kept, place, None)),
             Production::Lambda => self.go(self.in_signature(kept)),
             Production::ValueOf => self.go(self.in_signature(kept)),
@@ -314,7 +313,6 @@ impl Linked {
     {
         match production {
             Production::Special => self.go(self.in_encoding(kept, place, None)),
-            Production::Guard => self.go(self.in_encoding(kept, place, None)),
             Production::OtherSpecial => self.go(self.in_encoding(kept, place, None)),
             Production::Lambda => self.go(self.in_signature(kept)),
             Production::ValueOf => self.go(self.in_signature(kept)),
@@ -414,11 +412,6 @@ impl Linked {
                 listed: true,
                 is_name: true,
             },
-            Production::NestAbbreviated => Step::Named {
-                node: self.node(symbol, first),
-                listed: true,
-                is_name: true,
-            },
             Production::NestTemplate => Step::Named {
                 node: self.node(symbol, first),
                 listed: true,
@@ -490,7 +483,6 @@ impl Linked {
     {
         match production {
             Production::Special => self.go(self.in_encoding(kept, place, None)),
-            Production::Guard => self.go(self.in_encoding(kept, place, None)),
             Production::OtherSpecial => self.go(self.in_encoding(kept, place, None)),
             Production::Lambda => self.go(self.in_signature(kept)),
             Production::ValueOf => self.go(self.in_signature(kept)),
@@ -561,7 +553,6 @@ impl Linked {
     {
         match production {
             Production::Special => self.go(self.in_encoding(kept, place, None)),
-            Production::Guard => self.go(self.in_encoding(kept, place, None)),
             Production::OtherSpecial => self.go(self.in_encoding(kept, place, None)),
             Production::Lambda => self.go(self.in_signature(kept)),
             Production::ValueOf => self.go(self.in_signature(kept)),
@@ -614,7 +605,6 @@ impl Linked {
     {
         match production {
             Production::Special => self.go(self.in_encoding(kept, place, None)),
-            Production::Guard => self.go(self.in_encoding(kept, place, None)),
             Production::OtherSpecial => self.go(self.in_encoding(kept, place, None)),
             Production::Lambda => self.go(self.in_signature(kept)),
             Production::ValueOf => self.go(self.in_signature(kept)),

@@ -3,7 +3,7 @@
 use cpp_grammar::production::Production;
 
 /// The productions.
-pub(crate) const PRODUCTIONS: [Production; 153] = [
+pub(crate) const PRODUCTIONS: [Production; 145] = [
     Production::Mark,
     Production::InternalName,
     Production::LocalTypeName,
@@ -17,12 +17,14 @@ pub(crate) const PRODUCTIONS: [Production; 153] = [
     Production::Suffix,
     Production::SuffixByte,
     Production::Special,
-    Production::Guard,
+    Production::OtherSpecial,
     Production::Encoding,
     Production::SpecialType,
     Production::NonVirtualThunk,
     Production::VirtualThunk,
     Production::CovariantThunk,
+    Production::SpecialName,
+    Production::ConstructionVtable,
     Production::NonVirtualOffset,
     Production::VirtualOffset,
     Production::Negative,
@@ -38,16 +40,22 @@ pub(crate) const PRODUCTIONS: [Production; 153] = [
     Production::NestLocalType,
     Production::NestSource,
     Production::NestStd,
-    Production::NestAbbreviated,
+    Production::NestTemplate,
     Production::NestArguments,
     Production::NestNext,
+    Production::NestTag,
     Production::NestEnd,
     Production::Constructor,
     Production::Destructor,
+    Production::ComponentWithC,
+    Production::OtherOperatorName,
+    Production::Holder,
     Production::Abbreviation,
     Production::Substitution,
     Production::NestedType,
     Production::StringLiteral,
+    Production::DefaultEntity,
+    Production::DefaultTypeEntity,
     Production::Discriminator,
     Production::OneDigit,
     Production::ManyDigits,
@@ -67,6 +75,8 @@ pub(crate) const PRODUCTIONS: [Production; 153] = [
     Production::BuiltinWithD,
     Production::Vector,
     Production::NoexceptFunction,
+    Production::SizedFloat,
+    Production::ConstrainedAuto,
     Production::Pointer,
     Production::MemberPointer,
     Production::Parameter,
@@ -74,10 +84,10 @@ pub(crate) const PRODUCTIONS: [Production; 153] = [
     Production::LocalType,
     Production::Builtin,
     Production::Vendor,
-    Production::Array,
+    Production::ArrayType,
     Production::Function,
     Production::Complex,
-    Production::StdType,
+    Production::TypeInStd,
     Production::AbbreviatedType,
     Production::RestEnd,
     Production::RestLvalue,
@@ -88,13 +98,12 @@ pub(crate) const PRODUCTIONS: [Production; 153] = [
     Production::RvalueItem,
     Production::Items,
     Production::Arguments,
+    Production::Tag,
     Production::PackArgument,
     Production::LiteralArgument,
-    Production::AddressArgument,
-    Production::TypeArgument,
+    Production::AnyArgument,
     Production::LiteralElement,
-    Production::AddressElement,
-    Production::TypeElement,
+    Production::AnyElement,
     Production::Address,
     Production::EncodingLiteral,
     Production::BoolLiteral,
@@ -140,27 +149,10 @@ pub(crate) const PRODUCTIONS: [Production; 153] = [
     Production::AnyArray,
     Production::BoundedArray,
     Production::LengthArray,
-    Production::OtherSpecial,
-    Production::SpecialName,
-    Production::ConstructionVtable,
-    Production::NestTemplate,
-    Production::NestTag,
-    Production::ComponentWithC,
-    Production::OtherOperatorName,
-    Production::Holder,
-    Production::DefaultEntity,
-    Production::DefaultTypeEntity,
-    Production::SizedFloat,
-    Production::ConstrainedAuto,
-    Production::ArrayType,
-    Production::TypeInStd,
-    Production::Tag,
-    Production::AnyElement,
-    Production::AnyArgument,
 ];
 
 /// How many parts each has.
-pub(crate) const PART_COUNTS: [u8; 153] = [
+pub(crate) const PART_COUNTS: [u8; 145] = [
     0, // Mark
     2, // InternalName
     2, // LocalTypeName
@@ -174,12 +166,14 @@ pub(crate) const PART_COUNTS: [u8; 153] = [
     1, // Suffix
     1, // SuffixByte
     1, // Special
-    2, // Guard
+    2, // OtherSpecial
     2, // Encoding
     1, // SpecialType
     3, // NonVirtualThunk
     5, // VirtualThunk
     3, // CovariantThunk
+    1, // SpecialName
+    4, // ConstructionVtable
     2, // NonVirtualOffset
     4, // VirtualOffset
     1, // Negative
@@ -195,16 +189,22 @@ pub(crate) const PART_COUNTS: [u8; 153] = [
     2, // NestLocalType
     2, // NestSource
     3, // NestStd
-    2, // NestAbbreviated
+    2, // NestTemplate
     4, // NestArguments
     2, // NestNext
+    2, // NestTag
     0, // NestEnd
     2, // Constructor
     2, // Destructor
+    1, // ComponentWithC
+    2, // OtherOperatorName
+    2, // Holder
     0, // Abbreviation
     1, // Substitution
     1, // NestedType
     0, // StringLiteral
+    2, // DefaultEntity
+    2, // DefaultTypeEntity
     1, // Discriminator
     0, // OneDigit
     2, // ManyDigits
@@ -224,6 +224,8 @@ pub(crate) const PART_COUNTS: [u8; 153] = [
     0, // BuiltinWithD
     3, // Vector
     4, // NoexceptFunction
+    2, // SizedFloat
+    1, // ConstrainedAuto
     1, // Pointer
     2, // MemberPointer
     2, // Parameter
@@ -231,10 +233,10 @@ pub(crate) const PART_COUNTS: [u8; 153] = [
     4, // LocalType
     0, // Builtin
     1, // Vendor
-    2, // Array
+    1, // ArrayType
     3, // Function
     1, // Complex
-    1, // StdType
+    1, // TypeInStd
     1, // AbbreviatedType
     0, // RestEnd
     1, // RestLvalue
@@ -245,13 +247,12 @@ pub(crate) const PART_COUNTS: [u8; 153] = [
     2, // RvalueItem
     2, // Items
     2, // Arguments
+    2, // Tag
     3, // PackArgument
     3, // LiteralArgument
-    4, // AddressArgument
-    2, // TypeArgument
+    2, // AnyArgument
     3, // LiteralElement
-    4, // AddressElement
-    2, // TypeElement
+    2, // AnyElement
     5, // Address
     2, // EncodingLiteral
     1, // BoolLiteral
@@ -297,27 +298,10 @@ pub(crate) const PART_COUNTS: [u8; 153] = [
     1, // AnyArray
     3, // BoundedArray
     2, // LengthArray
-    2, // OtherSpecial
-    1, // SpecialName
-    4, // ConstructionVtable
-    2, // NestTemplate
-    2, // NestTag
-    1, // ComponentWithC
-    2, // OtherOperatorName
-    2, // Holder
-    2, // DefaultEntity
-    2, // DefaultTypeEntity
-    2, // SizedFloat
-    1, // ConstrainedAuto
-    1, // ArrayType
-    1, // TypeInStd
-    2, // Tag
-    2, // AnyElement
-    2, // AnyArgument
 ];
 
 /// Whether parts without a row may stand between those of each.
-pub(crate) const SKIPS_PARTS: [bool; 153] = [
+pub(crate) const SKIPS_PARTS: [bool; 145] = [
     false, // Mark
     false, // InternalName
     false, // LocalTypeName
@@ -331,12 +315,14 @@ pub(crate) const SKIPS_PARTS: [bool; 153] = [
     false, // Suffix
     false, // SuffixByte
     false, // Special
-    true, // Guard
+    false, // OtherSpecial
     false, // Encoding
     false, // SpecialType
     true, // NonVirtualThunk
     true, // VirtualThunk
     false, // CovariantThunk
+    false, // SpecialName
+    true, // ConstructionVtable
     false, // NonVirtualOffset
     true, // VirtualOffset
     false, // Negative
@@ -352,16 +338,22 @@ pub(crate) const SKIPS_PARTS: [bool; 153] = [
     false, // NestLocalType
     false, // NestSource
     true, // NestStd
-    false, // NestAbbreviated
+    false, // NestTemplate
     true, // NestArguments
     false, // NestNext
+    false, // NestTag
     false, // NestEnd
     false, // Constructor
     false, // Destructor
+    false, // ComponentWithC
+    false, // OtherOperatorName
+    false, // Holder
     false, // Abbreviation
     false, // Substitution
     false, // NestedType
     false, // StringLiteral
+    false, // DefaultEntity
+    false, // DefaultTypeEntity
     false, // Discriminator
     false, // OneDigit
     false, // ManyDigits
@@ -381,6 +373,8 @@ pub(crate) const SKIPS_PARTS: [bool; 153] = [
     false, // BuiltinWithD
     true, // Vector
     true, // NoexceptFunction
+    false, // SizedFloat
+    false, // ConstrainedAuto
     false, // Pointer
     false, // MemberPointer
     false, // Parameter
@@ -388,10 +382,10 @@ pub(crate) const SKIPS_PARTS: [bool; 153] = [
     true, // LocalType
     false, // Builtin
     false, // Vendor
-    false, // Array
+    false, // ArrayType
     true, // Function
     false, // Complex
-    false, // StdType
+    false, // TypeInStd
     false, // AbbreviatedType
     false, // RestEnd
     false, // RestLvalue
@@ -402,13 +396,12 @@ pub(crate) const SKIPS_PARTS: [bool; 153] = [
     false, // RvalueItem
     false, // Items
     false, // Arguments
+    false, // Tag
     true, // PackArgument
     true, // LiteralArgument
-    true, // AddressArgument
-    false, // TypeArgument
+    false, // AnyArgument
     true, // LiteralElement
-    true, // AddressElement
-    false, // TypeElement
+    false, // AnyElement
     true, // Address
     true, // EncodingLiteral
     false, // BoolLiteral
@@ -454,27 +447,10 @@ pub(crate) const SKIPS_PARTS: [bool; 153] = [
     false, // AnyArray
     true, // BoundedArray
     false, // LengthArray
-    false, // OtherSpecial
-    false, // SpecialName
-    true, // ConstructionVtable
-    false, // NestTemplate
-    false, // NestTag
-    false, // ComponentWithC
-    false, // OtherOperatorName
-    false, // Holder
-    false, // DefaultEntity
-    false, // DefaultTypeEntity
-    false, // SizedFloat
-    false, // ConstrainedAuto
-    false, // ArrayType
-    false, // TypeInStd
-    false, // Tag
-    false, // AnyElement
-    false, // AnyArgument
 ];
 
 /// Before how many of its parts nothing is done in each: before none, the first, or all, which are five at most.
-pub(crate) const QUIET_PARTS: [u8; 153] = [
+pub(crate) const QUIET_PARTS: [u8; 145] = [
     5, // Mark
     1, // InternalName
     1, // LocalTypeName
@@ -488,12 +464,14 @@ pub(crate) const QUIET_PARTS: [u8; 153] = [
     5, // Suffix
     5, // SuffixByte
     0, // Special
-    0, // Guard
+    0, // OtherSpecial
     0, // Encoding
     5, // SpecialType
     5, // NonVirtualThunk
     5, // VirtualThunk
     5, // CovariantThunk
+    5, // SpecialName
+    5, // ConstructionVtable
     5, // NonVirtualOffset
     5, // VirtualOffset
     5, // Negative
@@ -509,16 +487,22 @@ pub(crate) const QUIET_PARTS: [u8; 153] = [
     1, // NestLocalType
     1, // NestSource
     1, // NestStd
-    1, // NestAbbreviated
+    1, // NestTemplate
     0, // NestArguments
     0, // NestNext
+    1, // NestTag
     5, // NestEnd
     1, // Constructor
     1, // Destructor
+    5, // ComponentWithC
+    1, // OtherOperatorName
+    1, // Holder
     5, // Abbreviation
     5, // Substitution
     5, // NestedType
     5, // StringLiteral
+    5, // DefaultEntity
+    5, // DefaultTypeEntity
     5, // Discriminator
     5, // OneDigit
     5, // ManyDigits
@@ -538,6 +522,8 @@ pub(crate) const QUIET_PARTS: [u8; 153] = [
     5, // BuiltinWithD
     5, // Vector
     5, // NoexceptFunction
+    5, // SizedFloat
+    5, // ConstrainedAuto
     5, // Pointer
     5, // MemberPointer
     1, // Parameter
@@ -545,10 +531,10 @@ pub(crate) const QUIET_PARTS: [u8; 153] = [
     1, // LocalType
     5, // Builtin
     5, // Vendor
-    5, // Array
+    5, // ArrayType
     5, // Function
     5, // Complex
-    5, // StdType
+    5, // TypeInStd
     5, // AbbreviatedType
     5, // RestEnd
     5, // RestLvalue
@@ -559,13 +545,12 @@ pub(crate) const QUIET_PARTS: [u8; 153] = [
     1, // RvalueItem
     5, // Items
     0, // Arguments
+    1, // Tag
     1, // PackArgument
     5, // LiteralArgument
-    5, // AddressArgument
-    5, // TypeArgument
+    5, // AnyArgument
     5, // LiteralElement
-    5, // AddressElement
-    5, // TypeElement
+    5, // AnyElement
     5, // Address
     5, // EncodingLiteral
     5, // BoolLiteral
@@ -611,21 +596,4 @@ pub(crate) const QUIET_PARTS: [u8; 153] = [
     5, // AnyArray
     1, // BoundedArray
     5, // LengthArray
-    0, // OtherSpecial
-    5, // SpecialName
-    5, // ConstructionVtable
-    1, // NestTemplate
-    1, // NestTag
-    5, // ComponentWithC
-    1, // OtherOperatorName
-    1, // Holder
-    5, // DefaultEntity
-    5, // DefaultTypeEntity
-    5, // SizedFloat
-    5, // ConstrainedAuto
-    5, // ArrayType
-    5, // TypeInStd
-    1, // Tag
-    5, // AnyElement
-    5, // AnyArgument
 ];

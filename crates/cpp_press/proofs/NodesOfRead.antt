@@ -11,7 +11,7 @@ use Rattle.cpp_grammar.specs.Mangled.{IsReading}
 use Rattle.cpp_grammar.specs.Table.{abi}
 use Rattle.cpp_grammar.specs.Term.{Term}
 use Rattle.cpp_grammar.specs.Unfolding.{cpp, first_around, first_state, first_tree, unfold_cpp}
-use Rattle.cpp_grammar.proofs.Growing.{abi_either}
+use Rattle.cpp_grammar.proofs.Growing.{abi_wide}
 use Rattle.cpp_grammar.proofs.ClosedStates.{behind_bind}
 use Rattle.cpp_press_laws.specs.Apart.{spelled_components}
 use Rattle.cpp_press_laws.proofs.Components.FewPressed.{components-few}
@@ -28,6 +28,6 @@ components-below s t nodes (well_shaped (shape, is, spelled, e)) are =
     omega (
       arith,
       components-few shape t (is, sym e) whole.value whole.is,
-      candidates-few shape (abi_either (Kind 0) shape is) whole.value whole.is,
+      candidates-few shape (abi_wide (Kind 0) shape is) whole.value whole.is,
       are shape is spelled,
     )

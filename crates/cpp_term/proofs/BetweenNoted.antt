@@ -3,11 +3,10 @@ use Rattle.std.proofs.Common.{◌≡◌, refl, ap, sym, ◌∙◌, subst, ℕ, �
 use Rattle.std.proofs.lemmas.Bool.{false≢true}
 use Rattle.sym_core.specs.declared.refusal.Refusal.{Refusal}
 use Rattle.sym_core.specs.declared.refusal.Refusal.TheVariants.{BadReference}
-use Rattle.sym_link.specs.Reading.{◌>>=◌}
+use Rattle.sym_link.specs.Reading.{◌>>=◌, Next}
 use Rattle.sym_link.specs.Unfold.{found}
 use Rattle.sym_core.specs.declared.NumberKind.TheVariants.{Decimal, Seq36}
 use Rattle.sym_core.specs.Value.{counted_value}
-use Rattle.sym_link.specs.Reading.{Next}
 use Rattle.cpp_grammar.specs.declared.production.Production.{Production}
 use Rattle.cpp_grammar.specs.Rescoping.{generic_number, generic_so_far, parameter_here, argument_here, lambda_with, with_own, with_holder, is_instance, holder_so_far, numbered, between_wide, close_wide}
 use Rattle.cpp_grammar.specs.Scope.{count, element, is_open, length_if_pack}
@@ -208,7 +207,6 @@ between_noted own Production.NestStd around place (v ∷ []) x y stays packs = n
 between_noted own Production.NestStd around place (v ∷ w ∷ []) x y stays packs =
     named_goes own around x x y y (applied (tree_of v) w) _ false (w ∷ []) (noted_value (around_place own around) w ∷ [])
     (ap (λ t. between_.applied t (noted_value (around_place own around) w)) (tree_noted (around_place own around) v) ∙ applied_noted (around_place own around) (tree_of v) w) refl (moves_none own around x x y y refl refl packs)
-between_noted own Production.NestAbbreviated around place (v ∷ []) x y stays packs = named_goes own around x x y y (tree_of v) _ true [] [] (tree_noted (around_place own around) v) refl (moves_none own around x x y y refl refl packs)
 between_noted own Production.NestTemplate around place (v ∷ []) x y stays packs = named_goes own around x x y y (tree_of v) _ true [] [] (tree_noted (around_place own around) v) refl (moves_none own around x x y y refl refl packs)
 between_noted own Production.NestParameter around place (v ∷ []) x y stays packs = named_parameter own around x y place v packs
 between_noted own Production.NestInternal around place (v ∷ []) x y stays packs = piece_goes own around x y (source true (text_of v)) _ packs (ap (term_.source true) (text_noted (around_place own around) v))
@@ -265,7 +263,6 @@ between_noted own Production.RvalueItem around place (v ∷ []) x y stays packs 
 between_noted own Production.IntegerLiteral around place (v ∷ []) x y stays packs = record { values = refl; context = refl; moves = type_moves own around v x y packs; scope = inl (refl, refl); place = inl refl }
 between_noted own Production.Encoding around place vs x y stays packs = absurd stays
 between_noted own Production.Special around place vs x y stays packs = absurd stays
-between_noted own Production.Guard around place vs x y stays packs = absurd stays
 between_noted own Production.OtherSpecial around place vs x y stays packs = absurd stays
 between_noted own _ around place vs x y stays packs = same_goes own around x y vs packs
 

@@ -15,16 +15,16 @@ use Rattle.cpp_grammar.specs.declared.kind.Kind.{Kind}
 use Rattle.cpp_grammar.specs.declared.production.Production.{Production}
 use Rattle.cpp_grammar.specs.KindNumbers.{ENCODING, SPECIAL, SPECIAL_MARK, SPECIAL_AFTER_G}
 use Rattle.cpp_grammar.specs.Grammar.{Alternative, is_in, pick, kinds, number_of_kind, parts_of}
-use Rattle.cpp_grammar.specs.Either.{either_alternatives, either_choose}
-use Rattle.cpp_grammar.specs.Table.{either, rule_of, rule_taken}
-use Rattle.cpp_grammar.proofs.Widening.{either_sound}
+use Rattle.cpp_grammar.specs.Wide.{wide_alternatives, wide_choose}
+use Rattle.cpp_grammar.specs.Table.{wide, rule_of, rule_taken}
+use Rattle.cpp_grammar.specs.TableLaws.{wide_sound}
 use Rattle.cpp_grammar.specs.Term.{Term, function, list, absent}
 use Rattle.cpp_grammar.specs.Scope.{is_open, has_return_type}
 use Rattle.cpp_grammar.specs.Values.{State, Around, Value, nothing_there, tree_of, part, qualifiers_of, ref_of}
 use Rattle.cpp_grammar.specs.Between.{in_name, no_items, between}
 use Rattle.cpp_grammar.specs.Meaning.{meaning, encoding_of, parameters}
 use Rattle.cpp_grammar.specs.Unfolding.{opening, close, production_at, byte_of}
-use Rattle.cpp_grammar.proofs.Choosing.{kinds_numbered, number_at, either_rule_at, is_either_kind}
+use Rattle.cpp_grammar.proofs.Choosing.{kinds_numbered, number_at, wide_rule_at, is_wide_kind}
 use Rattle.cpp_grammar.proofs.ClosedValues.{good_where, AllGood, GoodPrefix, held, good_tree, good_part}
 use Rattle.cpp_grammar.proofs.ClosedStates.{Bare, Within, AllOld, old_later, old_grows, ok_same, behind_bind}
 use Rattle.cpp_grammar.proofs.ClosedParts.{StaysInside}
@@ -41,19 +41,19 @@ pub record Chosen (k : ℕ) (rule : Rule) : Type 0 where
   pub production : Production
   pub is : rule ≡ rule_of production
   pub byte : ℕ
-  pub chosen : either_choose kind byte ≡ Some production
+  pub chosen : wide_choose kind byte ≡ Some production
 
-pub chosen_rule : (k : ℕ) (rule : Rule) (taken : List ℕ) → k < either.kinds → TakesRule either k rule taken → Chosen k rule
+pub chosen_rule : (k : ℕ) (rule : Rule) (taken : List ℕ) → k < wide.kinds → TakesRule wide k rule taken → Chosen k rule
 unfolding rule_taken
 chosen_rule k rule taken lt takes = go (slice_get kinds k) refl
   where
-    by : (kind : Kind) → slice_get kinds k ≡ Some kind → (o : Option Production) → either_choose kind takes.byte ≡ o → rule_taken o ≡ Some rule → Chosen k rule
+    by : (kind : Kind) → slice_get kinds k ≡ Some kind → (o : Option Production) → wide_choose kind takes.byte ≡ o → rule_taken o ≡ Some rule → Chosen k rule
     by kind at None is h = let clash : ◌≡◌ {A = Option Rule} None (Some rule) = h in absurd cc
     by kind at (Some p) is h = record { kind = kind; number = omega (arith, number_at 0 kinds k kind kinds_numbered at); production = p; is = sym (same_rule p rule h); byte = takes.byte; chosen = is }
 
     go : (o : Option Kind) → slice_get kinds k ≡ o → Chosen k rule
-    go None none = absurd (is_either_kind k lt none)
-    go (Some kind) at = by kind at (either_choose kind takes.byte) refl (sym (either_rule_at k kind takes.byte at) ∙ takes.found)
+    go None none = absurd (is_wide_kind k lt none)
+    go (Some kind) at = by kind at (wide_choose kind takes.byte) refl (sym (wide_rule_at k kind takes.byte at) ∙ takes.found)
 
 picked_opens : (all : List Alternative) (byte : ℕ) (p : Production) → all_open all ≡ true → pick all byte ≡ Some p → opens p ≡ true
 unfolding pick all_open
@@ -75,17 +75,17 @@ picked_special (a ∷ rest) byte p e h = go (is_in a byte) e (λ i. picked_speci
     go true i later = let same : a.production ≡ p = cc in ap (λ q. in_special q || may_be_special rest) same ∙ ap (λ b. b || may_be_special rest) h
     go false i later = or_true (in_special a.production) (may_be_special rest) (later i)
 
-opens_in_encodings : (kind : Kind) (byte : ℕ) (p : Production) → nat_eq (number_of_kind kind) 4 ≡ true → either_choose kind byte ≡ Some p → opens p ≡ true
-unfolding either_choose
-opens_in_encodings kind byte p four e = picked_opens (either_alternatives kind) byte p (go (nat_eq (number_of_kind kind) 4) (all_open (either_alternatives kind)) four (encodings_open kind)) e
+opens_in_encodings : (kind : Kind) (byte : ℕ) (p : Production) → nat_eq (number_of_kind kind) 4 ≡ true → wide_choose kind byte ≡ Some p → opens p ≡ true
+unfolding wide_choose
+opens_in_encodings kind byte p four e = picked_opens (wide_alternatives kind) byte p (go (nat_eq (number_of_kind kind) 4) (all_open (wide_alternatives kind)) four (encodings_open kind)) e
   where
     go : (a b : Bool) → a ≡ true → not a || b ≡ true → b ≡ true
     go true b h k = k
     go false b h k = absurd (false≢true h)
 
-special_in : (kind : Kind) (byte : ℕ) (p : Production) → either_choose kind byte ≡ Some p → in_special p ≡ true → is_special_kind (number_of_kind kind) ≡ true
-unfolding either_choose
-special_in kind byte p e h = go (is_special_kind (number_of_kind kind)) (may_be_special (either_alternatives kind)) (picked_special (either_alternatives kind) byte p e h) (special_types kind)
+special_in : (kind : Kind) (byte : ℕ) (p : Production) → wide_choose kind byte ≡ Some p → in_special p ≡ true → is_special_kind (number_of_kind kind) ≡ true
+unfolding wide_choose
+special_in kind byte p e h = go (is_special_kind (number_of_kind kind)) (may_be_special (wide_alternatives kind)) (picked_special (wide_alternatives kind) byte p e h) (special_types kind)
   where
     go : (a b : Bool) → b ≡ true → a || not b ≡ true → a ≡ true
     go true b h k = refl
@@ -95,7 +95,7 @@ special_in kind byte p e h = go (is_special_kind (number_of_kind kind)) (may_be_
 one_production : (p q : Production) (rule : Rule) → rule ≡ rule_of p → rule ≡ rule_of q → q ≡ p
 one_production p q rule is so = sym (at_number q) ∙ ap (λ x. production_at x.number) (sym so ∙ is) ∙ at_number p
 
-special_kind : (p : Production) (k : ℕ) (rule : Rule) (taken : List ℕ) → rule ≡ rule_of p → k < either.kinds → TakesRule either k rule taken → in_special p ≡ true → is_special_kind k ≡ true
+special_kind : (p : Production) (k : ℕ) (rule : Rule) (taken : List ℕ) → rule ≡ rule_of p → k < wide.kinds → TakesRule wide k rule taken → in_special p ≡ true → is_special_kind k ≡ true
 special_kind p k rule taken is lt takes h =
     let c = chosen_rule k rule taken lt takes in
     ap (λ n. is_special_kind n) c.number ∙ special_in c.kind c.byte c.production c.chosen (ap in_special (one_production p c.production rule is c.is) ∙ h)
@@ -172,9 +172,9 @@ record Reads (xs : List Sym) (vs : List Value) (r : Found (List Value) State) : 
   is : r.value ≡ vs ++ more
   closed : Encodings xs more
 
-as_encoding : (x : Sym) (t : Tree) → is_encoding x ≡ true → IsTree either x t → IsTree either (OfKind ENCODING) t
+as_encoding : (x : Sym) (t : Tree) → is_encoding x ≡ true → IsTree wide x t → IsTree wide (OfKind ENCODING) t
 unfolding is_encoding
-as_encoding (OfKind k) t h is = subst (λ n. IsTree either (OfKind n) t) (eqb-true k 4 h) is
+as_encoding (OfKind k) t h is = subst (λ n. IsTree wide (OfKind n) t) (eqb-true k 4 h) is
 as_encoding _ t h is = absurd (false≢true h)
 
 inside_values : (p : Production) (vs : List Value) → opens p ≡ false → (has_encoding (parts_of p) ≡ true → Encodings (parts_of p) vs) → (in_special p ≡ true → (k : ℕ) → is_open (tree_of (part vs k)) ≡ false) → Inside p vs
@@ -219,7 +219,7 @@ inside_values _ vs plain all special = first_of (cc, search tt)
 
 module _ (way : Way) (keeps : KeepsClosed way) where
   special_closed : (f : Forest) (rule : Open State Around) (from : ℕ) (state : State) (r : Found (List Value) State) → production_at rule.rule.number ≡ Production.Special →
-      AreTrees either (parts_of Production.Special) f → rule.context.encoding < rule.place → rule.place ≤ from → AllOld way.own rule.context rule.place state.candidates →
+      AreTrees wide (parts_of Production.Special) f → rule.context.encoding < rule.place → rule.place ≤ from → AllOld way.own rule.context rule.place state.candidates →
       unfold_forest (reading_by way) rule [] from f state ≡ Ok r → is_open (tree_of (part r.value 0)) ≡ false
   unfolding differs reading_by parts_of number_of_kind between is_encoding nameless_ part in_name
   special_closed (grown t nothing) rule from state r is trees lt le old e =
@@ -233,7 +233,7 @@ module _ (way : Way) (keeps : KeepsClosed way) where
   special_closed (grown t (grown u f)) rule from state r is trees lt le old e = absurd trees.1
 
   other_special_closed : (f : Forest) (rule : Open State Around) (from : ℕ) (state : State) (r : Found (List Value) State) → production_at rule.rule.number ≡ Production.OtherSpecial →
-      AreTrees either (parts_of Production.OtherSpecial) f → rule.context.encoding < rule.place → rule.place ≤ from → AllOld way.own rule.context rule.place state.candidates →
+      AreTrees wide (parts_of Production.OtherSpecial) f → rule.context.encoding < rule.place → rule.place ≤ from → AllOld way.own rule.context rule.place state.candidates →
       unfold_forest (reading_by way) rule [] from f state ≡ Ok r → is_open (tree_of (part r.value 1)) ≡ false
   unfolding differs reading_by parts_of number_of_kind between is_encoding nameless_ part in_name
   other_special_closed (grown t (grown u nothing)) rule from state r is trees lt le old e =
@@ -254,18 +254,17 @@ module _ (way : Way) (keeps : KeepsClosed way) where
   other_special_closed (grown t nothing) rule from state r is trees lt le old e = absurd trees.1
   other_special_closed (grown t (grown u (grown v f))) rule from state r is trees lt le old e = absurd trees.1.1
 
-  inner_closed : (p : Production) → opens p ≡ true → (f : Forest) (rule : Open State Around) (from : ℕ) (state : State) (r : Found (List Value) State) → production_at rule.rule.number ≡ p → AreTrees either (parts_of p) f →
+  inner_closed : (p : Production) → opens p ≡ true → (f : Forest) (rule : Open State Around) (from : ℕ) (state : State) (r : Found (List Value) State) → production_at rule.rule.number ≡ p → AreTrees wide (parts_of p) f →
       rule.context.encoding < rule.place → rule.place ≤ from → AllOld way.own rule.context rule.place state.candidates → unfold_forest (reading_by way) rule [] from f state ≡ Ok r →
       (byte : ℕ) (around : Around) → is_open (tree_of (meaning p byte around r.value)) ≡ false
   unfolding opens meaning tree_of is_open
   inner_closed Production.Encoding o f rule from state r is trees lt le old e byte around = closed_encoding (part r.value 0) (no_items (part r.value 1))
   inner_closed Production.Special o f rule from state r is trees lt le old e byte around = special_closed f rule from state r is trees lt le old e
-  inner_closed Production.Guard o f rule from state r is trees lt le old e byte around = refl
   inner_closed Production.OtherSpecial o f rule from state r is trees lt le old e byte around = other_special_closed f rule from state r is trees lt le old e
   inner_closed Production.Mark o f rule from state r is trees lt le old e byte around = absurd (false≢true o)
   inner_closed _ o f rule from state r is trees lt le old e byte around = absurd (false≢true o)
 
-  encoded_closed : (t : Tree) (around : Around) (at : ℕ) (state : State) (r : Found (List Value) State) → IsTree either (OfKind ENCODING) t → around.encoding < at → AllOld way.own around at state.candidates →
+  encoded_closed : (t : Tree) (around : Around) (at : ℕ) (state : State) (r : Found (List Value) State) → IsTree wide (OfKind ENCODING) t → around.encoding < at → AllOld way.own around at state.candidates →
       unfold_tree (reading_by way) around at t state ≡ Ok r → is_open (tree_of (part r.value 0)) ≡ false
   unfolding reading_by part tree_of is_open
   encoded_closed (branch rule taken parts) around at state r tree less old e =
@@ -284,7 +283,7 @@ module _ (way : Way) (keeps : KeepsClosed way) where
       let one = ended.value in
       let same : found (one.value ∷ []) one.state ≡ r = ok_same (found (one.value ∷ []) one.state) r ended.next in
       let number : production_at rule.number ≡ p = ap (λ x. production_at x.number) c.is ∙ at_number p in
-      let trees = subst (λ xs. AreTrees either xs parts) (ap symbols_of c.is ∙ its_symbols p) tree.1 in
+      let trees = subst (λ xs. AreTrees wide xs parts) (ap symbols_of c.is ∙ its_symbols p) tree.1 in
       let closed = inner_closed p opening_ parts whole from state inner.value number trees less (omega arith) old inner.is byte around in
       let ends : close p byte around at state inner.value.value inner.value.state ≡ Ok one = sym (ap (λ q. way.close q byte around at state inner.value.value inner.value.state) number ∙ keeps.plain.close p (opens_apart p opening_) byte around at state inner.value.value inner.value.state) ∙ ended.is in
       let means = inner_closes p opening_ byte around at state inner.value.value inner.value.state one ends in
@@ -297,7 +296,7 @@ module _ (way : Way) (keeps : KeepsClosed way) where
   keeps_values p has = λ around place vs state n e. plain_keeps p has around place vs state n (sym (keeps.plain.between p (encodings_apart p has) around place vs state) ∙ e)
 
   forest_closed : (f : Forest) (rule : Open State Around) (xs : List Sym) (vs : List Value) (at : ℕ) (state : State) (r : Found (List Value) State) →
-      StaysInside (production_at rule.rule.number) → Keeps way (production_at rule.rule.number) → AreSymbols either xs → AreTrees either xs f → rule.context.encoding ≤ at → (has_encoding xs ≡ true → rule.context.encoding < at) →
+      StaysInside (production_at rule.rule.number) → Keeps way (production_at rule.rule.number) → AreSymbols wide xs → AreTrees wide xs f → rule.context.encoding ≤ at → (has_encoding xs ≡ true → rule.context.encoding < at) →
       GoodPrefix (Bare way.own rule.context) rule.context.prefix → AllGood (Within way.own (production_at rule.rule.number) rule.context) vs → AllOld way.own rule.context at state.candidates → unfold_forest (reading_by way) rule vs at f state ≡ Ok r → Reads xs vs r
   unfolding reading_by has_encoding part
   forest_closed nothing rule [] vs at state r stays keep known trees le inside pre good old e =
@@ -336,15 +335,15 @@ module _ (way : Way) (keeps : KeepsClosed way) where
       or_first a b h = ap (λ c. c || b) h
 
   -- Encodings among the parts of a production have no free parameters.
-  pub insides : (p : Production) (rule : Rule) (taken : List ℕ) (parts : Forest) (k : ℕ) (around : Around) (at : ℕ) (state : State) (inner : Found (List Value) State) → rule ≡ rule_of p → opens p ≡ false → k < either.kinds →
-      IsTree either (OfKind k) (branch rule taken parts) → around.encoding ≤ at → (is_special_kind k ≡ true → Bare way.own around) → GoodPrefix (Bare way.own around) around.prefix → AllOld way.own around at state.candidates →
+  pub insides : (p : Production) (rule : Rule) (taken : List ℕ) (parts : Forest) (k : ℕ) (around : Around) (at : ℕ) (state : State) (inner : Found (List Value) State) → rule ≡ rule_of p → opens p ≡ false → k < wide.kinds →
+      IsTree wide (OfKind k) (branch rule taken parts) → around.encoding ≤ at → (is_special_kind k ≡ true → Bare way.own around) → GoodPrefix (Bare way.own around) around.prefix → AllOld way.own around at state.candidates →
       unfold_forest (reading_by way) (Whole rule taken at around state) [] (at + length taken) parts state ≡ Ok inner → Inside p inner.value
   insides p rule taken parts k around at state inner is plain lt tree le special pre old e =
       let whole = Whole rule taken at around state in
       let number : production_at rule.number ≡ p = ap (λ x. production_at x.number) is ∙ at_number p in
       let inside_ : StaysInside (production_at rule.number) = subst (λ q. StaysInside q) (sym number) (stays p plain) in
       let from = at + length taken in
-      let symbols = either_sound.symbols k tree.0.byte rule lt tree.0.is_byte tree.0.found in
+      let symbols = wide_sound.symbols k tree.0.byte rule lt tree.0.is_byte tree.0.found in
       let same : symbols_of rule ≡ parts_of p = ap symbols_of is ∙ its_symbols p in
       let old0 = old_later way.own around at from state.candidates (omega arith) old in
       inside_values p inner.value plain

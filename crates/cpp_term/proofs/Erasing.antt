@@ -7,7 +7,7 @@ use Rattle.sym_shape.specs.Tree.{Tree, IsTree}
 use Rattle.sym_link.specs.Driving.{Fails}
 use Rattle.sym_link.specs.Reading.{Found, ◌>>=◌}
 use Rattle.sym_link.specs.Unfold.{unfold_tree}
-use Rattle.cpp_grammar.specs.Table.{either}
+use Rattle.cpp_grammar.specs.Table.{wide}
 use Rattle.cpp_grammar.specs.Term.{Term, symbol, function, object, special, thunk, of_name, construction, clone, alone, in_std, within, instance, local, holder, tagged, of_default, lambda, generic_lambda, conversion, pointer, lvalue, rvalue, array, constrained, bounded, member_pointer, function_type, qualified, vector, complex, expansion, integer, encoding_literal, address_of, pack, list}
 use Rattle.cpp_grammar.specs.Unfolding.{unfold_cpp}
 use Rattle.cpp_grammar.specs.Rescoping.{unfold_wide}
@@ -106,21 +106,21 @@ fails_by read reading refusals.Memory same fails = tt
 fails_by read reading refusal same fails = refused_alike read (tree_read reading) refusal same (ap tree_read fails)
 
 -- a shape that is read is that of a symbol, whose tree is that of its one value
-pub reading_stands : (shape : Tree) (r : Found (List Value) State) → IsTree either (Kind 0) shape → unfold_tree unfolded_.cpp unfolded_.first_around 0 shape unfolded_.first_state ≡ Ok r →
+pub reading_stands : (shape : Tree) (r : Found (List Value) State) → IsTree wide (Kind 0) shape → unfold_tree unfolded_.cpp unfolded_.first_around 0 shape unfolded_.first_state ≡ Ok r →
     IsSymbolTree (unfold_cpp shape) (unfolded_.first_tree r.value)
 unfolding unfolded_.unfold_cpp tree_read
 reading_stands shape r is e = stands_by (unfold_cpp shape) (unfold_tree unfolded_.cpp unfolded_.first_around 0 shape unfolded_.first_state) r (unfold_noted shape is) e
 
-pub wide_reading_stands : (shape : Tree) (r : Found (List Value) State) → IsTree either (Kind 0) shape → unfold_tree wide_.cpp_wide unfolded_.first_around 0 shape unfolded_.first_state ≡ Ok r →
+pub wide_reading_stands : (shape : Tree) (r : Found (List Value) State) → IsTree wide (Kind 0) shape → unfold_tree wide_.cpp_wide unfolded_.first_around 0 shape unfolded_.first_state ≡ Ok r →
     IsSymbolTree (unfold_wide shape) (unfolded_.first_tree r.value)
 unfolding wide_.unfold_wide tree_read
 wide_reading_stands shape r is e = stands_by (unfold_wide shape) (unfold_tree wide_.cpp_wide unfolded_.first_around 0 shape unfolded_.first_state) r (wide_unfold_noted shape is) e
 
 -- a shape whose reading fails is that of a symbol that is refused
-pub reading_fails : (shape : Tree) (refusal : Refusal) → IsTree either (Kind 0) shape → Fails refusal (unfold_tree unfolded_.cpp unfolded_.first_around 0 shape unfolded_.first_state) → Fails refusal (unfold_cpp shape)
+pub reading_fails : (shape : Tree) (refusal : Refusal) → IsTree wide (Kind 0) shape → Fails refusal (unfold_tree unfolded_.cpp unfolded_.first_around 0 shape unfolded_.first_state) → Fails refusal (unfold_cpp shape)
 unfolding unfolded_.unfold_cpp tree_read
 reading_fails shape refusal is fails = fails_by (unfold_cpp shape) (unfold_tree unfolded_.cpp unfolded_.first_around 0 shape unfolded_.first_state) refusal (unfold_noted shape is) fails
 
-pub wide_reading_fails : (shape : Tree) (refusal : Refusal) → IsTree either (Kind 0) shape → Fails refusal (unfold_tree wide_.cpp_wide unfolded_.first_around 0 shape unfolded_.first_state) → Fails refusal (unfold_wide shape)
+pub wide_reading_fails : (shape : Tree) (refusal : Refusal) → IsTree wide (Kind 0) shape → Fails refusal (unfold_tree wide_.cpp_wide unfolded_.first_around 0 shape unfolded_.first_state) → Fails refusal (unfold_wide shape)
 unfolding wide_.unfold_wide tree_read
 wide_reading_fails shape refusal is fails = fails_by (unfold_wide shape) (unfold_tree wide_.cpp_wide unfolded_.first_around 0 shape unfolded_.first_state) refusal (wide_unfold_noted shape is) fails

@@ -8,7 +8,7 @@ use Rattle.sym_shape.specs.Law.{IsSymbol, AreSymbols}
 use Rattle.sym_shape.specs.Tree.{Tree, Forest, nothing, grown, spell, IsTree, AreTrees}
 use Rattle.sym_link.specs.Reading.{Found, Open, ◌>>=◌}
 use Rattle.sym_link.specs.Unfold.{unfold_tree, unfold_forest}
-use Rattle.cpp_grammar.specs.Table.{either}
+use Rattle.cpp_grammar.specs.Table.{wide}
 use Rattle.cpp_grammar.specs.Scope.{is_open}
 use Rattle.cpp_grammar.specs.Values as leaf_
 use Rattle.cpp_grammar.specs.Values.{Candidate, State, Around, Value, tree_of}
@@ -128,7 +128,7 @@ pub record Many (own : Bool) (s : Place) (around : Around) (x : State) (y : valu
   pub moves : Moves own around x y a.state b.state
 
 abbrev pub TreeNoted : Way → NotedWay → Tree → Type 0
-TreeNoted way noted_way t = (x : Sym) (around : Around) (at : ℕ) (state : State) (other : value_.State) → IsSymbol either x → IsTree either x t → around.encoding ≤ at → (is_encoding x ≡ true → around.encoding < at) →
+TreeNoted way noted_way t = (x : Sym) (around : Around) (at : ℕ) (state : State) (other : value_.State) → IsSymbol wide x → IsTree wide x t → around.encoding ≤ at → (is_encoding x ≡ true → around.encoding < at) →
     (is_special x ≡ true → Bare way.own around) → Settled around → GoodPrefix (Bare way.own around) around.prefix → AllOld way.own around at state.candidates → Same way.own around state other →
     Alike (Many way.own (around_place way.own around) around state other) (unfold_tree (reading_by way) around at t state) (unfold_tree (reading_noted_by noted_way) (noted_around way.own around) at t other)
 
@@ -162,7 +162,7 @@ settled_inner around inner (inr bare) settled = λ l. bare.0
 
 module _ (way : Way) (keeps : KeepsClosed way) (noted_way : NotedWay) (ways : IsNotedBy way noted_way) where
   pub forest_noted : (f : Forest) → AllTreesNoted way noted_way f → (rule : Open State Around) (first : value_.State) (xs : List Sym) (vs : List Value) (at : ℕ) (x : State) (y : value_.State) →
-      StaysInside (production_at rule.rule.number) → AreSymbols either xs → AreTrees either xs f → rule.context.encoding ≤ at → (has_encoding xs ≡ true → rule.context.encoding < at) → has_special xs ≡ false → Settled rule.context →
+      StaysInside (production_at rule.rule.number) → AreSymbols wide xs → AreTrees wide xs f → rule.context.encoding ≤ at → (has_encoding xs ≡ true → rule.context.encoding < at) → has_special xs ≡ false → Settled rule.context →
       GoodPrefix (Bare way.own rule.context) rule.context.prefix → AllGood (Within way.own (production_at rule.rule.number) rule.context) vs → AllOld way.own rule.context at x.candidates → Same way.own rule.context x y →
       Alike (Many way.own (parts_place way.own (production_at rule.rule.number) rule.context) rule.context x y) (unfold_forest (reading_by way) rule vs at f x) (unfold_forest (reading_noted_by noted_way) (noted_open way.own rule first) (noted_values (parts_place way.own (production_at rule.rule.number) rule.context) vs) at f y)
   unfolding reading_by reading_noted_by has_encoding has_special

@@ -5,7 +5,6 @@ use Rattle.cpp_grammar.specs.declared.production.Production.{Production}
 use Rattle.cpp_grammar.specs.KindNumbers.{SPECIAL, SPECIAL_AFTER_G}
 use Rattle.cpp_grammar.specs.Grammar.{Alternative, number_of_kind}
 use Rattle.cpp_grammar.specs.Wide.{wide_alternatives}
-use Rattle.cpp_grammar.specs.Either.{either_alternatives}
 use Rattle.cpp_grammar.proofs.ClosedTrees.{opens}
 
 unfoldable pub all_open : List Alternative → Bool
@@ -28,12 +27,12 @@ may_be_special [] = false
 may_be_special (a ∷ rest) = in_special a.production || may_be_special rest
 
 -- a tree of the kind of encodings opens one
-pub encodings_open : (kind : Kind) → not (nat_eq (number_of_kind kind) 4) || all_open (either_alternatives kind) ≡ true
-unfolding number_of_kind wide_alternatives either_alternatives all_open opens
+pub encodings_open : (kind : Kind) → not (nat_eq (number_of_kind kind) 4) || all_open (wide_alternatives kind) ≡ true
+unfolding number_of_kind wide_alternatives all_open opens
 encodings_open Kind.Symbol = refl
 encodings_open _ = refl
 
-pub special_types : (kind : Kind) → is_special_kind (number_of_kind kind) || not (may_be_special (either_alternatives kind)) ≡ true
-unfolding number_of_kind wide_alternatives either_alternatives is_special_kind in_special may_be_special
+pub special_types : (kind : Kind) → is_special_kind (number_of_kind kind) || not (may_be_special (wide_alternatives kind)) ≡ true
+unfolding number_of_kind wide_alternatives is_special_kind in_special may_be_special
 special_types Kind.Symbol = refl
 special_types _ = refl

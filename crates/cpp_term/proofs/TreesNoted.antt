@@ -5,7 +5,7 @@ use Rattle.sym_core.specs.declared.refusal.Refusal.{Refusal}
 use Rattle.sym_core.specs.declared.refusal.Refusal.TheVariants.{BadValue}
 use Rattle.sym_shape.specs.declared.rule.Rule.{Rule}
 use Rattle.sym_shape.specs.declared.rule.Sym.{Sym}
-use Rattle.sym_shape.specs.declared.rule.Sym.TheVariants.{Kind as OfKind, Byte}
+use Rattle.sym_shape.specs.declared.rule.Sym.TheVariants.{Kind as OfKind}
 use Rattle.sym_shape.specs.Table.{symbols_of}
 use Rattle.sym_shape.specs.Law.{IsSymbol}
 use Rattle.sym_shape.specs.Tree.{Tree, Forest, branch, empty, token, fixed, nothing, grown, spell, IsTree, AreTrees}
@@ -14,8 +14,8 @@ use Rattle.sym_link.specs.Unfold.{found, alone, unfold_tree, unfold_forest}
 use Rattle.cpp_grammar.specs.declared.production.Production.{Production}
 use Rattle.cpp_grammar.specs.KindNumbers.{SYMBOL, SPECIAL, SPECIAL_MARK, SPECIAL_AFTER_G, COMPLETE_NAME, ITEMS}
 use Rattle.cpp_grammar.specs.Grammar.{parts_of, number_of_kind}
-use Rattle.cpp_grammar.specs.Table.{either, rule_of}
-use Rattle.cpp_grammar.proofs.Widening.{either_sound}
+use Rattle.cpp_grammar.specs.Table.{wide, rule_of}
+use Rattle.cpp_grammar.specs.TableLaws.{wide_sound}
 use Rattle.cpp_grammar.specs.Term.{Term}
 use Rattle.cpp_grammar.specs.Scope.{is_open, arguments_of}
 use Rattle.cpp_grammar.specs.Values.{Candidate, State, Around, Value, tree_of, local_number, part}
@@ -44,7 +44,7 @@ use Rattle.cpp_term.specs.Meaning as noted_
 use Rattle.cpp_term.specs.Annotated.{Place, nowhere, around_place, place_in, annotate, noted_scope, noted_value, noted_values, noted_prefix, noted_around, noted_tree}
 use Rattle.cpp_term.proofs.EncodingsClosed.{insides}
 use Rattle.cpp_term.proofs.Notes.{both, closed_noted, open_noted, scope_noted}
-use Rattle.cpp_term.proofs.MeaningNoted.{Inside, part_noted, tree_noted, items_noted, encoding_noted, qualifiers_noted, ref_noted, three as three_}
+use Rattle.cpp_term.proofs.MeaningNoted.{Inside, part_noted, tree_noted, items_noted, encoding_noted}
 use Rattle.cpp_term.proofs.StatesNoted.{Settled, Alike, alike_bind, Same, Moves, moves_none, moves_then, same_moves, AllNoted, Comes}
 use Rattle.cpp_term.proofs.BetweenNoted.{parts_place}
 use Rattle.cpp_term.proofs.NotedWays.{NotedWay, reading_noted_by, abi_noted, wide_noted, IsNotedBy, abi_is_noted, wide_is_noted}
@@ -150,11 +150,6 @@ nameless_ at vs state = record { context = in_name at; values = vs; state = stat
 noted_nameless : (at : ℕ) → List value_.Value → value_.State → Next value_.Value value_.State value_.Around
 noted_nameless at vs state = record { context = between_.in_name at; values = vs; state = state }
 
-guard_made : (own : Bool) → (around : Around) (byte : ℕ) (v w : Value) →
-    noted_.meaning Production.Guard byte (noted_around own around) (noted_value nowhere v ∷ noted_value nowhere w ∷ []) ≡ noted_value (around_place own around) (meaning Production.Guard byte around (v ∷ w ∷ []))
-unfolding meaning noted_.meaning part value_.part noted_value annotate
-guard_made own around byte v w = three_ (λ x q r. value_.tree (term_.of_name 86 x q r) true) (tree_noted nowhere w) (qualifiers_noted nowhere w) (ref_noted nowhere w)
-
 encoding_made : (own : Bool) → (around : Around) (byte : ℕ) (v w : Value) →
     noted_.meaning Production.Encoding byte (noted_around own around) (noted_value nowhere v ∷ noted_value (place_in (arguments_of (tree_of v)) false) w ∷ []) ≡ noted_value (around_place own around) (meaning Production.Encoding byte around (v ∷ w ∷ []))
 unfolding meaning noted_.meaning part value_.part noted_value
@@ -179,15 +174,6 @@ pair_noted : (s r : Place) (vs : List Value) (us : List value_.Value) (ws : List
     us ++ zs ≡ noted_value s v ∷ noted_value r w ∷ []
 unfolding noted_values
 pair_noted s r vs us ws zs v w e g i j = both (λ a b. a ++ b) (i ∙ ap (noted_values s) e) (j ∙ ap (noted_values r) g)
-
-guard_means : (own : Bool) → (around : Around) (byte : ℕ) (vs : List Value) (us : List value_.Value) (ws : List Value) (zs : List value_.Value) (v w : Value) → vs ≡ v ∷ [] → ws ≡ w ∷ [] → is_open (tree_of w) ≡ false →
-    us ≡ noted_values nowhere vs → zs ≡ noted_values nowhere ws →
-    noted_.meaning Production.Guard byte (noted_around own around) (us ++ zs) ≡ noted_value (around_place own around) (meaning Production.Guard byte around (vs ++ ws))
-unfolding meaning noted_.meaning part value_.part noted_value annotate
-guard_means own around byte vs us ws zs v w e g closed i j =
-    ap (noted_.meaning Production.Guard byte (noted_around own around)) (pair_noted nowhere nowhere vs us ws zs v w e g i j)
-    ∙ guard_made own around byte v w
-    ∙ sym (ap (λ xs. noted_value (around_place own around) (meaning Production.Guard byte around xs)) (both (λ a b. a ++ b) e g))
 
 encoding_means : (own : Bool) → (around : Around) (byte : ℕ) (vs : List Value) (us : List value_.Value) (ws : List Value) (zs : List value_.Value) (v w : Value) → vs ≡ v ∷ [] → ws ≡ w ∷ [] →
     us ≡ noted_values nowhere vs → zs ≡ noted_values (place_in (arguments_of (tree_of v)) false) ws →
@@ -226,7 +212,6 @@ inner_closes : (p : Production) → opens p ≡ true → (byte : ℕ) (around : 
 unfolding opens close unfolding_.behind
 inner_closes Production.Encoding o byte around place began vs x = refl
 inner_closes Production.Special o byte around place began vs x = refl
-inner_closes Production.Guard o byte around place began vs x = refl
 inner_closes Production.OtherSpecial o byte around place began vs x = refl
 inner_closes Production.Mark o byte around place began vs x = absurd (false≢true o)
 inner_closes _ o byte around place began vs x = absurd (false≢true o)
@@ -236,7 +221,6 @@ noted_closes : (p : Production) → opens p ≡ true → (byte : ℕ) (around : 
 unfolding opens unfolded_.close unfolded_.behind
 noted_closes Production.Encoding o byte around place began vs x = refl
 noted_closes Production.Special o byte around place began vs x = refl
-noted_closes Production.Guard o byte around place began vs x = refl
 noted_closes Production.OtherSpecial o byte around place began vs x = refl
 noted_closes Production.Mark o byte around place began vs x = absurd (false≢true o)
 noted_closes _ o byte around place began vs x = absurd (false≢true o)
@@ -245,7 +229,7 @@ noted_closes _ o byte around place began vs x = absurd (false≢true o)
 
 module _ (way : Way) (keeps : KeepsClosed way) (noted_way : NotedWay) (ways : IsNotedBy way noted_way) where
   plain_noted : (k : ℕ) (rule : Rule) (taken : List ℕ) (parts : Forest) → AllTreesNoted way noted_way parts → (p : Production) → rule ≡ rule_of p → opens p ≡ false → (around : Around) (at : ℕ) (state : State) (other : value_.State) →
-      k < either.kinds → IsTree either (OfKind k) (branch rule taken parts) → around.encoding ≤ at → (is_special_kind k ≡ true → Bare way.own around) → Settled around → GoodPrefix (Bare way.own around) around.prefix → AllOld way.own around at state.candidates → Same way.own around state other →
+      k < wide.kinds → IsTree wide (OfKind k) (branch rule taken parts) → around.encoding ≤ at → (is_special_kind k ≡ true → Bare way.own around) → Settled around → GoodPrefix (Bare way.own around) around.prefix → AllOld way.own around at state.candidates → Same way.own around state other →
       Alike (Many way.own (around_place way.own around) around state other) (unfold_tree (reading_by way) around at (branch rule taken parts) state) (unfold_tree (reading_noted_by noted_way) (noted_around way.own around) at (branch rule taken parts) other)
   unfolding reading_by reading_noted_by noted_values
   plain_noted k rule taken parts all p is plain around at state other lt tree le special settled pre old same =
@@ -255,7 +239,7 @@ module _ (way : Way) (keeps : KeepsClosed way) (noted_way : NotedWay) (ways : Is
       let s = parts_place way.own (production_at rule.number) around in
       let number : production_at rule.number ≡ p = ap (λ x. production_at x.number) is ∙ at_number p in
       let inside_ : StaysInside (production_at rule.number) = subst (λ q. StaysInside q) (sym number) (stays p plain) in
-      let symbols = either_sound.symbols k tree.0.byte rule lt tree.0.is_byte tree.0.found in
+      let symbols = wide_sound.symbols k tree.0.byte rule lt tree.0.is_byte tree.0.found in
       let none : has_special (symbols_of rule) ≡ false = ap has_special (ap symbols_of is ∙ its_symbols p) ∙ no_special p plain in
       opened (Many way.own (around_place way.own around) around state other) (production_at rule.number) parts at state other
       (λ begun. unfold_forest (reading_by way) whole [] from parts begun >>= λ inner. way.close (production_at rule.number) (byte_of taken) around at state inner.value inner.state >>= alone)
@@ -291,14 +275,14 @@ module _ (way : Way) (keeps : KeepsClosed way) (noted_way : NotedWay) (ways : Is
       (subst (λ w. Alike Q (onward n) (w >>= other)) (sym g) r)
 
   -- one part of an encoding, in which nothing is named
-  named_part : (t : Tree) → TreeNoted way noted_way t → (x : Sym) (at from : ℕ) (state : State) (other : value_.State) → IsSymbol either x → IsTree either x t → is_encoding x ≡ false → at ≤ from → AllOld way.own (in_name at) from state.candidates → Same way.own (in_name at) state other →
+  named_part : (t : Tree) → TreeNoted way noted_way t → (x : Sym) (at from : ℕ) (state : State) (other : value_.State) → IsSymbol wide x → IsTree wide x t → is_encoding x ≡ false → at ≤ from → AllOld way.own (in_name at) from state.candidates → Same way.own (in_name at) state other →
       Alike (Many way.own nowhere (in_name at) state other) (unfold_tree (reading_by way) (in_name at) from t state) (unfold_tree (reading_noted_by noted_way) (between_.in_name at) from t other)
   unfolding in_name between_.in_name noted_around noted_scope noted_prefix
   named_part t noted x at from state other known is plain le old same =
       subst (λ s. Alike (Many way.own s (in_name at) state other) (unfold_tree (reading_by way) (in_name at) from t state) (unfold_tree (reading_noted_by noted_way) (between_.in_name at) from t other)) (name_place way.own at)
       (noted x (in_name at) from state other known is le (λ opening. absurd (true≢false (sym opening ∙ plain))) (λ special. (refl, λ o. refl)) (λ l. absurd (false≢true l)) tt old same)
 
-  special_noted : (f : Forest) → AllTreesNoted way noted_way f → (rule : Open State Around) (first : value_.State) (from : ℕ) (x : State) (y : value_.State) → production_at rule.rule.number ≡ Production.Special → AreTrees either (parts_of Production.Special) f →
+  special_noted : (f : Forest) → AllTreesNoted way noted_way f → (rule : Open State Around) (first : value_.State) (from : ℕ) (x : State) (y : value_.State) → production_at rule.rule.number ≡ Production.Special → AreTrees wide (parts_of Production.Special) f →
       rule.context.encoding < rule.place → rule.place ≤ from → AllOld way.own rule.context rule.place x.candidates → Same way.own rule.context x y →
       Alike (Inner way.own Production.Special rule.context x y) (unfold_forest (reading_by way) rule [] from f x) (unfold_forest (reading_noted_by noted_way) (noted_open way.own rule first) [] from f y)
   unfolding differs parts_of number_of_kind between between_.between meaning noted_.meaning is_encoding nameless_ noted_nameless in_name noted_scope noted_values part
@@ -321,13 +305,13 @@ module _ (way : Way) (keeps : KeepsClosed way) (noted_way : NotedWay) (ways : Is
       }))
 
   -- a production that begins an encoding, and has two parts in which nothing is named
-  two_noted : (p : Production) (k l : Sym) → IsSymbol either k → IsSymbol either l → is_encoding k ≡ false → is_encoding l ≡ false →
+  two_noted : (p : Production) (k l : Sym) → IsSymbol wide k → IsSymbol wide l → is_encoding k ≡ false → is_encoding l ≡ false →
       ((around : Around) (at : ℕ) (vs : List Value) (state : State) → way.between p around at vs state ≡ Ok (nameless_ at vs state)) →
       ((around : value_.Around) (at : ℕ) (vs : List value_.Value) (state : value_.State) → noted_way.between p around at vs state ≡ Ok (noted_nameless at vs state)) →
       ((at : ℕ) (around : Around) (byte : ℕ) (vs : List Value) (us : List value_.Value) (ws : List Value) (zs : List value_.Value) (v w : Value) → vs ≡ v ∷ [] → ws ≡ w ∷ [] → Good (Bare way.own (in_name at)) (held w) →
       us ≡ noted_values nowhere vs → zs ≡ noted_values nowhere ws →
       noted_.meaning p byte (noted_around way.own around) (us ++ zs) ≡ noted_value (around_place way.own around) (meaning p byte around (vs ++ ws))) →
-      (f : Forest) → AllTreesNoted way noted_way f → (rule : Open State Around) (first : value_.State) (from : ℕ) (x : State) (y : value_.State) → production_at rule.rule.number ≡ p → AreTrees either (k ∷ l ∷ []) f →
+      (f : Forest) → AllTreesNoted way noted_way f → (rule : Open State Around) (first : value_.State) (from : ℕ) (x : State) (y : value_.State) → production_at rule.rule.number ≡ p → AreTrees wide (k ∷ l ∷ []) f →
       rule.context.encoding < rule.place → rule.place ≤ from → AllOld way.own rule.context rule.place x.candidates → Same way.own rule.context x y →
       Alike (Inner way.own p rule.context x y) (unfold_forest (reading_by way) rule [] from f x) (unfold_forest (reading_noted_by noted_way) (noted_open way.own rule first) [] from f y)
   unfolding nameless_ noted_nameless in_name noted_scope noted_values
@@ -362,21 +346,14 @@ module _ (way : Way) (keeps : KeepsClosed way) (noted_way : NotedWay) (ways : Is
             (moves_out way.own around (in_name at) at (next + length (spell u)) a.state d.state b.state e.state refl lt g.grows more.moves);
       }))))
 
-  guard_noted : (f : Forest) → AllTreesNoted way noted_way f → (rule : Open State Around) (first : value_.State) (from : ℕ) (x : State) (y : value_.State) → production_at rule.rule.number ≡ Production.Guard → AreTrees either (parts_of Production.Guard) f →
-      rule.context.encoding < rule.place → rule.place ≤ from → AllOld way.own rule.context rule.place x.candidates → Same way.own rule.context x y →
-      Alike (Inner way.own Production.Guard rule.context x y) (unfold_forest (reading_by way) rule [] from f x) (unfold_forest (reading_noted_by noted_way) (noted_open way.own rule first) [] from f y)
-  unfolding differs parts_of number_of_kind between between_.between is_encoding nameless_ noted_nameless in_name
-  guard_noted = two_noted Production.Guard (Byte 86) (OfKind COMPLETE_NAME) (lit≤ tt) (trees_.known 8 (lit≤ tt)) refl refl (keeps.plain.between Production.Guard refl) (ways.plain.between Production.Guard refl)
-      (λ at around byte vs us ws zs v w e g good. guard_means way.own around byte vs us ws zs v w e g ((good_tree (Bare way.own (in_name at)) w good).closed (refl, λ o. refl)))
-
-  other_special_noted : (f : Forest) → AllTreesNoted way noted_way f → (rule : Open State Around) (first : value_.State) (from : ℕ) (x : State) (y : value_.State) → production_at rule.rule.number ≡ Production.OtherSpecial → AreTrees either (parts_of Production.OtherSpecial) f →
+  other_special_noted : (f : Forest) → AllTreesNoted way noted_way f → (rule : Open State Around) (first : value_.State) (from : ℕ) (x : State) (y : value_.State) → production_at rule.rule.number ≡ Production.OtherSpecial → AreTrees wide (parts_of Production.OtherSpecial) f →
       rule.context.encoding < rule.place → rule.place ≤ from → AllOld way.own rule.context rule.place x.candidates → Same way.own rule.context x y →
       Alike (Inner way.own Production.OtherSpecial rule.context x y) (unfold_forest (reading_by way) rule [] from f x) (unfold_forest (reading_noted_by noted_way) (noted_open way.own rule first) [] from f y)
   unfolding differs parts_of number_of_kind between between_.between is_encoding nameless_ noted_nameless in_name
   other_special_noted = two_noted Production.OtherSpecial (OfKind SPECIAL_MARK) (OfKind SPECIAL_AFTER_G) (trees_.known SPECIAL_MARK (lit≤ tt)) (trees_.known SPECIAL_AFTER_G (lit≤ tt)) refl refl
       (keeps.plain.between Production.OtherSpecial refl) (ways.plain.between Production.OtherSpecial refl) (λ at around byte vs us ws zs v w e g good. other_special_means way.own around byte vs us ws zs v w e g (good.closed (refl, λ o. refl)))
 
-  encoding_noted_ : (f : Forest) → AllTreesNoted way noted_way f → (rule : Open State Around) (first : value_.State) (from : ℕ) (x : State) (y : value_.State) → production_at rule.rule.number ≡ Production.Encoding → AreTrees either (parts_of Production.Encoding) f →
+  encoding_noted_ : (f : Forest) → AllTreesNoted way noted_way f → (rule : Open State Around) (first : value_.State) (from : ℕ) (x : State) (y : value_.State) → production_at rule.rule.number ≡ Production.Encoding → AreTrees wide (parts_of Production.Encoding) f →
       rule.context.encoding < rule.place → rule.place ≤ from → AllOld way.own rule.context rule.place x.candidates → Same way.own rule.context x y →
       Alike (Inner way.own Production.Encoding rule.context x y) (unfold_forest (reading_by way) rule [] from f x) (unfold_forest (reading_noted_by noted_way) (noted_open way.own rule first) [] from f y)
   unfolding differs parts_of number_of_kind between between_.between is_encoding is_special is_special_kind nameless_ noted_nameless in_name in_types noted_scope noted_values
@@ -415,19 +392,18 @@ module _ (way : Way) (keeps : KeepsClosed way) (noted_way : NotedWay) (ways : Is
             (moves_out way.own around (in_types at name) at (next + length (spell u)) a.state d.state b.state e.state refl lt g.grows more.moves);
       }))))
 
-  inner_noted : (p : Production) → opens p ≡ true → (f : Forest) → AllTreesNoted way noted_way f → (rule : Open State Around) (first : value_.State) (from : ℕ) (x : State) (y : value_.State) → production_at rule.rule.number ≡ p → AreTrees either (parts_of p) f →
+  inner_noted : (p : Production) → opens p ≡ true → (f : Forest) → AllTreesNoted way noted_way f → (rule : Open State Around) (first : value_.State) (from : ℕ) (x : State) (y : value_.State) → production_at rule.rule.number ≡ p → AreTrees wide (parts_of p) f →
       rule.context.encoding < rule.place → rule.place ≤ from → AllOld way.own rule.context rule.place x.candidates → Same way.own rule.context x y →
       Alike (Inner way.own p rule.context x y) (unfold_forest (reading_by way) rule [] from f x) (unfold_forest (reading_noted_by noted_way) (noted_open way.own rule first) [] from f y)
   unfolding opens
   inner_noted Production.Encoding o = encoding_noted_
   inner_noted Production.Special o = special_noted
-  inner_noted Production.Guard o = guard_noted
   inner_noted Production.OtherSpecial o = other_special_noted
   inner_noted Production.Mark o = absurd (false≢true o)
   inner_noted _ o = absurd (false≢true o)
 
   encoded_noted : (k : ℕ) (rule : Rule) (taken : List ℕ) (parts : Forest) → AllTreesNoted way noted_way parts → (p : Production) → rule ≡ rule_of p → opens p ≡ true → (around : Around) (at : ℕ) (state : State) (other : value_.State) →
-      IsTree either (OfKind k) (branch rule taken parts) → around.encoding < at → AllOld way.own around at state.candidates → Same way.own around state other →
+      IsTree wide (OfKind k) (branch rule taken parts) → around.encoding < at → AllOld way.own around at state.candidates → Same way.own around state other →
       Alike (Many way.own (around_place way.own around) around state other) (unfold_tree (reading_by way) around at (branch rule taken parts) state) (unfold_tree (reading_noted_by noted_way) (noted_around way.own around) at (branch rule taken parts) other)
   unfolding reading_by reading_noted_by noted_values
   encoded_noted k rule taken parts all p is opening_ around at state other tree less old same =
@@ -436,7 +412,7 @@ module _ (way : Way) (keeps : KeepsClosed way) (noted_way : NotedWay) (ways : Is
       let from = at + length taken in
       let byte = byte_of taken in
       let number : production_at rule.number ≡ p = ap (λ x. production_at x.number) is ∙ at_number p in
-      let trees = subst (λ xs. AreTrees either xs parts) (ap symbols_of is ∙ its_symbols p) tree.1 in
+      let trees = subst (λ xs. AreTrees wide xs parts) (ap symbols_of is ∙ its_symbols p) tree.1 in
       opened (Many way.own (around_place way.own around) around state other) (production_at rule.number) parts at state other
       (λ begun. unfold_forest (reading_by way) whole [] from parts begun >>= λ inner. way.close (production_at rule.number) byte around at state inner.value inner.state >>= alone)
       (λ begun. unfold_forest (reading_noted_by noted_way) noted [] from parts begun >>= λ inner. noted_way.close (production_at rule.number) byte (noted_around way.own around) at other inner.value inner.state >>= alone)
@@ -490,7 +466,7 @@ result_noted own x y z (Ok a) (Err d) many = absurd many
 result_noted own x y z (Err e) (Ok b) many = absurd many
 
 -- Unfolding with arguments is unfolding without: the same refusal, or the same tree with its arguments.
-pub unfold_noted : (shape : Tree) → IsTree either (OfKind SYMBOL) shape → unfolded_.unfold_cpp shape ≡ noted_tree (unfolding_.unfold_cpp shape)
+pub unfold_noted : (shape : Tree) → IsTree wide (OfKind SYMBOL) shape → unfolded_.unfold_cpp shape ≡ noted_tree (unfolding_.unfold_cpp shape)
 unfolding cpp unfolded_.cpp reading_by reading_noted_by abi_way abi_noted unfolded_.unfold_cpp unfolding_.unfold_cpp unfolding_.first_around unfolding_.first_state unfolded_.first_around unfolded_.first_state is_encoding is_special is_special_kind noted_around noted_scope noted_prefix place_in
 unfold_noted shape is =
     result_noted false unfolding_.first_state unfolding_.first_state unfolded_.first_state (unfold_tree cpp unfolding_.first_around 0 shape unfolding_.first_state) (unfold_tree unfolded_.cpp unfolded_.first_around 0 shape unfolded_.first_state)
@@ -498,7 +474,7 @@ unfold_noted shape is =
     (record { packs = refl; all = tt }))
 
 -- And so it is by the wide grammar.
-pub wide_unfold_noted : (shape : Tree) → IsTree either (OfKind SYMBOL) shape → wide_.unfold_wide shape ≡ noted_tree (unfold_wide shape)
+pub wide_unfold_noted : (shape : Tree) → IsTree wide (OfKind SYMBOL) shape → wide_.unfold_wide shape ≡ noted_tree (unfold_wide shape)
 unfolding cpp_wide wide_.cpp_wide reading_by reading_noted_by wide_way wide_noted wide_.unfold_wide unfold_wide unfolding_.first_around unfolding_.first_state unfolded_.first_around unfolded_.first_state is_encoding is_special is_special_kind noted_around noted_scope noted_prefix place_in
 wide_unfold_noted shape is =
     result_noted true unfolding_.first_state unfolding_.first_state unfolded_.first_state (unfold_tree cpp_wide unfolding_.first_around 0 shape unfolding_.first_state) (unfold_tree wide_.cpp_wide unfolded_.first_around 0 shape unfolded_.first_state)
@@ -506,10 +482,10 @@ wide_unfold_noted shape is =
     (record { packs = refl; all = tt }))
 
 -- So the answer may be read from either.
-pub same_answer : (d : Detail) (limit : ℕ) (shape : Tree) → IsTree either (OfKind SYMBOL) shape → noted_answer d limit (unfolded_.unfold_cpp shape) ≡ answer_within d limit (unfolding_.unfold_cpp shape)
+pub same_answer : (d : Detail) (limit : ℕ) (shape : Tree) → IsTree wide (OfKind SYMBOL) shape → noted_answer d limit (unfolded_.unfold_cpp shape) ≡ answer_within d limit (unfolding_.unfold_cpp shape)
 same_answer d limit shape is = ap (noted_answer d limit) (unfold_noted shape is) ∙ answer_noted d limit (unfolding_.unfold_cpp shape)
 
-pub wide_same_answer : (d : Detail) (limit : ℕ) (shape : Tree) → IsTree either (OfKind SYMBOL) shape → noted_answer d limit (wide_.unfold_wide shape) ≡ answer_within d limit (unfold_wide shape)
+pub wide_same_answer : (d : Detail) (limit : ℕ) (shape : Tree) → IsTree wide (OfKind SYMBOL) shape → noted_answer d limit (wide_.unfold_wide shape) ≡ answer_within d limit (unfold_wide shape)
 wide_same_answer d limit shape is = ap (noted_answer d limit) (wide_unfold_noted shape is) ∙ answer_noted d limit (unfold_wide shape)
 
 -- ## Candidates
@@ -526,7 +502,7 @@ pub record ReadWithArguments (shape : Tree) (read : Found (List Value) State) : 
   pub is : unfold_tree unfolded_.cpp unfolded_.first_around 0 shape unfolded_.first_state ≡ Ok other
   pub candidates : length other.state.candidates ≡ length read.state.candidates
 
-pub read_with_arguments : (shape : Tree) (read : Found (List Value) State) → IsTree either (OfKind SYMBOL) shape
+pub read_with_arguments : (shape : Tree) (read : Found (List Value) State) → IsTree wide (OfKind SYMBOL) shape
     → unfold_tree cpp unfolding_.first_around 0 shape unfolding_.first_state ≡ Ok read → ReadWithArguments shape read
 unfolding cpp unfolded_.cpp reading_by reading_noted_by abi_way abi_noted unfolding_.first_around unfolding_.first_state unfolded_.first_around unfolded_.first_state is_encoding is_special is_special_kind noted_around noted_scope noted_prefix place_in
 read_with_arguments shape read is e =

@@ -10,9 +10,8 @@ use Rattle.cpp_grammar.specs.declared.kind.Kind.{Kind}
 use Rattle.cpp_grammar.specs.declared.production.Production.{Production}
 use Rattle.cpp_grammar.specs.KindNumbers.{SYMBOL}
 use Rattle.cpp_grammar.specs.Grammar.{number_of_kind, pick, kinds, may_be_empty}
-use Rattle.cpp_grammar.specs.Wide.{wide_alternatives}
-use Rattle.cpp_grammar.specs.Either.{either_alternatives, either_choose}
-use Rattle.cpp_grammar.specs.Table.{either, either_sheet, sheet_with}
+use Rattle.cpp_grammar.specs.Wide.{wide_alternatives, wide_choose}
+use Rattle.cpp_grammar.specs.Table.{wide, wide_sheet, sheet_with}
 use Rattle.cpp_grammar.specs.Unfolding.{production_at, byte_of}
 use Rattle.cpp_grammar.specs.Term as plain_
 use Rattle.cpp_grammar.specs.Unfolding as plain_unfolding
@@ -39,12 +38,12 @@ picked_symbol : (b : Bool) (p : Production) → cond b (Some Production.Symbol) 
 picked_symbol true p e = cc
 picked_symbol false p e = absurd cc
 
-symbol_alone : (byte : ℕ) (p : Production) → either_choose Kind.Symbol byte ≡ Some p → p ≡ Production.Symbol
-unfolding either_choose wide_alternatives either_alternatives pick
+symbol_alone : (byte : ℕ) (p : Production) → wide_choose Kind.Symbol byte ≡ Some p → p ≡ Production.Symbol
+unfolding wide_choose wide_alternatives pick
 symbol_alone byte p e = picked_symbol _ p e
 
-symbol_there : either.may_be_empty 0 ≡ false
-unfolding either either_sheet sheet_with kinds may_be_empty
+symbol_there : wide.may_be_empty 0 ≡ false
+unfolding wide wide_sheet sheet_with kinds may_be_empty
 symbol_there = refl
 
 -- the values are one tree, that of an encoding with what stands behind it
@@ -54,13 +53,13 @@ pub record IsWhole (values : List Value) : Type 0 where
   pub one : values ≡ tree (symbol encoding suffix) true ∷ []
 
 module _ (noted_way : NotedWay) (apart : IsPlainNoted noted_way) where
-  pub whole_reading : (shape : Tree) (r : Found (List Value) State) → IsTree either (OfKind SYMBOL) shape → unfold_tree (reading_noted_by noted_way) first_around 0 shape first_state ≡ Ok r → IsWhole r.value
+  pub whole_reading : (shape : Tree) (r : Found (List Value) State) → IsTree wide (OfKind SYMBOL) shape → unfold_tree (reading_noted_by noted_way) first_around 0 shape first_state ≡ Ok r → IsWhole r.value
   unfolding differs reading_noted_by close meaning
   whole_reading (branch rule taken parts) r is e =
       let whole : Open State Around = standing rule taken 0 first_around first_state in
       let byte = byte_of taken in
       let c = chosen_rule SYMBOL rule taken (known 0 (lit≤ tt)) is.0 in
-      let only : c.production ≡ Production.Symbol = symbol_alone c.byte c.production (sym (ap (λ k. either_choose k c.byte) (first_kind c.kind c.number)) ∙ c.chosen) in
+      let only : c.production ≡ Production.Symbol = symbol_alone c.byte c.production (sym (ap (λ k. wide_choose k c.byte) (first_kind c.kind c.number)) ∙ c.chosen) in
       let number : production_at rule.number ≡ Production.Symbol = ap (λ x. production_at x.number) c.is ∙ at_number c.production ∙ only in
       let begun = behind_bind (opening (production_at rule.number) parts 0 first_state)
       (λ begun. unfold_forest (reading_noted_by noted_way) whole [] (0 + length taken) parts begun >>= λ inner. noted_way.close (production_at rule.number) byte first_around 0 first_state inner.value inner.state >>= alone) r e in
@@ -87,11 +86,11 @@ read_by stands_for values w stands =
     let is : IsSymbolTree stands_for (symbol w.encoding w.suffix) = subst (λ vs. IsSymbolTree stands_for (first_tree vs)) w.one stands in
     record { encoding = w.encoding; suffix = w.suffix; one = w.one; plain = is.plain; carries = is.carries }
 
-pub read_as : (shape : Tree) (r : Found (List Value) State) → IsTree either (OfKind SYMBOL) shape → unfold_tree cpp first_around 0 shape first_state ≡ Ok r → IsReadAs (plain_unfolding.unfold_cpp shape) r.value
+pub read_as : (shape : Tree) (r : Found (List Value) State) → IsTree wide (OfKind SYMBOL) shape → unfold_tree cpp first_around 0 shape first_state ≡ Ok r → IsReadAs (plain_unfolding.unfold_cpp shape) r.value
 unfolding cpp reading_noted_by abi_noted
 read_as shape r is e = read_by (plain_unfolding.unfold_cpp shape) r.value (whole_reading abi_noted abi_is_noted.plain shape r is e) (reading_stands shape r is e)
 
-pub wide_read_as : (shape : Tree) (r : Found (List Value) State) → IsTree either (OfKind SYMBOL) shape → unfold_tree cpp_wide first_around 0 shape first_state ≡ Ok r → IsReadAs (plain_wide.unfold_wide shape) r.value
+pub wide_read_as : (shape : Tree) (r : Found (List Value) State) → IsTree wide (OfKind SYMBOL) shape → unfold_tree cpp_wide first_around 0 shape first_state ≡ Ok r → IsReadAs (plain_wide.unfold_wide shape) r.value
 unfolding cpp_wide reading_noted_by wide_noted
 wide_read_as shape r is e = read_by (plain_wide.unfold_wide shape) r.value (whole_reading wide_noted wide_is_noted.plain shape r is e) (wide_reading_stands shape r is e)
 
@@ -100,14 +99,14 @@ pub record IsWholeTree (t : Term) : Type 0 where
   pub suffix : List ℕ
   pub is : t ≡ symbol encoding suffix
 
-pub whole_symbol : (shape : Tree) (t : Term) → IsTree either (OfKind SYMBOL) shape → unfold_cpp shape ≡ Ok t → IsWholeTree t
+pub whole_symbol : (shape : Tree) (t : Term) → IsTree wide (OfKind SYMBOL) shape → unfold_cpp shape ≡ Ok t → IsWholeTree t
 unfolding cpp reading_noted_by abi_noted unfold_cpp first_tree tree_of
 whole_symbol shape t is e =
     let read = behind_bind (unfold_tree cpp first_around 0 shape first_state) (λ r. Ok (first_tree r.value)) t e in
     let w = whole_reading abi_noted abi_is_noted.plain shape read.value is read.is in
     record { encoding = w.encoding; suffix = w.suffix; is = sym (ok_same (first_tree read.value.value) t read.next) ∙ ap first_tree w.one }
 
-pub wide_whole_symbol : (shape : Tree) (t : Term) → IsTree either (OfKind SYMBOL) shape → unfold_wide shape ≡ Ok t → IsWholeTree t
+pub wide_whole_symbol : (shape : Tree) (t : Term) → IsTree wide (OfKind SYMBOL) shape → unfold_wide shape ≡ Ok t → IsWholeTree t
 unfolding cpp_wide reading_noted_by wide_noted unfold_wide first_tree tree_of
 wide_whole_symbol shape t is e =
     let read = behind_bind (unfold_tree cpp_wide first_around 0 shape first_state) (λ r. Ok (first_tree r.value)) t e in

@@ -103,7 +103,6 @@ unfoldable pub between : Production → Around → (place : ℕ) → List Value 
 between Production.Encoding around place [] state = next [] (in_name place) state
 between Production.Encoding around place (name ∷ vs) state = next (name ∷ vs) (in_types place (tree_of name)) state
 between Production.Special around place vs state = next vs (in_name place) state
-between Production.Guard around place vs state = next vs (in_name place) state
 between Production.OtherSpecial around place vs state = next vs (in_name place) state
 -- names; the first piece of a local entity has the enclosing encoding as its prefix
 between Production.LocalName around place (e ∷ vs) state = next (e ∷ vs) (after (tree_of e) true around) state
@@ -122,7 +121,6 @@ between Production.AbbreviatedName around place (v ∷ []) state = listed_so_far
 -- nested names: each proper prefix is a candidate
 between Production.NestStd around place (v ∷ []) state = named_so_far around (in_std (piece_of v)) [] state
 between Production.NestStd around place (v ∷ arguments ∷ []) state = named_so_far around (applied (tree_of v) arguments) (arguments ∷ []) state
-between Production.NestAbbreviated around place (v ∷ []) state = listed_so_far around (tree_of v) [] state
 between Production.NestTemplate around place (v ∷ []) state = listed_so_far around (tree_of v) [] state
 between Production.NestParameter around place (v ∷ []) state = parameter_so_far around place (index_of v) [] state
 between Production.NestInternal around place (v ∷ []) state = piece_so_far around (source true (text_of v)) [] state

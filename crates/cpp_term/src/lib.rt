@@ -10,7 +10,7 @@ ghost use Rattle.sym_shape.specs.Tree.{Tree, IsTree};
 ghost use Rattle.sym_shape.specs.declared.rule.Sym.TheVariants.{Kind};
 ghost use Rattle.sym_link.specs.Reading.{Found};
 ghost use Rattle.sym_link.specs.Unfold.{unfold_tree};
-ghost use Rattle.cpp_grammar.specs.Table.{either};
+ghost use Rattle.cpp_grammar.specs.Table.{wide};
 ghost use Rattle.cpp_grammar.specs.Answer.{shown, root_item, answer_within};
 ghost use Rattle.cpp_grammar.specs.Items.{Item, is_none_of};
 ghost use Rattle.cpp_grammar.specs.Parts as leaf_;
@@ -38,23 +38,23 @@ pub fn parts_are_annotated()
 /// A well shaped symbol read with arguments in its parameters comes to the tree of the symbol (ABI 5.1.8, 5.1.10), each free
 /// parameter with its argument; or it's refused for the same reason, at the same place. So it is by the wide grammar.
 pub fn trees_are_annotated()
-    ensures abi { (shape : Tree) → IsTree either (Kind 0) shape → unfolded_.unfold_cpp shape ≡ noted_tree (unfolding_.unfold_cpp shape) }
-    ensures wide { (shape : Tree) → IsTree either (Kind 0) shape → wide_.unfold_wide shape ≡ noted_tree (unfold_wide shape) }
+    ensures abi { (shape : Tree) → IsTree wide (Kind 0) shape → unfolded_.unfold_cpp shape ≡ noted_tree (unfolding_.unfold_cpp shape) }
+    ensures wide { (shape : Tree) → IsTree wide (Kind 0) shape → wide_.unfold_wide shape ≡ noted_tree (unfold_wide shape) }
 {}
 
 /// Without its arguments the tree that a symbol is read into is the tree of the symbol, and they can be told from that tree: no
 /// two symbols with one tree differ in them. It is an encoding with what stands behind it.
 pub fn arguments_are_erased()
-    ensures tree { (shape : Tree) (t : Term) → IsTree either (Kind 0) shape → unfolded_.unfold_cpp shape ≡ Ok t → unfolding_.unfold_cpp shape ≡ Ok (erase t) }
-    ensures carries { (shape : Tree) (t : Term) → IsTree either (Kind 0) shape → unfolded_.unfold_cpp shape ≡ Ok t → CarriesArguments t }
-    ensures whole { (shape : Tree) (t : Term) → IsTree either (Kind 0) shape → unfolded_.unfold_cpp shape ≡ Ok t → (encoding : Term) × (suffix : List ℕ) × (t ≡ symbol encoding suffix) }
-    ensures refused { (shape : Tree) (refusal : Refusal) → IsTree either (Kind 0) shape → unfolded_.unfold_cpp shape ≡ Err refusal → unfolding_.unfold_cpp shape ≡ Err refusal }
+    ensures tree { (shape : Tree) (t : Term) → IsTree wide (Kind 0) shape → unfolded_.unfold_cpp shape ≡ Ok t → unfolding_.unfold_cpp shape ≡ Ok (erase t) }
+    ensures carries { (shape : Tree) (t : Term) → IsTree wide (Kind 0) shape → unfolded_.unfold_cpp shape ≡ Ok t → CarriesArguments t }
+    ensures whole { (shape : Tree) (t : Term) → IsTree wide (Kind 0) shape → unfolded_.unfold_cpp shape ≡ Ok t → (encoding : Term) × (suffix : List ℕ) × (t ≡ symbol encoding suffix) }
+    ensures refused { (shape : Tree) (refusal : Refusal) → IsTree wide (Kind 0) shape → unfolded_.unfold_cpp shape ≡ Err refusal → unfolding_.unfold_cpp shape ≡ Err refusal }
 {}
 
 /// What a well shaped symbol is read as, part by part, is one tree, which without its arguments is the tree of the symbol.
 pub fn symbols_are_read_as_trees()
-    ensures wide { (shape : Tree) (read : Found (List Value) State) → IsTree either (Kind 0) shape → unfold_tree wide_.cpp_wide unfolded_.first_around 0 shape unfolded_.first_state ≡ Ok read → IsReadAs (unfold_wide shape) read.value }
-    ensures abi { (shape : Tree) (read : Found (List Value) State) → IsTree either (Kind 0) shape → unfold_tree unfolded_.cpp unfolded_.first_around 0 shape unfolded_.first_state ≡ Ok read → IsReadAs (unfolding_.unfold_cpp shape) read.value }
+    ensures wide { (shape : Tree) (read : Found (List Value) State) → IsTree wide (Kind 0) shape → unfold_tree wide_.cpp_wide unfolded_.first_around 0 shape unfolded_.first_state ≡ Ok read → IsReadAs (unfold_wide shape) read.value }
+    ensures abi { (shape : Tree) (read : Found (List Value) State) → IsTree wide (Kind 0) shape → unfold_tree unfolded_.cpp unfolded_.first_around 0 shape unfolded_.first_state ≡ Ok read → IsReadAs (unfolding_.unfold_cpp shape) read.value }
 {}
 
 /// A tree whose parameters carry their arguments has the text and the cost of the tree without them, in either detail.
@@ -65,8 +65,8 @@ pub fn texts_are_the_same()
 /// The answer for a well shaped symbol is that for its tree whose parameters carry their arguments: the text where that costs
 /// at most the limit, in either detail, or the refusal with its place.
 pub fn answers_are_the_same()
-    ensures wide { (detail : Detail) (limit : ℕ) (shape : Tree) → IsTree either (Kind 0) shape → noted_answer detail limit (wide_.unfold_wide shape) ≡ answer_within detail limit (unfold_wide shape) }
-    ensures abi { (detail : Detail) (limit : ℕ) (shape : Tree) → IsTree either (Kind 0) shape → noted_answer detail limit (unfolded_.unfold_cpp shape) ≡ answer_within detail limit (unfolding_.unfold_cpp shape) }
+    ensures wide { (detail : Detail) (limit : ℕ) (shape : Tree) → IsTree wide (Kind 0) shape → noted_answer detail limit (wide_.unfold_wide shape) ≡ answer_within detail limit (unfold_wide shape) }
+    ensures abi { (detail : Detail) (limit : ℕ) (shape : Tree) → IsTree wide (Kind 0) shape → noted_answer detail limit (unfolded_.unfold_cpp shape) ≡ answer_within detail limit (unfolding_.unfold_cpp shape) }
 {}
 
 /// A tree with another argument in each of its free parameters, or with the elements of a list: without one it is the tree, the outer

@@ -7,8 +7,8 @@ use Rattle.sym_shape.specs.Tree.{Tree, IsTree, spell}
 use Rattle.sym_link.specs.Driving.{Fails}
 use Rattle.sym_link.specs.Following.{meaning_of}
 use Rattle.sym_link.proofs.Tally.{fails_untallied}
-use Rattle.cpp_grammar.specs.Table.{abi, wide, either}
-use Rattle.cpp_grammar.proofs.Growing.{abi_either, wide_either}
+use Rattle.cpp_grammar.specs.Table.{abi, wide}
+use Rattle.cpp_grammar.proofs.Growing.{abi_wide}
 use Rattle.cpp_grammar.specs.Unfolding.{unfold_cpp}
 use Rattle.cpp_grammar.specs.Rescoping.{unfold_wide}
 use Rattle.cpp_term.proofs.Erasing.{reading_fails, wide_reading_fails}
@@ -17,23 +17,16 @@ use Rattle.cpp_link.specs.NodeCount.{cpp_makes, cpp_counted}
 use Rattle.cpp_link.specs.LinkRescoping.{wide_view, wide_makes, wide_counted}
 use Rattle.cpp_link.proofs.LinkReading.{meaning_same, wide_meaning_same}
 
-pub cpp_fails : (shape : Tree) (refusal : Refusal) → IsTree either (Kind 0) shape → Fails refusal (meaning_of (cpp_counted (spell shape)) shape) → Fails refusal (unfold_cpp shape)
-cpp_fails shape refusal is fails =
-    reading_fails shape refusal is
-    (subst (Fails refusal) (meaning_same (spell shape) shape is refl) (fails_untallied (cpp_view (spell shape)) cpp_makes shape refusal fails))
-
--- and so it is over each grammar
-pub abi_grows : GrowsInto abi either
-abi_grows tree is = abi_either (Kind 0) tree is
+pub abi_grows : GrowsInto abi wide
+abi_grows tree is = abi_wide (Kind 0) tree is
 
 pub abi_fails : (shape : Tree) (refusal : Refusal) → IsTree abi (Kind 0) shape → Fails refusal (meaning_of (cpp_counted (spell shape)) shape) → Fails refusal (unfold_cpp shape)
-abi_fails shape refusal is fails = cpp_fails shape refusal (abi_grows shape is) fails
-
-pub wide_grows : GrowsInto wide either
-wide_grows tree is = wide_either (Kind 0) tree is
+abi_fails shape refusal is fails =
+    let tree = abi_grows shape is in
+    reading_fails shape refusal tree
+    (subst (Fails refusal) (meaning_same (spell shape) shape tree refl) (fails_untallied (cpp_view (spell shape)) cpp_makes shape refusal fails))
 
 pub wide_fails : (shape : Tree) (refusal : Refusal) → IsTree wide (Kind 0) shape → Fails refusal (meaning_of (wide_counted (spell shape)) shape) → Fails refusal (unfold_wide shape)
 wide_fails shape refusal is fails =
-    let tree = wide_grows shape is in
-    wide_reading_fails shape refusal tree
-    (subst (Fails refusal) (wide_meaning_same (spell shape) shape tree refl) (fails_untallied (wide_view (spell shape)) wide_makes shape refusal fails))
+    wide_reading_fails shape refusal is
+    (subst (Fails refusal) (wide_meaning_same (spell shape) shape is refl) (fails_untallied (wide_view (spell shape)) wide_makes shape refusal fails))

@@ -35,7 +35,7 @@ impl Mangling for Wide {
     ghost use Rattle.cpp_link.specs.LinkRescoping.{are_wide_nodes};
     ghost use Rattle.itanium.specs.Counting as counting;
     ghost use Rattle.itanium.specs.Counting.{wide_counts, wide_node_count};
-    ghost use Rattle.itanium.specs.Failing.{wide_grows, wide_fails};
+    ghost use Rattle.itanium.specs.Failing.{wide_fails};
 
     type Linked = Rescoping;
 
@@ -139,7 +139,7 @@ impl Mangling for Wide {
 
     ghost counts_nodes = { wide_counts };
 
-    ghost view_table = { λ s tree is. wide_grows tree is };
+    ghost view_table = { λ s tree is. is };
 
     ghost fails = { wide_fails };
 }

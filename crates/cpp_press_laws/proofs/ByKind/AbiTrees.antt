@@ -8,14 +8,14 @@ use Rattle.sym_link.specs.Reading.{Found}
 use Rattle.sym_link.specs.Unfold.{unfold_tree}
 use Rattle.cpp_grammar.specs.KindNumbers.{KIND_COUNT}
 use Rattle.cpp_grammar.specs.Grammar.{kinds}
-use Rattle.cpp_grammar.specs.Table.{abi, sheet, either}
+use Rattle.cpp_grammar.specs.Table.{abi, sheet, wide}
 use Rattle.cpp_grammar.specs.Unfolding.{cpp}
 use Rattle.cpp_grammar.specs.Values.{State, Around, Value}
 use Rattle.cpp_grammar.proofs.ClosedStates.{Bare, AllOld}
 use Rattle.cpp_grammar.proofs.ClosedTrees as both_
 use Rattle.cpp_grammar.proofs.ClosedTrees.{is_encoding, TreeComes}
 use Rattle.cpp_grammar.proofs.ClosedValues.{GoodPrefix}
-use Rattle.cpp_grammar.proofs.Growing.{abi_either}
+use Rattle.cpp_grammar.proofs.Growing.{abi_wide}
 
 kind_count : abi.kinds ≡ KIND_COUNT
 unfolding abi sheet kinds
@@ -24,13 +24,13 @@ kind_count = refl
 pub known : (k : ℕ) → suc k ≤ KIND_COUNT → k < abi.kinds
 known k lt = omega (arith, lt, kind_count)
 
-either_symbol : (x : Sym) → IsSymbol abi x → IsSymbol either x
-either_symbol (OfKind k) is = both_.known k (omega (arith, is, kind_count))
-either_symbol Name is = tt
-either_symbol (Number kind) is = tt
-either_symbol (Byte b) is = is
+wide_symbol : (x : Sym) → IsSymbol abi x → IsSymbol wide x
+wide_symbol (OfKind k) is = both_.known k (omega (arith, is, kind_count))
+wide_symbol Name is = tt
+wide_symbol (Number kind) is = tt
+wide_symbol (Byte b) is = is
 
 pub tree_good : (t : Tree) (x : Sym) (around : Around) (at : ℕ) (state : State) (r : Found (List Value) State) → IsSymbol abi x → IsTree abi x t → around.encoding ≤ at
     → (is_encoding x ≡ true → around.encoding < at) → GoodPrefix (Bare false around) around.prefix → AllOld false around at state.candidates → unfold_tree cpp around at t state ≡ Ok r
     → TreeComes false around (at + length (spell t)) state r
-tree_good t x around at state r lt is = both_.tree_good t x around at state r (either_symbol x lt) (abi_either x t is)
+tree_good t x around at state r lt is = both_.tree_good t x around at state r (wide_symbol x lt) (abi_wide x t is)

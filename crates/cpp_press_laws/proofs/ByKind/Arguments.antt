@@ -4,8 +4,9 @@ use Rattle.cpp_grammar.specs.declared.kind.Kind.{Kind}
 use Rattle.cpp_grammar.specs.declared.production.Production.{Production}
 use Rattle.cpp_grammar.specs.Grammar.{alternatives, is_chain, number_of_kind, parts_of}
 use Rattle.cpp_grammar.specs.Term.{Term, pack}
-use Rattle.cpp_grammar.specs.Values.{State, outermost, Around, Value, tree, tree_of}
+use Rattle.cpp_grammar.specs.Values.{State, outermost, Around, Value, tree, tree_of, part}
 use Rattle.cpp_grammar.specs.Between.{between, no_items}
+use Rattle.cpp_grammar.specs.Meaning.{meaning}
 use Rattle.cpp_grammar.specs.Unfolding as unfolding_
 use Rattle.cpp_grammar.specs.Unfolding.{byte_of}
 use Rattle.cpp_press_laws.specs.Fits.{literal_type, IsBuiltin}
@@ -147,6 +148,27 @@ address-branch rule taken parts all around at old v new front is e =
     go (inl o) = address around at old v new o
     go (inr none) = absurd none
 
+-- as an argument, behind the X
+address-expression : (around : Around) (at : ℕ) (old : State) (v : Value) (new : State) → around.prefix ≡ outermost
+    → OpenedRead Kind.ExpressionRest around at old v new Production.AddressExpression → KindFits Kind.ExpressionRest around v old new
+unfolding parts_of between meaning part unfolding_.behind number_of_kind
+address-expression around at old v new outer o =
+    let a = o.goes tt in
+    let b = a.onward in
+    comes-as (λ w s. KindFits Kind.ExpressionRest around w old s) Production.AddressExpression tt (byte_of o.taken) around at old
+    (a.value ∷ b.value ∷ []) b.after v new b.onward
+    (subst (λ s. KindFits Kind.Address around b.value s b.after) a.read.0 (b.read Kind.Address refl outer))
+
+pub expression-rest-branch : BranchRead Kind.ExpressionRest
+unfolding alternatives
+expression-rest-branch rule taken parts all around at old v new front is e =
+    λ outer. go outer (opened-read Kind.ExpressionRest rule taken parts all around at old v new front is e)
+  where
+    go : around.prefix ≡ outermost → OneOf (alternatives Kind.ExpressionRest) (OpenedRead Kind.ExpressionRest around at old v new)
+        → KindFits Kind.ExpressionRest around v old new
+    go outer (inl o) = address-expression around at old v new outer o
+    go outer (inr none) = absurd none
+
 -- ## Lists
 
 pack-argument : (kind : Kind) (around : Around) (at : ℕ) (old : State) (v : Value) (new : State) → around.prefix ≡ outermost
@@ -189,60 +211,30 @@ literal-element around at old v new outer o =
     (step.literal-element around byte old a.value b.value c.value old a.after c.after (a.read Kind.Literal refl outer)
     (subst (λ s. KindFits Kind.PackList around c.value s c.after) b.read.0 (c.read Kind.PackList refl outer)))
 
-address-argument : (kind : Kind) (around : Around) (at : ℕ) (old : State) (v : Value) (new : State) → around.prefix ≡ outermost
-    → OpenedRead kind around at old v new Production.AddressArgument → KindFits Kind.ArgumentList around v old new
+any-argument : (kind : Kind) (around : Around) (at : ℕ) (old : State) (v : Value) (new : State) → around.prefix ≡ outermost
+    → OpenedRead kind around at old v new Production.AnyArgument → KindFits Kind.ArgumentList around v old new
 unfolding parts_of between number_of_kind
-address-argument kind around at old v new outer o =
-    let a = o.goes tt in
-    let b = a.onward in
-    let c = b.onward in
-    let d = c.onward in
-    let byte : ℕ = byte_of o.taken in
-    comes-as (λ w s. KindFits Kind.ArgumentList around w old s) Production.AddressArgument tt byte around at old
-    (a.value ∷ b.value ∷ c.value ∷ d.value ∷ []) d.after v new d.onward
-    (step.address-argument around byte old a.value b.value c.value d.value old c.after d.after
-    (subst (λ s. KindFits Kind.Address around c.value s c.after) (b.read.0 ∙ a.read.0) (c.read Kind.Address refl outer))
-    (d.read Kind.ArgumentList refl outer))
-
-address-element : (around : Around) (at : ℕ) (old : State) (v : Value) (new : State) → around.prefix ≡ outermost
-    → OpenedRead Kind.PackList around at old v new Production.AddressElement → KindFits Kind.PackList around v old new
-unfolding parts_of between number_of_kind
-address-element around at old v new outer o =
-    let a = o.goes tt in
-    let b = a.onward in
-    let c = b.onward in
-    let d = c.onward in
-    let byte : ℕ = byte_of o.taken in
-    comes-as (λ w s. KindFits Kind.PackList around w old s) Production.AddressElement tt byte around at old
-    (a.value ∷ b.value ∷ c.value ∷ d.value ∷ []) d.after v new d.onward
-    (step.address-element around byte old a.value b.value c.value d.value old c.after d.after
-    (subst (λ s. KindFits Kind.Address around c.value s c.after) (b.read.0 ∙ a.read.0) (c.read Kind.Address refl outer))
-    (d.read Kind.PackList refl outer))
-
-type-argument : (kind : Kind) (around : Around) (at : ℕ) (old : State) (v : Value) (new : State) → around.prefix ≡ outermost
-    → OpenedRead kind around at old v new Production.TypeArgument → KindFits Kind.ArgumentList around v old new
-unfolding parts_of between number_of_kind
-type-argument kind around at old v new outer o =
+any-argument kind around at old v new outer o =
     let a = o.goes tt in
     let b = a.onward in
     let byte : ℕ = byte_of o.taken in
-    comes-as (λ w s. KindFits Kind.ArgumentList around w old s) Production.TypeArgument tt byte around at old (a.value ∷ b.value ∷ [])
+    comes-as (λ w s. KindFits Kind.ArgumentList around w old s) Production.AnyArgument tt byte around at old (a.value ∷ b.value ∷ [])
     b.after v
     new b.onward
-    (step.type-argument-read around byte old a.value b.value old a.after b.after (a.read Kind.Item refl outer)
+    (step.any-argument around byte old a.value b.value old a.after b.after (a.read Kind.Argument refl outer)
     (b.read Kind.ArgumentList refl outer))
 
-type-element : (around : Around) (at : ℕ) (old : State) (v : Value) (new : State) → around.prefix ≡ outermost
-    → OpenedRead Kind.PackList around at old v new Production.TypeElement → KindFits Kind.PackList around v old new
+any-element : (around : Around) (at : ℕ) (old : State) (v : Value) (new : State) → around.prefix ≡ outermost
+    → OpenedRead Kind.PackList around at old v new Production.AnyElement → KindFits Kind.PackList around v old new
 unfolding parts_of between number_of_kind
-type-element around at old v new outer o =
+any-element around at old v new outer o =
     let a = o.goes tt in
     let b = a.onward in
     let byte : ℕ = byte_of o.taken in
-    comes-as (λ w s. KindFits Kind.PackList around w old s) Production.TypeElement tt byte around at old (a.value ∷ b.value ∷ []) b.after v
+    comes-as (λ w s. KindFits Kind.PackList around w old s) Production.AnyElement tt byte around at old (a.value ∷ b.value ∷ []) b.after v
     new
     b.onward
-    (step.type-element around byte old a.value b.value old a.after b.after (a.read Kind.Item refl outer) (b.read Kind.PackList refl outer))
+    (step.any-element around byte old a.value b.value old a.after b.after (a.read Kind.Argument refl outer) (b.read Kind.PackList refl outer))
 
 pub argument-list-branch : BranchRead Kind.ArgumentList
 unfolding alternatives
@@ -253,9 +245,8 @@ argument-list-branch rule taken parts all around at old v new front is e =
         → KindFits Kind.ArgumentList around v old new
     go outer (inl o) = pack-argument Kind.ArgumentList around at old v new outer o
     go outer (inr (inl o)) = literal-argument Kind.ArgumentList around at old v new outer o
-    go outer (inr (inr (inl o))) = address-argument Kind.ArgumentList around at old v new outer o
-    go outer (inr (inr (inr (inl o)))) = type-argument Kind.ArgumentList around at old v new outer o
-    go outer (inr (inr (inr (inr none)))) = absurd none
+    go outer (inr (inr (inl o))) = any-argument Kind.ArgumentList around at old v new outer o
+    go outer (inr (inr (inr none))) = absurd none
 
 pub arguments-first-branch : BranchRead Kind.ArgumentsFirst
 unfolding alternatives
@@ -266,9 +257,8 @@ arguments-first-branch rule taken parts all around at old v new front is e =
         → KindFits Kind.ArgumentList around v old new
     go outer (inl o) = pack-argument Kind.ArgumentsFirst around at old v new outer o
     go outer (inr (inl o)) = literal-argument Kind.ArgumentsFirst around at old v new outer o
-    go outer (inr (inr (inl o))) = address-argument Kind.ArgumentsFirst around at old v new outer o
-    go outer (inr (inr (inr (inl o)))) = type-argument Kind.ArgumentsFirst around at old v new outer o
-    go outer (inr (inr (inr (inr none)))) = absurd none
+    go outer (inr (inr (inl o))) = any-argument Kind.ArgumentsFirst around at old v new outer o
+    go outer (inr (inr (inr none))) = absurd none
 
 pub pack-list-branch : BranchRead Kind.PackList
 unfolding alternatives
@@ -278,6 +268,5 @@ pack-list-branch rule taken parts all around at old v new front is e =
     go : around.prefix ≡ outermost → OneOf (alternatives Kind.PackList) (OpenedRead Kind.PackList around at old v new)
         → KindFits Kind.PackList around v old new
     go outer (inl o) = literal-element around at old v new outer o
-    go outer (inr (inl o)) = address-element around at old v new outer o
-    go outer (inr (inr (inl o))) = type-element around at old v new outer o
-    go outer (inr (inr (inr none))) = absurd none
+    go outer (inr (inl o)) = any-element around at old v new outer o
+    go outer (inr (inr none)) = absurd none

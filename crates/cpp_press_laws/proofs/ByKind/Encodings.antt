@@ -1,6 +1,6 @@
 -- Encodings that were read fit: their names and types are read in surroundings of their own.
-use Rattle.std.proofs.Common.{◌≡◌, ℕ, ◌+◌, ◌<◌, ◌≤◌, inl, inr, length, List, [], ◌∷◌, ◌++◌, Bool, true, false, Some, Ok, refl, ap, sym, subst, ◌∙◌, arith, lit≤}
-use Rattle.std.proofs.lemmas.Bool.{false≢true}
+use Rattle.std.proofs.Common.{◌≡◌, ℕ, ◌+◌, ◌<◌, ◌≤◌, inl, inr, length, List, [], ◌∷◌, ◌++◌, Bool, true, false, cond, ◌||◌, nat_eq, Some, None, Ok, refl, ap, sym, subst, ◌∙◌, arith, lit≤}
+use Rattle.std.proofs.lemmas.Bool.{false≢true, eqb-true}
 use Rattle.std.proofs.lemmas.List.{append_assoc}
 use Rattle.sym_shape.specs.declared.rule.Sym.{Sym}
 use Rattle.sym_shape.specs.declared.rule.Sym.TheVariants.{Kind as OfKind}
@@ -9,10 +9,10 @@ use Rattle.sym_shape.specs.Tree.{Tree as Shape, spell, IsTree}
 use Rattle.sym_link.specs.Unfold.{found, unfold_tree}
 use Rattle.cpp_grammar.specs.declared.kind.Kind.{Kind}
 use Rattle.cpp_grammar.specs.declared.production.Production.{Production}
-use Rattle.cpp_grammar.specs.KindNumbers.{ENCODING, SPECIAL, COMPLETE_NAME, ITEMS}
-use Rattle.cpp_grammar.specs.Grammar.{alternatives, choose, is_chain, number_of_kind, parts_of}
+use Rattle.cpp_grammar.specs.KindNumbers.{ENCODING, SPECIAL, SPECIAL_MARK, SPECIAL_AFTER_G, COMPLETE_NAME, ITEMS}
+use Rattle.cpp_grammar.specs.Grammar.{alternatives, choose, pick, is_in, in_ranges, among, is_chain, number_of_kind, parts_of}
 use Rattle.cpp_grammar.specs.Table.{abi}
-use Rattle.cpp_grammar.specs.Term.{Thunk, Term, adjusting, covariant, non_virtual, by_table, symbol, function, thunk, nil, list, absent}
+use Rattle.cpp_grammar.specs.Term.{Thunk, Term, adjusting, covariant, non_virtual, by_table, symbol, function, of_name, thunk, nil, list, absent}
 use Rattle.cpp_grammar.specs.Scope.{has_return_type}
 use Rattle.cpp_grammar.specs.Values.{Candidate, State, Around, Value, tree, tree_of, qualifiers_of, ref_of, signed_of, adjustment_of, part}
 use Rattle.cpp_grammar.specs.Between.{in_name, in_types, no_items, between}
@@ -33,7 +33,7 @@ use Rattle.cpp_press_laws.proofs.Fits.Encodings.{AllAfter, AllShut}
 use Rattle.cpp_press_laws.proofs.Fits.Symbols.{StaysBehind, WholeFits, guard-fits, special-fits, thunk-fits, returning-fits, plain-function-fits, object-fits}
 use Rattle.cpp_press_laws.proofs.Fits.Sorts.{Meant, Later}
 use Rattle.cpp_press_laws.proofs.Fits.Places.{Ended, ended-as}
-use Rattle.cpp_press_laws.proofs.ByKind.LeafKinds.{byte-read, own-byte}
+use Rattle.cpp_press_laws.proofs.ByKind.LeafKinds.{own-byte}
 use Rattle.cpp_press_laws.proofs.ByKind.Known.{EncodingRead, SpecialRead, KindRead, BranchRead, InFront, ShapeRead, OpenedRead, opened-read, kind-comes}
 
 -- ## Candidates around an encoding and in it
@@ -196,28 +196,30 @@ function-read around at old v new front o =
 -- ## Guards and special encodings
 
 guard-read : (around : Around) (at : ℕ) (old : State) (v : Value) (new : State) → InFront (OfKind ENCODING) around at old
-    → Opened ShapeRead Kind.Encoding around at old (found (v ∷ []) new) Production.Guard → EncodingRead around v old new
+    → Opened ShapeRead Kind.Encoding around at old (found (v ∷ []) new) Production.OtherSpecial → EncodingRead around v old new
 unfolding parts_of between close in_name number_of_kind holds_encoding meaning unfolding_.behind part is_encoding tree_of
 guard-read around at old v new front o =
     let less : around.encoding < at = front.opening refl in
     let byte : ℕ = byte_of o.taken in
     let from : ℕ = at + length o.taken in
     let g = o.goes in
-    let b = byte-read 86 g.shape (in_name at) from old g.after g.value g.is g.unfolds in
+    let m = name-front (OfKind SPECIAL_MARK) around at from old less (omega arith) refl front.placed.old in
+    let b : g.after ≡ old = g.holds Kind.SpecialMark (in_name at) from old g.value g.after m g.is g.unfolds in
     let later : ℕ = from + length (spell g.shape) in
     let h = g.onward in
-    let f = name-front (OfKind COMPLETE_NAME) around at later g.after less (omega arith) refl
-    (subst (λ s. AllOld false around at (State.candidates s)) (sym b.0) front.placed.old) in
-    let own = h.holds Kind.CompleteName (in_name at) later g.after h.value h.after f h.is h.unfolds refl in
-    let c = part-came (OfKind COMPLETE_NAME) (in_name at) later g.after h.shape h.value h.after (known 8 (lit≤ tt)) f h.is h.unfolds in
-    let whole = guard-fits around at (tree_of h.value) (qualifiers_of h.value) (ref_of h.value) old h.after
+    let f = name-front (OfKind SPECIAL_AFTER_G) around at later g.after less (omega arith) refl
+    (subst (λ s. AllOld false around at (State.candidates s)) (sym b) front.placed.old) in
+    let guard = h.holds Kind.SpecialAfterG (in_name at) later g.after h.value h.after f h.is h.unfolds refl in
+    let name : Value = guard.0 in
+    let c = part-came (OfKind SPECIAL_AFTER_G) (in_name at) later g.after h.shape h.value h.after (known SPECIAL_AFTER_G (lit≤ tt)) f h.is h.unfolds in
+    let whole = guard-fits around at (tree_of name) (qualifiers_of name) (ref_of name) old h.after
     (stays-behind around (in_name at) at (later + length (spell h.shape)) old h.after less refl front.placed.old
-    (subst (λ s. Grows false (in_name at) (later + length (spell h.shape)) s h.after) b.0 c.grows))
-    (subst (λ s. OwnNameFits (in_name at) (tree_of h.value) (qualifiers_of h.value) (ref_of h.value) s h.after) b.0 own) in
-    ended-read (λ w t. EncodingRead around w old t) Production.Guard byte around old (g.value ∷ h.value ∷ []) h.after v new
-    (ended-as Production.Guard byte around old o.inner o.one (g.value ∷ h.value ∷ []) h.after v new (ok_same _ o.one o.closes) h.onward
+    (subst (λ s. Grows false (in_name at) (later + length (spell h.shape)) s h.after) b c.grows))
+    (subst (λ s. OwnNameFits (in_name at) (tree_of name) (qualifiers_of name) (ref_of name) s h.after) b guard.2) in
+    ended-read (λ w t. EncodingRead around w old t) Production.OtherSpecial byte around old (g.value ∷ h.value ∷ []) h.after v new
+    (ended-as Production.OtherSpecial byte around old o.inner o.one (g.value ∷ h.value ∷ []) h.after v new (ok_same _ o.one o.closes) h.onward
     o.comes)
-    (record { is = refl; value = refl; fits = whole })
+    (subst (λ w. EncodingRead around w old h.after) (sym guard.1) (record { is = refl; value = refl; fits = whole }))
 
 -- what stands behind a T is an encoding
 special-encoding : (around : Around) (at : ℕ) (v : Value) (old new : State) → StaysBehind around at old new
@@ -258,6 +260,39 @@ encoding-branch rule taken parts all around at old v new front is e =
     go (inr (inl o)) = guard-read around at old v new front o
     go (inr (inr (inl o))) = function-read around at old v new front o
     go (inr (inr (inr none))) = absurd none
+
+-- ## What stands behind a G
+
+only-v : (byte : ℕ) → choose Kind.SpecialAfterG byte ≡ Some Production.SpecialName → byte ≡ 86
+unfolding choose alternatives pick is_in in_ranges among
+only-v byte chosen = go (nat_eq byte 86) refl chosen
+  where
+    go : (b : Bool) → nat_eq byte 86 ≡ b → cond (b || false) (Some Production.SpecialName) None ≡ Some Production.SpecialName → byte ≡ 86
+    go true is chosen = eqb-true byte 86 is
+    go false is chosen = absurd cc
+
+special-name-read : (around : Around) (at : ℕ) (old : State) (v : Value) (new : State)
+    → OpenedRead Kind.SpecialAfterG around at old v new Production.SpecialName → KindRead Kind.SpecialAfterG around v old new
+unfolding parts_of between number_of_kind meaning part unfolding_.behind is_chain
+special-name-read around at old v new o outer =
+    let g = o.goes tt in
+    let byte : ℕ = byte_of o.taken in
+    let letter : byte ≡ 86 = own-byte Production.SpecialName o.taken o.byte o.takes refl ∙ only-v o.byte o.chosen in
+    kind-comes Kind.SpecialAfterG Production.SpecialName tt byte around at old (g.value ∷ []) g.after v new g.onward
+    (λ out. (
+      g.value,
+      ap (λ b. tree (of_name b (tree_of g.value) (qualifiers_of g.value) (ref_of g.value)) true) letter,
+      g.read Kind.CompleteName refl out,
+    )) outer
+
+pub special-after-g-branch : BranchRead Kind.SpecialAfterG
+unfolding alternatives
+special-after-g-branch rule taken parts all around at old v new front is e =
+    go (opened-read Kind.SpecialAfterG rule taken parts all around at old v new front is e)
+  where
+    go : OneOf (alternatives Kind.SpecialAfterG) (OpenedRead Kind.SpecialAfterG around at old v new) → KindRead Kind.SpecialAfterG around v old new
+    go (inl o) = special-name-read around at old v new o
+    go (inr none) = absurd none
 
 -- ## What stands behind a T
 

@@ -17,7 +17,7 @@ use Rattle.cpp_grammar.specs.declared.production.Production.{Production}
 use Rattle.cpp_grammar.specs.KindNumbers.{KIND_COUNT}
 use Rattle.cpp_grammar.specs.Grammar.{Alternative, alternatives, choose, number_of_kind, parts_of, is_chain}
 use Rattle.cpp_grammar.specs.Table.{abi}
-use Rattle.cpp_grammar.specs.Term.{Term, Thunk, special, thunk, parameter, literal_operator}
+use Rattle.cpp_grammar.specs.Term.{Term, Thunk, special, thunk, of_name, parameter, literal_operator}
 use Rattle.cpp_grammar.specs.Values.{State, outermost, behind, Around, Value, nothing_there, letter, text, tree, piece, tree_of, piece_of, qualifiers_of, ref_of, letter_of, text_of, signed_of, adjustment_of}
 use Rattle.cpp_grammar.specs.References.{with_prefix, parameter_named}
 use Rattle.cpp_grammar.specs.Between.{in_name, in_types, in_signature, under_expansion, after, inside, Going, named_so_far, listed_so_far, piece_so_far, tag_so_far, parameter_so_far, argument_so_far, index_of, between}
@@ -27,6 +27,7 @@ use Rattle.cpp_grammar.proofs.ClosedValues.{AllGood, GoodPrefix, held, good_wher
 use Rattle.cpp_grammar.proofs.ClosedStates.{Bare, Within, AllOld, old_later, old_grows, ok_same, behind_bind}
 use Rattle.cpp_grammar.proofs.ClosedParts.{StaysInside, Goes, goes_within}
 use Rattle.cpp_grammar.proofs.ClosedTrees.{is_encoding as holds_encoding, has_encoding, all_append, old_fits, grows_fits, one_good, or_true}
+use Rattle.cpp_grammar.proofs.Growing.{same_choice, each_below, below as below_, kept}
 use Rattle.cpp_press_laws.proofs.ByKind.AbiTrees.{known, tree_good}
 use Rattle.cpp_press_laws.specs.Pressing.{is_encoding}
 use Rattle.cpp_press_laws.specs.Fits.{in_type, in_name_with, any_type, names_type, begins_name, names_function, IsSpellableOffset, IsSpellableThunk, IsSpellableDiscriminator, IsSpellableSuffix}
@@ -75,6 +76,11 @@ SpecialRead around v old new =
 abbrev pub OwnNameRead : Around → Value → (old new : State) → Type 0
 OwnNameRead around v old new = OwnNameFits around (tree_of v) (qualifiers_of v) (ref_of v) old new
 
+-- a guard variable, but for the G
+abbrev pub GuardRead : Around → Value → (old new : State) → Type 0
+GuardRead around v old new =
+    (name : Value) × (v ≡ tree (of_name 86 (tree_of name) (qualifiers_of name) (ref_of name)) true) × OwnNameRead around name old new
+
 -- What is known of what was read as a kind. Types and lists begin where nothing is named so far; each further part of a name stands
 -- behind the name so far, which began at `start`.
 abbrev pub KindRead : Kind → Around → Value → (old new : State) → Type 0
@@ -84,6 +90,8 @@ KindRead Kind.SuffixFirst around v old new = Unit {0}
 KindRead Kind.SuffixMore around v old new = Unit {0}
 KindRead Kind.Encoding around v old new = EncodingRead around v old new
 KindRead Kind.Special around v old new = around.prefix ≡ outermost → SpecialRead around v old new
+KindRead Kind.SpecialMark around v old new = new ≡ old
+KindRead Kind.SpecialAfterG around v old new = around.prefix ≡ outermost → GuardRead around v old new
 KindRead Kind.CallOffset around v old new = (new ≡ old) × IsSpellableOffset (adjustment_of v)
 KindRead Kind.Integer around v old new = (new ≡ old) × IsSpellableNumber (signed_of v)
 KindRead Kind.CompleteName around v old new = around.prefix ≡ outermost → OwnNameRead around v old new
@@ -103,7 +111,16 @@ KindRead Kind.NestRestAlone around v old new =
     → NestRead outer v start new
 KindRead Kind.NestTail around v old new =
     (outer : Around) (t : Term) (start : State) → around ≡ after t false outer → NestFits outer t start old → NestRead outer v start new
+KindRead Kind.NestRestOrEnd around v old new =
+    (outer : Around) (t : Term) (listed : Bool) (start : State) → around ≡ after t listed outer → SoFarFits outer t listed start old
+    → NestRead outer v start new
+KindRead Kind.NestMoreOrEnd around v old new =
+    (outer : Around) (t : Term) (start : State) → around ≡ after t false outer → Wherever outer start (is_encoding t ≡ false)
+    → PrefixFits outer t start (with_prefix (after t false outer) old) → NestRead outer v start new
 KindRead Kind.Component around v old new =
+    (outer : Around) (t : Term) (start : State) → around ≡ after t true outer → Wherever outer start (is_encoding t ≡ false)
+    → PrefixFits outer t start old → NestRead outer v start new
+KindRead Kind.ComponentAfterC around v old new =
     (outer : Around) (t : Term) (start : State) → around ≡ after t true outer → Wherever outer start (is_encoding t ≡ false)
     → PrefixFits outer t start old → NestRead outer v start new
 KindRead Kind.ConstructorDigit around v old new = MarkRead Kind.ConstructorDigit v old new
@@ -124,9 +141,11 @@ KindRead Kind.MaybeArguments around v old new = KindFits Kind.MaybeArguments aro
 KindRead Kind.ArgumentsAlone around v old new = KindFits Kind.MaybeArguments around v old new
 KindRead Kind.ArgumentsFirst around v old new = around.prefix ≡ outermost → KindFits Kind.ArgumentList around v old new
 KindRead Kind.Arguments around v old new = (v ≡ tree (tree_of v) true) × KindFits Kind.Arguments around v old new
+KindRead Kind.MaybeTags around v old new = (v ≡ nothing_there) × (new ≡ old)
 KindRead Kind.Bit around v old new = new ≡ old
 KindRead Kind.MaybeZero around v old new = new ≡ old
 KindRead Kind.Operator around v old new = (names_function (piece_of v) ≡ true) × PieceFits around (piece_of v) old new
+KindRead Kind.OtherOperator around v old new = (names_function (piece_of v) ≡ true) × PieceFits around (piece_of v) old new
 KindRead Kind.OperatorAfterL around v old new = LiteralOperatorRead v old new
 KindRead Kind.OperatorAfterN around v old new = MarkRead Kind.OperatorAfterN v old new
 KindRead Kind.OperatorAfterD around v old new = MarkRead Kind.OperatorAfterD v old new
@@ -268,7 +287,6 @@ lambdas-go Production.Encoding around place [] state n bare e = bare-next (in_na
 lambdas-go Production.Encoding around place (v ∷ vs) state n bare e =
     bare-next (in_types place (tree_of v)) (v ∷ vs) state n (λ is. absurd (false≢true is)) e
 lambdas-go Production.Special around place vs state n bare e = bare-next (in_name place) vs state n (λ is. absurd (false≢true is)) e
-lambdas-go Production.Guard around place vs state n bare e = bare-next (in_name place) vs state n (λ is. absurd (false≢true is)) e
 lambdas-go Production.OtherSpecial around place vs state n bare e = bare-next (in_name place) vs state n (λ is. absurd (false≢true is)) e
 lambdas-go Production.LocalName around place [] state n bare e = bare-next around [] state n bare e
 lambdas-go Production.LocalName around place (v ∷ vs) state n bare e = bare-next (after (tree_of v) true around) (v ∷ vs) state n bare e
@@ -287,7 +305,6 @@ lambdas-go Production.StdName around place (v ∷ []) state n bare e = bare-next
 lambdas-go Production.AbbreviatedName around place (v ∷ []) state n bare e = bare-next _ _ state n bare e
 lambdas-go Production.NestStd around place (v ∷ []) state n bare e = bare-next _ _ state n bare e
 lambdas-go Production.NestStd around place (v ∷ w ∷ []) state n bare e = bare-next _ _ state n bare e
-lambdas-go Production.NestAbbreviated around place (v ∷ []) state n bare e = bare-next _ _ state n bare e
 lambdas-go Production.NestTemplate around place (v ∷ []) state n bare e = bare-next _ _ state n bare e
 lambdas-go Production.NestParameter around place (v ∷ []) state n bare e = bare-parameter around place (index_of v) state n bare e
 lambdas-go Production.NestInternal around place (v ∷ []) state n bare e = bare-next _ _ state n bare e
@@ -471,6 +488,22 @@ opened-read kind rule taken parts all around at old v new front is e =
     each [] o = o
     each (a ∷ rest) (inl o) = inl (opened-as kind around at old v new (OfKind (number_of_kind kind)) front a.production o)
     each (a ∷ rest) (inr o) = inr (each rest o)
+
+-- what one kind takes at each byte another one does
+pub taken-as : (j k : Kind) → each_below 256 (λ b. same_choice (choose j b) (choose k b)) ≡ true
+    → (around : Around) (at : ℕ) (old : State) (v : Value) (new : State) (p : Production)
+    → OpenedRead j around at old v new p → OpenedRead k around at old v new p
+taken-as j k all around at old v new p o = record {
+  byte = o.byte;
+  small = o.small;
+  chosen = kept (choose j o.byte) (choose k o.byte) p (below_ 256 (λ b. same_choice (choose j b) (choose k b)) o.byte all o.small) o.chosen;
+  parts = o.parts;
+  opens = o.opens;
+  trees = o.trees;
+  taken = o.taken;
+  takes = o.takes;
+  goes = o.goes;
+}
 
 -- ## What a production comes to
 

@@ -1,5 +1,5 @@
 -- Names that were read, with or without arguments: as types, and as an encoding's own name.
-use Rattle.std.proofs.Common.{◌≡◌, ℕ, ◌+◌, inl, inr, length, [], ◌∷◌, Bool, true, false, refl, ap, sym, subst}
+use Rattle.std.proofs.Common.{◌≡◌, ℕ, ◌+◌, ◌-◌, inl, inr, length, [], ◌∷◌, Bool, true, false, refl, ap, sym, subst}
 use Rattle.sym_shape.specs.declared.rule.Sym.TheVariants.{Kind as OfKind}
 use Rattle.sym_shape.specs.Tree.{spell}
 use Rattle.cpp_grammar.specs.declared.kind.Kind.{Kind}
@@ -13,7 +13,7 @@ use Rattle.cpp_grammar.specs.Between.{after, inside, extended, applied, no_items
 use Rattle.cpp_grammar.specs.Meaning.{meaning}
 use Rattle.cpp_grammar.specs.Unfolding as unfolding_
 use Rattle.cpp_grammar.specs.Unfolding.{byte_of}
-use Rattle.cpp_press_laws.specs.Fits.{Slot, begins_name, names_type, names_function}
+use Rattle.cpp_press_laws.specs.Fits.{Slot, takes_all, begins_name, names_type, names_function}
 use Rattle.cpp_press_laws.proofs.Fits.Types.{SolidFits}
 use Rattle.cpp_press_laws.proofs.Fits.Names.{PieceFits, std-between}
 use Rattle.cpp_press_laws.proofs.Fits.Templates.{std-template}
@@ -87,15 +87,42 @@ std-name around p old new names one =
       before = λ a now other. (std-template around p old new between_).before true a now other;
     }
 
+-- no tag stands behind it
 std-type : (around : Around) (at : ℕ) (old : State) (v : Value) (new : State)
-    → OpenedRead Kind.TypeAfterS around at old v new Production.StdType → NameRead around v old new
-unfolding parts_of number_of_kind between meaning part unfolding_.behind
+    → OpenedRead Kind.TypeInStd around at old v new Production.TaggedStdType → NameRead around v old new
+unfolding parts_of number_of_kind between named_so_far applied is_there tree_of meaning part unfolding_.behind
 std-type around at old v new o =
     let a = o.goes tt in
+    let b = a.onward in
     let p : Term = piece_of a.value in
     let one = a.read Kind.SourceOrLocal refl in
-    comes-as (λ w s. NameRead around w old s) Production.StdType tt (byte_of o.taken) around at old (a.value ∷ []) a.after v new a.onward
-    (std-name around p old a.after (begins-function p one.0) one.1)
+    let none = b.read Kind.MaybeTags refl in
+    comes-as (λ w s. NameRead around w old s) Production.TaggedStdType tt (byte_of o.taken) around at old
+    (tree (in_std p) false ∷ b.value ∷ []) b.after v new b.onward
+    (subst (λ w. NameRead around (tree (applied (in_std p) w) false) old b.after) (sym none.0)
+    (subst (λ s. NameRead around (tree (in_std p) false) old s) (sym none.1) (std-name around p old a.after (begins-function p one.0) one.1)))
+
+pub type-in-std-branch : BranchRead Kind.TypeInStd
+unfolding alternatives
+type-in-std-branch rule taken parts all around at old v new front is e outer =
+    go (opened-read Kind.TypeInStd rule taken parts all around at old v new front is e)
+  where
+    go : OneOf (alternatives Kind.TypeInStd) (OpenedRead Kind.TypeInStd around at old v new) → NameRead around v old new
+    go (inl o) = std-type around at old v new o
+    go (inr none) = absurd none
+
+pub maybe-tags-branch : BranchRead Kind.MaybeTags
+unfolding alternatives
+maybe-tags-branch rule taken parts all around at old v new front is e =
+    absurd (opened-read Kind.MaybeTags rule taken parts all around at old v new front is e)
+
+in-std : (around : Around) (at : ℕ) (old : State) (v : Value) (new : State) → around.prefix ≡ outermost
+    → OpenedRead Kind.TypeAfterS around at old v new Production.TypeInStd → NameRead around v old new
+unfolding parts_of number_of_kind between meaning part unfolding_.behind
+in-std around at old v new outer o =
+    let a = o.goes tt in
+    comes-as (λ w s. NameRead around w old s) Production.TypeInStd tt (byte_of o.taken) around at old (a.value ∷ []) a.after v new a.onward
+    (a.read Kind.TypeInStd refl outer)
 
 abbreviated : (around : Around) (at : ℕ) (old : State) (v : Value) (new : State)
     → OpenedRead Kind.TypeAfterS around at old v new Production.AbbreviatedType → NameRead around v old new
@@ -112,7 +139,7 @@ type-after-s-branch rule taken parts all around at old v new front is e outer =
     go (opened-read Kind.TypeAfterS rule taken parts all around at old v new front is e)
   where
     go : OneOf (alternatives Kind.TypeAfterS) (OpenedRead Kind.TypeAfterS around at old v new) → NameRead around v old new
-    go (inl o) = std-type around at old v new o
+    go (inl o) = in-std around at old v new outer o
     go (inr (inl o)) = abbreviated around at old v new o
     go (inr (inr none)) = absurd none
 
@@ -146,6 +173,32 @@ parameter-solid takes kind around at old v new front outer o =
     (parameter-name around k old s (subst (λ u. ParameterNamed around k u s) a.read.0 named) front.placed.lambda)
     (b.read Kind.ArgumentsAlone refl)))
     a.onward
+
+-- a parameter as an argument, behind the T
+parameter-argument : (around : Around) (at : ℕ) (old : State) (v : Value) (new : State)
+    → InFront (OfKind (number_of_kind Kind.ArgumentAfterT)) around at old
+    → OpenedRead Kind.ArgumentAfterT around at old v new Production.ParameterArgument → SolidFits takes_all around v old new
+unfolding parts_of number_of_kind between tree_of is_listed meaning part unfolding_.behind
+parameter-argument around at old v new front o =
+    let a = o.goes tt in
+    let k : ℕ = index_of a.value in
+    parameter-goes around (at - 1) k a.after (λ next. PartRead (OfKind ARGUMENTS_ALONE) a.others (at + length o.taken + length (spell a.shape)) next
+    (PartsRead Production.ParameterArgument (byte_of o.taken) around at old v new [])) (SolidFits takes_all around v old new)
+    (λ s named b. comes-as (λ w u. SolidFits takes_all around w old u) Production.ParameterArgument tt (byte_of o.taken) around at old
+    (tree (parameter k) true ∷ b.value ∷ []) b.after v new b.onward
+    (name-type takes_all around (tree (parameter k) true) b.value old s b.after
+    (parameter-name around k old s (subst (λ u. ParameterNamed around k u s) a.read.0 named) front.placed.lambda)
+    (b.read Kind.ArgumentsAlone refl)))
+    a.onward
+
+pub argument-after-t-branch : BranchRead Kind.ArgumentAfterT
+unfolding alternatives
+argument-after-t-branch rule taken parts all around at old v new front is e outer =
+    go (opened-read Kind.ArgumentAfterT rule taken parts all around at old v new front is e)
+  where
+    go : OneOf (alternatives Kind.ArgumentAfterT) (OpenedRead Kind.ArgumentAfterT around at old v new) → SolidFits takes_all around v old new
+    go (inl o) = parameter-argument around at old v new front o
+    go (inr none) = absurd none
 
 pub nested-solid : (takes : Slot → Bool) (kind : Kind) (around : Around) (at : ℕ) (old : State) (v : Value) (new : State)
     → InFront (OfKind (number_of_kind kind)) around at old → around.prefix ≡ outermost

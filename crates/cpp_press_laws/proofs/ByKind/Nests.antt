@@ -26,7 +26,7 @@ use Rattle.cpp_press_laws.proofs.Fits.Firsts.{BeginsName, named-so-far, paramete
 use Rattle.cpp_press_laws.proofs.ByKind.Pieces.{type-begins, begins-function, function-member}
 use Rattle.cpp_press_laws.proofs.ByKind.Rules.{OneOf, OnGoing}
 use Rattle.cpp_press_laws.proofs.ByKind.Known.{KindRead, PartRead, PartsRead, OpenedRead, opened-read, comes-as, BranchRead}
-use Rattle.cpp_press_laws.proofs.ByKind.Pieced.{PieceRead, renamed, name-piece, source-comes, internal-comes, local-type-comes, operator-comes, constructor-comes, destructor-comes}
+use Rattle.cpp_press_laws.proofs.ByKind.Pieced.{PieceRead, renamed, name-piece, source-comes, internal-comes, local-type-comes, other-operator-comes, operator-with-c-comes, constructor-comes, destructor-comes}
 
 -- ## Behind a name
 
@@ -70,6 +70,44 @@ nest-arguments kind outer t listed start at old v new so_far o =
     comes-as (λ w s. NestRead outer w start s) Production.NestArguments tt (byte_of o.taken) (after t listed outer) at old
     (tree own true ∷ b.value ∷ c.value ∷ d.value ∷ []) d.after v new d.onward two
 
+-- arguments of a name that an S stands for, and a further piece
+nest-instance : (outer : Around) (t : Term) (listed : Bool) (start : State) (at : ℕ) (old : State) (v : Value) (new : State)
+    → SoFarFits outer t listed start old → OpenedRead Kind.NestRestOrEnd (after t listed outer) at old v new Production.NestInstance
+    → NestRead outer v start new
+unfolding parts_of number_of_kind between named_so_far after inside prefix_tree prefix_listed with_prefix appended is_encoding meaning part unfolding_.behind
+nest-instance outer t listed start at old v new so_far o =
+    let a = o.goes tt in
+    let b = a.onward in
+    let d = b.onward in
+    let own : Term = instance t (no_items a.value) in
+    let prefix : PrefixFits outer own start (appended (after t listed outer) own b.after) =
+    subst (λ s. PrefixFits outer own start (appended (after t listed outer) own s)) (sym b.read.0)
+    (arguments-so-far outer t listed a.value start old a.after so_far (a.read Kind.ArgumentsFirst refl refl)) in
+    comes-as (λ w s. NestRead outer w start s) Production.NestInstance tt (byte_of o.taken) (after t listed outer) at old
+    (tree own false ∷ b.value ∷ d.value ∷ []) d.after v new d.onward
+    (d.read Kind.NestMoreOrEnd refl outer own start refl (λ n place cs front. refl) prefix)
+
+pub nest-more-or-end-branch : BranchRead Kind.NestMoreOrEnd
+unfolding alternatives
+nest-more-or-end-branch rule taken parts all around at old v new front is e outer t start same apart prefix =
+    go (subst (λ r. OneOf (alternatives Kind.NestMoreOrEnd) (OpenedRead Kind.NestMoreOrEnd r at old v new)) same
+    (opened-read Kind.NestMoreOrEnd rule taken parts all around at old v new front is e))
+  where
+    go : OneOf (alternatives Kind.NestMoreOrEnd) (OpenedRead Kind.NestMoreOrEnd (after t false outer) at old v new) → NestRead outer v start new
+    go (inl o) = nest-next Kind.NestMoreOrEnd outer t false start at old v new apart prefix o
+    go (inr none) = absurd none
+
+pub nest-rest-or-end-branch : BranchRead Kind.NestRestOrEnd
+unfolding alternatives
+nest-rest-or-end-branch rule taken parts all around at old v new front is e outer t listed start same so_far =
+    go (subst (λ r. OneOf (alternatives Kind.NestRestOrEnd) (OpenedRead Kind.NestRestOrEnd r at old v new)) same
+    (opened-read Kind.NestRestOrEnd rule taken parts all around at old v new front is e))
+  where
+    go : OneOf (alternatives Kind.NestRestOrEnd) (OpenedRead Kind.NestRestOrEnd (after t listed outer) at old v new) → NestRead outer v start new
+    go (inl o) = nest-instance outer t listed start at old v new so_far o
+    go (inr (inl o)) = nest-next Kind.NestRestOrEnd outer t listed start at old v new so_far.apart so_far.prefix o
+    go (inr (inr none)) = absurd none
+
 pub nest-tail-branch : BranchRead Kind.NestTail
 unfolding alternatives with_prefix after prefix_tree prefix_listed appended
 nest-tail-branch rule taken parts all around at old v new front is e outer t start same nest =
@@ -112,6 +150,29 @@ component-piece outer t start old v new apart prefix o =
     subst (λ w. NestRead outer w start new) (sym o.value)
     (component-read outer t o.piece o.arguments start old o.mid new apart o.named prefix o.fits o.later)
 
+component-with-c : (outer : Around) (t : Term) (start : State) (at : ℕ) (old : State) (v : Value) (new : State)
+    → Wherever outer start (is_encoding t ≡ false) → PrefixFits outer t start old
+    → OpenedRead Kind.Component (after t true outer) at old v new Production.ComponentWithC → NestRead outer v start new
+unfolding parts_of number_of_kind between meaning part unfolding_.behind
+component-with-c outer t start at old v new apart prefix o =
+    let a = o.goes tt in
+    comes-as (λ w s. NestRead outer w start s) Production.ComponentWithC tt (byte_of o.taken) (after t true outer) at old (a.value ∷ []) a.after v new
+    a.onward (a.read Kind.ComponentAfterC refl outer t start refl apart prefix)
+
+pub component-after-c-branch : BranchRead Kind.ComponentAfterC
+unfolding alternatives
+component-after-c-branch rule taken parts all around at old v new front is e outer t start same apart prefix =
+    go (subst (λ r. OneOf (alternatives Kind.ComponentAfterC) (OpenedRead Kind.ComponentAfterC r at old v new)) same
+    (opened-read Kind.ComponentAfterC rule taken parts all around at old v new front is e))
+  where
+    inner : Around
+    inner = after t true outer
+
+    go : OneOf (alternatives Kind.ComponentAfterC) (OpenedRead Kind.ComponentAfterC inner at old v new) → NestRead outer v start new
+    go (inl o) = component-piece outer t start old v new apart prefix
+        (renamed names_function names_member inner v old new function-member (operator-with-c-comes Kind.ComponentAfterC inner at old v new o))
+    go (inr none) = absurd none
+
 pub component-branch : BranchRead Kind.Component
 unfolding alternatives
 component-branch rule taken parts all around at old v new front is e outer t start same apart prefix =
@@ -136,10 +197,11 @@ component-branch rule taken parts all around at old v new front is e outer t sta
     go (inr (inr (inl o))) =
         piece (renamed begins_name names_member inner v old new begun (internal-comes Kind.Component inner at old v new o))
     go (inr (inr (inr (inl o)))) = typed (local-type-comes Kind.Component inner at old v new o)
-    go (inr (inr (inr (inr (inl o))))) =
-        piece (renamed names_function names_member inner v old new function-member (operator-comes Kind.Component inner at old v new o))
-    go (inr (inr (inr (inr (inr (inl o)))))) = typed (source-comes Kind.Component inner at old v new o)
-    go (inr (inr (inr (inr (inr (inr none)))))) = absurd none
+    go (inr (inr (inr (inr (inl o))))) = typed (source-comes Kind.Component inner at old v new o)
+    go (inr (inr (inr (inr (inr (inl o)))))) = component-with-c outer t start at old v new apart prefix o
+    go (inr (inr (inr (inr (inr (inr (inl o))))))) =
+        piece (renamed names_function names_member inner v old new function-member (other-operator-comes Kind.Component inner at old v new o))
+    go (inr (inr (inr (inr (inr (inr (inr none))))))) = absurd none
 
 -- ## The first part
 
@@ -252,15 +314,15 @@ nest-std around at old v new o =
     (c.read Kind.NestTail refl around name old refl
     (std-read around p b.value old a.after b.after one.0 one.1 (b.read Kind.MaybeArguments refl)).1)
 
-nest-abbreviated : (around : Around) (at : ℕ) (old : State) (v : Value) (new : State)
-    → OpenedRead Kind.NestAfterS around at old v new Production.NestAbbreviated → NestRead around v old new
+nest-template : (around : Around) (at : ℕ) (old : State) (v : Value) (new : State)
+    → OpenedRead Kind.NestAfterS around at old v new Production.NestTemplate → NestRead around v old new
 unfolding parts_of number_of_kind between listed_so_far meaning part unfolding_.behind
-nest-abbreviated around at old v new o =
+nest-template around at old v new o =
     let a = o.goes tt in
     let b = a.onward in
-    comes-as (λ w s. NestRead around w old s) Production.NestAbbreviated tt (byte_of o.taken) around at old
+    comes-as (λ w s. NestRead around w old s) Production.NestTemplate tt (byte_of o.taken) around at old
     (tree (tree_of a.value) true ∷ b.value ∷ []) b.after v new b.onward
-    (b.read Kind.NestRestAlone refl around (tree_of a.value) true old refl
+    (b.read Kind.NestRestOrEnd refl around (tree_of a.value) true old refl
     (named-so-far around a.value old a.after (a.read Kind.Abbreviation refl)))
 
 pub nest-after-s-branch : BranchRead Kind.NestAfterS
@@ -270,5 +332,5 @@ nest-after-s-branch rule taken parts all around at old v new front is e begins =
   where
     go : OneOf (alternatives Kind.NestAfterS) (OpenedRead Kind.NestAfterS around at old v new) → NestRead around v old new
     go (inl o) = nest-std around at old v new o
-    go (inr (inl o)) = nest-abbreviated around at old v new o
+    go (inr (inl o)) = nest-template around at old v new o
     go (inr (inr none)) = absurd none

@@ -139,7 +139,6 @@ unfolding between named_so_far listed_so_far piece_so_far tag_so_far after insid
 between-outside Production.Encoding around place [] state next no_ outside e = goes state _ _ state next refl refl e
 between-outside Production.Encoding around place (v ∷ vs) state next no_ outside e = goes state _ _ state next refl refl e
 between-outside Production.Special around place vs state next no_ outside e = goes state _ _ state next refl refl e
-between-outside Production.Guard around place vs state next no_ outside e = goes state _ _ state next refl refl e
 between-outside Production.OtherSpecial around place vs state next no_ outside e = goes state _ _ state next refl refl e
 between-outside Production.LocalName around place (v ∷ vs) state next no_ outside e = goes state _ _ state next outside refl e
 between-outside Production.LocalType around place (v ∷ vs) state next no_ outside e = goes state _ _ state next outside refl e
@@ -156,7 +155,6 @@ between-outside Production.StdName around place (v ∷ []) state next no_ outsid
 between-outside Production.AbbreviatedName around place (v ∷ []) state next no_ outside e = goes state _ _ state next outside refl e
 between-outside Production.NestStd around place (v ∷ []) state next no_ outside e = goes state _ _ state next outside refl e
 between-outside Production.NestStd around place (v ∷ w ∷ []) state next no_ outside e = goes state _ _ state next outside refl e
-between-outside Production.NestAbbreviated around place (v ∷ []) state next no_ outside e = goes state _ _ state next outside refl e
 between-outside Production.NestTemplate around place (v ∷ []) state next no_ outside e = goes state _ _ state next outside refl e
 between-outside Production.NestParameter around place (v ∷ []) state next no_ outside e =
     parameter-goes around place (index_of v) state next outside e

@@ -1,5 +1,5 @@
 -- The pieces of names that were read, of each kind, and the leaves, as it is known of their kinds.
-use Rattle.std.proofs.Common.{◌≡◌, ℕ, ◌-◌, inl, inr, List, [], ◌∷◌, Bool, true, false, slice_get, Some, Result, Ok, Err, refl, ap, arith, lit≤, sym, subst, ◌∙◌}
+use Rattle.std.proofs.Common.{◌≡◌, ℕ, ◌-◌, ◌<◌, inl, inr, List, [], ◌∷◌, Bool, true, false, slice_get, Some, Result, Ok, Err, refl, ap, arith, lit≤, sym, subst, ◌∙◌}
 use Rattle.std.specs.Prelude.{nat_lt, ◌^◌}
 use Rattle.std.proofs.lemmas.Bool.{false≢true}
 use Rattle.sym_core.specs.declared.refusal.Refusal.{Refusal}
@@ -12,7 +12,7 @@ use Rattle.sym_link.specs.Unfold.{found, unfold_tree}
 use Rattle.cpp_grammar.specs.declared.kind.Kind.{Kind}
 use Rattle.cpp_grammar.specs.declared.production.Production.{Production}
 use Rattle.cpp_grammar.specs.KindNumbers.{ITEM, ITEMS}
-use Rattle.cpp_grammar.specs.Grammar.{alternatives, choose, kinds, may_be_empty, is_chain, number_of_kind, parts_of}
+use Rattle.cpp_grammar.specs.Grammar.{alternatives, choose, pick, is_in, in_ranges, among, kinds, may_be_empty, is_chain, number_of_kind, number_of, parts_of}
 use Rattle.cpp_grammar.specs.Table.{abi, sheet, sheet_with}
 use Rattle.cpp_grammar.specs.Term.{Term, operator, literal_operator, source, lambda, unnamed, list}
 use Rattle.cpp_grammar.specs.Values.{Candidate, State, Around, Value, letter, text, piece, tree_of, piece_of, letter_of, text_of, local_number, part}
@@ -30,7 +30,8 @@ use Rattle.cpp_press_laws.proofs.ByKind.Rules.{OneOf}
 use Rattle.cpp_press_laws.proofs.ByKind.Leaves.{leaf-same}
 use Rattle.cpp_press_laws.proofs.ByKind.Pieces.{source-fits, operator-fits, literal-operator-fits, unnamed-fits, ShutOrInside, lambda-fits, begins-function}
 use Rattle.cpp_press_laws.proofs.ByKind.LeafKinds.{own-byte, LetterRead, mark-read, letter-read, literal-letter-read, integer-read, offset-read, discriminator-read, discriminator-rest-read}
-use Rattle.cpp_press_laws.proofs.ByKind.Known.{MarkRead, OpenedRead, opened-read, comes-as, BranchRead}
+use Rattle.cpp_grammar.proofs.Growing.{same_choice, each_below}
+use Rattle.cpp_press_laws.proofs.ByKind.Known.{MarkRead, OpenedRead, opened-read, taken-as, comes-as, BranchRead}
 
 -- a piece of a name, of the sort that stands there
 abbrev PieceAs : (names : Term → Bool) → Around → Value → (old new : State) → Type 0
@@ -175,74 +176,120 @@ operator-l around at old v new o =
           ))
     ]
 
-pub operator-branch : BranchRead Kind.Operator
+-- an operator was read
+operator-read : (around : Around) (at : ℕ) (old : State) (v : Value) (new : State)
+    → OneOf (alternatives Kind.Operator) (OpenedRead Kind.Operator around at old v new) → PieceAs names_function around v old new
 unfolding alternatives kinds parts_of is_chain between opening close meaning part letter_of unfolding_.behind number_of_kind
+operator-read around at old v new (inl o) =
+    let g = o.goes tt in
+    letters-come Production.OperatorN Kind.OperatorAfterN
+    (record { at = refl; parts = refl; own = refl; goes = λ a p s. refl; opens = λ p f s. refl; means = λ x y a p b s. refl })
+    around at old v new o g.value g.after (g.read Kind.OperatorAfterN refl) g.onward
+operator-read around at old v new (inr (inl o)) =
+    let g = o.goes tt in
+    letters-come Production.OperatorD Kind.OperatorAfterD
+    (record { at = refl; parts = refl; own = refl; goes = λ a p s. refl; opens = λ p f s. refl; means = λ x y a p b s. refl })
+    around at old v new o g.value g.after (g.read Kind.OperatorAfterD refl) g.onward
+operator-read around at old v new (inr (inr (inl o))) =
+    let g = o.goes tt in
+    letters-come Production.OperatorA Kind.OperatorAfterA
+    (record { at = refl; parts = refl; own = refl; goes = λ a p s. refl; opens = λ p f s. refl; means = λ x y a p b s. refl })
+    around at old v new o g.value g.after (g.read Kind.OperatorAfterA refl) g.onward
+operator-read around at old v new (inr (inr (inr (inl o)))) =
+    let g = o.goes tt in
+    letters-come Production.OperatorP Kind.OperatorAfterP
+    (record { at = refl; parts = refl; own = refl; goes = λ a p s. refl; opens = λ p f s. refl; means = λ x y a p b s. refl })
+    around at old v new o g.value g.after (g.read Kind.OperatorAfterP refl) g.onward
+operator-read around at old v new (inr (inr (inr (inr (inl o))))) =
+    let g = o.goes tt in
+    letters-come Production.OperatorC Kind.OperatorAfterC
+    (record { at = refl; parts = refl; own = refl; goes = λ a p s. refl; opens = λ p f s. refl; means = λ x y a p b s. refl })
+    around at old v new o g.value g.after (g.read Kind.OperatorAfterC refl) g.onward
+operator-read around at old v new (inr (inr (inr (inr (inr (inl o)))))) =
+    let g = o.goes tt in
+    letters-come Production.OperatorM Kind.OperatorAfterM
+    (record { at = refl; parts = refl; own = refl; goes = λ a p s. refl; opens = λ p f s. refl; means = λ x y a p b s. refl })
+    around at old v new o g.value g.after (g.read Kind.OperatorAfterM refl) g.onward
+operator-read around at old v new (inr (inr (inr (inr (inr (inr (inl o))))))) =
+    let g = o.goes tt in
+    letters-come Production.OperatorR Kind.OperatorAfterR
+    (record { at = refl; parts = refl; own = refl; goes = λ a p s. refl; opens = λ p f s. refl; means = λ x y a p b s. refl })
+    around at old v new o g.value g.after (g.read Kind.OperatorAfterR refl) g.onward
+operator-read around at old v new (inr (inr (inr (inr (inr (inr (inr (inl o)))))))) =
+    let g = o.goes tt in
+    letters-come Production.OperatorO Kind.OperatorAfterO
+    (record { at = refl; parts = refl; own = refl; goes = λ a p s. refl; opens = λ p f s. refl; means = λ x y a p b s. refl })
+    around at old v new o g.value g.after (g.read Kind.OperatorAfterO refl) g.onward
+operator-read around at old v new (inr (inr (inr (inr (inr (inr (inr (inr (inl o))))))))) =
+    let g = o.goes tt in
+    letters-come Production.OperatorE Kind.OperatorAfterE
+    (record { at = refl; parts = refl; own = refl; goes = λ a p s. refl; opens = λ p f s. refl; means = λ x y a p b s. refl })
+    around at old v new o g.value g.after (g.read Kind.OperatorAfterE refl) g.onward
+operator-read around at old v new (inr (inr (inr (inr (inr (inr (inr (inr (inr (inl o)))))))))) = operator-l around at old v new o
+operator-read around at old v new (inr (inr (inr (inr (inr (inr (inr (inr (inr (inr (inl o))))))))))) =
+    let g = o.goes tt in
+    letters-come Production.OperatorS Kind.OperatorAfterS
+    (record { at = refl; parts = refl; own = refl; goes = λ a p s. refl; opens = λ p f s. refl; means = λ x y a p b s. refl })
+    around at old v new o g.value g.after (g.read Kind.OperatorAfterS refl) g.onward
+operator-read around at old v new (inr (inr (inr (inr (inr (inr (inr (inr (inr (inr (inr (inl o)))))))))))) =
+    let g = o.goes tt in
+    letters-come Production.OperatorI Kind.OperatorAfterI
+    (record { at = refl; parts = refl; own = refl; goes = λ a p s. refl; opens = λ p f s. refl; means = λ x y a p b s. refl })
+    around at old v new o g.value g.after (g.read Kind.OperatorAfterI refl) g.onward
+operator-read around at old v new (inr (inr (inr (inr (inr (inr (inr (inr (inr (inr (inr (inr (inl o))))))))))))) =
+    let g = o.goes tt in
+    letters-come Production.OperatorG Kind.OperatorAfterG
+    (record { at = refl; parts = refl; own = refl; goes = λ a p s. refl; opens = λ p f s. refl; means = λ x y a p b s. refl })
+    around at old v new o g.value g.after (g.read Kind.OperatorAfterG refl) g.onward
+operator-read around at old v new (inr (inr (inr (inr (inr (inr (inr (inr (inr (inr (inr (inr (inr none))))))))))))) = absurd none
+
+pub operator-branch : BranchRead Kind.Operator
 operator-branch rule taken parts all around at old v new front is e =
-    go (opened-read Kind.Operator rule taken parts all around at old v new front is e)
+    operator-read around at old v new (opened-read Kind.Operator rule taken parts all around at old v new front is e)
+
+-- one that begins with no c
+pub other-operator-branch : BranchRead Kind.OtherOperator
+unfolding alternatives choose pick is_in in_ranges among same_choice each_below number_of
+other-operator-branch rule taken parts all around at old v new front is e =
+    operator-read around at old v new (any (opened-read Kind.OtherOperator rule taken parts all around at old v new front is e))
   where
-    go : OneOf (alternatives Kind.Operator) (OpenedRead Kind.Operator around at old v new) → PieceAs names_function around v old new
-    go (inl o) =
-        let g = o.goes tt in
-        letters-come Production.OperatorN Kind.OperatorAfterN
-        (record { at = refl; parts = refl; own = refl; goes = λ a p s. refl; opens = λ p f s. refl; means = λ x y a p b s. refl })
-        around at old v new o g.value g.after (g.read Kind.OperatorAfterN refl) g.onward
-    go (inr (inl o)) =
-        let g = o.goes tt in
-        letters-come Production.OperatorD Kind.OperatorAfterD
-        (record { at = refl; parts = refl; own = refl; goes = λ a p s. refl; opens = λ p f s. refl; means = λ x y a p b s. refl })
-        around at old v new o g.value g.after (g.read Kind.OperatorAfterD refl) g.onward
-    go (inr (inr (inl o))) =
-        let g = o.goes tt in
-        letters-come Production.OperatorA Kind.OperatorAfterA
-        (record { at = refl; parts = refl; own = refl; goes = λ a p s. refl; opens = λ p f s. refl; means = λ x y a p b s. refl })
-        around at old v new o g.value g.after (g.read Kind.OperatorAfterA refl) g.onward
-    go (inr (inr (inr (inl o)))) =
-        let g = o.goes tt in
-        letters-come Production.OperatorP Kind.OperatorAfterP
-        (record { at = refl; parts = refl; own = refl; goes = λ a p s. refl; opens = λ p f s. refl; means = λ x y a p b s. refl })
-        around at old v new o g.value g.after (g.read Kind.OperatorAfterP refl) g.onward
-    go (inr (inr (inr (inr (inl o))))) =
-        let g = o.goes tt in
-        letters-come Production.OperatorC Kind.OperatorAfterC
-        (record { at = refl; parts = refl; own = refl; goes = λ a p s. refl; opens = λ p f s. refl; means = λ x y a p b s. refl })
-        around at old v new o g.value g.after (g.read Kind.OperatorAfterC refl) g.onward
-    go (inr (inr (inr (inr (inr (inl o)))))) =
-        let g = o.goes tt in
-        letters-come Production.OperatorM Kind.OperatorAfterM
-        (record { at = refl; parts = refl; own = refl; goes = λ a p s. refl; opens = λ p f s. refl; means = λ x y a p b s. refl })
-        around at old v new o g.value g.after (g.read Kind.OperatorAfterM refl) g.onward
-    go (inr (inr (inr (inr (inr (inr (inl o))))))) =
-        let g = o.goes tt in
-        letters-come Production.OperatorR Kind.OperatorAfterR
-        (record { at = refl; parts = refl; own = refl; goes = λ a p s. refl; opens = λ p f s. refl; means = λ x y a p b s. refl })
-        around at old v new o g.value g.after (g.read Kind.OperatorAfterR refl) g.onward
-    go (inr (inr (inr (inr (inr (inr (inr (inl o)))))))) =
-        let g = o.goes tt in
-        letters-come Production.OperatorO Kind.OperatorAfterO
-        (record { at = refl; parts = refl; own = refl; goes = λ a p s. refl; opens = λ p f s. refl; means = λ x y a p b s. refl })
-        around at old v new o g.value g.after (g.read Kind.OperatorAfterO refl) g.onward
-    go (inr (inr (inr (inr (inr (inr (inr (inr (inl o))))))))) =
-        let g = o.goes tt in
-        letters-come Production.OperatorE Kind.OperatorAfterE
-        (record { at = refl; parts = refl; own = refl; goes = λ a p s. refl; opens = λ p f s. refl; means = λ x y a p b s. refl })
-        around at old v new o g.value g.after (g.read Kind.OperatorAfterE refl) g.onward
-    go (inr (inr (inr (inr (inr (inr (inr (inr (inr (inl o)))))))))) = operator-l around at old v new o
-    go (inr (inr (inr (inr (inr (inr (inr (inr (inr (inr (inl o))))))))))) =
-        let g = o.goes tt in
-        letters-come Production.OperatorS Kind.OperatorAfterS
-        (record { at = refl; parts = refl; own = refl; goes = λ a p s. refl; opens = λ p f s. refl; means = λ x y a p b s. refl })
-        around at old v new o g.value g.after (g.read Kind.OperatorAfterS refl) g.onward
-    go (inr (inr (inr (inr (inr (inr (inr (inr (inr (inr (inr (inl o)))))))))))) =
-        let g = o.goes tt in
-        letters-come Production.OperatorI Kind.OperatorAfterI
-        (record { at = refl; parts = refl; own = refl; goes = λ a p s. refl; opens = λ p f s. refl; means = λ x y a p b s. refl })
-        around at old v new o g.value g.after (g.read Kind.OperatorAfterI refl) g.onward
-    go (inr (inr (inr (inr (inr (inr (inr (inr (inr (inr (inr (inr (inl o))))))))))))) =
-        let g = o.goes tt in
-        letters-come Production.OperatorG Kind.OperatorAfterG
-        (record { at = refl; parts = refl; own = refl; goes = λ a p s. refl; opens = λ p f s. refl; means = λ x y a p b s. refl })
-        around at old v new o g.value g.after (g.read Kind.OperatorAfterG refl) g.onward
-    go (inr (inr (inr (inr (inr (inr (inr (inr (inr (inr (inr (inr (inr none))))))))))))) = absurd none
+    same : (p : Production) → OpenedRead Kind.OtherOperator around at old v new p → OpenedRead Kind.Operator around at old v new p
+    same p o = taken-as Kind.OtherOperator Kind.Operator refl around at old v new p o
+
+    any : OneOf (alternatives Kind.OtherOperator) (OpenedRead Kind.OtherOperator around at old v new)
+        → OneOf (alternatives Kind.Operator) (OpenedRead Kind.Operator around at old v new)
+    any (inl o) = inl (same Production.OperatorN o)
+    any (inr (inl o)) = inr (inl (same Production.OperatorD o))
+    any (inr (inr (inl o))) = inr (inr (inl (same Production.OperatorA o)))
+    any (inr (inr (inr (inl o)))) = inr (inr (inr (inl (same Production.OperatorP o))))
+    any (inr (inr (inr (inr (inl o))))) = inr (inr (inr (inr (inr (inl (same Production.OperatorM o))))))
+    any (inr (inr (inr (inr (inr (inl o)))))) = inr (inr (inr (inr (inr (inr (inl (same Production.OperatorR o)))))))
+    any (inr (inr (inr (inr (inr (inr (inl o))))))) = inr (inr (inr (inr (inr (inr (inr (inl (same Production.OperatorO o))))))))
+    any (inr (inr (inr (inr (inr (inr (inr (inl o)))))))) = inr (inr (inr (inr (inr (inr (inr (inr (inl (same Production.OperatorE o)))))))))
+    any (inr (inr (inr (inr (inr (inr (inr (inr (inl o))))))))) = inr (inr (inr (inr (inr (inr (inr (inr (inr (inl (same Production.OperatorL o))))))))))
+    any (inr (inr (inr (inr (inr (inr (inr (inr (inr (inl o)))))))))) = inr (inr (inr (inr (inr (inr (inr (inr (inr (inr (inl (same Production.OperatorS o)))))))))))
+    any (inr (inr (inr (inr (inr (inr (inr (inr (inr (inr (inl o))))))))))) = inr (inr (inr (inr (inr (inr (inr (inr (inr (inr (inr (inl (same Production.OperatorI o))))))))))))
+    any (inr (inr (inr (inr (inr (inr (inr (inr (inr (inr (inr (inl o)))))))))))) = inr (inr (inr (inr (inr (inr (inr (inr (inr (inr (inr (inr (inl (same Production.OperatorG o)))))))))))))
+    any (inr (inr (inr (inr (inr (inr (inr (inr (inr (inr (inr (inr none)))))))))))) = absurd none
+
+-- two letters of which the first is a c
+pub c-operator-fits : (around : Around) (second : ℕ) (old : State) → second < 256 → choose Kind.OperatorAfterC second ≡ Some Production.Mark
+    → PieceFits around (operator 99 second) old old
+unfolding choose alternatives pick is_in in_ranges among kinds parts_of is_chain between opening close meaning part letter_of unfolding_.behind number_of_kind
+c-operator-fits around second old small marked =
+    operator-fits around 99 second old (omega arith) small (record {
+      production = Production.OperatorC;
+      kind = Kind.OperatorAfterC;
+      number = number_of_kind Kind.OperatorAfterC;
+      at = refl;
+      chosen = refl;
+      parts = refl;
+      marked = marked;
+      own = refl;
+      goes = λ inner place s. refl;
+      opens = λ place f s. refl;
+      means = λ inner place began s. refl;
+    })
 
 -- ## Lambdas and unnamed types
 
@@ -418,6 +465,11 @@ pub bit-branch : BranchRead Kind.Bit
 unfolding alternatives
 bit-branch rule taken parts all around at old v new front is e =
     (mark-read Kind.Bit (refl, tt) (branch rule taken parts) around at old new v is e).0
+
+pub special-mark-branch : BranchRead Kind.SpecialMark
+unfolding alternatives
+special-mark-branch rule taken parts all around at old v new front is e =
+    (mark-read Kind.SpecialMark (refl, tt) (branch rule taken parts) around at old new v is e).0
 
 marked : (kind : Kind) (v : Value) (old new : State) → (new ≡ old) × LetterRead kind v → MarkRead kind v old new
 marked kind v old new one = (one.0, one.1.0, one.1.1.0, one.1.1.1)

@@ -4,7 +4,7 @@ use Rattle.sym_shape.specs.declared.rule.Sym.TheVariants.{Name}
 use Rattle.cpp_grammar.specs.declared.kind.Kind.{Kind}
 use Rattle.cpp_grammar.specs.declared.production.Production.{Production}
 use Rattle.cpp_grammar.specs.Grammar.{number_of_kind, parts_of}
-use Rattle.cpp_grammar.specs.Term.{Term, source, constructor, destructor}
+use Rattle.cpp_grammar.specs.Term.{Term, source, operator, constructor, destructor}
 use Rattle.cpp_grammar.specs.Values.{State, Around, Value, tree, tree_of, piece_of, letter_of, text_of, part}
 use Rattle.cpp_grammar.specs.Between.{after, extended, applied, named_so_far, piece_so_far, between}
 use Rattle.cpp_grammar.specs.Meaning.{meaning}
@@ -14,6 +14,7 @@ use Rattle.cpp_press_laws.specs.Fits.{begins_name, names_type, names_function, n
 use Rattle.cpp_press_laws.proofs.Fits.Names.{PieceFits}
 use Rattle.cpp_press_laws.proofs.Fits.Sorts.{KindFits}
 use Rattle.cpp_press_laws.proofs.ByKind.Pieces.{source-fits, constructor-fits, destructor-fits}
+use Rattle.cpp_press_laws.proofs.ByKind.PieceKinds.{c-operator-fits}
 use Rattle.cpp_press_laws.proofs.ByKind.Known.{SymbolRead, OpenedRead, comes-as}
 
 -- a piece of this sort behind the name so far, and what stands behind it
@@ -118,6 +119,47 @@ operator-comes kind around at old v new o =
       mid = a.after;
       value = refl;
       fits = (a.read Kind.Operator refl).1;
+      later = b.read Kind.MaybeArguments refl;
+    })
+
+pub other-operator-comes : (kind : Kind) (around : Around) (at : ℕ) (old : State) (v : Value) (new : State)
+    → OpenedRead kind around at old v new Production.OtherOperatorName → PieceRead names_function around v old new
+unfolding parts_of number_of_kind between piece_so_far named_so_far tree_of meaning part unfolding_.behind
+other-operator-comes kind around at old v new o =
+    let a = o.goes tt in
+    let b = a.onward in
+    let p : Term = piece_of a.value in
+    comes-as (λ w s. PieceRead names_function around w old s) Production.OtherOperatorName tt (byte_of o.taken) around at old
+    (tree (extended around.prefix p) false ∷ b.value ∷ []) b.after v new b.onward
+    (record {
+      piece = p;
+      named = (a.read Kind.OtherOperator refl).0;
+      arguments = b.value;
+      mid = a.after;
+      value = refl;
+      fits = (a.read Kind.OtherOperator refl).1;
+      later = b.read Kind.MaybeArguments refl;
+    })
+
+-- an operator, behind its c
+pub operator-with-c-comes : (kind : Kind) (around : Around) (at : ℕ) (old : State) (v : Value) (new : State)
+    → OpenedRead kind around at old v new Production.OperatorNameWithC → PieceRead names_function around v old new
+unfolding parts_of number_of_kind between piece_so_far named_so_far names_function tree_of meaning part unfolding_.behind
+operator-with-c-comes kind around at old v new o =
+    let a = o.goes tt in
+    let b = a.onward in
+    let p : Term = operator 99 (letter_of a.value) in
+    comes-as (λ w s. PieceRead names_function around w old s) Production.OperatorNameWithC tt (byte_of o.taken) around at old
+    (tree (extended around.prefix p) false ∷ b.value ∷ []) b.after v new b.onward
+    (record {
+      piece = p;
+      named = refl;
+      arguments = b.value;
+      mid = a.after;
+      value = refl;
+      fits = (
+          let mark = a.read Kind.OperatorAfterC refl in
+          subst (λ s. PieceFits around p old s) (sym mark.0) (c-operator-fits around (letter_of a.value) old mark.2 mark.3));
       later = b.read Kind.MaybeArguments refl;
     })
 

@@ -1,54 +1,91 @@
 -- What every shape of the grammar is read as fits, whatever kind it is read as.
-use Rattle.std.proofs.Common.{inl, inr, List}
-use Rattle.std.specs.Prelude.{ℕ}
+use Rattle.std.proofs.Common.{◌≡◌, ℕ, inl, inr, List, refl}
+use Rattle.std.proofs.lemmas.Bool.{false≢true}
 use Rattle.sym_shape.specs.declared.rule.Rule.{Rule}
+use Rattle.sym_shape.specs.declared.rule.Sym.TheVariants.{Kind as OfKind}
 use Rattle.sym_shape.specs.Tree.{Tree as Shape, Forest, branch}
 use Rattle.cpp_grammar.specs.declared.kind.Kind.{Kind}
-use Rattle.cpp_grammar.specs.Grammar.{alternatives, number_of_kind}
+use Rattle.cpp_grammar.specs.declared.production.Production.{Production}
+use Rattle.cpp_grammar.specs.Grammar.{alternatives, choose, pick, is_in, in_ranges, among, number_of_kind, number_of}
 use Rattle.cpp_grammar.specs.Term.{Term}
+use Rattle.cpp_grammar.specs.Values.{State, outermost, Around, Value}
+use Rattle.cpp_grammar.proofs.ClosedTrees.{is_encoding as holds_encoding}
+use Rattle.cpp_grammar.proofs.Growing.{same_choice, each_below}
 use Rattle.cpp_press_laws.specs.PressLaws.{IsReadFrom}
 use Rattle.cpp_press_laws.specs.Fits.{takes_all, SymbolFits}
 use Rattle.cpp_press_laws.proofs.Fits.Sorts.{KindFits, takes_literals}
 use Rattle.cpp_press_laws.proofs.ByKind.Rules.{AllOf, OneOf, every-shape}
 use Rattle.cpp_press_laws.proofs.ByKind.Suffixes.{suffix-read}
-use Rattle.cpp_press_laws.proofs.ByKind.Known.{OwnNameRead, ShapeRead, OpenedRead, opened-read, BranchRead}
-use Rattle.cpp_press_laws.proofs.ByKind.Types.{type-branch, plain-branch, item-branch, parameter-branch, item-d-branch, after-d-branch}
-use Rattle.cpp_press_laws.proofs.ByKind.Solids.{builtin-arm, literal-arm, vendor-arm, array-arm, function-arm, complex-arm, pointer-arm, member-arm, function-rest-branch, after-r-branch, after-o-branch, items-branch}
+use Rattle.cpp_press_laws.proofs.ByKind.Known.{OwnNameRead, InFront, ShapeRead, OpenedRead, opened-read, taken-as, BranchRead}
+use Rattle.cpp_press_laws.proofs.ByKind.Types.{type-branch, plain-branch, item-branch, argument-branch, parameter-branch, item-d-branch, after-d-branch}
+use Rattle.cpp_press_laws.proofs.ByKind.Solids.{builtin-arm, literal-arm, vendor-arm, array-rest-branch, any-array-branch, array-arm, function-arm, complex-arm, pointer-arm, member-arm, function-rest-branch, after-r-branch, after-o-branch, items-branch}
 use Rattle.cpp_press_laws.proofs.ByKind.References.{abbreviation-branch}
 use Rattle.cpp_press_laws.proofs.ByKind.Empty.{empty-read}
 use Rattle.cpp_press_laws.proofs.ByKind.Root.{read-fits}
-use Rattle.cpp_press_laws.proofs.ByKind.PieceKinds.{source-or-local-branch, unqualified-branch, operator-branch, anonymous-branch, integer-branch, call-offset-branch, discriminator-branch, discriminator-rest-branch, restrict-branch, volatile-branch, const-branch, ref-branch, c-linkage-branch, zero-branch, bit-branch, constructor-digit-branch, destructor-digit-branch, operator-after-n-branch, operator-after-d-branch, operator-after-a-branch, operator-after-p-branch, operator-after-c-branch, operator-after-m-branch, operator-after-r-branch, operator-after-o-branch, operator-after-e-branch, operator-after-s-branch, operator-after-i-branch, operator-after-g-branch, operator-after-l-branch}
-use Rattle.cpp_press_laws.proofs.ByKind.Arguments.{argument-list-branch, arguments-first-branch, pack-list-branch, literal-branch, literal-after-d-branch, address-branch}
-use Rattle.cpp_press_laws.proofs.ByKind.Nests.{nest-branch, nest-after-s-branch, nest-rest-branch, nest-rest-alone-branch, nest-tail-branch, component-branch}
-use Rattle.cpp_press_laws.proofs.ByKind.Names.{arguments-branch, maybe-arguments-branch, arguments-alone-branch, type-after-s-branch, name-after-s-branch, with-s-solid, parameter-solid, nested-solid, source-solid, local-type-name-solid, source-own, internal-own, local-type-own, operator-own, with-s-own}
-use Rattle.cpp_press_laws.proofs.ByKind.Encodings.{encoding-branch, special-branch}
+use Rattle.cpp_press_laws.proofs.ByKind.PieceKinds.{source-or-local-branch, unqualified-branch, operator-branch, other-operator-branch, special-mark-branch, anonymous-branch, integer-branch, call-offset-branch, discriminator-branch, discriminator-rest-branch, restrict-branch, volatile-branch, const-branch, ref-branch, c-linkage-branch, zero-branch, bit-branch, constructor-digit-branch, destructor-digit-branch, operator-after-n-branch, operator-after-d-branch, operator-after-a-branch, operator-after-p-branch, operator-after-c-branch, operator-after-m-branch, operator-after-r-branch, operator-after-o-branch, operator-after-e-branch, operator-after-s-branch, operator-after-i-branch, operator-after-g-branch, operator-after-l-branch}
+use Rattle.cpp_press_laws.proofs.ByKind.Arguments.{argument-list-branch, arguments-first-branch, pack-list-branch, literal-branch, literal-after-d-branch, address-branch, expression-rest-branch}
+use Rattle.cpp_press_laws.proofs.ByKind.Nests.{nest-branch, nest-after-s-branch, nest-rest-branch, nest-rest-alone-branch, nest-rest-or-end-branch, nest-more-or-end-branch, nest-tail-branch, component-branch, component-after-c-branch}
+use Rattle.cpp_press_laws.proofs.ByKind.Names.{arguments-branch, maybe-arguments-branch, arguments-alone-branch, argument-after-t-branch, type-after-s-branch, type-in-std-branch, maybe-tags-branch, name-after-s-branch, with-s-solid, parameter-solid, nested-solid, source-solid, local-type-name-solid, source-own, internal-own, local-type-own, operator-own, with-s-own}
+use Rattle.cpp_press_laws.proofs.ByKind.Encodings.{encoding-branch, special-branch, special-after-g-branch}
 use Rattle.cpp_press_laws.proofs.ByKind.Entities.{entity-branch, type-entity-branch, local-type-solid, local-name-read, nested-name-read}
 
 -- ## Types by their own letters, and names as types
 
-solid-branch : BranchRead Kind.Solid
+solid-read : (around : Around) (at : ℕ) (old : State) (v : Value) (new : State) → InFront (OfKind (number_of_kind Kind.Solid)) around at old
+    → around.prefix ≡ outermost → OneOf (alternatives Kind.Solid) (OpenedRead Kind.Solid around at old v new) → KindFits Kind.Solid around v old new
 unfolding alternatives
+solid-read around at old v new front outer (inl o) = builtin-arm around at old v new o
+solid-read around at old v new front outer (inr (inl o)) = vendor-arm around at old v new o
+solid-read around at old v new front outer (inr (inr (inl o))) = array-arm around at old v new outer o
+solid-read around at old v new front outer (inr (inr (inr (inl o)))) = function-arm around at old v new outer o
+solid-read around at old v new front outer (inr (inr (inr (inr (inl o))))) = complex-arm around at old v new outer o
+solid-read around at old v new front outer (inr (inr (inr (inr (inr (inl o)))))) = pointer-arm takes_all Kind.Solid around at old v new outer o
+solid-read around at old v new front outer (inr (inr (inr (inr (inr (inr (inl o))))))) = member-arm takes_all Kind.Solid around at old v new outer o
+solid-read around at old v new front outer (inr (inr (inr (inr (inr (inr (inr (inl o)))))))) = parameter-solid takes_all Kind.Solid around at old v new front outer o
+solid-read around at old v new front outer (inr (inr (inr (inr (inr (inr (inr (inr (inl o))))))))) = with-s-solid takes_all Kind.Solid around at old v new front outer o
+solid-read around at old v new front outer (inr (inr (inr (inr (inr (inr (inr (inr (inr (inl o)))))))))) = nested-solid takes_all Kind.Solid around at old v new front outer o
+solid-read around at old v new front outer (inr (inr (inr (inr (inr (inr (inr (inr (inr (inr (inl o))))))))))) =
+    local-type-solid takes_all Kind.Solid around at old v new front outer o
+solid-read around at old v new front outer (inr (inr (inr (inr (inr (inr (inr (inr (inr (inr (inr (inl o)))))))))))) =
+    local-type-name-solid takes_all Kind.Solid around at old v new front outer o
+solid-read around at old v new front outer (inr (inr (inr (inr (inr (inr (inr (inr (inr (inr (inr (inr (inl o))))))))))))) =
+    source-solid takes_all Kind.Solid around at old v new front outer o
+solid-read around at old v new front outer (inr (inr (inr (inr (inr (inr (inr (inr (inr (inr (inr (inr (inr none))))))))))))) = absurd none
+
+solid-branch : BranchRead Kind.Solid
 solid-branch rule taken parts all around at old v new front is e outer =
-    go (opened-read Kind.Solid rule taken parts all around at old v new front is e)
+    solid-read around at old v new front outer (opened-read Kind.Solid rule taken parts all around at old v new front is e)
+
+-- and behind no T
+solid-front : (around : Around) (at : ℕ) (old : State) → InFront (OfKind (number_of_kind Kind.SolidButT)) around at old
+    → InFront (OfKind (number_of_kind Kind.Solid)) around at old
+unfolding number_of_kind holds_encoding
+solid-front around at old front = record { placed = front.placed; opening = λ opens. absurd (false≢true opens); prefix = front.prefix }
+
+solid-but-t-branch : BranchRead Kind.SolidButT
+unfolding alternatives choose pick is_in in_ranges among same_choice each_below number_of
+solid-but-t-branch rule taken parts all around at old v new front is e outer =
+    solid-read around at old v new (solid-front around at old front) outer
+    (any (opened-read Kind.SolidButT rule taken parts all around at old v new front is e))
   where
-    go : OneOf (alternatives Kind.Solid) (OpenedRead Kind.Solid around at old v new) → KindFits Kind.Solid around v old new
-    go (inl o) = builtin-arm around at old v new o
-    go (inr (inl o)) = vendor-arm around at old v new o
-    go (inr (inr (inl o))) = array-arm around at old v new outer o
-    go (inr (inr (inr (inl o)))) = function-arm around at old v new outer o
-    go (inr (inr (inr (inr (inl o))))) = complex-arm around at old v new outer o
-    go (inr (inr (inr (inr (inr (inl o)))))) = pointer-arm takes_all Kind.Solid around at old v new outer o
-    go (inr (inr (inr (inr (inr (inr (inl o))))))) = member-arm takes_all Kind.Solid around at old v new outer o
-    go (inr (inr (inr (inr (inr (inr (inr (inl o)))))))) = parameter-solid takes_all Kind.Solid around at old v new front outer o
-    go (inr (inr (inr (inr (inr (inr (inr (inr (inl o))))))))) = with-s-solid takes_all Kind.Solid around at old v new front outer o
-    go (inr (inr (inr (inr (inr (inr (inr (inr (inr (inl o)))))))))) = nested-solid takes_all Kind.Solid around at old v new front outer o
-    go (inr (inr (inr (inr (inr (inr (inr (inr (inr (inr (inl o))))))))))) =
-        local-type-solid takes_all Kind.Solid around at old v new front outer o
-    go (inr (inr (inr (inr (inr (inr (inr (inr (inr (inr (inr (inl o)))))))))))) =
-        local-type-name-solid takes_all Kind.Solid around at old v new front outer o
-    go (inr (inr (inr (inr (inr (inr (inr (inr (inr (inr (inr (inr (inl o))))))))))))) =
-        source-solid takes_all Kind.Solid around at old v new front outer o
-    go (inr (inr (inr (inr (inr (inr (inr (inr (inr (inr (inr (inr (inr none))))))))))))) = absurd none
+    same : (p : Production) → OpenedRead Kind.SolidButT around at old v new p → OpenedRead Kind.Solid around at old v new p
+    same p o = taken-as Kind.SolidButT Kind.Solid refl around at old v new p o
+
+    any : OneOf (alternatives Kind.SolidButT) (OpenedRead Kind.SolidButT around at old v new)
+        → OneOf (alternatives Kind.Solid) (OpenedRead Kind.Solid around at old v new)
+    any (inl o) = inl (same Production.Builtin o)
+    any (inr (inl o)) = inr (inl (same Production.Vendor o))
+    any (inr (inr (inl o))) = inr (inr (inl (same Production.ArrayType o)))
+    any (inr (inr (inr (inl o)))) = inr (inr (inr (inl (same Production.Function o))))
+    any (inr (inr (inr (inr (inl o))))) = inr (inr (inr (inr (inl (same Production.Complex o)))))
+    any (inr (inr (inr (inr (inr (inl o)))))) = inr (inr (inr (inr (inr (inl (same Production.Pointer o))))))
+    any (inr (inr (inr (inr (inr (inr (inl o))))))) = inr (inr (inr (inr (inr (inr (inl (same Production.MemberPointer o)))))))
+    any (inr (inr (inr (inr (inr (inr (inr (inl o)))))))) = inr (inr (inr (inr (inr (inr (inr (inr (inl (same Production.TypeWithS o)))))))))
+    any (inr (inr (inr (inr (inr (inr (inr (inr (inl o))))))))) = inr (inr (inr (inr (inr (inr (inr (inr (inr (inl (same Production.NestedType o))))))))))
+    any (inr (inr (inr (inr (inr (inr (inr (inr (inr (inl o)))))))))) = inr (inr (inr (inr (inr (inr (inr (inr (inr (inr (inl (same Production.LocalType o)))))))))))
+    any (inr (inr (inr (inr (inr (inr (inr (inr (inr (inr (inl o))))))))))) = inr (inr (inr (inr (inr (inr (inr (inr (inr (inr (inr (inl (same Production.LocalTypeName o))))))))))))
+    any (inr (inr (inr (inr (inr (inr (inr (inr (inr (inr (inr (inl o)))))))))))) = inr (inr (inr (inr (inr (inr (inr (inr (inr (inr (inr (inr (inl (same Production.SourceName o)))))))))))))
+    any (inr (inr (inr (inr (inr (inr (inr (inr (inr (inr (inr (inr none)))))))))))) = absurd none
 
 -- the type of a literal
 literal-type-branch : BranchRead Kind.LiteralType
@@ -164,30 +201,31 @@ kind-branch Kind.OperatorAfterL = operator-after-l-branch
 kind-branch Kind.OperatorAfterS = operator-after-s-branch
 kind-branch Kind.OperatorAfterI = operator-after-i-branch
 kind-branch Kind.OperatorAfterG = operator-after-g-branch
+kind-branch Kind.NestRestOrEnd = nest-rest-or-end-branch
+kind-branch Kind.ComponentAfterC = component-after-c-branch
+kind-branch Kind.OtherOperator = other-operator-branch
+kind-branch Kind.SpecialMark = special-mark-branch
+kind-branch Kind.SpecialAfterG = special-after-g-branch
+kind-branch Kind.TypeInStd = type-in-std-branch
+kind-branch Kind.MaybeTags = maybe-tags-branch
+kind-branch Kind.Argument = argument-branch
+kind-branch Kind.ArgumentAfterT = argument-after-t-branch
+kind-branch Kind.SolidButT = solid-but-t-branch
+kind-branch Kind.ExpressionRest = expression-rest-branch
+kind-branch Kind.AnyArray = any-array-branch
+kind-branch Kind.ArrayRest = array-rest-branch
+kind-branch Kind.NestMoreOrEnd = nest-more-or-end-branch
 -- no tree of a symbol has a part of these kinds
-kind-branch Kind.NestRestOrEnd = λ rule taken parts all around at old v new front is e outer. tt
 kind-branch Kind.HolderMark = λ rule taken parts all around at old v new front is e outer. tt
 kind-branch Kind.HeldComponent = λ rule taken parts all around at old v new front is e outer. tt
-kind-branch Kind.ComponentAfterC = λ rule taken parts all around at old v new front is e outer. tt
-kind-branch Kind.OtherOperator = λ rule taken parts all around at old v new front is e outer. tt
 kind-branch Kind.FloatEnd = λ rule taken parts all around at old v new front is e outer. tt
-kind-branch Kind.SpecialMark = λ rule taken parts all around at old v new front is e outer. tt
-kind-branch Kind.SpecialAfterG = λ rule taken parts all around at old v new front is e outer. tt
 kind-branch Kind.CloneLetter = λ rule taken parts all around at old v new front is e outer. tt
-kind-branch Kind.TypeInStd = λ rule taken parts all around at old v new front is e outer. tt
-kind-branch Kind.MaybeTags = λ rule taken parts all around at old v new front is e outer. tt
 kind-branch Kind.PlainEntity = λ rule taken parts all around at old v new front is e outer. tt
 kind-branch Kind.PlainTypeEntity = λ rule taken parts all around at old v new front is e outer. tt
-kind-branch Kind.Argument = λ rule taken parts all around at old v new front is e outer. tt
-kind-branch Kind.ArgumentAfterT = λ rule taken parts all around at old v new front is e outer. tt
 kind-branch Kind.OneArgument = λ rule taken parts all around at old v new front is e outer. tt
 kind-branch Kind.DeclarationAfterT = λ rule taken parts all around at old v new front is e outer. tt
 kind-branch Kind.Declarations = λ rule taken parts all around at old v new front is e outer. tt
 kind-branch Kind.Concept = λ rule taken parts all around at old v new front is e outer. tt
-kind-branch Kind.SolidButT = λ rule taken parts all around at old v new front is e outer. tt
-kind-branch Kind.ExpressionRest = λ rule taken parts all around at old v new front is e outer. tt
-kind-branch Kind.AnyArray = λ rule taken parts all around at old v new front is e outer. tt
-kind-branch Kind.ArrayRest = λ rule taken parts all around at old v new front is e outer. tt
 
 branch-read : (rule : Rule) (taken : List ℕ) (parts : Forest) → AllOf ShapeRead parts → ShapeRead (branch rule taken parts)
 branch-read rule taken parts all kind around at old v new front is e = kind-branch kind rule taken parts all around at old v new front is e

@@ -4,7 +4,7 @@ use Rattle.cpp_grammar.specs.declared.kind.Kind.{Kind}
 use Rattle.cpp_grammar.specs.declared.production.Production.{Production}
 use Rattle.cpp_grammar.specs.Grammar.{alternatives, parts_of, is_chain}
 use Rattle.cpp_grammar.specs.Term.{lvalue, rvalue, builtin}
-use Rattle.cpp_grammar.specs.Values.{State, outermost, Around, Value, tree, tree_of, text_of}
+use Rattle.cpp_grammar.specs.Values.{State, outermost, Around, Value, tree, tree_of, text_of, part}
 use Rattle.cpp_grammar.specs.Between.{between}
 use Rattle.cpp_grammar.specs.Meaning.{meaning}
 use Rattle.cpp_grammar.specs.Unfolding as unfolding_
@@ -52,17 +52,51 @@ vendor-arm around at old v new o =
 
 -- ## Types of types
 
-pub array-arm : (around : Around) (at : ℕ) (old : State) (v : Value) (new : State) → around.prefix ≡ outermost
-    → OpenedRead Kind.Solid around at old v new Production.Array → KindFits Kind.Solid around v old new
+length-array : (around : Around) (at : ℕ) (old : State) (v : Value) (new : State) → around.prefix ≡ outermost
+    → OpenedRead Kind.ArrayRest around at old v new Production.LengthArray → KindFits Kind.ArrayRest around v old new
 unfolding parts_of between
-array-arm around at old v new outer o =
+length-array around at old v new outer o =
     let a = o.goes tt in
     let b = a.onward in
     let byte = byte_of o.taken in
-    comes-as (λ w s. KindFits Kind.Solid around w old s) Production.Array tt byte around at old (a.value ∷ b.value ∷ []) b.after v new
+    comes-as (λ w s. KindFits Kind.ArrayRest around w old s) Production.LengthArray tt byte around at old (a.value ∷ b.value ∷ []) b.after v new
     b.onward
     (solid-array around byte old a.value b.value old b.after (normal-decimal (text_of a.value) a.read.2)
     (subst (λ s. KindFits Kind.Type around b.value s b.after) a.read.0 (b.read Kind.Type refl outer)))
+
+pub array-rest-branch : BranchRead Kind.ArrayRest
+unfolding alternatives
+array-rest-branch rule taken parts all around at old v new front is e outer =
+    go (opened-read Kind.ArrayRest rule taken parts all around at old v new front is e)
+  where
+    go : OneOf (alternatives Kind.ArrayRest) (OpenedRead Kind.ArrayRest around at old v new) → KindFits Kind.ArrayRest around v old new
+    go (inl o) = length-array around at old v new outer o
+    go (inr none) = absurd none
+
+any-array : (around : Around) (at : ℕ) (old : State) (v : Value) (new : State) → around.prefix ≡ outermost
+    → OpenedRead Kind.AnyArray around at old v new Production.AnyArray → KindFits Kind.AnyArray around v old new
+unfolding parts_of between meaning part unfolding_.behind
+any-array around at old v new outer o =
+    let a = o.goes tt in
+    comes-as (λ w s. KindFits Kind.AnyArray around w old s) Production.AnyArray tt (byte_of o.taken) around at old (a.value ∷ []) a.after v new
+    a.onward (a.read Kind.ArrayRest refl outer)
+
+pub any-array-branch : BranchRead Kind.AnyArray
+unfolding alternatives
+any-array-branch rule taken parts all around at old v new front is e outer =
+    go (opened-read Kind.AnyArray rule taken parts all around at old v new front is e)
+  where
+    go : OneOf (alternatives Kind.AnyArray) (OpenedRead Kind.AnyArray around at old v new) → KindFits Kind.AnyArray around v old new
+    go (inl o) = any-array around at old v new outer o
+    go (inr none) = absurd none
+
+pub array-arm : (around : Around) (at : ℕ) (old : State) (v : Value) (new : State) → around.prefix ≡ outermost
+    → OpenedRead Kind.Solid around at old v new Production.ArrayType → KindFits Kind.Solid around v old new
+unfolding parts_of between meaning part unfolding_.behind
+array-arm around at old v new outer o =
+    let a = o.goes tt in
+    comes-as (λ w s. KindFits Kind.Solid around w old s) Production.ArrayType tt (byte_of o.taken) around at old (a.value ∷ []) a.after v new
+    a.onward (a.read Kind.AnyArray refl outer)
 
 pub function-arm : (around : Around) (at : ℕ) (old : State) (v : Value) (new : State) → around.prefix ≡ outermost
     → OpenedRead Kind.Solid around at old v new Production.Function → KindFits Kind.Solid around v old new

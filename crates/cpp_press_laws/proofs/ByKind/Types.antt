@@ -4,7 +4,7 @@ use Rattle.cpp_grammar.specs.declared.kind.Kind.{Kind}
 use Rattle.cpp_grammar.specs.declared.production.Production.{Production}
 use Rattle.cpp_grammar.specs.Grammar.{alternatives, parts_of, is_chain}
 use Rattle.cpp_grammar.specs.Term.{builtin}
-use Rattle.cpp_grammar.specs.Values.{State, outermost, Around, Value, tree, tree_of, text_of}
+use Rattle.cpp_grammar.specs.Values.{State, outermost, Around, Value, tree, tree_of, text_of, part}
 use Rattle.cpp_grammar.specs.Between.{under_expansion, between}
 use Rattle.cpp_grammar.specs.Meaning.{meaning}
 use Rattle.cpp_grammar.specs.Unfolding as unfolding_
@@ -14,7 +14,8 @@ use Rattle.cpp_press_laws.specs.Fits.{Slot, any_type, item_type, parameter_type,
 use Rattle.cpp_press_laws.proofs.Components.AddedWays.{IsNotBare}
 use Rattle.cpp_press_laws.proofs.Fits.Types.{TypeFits, SolidFits}
 use Rattle.cpp_press_laws.proofs.Fits.Solids.{builtin-with-d}
-use Rattle.cpp_press_laws.proofs.Fits.Sorts.{KindFits, plain-type, type-with-d, item-with-d, qualified-plain, plain-with-d, item-is-type, expansion-item, const-type, volatile-type, restrict-type, reference-type, reference-plain, solid-vector, solid-noexcept}
+use Rattle.cpp_press_laws.proofs.Fits.Sorts.{KindFits, plain-type, plain-argument, argument-with-t, type-with-d, item-with-d, qualified-plain, plain-with-d, item-is-type, expansion-item, const-type, volatile-type, restrict-type, reference-type, reference-plain, solid-vector, solid-noexcept}
+use Rattle.cpp_press_laws.proofs.Fits.Typed.{type-as-argument}
 use Rattle.cpp_press_laws.proofs.ByKind.LeafKinds.{own-byte, normal-digits}
 use Rattle.cpp_press_laws.proofs.ByKind.Known.{OpenedRead, opened-read, comes-as, BranchRead}
 
@@ -127,6 +128,53 @@ item-branch rule taken parts all around at old v new front is e outer =
     go (inr (inr (inr (inr (inl o))))) = reference-arm Kind.Item item_type tt refl around at old v new outer o
     go (inr (inr (inr (inr (inr (inl o)))))) = plain-arm Kind.Item item_type tt refl around at old v new outer o
     go (inr (inr (inr (inr (inr (inr none)))))) = absurd none
+
+-- ## Arguments of templates
+
+plain-argument-arm : takes_all item_type ≡ true → (around : Around) (at : ℕ) (old : State) (v : Value) (new : State) → around.prefix ≡ outermost
+    → OpenedRead Kind.Argument around at old v new Production.PlainArgument → TypeFits around item_type (tree_of v) old new
+unfolding parts_of between
+plain-argument-arm take around at old v new outer o =
+    let a = o.goes tt in
+    let byte = byte_of o.taken in
+    comes-as (In around item_type old) Production.PlainArgument tt byte around at old (a.value ∷ []) a.after v new a.onward
+    (plain-argument around byte old item_type tt take a.value old a.after (a.read Kind.SolidButT refl outer))
+
+with-t-arm : takes_all item_type ≡ true → (around : Around) (at : ℕ) (old : State) (v : Value) (new : State) → around.prefix ≡ outermost
+    → OpenedRead Kind.Argument around at old v new Production.ArgumentWithT → TypeFits around item_type (tree_of v) old new
+unfolding parts_of between
+with-t-arm take around at old v new outer o =
+    let a = o.goes tt in
+    let byte = byte_of o.taken in
+    comes-as (In around item_type old) Production.ArgumentWithT tt byte around at old (a.value ∷ []) a.after v new a.onward
+    (argument-with-t around byte old item_type tt take a.value old a.after (a.read Kind.ArgumentAfterT refl outer))
+
+expression-arm : (around : Around) (at : ℕ) (old : State) (v : Value) (new : State) → around.prefix ≡ outermost
+    → OpenedRead Kind.Argument around at old v new Production.Expression → KindFits Kind.Argument around v old new
+unfolding parts_of between meaning part unfolding_.behind
+expression-arm around at old v new outer o =
+    let a = o.goes tt in
+    comes-as (λ w s. KindFits Kind.Argument around w old s) Production.Expression tt (byte_of o.taken) around at old (a.value ∷ []) a.after v new
+    a.onward (a.read Kind.ExpressionRest refl outer)
+
+pub argument-branch : BranchRead Kind.Argument
+unfolding alternatives takes_qualified takes_all takes_expansions
+argument-branch rule taken parts all around at old v new front is e outer =
+    go (opened-read Kind.Argument rule taken parts all around at old v new front is e)
+  where
+    typed : TypeFits around item_type (tree_of v) old new → KindFits Kind.Argument around v old new
+    typed one = type-as-argument around v old new one
+
+    go : OneOf (alternatives Kind.Argument) (OpenedRead Kind.Argument around at old v new) → KindFits Kind.Argument around v old new
+    go (inl o) = typed (restrict-arm Kind.Argument item_type refl around at old v new outer o)
+    go (inr (inl o)) = typed (volatile-arm Kind.Argument item_type refl around at old v new outer o)
+    go (inr (inr (inl o))) = typed (const-arm Kind.Argument item_type refl around at old v new outer o)
+    go (inr (inr (inr (inl o)))) = typed (item-d-arm Kind.Argument item_type tt refl around at old v new outer o)
+    go (inr (inr (inr (inr (inl o))))) = typed (reference-arm Kind.Argument item_type tt refl around at old v new outer o)
+    go (inr (inr (inr (inr (inr (inl o)))))) = expression-arm around at old v new outer o
+    go (inr (inr (inr (inr (inr (inr (inl o))))))) = typed (with-t-arm refl around at old v new outer o)
+    go (inr (inr (inr (inr (inr (inr (inr (inl o)))))))) = typed (plain-argument-arm refl around at old v new outer o)
+    go (inr (inr (inr (inr (inr (inr (inr (inr none)))))))) = absurd none
 
 -- parameters of function types
 pub parameter-branch : BranchRead Kind.ItemButRef

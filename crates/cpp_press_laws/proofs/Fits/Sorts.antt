@@ -51,8 +51,13 @@ KindFits Kind.ItemButRef around v old new = TypeFits around parameter_type (tree
 KindFits Kind.ItemAfterD around v old new = SolidFits takes_expansions around v old new
 KindFits Kind.AfterD around v old new = SolidFits takes_all around v old new
 KindFits Kind.Solid around v old new = SolidFits takes_all around v old new
+KindFits Kind.SolidButT around v old new = SolidFits takes_all around v old new
+KindFits Kind.AnyArray around v old new = SolidFits takes_all around v old new
+KindFits Kind.ArrayRest around v old new = SolidFits takes_all around v old new
+KindFits Kind.ArgumentAfterT around v old new = SolidFits takes_all around v old new
 KindFits Kind.LiteralType around v old new = SolidFits takes_literals around v old new
 KindFits Kind.TypeAfterS around v old new = NameRead around v old new
+KindFits Kind.TypeInStd around v old new = NameRead around v old new
 KindFits Kind.Abbreviation around v old new = AbbreviationRead around v old new
 KindFits Kind.FunctionRest around v old new = IsList (tree_of v) × ListFits around parameter_type (tree_of v) old new
 KindFits Kind.AfterR around v old new =
@@ -68,6 +73,8 @@ KindFits Kind.MaybeArguments around v old new =
 KindFits Kind.Literal around v old new = (in_pack : Bool) → ArgumentFits around in_pack (tree_of v) old new
 KindFits Kind.LiteralAfterD around v old new = (in_pack : Bool) → ArgumentFits around in_pack (tree_of v) old new
 KindFits Kind.Address around v old new = (in_pack : Bool) → ArgumentFits around in_pack (tree_of v) old new
+KindFits Kind.ExpressionRest around v old new = (in_pack : Bool) → ArgumentFits around in_pack (tree_of v) old new
+KindFits Kind.Argument around v old new = (in_pack : Bool) → ArgumentFits around in_pack (tree_of v) old new
 KindFits _ around v old new = Unit {0}
 
 -- ## Types become candidates
@@ -85,6 +92,21 @@ pub plain-type : (around : Around) (byte : ℕ) (began : State) (slot : Slot) �
     (Later Production.PlainType byte around began (v ∷ []) new)
 unfolding meaning listed_value tree_of part unfolding_.behind
 plain-type around byte began slot other take v old new one = one.types slot other take
+
+pub plain-argument : (around : Around) (byte : ℕ) (began : State) (slot : Slot) → IsNotBare slot → takes_all slot ≡ true → (v : Value)
+    (old new : State) → SolidFits takes_all around v old new
+    → TypeFits around slot (tree_of (Meant Production.PlainArgument byte around (v ∷ []))) old
+    (Later Production.PlainArgument byte around began (v ∷ []) new)
+unfolding meaning listed_value tree_of part unfolding_.behind
+plain-argument around byte began slot other take v old new one = one.types slot other take
+
+-- a parameter as an argument
+pub argument-with-t : (around : Around) (byte : ℕ) (began : State) (slot : Slot) → IsNotBare slot → takes_all slot ≡ true → (v : Value)
+    (old new : State) → SolidFits takes_all around v old new
+    → TypeFits around slot (tree_of (Meant Production.ArgumentWithT byte around (v ∷ []))) old
+    (Later Production.ArgumentWithT byte around began (v ∷ []) new)
+unfolding meaning listed_value tree_of part unfolding_.behind
+argument-with-t around byte began slot other take v old new one = one.types slot other take
 
 pub type-with-d : (around : Around) (byte : ℕ) (began : State) (v : Value) (old new : State) → SolidFits takes_all around v old new
     → KindFits Kind.Type around (Meant Production.TypeWithD byte around (v ∷ [])) old
@@ -211,8 +233,8 @@ solid-member-pointer takes around byte began v w old mid new one other =
 
 pub solid-array : (around : Around) (byte : ℕ) (began : State) (digits v : Value) (old new : State)
     → AreSpellableDigits Decimal (normal (text_of digits)) → KindFits Kind.Type around v old new
-    → KindFits Kind.Solid around (Meant Production.Array byte around (digits ∷ v ∷ [])) old
-    (Later Production.Array byte around began (digits ∷ v ∷ []) new)
+    → KindFits Kind.ArrayRest around (Meant Production.LengthArray byte around (digits ∷ v ∷ [])) old
+    (Later Production.LengthArray byte around began (digits ∷ v ∷ []) new)
 unfolding meaning part unfolding_.behind
 solid-array around byte began digits v old new are one = array-fits around (normal (text_of digits)) (tree_of v) old new are one
 

@@ -118,21 +118,25 @@ rvalue-item around byte began t rest old mid new one other = (
 
 -- ## Arguments
 
-pub type-argument-read : (around : Around) (byte : ℕ) (began : State) (v rest : Value) (old mid new : State)
-    → KindFits Kind.Item around v old mid → KindFits Kind.ArgumentList around rest mid new
-    → KindFits Kind.ArgumentList around (Meant Production.TypeArgument byte around (v ∷ rest ∷ [])) old
-    (Later Production.TypeArgument byte around began (v ∷ rest ∷ []) new)
-unfolding meaning no_items tree_of part unfolding_.behind
-type-argument-read around byte began v rest old mid new one other =
-    arguments-fit around false (tree_of v) (no_items rest) old mid new (type-argument (tree_of v) around false old mid one) other
+-- a type is an argument
+pub type-as-argument : (around : Around) (v : Value) (old new : State) → KindFits Kind.Item around v old new → KindFits Kind.Argument around v old new
+type-as-argument around v old new one in_pack = type-argument (tree_of v) around in_pack old new one
 
-pub type-element : (around : Around) (byte : ℕ) (began : State) (v rest : Value) (old mid new : State)
-    → KindFits Kind.Item around v old mid → KindFits Kind.PackList around rest mid new
-    → KindFits Kind.PackList around (Meant Production.TypeElement byte around (v ∷ rest ∷ [])) old
-    (Later Production.TypeElement byte around began (v ∷ rest ∷ []) new)
+pub any-argument : (around : Around) (byte : ℕ) (began : State) (v rest : Value) (old mid new : State)
+    → KindFits Kind.Argument around v old mid → KindFits Kind.ArgumentList around rest mid new
+    → KindFits Kind.ArgumentList around (Meant Production.AnyArgument byte around (v ∷ rest ∷ [])) old
+    (Later Production.AnyArgument byte around began (v ∷ rest ∷ []) new)
 unfolding meaning no_items tree_of part unfolding_.behind
-type-element around byte began v rest old mid new one other =
-    arguments-fit around true (tree_of v) (no_items rest) old mid new (type-argument (tree_of v) around true old mid one) other
+any-argument around byte began v rest old mid new one other =
+    arguments-fit around false (tree_of v) (no_items rest) old mid new (one false) other
+
+pub any-element : (around : Around) (byte : ℕ) (began : State) (v rest : Value) (old mid new : State)
+    → KindFits Kind.Argument around v old mid → KindFits Kind.PackList around rest mid new
+    → KindFits Kind.PackList around (Meant Production.AnyElement byte around (v ∷ rest ∷ [])) old
+    (Later Production.AnyElement byte around began (v ∷ rest ∷ []) new)
+unfolding meaning no_items tree_of part unfolding_.behind
+any-element around byte began v rest old mid new one other =
+    arguments-fit around true (tree_of v) (no_items rest) old mid new (one true) other
 
 pub literal-argument : (around : Around) (byte : ℕ) (began : State) (v mark rest : Value) (old mid new : State)
     → KindFits Kind.Literal around v old mid → KindFits Kind.ArgumentList around rest mid new
@@ -148,22 +152,6 @@ pub literal-element : (around : Around) (byte : ℕ) (began : State) (v mark res
     (Later Production.LiteralElement byte around began (v ∷ mark ∷ rest ∷ []) new)
 unfolding meaning no_items tree_of part unfolding_.behind
 literal-element around byte began v mark rest old mid new one other =
-    arguments-fit around true (tree_of v) (no_items rest) old mid new (one true) other
-
-pub address-argument : (around : Around) (byte : ℕ) (began : State) (a d v rest : Value) (old mid new : State)
-    → KindFits Kind.Address around v old mid → KindFits Kind.ArgumentList around rest mid new
-    → KindFits Kind.ArgumentList around (Meant Production.AddressArgument byte around (a ∷ d ∷ v ∷ rest ∷ [])) old
-    (Later Production.AddressArgument byte around began (a ∷ d ∷ v ∷ rest ∷ []) new)
-unfolding meaning no_items tree_of part unfolding_.behind
-address-argument around byte began a d v rest old mid new one other =
-    arguments-fit around false (tree_of v) (no_items rest) old mid new (one false) other
-
-pub address-element : (around : Around) (byte : ℕ) (began : State) (a d v rest : Value) (old mid new : State)
-    → KindFits Kind.Address around v old mid → KindFits Kind.PackList around rest mid new
-    → KindFits Kind.PackList around (Meant Production.AddressElement byte around (a ∷ d ∷ v ∷ rest ∷ [])) old
-    (Later Production.AddressElement byte around began (a ∷ d ∷ v ∷ rest ∷ []) new)
-unfolding meaning no_items tree_of part unfolding_.behind
-address-element around byte began a d v rest old mid new one other =
     arguments-fit around true (tree_of v) (no_items rest) old mid new (one true) other
 
 -- the pack is made before the arguments behind it

@@ -1,5 +1,5 @@
 -- Arguments, literals and expansions are read as what was pressed, from their parts.
-use Rattle.std.proofs.Common.{◌≡◌, ℕ, ◌+◌, inl, length, List, [], ◌∷◌, ◌++◌, Option, None, Bool, true, false, Ok, refl, ap, arith, sym, subst, append-nil}
+use Rattle.std.proofs.Common.{◌≡◌, ℕ, ◌+◌, inl, length, List, [], ◌∷◌, ◌++◌, Option, None, Bool, true, false, Ok, refl, ap, arith, sym, ◌∙◌, subst, append-nil}
 use Rattle.std.specs.Prelude.{cond, codes}
 use Rattle.sym_core.specs.declared.NumberKind.TheVariants.{Digits}
 use Rattle.sym_shape.specs.declared.rule.Sym.TheVariants.{Kind as OfKind, Number, Byte}
@@ -7,7 +7,7 @@ use Rattle.sym_shape.specs.Tree.{Forest, TakesRule}
 use Rattle.sym_link.specs.Unfold.{found}
 use Rattle.cpp_grammar.specs.declared.kind.Kind.{Kind}
 use Rattle.cpp_grammar.specs.declared.production.Production.{Production}
-use Rattle.cpp_grammar.specs.KindNumbers.{INTEGER, TYPE, ITEM, ITEM_AFTER_D, ITEMS, ARGUMENT_LIST, ARGUMENTS_FIRST, PACK_LIST}
+use Rattle.cpp_grammar.specs.KindNumbers.{INTEGER, TYPE, ITEM, ITEM_AFTER_D, ITEMS, ARGUMENT, ARGUMENT_LIST, ARGUMENTS_FIRST, PACK_LIST}
 use Rattle.cpp_grammar.specs.Grammar.{in_ranges, among, is_in, pick, number_of_kind, alternatives, choose, kinds, parts_of, is_chain}
 use Rattle.cpp_grammar.specs.Table.{abi, rule_of}
 use Rattle.cpp_grammar.specs.Term.{Signed, Term, expansion, nil, list}
@@ -17,6 +17,7 @@ use Rattle.cpp_grammar.specs.Between.{Going, between, inside, under_expansion, n
 use Rattle.cpp_grammar.specs.Meaning.{meaning}
 use Rattle.cpp_grammar.specs.Unfolding as unfolding_
 use Rattle.cpp_grammar.specs.Unfolding.{opening, close, byte_of}
+use Rattle.cpp_grammar.proofs.Arguments.{abi_argument}
 use Rattle.cpp_press_laws.specs.Components.{Component}
 use Rattle.cpp_press_laws.specs.Texts.{signed_text}
 use Rattle.cpp_press_laws.specs.Spellable.{AreSpellableDigits, IsSpellableNumber}
@@ -32,6 +33,23 @@ use Rattle.cpp_press_laws.proofs.ReadBack.Solids.{two-parts}
 abbrev pub items_value : Term → Value
 items_value nil = nothing_there
 items_value t = tree t true
+
+-- a type that is read is read as an argument
+pub item-as-argument : (around : Around) (allowed : Option ℕ) (Q : Value → Type 0) (place : ℕ) (cs : List Component) (w : Written)
+    → ReadsAt around allowed (OfKind ITEM) Q place cs w → ReadsAt around allowed (OfKind ARGUMENT) Q place cs w
+item-as-argument around allowed Q place cs w one s same packs =
+    let r = one s same packs in
+    let argument = abi_argument r.shape r.shaped in record {
+      shape = argument.tree;
+      spelled = argument.spells ∙ r.spelled;
+      shaped = argument.is;
+      value = r.value;
+      good = r.good;
+      state = r.state;
+      unfolds = argument.says around place s ∙ r.unfolds;
+      candidates = r.candidates;
+      packs = r.packs;
+    }
 
 -- one more item of a list whose production is a chain of its first item
 pub list-reads : (p : Production) (k inner : ℕ) (around : Around) (allowed : Option ℕ) (t items : Term) (last : Value) (place : ℕ)
@@ -68,9 +86,9 @@ pub type-argument : (around : Around) (allowed : Option ℕ) (t items : Term) (l
     → ReadsAt around allowed (OfKind ARGUMENT_LIST) (Is (tree (list t items) true)) place cs (written (first.bytes ++ rest.bytes) rest.components)
 unfolding choose alternatives pick is_in in_ranges among kinds is_chain parts_of number_of_kind between opening close unfolding_.behind meaning tree_of part
 type-argument around allowed t items last place cs first rest are one two =
-    list-reads Production.TypeArgument 44 30 around allowed t items last place cs first rest
-    (takes-none ARGUMENT_LIST Kind.ArgumentList Production.TypeArgument 80 refl refl (omega arith) refl) refl (λ known s. refl) (λ f s. refl)
-    (λ began s. ap (λ l. Ok (found (tree (list t l) true) s)) are) one two
+    list-reads Production.AnyArgument ARGUMENT_LIST ARGUMENT around allowed t items last place cs first rest
+    (takes-none ARGUMENT_LIST Kind.ArgumentList Production.AnyArgument 80 refl refl (omega arith) refl) refl (λ known s. refl) (λ f s. refl)
+    (λ began s. ap (λ l. Ok (found (tree (list t l) true) s)) are) (item-as-argument around allowed (Is (tree t true)) (place + 0) cs first one) two
 
 pub type-element : (around : Around) (allowed : Option ℕ) (t items : Term) (last : Value) (place : ℕ) (cs : List Component)
     (first rest : Written) → no_items last ≡ items
@@ -79,9 +97,9 @@ pub type-element : (around : Around) (allowed : Option ℕ) (t items : Term) (la
     → ReadsAt around allowed (OfKind PACK_LIST) (Is (tree (list t items) true)) place cs (written (first.bytes ++ rest.bytes) rest.components)
 unfolding choose alternatives pick is_in in_ranges among kinds is_chain parts_of number_of_kind between opening close unfolding_.behind meaning tree_of part
 type-element around allowed t items last place cs first rest are one two =
-    list-reads Production.TypeElement 45 30 around allowed t items last place cs first rest
-    (takes-none PACK_LIST Kind.PackList Production.TypeElement 80 refl refl (omega arith) refl) refl (λ known s. refl) (λ f s. refl)
-    (λ began s. ap (λ l. Ok (found (tree (list t l) true) s)) are) one two
+    list-reads Production.AnyElement PACK_LIST ARGUMENT around allowed t items last place cs first rest
+    (takes-none PACK_LIST Kind.PackList Production.AnyElement 80 refl refl (omega arith) refl) refl (λ known s. refl) (λ f s. refl)
+    (λ began s. ap (λ l. Ok (found (tree (list t l) true) s)) are) (item-as-argument around allowed (Is (tree t true)) (place + 0) cs first one) two
 
 -- ## Arguments in I and E
 

@@ -1,11 +1,11 @@
 -- Whole names, local names, encodings and symbols are read as what was pressed, from their parts.
-use Rattle.std.proofs.Common.{◌≡◌, ℕ, ◌+◌, length, List, [], ◌∷◌, ◌++◌, Option, Bool, true, false, Ok, refl, ap, arith, ◌∙◌}
+use Rattle.std.proofs.Common.{◌≡◌, ℕ, ◌+◌, length, List, [], ◌∷◌, ◌++◌, Option, Bool, true, false, Ok, refl, ap, arith, subst, append-nil, ◌∙◌}
 use Rattle.sym_shape.specs.declared.rule.Sym.TheVariants.{Kind as OfKind}
 use Rattle.sym_shape.specs.Tree.{TakesRule}
 use Rattle.sym_link.specs.Unfold.{found}
 use Rattle.cpp_grammar.specs.declared.kind.Kind.{Kind}
 use Rattle.cpp_grammar.specs.declared.production.Production.{Production}
-use Rattle.cpp_grammar.specs.KindNumbers.{COMPLETE_NAME, MAYBE_RESTRICT, MAYBE_VOLATILE, MAYBE_CONST, MAYBE_REF, NAME_AFTER_S, UNQUALIFIED, NEST, ABBREVIATION, TYPE_AFTER_S, SOURCE_OR_LOCAL, MAYBE_ARGUMENTS, ARGUMENTS_ALONE, ARGUMENTS, ARGUMENT_LIST}
+use Rattle.cpp_grammar.specs.KindNumbers.{COMPLETE_NAME, MAYBE_RESTRICT, MAYBE_VOLATILE, MAYBE_CONST, MAYBE_REF, NAME_AFTER_S, UNQUALIFIED, NEST, ABBREVIATION, TYPE_AFTER_S, TYPE_IN_STD, SOURCE_OR_LOCAL, MAYBE_TAGS, MAYBE_ARGUMENTS, ARGUMENTS_ALONE, ARGUMENTS, ARGUMENT_LIST}
 use Rattle.cpp_grammar.specs.Grammar.{in_ranges, among, is_in, pick, number_of_kind, alternatives, choose, kinds, parts_of, is_chain, may_be_empty}
 use Rattle.cpp_grammar.specs.Table.{abi, rule_of}
 use Rattle.cpp_grammar.specs.Term.{RefQualifier, any_value, lvalue_only, rvalue_only, Term, in_std, instance}
@@ -19,10 +19,10 @@ use Rattle.cpp_grammar.specs.Unfolding.{opening, close, byte_of}
 use Rattle.cpp_press_laws.specs.Components.{Component}
 use Rattle.cpp_press_laws.specs.Subtrees.{Written, written, ReadsAt, Is}
 use Rattle.cpp_press_laws.proofs.ReadBack.Reading.{passes-by, row-last, takes-byte, takes-none, empty-reads}
-use Rattle.cpp_press_laws.proofs.ReadBack.Types.{AreOnly, one-part, then-part, then-last, whole-same}
+use Rattle.cpp_press_laws.proofs.ReadBack.Types.{AreOnly, same-written, one-part, then-part, then-last, whole-same}
 use Rattle.cpp_press_laws.proofs.ReadBack.Functions.{mark_value, mark_bytes, mark-reads, maybe-mark-reads}
 use Rattle.cpp_press_laws.proofs.ReadBack.Arguments.{arguments-read}
-use Rattle.cpp_press_laws.proofs.ReadBack.Names.{alone-arguments, name-with}
+use Rattle.cpp_press_laws.proofs.ReadBack.Names.{alone-arguments, name-before, name-with}
 
 -- ## Whole names
 
@@ -162,10 +162,18 @@ nested-type k around allowed t listed place cs w takes one =
 pub std-type : (around : Around) (allowed : Option ℕ) (p : Term) (place : ℕ) (cs : List Component) (w : Written)
     → ReadsAt around allowed (OfKind SOURCE_OR_LOCAL) (Is (piece p)) (place + 1) cs w
     → ReadsAt around allowed (OfKind TYPE_AFTER_S) (Is (tree (in_std p) false)) place cs (written (116 ∷ w.bytes) w.components)
-unfolding choose alternatives pick is_in in_ranges among kinds is_chain parts_of number_of_kind between opening close unfolding_.behind meaning piece_of part
+unfolding choose alternatives pick is_in in_ranges among kinds is_chain parts_of number_of_kind may_be_empty between named_so_far applied is_there opening close unfolding_.behind meaning tree_of piece_of part
 std-type around allowed p place cs w one =
-    one-part Production.StdType 36 (116 ∷ []) around allowed place (OfKind SOURCE_OR_LOCAL) (piece p) (tree (in_std p) false) cs w
-    (takes-byte TYPE_AFTER_S Kind.TypeAfterS Production.StdType 116 refl refl (omega arith) refl) refl (λ s. refl) (λ f s. refl) (λ began s. refl) one
+    let t : Value = tree (in_std p) false in
+    one-part Production.TypeInStd TYPE_AFTER_S [] around allowed place (OfKind TYPE_IN_STD) t t cs (written (116 ∷ w.bytes) w.components)
+    (takes-none TYPE_AFTER_S Kind.TypeAfterS Production.TypeInStd 116 refl refl (omega arith) refl) refl (λ s. refl) (λ f s. refl) (λ began s. refl)
+    (same-written around allowed (OfKind TYPE_IN_STD) (Is t) (place + 0) cs w.components (116 ∷ (w.bytes ++ [])) (116 ∷ w.bytes)
+    (ap (λ l. 116 ∷ l) (append-nil w.bytes))
+    (name-before Production.TaggedStdType TYPE_IN_STD MAYBE_TAGS (116 ∷ []) around allowed (place + 0) (OfKind SOURCE_OR_LOCAL) (piece p) (in_std p) nothing_there cs w
+    (written [] w.components)
+    (takes-byte TYPE_IN_STD Kind.TypeInStd Production.TaggedStdType 116 refl refl (omega arith) refl) refl (λ s. refl) (λ s. refl) (λ f s. refl) (λ began s. refl)
+    (subst (λ q. ReadsAt around allowed (OfKind SOURCE_OR_LOCAL) (Is (piece p)) q cs w) (omega arith) one)
+    (empty-reads (after (in_std p) false around) allowed MAYBE_TAGS Kind.MaybeTags (place + 0 + 1 + length w.bytes) w.components refl refl)))
 
 -- what stands behind an S as a type, and its arguments
 pub type-with-arguments : (k : ℕ) (around : Around) (allowed : Option ℕ) (t items : Term) (listed : Bool) (place : ℕ) (cs : List Component)

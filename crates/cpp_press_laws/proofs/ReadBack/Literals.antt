@@ -5,7 +5,7 @@ use Rattle.sym_shape.specs.declared.rule.Sym.TheVariants.{Kind as OfKind, Byte}
 use Rattle.sym_link.specs.Unfold.{found}
 use Rattle.cpp_grammar.specs.declared.kind.Kind.{Kind}
 use Rattle.cpp_grammar.specs.declared.production.Production.{Production}
-use Rattle.cpp_grammar.specs.KindNumbers.{ENCODING, INTEGER, ARGUMENT_LIST, PACK_LIST, ADDRESS, LITERAL, BIT, LITERAL_AFTER_D, MAYBE_ZERO, LITERAL_TYPE}
+use Rattle.cpp_grammar.specs.KindNumbers.{ENCODING, INTEGER, ARGUMENT, EXPRESSION_REST, ARGUMENT_LIST, PACK_LIST, ADDRESS, LITERAL, BIT, LITERAL_AFTER_D, MAYBE_ZERO, LITERAL_TYPE}
 use Rattle.cpp_grammar.specs.Grammar.{in_ranges, among, is_in, pick, number_of_kind, alternatives, choose, kinds, parts_of, is_chain, may_be_empty}
 use Rattle.cpp_grammar.specs.Term.{Signed, Term, builtin, integer, boolean, null_pointer, encoding_literal, address_of, pack, list}
 use Rattle.cpp_grammar.specs.Values.{Around, Value, nothing_there, letter, signed, tree, tree_of, letter_of, signed_of, is_listed, part}
@@ -20,6 +20,7 @@ use Rattle.cpp_press_laws.specs.Subtrees.{Written, written, ReadsAt, Is}
 use Rattle.cpp_press_laws.proofs.ReadBack.Reading.{appended-same, RowAt, passes-by, row-part, row-last, takes-byte, takes-none, fixed-reads, empty-reads}
 use Rattle.cpp_press_laws.proofs.ReadBack.Types.{AreOnly, one-part, more, then-part, then-last, whole-same}
 use Rattle.cpp_press_laws.proofs.ReadBack.Solids.{two-parts}
+use Rattle.cpp_press_laws.proofs.ReadBack.Arguments.{list-reads}
 use Rattle.cpp_press_laws.proofs.ReadBack.Functions.{mark-reads}
 
 -- ## Literals
@@ -202,6 +203,20 @@ address-reads around allowed e place cs w one =
     nothing_there (end + 1) w.components (written (69 ∷ []) w.components) (λ s. refl)
     (fixed-reads around allowed 69 (end + 1) w.components))))))
 
+-- as an argument, behind an X
+address-expression : (around : Around) (allowed : Option ℕ) (t : Term) (place : ℕ) (cs : List Component) (first : Written)
+    → ReadsAt around allowed (OfKind ADDRESS) (Is (tree t true)) (place + 1 + 1 + 1) cs first
+    → ReadsAt around allowed (OfKind ARGUMENT) (Is (tree t true)) place cs (written (88 ∷ 97 ∷ 100 ∷ first.bytes) first.components)
+unfolding choose alternatives pick is_in in_ranges among kinds is_chain parts_of number_of_kind between opening close unfolding_.behind meaning part
+address-expression around allowed t place cs first one =
+    one-part Production.Expression ARGUMENT (88 ∷ []) around allowed place (OfKind EXPRESSION_REST) (tree t true) (tree t true) cs
+    (written (97 ∷ 100 ∷ first.bytes) first.components)
+    (takes-byte ARGUMENT Kind.Argument Production.Expression 88 refl refl (omega arith) refl) refl (λ s. refl) (λ f s. refl) (λ began s. refl)
+    (two-parts Production.AddressExpression EXPRESSION_REST (97 ∷ []) around allowed (place + 1) (Byte 100) (OfKind ADDRESS) nothing_there (tree t true)
+    (tree t true) cs (written (100 ∷ []) cs) first
+    (takes-byte EXPRESSION_REST Kind.ExpressionRest Production.AddressExpression 97 refl refl (omega arith) refl) refl (λ s. refl) (λ s. refl) (λ f s. refl)
+    (λ began s. refl) (fixed-reads around allowed 100 (place + 1 + 1) cs) one)
+
 pub address-argument : (around : Around) (allowed : Option ℕ) (t items : Term) (last : Value) (place : ℕ) (cs : List Component)
     (first rest : Written) → no_items last ≡ items
     → ReadsAt around allowed (OfKind ADDRESS) (Is (tree t true)) (place + 1 + 1 + 1) cs first
@@ -210,21 +225,11 @@ pub address-argument : (around : Around) (allowed : Option ℕ) (t items : Term)
     (written (88 ∷ 97 ∷ 100 ∷ (first.bytes ++ rest.bytes)) rest.components)
 unfolding choose alternatives pick is_in in_ranges among kinds is_chain parts_of number_of_kind between opening close unfolding_.behind meaning tree_of part
 address-argument around allowed t items last place cs first rest are one two =
-    let all : List Value = nothing_there ∷ nothing_there ∷ tree t true ∷ last ∷ [] in
-    whole-same Production.AddressArgument 44 (88 ∷ []) around allowed place all (tree (list t items) true) cs
-    (Byte 97 ∷ Byte 100 ∷ OfKind ADDRESS ∷ OfKind ARGUMENT_LIST ∷ []) (written (97 ∷ 100 ∷ (first.bytes ++ rest.bytes)) rest.components)
-    (takes-byte ARGUMENT_LIST Kind.ArgumentList Production.AddressArgument 88 refl refl (omega arith) refl) refl (λ f s. refl)
+    list-reads Production.AnyArgument ARGUMENT_LIST ARGUMENT around allowed t items last place cs (written (88 ∷ 97 ∷ 100 ∷ first.bytes) first.components) rest
+    (takes-none ARGUMENT_LIST Kind.ArgumentList Production.AnyArgument 80 refl refl (omega arith) refl) refl (λ known s. refl) (λ f s. refl)
     (λ began s. ap (λ l. Ok (found (tree (list t l) true) s)) are)
-    (then-part Production.AddressArgument (88 ∷ []) around allowed place (Byte 97) (Byte 100 ∷ OfKind ADDRESS ∷ OfKind ARGUMENT_LIST ∷ []) [] nothing_there
-    (AreOnly all) (place + 1) cs (written (97 ∷ []) cs) (written (100 ∷ (first.bytes ++ rest.bytes)) rest.components) (λ s. refl)
-    (fixed-reads around allowed 97 (place + 1) cs)
-    (then-part Production.AddressArgument (88 ∷ []) around allowed place (Byte 100) (OfKind ADDRESS ∷ OfKind ARGUMENT_LIST ∷ []) (nothing_there ∷ [])
-    nothing_there (AreOnly all) (place + 1 + 1) cs (written (100 ∷ []) cs) (written (first.bytes ++ rest.bytes) rest.components) (λ s. refl)
-    (fixed-reads around allowed 100 (place + 1 + 1) cs)
-    (then-part Production.AddressArgument (88 ∷ []) around allowed place (OfKind ADDRESS) (OfKind ARGUMENT_LIST ∷ []) (nothing_there ∷ nothing_there ∷ [])
-    (tree t true) (AreOnly all) (place + 1 + 1 + 1) cs first rest (λ s. refl) one
-    (then-last Production.AddressArgument (88 ∷ []) around allowed place (OfKind ARGUMENT_LIST) (nothing_there ∷ nothing_there ∷ tree t true ∷ []) last
-    (place + 1 + 1 + 1 + length first.bytes) first.components rest (λ s. refl) two))))
+    (address-expression around allowed t (place + 0) cs first (subst (λ q. ReadsAt around allowed (OfKind ADDRESS) (Is (tree t true)) q cs first) (omega arith) one))
+    (subst (λ q. ReadsAt around allowed (OfKind ARGUMENT_LIST) (Is last) q first.components rest) (omega arith) two)
 
 pub address-element : (around : Around) (allowed : Option ℕ) (t items : Term) (last : Value) (place : ℕ) (cs : List Component)
     (first rest : Written) → no_items last ≡ items
@@ -234,18 +239,8 @@ pub address-element : (around : Around) (allowed : Option ℕ) (t items : Term) 
     (written (88 ∷ 97 ∷ 100 ∷ (first.bytes ++ rest.bytes)) rest.components)
 unfolding choose alternatives pick is_in in_ranges among kinds is_chain parts_of number_of_kind between opening close unfolding_.behind meaning tree_of part
 address-element around allowed t items last place cs first rest are one two =
-    let all : List Value = nothing_there ∷ nothing_there ∷ tree t true ∷ last ∷ [] in
-    whole-same Production.AddressElement 45 (88 ∷ []) around allowed place all (tree (list t items) true) cs
-    (Byte 97 ∷ Byte 100 ∷ OfKind ADDRESS ∷ OfKind PACK_LIST ∷ []) (written (97 ∷ 100 ∷ (first.bytes ++ rest.bytes)) rest.components)
-    (takes-byte PACK_LIST Kind.PackList Production.AddressElement 88 refl refl (omega arith) refl) refl (λ f s. refl)
+    list-reads Production.AnyElement PACK_LIST ARGUMENT around allowed t items last place cs (written (88 ∷ 97 ∷ 100 ∷ first.bytes) first.components) rest
+    (takes-none PACK_LIST Kind.PackList Production.AnyElement 80 refl refl (omega arith) refl) refl (λ known s. refl) (λ f s. refl)
     (λ began s. ap (λ l. Ok (found (tree (list t l) true) s)) are)
-    (then-part Production.AddressElement (88 ∷ []) around allowed place (Byte 97) (Byte 100 ∷ OfKind ADDRESS ∷ OfKind PACK_LIST ∷ []) [] nothing_there
-    (AreOnly all) (place + 1) cs (written (97 ∷ []) cs) (written (100 ∷ (first.bytes ++ rest.bytes)) rest.components) (λ s. refl)
-    (fixed-reads around allowed 97 (place + 1) cs)
-    (then-part Production.AddressElement (88 ∷ []) around allowed place (Byte 100) (OfKind ADDRESS ∷ OfKind PACK_LIST ∷ []) (nothing_there ∷ [])
-    nothing_there (AreOnly all) (place + 1 + 1) cs (written (100 ∷ []) cs) (written (first.bytes ++ rest.bytes) rest.components) (λ s. refl)
-    (fixed-reads around allowed 100 (place + 1 + 1) cs)
-    (then-part Production.AddressElement (88 ∷ []) around allowed place (OfKind ADDRESS) (OfKind PACK_LIST ∷ []) (nothing_there ∷ nothing_there ∷ [])
-    (tree t true) (AreOnly all) (place + 1 + 1 + 1) cs first rest (λ s. refl) one
-    (then-last Production.AddressElement (88 ∷ []) around allowed place (OfKind PACK_LIST) (nothing_there ∷ nothing_there ∷ tree t true ∷ []) last
-    (place + 1 + 1 + 1 + length first.bytes) first.components rest (λ s. refl) two))))
+    (address-expression around allowed t (place + 0) cs first (subst (λ q. ReadsAt around allowed (OfKind ADDRESS) (Is (tree t true)) q cs first) (omega arith) one))
+    (subst (λ q. ReadsAt around allowed (OfKind PACK_LIST) (Is last) q first.components rest) (omega arith) two)

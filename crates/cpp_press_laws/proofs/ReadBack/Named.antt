@@ -1,12 +1,12 @@
 -- Pieces of names are read wherever names stand: as a name with arguments or without, behind St, and as the first of a name between N and E.
-use Rattle.std.proofs.Common.{◌≡◌, ℕ, ◌+◌, ◌-◌, ◌<◌, length, List, [], ◌∷◌, ◌++◌, Option, Some, Bool, true, false, refl, ap, arith, sym, subst, ◌∙◌, append_assoc}
+use Rattle.std.proofs.Common.{◌≡◌, ℕ, ◌+◌, ◌-◌, ◌<◌, length, List, [], ◌∷◌, ◌++◌, Option, Some, Bool, true, false, ◌⊎◌, inl, inr, refl, ap, arith, sym, subst, ◌∙◌, append_assoc}
 use Rattle.std.proofs.lemmas.Bool.{ltb-true}
 use Rattle.std.specs.Prelude.{cond, codes, nat_lt, ◌^◌}
 use Rattle.sym_shape.specs.declared.rule.Sym.TheVariants.{Kind as OfKind}
 use Rattle.sym_shape.specs.Tree.{TakesRule}
 use Rattle.cpp_grammar.specs.declared.kind.Kind.{Kind}
 use Rattle.cpp_grammar.specs.declared.production.Production.{Production}
-use Rattle.cpp_grammar.specs.KindNumbers.{COMPLETE_NAME, UNQUALIFIED, COMPONENT, CONSTRUCTOR_DIGIT, DESTRUCTOR_DIGIT, ENTITY, TYPE_ENTITY, ANONYMOUS, ITEM, SOLID, SOURCE_OR_LOCAL, ITEMS, MAYBE_ARGUMENTS, LITERAL_TYPE, OPERATOR}
+use Rattle.cpp_grammar.specs.KindNumbers.{COMPLETE_NAME, UNQUALIFIED, COMPONENT, CONSTRUCTOR_DIGIT, DESTRUCTOR_DIGIT, ENTITY, TYPE_ENTITY, ANONYMOUS, ITEM, SOLID, SOURCE_OR_LOCAL, ITEMS, MAYBE_ARGUMENTS, LITERAL_TYPE, OPERATOR, OPERATOR_AFTER_C}
 use Rattle.cpp_grammar.specs.Grammar.{in_ranges, among, is_in, pick, alternatives, choose, kinds, is_chain}
 use Rattle.cpp_grammar.specs.Table.{abi, rule_of}
 use Rattle.cpp_grammar.specs.Term.{Term, source, operator, literal_operator, constructor, destructor, lambda, unnamed, list}
@@ -20,20 +20,24 @@ use Rattle.cpp_press_laws.specs.Subtrees.{greatest, Written, written, ReadsAt, I
 use Rattle.cpp_press_laws.proofs.ReadBack.Reading.{takes-none, takes-byte}
 use Rattle.cpp_press_laws.proofs.ReadBack.Types.{same-written}
 use Rattle.cpp_press_laws.proofs.ReadBack.Functions.{mark-reads}
-use Rattle.cpp_press_laws.proofs.ReadBack.Names.{SoFar, source-name, internal-name, operator-name, local-type-name, constructor-name, destructor-name}
+use Rattle.cpp_press_laws.proofs.ReadBack.Names.{SoFar, source-name, internal-name, operator-name, other-operator-name, operator-name-with-c, local-type-name, constructor-name, destructor-name}
 use Rattle.cpp_press_laws.proofs.ReadBack.Nests.{nest-source, nest-internal, nest-local-type}
-use Rattle.cpp_press_laws.proofs.ReadBack.Pieces.{source-piece, internal-piece, local-type-piece, operator-piece, operator-reads, literal-operator-reads}
+use Rattle.cpp_press_laws.proofs.ReadBack.Pieces.{source-piece, internal-piece, local-type-piece, operator-piece, operator-reads, literal-operator-reads, operator-stands, other-operator-reads, other-literal-operator-reads}
 use Rattle.cpp_press_laws.proofs.ReadBack.Locals.{lambda-reads, unnamed-reads}
 use Rattle.cpp_press_laws.specs.Fits.{begins_name, names_type, names_function, names_member, IsLocalNumber}
 
 -- ## What a kind takes
 
+-- a kind of names of operators: components have other productions for them
+abbrev pub OperatorRule : ℕ → Type 0
+OperatorRule k = TakesRule abi k (rule_of Production.OperatorName) [] ⊎ (k ≡ 19)
+
 -- a kind whose productions name a piece, with arguments where there are some
 abbrev pub NameRule : ℕ → Term → Type 0
 NameRule k (source true name) = TakesRule abi k (rule_of Production.InternalName) (76 ∷ [])
 NameRule k (source false name) = TakesRule abi k (rule_of Production.SourceName) []
-NameRule k (operator a b) = TakesRule abi k (rule_of Production.OperatorName) []
-NameRule k (literal_operator name) = TakesRule abi k (rule_of Production.OperatorName) []
+NameRule k (operator a b) = OperatorRule k
+NameRule k (literal_operator name) = OperatorRule k
 NameRule k (constructor digit) = k ≡ 19
 NameRule k (destructor digit) = k ≡ 19
 NameRule k (lambda parameters j) = TakesRule abi k (rule_of Production.LocalTypeName) (85 ∷ [])
@@ -72,8 +76,8 @@ pub own-rule : (p : Term) → names_function p ≡ true → NameRule 8 p
 unfolding names_function begins_name choose alternatives pick is_in in_ranges among kinds is_chain
 own-rule (source true name) h = takes-byte COMPLETE_NAME Kind.CompleteName Production.InternalName 76 refl refl (omega arith) refl
 own-rule (source false name) h = takes-none COMPLETE_NAME Kind.CompleteName Production.SourceName 48 refl refl (omega arith) refl
-own-rule (operator a b) h = takes-none COMPLETE_NAME Kind.CompleteName Production.OperatorName 110 refl refl (omega arith) refl
-own-rule (literal_operator name) h = takes-none COMPLETE_NAME Kind.CompleteName Production.OperatorName 110 refl refl (omega arith) refl
+own-rule (operator a b) h = inl (takes-none COMPLETE_NAME Kind.CompleteName Production.OperatorName 110 refl refl (omega arith) refl)
+own-rule (literal_operator name) h = inl (takes-none COMPLETE_NAME Kind.CompleteName Production.OperatorName 110 refl refl (omega arith) refl)
 own-rule (lambda parameters j) h = takes-byte COMPLETE_NAME Kind.CompleteName Production.LocalTypeName 85 refl refl (omega arith) refl
 own-rule (unnamed j) h = takes-byte COMPLETE_NAME Kind.CompleteName Production.LocalTypeName 85 refl refl (omega arith) refl
 own-rule _ h = absurd (let e : false ≡ true = h in cc)
@@ -83,8 +87,8 @@ pub member-rule : (p : Term) → names_member p ≡ true → NameRule 19 p
 unfolding names_member names_function begins_name choose alternatives pick is_in in_ranges among kinds is_chain
 member-rule (source true name) h = takes-byte COMPONENT Kind.Component Production.InternalName 76 refl refl (omega arith) refl
 member-rule (source false name) h = takes-none COMPONENT Kind.Component Production.SourceName 48 refl refl (omega arith) refl
-member-rule (operator a b) h = takes-none COMPONENT Kind.Component Production.OperatorName 110 refl refl (omega arith) refl
-member-rule (literal_operator name) h = takes-none COMPONENT Kind.Component Production.OperatorName 110 refl refl (omega arith) refl
+member-rule (operator a b) h = inr refl
+member-rule (literal_operator name) h = inr refl
 member-rule (constructor digit) h = refl
 member-rule (destructor digit) h = refl
 member-rule (lambda parameters j) h = takes-byte COMPONENT Kind.Component Production.LocalTypeName 85 refl refl (omega arith) refl
@@ -162,23 +166,43 @@ source-reads around allowed false name place cs good = record {
 
 -- an operator, from its reading as one
 operators-read : (around : Around) (allowed : Option ℕ) (p : Term) (place : ℕ) (cs : List Component) (w : Written)
-    → ((k : ℕ) → NameRule k p → TakesRule abi k (rule_of Production.OperatorName) []) → ((k : ℕ) → PieceRule k p → k ≡ 14)
-    → begins_name p ≡ false
+    → ((k : ℕ) → NameRule k p → OperatorRule k) → ((k : ℕ) → PieceRule k p → k ≡ 14)
+    → begins_name p ≡ false → NamesAt around allowed 19 p place cs w
     → ReadsAt around allowed (OfKind OPERATOR) (Is (piece p)) (place + 0) cs w → PieceReads around allowed p place cs w
-operators-read around allowed p place cs w rule fourteen none one = record {
-  names = λ k takes last rest two. operator-name k around allowed p last place cs w rest (rule k takes) one
-      (subst (λ q. ReadsAt (after (extended around.prefix p) false around) allowed (OfKind MAYBE_ARGUMENTS) (Is last) q w.components rest)
-      (omega arith) two);
+operators-read around allowed p place cs w rule fourteen none component one = record {
+  names = λ k takes. elim (rule k takes) [
+    | inl own ↦ (λ last rest two. operator-name k around allowed p last place cs w rest own one
+        (subst (λ q. ReadsAt (after (extended around.prefix p) false around) allowed (OfKind MAYBE_ARGUMENTS) (Is last) q w.components rest)
+        (omega arith) two))
+    | inr is ↦ subst (λ j. NamesAt around allowed j p place cs w) (sym is) component
+  ];
   pieces = λ k is. subst (λ j. ReadsAt around allowed (OfKind j) (Is (piece p)) place cs w) (sym (fourteen k is))
       (operator-piece around allowed p place cs w one);
   begins = λ h. absurd (let e : false ≡ true = sym none ∙ h in cc);
 }
+
+-- one within a nested name
+operator-component : (around : Around) (allowed : Option ℕ) (a b place : ℕ) (cs : List Component) → a < 256 → b < 256 → IsOperator a b
+    → NamesAt around allowed 19 (operator a b) place cs (written (a ∷ b ∷ []) cs)
+unfolding kinds
+operator-component around allowed a b place cs small also is last rest two = elim (operator-stands a b small is) [
+  | inl c ↦ subst (λ f. ReadsAt around allowed (OfKind 19) (Is (tree (applied (extended around.prefix (operator f b)) last) false)) place cs
+      (written (f ∷ b ∷ rest.bytes) rest.components)) (sym c.0)
+      (operator-name-with-c around allowed b last place cs rest
+      (mark-reads around allowed OPERATOR_AFTER_C Kind.OperatorAfterC b (place + 1 + 0) cs refl c.1 also)
+      (subst (λ q. ReadsAt (after (extended around.prefix (operator 99 b)) false around) allowed (OfKind MAYBE_ARGUMENTS) (Is last) q cs rest) (omega arith)
+      (subst (λ f. ReadsAt (after (extended around.prefix (operator f b)) false around) allowed (OfKind MAYBE_ARGUMENTS) (Is last) (place + 2) cs rest) c.0 two)))
+  | inr chosen ↦ other-operator-name around allowed (operator a b) last place cs (written (a ∷ b ∷ []) cs) rest
+      (other-operator-reads around allowed a b (place + 0) cs small also is chosen)
+      (subst (λ q. ReadsAt (after (extended around.prefix (operator a b)) false around) allowed (OfKind MAYBE_ARGUMENTS) (Is last) q cs rest) (omega arith) two)
+]
 
 pub operator-piece-reads : (around : Around) (allowed : Option ℕ) (a b place : ℕ) (cs : List Component) → a < 256 → b < 256 → IsOperator a b
     → PieceReads around allowed (operator a b) place cs (written (a ∷ b ∷ []) cs)
 unfolding begins_name
 operator-piece-reads around allowed a b place cs small also is =
     operators-read around allowed (operator a b) place cs (written (a ∷ b ∷ []) cs) (λ k takes. takes) (λ k h. h) refl
+    (operator-component around allowed a b place cs small also is)
     (operator-reads around allowed a b (place + 0) cs small also is)
 
 pub literal-operator-piece-reads : (around : Around) (allowed : Option ℕ) (name : List ℕ) (place : ℕ) (cs : List Component)
@@ -186,6 +210,10 @@ pub literal-operator-piece-reads : (around : Around) (allowed : Option ℕ) (nam
 unfolding begins_name
 literal-operator-piece-reads around allowed name place cs good =
     operators-read around allowed (literal_operator name) place cs (written (108 ∷ 105 ∷ counted name) cs) (λ k takes. takes) (λ k h. h) refl
+    (λ last rest two. other-operator-name around allowed (literal_operator name) last place cs (written (108 ∷ 105 ∷ counted name) cs) rest
+    (other-literal-operator-reads around allowed name (place + 0) cs good)
+    (subst (λ q. ReadsAt (after (extended around.prefix (literal_operator name)) false around) allowed (OfKind MAYBE_ARGUMENTS) (Is last) q cs rest)
+    (omega arith) two))
     (literal-operator-reads around allowed name (place + 0) cs good)
 
 pub constructor-piece-reads : (around : Around) (allowed : Option ℕ) (digit place : ℕ) (cs : List Component) → digit < 256

@@ -1,15 +1,15 @@
 -- Names are read as what was pressed: a piece with its arguments, and names between N and E from piece to piece.
-use Rattle.std.proofs.Common.{◌≡◌, ℕ, ◌+◌, length, List, [], ◌∷◌, ◌++◌, Option, Bool, true, false, Ok, refl, ap, arith, sym, subst, append_assoc, length-append}
+use Rattle.std.proofs.Common.{◌≡◌, ℕ, ◌+◌, length, List, [], ◌∷◌, ◌++◌, Option, Bool, true, false, Ok, refl, ap, arith, sym, ◌∙◌, subst, append_assoc, length-append}
 use Rattle.sym_shape.specs.declared.rule.Sym.{Sym}
 use Rattle.sym_shape.specs.declared.rule.Sym.TheVariants.{Kind as OfKind, Name}
 use Rattle.sym_shape.specs.Tree.{Tree as Shape, Forest, TakesRule, IsTree}
 use Rattle.sym_link.specs.Unfold.{found}
 use Rattle.cpp_grammar.specs.declared.kind.Kind.{Kind}
 use Rattle.cpp_grammar.specs.declared.production.Production.{Production}
-use Rattle.cpp_grammar.specs.KindNumbers.{NEST, NEST_TAIL, COMPONENT, CONSTRUCTOR_DIGIT, DESTRUCTOR_DIGIT, ANONYMOUS, MAYBE_ARGUMENTS, ARGUMENTS_ALONE, NEST_REST, NEST_REST_ALONE, ARGUMENT_LIST, OPERATOR}
+use Rattle.cpp_grammar.specs.KindNumbers.{NEST, NEST_TAIL, COMPONENT, COMPONENT_AFTER_C, CONSTRUCTOR_DIGIT, DESTRUCTOR_DIGIT, ANONYMOUS, MAYBE_ARGUMENTS, ARGUMENTS_ALONE, NEST_REST, NEST_REST_ALONE, NEST_REST_OR_END, ARGUMENT_LIST, OPERATOR, OPERATOR_AFTER_C, OTHER_OPERATOR}
 use Rattle.cpp_grammar.specs.Grammar.{in_ranges, among, is_in, pick, number_of_kind, alternatives, choose, kinds, parts_of, is_chain, may_be_empty}
 use Rattle.cpp_grammar.specs.Table.{abi, rule_of}
-use Rattle.cpp_grammar.specs.Term.{Term, source, constructor, destructor}
+use Rattle.cpp_grammar.specs.Term.{Term, source, operator, constructor, destructor}
 use Rattle.cpp_grammar.specs.Values as value
 use Rattle.cpp_grammar.specs.Values.{State, Prefix, behind, prefix_tree, prefix_listed, Around, Value, nothing_there, letter, tree, piece, tree_of, piece_of, letter_of, text_of, is_there, part}
 use Rattle.cpp_grammar.specs.References.{appended, with_prefix}
@@ -18,18 +18,43 @@ use Rattle.cpp_grammar.specs.Meaning.{meaning}
 use Rattle.cpp_grammar.specs.Unfolding as unfolding_
 use Rattle.cpp_grammar.specs.Unfolding.{opening, close, byte_of}
 use Rattle.cpp_grammar.proofs.Alone.{arguments_alone, rest_alone}
+use Rattle.cpp_grammar.proofs.Rests.{abi_rest}
 use Rattle.cpp_press_laws.specs.Components.{Component}
 use Rattle.cpp_press_laws.specs.Texts.{counted}
 use Rattle.cpp_press_laws.specs.Spellable.{IsSpellableName}
 use Rattle.cpp_press_laws.specs.Subtrees.{Written, written, ReadsAt, Is}
 use Rattle.cpp_press_laws.proofs.ReadBack.Tokens.{name_token, name-spelled, name-is-token}
-use Rattle.cpp_press_laws.proofs.ReadBack.Reading.{appended-same, RowAt, passes-by, row-part, row-last, takes-byte, empty-reads, name-reads}
-use Rattle.cpp_press_laws.proofs.ReadBack.Types.{AreOnly, same-written, no-part, more, then-part, whole-same}
+use Rattle.cpp_press_laws.proofs.ReadBack.Reading.{appended-same, RowAt, passes-by, row-part, row-last, takes-byte, takes-none, empty-reads, name-reads}
+use Rattle.cpp_press_laws.proofs.ReadBack.Types.{AreOnly, same-written, one-part, no-part, more, then-part, whole-same}
 use Rattle.cpp_press_laws.proofs.ReadBack.Arguments.{arguments-read}
 
 -- ## A piece and its arguments
 
 -- a name that has been made from a piece, and the arguments behind it
+pub name-before : (p : Production) (k j : ℕ) (taken : List ℕ) (around : Around) (allowed : Option ℕ) (place : ℕ) (x : Sym) (u : Value) (t : Term)
+    (last : Value) (cs : List Component) (first rest : Written)
+    → TakesRule abi k (rule_of p) taken → parts_of p ≡ x ∷ OfKind j ∷ []
+    → ((s : State) → ◌≡◌ {A = Going} (between p around place [] s) (Ok (record { context = around; values = []; state = s })))
+    → ((s : State) → ◌≡◌ {A = Going} (between p around place (u ∷ []) s) (Ok (record {
+      context = after t false around;
+      values = tree t false ∷
+          [];
+      state = s;
+    })))
+    → ((f : Forest) (s : State) → opening p f place s ≡ Ok s)
+    → ((began s : State) → close p (byte_of taken) around place began (tree t false ∷ last ∷ []) s ≡ Ok (found (tree (applied t last) false) s))
+    → ReadsAt around allowed x (Is u) (place + length taken) cs first
+    → ReadsAt (after t false around) allowed (OfKind j) (Is last) (place + length taken + length first.bytes) first.components rest
+    → ReadsAt around allowed (OfKind k) (Is (tree (applied t last) false)) place cs (written (taken ++ (first.bytes ++ rest.bytes)) rest.components)
+name-before p k j taken around allowed place x u t last cs first rest takes parts goes makes opens means one two =
+    whole-same p k taken around allowed place (tree t false ∷ last ∷ []) (tree (applied t last) false) cs (x ∷ OfKind j ∷ [])
+    (written (first.bytes ++ rest.bytes) rest.components) takes parts opens means
+    (then-part p taken around allowed place x (OfKind j ∷ []) [] u (AreOnly (tree t false ∷ last ∷ [])) (place + length taken) cs first rest goes one
+    (row-last p taken around (after t false around) allowed allowed place (OfKind j) (u ∷ []) (tree t false ∷ []) (Is last)
+    (AreOnly (tree t false ∷ last ∷ [])) (place + length taken + length first.bytes) first.components first.components rest
+    (passes-by p around allowed place (u ∷ []) first.components (after t false around) (tree t false ∷ []) makes) two
+    (λ v h. ap (λ y. tree t false ∷ y ∷ []) h)))
+
 pub name-with : (p : Production) (k : ℕ) (taken : List ℕ) (around : Around) (allowed : Option ℕ) (place : ℕ) (x : Sym) (u : Value) (t : Term)
     (last : Value) (cs : List Component) (first rest : Written)
     → TakesRule abi k (rule_of p) taken → parts_of p ≡ x ∷ OfKind MAYBE_ARGUMENTS ∷ []
@@ -46,13 +71,7 @@ pub name-with : (p : Production) (k : ℕ) (taken : List ℕ) (around : Around) 
     → ReadsAt (after t false around) allowed (OfKind MAYBE_ARGUMENTS) (Is last) (place + length taken + length first.bytes) first.components rest
     → ReadsAt around allowed (OfKind k) (Is (tree (applied t last) false)) place cs (written (taken ++ (first.bytes ++ rest.bytes)) rest.components)
 name-with p k taken around allowed place x u t last cs first rest takes parts goes makes opens means one two =
-    whole-same p k taken around allowed place (tree t false ∷ last ∷ []) (tree (applied t last) false) cs (x ∷ OfKind MAYBE_ARGUMENTS ∷ [])
-    (written (first.bytes ++ rest.bytes) rest.components) takes parts opens means
-    (then-part p taken around allowed place x (OfKind MAYBE_ARGUMENTS ∷ []) [] u (AreOnly (tree t false ∷ last ∷ [])) (place + length taken) cs first rest goes one
-    (row-last p taken around (after t false around) allowed allowed place (OfKind MAYBE_ARGUMENTS) (u ∷ []) (tree t false ∷ []) (Is last)
-    (AreOnly (tree t false ∷ last ∷ [])) (place + length taken + length first.bytes) first.components first.components rest
-    (passes-by p around allowed place (u ∷ []) first.components (after t false around) (tree t false ∷ []) makes) two
-    (λ v h. ap (λ y. tree t false ∷ y ∷ []) h)))
+    name-before p k MAYBE_ARGUMENTS taken around allowed place x u t last cs first rest takes parts goes makes opens means one two
 
 -- no arguments
 pub no-arguments : (around : Around) (allowed : Option ℕ) (place : ℕ) (cs : List Component)
@@ -83,6 +102,23 @@ alone-arguments around allowed Q place cs w one = kind-reads around allowed (OfK
 pub alone-rest : (around : Around) (allowed : Option ℕ) (Q : Value → Type 0) (place : ℕ) (cs : List Component) (w : Written)
     → ReadsAt around allowed (OfKind NEST_REST) Q place cs w → ReadsAt around allowed (OfKind NEST_REST_ALONE) Q place cs w
 alone-rest around allowed Q place cs w one = kind-reads around allowed (OfKind NEST_REST) (OfKind NEST_REST_ALONE) Q place cs w rest_alone one
+
+-- what is read behind a name is read behind one that an S stands for, too
+pub rest-or-end : (around : Around) (allowed : Option ℕ) (Q : Value → Type 0) (place : ℕ) (cs : List Component) (w : Written)
+    → ReadsAt around allowed (OfKind NEST_REST) Q place cs w → ReadsAt around allowed (OfKind NEST_REST_OR_END) Q place cs w
+rest-or-end around allowed Q place cs w one s same packs =
+    let r = one s same packs in
+    let rest = abi_rest r.shape r.shaped in record {
+      shape = rest.tree;
+      spelled = rest.spells ∙ r.spelled;
+      shaped = rest.is;
+      value = r.value;
+      good = r.good;
+      state = r.state;
+      unfolds = rest.says around place s ∙ r.unfolds;
+      candidates = r.candidates;
+      packs = r.packs;
+    }
 
 -- the name so far becomes a component in front of its arguments
 pub some-arguments : (around : Around) (allowed : Option ℕ) (t items : Term) (last : Value) (place : ℕ) (cs : List Component) (w : Written)
@@ -135,6 +171,34 @@ unfolding parts_of number_of_kind between opening close unfolding_.behind meanin
 operator-name k around allowed p last place cs first rest takes one two =
     name-with Production.OperatorName k [] around allowed place (OfKind OPERATOR) (piece p) (extended around.prefix p) last cs first rest takes refl
     (λ s. refl) (λ s. refl) (λ f s. refl) (λ began s. refl) one two
+
+-- the same within a nested name, where the operator begins with no c
+pub other-operator-name : (around : Around) (allowed : Option ℕ) (p : Term) (last : Value) (place : ℕ) (cs : List Component) (first rest : Written)
+    → ReadsAt around allowed (OfKind OTHER_OPERATOR) (Is (piece p)) (place + 0) cs first
+    → ReadsAt (after (extended around.prefix p) false around) allowed (OfKind MAYBE_ARGUMENTS) (Is last) (place + 0 + length first.bytes) first.components rest
+    → ReadsAt around allowed (OfKind COMPONENT) (Is (tree (applied (extended around.prefix p) last) false)) place cs
+    (written (first.bytes ++ rest.bytes) rest.components)
+unfolding choose alternatives pick is_in in_ranges among kinds is_chain parts_of number_of_kind between opening close unfolding_.behind meaning piece_so_far named_so_far tree_of piece_of part
+other-operator-name around allowed p last place cs first rest one two =
+    name-with Production.OtherOperatorName COMPONENT [] around allowed place (OfKind OTHER_OPERATOR) (piece p) (extended around.prefix p) last cs first rest
+    (takes-none COMPONENT Kind.Component Production.OtherOperatorName 110 refl refl (omega arith) refl) refl
+    (λ s. refl) (λ s. refl) (λ f s. refl) (λ began s. refl) one two
+
+-- and where it begins with one
+pub operator-name-with-c : (around : Around) (allowed : Option ℕ) (second : ℕ) (last : Value) (place : ℕ) (cs : List Component) (rest : Written)
+    → ReadsAt around allowed (OfKind OPERATOR_AFTER_C) (Is (letter second)) (place + 1 + 0) cs (written (second ∷ []) cs)
+    → ReadsAt (after (extended around.prefix (operator 99 second)) false around) allowed (OfKind MAYBE_ARGUMENTS) (Is last) (place + 1 + 0 + 1) cs rest
+    → ReadsAt around allowed (OfKind COMPONENT) (Is (tree (applied (extended around.prefix (operator 99 second)) last) false)) place cs
+    (written (99 ∷ second ∷ rest.bytes) rest.components)
+unfolding choose alternatives pick is_in in_ranges among kinds is_chain parts_of number_of_kind between opening close unfolding_.behind meaning piece_so_far named_so_far tree_of letter_of part
+operator-name-with-c around allowed second last place cs rest one two =
+    let v : Value = tree (applied (extended around.prefix (operator 99 second)) last) false in
+    one-part Production.ComponentWithC COMPONENT (99 ∷ []) around allowed place (OfKind COMPONENT_AFTER_C) v v cs (written (second ∷ rest.bytes) rest.components)
+    (takes-byte COMPONENT Kind.Component Production.ComponentWithC 99 refl refl (omega arith) refl) refl (λ s. refl) (λ f s. refl) (λ began s. refl)
+    (name-with Production.OperatorNameWithC COMPONENT_AFTER_C [] around allowed (place + 1) (OfKind OPERATOR_AFTER_C) (letter second)
+    (extended around.prefix (operator 99 second)) last cs (written (second ∷ []) cs) rest
+    (takes-none COMPONENT_AFTER_C Kind.ComponentAfterC Production.OperatorNameWithC 109 refl refl (omega arith) refl) refl
+    (λ s. refl) (λ s. refl) (λ f s. refl) (λ began s. refl) one two)
 
 -- a lambda's or an unnamed type's name
 pub local-type-name : (k : ℕ) (around : Around) (allowed : Option ℕ) (p : Term) (last : Value) (place : ℕ) (cs : List Component)

@@ -26,7 +26,7 @@ use Rattle.cpp_press_laws.proofs.ReadBack.Tokens.{name_token, name-spelled, name
 use Rattle.cpp_press_laws.proofs.ReadBack.Reading.{appended-same, RowAt, PassesAt, passes-by, row-part, row-last, takes-byte, takes-none, fixed-reads, name-reads, number-reads, first-reads}
 use Rattle.cpp_press_laws.proofs.ReadBack.Types.{AreOnly, same-written, one-part, more, then-part, whole-same}
 use Rattle.cpp_press_laws.proofs.ReadBack.Functions.{IsInScope, parameter-passes}
-use Rattle.cpp_press_laws.proofs.ReadBack.Names.{alone-rest, SoFar, Extends}
+use Rattle.cpp_press_laws.proofs.ReadBack.Names.{alone-rest, rest-or-end, SoFar, Extends}
 
 -- ## The first part of a name
 
@@ -115,12 +115,12 @@ unfolding choose alternatives pick is_in in_ranges among kinds is_chain parts_of
 nest-behind-s around allowed t place cs first one v rest second =
     one-part Production.NestWithS 15 (83 ∷ []) around allowed place (OfKind NEST_AFTER_S) v v cs (written (first.bytes ++ rest.bytes) rest.components)
     (takes-byte NEST Kind.Nest Production.NestWithS 83 refl refl (omega arith) refl) refl (λ s. refl) (λ f s. refl) (λ began s. refl)
-    (first-with Production.NestAbbreviated 16 68 [] around allowed (place + 1) (OfKind ABBREVIATION) (tree t true) t true v cs first.components first rest
-    (takes-none NEST_AFTER_S Kind.NestAfterS Production.NestAbbreviated 95 refl refl (omega arith) refl) refl (λ s. refl)
-    (passes-by Production.NestAbbreviated around allowed (place + 1) (tree t true ∷ []) first.components (after t true around) (tree t true ∷ [])
+    (first-with Production.NestTemplate 16 66 [] around allowed (place + 1) (OfKind ABBREVIATION) (tree t true) t true v cs first.components first rest
+    (takes-none NEST_AFTER_S Kind.NestAfterS Production.NestTemplate 95 refl refl (omega arith) refl) refl (λ s. refl)
+    (passes-by Production.NestTemplate around allowed (place + 1) (tree t true ∷ []) first.components (after t true around) (tree t true ∷ [])
     (λ s. refl))
     (λ f s. refl) (λ began s. refl) one
-    (alone-rest (after t true around) allowed (Is v) _ first.components rest
+    (rest-or-end (after t true around) allowed (Is v) _ first.components rest
     (subst (λ q. ReadsAt (after t true around) allowed (OfKind NEST_REST) (Is v) q first.components rest) (omega arith) second)))
 
 -- a piece in std, with or without arguments

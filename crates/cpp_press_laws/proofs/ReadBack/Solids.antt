@@ -9,7 +9,7 @@ use Rattle.sym_shape.specs.Tree.{Forest, TakesRule}
 use Rattle.sym_link.specs.Unfold.{found}
 use Rattle.cpp_grammar.specs.declared.kind.Kind.{Kind}
 use Rattle.cpp_grammar.specs.declared.production.Production.{Production}
-use Rattle.cpp_grammar.specs.KindNumbers.{ABBREVIATION, TYPE, AFTER_D, SOLID}
+use Rattle.cpp_grammar.specs.KindNumbers.{ABBREVIATION, TYPE, AFTER_D, SOLID, ANY_ARRAY, ARRAY_REST}
 use Rattle.cpp_grammar.specs.Grammar.{in_ranges, among, is_in, pick, number_of_kind, alternatives, choose, kinds, parts_of, is_chain}
 use Rattle.cpp_grammar.specs.Table.{abi, rule_of}
 use Rattle.cpp_grammar.specs.Term.{Term, abbreviation, builtin, vendor, pointer, lvalue, rvalue, array, member_pointer, complex}
@@ -24,7 +24,7 @@ use Rattle.cpp_press_laws.specs.Texts.{counted}
 use Rattle.cpp_press_laws.specs.Spellable.{IsSpellableName, AreSpellableDigits}
 use Rattle.cpp_press_laws.specs.Subtrees.{Written, written, ReadsAt, Is}
 use Rattle.cpp_press_laws.proofs.ReadBack.Tokens.{name_token, name-spelled, name-is-token}
-use Rattle.cpp_press_laws.proofs.ReadBack.Reading.{RowAt, passes-by, row-part, row-last, takes-byte, closes-same, closes-more, production-reads, name-reads, number-reads}
+use Rattle.cpp_press_laws.proofs.ReadBack.Reading.{RowAt, passes-by, row-part, row-last, takes-byte, takes-none, closes-same, closes-more, production-reads, name-reads, number-reads}
 use Rattle.cpp_press_laws.proofs.ReadBack.Types.{AreOnly, same-written, one-part, no-part, more}
 
 -- ## Letters
@@ -134,11 +134,19 @@ pub array-solid : (around : Around) (allowed : Option ℕ) (digits : List ℕ) (
     → ReadsAt around allowed (OfKind SOLID) (Is (tree (array digits t) false)) place cs (written (65 ∷ ((digits ++ 95 ∷ []) ++ w.bytes)) w.components)
 unfolding choose alternatives pick is_in in_ranges among kinds is_chain parts_of number_of_kind between opening close unfolding_.behind meaning tree_of text_of part
 array-solid around allowed digits t place cs w good one =
-    two-parts Production.Array 34 (65 ∷ []) around allowed place (Number Decimal) (OfKind TYPE) (value.text digits) (tree t true)
+    let spelled : Written = written ((digits ++ 95 ∷ []) ++ w.bytes) w.components in
+    one-part Production.ArrayType SOLID [] around allowed place (OfKind ANY_ARRAY) (tree (array digits t) false) (tree (array digits t) false) cs
+    (written (65 ∷ spelled.bytes) w.components)
+    (takes-none SOLID Kind.Solid Production.ArrayType 65 refl refl (omega arith) refl) refl (λ s. refl) (λ f s. refl) (λ began s. refl)
+    (one-part Production.AnyArray ANY_ARRAY (65 ∷ []) around allowed (place + 0) (OfKind ARRAY_REST) (tree (array digits t) false) (tree (array digits t) false) cs
+    spelled
+    (takes-byte ANY_ARRAY Kind.AnyArray Production.AnyArray 65 refl refl (omega arith) refl) refl (λ s. refl) (λ f s. refl) (λ began s. refl)
+    (two-parts Production.LengthArray ARRAY_REST [] around allowed (place + 0 + 1) (Number Decimal) (OfKind TYPE) (value.text digits) (tree t true)
     (tree (array digits t) false) cs (written (digits ++ 95 ∷ []) cs) w
-    (takes-byte SOLID Kind.Solid Production.Array 65 refl refl (omega arith) refl) refl (λ s. refl) (λ s. refl) (λ f s. refl)
+    (takes-none ARRAY_REST Kind.ArrayRest Production.LengthArray 48 refl refl (omega arith) refl) refl (λ s. refl) (λ s. refl) (λ f s. refl)
     (λ began s. rw good.normal_are refl)
-    (number-reads around allowed Decimal (array_token digits) (place + 1) cs (record { bare = refl; digits = good.are; ends = refl })) one
+    (number-reads around allowed Decimal (array_token digits) (place + 0 + 1 + 0) cs (record { bare = refl; digits = good.are; ends = refl }))
+    (subst (λ q. ReadsAt around allowed (OfKind TYPE) (Is (tree t true)) q cs w) (omega arith) one)))
 
 -- ## References
 

@@ -1,17 +1,17 @@
 -- Local names, encodings and symbols are read as what was pressed, from their parts.
-use Rattle.std.proofs.Common.{◌≡◌, ℕ, ◌+◌, ◌<◌, length, List, [], ◌∷◌, ◌++◌, Option, Some, None, Bool, true, false, Ok, refl, ap, arith}
+use Rattle.std.proofs.Common.{◌≡◌, ℕ, ◌+◌, ◌<◌, length, List, [], ◌∷◌, ◌++◌, Option, Some, None, Bool, true, false, Ok, refl, ap, arith, subst}
 use Rattle.sym_core.specs.declared.NumberKind.TheVariants.{Digits}
 use Rattle.sym_shape.specs.declared.rule.Sym.TheVariants.{Kind as OfKind, Number, Byte}
 use Rattle.sym_shape.specs.Tree.{TakesRule}
 use Rattle.sym_link.specs.Unfold.{found}
 use Rattle.cpp_grammar.specs.declared.kind.Kind.{Kind}
 use Rattle.cpp_grammar.specs.declared.production.Production.{Production}
-use Rattle.cpp_grammar.specs.KindNumbers.{SYMBOL, MAYBE_SUFFIX, SUFFIX_FIRST, SUFFIX_MORE, ENCODING, SPECIAL, CALL_OFFSET, INTEGER, COMPLETE_NAME, ENTITY, TYPE_ENTITY, MAYBE_DISCRIMINATOR, DISCRIMINATOR_REST, TYPE, ITEMS}
+use Rattle.cpp_grammar.specs.KindNumbers.{SYMBOL, MAYBE_SUFFIX, SUFFIX_FIRST, SUFFIX_MORE, ENCODING, SPECIAL, SPECIAL_MARK, SPECIAL_AFTER_G, CALL_OFFSET, INTEGER, COMPLETE_NAME, ENTITY, TYPE_ENTITY, MAYBE_DISCRIMINATOR, DISCRIMINATOR_REST, TYPE, ITEMS}
 use Rattle.cpp_grammar.specs.Grammar.{in_ranges, among, is_in, pick, number_of_kind, alternatives, choose, kinds, parts_of, is_chain, may_be_empty}
 use Rattle.cpp_grammar.specs.Table.{abi, rule_of}
 use Rattle.cpp_grammar.specs.Term.{Signed, Adjustment, non_virtual, by_table, adjusting, covariant, Term, symbol, special, thunk, of_name, local, string_literal}
 use Rattle.cpp_grammar.specs.Values as value
-use Rattle.cpp_grammar.specs.Values.{State, Around, Value, nothing_there, signed, adjusted, tree, named, tree_of, text_of, signed_of, adjustment_of, qualifiers_of, ref_of, normal, part}
+use Rattle.cpp_grammar.specs.Values.{State, Around, Value, nothing_there, letter, signed, adjusted, tree, named, tree_of, text_of, signed_of, adjustment_of, qualifiers_of, ref_of, normal, part}
 use Rattle.cpp_grammar.specs.Between.{between, in_name, in_types, after, extended, no_items}
 use Rattle.cpp_grammar.specs.Meaning.{meaning, encoding_of, discriminator_of}
 use Rattle.cpp_grammar.specs.Unfolding as unfolding_
@@ -21,6 +21,7 @@ use Rattle.cpp_press_laws.specs.Spellable.{AreSpellableDigits, AreSuffixBytes}
 use Rattle.cpp_press_laws.specs.Subtrees.{Written, written, ReadsAt, Is}
 use Rattle.cpp_press_laws.proofs.ReadBack.Tokens.{digits_token}
 use Rattle.cpp_press_laws.proofs.ReadBack.Reading.{takes-byte, takes-none, fixed-reads, empty-reads, number-reads}
+use Rattle.cpp_press_laws.proofs.ReadBack.Functions.{mark-reads}
 use Rattle.cpp_press_laws.proofs.ReadBack.Types.{AreOnly, one-part, no-part, then-in, last-in, then-part, then-last, whole-same}
 
 -- ## Local names
@@ -158,16 +159,21 @@ pub guard-reads : (around : Around) (allowed : Option ℕ) (name : Value) (place
     → ReadsAt (in_name place) allowed (OfKind COMPLETE_NAME) (Is name) (place + 1 + 1) cs w
     → ReadsAt around allowed (OfKind ENCODING) (Is (tree (of_name 86 (tree_of name) (qualifiers_of name) (ref_of name)) true)) place cs
     (written (71 ∷ 86 ∷ w.bytes) w.components)
-unfolding choose alternatives pick is_in in_ranges among kinds is_chain parts_of number_of_kind between opening close unfolding_.behind meaning part
+unfolding choose alternatives pick is_in in_ranges among kinds is_chain parts_of number_of_kind between opening close unfolding_.behind meaning byte_of part
 guard-reads around allowed name place cs w one =
-    whole-same Production.Guard 4 (71 ∷ []) around allowed place (nothing_there ∷ name ∷ [])
-    (tree (of_name 86 (tree_of name) (qualifiers_of name) (ref_of name)) true) cs (Byte 86 ∷ OfKind COMPLETE_NAME ∷ []) (written (86 ∷ w.bytes) w.components)
-    (takes-byte ENCODING Kind.Encoding Production.Guard 71 refl refl (omega arith) refl) refl (λ f s. refl) (λ began s. refl)
-    (then-in Production.Guard (71 ∷ []) around (in_name place) allowed place (Byte 86) (OfKind COMPLETE_NAME ∷ []) [] nothing_there
-    (AreOnly (nothing_there ∷ name ∷ [])) (place + 1) cs (written (86 ∷ []) cs) w (λ s. refl)
-    (fixed-reads (in_name place) allowed 86 (place + 1) cs)
-    (last-in Production.Guard (71 ∷ []) around (in_name place) allowed place (OfKind COMPLETE_NAME) (nothing_there ∷ []) name (place + 1 + 1) cs w
-    (λ s. refl) one))
+    let here : Around = in_name place in
+    let guard : Value = tree (of_name 86 (tree_of name) (qualifiers_of name) (ref_of name)) true in
+    whole-same Production.OtherSpecial ENCODING [] around allowed place (letter 71 ∷ guard ∷ []) guard cs (OfKind SPECIAL_MARK ∷ OfKind SPECIAL_AFTER_G ∷ [])
+    (written (71 ∷ 86 ∷ w.bytes) w.components)
+    (takes-none ENCODING Kind.Encoding Production.OtherSpecial 71 refl refl (omega arith) refl) refl (λ f s. refl) (λ began s. refl)
+    (then-in Production.OtherSpecial [] around here allowed place (OfKind SPECIAL_MARK) (OfKind SPECIAL_AFTER_G ∷ []) [] (letter 71)
+    (AreOnly (letter 71 ∷ guard ∷ [])) (place + 0) cs (written (71 ∷ []) cs) (written (86 ∷ w.bytes) w.components) (λ s. refl)
+    (mark-reads here allowed SPECIAL_MARK Kind.SpecialMark 71 (place + 0) cs refl refl (omega arith))
+    (last-in Production.OtherSpecial [] around here allowed place (OfKind SPECIAL_AFTER_G) (letter 71 ∷ []) guard (place + 0 + 1) cs
+    (written (86 ∷ w.bytes) w.components) (λ s. refl)
+    (one-part Production.SpecialName SPECIAL_AFTER_G (86 ∷ []) here allowed (place + 0 + 1) (OfKind COMPLETE_NAME) name guard cs w
+    (takes-byte SPECIAL_AFTER_G Kind.SpecialAfterG Production.SpecialName 86 refl refl (omega arith) refl) refl (λ s. refl) (λ f s. refl) (λ began s. refl)
+    (subst (λ q. ReadsAt here allowed (OfKind COMPLETE_NAME) (Is name) q cs w) (omega arith) one))))
 
 -- what begins with a T
 pub special-reads : (around : Around) (allowed : Option ℕ) (v : Value) (place : ℕ) (cs : List Component) (w : Written)

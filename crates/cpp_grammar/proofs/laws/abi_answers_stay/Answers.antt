@@ -11,30 +11,26 @@ use Rattle.cpp_grammar.specs.Rescoping.{unfold_wide}
 use Rattle.cpp_grammar.specs.Table.{abi}
 use Rattle.cpp_grammar.specs.Term.{Term}
 use Rattle.cpp_grammar.specs.Unfolding.{unfold_cpp}
-use Rattle.cpp_grammar.specs.Widened.{widened}
-use Rattle.cpp_grammar.proofs.Growing.{abi_either, wide_either}
+use Rattle.cpp_grammar.proofs.Growing.{abi_wide}
 use Rattle.cpp_grammar.proofs.Staying.{meaning_stays}
-use Rattle.cpp_grammar.proofs.Widening.{spell_widened}
-use Rattle.cpp_grammar.proofs.WidenedMeaning.{meaning_widened}
-use Rattle.cpp_grammar.proofs.WidenedPlaces.{wide_tree}
 use Rattle.cpp_grammar.proofs.laws.abi_answers_stay.Goals as goal
 
--- the widened shape stands for what the shape does
-widened_stays : (shape : Tree) (t : Term) → IsTree abi (Kind 0) shape → unfold_cpp shape ≡ Ok t → unfold_wide (widened shape) ≡ Ok t
-widened_stays shape t is e = meaning_stays (widened shape) t (wide_either (Kind 0) (widened shape) (wide_tree shape is)) (meaning_widened shape (abi_either (Kind 0) shape is) ∙ e)
+-- the shape stands for the same by the wide reading
+stays : (shape : Tree) (t : Term) → IsTree abi (Kind 0) shape → unfold_cpp shape ≡ Ok t → unfold_wide shape ≡ Ok t
+stays shape t is e = meaning_stays shape t (abi_wide (Kind 0) shape is) e
 
 pub returns-clause-reads : goal.returns-clause-reads
-returns-clause-reads c = λ s t h. (widened h.0, wide_tree h.0 h.1, spell_widened h.0 ∙ h.2, sym (widened_stays h.0 t h.1 (sym h.3)))
+returns-clause-reads c = λ s t h. (h.0, abi_wide (Kind 0) h.0 h.1, h.2, sym (stays h.0 t h.1 (sym h.3)))
 
 -- so it has the same answer
-same_answer : (detail : Detail) (limit : ℕ) (shape : Tree) (t : Term) → IsTree abi (Kind 0) shape → unfold_cpp shape ≡ Ok t → answer_of_shape cpp_mangled detail limit shape ≡ answer_of_shape wide_mangled detail limit (widened shape)
+same_answer : (detail : Detail) (limit : ℕ) (shape : Tree) (t : Term) → IsTree abi (Kind 0) shape → unfold_cpp shape ≡ Ok t → answer_of_shape cpp_mangled detail limit shape ≡ answer_of_shape wide_mangled detail limit shape
 same_answer detail limit shape t is e =
-    ap (λ read. answer_of_symbol cpp_mangled detail limit read) e ∙ sym (ap (λ read. answer_of_symbol wide_mangled detail limit read) (widened_stays shape t is e))
+    ap (λ read. answer_of_symbol cpp_mangled detail limit read) e ∙ sym (ap (λ read. answer_of_symbol wide_mangled detail limit read) (stays shape t is e))
 
 pub returns-clause-answers : goal.returns-clause-answers
 returns-clause-answers c = λ detail s limit t bytes w.
     sym (is_answer wide_mangled detail s limit (answer_of_shape cpp_mangled detail limit w.0) bytes
-    (shaped (widened w.0) (wide_tree w.0 w.1) (spell_widened w.0 ∙ w.2) (same_answer detail limit w.0 t w.1 (sym w.3))))
+    (shaped w.0 (abi_wide (Kind 0) w.0 w.1) w.2 (same_answer detail limit w.0 t w.1 (sym w.3))))
     ∙ is_answer cpp_mangled detail s limit (answer_of_shape cpp_mangled detail limit w.0) bytes (shaped w.0 w.1 w.2 refl)
 
 grows : (detail : Detail) (s text : List ℕ) (limit : ℕ) → IsAnswer cpp_mangled detail s limit (Ok text) → IsAnswer wide_mangled detail s limit (Ok text)
@@ -43,7 +39,7 @@ grows detail s text limit (shaped shape is spelled same) = go (unfold_cpp shape)
   where
     go : (read : Result Term Refusal) → unfold_cpp shape ≡ read → Ok text ≡ answer_of_symbol cpp_mangled detail limit read → IsAnswer wide_mangled detail s limit (Ok text)
     go (Ok t) e answered =
-        shaped (widened shape) (wide_tree shape is) (spell_widened shape ∙ spelled) (answered ∙ sym (ap (λ read. answer_of_symbol wide_mangled detail limit read) (widened_stays shape t is e)))
+        shaped shape (abi_wide (Kind 0) shape is) spelled (answered ∙ sym (ap (λ read. answer_of_symbol wide_mangled detail limit read) (stays shape t is e)))
     go (Err refusal) e answered = absurd (let clash : ◌≡◌ {A = Result (List ℕ) Refusal} (Ok text) (Err refusal) = answered in cc)
 
 pub returns-clause-texts : goal.returns-clause-texts

@@ -1,8 +1,8 @@
 use Rattle.std.proofs.Common.{◌∷◌, [], subst}
-use Rattle.cpp_grammar.specs.declared.kind.Kind.{Kind}
 use Rattle.cpp_direct.specs.Symbol.{symbol_by}
 use Rattle.cpp_direct.specs.declared.open.Open.TheVariants as opens
 use Rattle.cpp_direct.specs.Holes.{StandsAt}
+use Rattle.cpp_direct.proofs.MovesOfComponents.{first-is-rest}
 use Rattle.cpp_direct.proofs.Nesting.{component-next, first-opens, byte-there, opened-by}
 use Rattle.cpp_direct.proofs.direct.Direct.rest_at.Goals as goal
 
@@ -15,7 +15,7 @@ returns-then-byte_at-eq73 g c =
     let opened = c.open_arguments.ensures in
     opened-by s c.open_arguments.result mid c.open_arguments.new.self (opens.FirstArguments mid.nest) opened.step opened.«open» opened.at opened.text
     opened.candidates
-    (first-opens s c.args.self.now mid c.open_arguments.new.self writing.state writing.is_before.0 writing.candidates writing.is_before.1
+    (first-opens s writing.is_before.1 c.args.self.now mid c.open_arguments.new.self writing.state writing.is_before.0 writing.is_before.2 writing.candidates writing.is_before.3
     (subst (λ n. StandsAt s.bytes n (73 ∷ [])) added.at (byte-there s.bytes mid.at c.byte_at.result 73 c.if-byte_at-eq73.true (λ e. cc e) c.byte_at.ensures))
     (record { candidates = added.candidates; text = added.text; waiting = added.«open»; nest = added.nest; at = added.at }))
 
@@ -23,6 +23,6 @@ pub component_at-requires-clause-writing : goal.component_at-requires-clause-wri
 component_at-requires-clause-writing g c =
     let writing = c.requires.writing in
     let added = c.in_ok-add_unless.ensures in
-    component-next (symbol_by g.G.Grammar.IS_WIDE c.args.s.now) Kind.NestRestAlone c.args.self.now c.add_unless.new.self writing.state writing.is_before.0 tt writing.candidates
-    writing.is_before.1
+    component-next (symbol_by g.G.Grammar.IS_WIDE c.args.s.now) writing.is_before.1 c.args.self.now c.add_unless.new.self writing.state writing.is_before.0
+    (first-is-rest writing.is_before.1 writing.is_before.2) writing.candidates writing.is_before.3
     (record { candidates = added.candidates; text = added.text; waiting = added.«open»; nest = added.nest; at = added.at })
