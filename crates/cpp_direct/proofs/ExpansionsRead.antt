@@ -104,18 +104,6 @@ all-forwarded before w ts number le f = elim f.count [
   | inr e ↦ e.0
 ]
 
-pub forwarded-none : (before w : Direct) (ts : List Term) (number : ℕ) → length ts ≤ number → AreForwarded before w ts number
-    → AreForwarded before w ts (number + 1)
-forwarded-none before w ts number le f = record {
-  done = f.done;
-  rest = f.rest;
-  all = f.all;
-  count = inr (all-forwarded before w ts number le f, omega (arith, le));
-  bytes = f.bytes;
-  prints = f.prints;
-  writes = f.writes;
-}
-
 nothing-there : (l : List Term) (n : ℕ) (own : Term) → l ≡ [] → slice_get l n ≡ Some own → ⊥
 nothing-there [] n own e at = cc at
 nothing-there (t ∷ ts) n own e at = cc e

@@ -11,7 +11,7 @@ use Rattle.sym_shape.specs.Tree.{Tree, TakesRule, IsTree, branch, empty, token, 
 use Rattle.sym_demangle.specs.Mangled.{StandsFor}
 use Rattle.cpp_grammar.specs.declared.kind.Kind.{Kind}
 use Rattle.cpp_grammar.specs.declared.production.Production.{Production}
-use Rattle.cpp_grammar.specs.Grammar.{alternatives, choose, in_ranges, among, is_in, pick, number_of, is_chain, kinds, may_be_empty}
+use Rattle.cpp_grammar.specs.Grammar.{choose, in_ranges, among, is_in, pick, number_of, is_chain, kinds, may_be_empty}
 use Rattle.cpp_grammar.specs.Wide.{wide_alternatives, wide_choose}
 use Rattle.cpp_grammar.specs.KindNumbers.{SYMBOL, MAYBE_ARGUMENTS, ARGUMENTS_ALONE, NEST_REST, NEST_REST_ALONE, NEST_TAIL, NEST_MORE_OR_END, ARGUMENT_LIST, ARGUMENTS_FIRST, ITEM}
 use Rattle.cpp_grammar.specs.Table.{abi, wide, rule_of, rule_taken}

@@ -1,5 +1,5 @@
 -- What is expected inside a nested name.
-use Rattle.std.specs.Prelude.{◌≡◌, ℕ, ◌+◌, List, [], ◌∷◌, Bool, true, false}
+use Rattle.std.specs.Prelude.{ℕ, ◌+◌, List, [], ◌∷◌, Bool, false}
 use Rattle.cpp_grammar.specs.declared.kind.Kind.{Kind}
 use Rattle.cpp_grammar.specs.Term.{Term, instance}
 use Rattle.cpp_grammar.specs.Values.{State, Around, Value}

@@ -1,5 +1,5 @@
 -- What is done between the parts of a production keeps to what is closed.
-use Rattle.std.proofs.Common.{◌≡◌, refl, sym, ◌∙◌, subst, ℕ, ◌-◌, List, [], ◌∷◌, Bool, true, false, None, Result, Ok, Err}
+use Rattle.std.proofs.Common.{◌≡◌, refl, sym, ◌∙◌, subst, ℕ, ◌-◌, List, [], ◌∷◌, Bool, true, false, None, Ok, Err}
 use Rattle.sym_core.specs.declared.refusal.Refusal.TheVariants.{BadReference}
 use Rattle.std.proofs.lemmas.Bool.{true≢false}
 use Rattle.sym_link.specs.Reading.{Next}

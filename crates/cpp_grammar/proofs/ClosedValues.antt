@@ -67,9 +67,6 @@ good_held s (v ∷ vs) (suc k) all = good_held s vs k all.1
 pub good_part : (s : Type 0) (vs : List Value) (k : ℕ) → AllGood s vs → Good s (tree_of (part vs k))
 good_part s vs k all = good_tree s (part vs k) (good_held s vs k all)
 
-good_piece_part : (s : Type 0) (vs : List Value) (k : ℕ) → AllGood s vs → Good s (piece_of (part vs k))
-good_piece_part s vs k all = good_piece s (part vs k) (good_held s vs k all)
-
 -- ## Terms
 
 pub good_list : (s : Type 0) (a b : Term) → Good s a → Good s b → Good s (list a b)

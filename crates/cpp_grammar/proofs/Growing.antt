@@ -15,7 +15,7 @@ use Rattle.cpp_grammar.specs.declared.production.Production.{Production}
 use Rattle.cpp_grammar.specs.Grammar.{Alternative, in_ranges, among, is_in, pick, alternatives, choose, kinds, productions, number_of}
 use Rattle.cpp_grammar.specs.Before.{alternatives_before}
 use Rattle.cpp_grammar.specs.Wide.{wide_alternatives, wide_choose}
-use Rattle.cpp_grammar.specs.Table.{rule_of, rule_taken, sheet_with, sheet, blank, abi, sheet_before, abi_before, wide_sheet, wide}
+use Rattle.cpp_grammar.specs.Table.{rule_taken, sheet_with, sheet, blank, abi, sheet_before, abi_before, wide_sheet, wide}
 use Rattle.cpp_grammar.proofs.Choosing.{sheet_at, picked}
 
 -- the later choice is the earlier one

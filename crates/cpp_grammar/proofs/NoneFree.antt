@@ -37,9 +37,6 @@ none_held (v ∷ vs) (suc k) all = none_held vs k all.1
 pub none_part : (vs : List Value) (k : ℕ) → AllNone vs → HasNone (tree_of (part vs k))
 none_part vs k all = none_tree (part vs k) (none_held vs k all)
 
-none_piece_part : (vs : List Value) (k : ℕ) → AllNone vs → HasNone (piece_of (part vs k))
-none_piece_part vs k all = none_piece (part vs k) (none_held vs k all)
-
 -- ## Terms
 
 none_list : (a b : Term) → HasNone a → HasNone b → HasNone (list a b)

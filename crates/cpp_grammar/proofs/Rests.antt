@@ -1,12 +1,11 @@
 -- What follows a name in a nested one follows a name that an S stands for too: another tree of the same bytes, which stands for the same.
-use Rattle.std.proofs.Common.{◌≡◌, ℕ, ◌+◌, ◌<◌, List, [], ◌∷◌, ◌++◌, length, Bool, true, false, cond, ◌&&◌, nat_eq, Option, Some, None, Result, Ok, Err, refl, ap, sym, ◌∙◌, subst, add-zero, append-nil, lit≤, arith}
-use Rattle.std.proofs.lemmas.Bool.{true≢false, eqb-true, and_parts}
-use Rattle.std.proofs.lemmas.List.{append_assoc}
+use Rattle.std.proofs.Common.{◌≡◌, ℕ, ◌+◌, List, [], ◌∷◌, ◌++◌, length, Bool, true, false, ◌&&◌, nat_eq, Option, Some, None, Result, refl, ap, sym, ◌∙◌, subst, add-zero, append-nil, lit≤}
+use Rattle.std.proofs.lemmas.Bool.{eqb-true, and_parts}
 use Rattle.sym_core.specs.declared.refusal.Refusal.{Refusal}
 use Rattle.sym_shape.specs.declared.rule.Sym.TheVariants.{Kind as OfKind}
 use Rattle.sym_shape.specs.Table.{symbols_of}
-use Rattle.sym_shape.specs.Tree.{Tree, Forest, branch, empty, token, fixed, nothing, grown, spell, spell_all, TakesRule, IsTree, AreTrees}
-use Rattle.sym_link.specs.Reading.{Found, ◌>>=◌}
+use Rattle.sym_shape.specs.Tree.{Tree, Forest, branch, empty, token, fixed, nothing, grown, spell, TakesRule, IsTree, AreTrees}
+use Rattle.sym_link.specs.Reading.{◌>>=◌}
 use Rattle.sym_link.specs.Unfold.{alone, found, standing, unfold_tree, unfold_forest}
 use Rattle.cpp_grammar.specs.declared.kind.Kind.{Kind}
 use Rattle.cpp_grammar.specs.declared.production.Production.{Production}

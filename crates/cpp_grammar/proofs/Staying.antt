@@ -21,15 +21,15 @@ use Rattle.cpp_grammar.specs.KindNumbers.{SYMBOL, SPECIAL, SPECIAL_MARK, SPECIAL
 use Rattle.cpp_grammar.specs.Grammar.{Alternative, is_in, pick, kinds, number_of_kind, parts_of}
 use Rattle.cpp_grammar.specs.Wide.{wide_alternatives, wide_choose}
 use Rattle.cpp_grammar.specs.Table.{wide, rule_of, rule_taken}
-use Rattle.cpp_grammar.specs.Term.{Term, in_std, instance, holder, parameter, lvalue, rvalue, source, operator, constructor, destructor, lambda, generic_lambda, list}
-use Rattle.cpp_grammar.specs.Scope.{count, element, is_open, free_in, length_if_pack}
+use Rattle.cpp_grammar.specs.Term.{Term, in_std, instance, parameter, lvalue, rvalue, source, operator, constructor, destructor, lambda, generic_lambda, list}
+use Rattle.cpp_grammar.specs.Scope.{count, element, is_open, length_if_pack}
 use Rattle.cpp_grammar.specs.Values.{Candidate, State, Around, prefix_tree, prefix_listed, Value, nothing_there, text, tree, piece, tree_of, piece_of, is_listed, letter_of, text_of, local_number, part}
 use Rattle.cpp_grammar.specs.References.{appended, is_function_type, with_type, with_unqualified, with_prefix, with_packs, packs_in, substituted, parameter_named}
 use Rattle.cpp_grammar.specs.Between.{in_name, in_types, in_signature, under_expansion, after, inside, extended, applied, no_items, Going, named_so_far, listed_so_far, piece_so_far, with_tag, tag_so_far, parameter_so_far, index_of, between, next, argument_so_far}
 use Rattle.cpp_grammar.specs.Meaning.{parameters, meaning}
 use Rattle.cpp_grammar.specs.Unfolding as unfolding_
 use Rattle.cpp_grammar.specs.Unfolding.{opening, close, production_at, byte_of, cpp, first_around, first_state, first_tree, unfold_cpp}
-use Rattle.cpp_grammar.specs.Rescoping.{generic_so_far, parameter_here, lambda_with, with_own, has_held, is_counted_alike, is_foreign, restated, substituted_wide, numbered, holder_so_far, between_wide, close_wide, cpp_wide, unfold_wide, argument_here, generic_number}
+use Rattle.cpp_grammar.specs.Rescoping.{generic_so_far, parameter_here, lambda_with, with_own, has_held, is_counted_alike, is_foreign, restated, substituted_wide, numbered, between_wide, close_wide, cpp_wide, unfold_wide, argument_here, generic_number}
 use Rattle.cpp_grammar.specs.TableLaws.{wide_sound}
 use Rattle.cpp_grammar.proofs.Choosing.{kinds_numbered, number_at, wide_rule_at, is_wide_kind}
 use Rattle.cpp_grammar.proofs.ClosedValues.{held}

@@ -1,5 +1,5 @@
 -- What is printed: a tree in a form and a context, and what must be known of it: heads of types, packs, empty elements.
-use Rattle.std.specs.Prelude.{ℕ, List, [], ◌∷◌, Bool, true, false, ◌&&◌, nat_eq, Option, Some, None}
+use Rattle.std.specs.Prelude.{ℕ, [], ◌∷◌, Bool, true, false, ◌&&◌, nat_eq, Option, Some, None}
 use Rattle.cpp_grammar.specs.Term.{Term, parameter, builtin, lvalue, rvalue, array, bounded, function_type, qualified, expansion, pack, nil, list, absent}
 use Rattle.cpp_grammar.specs.Scope.{element, pack_length}
 

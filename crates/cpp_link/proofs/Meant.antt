@@ -1,8 +1,8 @@
 -- What a substitution of a tree whose parameter isn't meant here comes to.
-use Rattle.std.proofs.Common.{◌≡◌, refl, ◌∙◌, sym, ap, subst, ℕ, List, Bool, true, false, not, ◌&&◌, Option, Some, None, Result, Ok, Err}
-use Rattle.std.specs.Prelude.{nat_lt, IfSome}
+use Rattle.std.proofs.Common.{◌≡◌, refl, ◌∙◌, sym, ap, ℕ, Bool, true, false, not, ◌&&◌, Option, Some, None, Result, Ok, Err}
+use Rattle.std.specs.Prelude.{nat_lt}
 use Rattle.cpp_tree.specs.declared.node.Free.{Free as Noted}
-use Rattle.cpp_tree.specs.Nodes.{tree_at, tree_if_there, free_is}
+use Rattle.cpp_tree.specs.Nodes.{free_is}
 use Rattle.sym_core.specs.declared.refusal.Refusal.{Refusal}
 use Rattle.sym_core.specs.declared.refusal.Refusal.TheVariants.{BadReference}
 use Rattle.sym_link.specs.Reading.{Found, ◌>>=◌}
@@ -11,7 +11,7 @@ use Rattle.cpp_grammar.specs.Scope.{Free, none_free, one_free, several_free}
 use Rattle.cpp_term.specs.Items.{auto}
 use Rattle.cpp_term.specs.Reargued.{reargued}
 use Rattle.cpp_term.specs.Term.{Term}
-use Rattle.cpp_term.specs.Scope.{count, element, is_list, has_pack, free_in, is_open, pack_length}
+use Rattle.cpp_term.specs.Scope.{count, element, is_list, has_pack, free_in, pack_length}
 use Rattle.cpp_term.specs.Values.{Around, State, Candidate, Value, tree}
 use Rattle.cpp_term.specs.References.{with_packs, substituted}
 use Rattle.cpp_term.specs.Rescoping.{is_foreign, in_scope, under_scope, with_free, restated, substituted_wide}

@@ -1,6 +1,6 @@
 -- What the wide reading says of a rule that stands open, in terms of the frame and the nodes.
-use Rattle.std.proofs.Common.{◌≡◌, refl, sym, ◌∙◌, ap, subst, arith, ℕ, zero, suc, ◌+◌, ◌-◌, ◌<◌, ◌≤◌, List, [], ◌∷◌, ◌++◌, length, take, drop, Bool, true, false, ◌&&◌, nat_eq, Option, Some, None, Ok, Err, slice_get}
-use Rattle.std.specs.Prelude.{Result, OnOk, IfSome}
+use Rattle.std.proofs.Common.{◌≡◌, refl, sym, ◌∙◌, ap, subst, arith, ℕ, ◌+◌, ◌-◌, ◌<◌, ◌≤◌, List, [], ◌∷◌, ◌++◌, length, take, drop, Bool, true, false, ◌&&◌, nat_eq, Option, Ok, Err}
+use Rattle.std.specs.Prelude.{Result, OnOk}
 use Rattle.std.proofs.lemmas.List.{length-drop, take-append-drop}
 use Rattle.std.proofs.lemmas.Bool.{true≢false, false≢true}
 use Rattle.sym_core.specs.declared.refusal.Refusal.{Refusal}
@@ -33,7 +33,7 @@ use Rattle.cpp_link.specs.declared.linked.Linked.{Linked}
 use Rattle.cpp_link.specs.declared.part.Part.{Part}
 use Rattle.cpp_references.specs.declared.around.Kept.{Kept}
 use Rattle.cpp_link.specs.declared.part.Step.{Step}
-use Rattle.cpp_link.specs.LinkReading.{link_close, link_meaning, linked}
+use Rattle.cpp_link.specs.LinkReading.{link_close, link_meaning}
 use Rattle.cpp_link.specs.LinkRescoping.{link_close_wide, linked_wide, is_parameter, is_parameter_argument, generic_read, is_substitution, is_lambda_production, is_holder, names_generic, names_holder, number_in, named_by, substituted_nodes, wide_at_end, wide_view}
 use Rattle.cpp_link.specs.Making.{state_of}
 use Rattle.cpp_link.specs.NodeCount.{makes_before, makes_at_end}
@@ -148,11 +148,6 @@ wide_goes_right s old new frame parts new_parts step then step_is takes rule kno
   sym (take-append-drop frame.base new_parts) ∙ ap (λ ps. ps ++ drop frame.base new_parts) takes.lower,
   parts_all s new (drop frame.base new_parts) takes.there,
 )
-
--- a step that was refused for want of memory
-pub wide_refused_right : (s : List ℕ) (old new : Linked) (frame : Frame Kept) (parts new_parts : List Part) (e : Refusal) → e ≡ Memory
-    → GoesOn (wide_view s) s (Surrounds s) old new frame parts new_parts (Err e)
-wide_refused_right s old new frame parts new_parts e memory rule known state is = subst (λ r. Fails r (cpp_wide.between rule known state)) (sym memory) tt
 
 -- ## Where a rule closes
 

@@ -1,22 +1,19 @@
 -- The arguments that are named are those of a name in which no parameter is free: none is free in them, nor in one of them.
-use Rattle.std.proofs.Common.{◌≡◌, refl, sym, ◌∙◌, ap, subst, ℕ, ◌-◌, zero, suc, List, [], ◌∷◌, Bool, true, false, ◌||◌, Option, Some, None, Result, Ok, Err}
-use Rattle.std.specs.Prelude.{IfSome, IfOk}
-use Rattle.std.proofs.lemmas.Bool.{true≢false}
+use Rattle.std.proofs.Common.{◌≡◌, subst, ℕ, ◌-◌, List, [], ◌∷◌, Bool, true, false, Result, Ok, Err}
+use Rattle.std.specs.Prelude.{IfOk}
 use Rattle.sym_core.specs.declared.refusal.Refusal.{Refusal}
 use Rattle.sym_core.specs.declared.refusal.Refusal.TheVariants.{BadReference}
 use Rattle.sym_link.specs.Reading.{Next, ◌>>=◌}
 use Rattle.cpp_grammar.specs.declared.production.Production.{Production}
-use Rattle.cpp_term.specs.Term.{Term, instance, holder, local, of_default, list, parameter}
-use Rattle.cpp_term.specs.Scope.{is_open, arguments_of, element}
+use Rattle.cpp_term.specs.Term.{holder, parameter}
 use Rattle.cpp_term.specs.Items.{auto}
 use Rattle.cpp_grammar.specs.Rescoping.{generic_number}
 use Rattle.cpp_term.specs.Values.{State, Around, prefix_tree, Value, tree, tree_of}
 use Rattle.cpp_term.specs.References.{parameter_named}
-use Rattle.cpp_term.specs.Between.{Going, closed_arguments, in_name, in_types, in_signature, under_expansion, after, inside, named_so_far, listed_so_far, piece_so_far, tag_so_far, parameter_so_far, argument_so_far, argument_at, index_of, next, between}
+use Rattle.cpp_term.specs.Between.{Going, in_name, in_types, in_signature, under_expansion, after, inside, named_so_far, listed_so_far, piece_so_far, tag_so_far, parameter_so_far, argument_so_far, argument_at, index_of, next, between}
 use Rattle.cpp_term.specs.Rescoping.{parameter_here, argument_here, generic_so_far, with_holder, is_instance, holder_so_far, between_wide}
 use Rattle.cpp_references.proofs.Arguments.{closed_are}
 use Rattle.cpp_link.specs.Parts.{IsClosed}
-use Rattle.cpp_term.proofs.Notes.{or_left, or_right}
 
 -- ## What surrounds the next part
 

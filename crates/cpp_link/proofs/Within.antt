@@ -1,6 +1,6 @@
 -- What is said of a language in which what is linked stands within something, or in which another reading is followed, by what is
 -- said of the language without.
-use Rattle.std.proofs.Common.{◌≡◌, refl, ℕ, List, length, drop}
+use Rattle.std.proofs.Common.{ℕ, List, drop}
 use Rattle.std.specs.Prelude.{Result}
 use Rattle.sym_core.specs.declared.refusal.Refusal.{Refusal}
 use Rattle.sym_shape.specs.Tree.{Forest}
@@ -8,7 +8,7 @@ use Rattle.sym_shape.specs.declared.rule.Row.{Row}
 use Rattle.sym_link.specs.declared.language.Frame.{Frame}
 use Rattle.sym_link.specs.Reading.{Open}
 use Rattle.sym_link.specs.Linking.{View, HasRoom, IsInside}
-use Rattle.sym_link.specs.Threads.{IsAt, IsOpenAt, GoesOn, BeginsIn, ClosesAll, IsTaken, IsAhead, IsAheadToken, IsCount}
+use Rattle.sym_link.specs.Threads.{IsAt, IsOpenAt, GoesOn, ClosesAll, IsAhead, IsAheadToken, IsCount}
 use Rattle.cpp_term.specs.Values.{State, Around, Value}
 use Rattle.cpp_term.specs.Unfolding.{cpp}
 use Rattle.cpp_term.specs.Rescoping.{cpp_wide}
@@ -17,7 +17,7 @@ use Rattle.cpp_link.specs.declared.part.Part.{Part}
 use Rattle.cpp_references.specs.declared.around.Kept.{Kept}
 use Rattle.cpp_link.specs.declared.rescoping.Rescoping.{Rescoping}
 use Rattle.cpp_link.specs.LinkRescoping.{within, wide_view}
-use Rattle.cpp_link.specs.View.{Surrounds, cpp_view}
+use Rattle.cpp_link.specs.View.{cpp_view}
 
 -- ## Within
 
@@ -66,17 +66,10 @@ module _ {S : Type 0} (view : View Linked Part Kept Value S Around) (s : List �
 
 -- ## By the wide reading
 
-pub room_plain : (s : List ℕ) (l : Linked) (more : ℕ) → HasRoom (wide_view s) s l more → HasRoom (cpp_view s) s l more
-room_plain s l more room = record { fits = room.fits; size = room.size; paid = room.paid }
-
 pub at_plain : (s : List ℕ) (l : Linked) (frame : Frame Kept) (own : List Part) (rule : Open State Around) (known : List Value) (state : State)
     → IsAt (wide_view s) s l frame own rule known state → IsAt (cpp_view s) s l frame own rule known state
 at_plain s l frame own rule known state is =
     record { there = is.there; number = is.number; place = is.place; kept = is.kept; parts = is.parts; holds = is.holds }
-
-pub open_at_plain : (s : List ℕ) (l : Linked) (frame : Frame Kept) (parts : List Part) → IsOpenAt (wide_view s) s l frame parts → IsOpenAt (cpp_view s) s l frame parts
-open_at_plain s l frame parts is =
-    record { rule = is.rule; known = is.known; state = is.state; at = at_plain s l frame (drop frame.base parts) is.rule is.known is.state is.at }
 
 inside_plain : (s : List ℕ) (l : Linked) (frame : Frame Kept) (own : List Part) (rule : Open State Around) (known : List Value) (from : ℕ) (left : Forest) (state : State)
     → IsInside (wide_view s) s l frame own rule known from left state → IsInside (cpp_view s) s l frame own rule known from left state

@@ -1,13 +1,11 @@
 -- The values that parts stand for: functions of the nodes.
-use Rattle.std.specs.Prelude.{◌≡◌, ℕ, ◌<◌, List, [], ◌∷◌, map, Bool, true, false, ◌||◌, Option, None, Some, IfSome}
+use Rattle.std.specs.Prelude.{◌≡◌, ℕ, ◌<◌, List, [], ◌∷◌, Bool, true, false, ◌||◌, Some}
 use Rattle.cpp_term.specs.Term as term
 use Rattle.cpp_term.specs.Term.{Term}
-use Rattle.cpp_term.specs.Scope.{is_open}
 use Rattle.cpp_term.specs.Values as values
-use Rattle.cpp_term.specs.Values.{State, Value, Around}
+use Rattle.cpp_term.specs.Values.{Value, Around}
 use Rattle.cpp_tree.specs.Nodes as nodes
-use Rattle.cpp_tree.specs.Nodes.{Stored, over, tree_at, trees, bytes_at, IsWithin, IsPieceBelow, IsBelow, IsAdjustmentWithin, IsThunkWithin}
-use Rattle.cpp_tree.specs.declared.node.Node.{Node}
+use Rattle.cpp_tree.specs.Nodes.{Stored, tree_at, bytes_at, IsWithin, IsPieceBelow, IsBelow, IsAdjustmentWithin, IsThunkWithin}
 use Rattle.cpp_link.specs.declared.part.Part.{Part}
 use Rattle.cpp_link.specs.declared.part.Meant.{Meant}
 use Rattle.cpp_link.specs.declared.part.Step.{Step}

@@ -1,8 +1,5 @@
 -- What is read of nodes and of references.
-use Rattle.std.specs.Prelude.{ℕ, ◌<◌, List, [], ◌∷◌, Bool, true, false, ◌&&◌, nat_eq, Option, Some, None, Result, Ok, Err}
-use Rattle.sym_core.specs.declared.refusal.Refusal.{Refusal}
-use Rattle.sym_link.specs.Reading.{Found}
-use Rattle.sym_link.specs.Unfold.{found}
+use Rattle.std.specs.Prelude.{ℕ, ◌<◌, List, [], ◌∷◌, Bool, true, false, ◌&&◌, nat_eq, Option, Some, None, Ok}
 use Rattle.cpp_term.specs.Term as term
 use Rattle.cpp_term.specs.Term.{Term, absent, nil}
 use Rattle.cpp_term.specs.Scope.{has_return_type}
@@ -18,7 +15,7 @@ use Rattle.cpp_tree.specs.declared.node.Node.{Node}
 use Rattle.cpp_references.specs.declared.again.OpenedNode.{OpenedNode}
 use Rattle.cpp_link.specs.declared.signatures.Split.{Split}
 use Rattle.cpp_term.specs.Reargued.{reargued}
-use Rattle.cpp_link.specs.Parts.{trees_in, tree_of_node, around_of, candidate_of}
+use Rattle.cpp_link.specs.Parts.{trees_in, tree_of_node, around_of}
 unfoldable pub use Rattle.cpp_references.specs.References.{packs_read, maybe_candidate, node_read, parameter_read}
 
 -- ## Nodes

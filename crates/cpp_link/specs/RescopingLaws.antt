@@ -1,12 +1,11 @@
 -- What is linked of a symbol by the wide grammar keeps to what every language does.
-use Rattle.std.proofs.Common.{◌≡◌, refl, ℕ, ◌-◌, suc, ◌≤◌, List, [], ◌∷◌, length, Bool, true, false, Result, Err}
+use Rattle.std.proofs.Common.{◌≡◌, refl, ℕ, ◌-◌, suc, List, [], ◌∷◌, length, Bool, true, false, Err}
 use Rattle.std.specs.Result.{IfOk}
-use Rattle.sym_core.specs.declared.refusal.Refusal.{Refusal}
 use Rattle.sym_core.specs.declared.refusal.Refusal.TheVariants.{BadReference}
 use Rattle.sym_link.specs.Reading.{Next}
 use Rattle.sym_link.specs.Linking.{View, IsLinking}
 use Rattle.sym_link.specs.Threads.{IsThreading}
-use Rattle.sym_link.proofs.Tally.{tallied_laws, tallied_threads}
+use Rattle.sym_link.proofs.Tally.{tallied_threads}
 use Rattle.cpp_grammar.specs.declared.production.Production.{Production}
 use Rattle.cpp_grammar.specs.Unfolding.{production_at}
 use Rattle.cpp_grammar.specs.Rescoping.{generic_number}

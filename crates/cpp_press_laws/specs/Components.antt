@@ -2,7 +2,7 @@
 -- in the order in which their spellings end.
 use Rattle.std.specs.Prelude.{ℕ, zero, suc, ◌+◌, List, [], ◌∷◌, ◌++◌, Bool, true, false, not, ◌&&◌, ◌||◌, nat_eq, codes, Option, Some, None}
 use Rattle.sym_spell.specs.Pressing as spell
-use Rattle.sym_spell.specs.Pressing.{◌and◌, text, letter}
+use Rattle.sym_spell.specs.Pressing.{◌and◌, text}
 use Rattle.sym_spell.specs.Digits.{digits_in, digit36}
 use Rattle.cpp_grammar.specs.Term.{Term}
 use Rattle.cpp_grammar.specs.Scope.{is_open}

@@ -12,7 +12,7 @@ use Rattle.cpp_grammar.specs.Rescoping.{generic_number, generic_so_far, paramete
 use Rattle.cpp_grammar.specs.Scope.{count, element, is_open, length_if_pack}
 use Rattle.cpp_grammar.specs.Term.{Term, lambda, generic_lambda, list, in_std, instance, holder, parameter, lvalue, rvalue, source, operator, constructor, destructor}
 use Rattle.cpp_grammar.specs.Values as leaf_
-use Rattle.cpp_grammar.specs.Values.{Around, Prefix, prefix_tree, Value, State, Candidate, local_number, tree_of, piece_of, is_listed, text_of, letter_of, part}
+use Rattle.cpp_grammar.specs.Values.{Around, prefix_tree, Value, State, Candidate, local_number, tree_of, piece_of, is_listed, text_of, letter_of, part}
 use Rattle.cpp_grammar.specs.References.{appended, with_type, with_unqualified, with_prefix, with_packs, substituted, parameter_named}
 use Rattle.cpp_grammar.specs.Between.{in_signature, under_expansion, after, inside, extended, applied, no_items, named_so_far, listed_so_far, piece_so_far, with_tag, tag_so_far, next, parameter_so_far, argument_so_far, index_of, between}
 use Rattle.cpp_grammar.specs.Meaning.{parameters, meaning}

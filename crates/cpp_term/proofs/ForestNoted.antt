@@ -11,7 +11,7 @@ use Rattle.sym_link.specs.Unfold.{unfold_tree, unfold_forest}
 use Rattle.cpp_grammar.specs.Table.{wide}
 use Rattle.cpp_grammar.specs.Scope.{is_open}
 use Rattle.cpp_grammar.specs.Values as leaf_
-use Rattle.cpp_grammar.specs.Values.{Candidate, State, Around, Value, tree_of}
+use Rattle.cpp_grammar.specs.Values.{Candidate, State, Around, Value}
 use Rattle.cpp_grammar.specs.Unfolding.{production_at}
 use Rattle.cpp_grammar.proofs.ClosedValues.{good_where, AllGood, GoodPrefix, held}
 use Rattle.cpp_grammar.proofs.ClosedStates.{Bare, Within, AllOld, AllNew, Grows, old_grows}

@@ -46,9 +46,6 @@ unfolding value_.piece_of piece_of noted_value annotate
 piece_noted s (leaf_.piece p) = refl
 piece_noted s _ = refl
 
-piece_part : (s : Place) (vs : List Value) (k : ℕ) → value_.piece_of (value_.part (noted_values s vs) k) ≡ annotate s (piece_of (part vs k))
-piece_part s vs k = ap value_.piece_of (part_noted s vs k) ∙ piece_noted s (part vs k)
-
 pub closed_part : (s : Place) (vs : List Value) (k : ℕ) → is_open (tree_of (part vs k)) ≡ false → value_.tree_of (value_.part (noted_values s vs) k) ≡ annotate nowhere (tree_of (part vs k))
 closed_part s vs k h = tree_part s vs k ∙ closed_noted s nowhere (tree_of (part vs k)) h
 

@@ -9,7 +9,7 @@ use Rattle.sym_link.specs.Unfold.{found}
 use Rattle.cpp_grammar.specs.Term.{Term, parameter, function_type}
 use Rattle.cpp_grammar.specs.Scope.{count, element, is_list, has_pack, is_open, length_if_pack, pack_length, Free, none_free, one_free, several_free, free_in}
 use Rattle.cpp_grammar.specs.Values as leaf_
-use Rattle.cpp_grammar.specs.Values.{Around, Prefix, prefix_tree, prefix_listed, Value, State, Candidate, tree_of, is_listed}
+use Rattle.cpp_grammar.specs.Values.{Around, prefix_tree, prefix_listed, Value, State, Candidate, tree_of, is_listed}
 use Rattle.cpp_grammar.specs.References.{appended, is_function_type, with_type, with_unqualified, with_prefix, with_packs, packs_in, substituted, parameter_named}
 use Rattle.cpp_grammar.specs.Rescoping.{with_holder, has_held, is_counted_alike, is_foreign, in_scope, under_scope, with_free, restated, substituted_wide, numbered}
 use Rattle.cpp_term.specs.Term as term_

@@ -29,7 +29,7 @@ use Rattle.cpp_grammar.proofs.ClosedStates.{Bare, AllOld, AllNew, Grows, old_lat
 use Rattle.cpp_grammar.proofs.ClosedParts.{StaysInside}
 use Rattle.cpp_grammar.proofs.Ways.{Way, reading_by, abi_way, wide_way, differs}
 use Rattle.cpp_grammar.proofs.ClosedTrees as trees_
-use Rattle.cpp_grammar.proofs.ClosedTrees.{is_encoding, has_encoding, opens, at_number, its_symbols, stays, takes_byte, Whole, Taken, taken_rule, KeepsClosed, opens_apart, abi_keeps, wide_keeps}
+use Rattle.cpp_grammar.proofs.ClosedTrees.{is_encoding, opens, at_number, its_symbols, stays, takes_byte, Whole, taken_rule, KeepsClosed, opens_apart, abi_keeps, wide_keeps}
 use Rattle.sym_print.specs.declared.detail.Detail.{Detail}
 use Rattle.cpp_grammar.specs.Answer.{answer_within}
 use Rattle.cpp_term.specs.Answer.{noted_answer}

@@ -105,10 +105,3 @@ whole_symbol shape t is e =
     let read = behind_bind (unfold_tree cpp first_around 0 shape first_state) (λ r. Ok (first_tree r.value)) t e in
     let w = whole_reading abi_noted abi_is_noted.plain shape read.value is read.is in
     record { encoding = w.encoding; suffix = w.suffix; is = sym (ok_same (first_tree read.value.value) t read.next) ∙ ap first_tree w.one }
-
-pub wide_whole_symbol : (shape : Tree) (t : Term) → IsTree wide (OfKind SYMBOL) shape → unfold_wide shape ≡ Ok t → IsWholeTree t
-unfolding cpp_wide reading_noted_by wide_noted unfold_wide first_tree tree_of
-wide_whole_symbol shape t is e =
-    let read = behind_bind (unfold_tree cpp_wide first_around 0 shape first_state) (λ r. Ok (first_tree r.value)) t e in
-    let w = whole_reading wide_noted wide_is_noted.plain shape read.value is read.is in
-    record { encoding = w.encoding; suffix = w.suffix; is = sym (ok_same (first_tree read.value.value) t read.next) ∙ ap first_tree w.one }

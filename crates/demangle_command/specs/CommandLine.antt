@@ -2,7 +2,7 @@
 use Rattle.std.specs.Prelude.{◌≡◌, List, [], ◌∷◌, Bool, true, Option, Some, None, codes, unwrap_or}
 use Rattle.clap.specs.Lexer.{usize_max}
 use Rattle.clap.specs.Words.{Text, Rule, Row, App, Kinds, new_rule, new_app, matches_of, fault_of, first_of, all_of}
-use Rattle.clap.specs.declared.builder.action.ArgAction.TheVariants.{SetTrue, Append, Version}
+use Rattle.clap.specs.declared.builder.action.ArgAction.TheVariants.{Append, Version}
 use Rattle.sym_command.specs.CommandLine.{flag, limit, detail_by, IsFlag, IsLimit}
 use Rattle.demangle_command.specs.Style.{IsStyle}
 use Rattle.demangle_command.specs.declared.style.Style.{Style}

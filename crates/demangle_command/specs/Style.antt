@@ -1,6 +1,5 @@
 -- Which names a style reads, and what is answered for them.
-use Rattle.std.specs.Prelude.{◌≡◌, ◌≢◌, ℕ, List, Bool, true, false, not, is_some, Option, Some, None, Result, Err, codes, if◌then◌else◌}
-use Rattle.sym_core.specs.declared.refusal.Refusal.{Refusal}
+use Rattle.std.specs.Prelude.{◌≡◌, ◌≢◌, ℕ, List, Bool, true, false, not, is_some, Option, Some, None, Err, codes, if◌then◌else◌}
 use Rattle.sym_core.specs.declared.refusal.Refusal.TheVariants.{Malformed}
 use Rattle.sym_print.specs.declared.detail.Detail.{Detail}
 use Rattle.rust_legacy.specs.Path.{legacy_of}

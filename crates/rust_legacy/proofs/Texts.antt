@@ -55,10 +55,6 @@ pub some_texts : (bytes : List ℕ) → 0 < length bytes → 0 < length (texts_o
 some_texts [] some = absurd (omega (arith, some))
 some_texts (byte ∷ rest) some = omega arith
 
-pub some_cost : (bytes : List ℕ) → 0 < length bytes → 0 < whole_cost (texts_of bytes)
-some_cost [] some = absurd (omega (arith, some))
-some_cost (byte ∷ rest) some = omega arith
-
 -- what a token leaves of the text and of the cost
 pub goes : (bytes : List ℕ) (at size left paid now limit all : ℕ) (before mid out : List ℕ)
     → at < length bytes

@@ -12,7 +12,7 @@ use Rattle.cpp_grammar.specs.Grammar.{in_ranges, among, is_in, pick, number_of_k
 use Rattle.cpp_grammar.specs.Table.{abi, rule_of}
 use Rattle.cpp_grammar.specs.Term.{Signed, Term, expansion, nil, list}
 use Rattle.cpp_grammar.specs.Values as value
-use Rattle.cpp_grammar.specs.Values.{State, Around, Value, nothing_there, letter, signed, tree, tree_of, letter_of, text_of, signed_of, is_listed, is_there, normal, is_zero, signed_digits, part}
+use Rattle.cpp_grammar.specs.Values.{State, Around, Value, nothing_there, signed, tree, tree_of, text_of, normal, is_zero, signed_digits, part}
 use Rattle.cpp_grammar.specs.Between.{Going, between, inside, under_expansion, no_items}
 use Rattle.cpp_grammar.specs.Meaning.{meaning}
 use Rattle.cpp_grammar.specs.Unfolding as unfolding_

@@ -10,7 +10,7 @@ use Rattle.cpp_grammar.specs.Grammar.{in_ranges, among, is_in, pick, number_of_k
 use Rattle.cpp_grammar.specs.Table.{abi, rule_of}
 use Rattle.cpp_grammar.specs.Term.{RefQualifier, any_value, lvalue_only, rvalue_only, Term, in_std, instance}
 use Rattle.cpp_grammar.specs.Values as value
-use Rattle.cpp_grammar.specs.Values.{State, Around, Value, nothing_there, letter, signed, adjusted, tree, piece, named, tree_of, piece_of, letter_of, text_of, signed_of, adjustment_of, qualifiers_of, ref_of, mark_of, is_listed, is_there, normal, part}
+use Rattle.cpp_grammar.specs.Values.{State, Around, Value, nothing_there, letter, tree, piece, named, tree_of, piece_of, mark_of, is_listed, is_there, part}
 use Rattle.cpp_grammar.specs.References.{with_prefix}
 use Rattle.cpp_grammar.specs.Between.{between, after, inside, applied, no_items, named_so_far, listed_so_far}
 use Rattle.cpp_grammar.specs.Meaning.{meaning}

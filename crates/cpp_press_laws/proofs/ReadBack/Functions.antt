@@ -16,7 +16,7 @@ use Rattle.cpp_grammar.specs.Table.{abi, rule_of}
 use Rattle.cpp_grammar.specs.Term.{RefQualifier, any_value, lvalue_only, rvalue_only, Term, parameter, lvalue, rvalue, vector, function_type, qualified, nil, list}
 use Rattle.cpp_grammar.specs.Scope.{count, element, length_if_pack}
 use Rattle.cpp_grammar.specs.Values as value
-use Rattle.cpp_grammar.specs.Values.{State, Around, Value, nothing_there, letter, tree, signature, tree_of, ref_of, text_of, is_there, normal, part}
+use Rattle.cpp_grammar.specs.Values.{State, Around, Value, nothing_there, letter, tree, signature, tree_of, ref_of, text_of, is_there, part}
 use Rattle.cpp_grammar.specs.References.{appended, with_packs, parameter_named}
 use Rattle.cpp_grammar.specs.Between.{between, after, applied, listed_so_far, parameter_so_far, index_of}
 use Rattle.cpp_grammar.specs.Meaning.{meaning, listed_value, qualified_by, function_of, with_item, signature_or, parameters}

@@ -6,7 +6,7 @@ use Rattle.sym_core.specs.declared.refusal.Refusal.TheVariants.{BadValue}
 use Rattle.sym_core.specs.declared.NumberKind.TheVariants.{Decimal}
 use Rattle.sym_core.specs.Token.{Token}
 use Rattle.sym_shape.specs.declared.rule.Sym.TheVariants.{Kind as OfKind, Number, Byte}
-use Rattle.sym_shape.specs.Tree.{Tree as Shape, Forest, branch, empty, token, fixed, grown}
+use Rattle.sym_shape.specs.Tree.{Tree as Shape, branch, empty, token, fixed, grown}
 use Rattle.sym_shape.specs.Tree as shape
 use Rattle.sym_link.specs.Unfold.{found}
 use Rattle.cpp_grammar.specs.declared.kind.Kind.{Kind}

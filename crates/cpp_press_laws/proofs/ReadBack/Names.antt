@@ -11,7 +11,7 @@ use Rattle.cpp_grammar.specs.Grammar.{in_ranges, among, is_in, pick, number_of_k
 use Rattle.cpp_grammar.specs.Table.{abi, rule_of}
 use Rattle.cpp_grammar.specs.Term.{Term, source, operator, constructor, destructor}
 use Rattle.cpp_grammar.specs.Values as value
-use Rattle.cpp_grammar.specs.Values.{State, Prefix, behind, prefix_tree, prefix_listed, Around, Value, nothing_there, letter, tree, piece, tree_of, piece_of, letter_of, text_of, is_there, part}
+use Rattle.cpp_grammar.specs.Values.{State, behind, prefix_tree, prefix_listed, Around, Value, nothing_there, letter, tree, piece, tree_of, piece_of, letter_of, text_of, part}
 use Rattle.cpp_grammar.specs.References.{appended, with_prefix}
 use Rattle.cpp_grammar.specs.Between.{Going, between, after, inside, extended, applied, no_items, named_so_far, piece_so_far}
 use Rattle.cpp_grammar.specs.Meaning.{meaning}

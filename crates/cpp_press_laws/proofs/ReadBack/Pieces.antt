@@ -10,11 +10,11 @@ use Rattle.cpp_grammar.specs.Grammar.{in_ranges, among, is_in, pick, number_of_k
 use Rattle.cpp_grammar.specs.Table.{abi, rule_of}
 use Rattle.cpp_grammar.specs.Term.{Term, source, operator, literal_operator}
 use Rattle.cpp_grammar.specs.Values as value
-use Rattle.cpp_grammar.specs.Values.{State, Around, Value, nothing_there, letter, tree, piece, tree_of, piece_of, letter_of, text_of, local_number, part}
+use Rattle.cpp_grammar.specs.Values.{Around, letter, piece, text_of, part}
 use Rattle.cpp_grammar.specs.Between.{between}
 use Rattle.cpp_grammar.specs.Meaning.{meaning, operator_or_literal}
 use Rattle.cpp_grammar.specs.Unfolding as unfolding_
-use Rattle.cpp_grammar.specs.Unfolding.{last_token, number_tested, opening, close, byte_of}
+use Rattle.cpp_grammar.specs.Unfolding.{opening, close, byte_of}
 use Rattle.cpp_press_laws.specs.Components.{Component}
 use Rattle.cpp_press_laws.specs.Texts.{counted}
 use Rattle.cpp_grammar.proofs.Growing.{same_choice, each_below, below, kept}

@@ -6,7 +6,7 @@ use Rattle.sym_shape.specs.declared.rule.Sym.TheVariants.{Kind as OfKind, Name, 
 use Rattle.sym_core.specs.declared.NumberKind.{NumberKind}
 use Rattle.sym_core.specs.declared.NameClass.TheVariants.{Cpp}
 use Rattle.sym_core.specs.Token.{Token, bytes_of, IsName, IsNumberToken}
-use Rattle.sym_shape.specs.Tree.{Tree as Shape, Forest, branch, empty, token, fixed, grown, spell, spell_all, TakesRule, IsTree, AreTrees}
+use Rattle.sym_shape.specs.Tree.{Forest, branch, empty, token, fixed, grown, spell, spell_all, TakesRule, AreTrees}
 use Rattle.sym_shape.specs.Tree as shape
 use Rattle.sym_link.specs.Unfold.{unfold_forest, found, standing}
 use Rattle.cpp_grammar.specs.declared.kind.Kind.{Kind}

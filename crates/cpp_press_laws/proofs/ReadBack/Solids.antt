@@ -14,7 +14,7 @@ use Rattle.cpp_grammar.specs.Grammar.{in_ranges, among, is_in, pick, number_of_k
 use Rattle.cpp_grammar.specs.Table.{abi, rule_of}
 use Rattle.cpp_grammar.specs.Term.{Term, abbreviation, builtin, vendor, pointer, lvalue, rvalue, array, member_pointer, complex}
 use Rattle.cpp_grammar.specs.Values as value
-use Rattle.cpp_grammar.specs.Values.{State, Around, Value, nothing_there, tree, tree_of, text_of, normal, part}
+use Rattle.cpp_grammar.specs.Values.{State, Around, Value, tree, tree_of, text_of, part}
 use Rattle.cpp_grammar.specs.Between.{Going, between}
 use Rattle.cpp_grammar.specs.Meaning.{meaning, listed_value, reference_to}
 use Rattle.cpp_grammar.specs.Unfolding as unfolding_

@@ -11,7 +11,7 @@ use Rattle.cpp_grammar.specs.Grammar.{in_ranges, among, is_in, pick, number_of_k
 use Rattle.cpp_grammar.specs.Table.{abi, rule_of}
 use Rattle.cpp_grammar.specs.Term.{Signed, Adjustment, non_virtual, by_table, adjusting, covariant, Term, symbol, special, thunk, of_name, local, string_literal}
 use Rattle.cpp_grammar.specs.Values as value
-use Rattle.cpp_grammar.specs.Values.{State, Around, Value, nothing_there, letter, signed, adjusted, tree, named, tree_of, text_of, signed_of, adjustment_of, qualifiers_of, ref_of, normal, part}
+use Rattle.cpp_grammar.specs.Values.{Around, Value, nothing_there, letter, signed, adjusted, tree, named, tree_of, text_of, signed_of, adjustment_of, qualifiers_of, ref_of, part}
 use Rattle.cpp_grammar.specs.Between.{between, in_name, in_types, after, extended, no_items}
 use Rattle.cpp_grammar.specs.Meaning.{meaning, encoding_of, discriminator_of}
 use Rattle.cpp_grammar.specs.Unfolding as unfolding_

@@ -1,7 +1,5 @@
-use Rattle.std.proofs.Common.{ap, sym, subst, ◌≡◌, ◌∙◌}
-use Rattle.std.specs.Prelude.{false, length}
+use Rattle.std.proofs.Common.{ap, sym, subst, ◌∙◌}
 use Rattle.cpp_term.specs.Erased.{erase}
-use Rattle.cpp_tree.specs.Nodes.{is_again, entry_at}
 use Rattle.cpp_layout.specs.Layout.{table_of}
 use Rattle.cpp_tree.proofs.Trees.{not_again}
 use Rattle.cpp_press.specs.Tasks.{node_tree, IsMade}

@@ -1,4 +1,4 @@
-use Rattle.std.proofs.Common.{◌≡◌, ◌∙◌, ap, arith}
+use Rattle.std.proofs.Common.{◌∙◌, ap, arith}
 use Rattle.cpp_press_laws.specs.Components.{Spelling}
 use Rattle.cpp_press.specs.declared.task.Way.{Way}
 use Rattle.cpp_press.specs.Tasks.{◌onto◌, in_way, plain_at, press_tasks}

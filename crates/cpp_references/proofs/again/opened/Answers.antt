@@ -1,4 +1,4 @@
-use Rattle.std.proofs.Common.{sym, ◌∙◌, ap, refl, arith}
+use Rattle.std.proofs.Common.{sym, ◌∙◌, ap, refl}
 use Rattle.cpp_term.specs.Reargued.{reargued}
 use Rattle.cpp_tree.specs.Nodes.{over, trees, tree_if_there, placed_tree}
 use Rattle.cpp_tree.proofs.Trees.{placed-none}

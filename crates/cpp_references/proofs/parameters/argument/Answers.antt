@@ -1,6 +1,6 @@
-use Rattle.std.proofs.Common.{◌≡◌, sym, ◌∙◌, ap, refl, false}
+use Rattle.std.proofs.Common.{◌∙◌, ap, refl}
 use Rattle.cpp_term.specs.Scope.{is_open, element}
-use Rattle.cpp_tree.specs.Nodes.{over, trees, tree_at}
+use Rattle.cpp_tree.specs.Nodes.{tree_at}
 use Rattle.cpp_tree.proofs.Trees.{placed-none}
 use Rattle.cpp_references.specs.Around.{trees_in}
 use Rattle.cpp_references.proofs.Arguments.{element_closed}

@@ -1,7 +1,6 @@
-use Rattle.std.proofs.Common.{◌≡◌, sym, ◌∙◌, ap, true, false, Option, Some, None}
-use Rattle.cpp_term.specs.Term.{Term}
-use Rattle.cpp_term.specs.Scope.{is_open, arguments_of}
-use Rattle.cpp_tree.specs.Nodes.{over, tree_at, tree_if_there, placed_if_there, placed_tree}
+use Rattle.std.proofs.Common.{sym, ◌∙◌, ap, true, false, Some}
+use Rattle.cpp_term.specs.Scope.{is_open}
+use Rattle.cpp_tree.specs.Nodes.{tree_at, tree_if_there, placed_if_there, placed_tree}
 use Rattle.cpp_references.specs.Around.{trees_in}
 use Rattle.cpp_references.proofs.Arguments.{argument_closed, none_closed, some_closed}
 use Rattle.cpp_references.proofs.parameters.closed_arguments.Goals as goal

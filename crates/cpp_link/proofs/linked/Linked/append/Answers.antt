@@ -1,7 +1,7 @@
-use Rattle.std.proofs.Common.{sym, ◌∙◌, ap, subst, length, false}
+use Rattle.std.proofs.Common.{sym, ◌∙◌, ap, subst, length}
 use Rattle.cpp_term.specs.Values.{State}
 use Rattle.cpp_term.specs.References.{appended}
-use Rattle.cpp_tree.specs.Nodes.{tree_at, IsThereBelow}
+use Rattle.cpp_tree.specs.Nodes.{IsThereBelow}
 use Rattle.cpp_link.specs.Parts.{trees_in, around_of, candidates_of}
 use Rattle.cpp_link.specs.Reads.{with_candidate}
 use Rattle.cpp_link.proofs.linked.Linked.append.Goals as goal

@@ -1,4 +1,4 @@
-use Rattle.std.proofs.Common.{◌≡◌, ◌∙◌, sym, ap, Some, Ok, Err, true, false}
+use Rattle.std.proofs.Common.{◌∙◌, sym, ap, Some, Ok, true, false}
 use Rattle.cpp_grammar.specs.Scope.{none_free, one_free, several_free}
 use Rattle.cpp_term.specs.Reargued.{reargued}
 use Rattle.cpp_term.specs.Rescoping.{with_free}

@@ -1,12 +1,9 @@
-use Rattle.std.proofs.Common.{refl, sym, ◌∙◌, ap, inl, inr, arith, drop, take, length, ◌-◌}
+use Rattle.std.proofs.Common.{sym, drop, take, length, ◌-◌}
 use Rattle.std.proofs.lemmas.Result.{err_from_is_err_and}
 use Rattle.sym_link.proofs.Lists.{rest_all}
 use Rattle.cpp_grammar.specs.declared.production.Production.{Production}
 use Rattle.cpp_link.specs.Closes.{ends_of}
 use Rattle.cpp_link.specs.Owed.{made_at_end}
-use Rattle.cpp_link.specs.LinkRescoping.{named_by, substituted_nodes}
-use Rattle.cpp_link.specs.Making.{state_of}
-use Rattle.cpp_link.specs.Parts.{trees_in, values_in, around_of}
 use Rattle.cpp_link.proofs.Finishing.{ends_few, few_adds}
 use Rattle.cpp_link.proofs.Rescoped.{wide_put_right, wide_closing_refused}
 use Rattle.cpp_link.proofs.Viewing.{open_there, kept_closed}

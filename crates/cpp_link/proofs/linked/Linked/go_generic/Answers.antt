@@ -4,13 +4,11 @@ use Rattle.std.proofs.lemmas.Result.{err_from_is_err_and}
 use Rattle.sym_link.proofs.Lists.{rest_all}
 use Rattle.sym_core.specs.Value.{counted_value}
 use Rattle.sym_core.specs.declared.NumberKind.TheVariants.{Decimal}
-use Rattle.cpp_grammar.specs.declared.production.Production.{Production}
 use Rattle.cpp_grammar.specs.Unfolding.{production_at}
 use Rattle.cpp_term.specs.Values.{Candidate, Value, part, text_of}
 use Rattle.cpp_tree.specs.Nodes.{bytes_at}
-use Rattle.cpp_link.specs.declared.part.Part.{Part}
 use Rattle.cpp_link.specs.Parts.{trees_in, values_in, around_of}
-use Rattle.cpp_link.specs.LinkRescoping.{is_parameter, is_parameter_argument, generic_read}
+use Rattle.cpp_link.specs.LinkRescoping.{is_parameter_argument, generic_read}
 use Rattle.cpp_link.specs.Reads.{goes_on}
 use Rattle.cpp_link.specs.Stepping.{IsStepOf}
 use Rattle.cpp_link.proofs.GoingOn.{adds_right, steps_few, refused_few}

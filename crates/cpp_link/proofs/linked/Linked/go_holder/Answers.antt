@@ -1,14 +1,13 @@
-use Rattle.std.proofs.Common.{◌≡◌, refl, sym, ◌∙◌, ap, subst, arith, ◌-◌, List, [], ◌∷◌, length, take, drop, true, false}
+use Rattle.std.proofs.Common.{◌≡◌, refl, sym, ◌∙◌, ap, subst, arith, ◌-◌, length, take, drop, true, false}
 use Rattle.std.proofs.lemmas.List.{length-drop}
 use Rattle.std.proofs.lemmas.Result.{err_from_is_err_and}
 use Rattle.sym_link.proofs.Lists.{rest_all}
-use Rattle.cpp_grammar.specs.declared.production.Production.{Production}
 use Rattle.cpp_grammar.specs.Unfolding.{production_at}
 use Rattle.cpp_term.specs.Rescoping.{is_instance}
 use Rattle.cpp_term.specs.Values.{tree_of, part}
 use Rattle.cpp_tree.specs.declared.node.Node.{Node}
 use Rattle.cpp_link.specs.declared.part.Step.{Step}
-use Rattle.cpp_link.specs.Parts.{trees_in, values_in, is_lambda}
+use Rattle.cpp_link.specs.Parts.{trees_in, values_in}
 use Rattle.cpp_link.specs.Stepping.{IsStepOf}
 use Rattle.cpp_link.proofs.GoingOn.{adds_right, steps_few, refused_few}
 use Rattle.cpp_link.proofs.Held.{holder_alone, holder_step, holder_makes, holder_no_pack, held_refuses, held_goes, held_adds, held_few, held_more}

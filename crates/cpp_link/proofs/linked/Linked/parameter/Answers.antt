@@ -1,4 +1,4 @@
-use Rattle.std.proofs.Common.{◌≡◌, ◌∙◌, sym, ap, ℕ, [], ◌∷◌, Ok, true}
+use Rattle.std.proofs.Common.{◌∙◌, sym, ap, ℕ, [], ◌∷◌, Ok, true}
 use Rattle.sym_core.specs.Value.{counted_value}
 use Rattle.sym_core.specs.declared.NumberKind.TheVariants.{Decimal}
 use Rattle.sym_link.specs.Reading.{◌>>=◌}
@@ -7,10 +7,9 @@ use Rattle.cpp_term.specs.Values as values
 use Rattle.cpp_term.specs.Values.{Around, State}
 use Rattle.cpp_term.specs.References.{appended}
 use Rattle.cpp_term.specs.Between.{argument_at, after, listed_so_far, parameter_so_far}
-use Rattle.cpp_tree.specs.Nodes.{bytes_at, tree_if_there}
+use Rattle.cpp_tree.specs.Nodes.{bytes_at}
 use Rattle.cpp_link.specs.Parts.{trees_in, tree_of_node, around_of}
 use Rattle.cpp_link.specs.Reads.{parameter_read, goes_on, behind_first, named_if, appended_if}
-use Rattle.cpp_references.proofs.Named.{scope_closed}
 use Rattle.cpp_references.proofs.Named.{fails_is}
 use Rattle.cpp_link.proofs.linked.Linked.parameter.Goals as goal
 

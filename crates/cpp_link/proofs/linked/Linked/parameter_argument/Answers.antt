@@ -1,4 +1,4 @@
-use Rattle.std.proofs.Common.{◌≡◌, ◌∙◌, sym, ap, ℕ, [], ◌∷◌, Ok, true}
+use Rattle.std.proofs.Common.{◌∙◌, sym, ap, ℕ, [], ◌∷◌, Ok, true}
 use Rattle.sym_core.specs.Value.{counted_value}
 use Rattle.sym_core.specs.declared.NumberKind.TheVariants.{Decimal}
 use Rattle.sym_link.specs.Reading.{◌>>=◌}

@@ -1,6 +1,5 @@
-use Rattle.std.proofs.Common.{◌≡◌, sym, ◌∙◌, ap, subst, length, true, Some, Ok}
+use Rattle.std.proofs.Common.{sym, ◌∙◌, ap, subst, length, true, Ok}
 use Rattle.sym_link.specs.Unfold.{found}
-use Rattle.cpp_term.specs.Reargued.{reargued}
 use Rattle.cpp_term.specs.Values.{State, Around, tree}
 use Rattle.cpp_term.specs.Rescoping.{restated}
 use Rattle.cpp_tree.specs.Nodes.{tree_at, tree_of}

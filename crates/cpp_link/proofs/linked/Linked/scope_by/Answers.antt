@@ -1,4 +1,4 @@
-use Rattle.std.proofs.Common.{◌≡◌, ◌∙◌, sym, ap, arith, true, false}
+use Rattle.std.proofs.Common.{◌∙◌, sym, ap, arith, true, false}
 use Rattle.std.proofs.lemmas.Bool.{le-ltb, lt-ltb}
 use Rattle.cpp_term.specs.Term.{Term}
 use Rattle.cpp_term.specs.Scope.{count}

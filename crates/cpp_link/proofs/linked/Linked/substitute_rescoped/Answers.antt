@@ -1,11 +1,11 @@
-use Rattle.std.proofs.Common.{◌≡◌, sym, ◌∙◌, ap, subst, arith, ◌+◌, ◌-◌, length, Some, None, Ok, Err}
+use Rattle.std.proofs.Common.{◌≡◌, sym, ◌∙◌, ap, subst, arith, ◌+◌, ◌-◌, length, Some, Ok, Err}
 use Rattle.std.specs.Prelude.{slice_get, IfOk, IfErr, OnOk}
 use Rattle.sym_core.specs.Value.{counted_value}
 use Rattle.sym_core.specs.declared.NumberKind.TheVariants.{Seq36}
 use Rattle.sym_core.specs.declared.refusal.Refusal.TheVariants.{BadReference}
 use Rattle.sym_link.specs.Driving.{Fails}
 use Rattle.sym_link.specs.Unfold.{found}
-use Rattle.cpp_term.specs.Values.{Around, State}
+use Rattle.cpp_term.specs.Values.{Around}
 use Rattle.cpp_term.specs.Rescoping.{restated, substituted_wide}
 use Rattle.cpp_tree.specs.Nodes.{tree_at}
 use Rattle.cpp_link.specs.LinkRescoping.{named_by, substituted_nodes}

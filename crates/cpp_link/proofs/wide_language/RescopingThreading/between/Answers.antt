@@ -6,7 +6,6 @@ use Rattle.cpp_link.specs.View.{Surrounds}
 use Rattle.cpp_link.specs.LinkRescoping.{names_generic, names_holder, wide_view, wide_makes}
 use Rattle.cpp_link.specs.Parts.{is_lambda}
 use Rattle.cpp_link.proofs.Rescoped.{apart_goes, wide_before_read}
-use Rattle.cpp_link.proofs.Rooms.{roomy_keeps, roomy_full}
 use Rattle.cpp_link.proofs.Within.{goes_within}
 use Rattle.cpp_link.proofs.wide_language.RescopingThreading.between.Goals as goal
 
