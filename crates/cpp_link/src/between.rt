@@ -292,6 +292,12 @@ impl Linked {
             Production::Arguments => self.go_as(symbol, Production::Arguments, frame, parts),
             Production::NestTemplate => self.go_as(symbol, Production::NestTemplate, frame, parts),
             Production::TypeWithS => self.go_as(symbol, Production::TypeWithS, frame, parts),
+            Production::TaggedStdType => self.go_as(
+                symbol,
+                Production::TaggedStdType,
+                frame,
+                parts,
+            ),
             _ => match self.go_rare(symbol, production, frame, parts) {
                 Ok(then) => Ok(then),
                 Err(refusal) => Err(refusal),

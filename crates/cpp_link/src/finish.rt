@@ -411,6 +411,13 @@ impl Linked {
                 frame,
                 parts,
             ),
+            Production::TypeInStd => self.finish_as(symbol, Production::TypeInStd, frame, parts),
+            Production::TaggedStdType => self.finish_as(
+                symbol,
+                Production::TaggedStdType,
+                frame,
+                parts,
+            ),
             Production::Special => self.finish_as(symbol, Production::Special, frame, parts),
             _ => self.finish_rare(symbol, production, frame, parts),
         }

@@ -431,9 +431,6 @@ impl Linked {
             Production::Destructor => self.applied(symbol, parts, false),
             // <unscoped-name> ::= St <unqualified-name>
             Production::StdName => self.applied(symbol, parts, false),
-            // <unscoped-name> ::= St <unqualified-name>, as a type, perhaps with <abi-tags>
-            Production::TypeInStd => Meant::Given(self.given(symbol, parts, 0)),
-            Production::TaggedStdType => self.applied(symbol, parts, false),
             // <unscoped-template-name> ::= <substitution>, with <template-args>
             Production::AbbreviatedName => self.applied(symbol, parts, false),
             // <template-param> ::= T_ | T <parameter number> _
@@ -567,6 +564,8 @@ impl Linked {
             Production::NestWithS => unreachable!(),
             Production::TypeWithS => unreachable!(),
             Production::AbbreviatedType => unreachable!(),
+            Production::TypeInStd => unreachable!(),
+            Production::TaggedStdType => unreachable!(),
             Production::Special => unreachable!(),
             Production::Substitution => unreachable!(),
             Production::SourcePiece => unreachable!(),
@@ -679,6 +678,10 @@ impl Linked {
                 internal: false,
                 bytes: self.text(symbol, parts, 0),
             }),
+            // <unscoped-name> ::= St <unqualified-name>, as a type
+            Production::TypeInStd => Meant::Given(self.given(symbol, parts, 0)),
+            // <unscoped-name> ::= St <unqualified-name>, as a type, perhaps with <abi-tags>
+            Production::TaggedStdType => self.applied(symbol, parts, false),
             // <encoding> ::= <special-name>
             Production::Special => Meant::Given(self.given(symbol, parts, 0)),
             // <substitution> ::= S_ | S <seq-id> _

@@ -8,4 +8,4 @@ finish_rare-requires-clause-rare c = is_rare c.production_of-production.result
     c.in_default.not-Encoding c.in_default.not-NestedName c.in_default.not-Arguments c.in_default.not-NestWithS c.in_default.not-NestTemplate
     c.in_default.not-TypeWithS c.in_default.not-AbbreviatedType c.in_default.not-ReferenceType c.in_default.not-Pointer
     c.in_default.not-ConstType c.in_default.not-QualifiedPlain c.in_default.not-Mark c.in_default.not-SourcePiece c.in_default.not-PlainArgument
-    c.in_default.not-Special c.in_default.not-Substitution
+    c.in_default.not-TypeInStd c.in_default.not-TaggedStdType c.in_default.not-Special c.in_default.not-Substitution
