@@ -19,7 +19,7 @@ returns-in_default c =
     let a = tree_at ts c.args.argument in
     let t = tree_at ts c.args.tree in
     let is : tree_at ts c.given_alone.result ≡ given_alone a (free_in t) =
-        c.given_alone.ensures.tree ∙ ap (given_alone a) (ap (λ e. free_is e.free) c.entry-held.ensures ∙ (c.requires.table.each c.args.tree c.requires.tree).free) in
+    c.given_alone.ensures.tree ∙ ap (given_alone a) (ap (λ e. free_is e.free) c.entry-held.ensures ∙ (c.requires.table.each c.args.tree c.requires.tree).free) in
     record {
       tree = same-given (tree_at ts c.given_alone.result) a t is (other-at y c.requires.table c.args.tree c.entry-held.result c.requires.tree c.entry-held.ensures c.in_default.not-Own);
       lone = lone-given (tree_at ts c.given_alone.result) a t is;
