@@ -6,14 +6,15 @@ use Rattle.rust_tree.specs.Tree.{Tree}
 use Rattle.rust_tree.specs.Nodes.{Grows, IsTable, trees, tree_of, type_of}
 use Rattle.rust_tree.specs.declared.node.Node.{Node}
 use Rattle.rust_tree.specs.declared.node.Ty.{Ty}
-use Rattle.rust_v0.specs.declared.nodes.Target.{Target}
+use Rattle.rust_references.specs.declared.targets.Target.{Target}
 use Rattle.rust_v0.specs.declared.nodes.RustNodes.{RustNodes}
 use Rattle.rust_grammar.specs.Value as value
 use Rattle.rust_grammar.specs.Value.{Value}
 use Rattle.rust_grammar.specs.Unfold.{At, Meaning, as_path}
 use Rattle.rust_v0.specs.Made.{ends_tree}
 use Rattle.rust_v0.specs.CodeSemantics as semantics
-use Rattle.rust_v0.specs.RustNodes.{IsNoted, AreNoted, Keeps, v0_view}
+use Rattle.rust_references.specs.Targets.{IsNoted, AreNoted}
+use Rattle.rust_v0.specs.RustNodes.{Keeps, v0_view}
 use Rattle.sym_link.specs.Linking.{Gives}
 use Rattle.rust_v0.proofs.Noted.{stays_noted, lists_stay, noted_added}
 

@@ -13,7 +13,8 @@ use Rattle.sym_link.specs.Reading.{◌>>=◌}
 use Rattle.rust_tree.proofs.Trees.{grows-same}
 use Rattle.rust_v0.specs.declared.nodes.RustNodes.{RustNodes}
 use Rattle.rust_v0.specs.Made.{Made}
-use Rattle.rust_v0.specs.RustNodes.{v0_view, Keeps, GoesOn, IsNoted, refers_by}
+use Rattle.rust_references.specs.Targets.{IsNoted}
+use Rattle.rust_v0.specs.RustNodes.{v0_view, Keeps, GoesOn, refers_by}
 use Rattle.rust_tree.specs.Symbol as tree
 use Rattle.rust_tree.specs.Tree.{of_type, of_types, of_constant}
 use Rattle.rust_tree.specs.Nodes.{Table, tree_of, type_of, types_of, constant_of, IsWithin, bytes_at, trees}
@@ -26,7 +27,7 @@ use Rattle.rust_grammar.specs.declared.production.Production.TheVariants as rule
 use Rattle.rust_v0.specs.declared.part.Part.{Part}
 use Rattle.rust_grammar.specs.Value.{Value, a_suffix, some_bounds, suffix_rest, letter, unsafe_mark, an_abi, minus_mark, a_truth}
 use Rattle.rust_grammar.specs.Unfold.{At, Meaning, meaning, byte_at, number_part, referred}
-use Rattle.rust_v0.specs.declared.nodes.Target.{Target}
+use Rattle.rust_references.specs.declared.targets.Target.{Target}
 use Rattle.rust_v0.specs.CodeOperands as operands
 use Rattle.rust_v0.specs.PartValues.{IsPart, IsNumber, Agree}
 use Rattle.rust_v0.proofs.OperandLemmas.{number_agrees}

@@ -6,10 +6,10 @@ use Rattle.std.proofs.lemmas.Bool.{eqb-true, eq-eqb, cases_Bool, false≢true}
 use Rattle.rust_tree.specs.Tree.{Tree}
 use Rattle.rust_tree.specs.Nodes.{Grows, Table, trees}
 use Rattle.rust_tree.proofs.Trees.{tree-stays}
-use Rattle.rust_v0.specs.declared.nodes.Target.{Target}
+use Rattle.rust_references.specs.declared.targets.Target.{Target}
 use Rattle.rust_grammar.specs.Value.{Value, Ended}
 use Rattle.rust_v0.specs.Made.{ground, HasLists}
-use Rattle.rust_v0.specs.RustNodes.{IsNoted, AreNoted}
+use Rattle.rust_references.specs.Targets.{IsNoted, AreNoted}
 use Rattle.rust_v0.proofs.Places.{same_there}
 
 module _ (s : List ℕ) (old new : Table) (grows : Grows old new) where

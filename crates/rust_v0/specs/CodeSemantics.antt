@@ -20,7 +20,7 @@ use Rattle.rust_grammar.specs.declared.production.Production.TheVariants as rule
 use Rattle.rust_v0.specs.CodeOperands as operands
 use Rattle.rust_grammar.specs.Productions.{production_of, is_reference, makes_part}
 use Rattle.rust_grammar.specs.Unfold.{greatest_u64, is_scalar, no_such_parts}
-use Rattle.rust_v0.specs.declared.nodes.Target.{Target}
+use Rattle.rust_references.specs.declared.targets.Target.{Target}
 use Rattle.rust_v0.specs.declared.operands.TheConstants.{EMPTY_BOUNDS}
 use Rattle.rust_v0.specs.declared.part.Part.{Part}
 use Rattle.rust_v0.specs.declared.part.Added.{Added}

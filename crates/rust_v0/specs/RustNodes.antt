@@ -1,15 +1,13 @@
 -- How the nodes that have been made are what the reading of a symbol says.
-use Rattle.std.specs.Prelude.{◌≡◌, ◌⊎◌, ℕ, ◌+◌, ◌-◌, ◌*◌, ◌≤◌, ◌<◌, List, [], ◌∷◌, true, length, get_or, slice_get, Option, Some, None, Result, Err, IfErr, nat_le, if◌then◌else◌}
+use Rattle.std.specs.Prelude.{◌≡◌, ℕ, ◌+◌, ◌-◌, ◌*◌, ◌≤◌, ◌<◌, List, [], ◌∷◌, true, length, Option, Some, Result, Err, IfErr}
 use Rattle.sym_core.specs.Printed.{IsDecoded}
 use Rattle.sym_link.specs.Linking.{View}
-use Rattle.rust_tree.specs.Symbol as tree
-use Rattle.rust_tree.specs.Tree.{Tree, of_type}
-use Rattle.rust_tree.specs.Nodes.{most_bound, IsTable, Grows, IsPath, IsConstant}
+use Rattle.rust_tree.specs.Nodes.{most_bound, IsTable, Grows}
 use Rattle.sym_core.specs.declared.refusal.Refusal.{Refusal}
-use Rattle.sym_core.specs.declared.refusal.Refusal.TheVariants.{BadReference, Memory}
+use Rattle.sym_core.specs.declared.refusal.Refusal.TheVariants.{Memory}
 use Rattle.rust_grammar.specs.declared.production.Production.{Production}
 use Rattle.rust_grammar.specs.declared.production.Production.TheVariants as rules
-use Rattle.rust_v0.specs.declared.nodes.Target.{Target}
+use Rattle.rust_references.specs.Targets.{AreNoted}
 use Rattle.rust_v0.specs.declared.nodes.BoundLifetimes.{BoundLifetimes}
 use Rattle.rust_v0.specs.declared.nodes.RustNodes.{RustNodes}
 use Rattle.rust_v0.specs.declared.part.Part.{Part}
@@ -17,22 +15,10 @@ use Rattle.rust_grammar.specs.Productions.{production_of}
 use Rattle.rust_grammar.specs.Rules.{v0_table}
 use Rattle.rust_grammar.specs.Value as value
 use Rattle.rust_grammar.specs.Value.{Value, State, Ended}
-use Rattle.rust_grammar.specs.Unfold.{v0, at_first, ended_at, as_path, as_type, as_constant, At, Meaning, ends, no_such_parts, refers_to_path, refers_to_type, refers_to_constant}
+use Rattle.rust_grammar.specs.Unfold.{v0, at_first, as_path, as_type, as_constant, At, Meaning, no_such_parts, refers_to_path, refers_to_type, refers_to_constant}
 use Rattle.rust_v0.specs.PartValues.{IsPart}
 use Rattle.rust_v0.specs.Made.{ground, HasLists}
 use Rattle.rust_v0.specs.Tokens.{HasZero}
-
--- what is noted of a place is what ended that began there; a path may have ended as a type
-abbrev pub IsNoted : List Tree → Target → Option Value → Type 0
-IsNoted all Target.Nothing found = found ≡ None
-IsNoted all (Target.Path node) found =
-    (path : tree.Path) × IsPath all node path × ((found ≡ Some (value.a_path path)) ⊎ (found ≡ Some (value.a_type (tree.path_type path))))
-IsNoted all (Target.Type node) found =
-    (type : tree.Ty) × (slice_get all node ≡ Some (of_type type)) × (as_path (Some (value.a_type type)) ≡ None) × (found ≡ Some (value.a_type type))
-IsNoted all (Target.Constant node) found = (constant : tree.Constant) × IsConstant all node constant × (found ≡ Some (value.a_constant constant))
-
-abbrev pub AreNoted : List Tree → List Target → List Ended → Type 0
-AreNoted all targets ended = (place : ℕ) → IsNoted all (get_or targets place Target.Nothing) (ended_at ended place)
 
 -- the nodes are a table of the symbol, begun with the lists that have no items, and what has ended is noted by its place in the symbol
 pub record Keeps (s : List ℕ) (linked : RustNodes) (ended : List Ended) : Type 0 where
@@ -105,10 +91,6 @@ v0_view s = record {
   -- a name is decoded with memory of its own
   TakesMemory = λ number own. (production_of number ≡ Some rules.PunycodeName) × IsDecoded true own;
 }
-
--- a reference to what has ended, which needs so many lifetimes
-abbrev pub refers_to : At → Value → (need : ℕ) → Meaning
-refers_to at v need = if nat_le need at.bound then ends at v else Err (BadReference at.place)
 
 -- a reference of a production to what has ended
 abbrev pub refers_by : Production → At → Option Value → Meaning

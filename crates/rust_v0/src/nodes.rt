@@ -1,19 +1,19 @@
 // The table of the nodes that a symbol is linked to: how it begins, what is added where a rule closes, and what references
 // stand for.
 
-ghost use Rattle.std.specs.Prelude.{◌≡◌, ◌≢◌, ℕ, ◌+◌, ◌<◌, ◌≤◌, ◌++◌, ◌^◌, List, [], length, get_or, slice_get, slice_index, Some, Option, slice_set, replicate, true, false, Ok, IfOk, OnOk, IfErr};
+ghost use Rattle.std.specs.Prelude.{◌≡◌, ◌≢◌, ℕ, ◌+◌, ◌<◌, ◌≤◌, ◌++◌, ◌^◌, List, [], length, get_or, slice_index, Some, Option, slice_set, replicate, true, false, Ok, IfOk, OnOk, IfErr};
 ghost use Rattle.sym_core.specs.declared.refusal.Refusal.TheVariants as refusals;
-ghost use Rattle.rust_v0.specs.declared.nodes.Target.TheVariants as target;
+ghost use Rattle.rust_references.specs.declared.targets.Target.TheVariants as target;
+ghost use Rattle.rust_references.specs.Targets.{IsNoted};
 ghost use Rattle.rust_v0.specs.Made.{Made};
 ghost use Rattle.rust_v0.specs.PartValues.{IsNumber, IsPart};
 ghost use Rattle.rust_grammar.specs.Unfold.{At, Meaning, meaning, refers_to_path, refers_to_type, refers_to_constant, as_path, as_type, as_constant};
 ghost use Rattle.rust_grammar.specs.Value.{Value};
-ghost use Rattle.rust_tree.specs.Tree.{Tree, need_of_tree};
 ghost use Rattle.rust_grammar.specs.Productions.{is_reference, makes_part};
 ghost use Rattle.rust_v0.specs.CodeSemantics as semantics;
 ghost use Rattle.rust_v0.specs.CodeSemantics.{Outcome, of_node};
 ghost use Rattle.rust_v0.specs.Made.{MadeGives, ground};
-ghost use Rattle.rust_v0.specs.RustNodes.{v0_view, Keeps, AddsOne, IsNoted, IsPaid, first_nodes, refers_to, refers_by};
+ghost use Rattle.rust_v0.specs.RustNodes.{v0_view, Keeps, AddsOne, IsPaid, first_nodes, refers_by};
 ghost use Rattle.sym_link.specs.Linking.{Gives};
 ghost use Rattle.sym_link.specs.Driving.{AreAll};
 ghost use Rattle.sym_core.specs.Number.{FitsSymbol};
@@ -28,19 +28,12 @@ use crate::semantics::{
     symbol, trait_definition, trait_impl, tuple, type_argument, unsigned_constant,
 };
 use rust_grammar::production::Production;
+use rust_references::named::{constant_named, path_named, type_named};
+use rust_references::targets::Target;
 use rust_tree::Nodes;
 use rust_tree::node::{Arguments, Bindings, Bounds, Constant, Node, Ty, Types};
 use std::alloc::Global;
 use sym_core::Refusal;
-
-/// What a back reference to a place stands for: the node of what began there and has ended.
-#[derive(Clone, Copy)]
-pub enum Target {
-    Nothing,
-    Path(u32),
-    Type(u32),
-    Constant(u32),
-}
 
 /// What is kept for an open rule: how many lifetimes are bound around it.
 #[derive(Clone, Copy)]
@@ -183,29 +176,6 @@ impl RustNodes {
         Ok(added)
     }
 
-    /// A reference at a place stands for a node, if that needs no more lifetimes than are bound there.
-    fn refer(
-        &mut self,
-        place: u32,
-        bound: u64,
-        node: u32,
-        target: Target,
-        part: Part,
-    ) -> Result<Part, Refusal>
-        ensures gives { (at : At) (t : Tree) (v : Value) → at.place ≡ place → at.bound ≡ bound → place < length self.old.targets.items → Keeps at.symbol self.old at.ended
-            → slice_get (trees at.symbol self.old.nodes.nodes) node ≡ Some t → IsNoted (trees at.symbol self.old.nodes.nodes) target (Some v)
-            → IsPart (ground at.symbol self.old.nodes) part v → Gives (v0_view at.symbol) self.new result (refers_to at v (need_of_tree t)) }
-        ensures nodes { self.new.nodes ≡ self.old.nodes }
-        ensures places { length self.new.targets.items ≡ length self.old.targets.items }
-        ensures never { IfErr result (λ e. e ≢ refusals.Memory) }
-    {
-        if self.nodes.need(node) > bound {
-            return Err(Refusal::BadReference { at: place });
-        }
-        note(&mut self.targets, place, target);
-        Ok(part)
-    }
-
     /// A path's reference.
     fn refer_to_path(&mut self, place: u32, bound: u64, found: Target) -> Result<Part, Refusal>
         ensures gives { (at : At) (known : Option Value) → at.place ≡ place → at.bound ≡ bound → place < length self.old.targets.items → Keeps at.symbol self.old at.ended
@@ -214,12 +184,9 @@ impl RustNodes {
         ensures places { length self.new.targets.items ≡ length self.old.targets.items }
         ensures never { IfErr result (λ e. e ≢ refusals.Memory) }
     {
-        match found {
-            Target::Path(node) => self.refer(place, bound, node, found, Part::Path(node)),
-            Target::Nothing | Target::Type(_) | Target::Constant(_) => {
-                Err(Refusal::BadReference { at: place })
-            }
-        }
+        let node = path_named(&self.nodes, found, place, bound)?;
+        note(&mut self.targets, place, found);
+        Ok(Part::Path(node))
     }
 
     /// A type's reference, which may name a path.
@@ -230,27 +197,22 @@ impl RustNodes {
         ensures places { length self.new.targets.items ≡ length self.old.targets.items }
         ensures never { IfErr result (λ e. e ≢ refusals.Memory) }
     {
-        match found {
-            Target::Path(node) => self.refer(place, bound, node, found, Part::Type(node)),
-            Target::Type(node) => self.refer(place, bound, node, found, Part::Type(node)),
-            Target::Nothing | Target::Constant(_) => Err(Refusal::BadReference { at: place }),
-        }
+        let node = type_named(&self.nodes, found, place, bound)?;
+        note(&mut self.targets, place, found);
+        Ok(Part::Type(node))
     }
 
     /// A constant's reference.
-    fn refer_to_constant(&mut self, place: u32, bound: u64, found: Target) -> Result<Part, Refusal>
-        ensures gives { (at : At) (known : Option Value) → at.place ≡ place → at.bound ≡ bound → place < length self.old.targets.items → Keeps at.symbol self.old at.ended
+    fn refer_to_constant(&mut self, place: u32, found: Target) -> Result<Part, Refusal>
+        ensures gives { (at : At) (known : Option Value) → at.place ≡ place → place < length self.old.targets.items → Keeps at.symbol self.old at.ended
             → IsNoted (trees at.symbol self.old.nodes.nodes) found known → Gives (v0_view at.symbol) self.new result (refers_to_constant at (as_constant known)) }
         ensures nodes { self.new.nodes ≡ self.old.nodes }
         ensures places { length self.new.targets.items ≡ length self.old.targets.items }
         ensures never { IfErr result (λ e. e ≢ refusals.Memory) }
     {
-        match found {
-            Target::Constant(node) => self.refer(place, bound, node, found, Part::Constant(node)),
-            Target::Nothing | Target::Path(_) | Target::Type(_) => {
-                Err(Refusal::BadReference { at: place })
-            }
-        }
+        let node = constant_named(found, place)?;
+        note(&mut self.targets, place, found);
+        Ok(Part::Constant(node))
     }
 
     /// A reference at a place to what has ended.
@@ -270,7 +232,7 @@ impl RustNodes {
         match production {
             Production::PathReference => self.refer_to_path(place, bound, found),
             Production::TypeReference => self.refer_to_type(place, bound, found),
-            Production::ConstantReference => self.refer_to_constant(place, bound, found),
+            Production::ConstantReference => self.refer_to_constant(place, found),
             _ => Err(NO_SUCH_PARTS),
         }
     }

@@ -1,5 +1,5 @@
 use Rattle.std.proofs.Common.{◌≡◌, ℕ, ◌-◌, ◌+◌, ◌++◌, length, replicate}
-use Rattle.rust_v0.specs.declared.nodes.Target.TheVariants as targets
+use Rattle.rust_references.specs.declared.targets.Target.TheVariants as targets
 use Rattle.rust_v0.proofs.nodes.reach.Given as goal
 
 abbrev pub invariant-loop-targets : goal.invariant-loop-targets

@@ -1,12 +1,16 @@
-use Rattle.std.proofs.Common.{refl, ap}
-use Rattle.rust_tree.specs.Tree.{of_constant}
-use Rattle.rust_grammar.specs.Value as value
-use Rattle.rust_grammar.specs.Unfold.{as_constant}
-use Rattle.rust_v0.proofs.Referring.{constant_refers}
+use Rattle.std.proofs.Common.{refl}
+use Rattle.rust_tree.specs.Nodes.{trees}
+use Rattle.rust_grammar.specs.Value.{a_constant}
+use Rattle.rust_v0.proofs.Referring.{referred_keeps}
 use Rattle.rust_v0.proofs.nodes.RustNodes.refer_to_constant.Goals as goal
 
-pub returns-in-Constant-clause-gives : goal.returns-in-Constant-clause-gives
-returns-in-Constant-clause-gives c at known place bound there keeps is =
-    let noted = rw c.in-Constant.is at is in
-    rw (ap as_constant noted.2, constant_refers at noted.0)
-    (c.refer.ensures.gives at (of_constant noted.0) (value.a_constant noted.0) place bound there keeps noted.1 (noted.0, noted.1, refl) noted.1)
+pub returns-clause-gives : goal.returns-clause-gives
+returns-clause-gives c at known place there keeps is =
+    let named = c.in_ok-node.ensures.names (trees at.symbol c.args.self.now.nodes.nodes) at known place is in
+    rw named.3 (
+      _,
+      _,
+      refl,
+      named.1,
+      referred_keeps at.symbol c.args.self.now _ at.ended at.place c.args.found (a_constant named.0) (rw place there) keeps named.2 refl (rw place (c.note.ensures.noted there)),
+    )
