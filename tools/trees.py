@@ -551,7 +551,7 @@ def declarations():
     yield "cpp_press_laws/proofs/Components/Complete.antt", "inside-shut", inside_shut()
     yield "cpp_press_laws/proofs/Components/Growing.antt", "size", fold("size", [], lambda parts: f"suc ({' + '.join(parts)})", "1", trees=named(PRESSED))
     yield "cpp_press_laws/specs/Apart.antt", "IsNeverReferred", never_referred()
-    yield "cpp_press/specs/Weight.antt", "weight", fold("weight", [], summed("12"), "12", trees=named(PRESSED))
+    yield "cpp_spelling/specs/Weight.antt", "weight", fold("weight", [], summed("12"), "12", trees=named(PRESSED))
     nowhere = {"symbol": None, "construction": None, "clone": None, "holder": None, "sized_float": None, "constrained": None, "generic_lambda": None, "bounded": None, "of_default": None, "conversion": None, "absent": None, ("order", "function"): ["name", "returned", "parameters", "q", "ref"]}
     yield "cpp_press_laws/proofs/Components/FewComponents.antt", "counts", by_each("counts", "few", [], nowhere, {"local": "local-name", "address_of": "address"})
     yield "cpp_press_laws/proofs/EveryWay/Law.antt", "reads", by_each("reads", "reads", ["c"], {**nowhere, ("before", "function"): ["c"]}, {"address_of": "address"})

@@ -13,7 +13,7 @@ use Rattle.cpp_press_laws.specs.Apart.{spelled_components}
 use Rattle.cpp_press_laws.specs.Repeated.{is_spelled, repeated}
 use Rattle.cpp_press_laws.specs.Components.{Component}
 use Rattle.cpp_press_laws.proofs.Components.Sameness.{tree-itself}
-use Rattle.cpp_press.specs.Tasks.{plain_at}
+use Rattle.cpp_spelling.specs.Tasks.{plain_at}
 use Rattle.cpp_press.specs.Places.{AreOfNodes}
 use Rattle.cpp_press.specs.OfRead.{HasFewComponents}
 use Rattle.cpp_press.proofs.NodesOfRead.{components-below}

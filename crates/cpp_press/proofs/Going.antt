@@ -9,12 +9,12 @@ use Rattle.cpp_press_laws.specs.Components.{Component, Spelling, first_equal, en
 use Rattle.cpp_press_laws.specs.Pressing.{ways_of, pressed}
 use Rattle.cpp_press_laws.specs.Apart.{spelled_components}
 use Rattle.cpp_press.specs.declared.components.Likeness.{Likeness}
-use Rattle.cpp_press.specs.declared.task.Task.{Task}
-use Rattle.cpp_press.specs.declared.task.Way.{Way}
-use Rattle.cpp_press.specs.Tasks.{◌onto◌, written, in_way, ending, plain_at, press_task, press_tasks, IsTask, AreTasks, task_weight, tasks_weight}
+use Rattle.cpp_spelling.specs.declared.task.Task.{Task}
+use Rattle.cpp_spelling.specs.declared.task.Way.{Way}
+use Rattle.cpp_spelling.specs.Tasks.{◌onto◌, written, in_way, ending, plain_at, press_task, press_tasks, IsTask, AreTasks, task_weight, tasks_weight}
 use Rattle.cpp_press.specs.Places.{noted, likeness_of, ArePlaces, AreNumbers, AreOfNodes, behind, Goes}
 use Rattle.cpp_press.specs.OfRead.{HasFewComponents}
-use Rattle.cpp_press.proofs.Pushed.{tasks-push, weight-push, tasks-less}
+use Rattle.cpp_spelling.proofs.Pushed.{tasks-push, weight-push, tasks-less}
 use Rattle.cpp_press.proofs.Placing.{places-go}
 use Rattle.cpp_press.proofs.Counting.{few-components}
 

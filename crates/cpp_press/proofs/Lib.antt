@@ -1,13 +1,5 @@
-mod Digits
-mod Pushed
-mod Made
-mod Entities
-mod Ways
 mod Open
 mod Placing
-mod Standing
-mod Weighing
-mod Templates
 mod NodesOfRead
 mod Counting
 mod Going

@@ -13,7 +13,7 @@ use Rattle.sym_core.specs.declared.Span.{Span}
 use Rattle.cpp_grammar.specs.Term.{Term}
 use Rattle.cpp_layout.specs.Layout.{ReadSymbol}
 use Rattle.cpp_press.specs.declared.numbering.Key.{Key}
-use Rattle.cpp_press.specs.Tasks.{plain_at}
+use Rattle.cpp_spelling.specs.Tasks.{plain_at}
 use Rattle.cpp_press.specs.Details.{Told, tree_told}
 use Rattle.cpp_press.specs.Numbers.{IsKeyOf, IsPartNumber, part_number}
 use Rattle.sym_spell.specs.Numbers.{TellApart}

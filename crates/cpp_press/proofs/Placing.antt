@@ -13,7 +13,7 @@ use Rattle.cpp_press_laws.specs.Same.{same_tree}
 use Rattle.cpp_press_laws.specs.Components.{Component, is_same, first_equal}
 use Rattle.cpp_press_laws.proofs.Components.Sameness.{equal-tree, tree-itself}
 use Rattle.cpp_press.specs.declared.components.Likeness.{Likeness}
-use Rattle.cpp_press.specs.Tasks.{plain_at}
+use Rattle.cpp_spelling.specs.Tasks.{plain_at}
 use Rattle.cpp_press.specs.Places.{like, likeness_cmp, noted, likeness_of, ArePlaces, AreNumbers}
 
 true-false : true ≡ false → ⊥

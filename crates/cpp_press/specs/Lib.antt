@@ -1,9 +1,4 @@
-pub mod Bytes
-pub mod Weight
-pub mod Tasks
-pub mod Spelled
 pub mod Places
 pub mod OfRead
-pub mod Standings
 pub mod Details
 pub mod Numbers

@@ -4,7 +4,7 @@ use Rattle.cpp_grammar.specs.Term.{Term}
 use Rattle.cpp_tree.specs.Fields.{fields_of}
 use Rattle.cpp_layout.specs.Layout.{ReadSymbol}
 use Rattle.cpp_press.specs.declared.numbering.Key.{Key}
-use Rattle.cpp_press.specs.Tasks.{plain_at}
+use Rattle.cpp_spelling.specs.Tasks.{plain_at}
 use Rattle.cpp_press.specs.Details.{tree_told}
 
 -- one more than the number of a part, or 0

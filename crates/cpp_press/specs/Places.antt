@@ -10,8 +10,8 @@ use Rattle.cpp_layout.specs.Layout.{ReadSymbol}
 use Rattle.cpp_press_laws.specs.Components.{Component, first_equal}
 use Rattle.cpp_press_laws.specs.Pressing.{ways_of}
 use Rattle.cpp_press.specs.declared.components.Likeness.{Likeness}
-use Rattle.cpp_press.specs.declared.task.Task.{Task}
-use Rattle.cpp_press.specs.Tasks.{plain_at, press_tasks, AreTasks}
+use Rattle.cpp_spelling.specs.declared.task.Task.{Task}
+use Rattle.cpp_spelling.specs.Tasks.{plain_at, press_tasks, AreTasks}
 
 abbrev pub like : Likeness → Likeness → Bool
 like a b = nat_eq a.number b.number && nat_eq a.encoding b.encoding

@@ -3,14 +3,8 @@
 
 mod components;
 mod details;
-mod names;
 mod numbering;
 mod pressing;
-mod steps;
-mod stored;
-mod task;
-mod texts;
-mod types;
 
 pub use numbering::numbers;
 pub use pressing::press_cpp;

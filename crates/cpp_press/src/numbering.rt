@@ -4,7 +4,7 @@
 ghost use Rattle.std.specs.Prelude.{◌≡◌, ◌<◌, ◌≤◌, length, Some, None, IfOk, IfErr};
 ghost use Rattle.sym_core.specs.declared.Refusal.TheVariants.{Memory};
 ghost use Rattle.cpp_tree.specs.Views.{IsSlotBelow};
-ghost use Rattle.cpp_press.specs.Tasks.{plain_at};
+ghost use Rattle.cpp_spelling.specs.Tasks.{plain_at};
 ghost use Rattle.cpp_press.specs.Places.{AreNumbers};
 ghost use Rattle.cpp_press.specs.Numbers.{IsKeyOf, part_number};
 ghost use Rattle.sym_spell.specs.Numbers.{AreBelow};

@@ -4,7 +4,7 @@ use Rattle.std.specs.Map.{lookup}
 use Rattle.sym_spell.specs.Numbers.{AreBelow, AreNumbered, number_at}
 use Rattle.sym_spell.proofs.Counting.{through}
 use Rattle.sym_spell.proofs.FirstOnes.{AreFirsts, first-below, none-first, firsts-more}
-use Rattle.cpp_press.specs.Tasks.{plain_at}
+use Rattle.cpp_spelling.specs.Tasks.{plain_at}
 use Rattle.cpp_press.proofs.Numbered.{AreOne, IsKey, key_cmp, test, are-keys, looked-up, at-node}
 use Rattle.cpp_press.proofs.numbering.numbers.Goals as goal
 

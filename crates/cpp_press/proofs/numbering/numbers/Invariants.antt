@@ -1,7 +1,7 @@
 use Rattle.std.proofs.Common.{◌≡◌, length}
 use Rattle.std.specs.BTreeMap.{get}
 use Rattle.sym_spell.proofs.FirstOnes.{AreFirsts}
-use Rattle.cpp_press.specs.Tasks.{plain_at}
+use Rattle.cpp_spelling.specs.Tasks.{plain_at}
 use Rattle.cpp_press.proofs.Numbered.{IsKey, key_cmp}
 use Rattle.cpp_press.proofs.numbering.numbers.Given as goal
 

@@ -5,7 +5,7 @@ use Rattle.cpp_layout.specs.Layout.{ReadSymbol, table_of}
 use Rattle.cpp_tree.specs.Nodes.{tree_at, trees, free_is, has_free}
 use Rattle.cpp_tree.proofs.FreeParameters.{node-open}
 use Rattle.cpp_press.specs.declared.components.Likeness.{Likeness}
-use Rattle.cpp_press.specs.Tasks.{plain_at}
+use Rattle.cpp_spelling.specs.Tasks.{plain_at}
 use Rattle.cpp_press.specs.Places.{likeness_of}
 use Rattle.cpp_press.proofs.Open.{open-erased}
 use Rattle.cpp_press.proofs.pressing.likeness_of.Goals as goal

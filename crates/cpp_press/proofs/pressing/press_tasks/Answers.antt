@@ -1,11 +1,11 @@
 use Rattle.std.proofs.Common.{◌≡◌, refl, rules, length, ap, arith, sym, subst, ◌∙◌}
 use Rattle.std.specs.BTreeMap.{get}
-use Rattle.cpp_press.specs.declared.task.Task.{Task}
-use Rattle.cpp_press.specs.declared.task.Way.{Way}
-use Rattle.cpp_press.specs.Bytes.{text_bytes}
-use Rattle.cpp_press.specs.Tasks.{◌onto◌, in_way, press_task, press_tasks, plain_at, AreTasks}
+use Rattle.cpp_spelling.specs.declared.task.Task.{Task}
+use Rattle.cpp_spelling.specs.declared.task.Way.{Way}
+use Rattle.cpp_spelling.specs.Bytes.{text_bytes}
+use Rattle.cpp_spelling.specs.Tasks.{◌onto◌, in_way, press_task, press_tasks, plain_at, AreTasks}
 use Rattle.cpp_press.specs.Places.{likeness_cmp, noted}
-use Rattle.cpp_press.specs.Standings.{standing_of, template_standing_of}
+use Rattle.cpp_spelling.specs.Standings.{standing_of, template_standing_of}
 use Rattle.cpp_press.proofs.Going.{popped, task-there, weight-there, changed-goes, text-goes, ended-goes, first-goes, last-goes, last-few}
 use Rattle.cpp_press.proofs.pressing.press_tasks.Goals as goal
 

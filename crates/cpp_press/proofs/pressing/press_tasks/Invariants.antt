@@ -1,6 +1,6 @@
 use Rattle.std.specs.BTreeMap.{get}
 use Rattle.cpp_layout.specs.Layout.{whole_of}
-use Rattle.cpp_press.specs.Tasks.{tasks_weight}
+use Rattle.cpp_spelling.specs.Tasks.{tasks_weight}
 use Rattle.cpp_press.specs.Places.{likeness_cmp, AreNumbers, Goes}
 use Rattle.cpp_press.proofs.pressing.press_tasks.Given as goal
 

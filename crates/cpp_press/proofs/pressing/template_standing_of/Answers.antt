@@ -1,10 +1,10 @@
 use Rattle.std.proofs.Common.{ap, sym, ◌∙◌}
 use Rattle.std.specs.BTreeMap.{get}
-use Rattle.cpp_press.specs.Tasks.{plain_at}
-use Rattle.cpp_press.specs.Spelled.{is_name}
-use Rattle.cpp_press.specs.Standings.{compared}
+use Rattle.cpp_spelling.specs.Tasks.{plain_at}
+use Rattle.cpp_spelling.specs.Spelled.{is_name}
+use Rattle.cpp_spelling.specs.Standings.{compared}
 use Rattle.cpp_press.specs.Places.{likeness_cmp, likeness_of}
-use Rattle.cpp_press.proofs.Standing.{compared-name, uncompared-name}
+use Rattle.cpp_spelling.proofs.Standing.{compared-name, uncompared-name}
 use Rattle.cpp_press.proofs.pressing.template_standing_of.Goals as goal
 
 pub returns-then-is_name : goal.returns-then-is_name

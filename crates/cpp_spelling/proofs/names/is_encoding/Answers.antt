@@ -1,0 +1,21 @@
+use Rattle.std.specs.Prelude.{false}
+use Rattle.std.proofs.lemmas.Bool.{true≢false}
+use Rattle.std.proofs.Common.{◌≡◌, refl, ◌∙◌, ℕ, List}
+use Rattle.cpp_term.specs.Term.{Term}
+use Rattle.cpp_term.specs.Erased.{erase}
+use Rattle.cpp_tree.specs.declared.node.Node.{Node}
+use Rattle.cpp_tree.specs.declared.node.Thunk.{Thunk}
+use Rattle.cpp_tree.specs.Nodes as nodes
+use Rattle.cpp_tree.specs.Nodes.{tree_of, trees, is_again}
+use Rattle.cpp_layout.specs.Layout.{table_of}
+use Rattle.cpp_press_laws.specs.Pressing.{is_encoding}
+use Rattle.cpp_spelling.proofs.names.is_encoding.Goals as goal
+
+-- a node is an encoding as its tree is
+kept : (s : List ℕ) (us : List Thunk) (ts : List Term) (n : Node) → is_again n ≡ false → nodes.is_encoding n ≡ is_encoding (erase (tree_of s us ts n))
+unfolding nodes.is_encoding is_encoding erase tree_of is_again
+kept s us ts (Node.Again t a) own = absurd (true≢false own)
+kept s us ts _ own = refl
+
+pub returns : goal.returns
+returns c y = c.is_encoding.ensures ∙ kept y.bytes y.table.thunks (trees (table_of y)) c.args.node c.requires.own

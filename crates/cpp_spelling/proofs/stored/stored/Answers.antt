@@ -1,0 +1,26 @@
+use Rattle.std.proofs.Common.{ap, sym, subst, ◌∙◌}
+use Rattle.cpp_term.specs.Erased.{erase}
+use Rattle.cpp_layout.specs.Layout.{table_of}
+use Rattle.cpp_tree.proofs.Trees.{not_again}
+use Rattle.cpp_spelling.specs.Tasks.{node_tree, IsMade}
+use Rattle.cpp_spelling.proofs.Made.{made, again-tree}
+use Rattle.cpp_spelling.proofs.stored.stored.Goals as goal
+
+pub returns-in-Again-clause-tree : goal.returns-in-Again-clause-tree
+returns-in-Again-clause-tree c =
+    let y = c.args.symbol.now in
+    again-tree (table_of y) c.args.node c.in-Again.tree c.in-Again.argument c.requires.table c.requires.node (ap (λ e. e.node) (sym c.entry-is.ensures) ∙ c.in-Again.is)
+    ∙ ap (λ e. node_tree y e.node) (sym c.entry.ensures)
+
+pub returns-in_default-clause-tree : goal.returns-in_default-clause-tree
+returns-in_default-clause-tree c =
+    let y = c.args.symbol.now in
+    ap erase (c.requires.table.each c.args.node c.requires.node).built ∙ ap (λ e. node_tree y e.node) (sym c.entry-is.ensures)
+
+pub returns-in_default-clause-own : goal.returns-in_default-clause-own
+returns-in_default-clause-own c = not_again c.entry-is.result.node c.in_default.not-Again
+
+pub returns-in_default-clause-below : goal.returns-in_default-clause-below
+returns-in_default-clause-below c =
+    let y = c.args.symbol.now in
+    subst (λ e. IsMade y e.node) (sym c.entry-is.ensures) (made (table_of y) c.args.node c.requires.table c.requires.node)
