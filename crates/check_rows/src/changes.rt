@@ -3,8 +3,9 @@
 use crate::calls::demangler_says;
 use std::alloc::Global;
 use sym_core::{Refusal, fits};
-use sym_filter::languages::Lists;
-use sym_filter::{Abi, Kind, Languages};
+use sym_filter::Kind;
+use sym_languages::languages::Lists;
+use sym_languages::{Abi, Languages};
 
 /// How a symbol is changed at a place.
 #[derive(Clone, Copy, Debug, PartialEq, Eq)]

@@ -7,8 +7,9 @@ use crate::profile::{Profile, TOO_LONG};
 use crate::rows::AllLists;
 use std::alloc::Global;
 use sym_core::{Refusal, fits};
-use sym_filter::languages::Lists;
-use sym_filter::{Kind, Languages, Legacy};
+use sym_filter::Kind;
+use sym_languages::languages::Lists;
+use sym_languages::{Languages, Legacy};
 use sym_print::Detail;
 
 /// Whether a symbol has this answer at a limit, with C++ by a grammar.

@@ -13,8 +13,9 @@ use sym_calls::{
     Outcome, SymbolCounts, TextTally, counts_of, filter_of, press_of, text_of, texts_of,
 };
 use sym_core::{Counts, Refusal};
-use sym_filter::languages::{Cpp, Lists};
-use sym_filter::{Demangled, Demangler, Kind, Languages, Letters};
+use sym_filter::{Demangled, Demangler, Kind, Letters};
+use sym_languages::Languages;
+use sym_languages::languages::{Cpp, Lists};
 use sym_print::Detail;
 
 /// What is in a buffer before a call writes to it.

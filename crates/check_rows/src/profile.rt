@@ -6,8 +6,9 @@ use crate::library::{flags_of, library_counts, library_presses, library_says};
 use std::alloc::Global;
 use sym_core::{Refusal, fits};
 use sym_demangle::Workspace;
-use sym_filter::languages::{Cpp, Lists};
-use sym_filter::{Abi, Kind, Pressing, Wide};
+use sym_filter::Kind;
+use sym_languages::languages::{Cpp, Lists};
+use sym_languages::{Abi, Pressing, Wide};
 use sym_print::Detail;
 
 /// Why a symbol that is read has no text.

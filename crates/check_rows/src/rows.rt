@@ -11,8 +11,9 @@ use rust_v0::{Detail, V0};
 use std::alloc::Global;
 use std::str;
 use sym_core::{Refusal, fits};
-use sym_filter::languages::Lists;
-use sym_filter::{Abi, Kind, Lang, Languages, Pressing, Wide, kind_of};
+use sym_filter::{Kind, Lang, kind_of};
+use sym_languages::languages::Lists;
+use sym_languages::{Abi, Languages, Pressing, Wide};
 
 /// The limit where a row has none.
 const LIMIT: u32 = 1_000_000;

@@ -4,7 +4,7 @@ use Rattle.std.specs.Prelude.{Err}
 use Rattle.std.proofs.lemmas.Bool.{cond-true, cond-false}
 use Rattle.sym_core.specs.declared.refusal.Refusal.TheVariants.{Malformed}
 use Rattle.sym_print.specs.declared.detail.Detail.{Detail}
-use Rattle.sym_filter.specs.Languages.{wide_answer_of, legacy_wide_answer_of}
+use Rattle.sym_languages.specs.Languages.{wide_answer_of, legacy_wide_answer_of}
 use Rattle.sym_filter.specs.declared.kinds.Kind.{Kind}
 use Rattle.demangle_command.specs.Style.{leaves_out, reads_paths, styled_answer}
 use Rattle.demangle_command.specs.declared.style.Style.{Style}

@@ -4,7 +4,7 @@ use Rattle.sym_core.specs.declared.refusal.Refusal.TheVariants.{Malformed}
 use Rattle.sym_print.specs.declared.detail.Detail.{Detail}
 use Rattle.rust_legacy.specs.Path.{legacy_of}
 use Rattle.sym_filter.specs.Runs.{Answering}
-use Rattle.sym_filter.specs.Languages.{wide_answer_of, legacy_wide_answer_of}
+use Rattle.sym_languages.specs.Languages.{wide_answer_of, legacy_wide_answer_of}
 use Rattle.sym_filter.specs.declared.kinds.Lang.{Lang}
 use Rattle.sym_filter.specs.declared.kinds.Lang.TheVariants as lang
 use Rattle.demangle_command.specs.declared.style.Style.{Style}

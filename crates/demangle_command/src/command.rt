@@ -15,9 +15,8 @@ use clap::error::ErrorKind;
 use clap::{ArgMatches, Error};
 use std::alloc::Global;
 use sym_command::WRONG_USE;
-use sym_filter::{
-    Demangler, FilterFault, Languages, Letters, Sink, Source, Tally, Wide, filter_words, write_all,
-};
+use sym_filter::{Demangler, FilterFault, Letters, Sink, Source, Tally, filter_words, write_all};
+use sym_languages::{Languages, Wide};
 
 /// The status where the command line did what it asks.
 const DONE: u8 = 0;

@@ -1,12 +1,13 @@
 // The demangler over both manglings, where a style may leave symbols out.
 ghost use Rattle.demangle_command.specs.Style.{styled_answer};
-ghost use Rattle.sym_filter.specs.Languages.{AreWideCountsOf};
+ghost use Rattle.sym_languages.specs.Languages.{AreWideCountsOf};
 
 use crate::style::Style;
 use std::alloc::{AllocError, Global};
 use sym_core::Refusal;
-use sym_filter::languages::Lists;
-use sym_filter::{Demangled, Demangler, Kind, Lang, Languages, Legacy, Wide};
+use sym_filter::{Demangled, Demangler, Kind, Lang};
+use sym_languages::languages::Lists;
+use sym_languages::{Languages, Legacy, Wide};
 
 /// The answer to a symbol that a style leaves out: no symbol of the style begins so.
 const LEFT_OUT: Refusal = Refusal::Malformed { at: 0 };

@@ -3,7 +3,8 @@
 
 use std::io;
 use std::process::ExitCode;
-use sym_filter::{ReaderSource, WriterSink, filter_as};
+use sym_filter::{ReaderSource, WriterSink};
+use sym_languages::filter_as;
 use sym_print::Detail;
 
 fn main(rt: HostRuntime) -> ExitCode {

@@ -9,7 +9,7 @@ use Rattle.sym_print.specs.declared.detail.Detail.{Detail}
 use Rattle.sym_filter.specs.Demangled.{IsAppended}
 use Rattle.sym_filter.specs.declared.kinds.Kind.{Kind}
 use Rattle.sym_filter.specs.Kinds.{symbol_of}
-use Rattle.sym_filter.specs.Languages.{answer_of, wide_answer_of, legacy_answer_of, legacy_wide_answer_of, pressed_of, AreCountsOf, AreWideCountsOf}
+use Rattle.sym_languages.specs.Languages.{answer_of, wide_answer_of, legacy_answer_of, legacy_wide_answer_of, pressed_of, AreCountsOf, AreWideCountsOf}
 use Rattle.sym_filter.specs.Runs.{Answering, filtered_at, tally_at}
 use Rattle.sym_calls.specs.declared.counting.SymbolCounts.{SymbolCounts}
 use Rattle.sym_calls.specs.declared.flags.Asked.{Asked}

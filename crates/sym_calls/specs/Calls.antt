@@ -9,7 +9,7 @@ use Rattle.sym_filter.specs.declared.kinds.Kind.{Kind}
 use Rattle.sym_filter.specs.declared.kinds.Letters.{Letters}
 use Rattle.sym_filter.specs.declared.words.Tally.{Tally}
 use Rattle.sym_filter.specs.Kinds.{kind_by_beginning, symbol_of}
-use Rattle.sym_filter.specs.Languages.{answer_of, wide_answer_of, legacy_answer_of, legacy_wide_answer_of, AreCountsOf, AreWideCountsOf, pressed_of}
+use Rattle.sym_languages.specs.Languages.{answer_of, wide_answer_of, legacy_answer_of, legacy_wide_answer_of, AreCountsOf, AreWideCountsOf, pressed_of}
 use Rattle.sym_filter.specs.Runs.{Answering, filtered_at, tally_at}
 use Rattle.sym_calls.specs.declared.flags.Asked.{Asked}
 use Rattle.sym_calls.specs.declared.outcome.Outcome.{Outcome}

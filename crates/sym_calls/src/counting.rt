@@ -8,8 +8,9 @@ use crate::flags::asked_of;
 use crate::outcome::{FLAGS, OK, Outcome, alone, no_memory, of_refusal};
 use std::alloc::Global;
 use sym_core::Counts;
-use sym_filter::languages::Cpp;
-use sym_filter::{Abi, Demangled, Demangler, Kind, Languages, Wide};
+use sym_filter::{Demangled, Demangler, Kind};
+use sym_languages::languages::Cpp;
+use sym_languages::{Abi, Languages, Wide};
 use sym_print::Detail;
 
 /// The work that a symbol made: the rows of its shape, the nodes of the table in which its parts are shared, and the counted

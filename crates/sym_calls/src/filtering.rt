@@ -6,7 +6,8 @@ ghost use Rattle.sym_calls.specs.Calls.{EndsAs, IsTallied, Tallied, asked_of, en
 use crate::flags::asked_of;
 use crate::outcome::{FLAGS, OK, Outcome, alone, no_memory, write};
 use std::alloc::Global;
-use sym_filter::{Abi, Demangler, Letters, ListSink, ReaderSource, Tally, Wide, filter_words};
+use sym_filter::{Demangler, Letters, ListSink, ReaderSource, Tally, filter_words};
+use sym_languages::{Abi, Wide};
 
 /// How many words of a text name symbols, were replaced by a text, and were not.
 #[repr(C)]

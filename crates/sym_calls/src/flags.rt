@@ -6,8 +6,9 @@ ghost use Rattle.sym_calls.specs.Calls.{asked_of, detail_of, has, letters_of, na
 
 use crate::outcome::{NO_SYMBOL, SIZE};
 use sym_core::fits;
-use sym_filter::languages::Cpp;
-use sym_filter::{Kind, Languages, Legacy, Letters, kind_of};
+use sym_filter::{Kind, Letters, kind_of};
+use sym_languages::languages::Cpp;
+use sym_languages::{Languages, Legacy};
 use sym_print::Detail;
 
 /// Template and generic arguments are left out.

@@ -5,7 +5,8 @@ ghost use Rattle.sym_calls.specs.Calls.{EndsAs, answered, asked_of, ending_of, n
 use crate::flags::{Asked, asked_of};
 use crate::outcome::{FLAGS, Outcome, alone, no_memory, of_refusal, write};
 use std::alloc::Global;
-use sym_filter::{Abi, Demangler, Kind, Pressing, Wide};
+use sym_filter::{Demangler, Kind};
+use sym_languages::{Abi, Pressing, Wide};
 
 /// Writes the text of a symbol to the front of the buffer, with lists that are used again.
 fn symbol_with<D: Demangler>(

@@ -7,8 +7,9 @@ use crate::flags::{Asked, asked_of};
 use crate::outcome::{ENDS, FLAGS, OK, Outcome};
 use crate::text::name_with;
 use std::alloc::Global;
-use sym_filter::languages::Lists;
-use sym_filter::{Abi, Demangler, Wide};
+use sym_filter::Demangler;
+use sym_languages::languages::Lists;
+use sym_languages::{Abi, Wide};
 
 /// Whether ends go up, from 0 to at most the length of a text.
 fn are_ends(ends: &[usize], len: usize) -> bool

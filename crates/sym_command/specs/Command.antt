@@ -3,7 +3,7 @@ use Rattle.std.specs.Prelude.{◌≡◌, ◌≢◌, ◌⊎◌, ℕ, List, [], �
 use Rattle.std.specs.List.{flat_map}
 use Rattle.std.specs.Io.KnownBytes.{Appends}
 use Rattle.sym_print.specs.declared.detail.Detail.{Detail}
-use Rattle.sym_filter.specs.Languages.{answer_of, legacy_answer_of, wide_answer_of, legacy_wide_answer_of, pressed_of, AreCountsOf, AreWideCountsOf}
+use Rattle.sym_languages.specs.Languages.{answer_of, legacy_answer_of, wide_answer_of, legacy_wide_answer_of, pressed_of, AreCountsOf, AreWideCountsOf}
 use Rattle.sym_filter.specs.Runs.{Answering}
 use Rattle.sym_filter.specs.Streams.{BeginsWith, FiltersAllAt, FiltersFrontAt}
 use Rattle.sym_filter.specs.declared.words.Tally.{Tally}

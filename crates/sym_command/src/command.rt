@@ -15,10 +15,8 @@ use clap::error::ErrorKind;
 use clap::{ArgMatches, Error};
 use std::alloc::Global;
 use std::mem;
-use sym_filter::{
-    Abi, Demangler, FilterFault, Languages, Legacy, ListSink, Pressing, Sink, Source, Tally, Wide,
-    filter_words, write_all,
-};
+use sym_filter::{Demangler, FilterFault, ListSink, Sink, Source, Tally, filter_words, write_all};
+use sym_languages::{Abi, Languages, Legacy, Pressing, Wide};
 
 /// The status where each word has a text.
 const ANSWERED: u8 = 0;

@@ -1,6 +1,5 @@
 pub mod JoinLemmas
 pub mod LaneLemmas
-pub mod LanguageLemmas
 pub mod PlainLemmas
 pub mod RunLemmas
 pub mod SplitLemmas

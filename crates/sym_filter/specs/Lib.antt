@@ -2,9 +2,7 @@ pub mod Demangled
 pub mod Held
 pub mod Kinds
 pub mod Lanes
-pub mod Languages
 pub mod Plain
-pub mod Pressed
 pub mod Runs
 pub mod Splits
 pub mod Streams

@@ -1,68 +1,19 @@
 // The filter: words of a text that are symbols are replaced by their texts.
 ghost use Rattle.std.specs.Prelude.{◌≡◌, ◌≢◌, ◌+◌, ◌-◌, ◌^◌, ◌<◌, ℕ, List, [], length, vec_len, replicate, IfOk, OnOk, OnErr, IfErr};
-ghost use Rattle.sym_filter.specs.Languages.{answer_of};
 ghost use Rattle.sym_filter.specs.Streams.{reader_faults, writer_faults, Puts, PutsFront, FiltersAll, FiltersAllAt, FiltersFront, FiltersFrontAt};
 ghost use Rattle.sym_filter.specs.Words.{rest_after, tally_after, behind, Takes};
 ghost use Rattle.sym_filter.specs.declared.filtering.TheConstants.{READ_SIZE};
 
 use crate::demangler::Demangler;
 use crate::kinds::Letters;
-use crate::languages::Languages;
 use crate::streams::{FilterFault, Sink, Source, write_out};
 use crate::words::{Taken, Tally, Words};
-use itanium::Abi;
 use std::alloc::{AllocError, Global};
-use sym_print::Detail;
 
 /// How many bytes are read at a time, and from how many on they are written.
 const READ_SIZE: usize = 65_536;
 
-/// Reads all that the source gives, and writes it with each word that names a symbol replaced by the symbol's whole text,
-/// where that costs at most the limit.
-pub fn filter<R: Source, W: Sink>(
-    alloc: Global,
-    reader: &mut R,
-    writer: &mut W,
-    limit: u32,
-) -> Result<Tally, FilterFault>
-    requires reader_failures { R.failure_count reader.old < 2 ^ 64 - 1 }
-    requires writer_failures { W.failure_count writer.old < 2 ^ 64 - 1 }
-    ensures ok { IfOk result (λ tally. FiltersAll (answer_of limit Detail.Full)
-        (R.coming reader.old) (R.coming reader.new) (W.taken writer.old) (W.taken writer.new) tally) }
-    ensures err { OnErr result (FiltersFront (answer_of limit Detail.Full)
-        (R.coming reader.old) (R.coming reader.new) (W.taken writer.old) (W.taken writer.new)) }
-    ensures read_failed { R.failure_count reader.new ≡ R.failure_count reader.old + reader_faults result }
-    ensures write_failed { W.failure_count writer.new ≡ W.failure_count writer.old + writer_faults result }
-{
-    filter_as(alloc, reader, writer, limit, Detail::Full)
-}
-
-/// The filter with texts of a detail.
-pub fn filter_as<R: Source, W: Sink>(
-    alloc: Global,
-    reader: &mut R,
-    writer: &mut W,
-    limit: u32,
-    detail: Detail,
-) -> Result<Tally, FilterFault>
-    requires reader_failures { R.failure_count reader.old < 2 ^ 64 - 1 }
-    requires writer_failures { W.failure_count writer.old < 2 ^ 64 - 1 }
-    ensures ok { IfOk result (λ tally. FiltersAll (answer_of limit detail)
-        (R.coming reader.old) (R.coming reader.new) (W.taken writer.old) (W.taken writer.new) tally) }
-    ensures err { OnErr result (FiltersFront (answer_of limit detail)
-        (R.coming reader.old) (R.coming reader.new) (W.taken writer.old) (W.taken writer.new)) }
-    ensures read_failed { R.failure_count reader.new ≡ R.failure_count reader.old + reader_faults result }
-    ensures write_failed { W.failure_count writer.new ≡ W.failure_count writer.old + writer_faults result }
-{
-    let languages = Languages {
-        limit,
-        detail,
-        cpp: Abi,
-    };
-    filter_with(alloc, reader, writer, &languages)
-}
-
-/// The filter over any demangler.
+/// Reads all that the source gives, and writes it with each word that names a symbol replaced by the text that a demangler gives it.
 pub fn filter_with<R: Source, W: Sink, D: Demangler>(
     alloc: Global,
     reader: &mut R,

@@ -5,7 +5,8 @@ use std::process::Abort;
 use std::str;
 use std::test::Fail;
 use sym_command::{Filtering, Run, answer_words, run, run_to};
-use sym_filter::{Abi, FilterFault, Languages, Letters, filter};
+use sym_filter::{FilterFault, Letters};
+use sym_languages::{Abi, Languages, filter};
 use sym_print::Detail;
 
 const LIMIT: u32 = 1_000_000;

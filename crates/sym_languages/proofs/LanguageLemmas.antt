@@ -12,7 +12,7 @@ use Rattle.sym_demangle.specs.Mangled.{Mangled, IsAnswer, IsReading, answer}
 use Rattle.sym_demangle.specs.Standing.{AreStepsInAll, AreNodesOf}
 use Rattle.sym_demangle.proofs.Answering.{is_answer, reading_answered}
 use Rattle.sym_filter.specs.Demangled.{IsAppended, IsDemangled}
-use Rattle.sym_filter.specs.Languages.{behind_front, Readings, AreCounts}
+use Rattle.sym_languages.specs.Languages.{behind_front, Readings, AreCounts}
 use Rattle.sym_filter.specs.declared.demangler.Demangled.{Demangled}
 use Rattle.sym_filter.specs.declared.kinds.Lang.{Lang}
 

@@ -1,5 +1,5 @@
 use Rattle.rust_press.specs.OfRead.{pressed_symbol}
-use Rattle.sym_filter.proofs.pressing.V0Pressable.press.Goals as goal
+use Rattle.sym_languages.proofs.pressing.V0Pressable.press.Goals as goal
 
 pub returns-clause-pressed : goal.returns-clause-pressed
 unfolding pressed_symbol

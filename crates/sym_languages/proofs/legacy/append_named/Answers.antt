@@ -1,5 +1,5 @@
 use Rattle.std.proofs.Common.{◌≡◌, Bool, true, false, not, refl}
-use Rattle.sym_filter.proofs.legacy.append_named.Goals as goal
+use Rattle.sym_languages.proofs.legacy.append_named.Goals as goal
 
 is_so : (b : Bool) → not b ≡ false → b ≡ true
 is_so true h = refl

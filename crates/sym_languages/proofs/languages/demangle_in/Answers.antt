@@ -1,8 +1,8 @@
 use Rattle.std.proofs.Common.{refl, rules}
 use Rattle.sym_shape.specs.Decided.{AreBytes}
 use Rattle.sym_demangle.proofs.Answering.{answer_appended, answer_too_long}
-use Rattle.sym_filter.proofs.LanguageLemmas.{text_answered, too_long_answered, unread_answered, read_counts}
-use Rattle.sym_filter.proofs.languages.demangle_in.Goals as goal
+use Rattle.sym_languages.proofs.LanguageLemmas.{text_answered, too_long_answered, unread_answered, read_counts}
+use Rattle.sym_languages.proofs.languages.demangle_in.Goals as goal
 
 pub returns-in-Err : goal.returns-in-Err
 returns-in-Err g c =

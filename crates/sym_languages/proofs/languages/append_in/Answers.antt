@@ -1,7 +1,7 @@
 use Rattle.std.proofs.Common.{rules}
 use Rattle.sym_shape.specs.Decided.{AreBytes}
-use Rattle.sym_filter.proofs.LanguageLemmas.{append_answered}
-use Rattle.sym_filter.proofs.languages.append_in.Goals as goal
+use Rattle.sym_languages.proofs.LanguageLemmas.{append_answered}
+use Rattle.sym_languages.proofs.languages.append_in.Goals as goal
 
 pub returns : goal.returns
 returns g c =

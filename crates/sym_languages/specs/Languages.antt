@@ -21,7 +21,7 @@ use Rattle.rust_v0.specs.NodeCount as rust_count
 use Rattle.sym_core.specs.declared.counts.Counts.{Counts}
 use Rattle.cpp_press_laws.specs.Pressing as cpp_spelling
 use Rattle.rust_press.specs.Pressing as rust_spelling
-use Rattle.sym_filter.specs.Pressed.{pressed_answer}
+use Rattle.sym_languages.specs.Pressed.{pressed_answer}
 use Rattle.sym_filter.specs.declared.kinds.Kind.{Kind}
 use Rattle.sym_filter.specs.declared.kinds.Lang.{Lang}
 use Rattle.sym_filter.specs.declared.kinds.Lang.TheVariants.{Cpp, Rust}

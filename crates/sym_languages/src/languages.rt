@@ -2,16 +2,15 @@
 ghost use Rattle.sym_core.specs.Number.{FitsSymbol};
 ghost use Rattle.sym_demangle.specs.Mangled.{answer};
 ghost use Rattle.sym_filter.specs.Demangled.{IsAppended, IsDemangled};
-ghost use Rattle.sym_filter.specs.Languages.{AreCounts, AreCountsBy, language_answer_by};
+ghost use Rattle.sym_languages.specs.Languages.{AreCounts, AreCountsBy, language_answer_by};
 
 use crate::counted::Counted;
-use crate::demangler::{Demangled, Demangler};
-use crate::kinds::{Kind, Lang};
 use itanium::{Abi, Wide};
 use rust_v0::V0;
 use std::alloc::{AllocError, Global};
 use sym_core::Refusal;
 use sym_demangle::{Mangling, Workspace};
+use sym_filter::{Demangled, Demangler, Kind, Lang};
 use sym_print::Detail;
 
 /// A grammar of C++ symbols.

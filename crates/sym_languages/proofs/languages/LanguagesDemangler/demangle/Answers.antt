@@ -1,7 +1,7 @@
 use Rattle.sym_filter.specs.declared.kinds.Lang.TheVariants.{Cpp, Rust}
-use Rattle.sym_filter.specs.Languages.{AreCountsBy, language_answer_by}
-use Rattle.sym_filter.proofs.LanguageLemmas.{demangled_in}
-use Rattle.sym_filter.proofs.languages.LanguagesDemangler.demangle.Goals as goal
+use Rattle.sym_languages.specs.Languages.{AreCountsBy, language_answer_by}
+use Rattle.sym_languages.proofs.LanguageLemmas.{demangled_in}
+use Rattle.sym_languages.proofs.languages.LanguagesDemangler.demangle.Goals as goal
 
 pub returns-in-Cpp : goal.returns-in-Cpp
 returns-in-Cpp g c =

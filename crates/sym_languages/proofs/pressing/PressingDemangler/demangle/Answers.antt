@@ -1,7 +1,7 @@
-use Rattle.sym_filter.specs.Languages.{AreCountsOf, behind_front, pressed_language, underscore_of}
+use Rattle.sym_languages.specs.Languages.{AreCountsOf, behind_front, pressed_language, underscore_of}
 use Rattle.sym_filter.specs.declared.kinds.Lang.TheVariants.{Cpp, Rust}
-use Rattle.sym_filter.proofs.LanguageLemmas.{demangled_in}
-use Rattle.sym_filter.proofs.pressing.PressingDemangler.demangle.Goals as goal
+use Rattle.sym_languages.proofs.LanguageLemmas.{demangled_in}
+use Rattle.sym_languages.proofs.pressing.PressingDemangler.demangle.Goals as goal
 
 pub returns-in-Cpp : goal.returns-in-Cpp
 returns-in-Cpp c =

@@ -6,17 +6,16 @@ ghost use Rattle.sym_core.specs.Number.{FitsSymbol};
 ghost use Rattle.sym_shape.specs.Decided.{AreBytes};
 ghost use Rattle.sym_demangle.specs.Mangled.{IsReading};
 ghost use Rattle.sym_filter.specs.Demangled.{IsDemangled};
-ghost use Rattle.sym_filter.specs.Languages.{AreCounts, AreCountsOf, behind_front, pressed_of, underscore_of};
+ghost use Rattle.sym_languages.specs.Languages.{AreCounts, AreCountsOf, behind_front, pressed_of, underscore_of};
 
 use crate::counted::Counted;
-use crate::demangler::{Demangled, Demangler};
-use crate::kinds::{Kind, Lang};
 use crate::languages::Lists;
 use itanium::Abi;
 use rust_v0::V0;
 use std::alloc::{AllocError, Global};
 use sym_core::Refusal;
 use sym_demangle::Workspace;
+use sym_filter::{Demangled, Demangler, Kind, Lang};
 use sym_press::{press_cpp, press_rust};
 
 /// A mangling whose symbols are spelled again, with each repeated part as a reference.
@@ -46,7 +45,7 @@ impl Pressable for Abi {
     ghost use Rattle.cpp_grammar.specs.Mangled.{cpp_mangled};
     ghost use Rattle.cpp_layout.specs.Layout.{whole_of};
     ghost use Rattle.cpp_press_laws.specs.Pressing as cpp;
-    ghost use Rattle.sym_filter.specs.Pressed.{pressed_answer, reading_pressed};
+    ghost use Rattle.sym_languages.specs.Pressed.{pressed_answer, reading_pressed};
 
     ghost answer = { pressed_answer cpp_mangled cpp.pressed };
 
@@ -65,7 +64,7 @@ impl Pressable for V0 {
     ghost use Rattle.rust_grammar.specs.Mangled.{v0_mangled};
     ghost use Rattle.rust_v0.specs.Whole.{whole_of};
     ghost use Rattle.rust_press.specs.Pressing as rust;
-    ghost use Rattle.sym_filter.specs.Pressed.{pressed_answer, reading_pressed};
+    ghost use Rattle.sym_languages.specs.Pressed.{pressed_answer, reading_pressed};
 
     ghost answer = { pressed_answer v0_mangled rust.pressed };
 

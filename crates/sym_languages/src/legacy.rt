@@ -4,14 +4,13 @@ ghost use Rattle.sym_core.specs.Number.{FitsSymbol};
 ghost use Rattle.rust_legacy.specs.Path.{AreRead};
 ghost use Rattle.rust_legacy.specs.Text.{legacy_answer};
 ghost use Rattle.sym_filter.specs.Demangled.{IsAppended, IsDemangled};
-ghost use Rattle.sym_filter.specs.Languages.{AreCountsBy, language_answer_by};
+ghost use Rattle.sym_languages.specs.Languages.{AreCountsBy, language_answer_by};
 
-use crate::demangler::{Demangled, Demangler};
-use crate::kinds::{Kind, Lang};
 use crate::languages::{Cpp, Languages, Lists};
 use rust_legacy::{PathPlace, is_path, names_of, path_of, push_text};
 use std::alloc::{AllocError, Global};
 use sym_core::{Counts, Refusal};
+use sym_filter::{Demangled, Demangler, Kind, Lang};
 
 /// Both manglings, where a legacy Rust name, which is a C++ symbol too, has its path's text, at the limit of the others. The detail
 /// changes nothing in that text. The counts of such a name are those of the C++ symbol.

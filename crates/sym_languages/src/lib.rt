@@ -1,0 +1,16 @@
+//! The demangler over C++ and Rust, those in front of it, for legacy Rust names and for pressed spellings, and the filter over it.
+#![tactic(auto)]
+
+mod counted;
+mod filtering;
+pub mod languages;
+mod laws;
+pub mod legacy;
+pub mod pressing;
+
+pub use filtering::{filter, filter_as};
+pub use itanium::{Abi, Wide};
+pub use languages::Languages;
+pub use laws::reading_is_pressed;
+pub use legacy::Legacy;
+pub use pressing::Pressing;
