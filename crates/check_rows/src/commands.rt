@@ -4,9 +4,10 @@ use crate::answer::{says, unspelled};
 use crate::library::{flags_of, library_filters};
 use std::alloc::Global;
 use std::str;
-use sym_command::{FAULT, Filtering, Run, run, run_over};
+use sym_command::{FAULT, Filtering, Run};
 use sym_core::Refusal;
 use sym_filter::{ListSink, ReaderSource};
+use symfilt_command::{run, run_over};
 
 /// The words of a command line, the program's name first, as blanks keep them apart; `-` is none. There is no such line where
 /// they aren't text.

@@ -1,21 +1,10 @@
 -- What a command line did to its two streams.
-use Rattle.std.specs.Prelude.{◌≡◌, ◌≢◌, ◌⊎◌, ℕ, List, [], ◌++◌, Bool, true, false, if◌then◌else◌, Option}
+use Rattle.std.specs.Prelude.{◌≡◌, ℕ, List, ◌++◌, Bool, Option}
 use Rattle.std.specs.List.{flat_map}
 use Rattle.std.specs.Io.KnownBytes.{Appends}
-use Rattle.sym_print.specs.declared.detail.Detail.{Detail}
-use Rattle.sym_languages.specs.Languages.{answer_of, legacy_answer_of, wide_answer_of, legacy_wide_answer_of, pressed_of, AreCountsOf, AreWideCountsOf}
 use Rattle.sym_filter.specs.Runs.{Answering}
-use Rattle.sym_filter.specs.Streams.{BeginsWith, FiltersAllAt, FiltersFrontAt}
-use Rattle.sym_filter.specs.declared.words.Tally.{Tally}
-use Rattle.clap.specs.Words.{Row, Text as Bytes}
-use Rattle.sym_command.specs.CommandLine.{AreGiven, AreRefused, AsksFilter, symbols_of, found_in, faults_in}
+use Rattle.sym_filter.specs.Streams.{BeginsWith}
 use Rattle.sym_command.specs.Lines.{Counting, AreLines, complaint_of, status_of}
-use Rattle.sym_command.specs.declared.options.Asked.{Asked}
-use Rattle.sym_command.specs.declared.options.Asked.TheVariants.{Text, WideText, Pressed}
-use Rattle.sym_command.specs.declared.options.Options.{Options}
-use Rattle.sym_command.specs.declared.outcome.Filtering.{Filtering}
-use Rattle.sym_command.specs.declared.outcome.Run.{Run}
-use Rattle.sym_command.specs.declared.outcome.Run.TheVariants.{Done, Filter}
 
 -- a stream took some bytes
 abbrev pub Says : Option (List ℕ) → Option (List ℕ) → Type 0
@@ -44,89 +33,3 @@ pub record AnswersFront (answers : Answering) (counting : Counting) (stats : Boo
   pub are_lines : AreLines answers counting stats first whole
   pub lines_begin : BeginsWith whole lines
   pub said_begin : BeginsWith (flat_map (complaint_of answers) first) said
-
--- what is asked of each symbol: its text at a limit and in a detail, with C++ by either grammar, and legacy Rust names as C++ or as
--- paths, or its pressed spelling
-abbrev pub answers_at : Asked → (legacy : Bool) → ℕ → Detail → Answering
-answers_at Text false limit detail = answer_of limit detail
-answers_at Text true limit detail = legacy_answer_of limit detail
-answers_at WideText false limit detail = wide_answer_of limit detail
-answers_at WideText true limit detail = legacy_wide_answer_of limit detail
-answers_at Pressed legacy limit detail = pressed_of
-
-abbrev pub answers_of : Options → Answering
-answers_of options = answers_at options.asked options.legacy options.limit options.detail
-
--- which counts are those of a symbol then
-abbrev pub counting_at : Asked → Counting
-counting_at Text = AreCountsOf
-counting_at WideText = AreWideCountsOf
-counting_at Pressed = AreCountsOf
-
-abbrev pub counting_of : Options → Counting
-counting_of options = counting_at options.asked
-
--- what the filter does with the words of standard input
-abbrev pub filter_answers : Filtering → Answering
-filter_answers filtering = answers_at (if filtering.wide then WideText else Text) filtering.legacy filtering.limit filtering.detail
-
--- ## What a command line did, by what its parser found
-
--- its symbols are answered as its options ask
-pub record AreAnswered (rows : List Row) (status : ℕ) (lines said : List ℕ) : Type 0 where
-  pub options : Options
-  pub given : AreGiven rows options
-  pub some : symbols_of rows ≢ []
-  pub answered : AnswersWords (answers_of options) (counting_of options) options.stats (symbols_of rows) status lines said
-
--- One with symbols has answered them; one whose options are refused has written no line; and one that asks for the filter has
--- written nothing.
-abbrev pub IsRunOf : List Row → Run → List ℕ → List ℕ → Type 0
-IsRunOf rows (Done status) lines said = AreAnswered rows status lines said ⊎ ((status ≡ 2) × (lines ≡ []) × AreRefused rows)
-IsRunOf rows (Filter filtering) lines said = (lines ≡ []) × (said ≡ []) × AsksFilter rows filtering
-
--- beginnings of the lines of its first symbols
-pub record AreBegun (rows : List Row) (lines said : List ℕ) : Type 0 where
-  pub options : Options
-  pub given : AreGiven rows options
-  pub front : AnswersFront (answers_of options) (counting_of options) options.stats (symbols_of rows) lines said
-
--- ## What the words of a command line did
-
--- Its parser takes them, and they did what it found; or it refuses them, or they ask for help, and no line was written.
-abbrev pub IsRun : List Bytes → Run → List ℕ → List ℕ → Type 0
-IsRun words run lines said =
-    ((faults_in words ≡ []) × IsRunOf (found_in words) run lines said) ⊎ ((faults_in words ≢ []) × (run ≡ Done 2) × (lines ≡ []))
-
--- A command line that a fault stopped has written beginnings of the lines of its symbols, or, before it knew them, nothing but what
--- its parser says.
-abbrev pub IsStopped : List Bytes → List ℕ → List ℕ → Type 0
-IsStopped words lines said = AreBegun (found_in words) lines said ⊎ (lines ≡ [])
-
--- ## What the program did over an input and its two outputs
-
--- They ask for the filter, and the input was filtered.
-pub record Filtered (words : List Bytes) (coming coming' out out' err err' : Option (List ℕ)) : Type 0 where
-  pub filtering : Filtering
-  pub asked : IsRun words (Filter filtering) [] []
-  pub tally : Tally
-  pub filtered : FiltersAllAt filtering.letters (filter_answers filtering) coming coming' out out' tally
-  pub silent : Appends err err' []
-
--- Some of it was filtered before a fault.
-pub record FilteredFront (words : List Bytes) (coming coming' out out' err err' : Option (List ℕ)) : Type 0 where
-  pub filtering : Filtering
-  pub asked : IsRun words (Filter filtering) [] []
-  pub filtered : FiltersFrontAt filtering.letters (filter_answers filtering) coming coming' out out'
-  pub silent : Appends err err' []
-
--- The words are answered or refused, with this status, and nothing was read; or the input was filtered, and the status is 0.
-abbrev pub Ends : List Bytes → (coming coming' out out' err err' : Option (List ℕ)) → ℕ → Type 0
-Ends words coming coming' out out' err err' status =
-    ((coming' ≡ coming) × Took out out' err err' (IsRun words (Done status)))
-    ⊎ ((status ≡ 0) × Filtered words coming coming' out out' err err')
-
--- the same up to a fault
-abbrev pub Stops : List Bytes → (coming coming' out out' err err' : Option (List ℕ)) → Type 0
-Stops words coming coming' out out' err err' =
-    ((coming' ≡ coming) × Took out out' err err' (IsStopped words)) ⊎ FilteredFront words coming coming' out out' err err'

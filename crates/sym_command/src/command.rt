@@ -1,25 +1,15 @@
-// The command line.
-ghost use Rattle.std.specs.Prelude.{◌≡◌, ◌≢◌, ◌⊎◌, ◌+◌, ◌-◌, ◌^◌, ◌<◌, List, ℕ, [], ◌++◌, OnOk, OnErr, IfOk, IfErr, map};
-ghost use Rattle.clap.specs.Words.{found_of, kind_of, rows_of};
-ghost use Rattle.clap.specs.declared.error.kind.ErrorKind.{ErrorKind as ErrorKind-type};
-ghost use Rattle.sym_filter.specs.Streams.{reader_faults, writer_faults, FiltersAllAt, FiltersFrontAt};
-ghost use Rattle.sym_command.specs.CommandLine.{found_in};
-ghost use Rattle.sym_command.specs.Command.{Took, answers_of, counting_of, filter_answers, Says, AnswersWords, AnswersFront, AreBegun, IsRun, IsRunOf, IsStopped, Ends, Stops};
-ghost use Rattle.sym_command.specs.declared.outcome.Run.{Run as Run-type};
+// The words of a command line, and its statuses.
+ghost use Rattle.std.specs.Prelude.{◌≡◌, ◌≢◌, ◌+◌, ◌-◌, ◌^◌, ◌<◌, OnErr, IfOk, IfErr, map};
+ghost use Rattle.sym_filter.specs.Streams.{writer_faults};
+ghost use Rattle.sym_command.specs.Command.{Took, AnswersWords, AnswersFront, Says};
 
 use crate::lines::answer_word;
-use crate::options::{Asked, Options, filtering_of, found_in, options_of, symbols_of};
-use crate::outcome::{Filtering, Run};
 use crate::page::Page;
-use clap::error::ErrorKind;
-use clap::{ArgMatches, Error};
 use std::alloc::Global;
-use std::mem;
-use sym_filter::{Demangler, FilterFault, ListSink, Sink, Source, Tally, filter_words, write_all};
-use sym_languages::{Abi, Languages, Legacy, Pressing, Wide};
+use sym_filter::{Demangler, FilterFault, Sink, write_all};
 
 /// The status where each word has a text.
-const ANSWERED: u8 = 0;
+pub const ANSWERED: u8 = 0;
 
 /// The status where a word has none.
 const REFUSED: u8 = 1;
@@ -30,158 +20,12 @@ pub const WRONG_USE: u8 = 2;
 /// The status where reading, writing or memory failed.
 pub const FAULT: u8 = 3;
 
-/// Runs the program over an input and two outputs: answers the symbols of a command line, or filters the input where it has none.
-/// The words are those of the command line, the program's name first, and the result is the status.
-///
-/// # Errors
-///
-/// `Read` and `Write` where a stream failed, `Memory`. What was written is a beginning of what would have been.
-pub fn run_over<S: Source, W: Sink, E: Sink>(
-    alloc: Global,
-    words: &[&str],
-    input: &mut S,
-    out: &mut W,
-    err: &mut E,
-) -> Result<u8, FilterFault>
-    requires in_failures { S.failure_count input.old < 2 ^ 64 - 1 }
-    requires out_failures { W.failure_count out.old + E.failure_count err.old < 2 ^ 64 - 1 }
-    ensures ok { IfOk result (Ends (map (λ word. word.now) words.now) (S.coming input.old) (S.coming input.new)
-        (W.taken out.old) (W.taken out.new) (E.taken err.old) (E.taken err.new)) }
-    ensures err { OnErr result (Stops (map (λ word. word.now) words.now) (S.coming input.old) (S.coming input.new)
-        (W.taken out.old) (W.taken out.new) (E.taken err.old) (E.taken err.new)) }
-    ensures read_failed { S.failure_count input.new ≡ S.failure_count input.old + reader_faults result }
-    ensures write_failed { W.failure_count out.new + E.failure_count err.new
-        ≡ W.failure_count out.old + E.failure_count err.old + writer_faults result }
-{
-    match run_to(alloc, words, out, err)? {
-        Run::Done(status) => Ok(status),
-        Run::Filter(filtering) => {
-            filter_asked(alloc, filtering, input, out)?;
-            Ok(ANSWERED)
-        }
-    }
-}
-
-/// Filters an input as a command line asks.
-///
-/// # Errors
-///
-/// As of `filter_words`.
-pub fn filter_asked<S: Source, W: Sink>(
-    alloc: Global,
-    filtering: Filtering,
-    input: &mut S,
-    out: &mut W,
-) -> Result<Tally, FilterFault>
-    requires in_failures { S.failure_count input.old < 2 ^ 64 - 1 }
-    requires out_failures { W.failure_count out.old < 2 ^ 64 - 1 }
-    ensures ok { IfOk result (λ tally. FiltersAllAt filtering.letters (filter_answers filtering)
-        (S.coming input.old) (S.coming input.new) (W.taken out.old) (W.taken out.new) tally) }
-    ensures err { OnErr result (FiltersFrontAt filtering.letters (filter_answers filtering)
-        (S.coming input.old) (S.coming input.new) (W.taken out.old) (W.taken out.new)) }
-    ensures read_failed { S.failure_count input.new ≡ S.failure_count input.old + reader_faults result }
-    ensures write_failed { W.failure_count out.new ≡ W.failure_count out.old + writer_faults result }
-{
-    let Filtering {
-        limit,
-        detail,
-        letters,
-        wide,
-        legacy,
-    } = filtering;
-    if wide {
-        let languages = Languages {
-            limit,
-            detail,
-            cpp: Wide,
-        };
-        if legacy {
-            return filter_words(alloc, input, out, &Legacy { languages }, letters);
-        }
-        return filter_words(alloc, input, out, &languages, letters);
-    }
-    let languages = Languages {
-        limit,
-        detail,
-        cpp: Abi,
-    };
-    if legacy {
-        return filter_words(alloc, input, out, &Legacy { languages }, letters);
-    }
-    filter_words(alloc, input, out, &languages, letters)
-}
-
-/// Appends the lines for the words of a command line, the program's name first, and says what the program is to do.
-/// Where memory runs out, each list got a beginning of its lines, and the status is 3.
-pub fn run(alloc: Global, words: &[&str], out: &mut Vec<u8>, err: &mut Vec<u8>) -> Run
-    ensures { (lines said : List ℕ) × (out.new.items ≡ out.old.items ++ lines) × (err.new.items ≡ err.old.items ++ said)
-        × (IsRun (map (λ word. word.now) words.now) result lines said ⊎ ((result ≡ Run-type.Done 3) × IsStopped (map (λ word. word.now) words.now) lines said)) }
-{
-    let mut out_sink = ListSink::new(mem::replace(out, Vec::new(alloc)));
-    let mut err_sink = ListSink::new(mem::replace(err, Vec::new(alloc)));
-    let outcome = run_to(alloc, words, &mut out_sink, &mut err_sink);
-    *out = out_sink.into_list();
-    *err = err_sink.into_list();
-    match outcome {
-        Ok(run) => run,
-        Err(_) => Run::Done(FAULT),
-    }
-}
-
-/// Writes the lines for the words of a command line, the program's name first, and says what the program is to do. A word's lines
-/// wait until they are some kilobytes with those before, so that the words need the memory of the dearest.
-pub fn run_to<W: Sink, E: Sink>(
-    alloc: Global,
-    words: &[&str],
-    out: &mut W,
-    err: &mut E,
-) -> Result<Run, FilterFault>
-    requires out_failures { W.failure_count out.old < 2 ^ 64 - 1 }
-    requires err_failures { E.failure_count err.old < 2 ^ 64 - 1 }
-    ensures ok { IfOk result (λ run. Took (W.taken out.old) (W.taken out.new) (E.taken err.old) (E.taken err.new) (IsRun (map (λ word. word.now) words.now) run)) }
-    ensures err { OnErr result (Took (W.taken out.old) (W.taken out.new) (E.taken err.old) (E.taken err.new) (IsStopped (map (λ word. word.now) words.now))) }
-    ensures fault { IfErr result (λ fault. fault ≢ FilterFault.Read) }
-    ensures failures { W.failure_count out.new + E.failure_count err.new
-        ≡ W.failure_count out.old + E.failure_count err.old + writer_faults result }
-{
-    match found_in(alloc, words) {
-        Ok(matches) => answer_all(alloc, &matches, out, err),
-        Err(error) => refuse(alloc, &error, err),
-    }
-}
-
-/// Writes what the command line's parser says of an error, or a wish for help or the version.
-fn refuse<E: Sink>(alloc: Global, error: &Error, err: &mut E) -> Result<Run, FilterFault>
-    requires err_failures { E.failure_count err.old < 2 ^ 64 - 1 }
-    ensures says { Says (E.taken err.old) (E.taken err.new) }
-    ensures known { OnOk result (kind_of error.now ≢ ErrorKind-type.OutOfMemory) }
-    ensures wrong_use { IfOk result (λ run. run ≡ Run-type.Done 2) }
-    ensures fault { IfErr result (λ fault. fault ≢ FilterFault.Read) }
-    ensures failures { E.failure_count err.new ≡ E.failure_count err.old + writer_faults result }
-{
-    if error.kind() == ErrorKind::OutOfMemory {
-        return Err(FilterFault::Memory);
-    }
-    let text = format!(in alloc; "{error}")?;
-    refuse_run(err, text.as_bytes())
-}
-
-/// Ends a command line that is refused.
-fn refuse_run<E: Sink>(err: &mut E, why: &[u8]) -> Result<Run, FilterFault>
-    requires err_failures { E.failure_count err.old < 2 ^ 64 - 1 }
-    ensures says { Says (E.taken err.old) (E.taken err.new) }
-    ensures wrong_use { IfOk result (λ run. run ≡ Run-type.Done 2) }
-    ensures fault { IfErr result (λ fault. fault ≢ FilterFault.Read) }
-    ensures failures { E.failure_count err.new ≡ E.failure_count err.old + writer_faults result }
-{
-    match refuse_with(err, why) {
-        Ok(status) => Ok(Run::Done(status)),
-        Err(fault) => Err(fault),
-    }
-}
-
 /// Writes why a command line is refused, and answers the status.
-pub(crate) fn refuse_with<E: Sink>(err: &mut E, why: &[u8]) -> Result<u8, FilterFault>
+///
+/// # Errors
+///
+/// `Write` where the stream failed.
+pub fn refuse_with<E: Sink>(err: &mut E, why: &[u8]) -> Result<u8, FilterFault>
     requires err_failures { E.failure_count err.old < 2 ^ 64 - 1 }
     ensures says { Says (E.taken err.old) (E.taken err.new) }
     ensures wrong_use { IfOk result (λ status. status ≡ 2) }
@@ -191,88 +35,6 @@ pub(crate) fn refuse_with<E: Sink>(err: &mut E, why: &[u8]) -> Result<u8, Filter
     match write_all(err, why) {
         Ok(()) => Ok(WRONG_USE),
         Err(fault) => Err(fault),
-    }
-}
-
-/// Writes the lines of each symbol, or says that standard input is to be filtered.
-fn answer_all<W: Sink, E: Sink>(
-    alloc: Global,
-    matches: &ArgMatches<'_>,
-    out: &mut W,
-    err: &mut E,
-) -> Result<Run, FilterFault>
-    requires out_failures { W.failure_count out.old < 2 ^ 64 - 1 }
-    requires err_failures { E.failure_count err.old < 2 ^ 64 - 1 }
-    ensures ok { IfOk result (λ run. Took (W.taken out.old) (W.taken out.new) (E.taken err.old) (E.taken err.new) (IsRunOf (rows_of (found_of matches.now)) run)) }
-    ensures err { OnErr result (Took (W.taken out.old) (W.taken out.new) (E.taken err.old) (E.taken err.new) (λ lines said. AreBegun (rows_of (found_of matches.now)) lines said ⊎ (lines ≡ []))) }
-    ensures fault { IfErr result (λ fault. fault ≢ FilterFault.Read) }
-    ensures failures { W.failure_count out.new + E.failure_count err.new
-        ≡ W.failure_count out.old + E.failure_count err.old + writer_faults result }
-{
-    let Some(options) = options_of(matches) else {
-        return refuse_run(err, b"symfilt: --press doesn't go with --wide\n");
-    };
-    let symbols = symbols_of(matches);
-    if !symbols.is_empty() {
-        let status = answer_symbols(alloc, options, symbols, out, err)?;
-        return Ok(Run::Done(status));
-    }
-    match filtering_of(options) {
-        Some(filtering) => Ok(Run::Filter(filtering)),
-        None => refuse_run(err, b"symfilt: --press and --stats need a symbol\n"),
-    }
-}
-
-/// Writes the lines of words as the options ask, and answers the status.
-fn answer_symbols<W: Sink, E: Sink>(
-    alloc: Global,
-    options: Options,
-    words: &[&str],
-    out: &mut W,
-    err: &mut E,
-) -> Result<u8, FilterFault>
-    requires out_failures { W.failure_count out.old < 2 ^ 64 - 1 }
-    requires err_failures { E.failure_count err.old < 2 ^ 64 - 1 }
-    ensures ok { IfOk result (λ status. Took (W.taken out.old) (W.taken out.new) (E.taken err.old) (E.taken err.new)
-        (AnswersWords (answers_of options) (counting_of options) options.stats (map (λ word. word.now) words.now) status)) }
-    ensures err { OnErr result (Took (W.taken out.old) (W.taken out.new) (E.taken err.old) (E.taken err.new)
-        (AnswersFront (answers_of options) (counting_of options) options.stats (map (λ word. word.now) words.now))) }
-    ensures fault { IfErr result (λ fault. fault ≢ FilterFault.Read) }
-    ensures failures { W.failure_count out.new + E.failure_count err.new
-        ≡ W.failure_count out.old + E.failure_count err.old + writer_faults result }
-{
-    let Options {
-        limit,
-        detail,
-        stats,
-        asked,
-        legacy,
-        ..
-    } = options;
-    match asked {
-        Asked::Text => {
-            let languages = Languages {
-                limit,
-                detail,
-                cpp: Abi,
-            };
-            if legacy {
-                return answer_words(alloc, &Legacy { languages }, stats, words, out, err);
-            }
-            answer_words(alloc, &languages, stats, words, out, err)
-        }
-        Asked::WideText => {
-            let languages = Languages {
-                limit,
-                detail,
-                cpp: Wide,
-            };
-            if legacy {
-                return answer_words(alloc, &Legacy { languages }, stats, words, out, err);
-            }
-            answer_words(alloc, &languages, stats, words, out, err)
-        }
-        Asked::Pressed => answer_words(alloc, &Pressing, stats, words, out, err),
     }
 }
 

@@ -1,4 +1,4 @@
-//! The program: a command line over words, an input and outputs: its options, the lines of each word, and its status.
+//! What the programs' command lines are made of: options and what they ask, the lines of each word, complaints and statuses.
 #![tactic(auto)]
 
 mod command;
@@ -8,8 +8,11 @@ mod outcome;
 mod page;
 mod process;
 
-pub use command::{FAULT, WRONG_USE, answer_words, filter_asked, run, run_over, run_to};
+pub use command::{ANSWERED, FAULT, WRONG_USE, answer_words, refuse_with};
 pub use lines::reason;
-pub use options::{Asked, Options, detail_of, flag, has_flag, limit, limit_of, with_flag};
+pub use options::{
+    Asked, Options, detail_of, filtering_of, flag, found_in, has_flag, limit, limit_of, options_of,
+    symbols_of, with_flag,
+};
 pub use outcome::{Filtering, Run};
-pub use process::{called_with, fault, program};
+pub use process::{called_with, fault};

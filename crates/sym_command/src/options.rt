@@ -64,8 +64,12 @@ pub struct Options {
     pub legacy: bool,
 }
 
-/// The options and symbols that the words of a command line have, the program's name first.
-pub(crate) fn found_in<'a>(alloc: Global, words: &'a [&'a str]) -> Result<ArgMatches<'a>, Error>
+/// The options and symbols that the words of a command line of symfilt have, the program's name first.
+///
+/// # Errors
+///
+/// What the parser says of words that it doesn't take, of a wish for help or the version, and of want of memory.
+pub fn found_in<'a>(alloc: Global, words: &'a [&'a str]) -> Result<ArgMatches<'a>, Error>
     ensures found { IfOk result (λ matches. rows_of (found_of matches) ≡ matches_of command_line (map (λ word. word.now) words.entry.now)) }
     ensures fails { FailsBy (fault_of command_line (map (λ word. word.now) words.entry.now)) result }
 {
@@ -190,7 +194,7 @@ pub fn has_flag(matches: &ArgMatches<'_>, name: &str) -> bool
 }
 
 /// The options of a command line, if they go together.
-pub(crate) fn options_of(matches: &ArgMatches<'_>) -> Option<Options>
+pub fn options_of(matches: &ArgMatches<'_>) -> Option<Options>
     ensures { AreOptions (rows_of (found_of matches.now)) result }
 {
     let asked = asked_of(has_flag(matches, "press"), has_flag(matches, "wide"))?;
@@ -205,14 +209,14 @@ pub(crate) fn options_of(matches: &ArgMatches<'_>) -> Option<Options>
 }
 
 /// The symbols of a command line.
-pub(crate) fn symbols_of<'m, 'a>(matches: &'m ArgMatches<'a>) -> &'m [&'a str]
+pub fn symbols_of<'m, 'a>(matches: &'m ArgMatches<'a>) -> &'m [&'a str]
     ensures { map (λ symbol. symbol.now) result.now ≡ symbols_of (rows_of (found_of matches.now)) }
 {
     matches.get_strs("SYMBOL").unwrap_or_default()
 }
 
 /// How an input is filtered as options ask, if they don't need a symbol.
-pub(crate) fn filtering_of(options: Options) -> Option<Filtering>
+pub fn filtering_of(options: Options) -> Option<Filtering>
     ensures { result ≡ filtering_by options }
 {
     let Options {

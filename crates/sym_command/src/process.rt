@@ -1,44 +1,15 @@
-// The program: symbols on the command line, or standard input filtered to standard output.
+// What a program is called with, and what it says at its end.
 ghost use Rattle.std.specs.Prelude.{◌≡◌, ◌^◌, ◌-◌, ◌<◌, IfOk, IsSome, vec_len};
 ghost use Rattle.sym_command.specs.declared.process.TheConstants.{LONGEST_ARGUMENT};
 
-use crate::command::{FAULT, WRONG_USE, run_over};
+use crate::command::FAULT;
 use std::alloc::{AllocError, Global};
 use std::rt::Env;
 use std::{env, io, str};
-use sym_filter::{FilterFault, ReaderSource, Sink, WriterSink, write_all};
-
-/// What the program calls itself.
-const NAME: &str = "symfilt";
+use sym_filter::{FilterFault, Sink, write_all};
 
 /// No argument is longer, in bytes (Linux's bound on one argument).
 const LONGEST_ARGUMENT: usize = 131_072;
-
-/// Runs the program over standard input and output, and answers its exit status.
-pub fn program<R: Env + Input + Print + AllocGlobal, E: Print>(rt: &R, errors: &E) -> u8 {
-    match run_on_streams(rt, errors) {
-        Ok(status) => status,
-        Err(error) => fault(errors, NAME, error),
-    }
-}
-
-/// Runs the program on the words that it was called with, and on its streams.
-fn run_on_streams<R: Env + Input + Print + AllocGlobal, E: Print>(
-    rt: &R,
-    errors: &E,
-) -> Result<u8, FilterFault> {
-    let mut input = ReaderSource::new(rt.reader());
-    let mut out = WriterSink::new(io::writer(rt));
-    let mut err = WriterSink::new(io::writer(errors));
-    let Some(words) = called_with(rt, NAME, &mut err)? else {
-        return Ok(WRONG_USE);
-    };
-    let mut texts = Vec::with_capacity(rt.alloc(), words.len())?;
-    for word in &words {
-        texts.push(word.as_str())?;
-    }
-    run_over(rt.alloc(), texts.as_slice(), &mut input, &mut out, &mut err)
-}
 
 /// The words that a process was called with. Where one isn't valid UTF-8 there are none, and it is said under the program's name,
 /// whose status is then `WRONG_USE`.

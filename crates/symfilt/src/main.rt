@@ -9,7 +9,7 @@ mod scripted;
 mod tests;
 
 use std::process::ExitCode;
-use sym_command::program;
+use symfilt_command::program;
 
 fn main(rt: HostRuntime) -> ExitCode {
     ExitCode::from(program(&rt, &rt.stderr()))

@@ -1,7 +1,8 @@
 // Options with C++ and Rust symbols on the command line.
 use std::alloc::{AllocError, Global};
 use std::test::Fail;
-use sym_command::{Run, run};
+use sym_command::Run;
+use symfilt_command::run;
 
 /// Options and symbols, with the line that is answered and what is complained of. What symbols are answered stands in the
 /// rows of crates/check_rows; these show that options come to the calls.

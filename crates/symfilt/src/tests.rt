@@ -4,10 +4,11 @@ use std::alloc::{AllocError, Global};
 use std::process::Abort;
 use std::str;
 use std::test::Fail;
-use sym_command::{Filtering, Run, answer_words, run, run_to};
+use sym_command::{Filtering, Run, answer_words};
 use sym_filter::{FilterFault, Letters};
 use sym_languages::{Abi, Languages, filter};
 use sym_print::Detail;
+use symfilt_command::{run, run_to};
 
 const LIMIT: u32 = 1_000_000;
 

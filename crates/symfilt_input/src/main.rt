@@ -2,7 +2,7 @@
 #![tactic(auto)]
 
 use std::process::ExitCode;
-use sym_command::program;
+use symfilt_command::program;
 
 fn main(rt: HostRuntime) -> ExitCode {
     ExitCode::from(program(&rt, &rt.stderr()))

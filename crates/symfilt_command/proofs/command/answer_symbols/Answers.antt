@@ -1,4 +1,4 @@
-use Rattle.sym_command.proofs.command.answer_symbols.Goals as goal
+use Rattle.symfilt_command.proofs.command.answer_symbols.Goals as goal
 
 pub returns-then-legacy-clause-ok : goal.returns-then-legacy-clause-ok
 returns-then-legacy-clause-ok g c = rw (c.in-Text.is, c.if-legacy.true) c.answer_words.ensures.ok

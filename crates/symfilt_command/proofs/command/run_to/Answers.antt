@@ -1,6 +1,6 @@
 use Rattle.std.proofs.Common.{List, ℕ, Bor, map}
-use Rattle.sym_command.proofs.CommandLemmas.{unparsed-run, unparsed-stopped}
-use Rattle.sym_command.proofs.command.run_to.Goals as goal
+use Rattle.symfilt_command.proofs.CommandLemmas.{unparsed-run, unparsed-stopped}
+use Rattle.symfilt_command.proofs.command.run_to.Goals as goal
 
 pub returns-in-Err-clause-ok : goal.returns-in-Err-clause-ok
 returns-in-Err-clause-ok g c =

@@ -1,7 +1,8 @@
 use Rattle.std.proofs.Common.{◌∙◌, sym, inl, inr}
 use Rattle.clap.specs.Words.{found_of, rows_of}
-use Rattle.sym_command.proofs.CommandLemmas.{refused-run, refused-stopped, no-words}
-use Rattle.sym_command.proofs.command.answer_all.Goals as goal
+use Rattle.sym_command.proofs.CommandLemmas.{no-words}
+use Rattle.symfilt_command.proofs.CommandLemmas.{refused-run, refused-stopped}
+use Rattle.symfilt_command.proofs.command.answer_all.Goals as goal
 
 pub returns-in_default-clause-ok : goal.returns-in_default-clause-ok
 returns-in_default-clause-ok g c =

@@ -1,7 +1,7 @@
 use Rattle.std.proofs.Common.{List, ℕ, Bor, map, inr}
 use Rattle.sym_command.proofs.PageLemmas.{OnErr-anyway}
-use Rattle.sym_command.proofs.CommandLemmas.{filtered-stopped}
-use Rattle.sym_command.proofs.command.run_over.Goals as goal
+use Rattle.symfilt_command.proofs.CommandLemmas.{filtered-stopped}
+use Rattle.symfilt_command.proofs.command.run_over.Goals as goal
 
 pub returns-in_err-filter_asked-in-Filter-clause-err : goal.returns-in_err-filter_asked-in-Filter-clause-err
 returns-in_err-filter_asked-in-Filter-clause-err g c =

@@ -1,0 +1,69 @@
+-- What a command line's parts did, as what the program did.
+use Rattle.std.proofs.Common.{◌≡◌, ◌≢◌, ◌⊎◌, ℕ, List, [], Option, Result, Ok, Err, refl, sym, subst, inl, inr, ◌++◌}
+use Rattle.std.specs.Prelude.{IfOk, OnOk, OnErr}
+use Rattle.std.specs.Io.KnownBytes.{Appends}
+use Rattle.sym_filter.specs.Streams.{FiltersFrontAt}
+use Rattle.sym_filter.specs.declared.streams.FilterFault.{FilterFault}
+use Rattle.sym_filter.proofs.StreamLemmas.{Appends-join}
+use Rattle.clap.specs.Words.{Row, Text as Bytes, IsAmong}
+use Rattle.clap.specs.declared.error.kind.ErrorKind.{ErrorKind}
+use Rattle.clap.specs.declared.error.kind.ErrorKind.TheVariants.{OutOfMemory}
+use Rattle.sym_command.specs.CommandLine.{AreRefused, faults_in}
+use Rattle.sym_command.specs.Command.{Took, Says}
+use Rattle.sym_command.specs.declared.outcome.Filtering.{Filtering}
+use Rattle.sym_command.specs.declared.outcome.Run.{Run}
+use Rattle.sym_command.specs.declared.outcome.Run.TheVariants.{Done, Filter}
+use Rattle.sym_command.proofs.CommandLemmas.{faulty}
+use Rattle.sym_command.proofs.PageLemmas.{Took-said, OnErr-anyway}
+use Rattle.symfilt_command.specs.Command.{filter_answers, AreBegun, IsRunOf, IsRun, IsStopped, FilteredFront}
+
+-- ## Words that the parser refuses
+
+pub unparsed-run : (words : List Bytes) (kind : ErrorKind) (out err err' : Option (List ℕ)) (result : Result Run FilterFault) → (kind ≡ OutOfMemory) ⊎ IsAmong kind (faults_in words) → OnOk result (kind ≢ OutOfMemory)
+    → IfOk result (λ run. run ≡ Done 2) → Says err err' → IfOk result (λ run. Took out out err err' (IsRun words run))
+unparsed-run words kind out err err' (Ok run) fails known is says = Took-said out err err' (IsRun words run) says (λ said. inr (faulty (faults_in words) kind known fails, is, refl))
+unparsed-run words kind out err err' (Err fault) fails known is says = tt
+
+pub unparsed-stopped : (words : List Bytes) (out err err' : Option (List ℕ)) (result : Result Run FilterFault) → Says err err' → OnErr result (Took out out err err' (IsStopped words))
+unparsed-stopped words out err err' result says = OnErr-anyway result _ (Took-said out err err' (IsStopped words) says (λ said. inr refl))
+
+-- ## Words that it takes
+
+abbrev pub IsStoppedOf : List Row → List ℕ → List ℕ → Type 0
+IsStoppedOf rows lines said = AreBegun rows lines said ⊎ (lines ≡ [])
+
+-- options that are refused
+pub refused-run : (rows : List Row) (out err err' : Option (List ℕ)) (result : Result Run FilterFault) → AreRefused rows → IfOk result (λ run. run ≡ Done 2) → Says err err' → IfOk result (λ run. Took out out err err' (IsRunOf rows run))
+refused-run rows out err err' (Ok run) refused is says = Took-said out err err' (IsRunOf rows run) says (λ said. subst (λ (r : Run). IsRunOf rows r [] said) (sym is) (inr (refl, refl, refused)))
+refused-run rows out err err' (Err fault) refused is says = tt
+
+pub refused-stopped : (rows : List Row) (out err err' : Option (List ℕ)) (result : Result Run FilterFault) → Says err err' → OnErr result (Took out out err err' (IsStoppedOf rows))
+refused-stopped rows out err err' result says = OnErr-anyway result _ (Took-said out err err' (IsStoppedOf rows) says (λ said. inr refl))
+
+-- ## Without a symbol
+
+-- what is asked of the filter, where nothing was written
+pub record AsksAlone (words : List Bytes) (filtering : Filtering) (lines said : List ℕ) : Type 0 where
+  pub no_line : lines ≡ []
+  pub nothing_said : said ≡ []
+  pub asked : IsRun words (Filter filtering) [] []
+
+asks_alone : (words : List Bytes) (filtering : Filtering) (lines said : List ℕ) → IsRun words (Filter filtering) lines said → AsksAlone words filtering lines said
+asks_alone words filtering lines said (inl (taken, ran)) = record { no_line = ran.0; nothing_said = ran.1; asked = inl (taken, (refl, refl, ran.2)) }
+asks_alone words filtering lines said (inr (faulty, is, none)) = cc
+
+pub filtered-stopped : (words : List Bytes) (run : Run) (filtering : Filtering) (coming coming' out mid out' err err' : Option (List ℕ)) → run ≡ Filter filtering → Took out mid err err' (IsRun words run)
+    → FiltersFrontAt filtering.letters (filter_answers filtering) coming coming' mid out' → FilteredFront words coming coming' out out' err err'
+filtered-stopped words run filtering coming coming' out mid out' err err' is took front =
+    let alone = asks_alone words filtering took.lines took.said (subst (λ (r : Run). IsRun words r took.lines took.said) is took.held) in record {
+      filtering = filtering;
+      asked = alone.asked;
+      filtered = record {
+        text = front.text;
+        gone = front.gone;
+        reads = front.reads;
+        writes = subst (λ (lines : List ℕ). Appends out out' (lines ++ front.gone)) alone.no_line (Appends-join out mid out' took.lines front.gone took.to_out front.writes);
+        begins = front.begins;
+      };
+      silent = subst (λ (said : List ℕ). Appends err err' said) alone.nothing_said took.to_err;
+    }
