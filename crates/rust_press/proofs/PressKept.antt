@@ -10,7 +10,7 @@ use Rattle.rust_grammar.specs.declared.production.Production.TheVariants as rule
 use Rattle.rust_grammar.specs.Productions.{production_of}
 use Rattle.rust_grammar.specs.Rules.{taking, chaining}
 use Rattle.rust_grammar.specs.Value as value
-use Rattle.rust_grammar.specs.Value.{Value, State, Ended}
+use Rattle.rust_grammar.specs.Value.{Value}
 use Rattle.rust_grammar.specs.Unfold.{At, bound_behind, meaning, meaning_of, plain, ends, greatest_u64}
 use Rattle.rust_press.specs.PressLaws.{Presses}
 use Rattle.sym_spell.specs.Pressing.{◌and◌, letter}

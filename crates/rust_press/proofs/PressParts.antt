@@ -10,7 +10,7 @@ use Rattle.sym_shape.specs.declared.rule.Rule.{Rule}
 use Rattle.sym_shape.specs.declared.rule.Sym.{Sym}
 use Rattle.sym_shape.specs.declared.rule.Sym.TheVariants.{Kind, Name, Number, Byte}
 use Rattle.sym_shape.specs.Table.{symbols_of}
-use Rattle.sym_shape.specs.Tree.{Tree as Shape, Forest, branch, empty, token, fixed, grown, spell, spell_all, AreTrees}
+use Rattle.sym_shape.specs.Tree.{branch, empty, token, fixed, grown, AreTrees}
 use Rattle.sym_shape.specs.Tree as shape
 use Rattle.rust_tree.specs.Tree.{Tree}
 use Rattle.rust_grammar.specs.declared.production.Production.{Production}

@@ -13,7 +13,7 @@ use Rattle.rust_grammar.specs.declared.production.Production.TheVariants as rule
 use Rattle.rust_grammar.specs.Productions.{production_of}
 use Rattle.rust_grammar.specs.Rules.{v0_table, taking}
 use Rattle.rust_grammar.specs.Value as value
-use Rattle.rust_grammar.specs.Value.{Value, State, Ended}
+use Rattle.rust_grammar.specs.Value.{Value, State}
 use Rattle.rust_grammar.specs.Unfold.{v0, At, bound_behind, is_minus, meaning, meaning_of, token_of, value62, value16}
 use Rattle.std.specs.Prelude.{slice_index, drop}
 use Rattle.std.specs.List.{list_all, AllByRecursion}
@@ -29,12 +29,11 @@ use Rattle.sym_shape.specs.declared.sheet.Choice.{Choice}
 use Rattle.sym_shape.specs.Sheet.{KindSheet, classes_of, in_ranges, are_covered, choice_at}
 use Rattle.sym_shape.specs.SheetLaws.{are_covered_in}
 use Rattle.sym_shape.specs.Table.{symbols_of, IsToken}
-use Rattle.sym_shape.specs.Tree.{Tree as Shape, Forest, branch, empty, token, fixed, grown, spell, spell_all, IsTree, AreTrees, TakesRule}
+use Rattle.sym_shape.specs.Tree.{Tree as Shape, Forest, branch, empty, token, fixed, grown, spell, spell_all, IsTree, AreTrees}
 use Rattle.sym_shape.specs.Tree as shape
 use Rattle.sym_link.specs.Reading.{Found, Open, ◌>>=◌}
 use Rattle.sym_link.specs.Unfold.{unfold_tree, unfold_forest, standing, alone}
 use Rattle.rust_grammar.specs.Rules.{kinds, no_kind, suffix_bytes, each}
-use Rattle.rust_grammar.specs.Value.{Integer}
 use Rattle.rust_grammar.specs.Unfold.{Meaning, path_part, other_path_part, suffix_part, at_rule, at_first, symbol_of, unfolded}
 use Rattle.rust_press.specs.Spellable.{most62, IsSpellable, IsSpellableName, IsSpellableSuffix}
 use Rattle.rust_press.specs.PressLaws.{IsSpellableSymbol, IsClosedOther}

@@ -15,7 +15,7 @@ use Rattle.rust_grammar.specs.declared.production.Production.{Production}
 use Rattle.rust_grammar.specs.declared.production.Production.TheVariants as rules
 use Rattle.rust_grammar.specs.Rules.{v0_table, taking}
 use Rattle.rust_grammar.specs.Value as value
-use Rattle.rust_grammar.specs.Value.{Value, State, Ended}
+use Rattle.rust_grammar.specs.Value.{Value, Ended}
 use Rattle.rust_grammar.specs.Unfold.{v0, ended_at, value62, greatest_u64}
 use Rattle.rust_press.specs.PressLaws.{as_value, AreListed, Agrees, state_of, Reads, Presses}
 use Rattle.rust_press.specs.Subtrees.{IsTypeValue}

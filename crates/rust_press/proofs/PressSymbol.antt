@@ -13,7 +13,7 @@ use Rattle.rust_press.specs.PressLaws.{Agrees, state_of, Reads, Presses}
 use Rattle.std.specs.Prelude.{drop}
 use Rattle.std.specs.List.{AllByRecursion}
 use Rattle.sym_shape.specs.Sheet.{in_ranges}
-use Rattle.sym_shape.specs.Tree.{Tree as Shape, Forest, branch, empty, fixed, grown, spell, IsTree}
+use Rattle.sym_shape.specs.Tree.{Tree as Shape, branch, empty, fixed, grown, spell, IsTree}
 use Rattle.sym_shape.specs.Tree as shape
 use Rattle.sym_link.specs.Unfold.{unfold_tree, found}
 use Rattle.rust_grammar.specs.Rules.{suffix_bytes}

@@ -12,7 +12,7 @@ use Rattle.rust_grammar.specs.declared.production.Production.TheVariants as rule
 use Rattle.rust_grammar.specs.Productions.{production_of}
 use Rattle.rust_grammar.specs.Rules.{v0_table, taking, chaining}
 use Rattle.rust_grammar.specs.Value as value
-use Rattle.rust_grammar.specs.Value.{Value, State, Ended}
+use Rattle.rust_grammar.specs.Value.{Value}
 use Rattle.rust_grammar.specs.Unfold.{At, byte_at, is_minus, meaning, meaning_of, plain, ends, token_of, value62, value16, greatest_u64, greatest_u128}
 use Rattle.rust_press.specs.PressLaws.{Presses}
 use Rattle.sym_shape.specs.Sheet.{in_ranges}

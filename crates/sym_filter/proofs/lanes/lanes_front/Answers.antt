@@ -1,4 +1,4 @@
-use Rattle.std.proofs.Common.{ℕ, leb, cond, bit_and, refl, arith}
+use Rattle.std.proofs.Common.{ℕ, leb, cond, bit_and, refl}
 use Rattle.std.proofs.lemmas.Simd.{zip2_splat, length-chunk}
 use lib.Lanes.{chunk}
 use Rattle.sym_filter.specs.Runs.{is_byte_of, is_run_byte}

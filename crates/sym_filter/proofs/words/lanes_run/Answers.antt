@@ -1,5 +1,4 @@
-use Rattle.std.proofs.Common.{length, drop, arith}
-use Rattle.std.proofs.lemmas.List.{length-drop}
+use Rattle.std.proofs.Common.{length, arith}
 use Rattle.sym_filter.specs.Runs.{is_byte_of}
 use Rattle.sym_filter.specs.declared.kinds.Letters.TheVariants.{Ascii}
 use Rattle.sym_filter.proofs.LaneLemmas.{all-longer}
