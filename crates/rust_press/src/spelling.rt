@@ -6,6 +6,7 @@ ghost use Rattle.sym_core.specs.declared.Refusal.TheVariants.{Memory};
 ghost use Rattle.rust_tree.specs.Views.{has_letter};
 ghost use Rattle.rust_press.specs.Spelled.{number_bytes, count_bytes, lifetime_bytes, mark_bytes, name_bytes, integer_bytes, reference_bytes, letters, letter_bytes, is_component, type_numbers, constant_numbers, numbers_bytes, text_bytes, front_bytes, end_bytes};
 
+use rust_references::targets::number_of;
 use rust_v0::tree_production::{
     ABI_FUNCTION, ARRAY, BASIC, BOOLEAN, C_FUNCTION, CHARACTER, CRATE_ROOT, DYN, FUNCTION, GENERIC,
     INTEGER, LIFETIME_ARGUMENT, MORE_BINDINGS, MUTABLE_REFERENCE, NESTED, NO_ARGUMENTS, NO_TYPES,
@@ -115,7 +116,7 @@ pub(crate) fn push_reference(place: u64, out: &mut Vec<u8>) -> Result<(), Refusa
     ensures memory { IfErr result (λ e. e ≡ Memory) }
 {
     out.push(b'B')?;
-    push_number(place.saturating_sub(2), out)?;
+    push_number(number_of(place), out)?;
     Ok(())
 }
 
