@@ -8,7 +8,8 @@ use Rattle.clap.specs.declared.error.kind.ErrorKind.{ErrorKind}
 use Rattle.clap.specs.declared.error.kind.ErrorKind.TheVariants.{DisplayHelp, DisplayVersion, OutOfMemory}
 use Rattle.sym_print.specs.declared.detail.Detail.{Detail}
 use Rattle.sym_filter.specs.Runs.{Answering}
-use Rattle.sym_filter.specs.Streams.{BeginsWith, FiltersAll, FiltersFront, PutsFront}
+use Rattle.sym_filter.specs.declared.kinds.Letters.TheVariants.{Within}
+use Rattle.sym_filter.specs.Streams.{BeginsWith, FiltersAllAt, FiltersFrontAt, PutsFront}
 use Rattle.std.proofs.lemmas.Bool.{false≢true}
 use Rattle.std.proofs.lemmas.List.{append-nil}
 use Rattle.sym_filter.specs.declared.words.Tally.{Tally}
@@ -160,12 +161,12 @@ pub summary-none : (asked : Bool) (tally : Tally) (err : Option (List ℕ)) → 
 summary-none asked tally err none = subst (λ (b : Bool). Appends err err (summary_if b tally)) (sym none) (Appends-none err)
 
 -- nothing was said
-pub input-front : (answers : Answering) (why : Bool) (coming coming' out out' err : Option (List ℕ)) → FiltersFront answers coming coming' out out' → FiltersInputFront answers why coming coming' out out' err err
+pub input-front : (answers : Answering) (why : Bool) (coming coming' out out' err : Option (List ℕ)) → FiltersFrontAt Within answers coming coming' out out' → FiltersInputFront answers why coming coming' out out' err err
 input-front answers why coming coming' out out' err front =
     let none : Tally = record { words = 0; replaced = 0; refused = 0 } in record { filtered = front; tally = none; said = []; says = Appends-none err; said_begins = (summary_if why none, refl) }
 
 -- the whole was filtered, and some was said
-pub input-said-front : (answers : Answering) (why : Bool) (tally : Tally) (coming coming' out out' err err' : Option (List ℕ)) → FiltersAll answers coming coming' out out' tally → PutsFront err err' [] (summary_if why tally)
+pub input-said-front : (answers : Answering) (why : Bool) (tally : Tally) (coming coming' out out' err err' : Option (List ℕ)) → FiltersAllAt Within answers coming coming' out out' tally → PutsFront err err' [] (summary_if why tally)
     → FiltersInputFront answers why coming coming' out out' err err'
 input-said-front answers why tally coming coming' out out' err err' all says = record {
   filtered = record { text = all.text; gone = _; reads = all.reads; writes = all.writes; begins = ([], sym (append-nil _)) };

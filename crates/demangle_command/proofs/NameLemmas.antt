@@ -6,9 +6,9 @@ use Rattle.std.specs.Io.KnownBytes.{Appends, Consumes}
 use Rattle.std.proofs.lemmas.Grind.{flat_map-append}
 use Rattle.std.proofs.lemmas.List.{append-nil}
 use Rattle.std.proofs.lemmas.List.Folds.{list_any-append}
-use Rattle.sym_filter.specs.declared.kinds.Letters.TheVariants.{Any}
+use Rattle.sym_filter.specs.declared.kinds.Letters.TheVariants.{Within}
 use Rattle.sym_filter.specs.declared.words.Tally.{Tally}
-use Rattle.sym_filter.specs.Runs.{Answering, filtered, is_byte_of, is_run_byte, replaced, text_for, tally_at}
+use Rattle.sym_filter.specs.Runs.{Answering, is_byte_of, is_run_byte, tally_at}
 use Rattle.sym_filter.specs.Streams.{BeginsWith, FiltersFrontAt, PutsFront}
 use Rattle.sym_filter.proofs.JoinLemmas.{filtered_by_joins}
 use Rattle.sym_filter.proofs.StreamLemmas.{Appends-none, Appends-join}
@@ -16,23 +16,22 @@ use Rattle.sym_command.specs.Command.{Took}
 use Rattle.sym_core.specs.declared.refusal.Refusal.{Refusal}
 use Rattle.sym_core.specs.declared.refusal.Refusal.TheVariants.{Memory}
 use Rattle.sym_command.specs.Lines.{answer_for, reason_of}
-use Rattle.demangle_command.specs.Names.{AnswersNames, FiltersSome, NameFront, NamesFront, line_of, lines_of, reason_by, said_if, said_of, name_stays, stays_by}
+use Rattle.demangle_command.specs.Names.{AnswersNames, FiltersSome, filtered, NameFront, NamesFront, line_of, lines_of, reason_by, said_if, said_of, name_stays, stays_by}
 
 -- ## Lines
 
 pub filtered-nil : (answers : Answering) → filtered answers [] ≡ []
-unfolding replaced text_for
 filtered-nil answers = refl
 
-pub newline-ends : is_byte_of Any 10 ≡ false
+pub newline-ends : is_byte_of Within 10 ≡ false
 unfolding is_run_byte
 newline-ends = refl
 
 -- a line is filtered as what follows isn't there
 pub filtered-line : (answers : Answering) (name more : List ℕ) → filtered answers (line_of name ++ more) ≡ filtered answers (line_of name) ++ filtered answers more
 filtered-line answers name more =
-    let alone : filtered answers (line_of name) ≡ filtered answers name ++ 10 ∷ [] = filtered_by_joins Any answers name [] 10 newline-ends ∙ ap (λ (t : List ℕ). filtered answers name ++ 10 ∷ t) (filtered-nil answers) in
-    ap (filtered answers) (append_assoc name (10 ∷ []) more) ∙ filtered_by_joins Any answers name more 10 newline-ends
+    let alone : filtered answers (line_of name) ≡ filtered answers name ++ 10 ∷ [] = filtered_by_joins Within answers name [] 10 newline-ends ∙ ap (λ (t : List ℕ). filtered answers name ++ 10 ∷ t) (filtered-nil answers) in
+    ap (filtered answers) (append_assoc name (10 ∷ []) more) ∙ filtered_by_joins Within answers name more 10 newline-ends
     ∙ sym (append_assoc (filtered answers name) (10 ∷ []) (filtered answers more)) ∙ ap (λ (t : List ℕ). t ++ filtered answers more) (sym alone)
 
 pub filtered-lines : (answers : Answering) (names : List (List ℕ)) (more : List ℕ) → filtered answers (lines_of names ++ more) ≡ filtered answers (lines_of names) ++ filtered answers more
@@ -59,8 +58,8 @@ flat-begins f names rest all name front e begins = (
 -- ## A name
 
 -- what was known of its line as it was filtered is known of its name
-pub stays-line : (answers : Answering) (name line : List ℕ) (tally : Tally) (left : Bool) → line ≡ line_of name → tally ≡ tally_at Any answers line → left ≡ stays_by tally → left ≡ name_stays answers name
-stays-line answers name line tally left e counted is = is ∙ ap stays_by (counted ∙ ap (tally_at Any answers) e)
+pub stays-line : (answers : Answering) (name line : List ℕ) (tally : Tally) (left : Bool) → line ≡ line_of name → tally ≡ tally_at Within answers line → left ≡ stays_by tally → left ≡ name_stays answers name
+stays-line answers name line tally left e counted is = is ∙ ap stays_by (counted ∙ ap (tally_at Within answers) e)
 
 pub said-stays : (answers : Answering) (why left : Bool) (name : List ℕ) (err err' : Option (List ℕ)) → left ≡ name_stays answers name → Appends err err' (said_if (why && left) answers name) → Appends err err' (said_of why answers name)
 said-stays answers why left name err err' is says = subst (λ (b : Bool). Appends err err' (said_if (why && b) answers name)) is says
@@ -119,7 +118,7 @@ consumed-begins : (line : List ℕ) (coming : Option (List ℕ)) (text : List �
 consumed-begins line None text reads = absurd reads
 consumed-begins line (Some rest) text reads = (rest, reads)
 
-pub front-some : (answers : Answering) (line bytes : List ℕ) (coming out out' : Option (List ℕ)) → bytes ≡ line → FiltersFrontAt Any answers (Some bytes) coming out out' → FiltersSome answers line out out'
+pub front-some : (answers : Answering) (line bytes : List ℕ) (coming out out' : Option (List ℕ)) → bytes ≡ line → FiltersFrontAt Within answers (Some bytes) coming out out' → FiltersSome answers line out out'
 front-some answers line bytes coming out out' same front = record {
   text = front.text;
   begins = subst (λ (t : List ℕ). BeginsWith t front.text) same (consumed-begins bytes coming front.text front.reads);

@@ -4,8 +4,9 @@ use Rattle.std.specs.Io.KnownBytes.{Appends}
 use Rattle.clap.specs.Words.{Row, Text, IsAmong}
 use Rattle.clap.specs.declared.error.kind.ErrorKind.{ErrorKind}
 use Rattle.clap.specs.declared.error.kind.ErrorKind.TheVariants.{DisplayHelp, DisplayVersion}
+use Rattle.sym_filter.specs.declared.kinds.Letters.TheVariants.{Within}
 use Rattle.sym_filter.specs.Runs.{Answering}
-use Rattle.sym_filter.specs.Streams.{BeginsWith, FiltersAll, FiltersFront}
+use Rattle.sym_filter.specs.Streams.{BeginsWith, FiltersAllAt, FiltersFrontAt}
 use Rattle.sym_filter.specs.declared.words.Tally.{Tally}
 use Rattle.sym_command.specs.Command.{Took}
 use Rattle.demangle_command.specs.CommandLine.{AreGiven, AreOptions, names_of, found_in, faults_in}
@@ -22,13 +23,13 @@ answers_of options = styled_answer options.style options.limit options.detail
 -- It was filtered to its end, and then it was said how much stays, where that is asked.
 pub record FiltersInput (answers : Answering) (why strict : Bool) (coming coming' out out' err err' : Option (List ℕ)) (status : ℕ) : Type 0 where
   pub tally : Tally
-  pub filtered : FiltersAll answers coming coming' out out' tally
+  pub filtered : FiltersAllAt Within answers coming coming' out out' tally
   pub says : Appends err err' (summary_if why tally)
   pub ends : status ≡ status_of strict (not (tally.refused == 0))
 
 -- some of it was filtered before a fault
 pub record FiltersInputFront (answers : Answering) (why : Bool) (coming coming' out out' err err' : Option (List ℕ)) : Type 0 where
-  pub filtered : FiltersFront answers coming coming' out out'
+  pub filtered : FiltersFrontAt Within answers coming coming' out out'
   pub tally : Tally
   pub said : List ℕ
   pub says : Appends err err' said

@@ -3,11 +3,15 @@ use Rattle.std.specs.Prelude.{◌≡◌, ℕ, List, [], ◌∷◌, ◌++◌, Boo
 use Rattle.std.specs.List.{flat_map, list_any}
 use Rattle.std.specs.Fmt.{decimal}
 use Rattle.sym_core.specs.declared.refusal.Refusal.{Refusal}
-use Rattle.sym_filter.specs.declared.kinds.Letters.TheVariants.{Any}
+use Rattle.sym_filter.specs.declared.kinds.Letters.TheVariants.{Within}
 use Rattle.sym_filter.specs.declared.words.Tally.{Tally}
-use Rattle.sym_filter.specs.Runs.{Answering, filtered, tally_at}
+use Rattle.sym_filter.specs.Runs.{Answering, filtered_at, tally_at}
 use Rattle.sym_filter.specs.Streams.{BeginsWith, PutsFront}
 use Rattle.sym_command.specs.Lines.{answer_for, reason_of}
+
+-- a text with each word that has a text replaced by it, where words begin within runs
+abbrev pub filtered : Answering → List ℕ → List ℕ
+filtered answers text = filtered_at Within answers text
 
 -- the line that a name makes
 abbrev pub line_of : List ℕ → List ℕ
@@ -22,7 +26,7 @@ abbrev pub stays_by : Tally → Bool
 stays_by tally = not (tally.refused == 0) || (tally.replaced == 0)
 
 abbrev pub name_stays : Answering → List ℕ → Bool
-name_stays answers name = stays_by (tally_at Any answers (line_of name))
+name_stays answers name = stays_by (tally_at Within answers (line_of name))
 
 -- why a name stays, by what is answered for it as a symbol
 abbrev pub reason_by : Option (Result (List ℕ) Refusal) → List ℕ

@@ -214,7 +214,7 @@ fn filter_input<D: Demangler, S: Source, W: Sink, E: Sink>(
     ensures write_failed { W.failure_count out.new + E.failure_count err.new
         ≡ W.failure_count out.old + E.failure_count err.old + writer_faults result }
 {
-    let tally = match filter_words(alloc, input, out, demangler, Letters::Any) {
+    let tally = match filter_words(alloc, input, out, demangler, Letters::Within) {
         Ok(tally) => tally,
         Err(fault) => return Err(fault),
     };

@@ -1,12 +1,12 @@
 // Names, whose lines are filtered one by one.
 ghost use Rattle.std.specs.Prelude.{◌≡◌, ◌≢◌, ◌+◌, ◌-◌, ◌^◌, ◌<◌, [], IfOk, OnOk, OnErr, IfErr, map, string_bytes};
 ghost use Rattle.std.specs.Io.KnownBytes.{Appends};
-ghost use Rattle.sym_filter.specs.Runs.{filtered, tally_at};
-ghost use Rattle.sym_filter.specs.declared.kinds.Letters.TheVariants.{Any};
+ghost use Rattle.sym_filter.specs.Runs.{tally_at};
+ghost use Rattle.sym_filter.specs.declared.kinds.Letters.TheVariants.{Within};
 ghost use Rattle.sym_filter.specs.Streams.{PutsFront, writer_faults};
 ghost use Rattle.sym_command.specs.Command.{Took};
 ghost use Rattle.sym_command.specs.Lines.{answer_for};
-ghost use Rattle.demangle_command.specs.Names.{AnswersNames, NamesFront, NameFront, FiltersSome, line_of, said_if, said_of, name_stays, stays_by, reason_by};
+ghost use Rattle.demangle_command.specs.Names.{AnswersNames, NamesFront, NameFront, FiltersSome, filtered, line_of, said_if, said_of, name_stays, stays_by, reason_by};
 
 use std::alloc::{AllocError, Global};
 use sym_command::reason;
@@ -92,13 +92,13 @@ fn filter_line<D: Demangler, W: Sink>(
 ) -> Result<Tally, FilterFault>
     requires out_failures { W.failure_count out.old < 2 ^ 64 - 1 }
     ensures line { OnOk result (Appends (W.taken out.old) (W.taken out.new) (filtered (D.answer demangler.now) line.now)) }
-    ensures tally { IfOk result (λ tally. tally ≡ tally_at Any (D.answer demangler.now) line.now) }
+    ensures tally { IfOk result (λ tally. tally ≡ tally_at Within (D.answer demangler.now) line.now) }
     ensures err { OnErr result (FiltersSome (D.answer demangler.now) line.now (W.taken out.old) (W.taken out.new)) }
     ensures fault { IfErr result (λ fault. fault ≢ FilterFault.Read) }
     ensures failures { W.failure_count out.new ≡ W.failure_count out.old + writer_faults result }
 {
     let mut reader = ReaderSource::new(line);
-    match filter_words(alloc, &mut reader, out, demangler, Letters::Any) {
+    match filter_words(alloc, &mut reader, out, demangler, Letters::Within) {
         Ok(tally) => Ok(tally),
         Err(fault) => match fault {
             FilterFault::Write => Err(FilterFault::Write),

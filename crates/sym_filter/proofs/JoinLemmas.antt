@@ -3,7 +3,7 @@ use Rattle.std.proofs.Common.{◌≡◌, ℕ, Bool, true, false, cond, List, [],
 use Rattle.std.proofs.lemmas.Bool.{cond-false}
 use Rattle.std.proofs.lemmas.List.{append_assoc}
 use Rattle.sym_filter.specs.declared.kinds.Letters.{Letters}
-use Rattle.sym_filter.specs.Runs.{is_byte_of, first_run, with_later_runs, with_runs, replaced}
+use Rattle.sym_filter.specs.Runs.{is_byte_of, first_run, with_later_runs, with_runs, replaced_at}
 use Rattle.sym_filter.specs.Splits.{FilteredByJoinsAt}
 
 first_run-cut : (letters : Letters) (text : List ℕ) (byte : ℕ) (more : List ℕ) → is_byte_of letters byte ≡ false → first_run letters (text ++ (byte ∷ more)) ≡ first_run letters text
@@ -24,5 +24,5 @@ with_later_runs-cut letters change (next ∷ text) byte more other =
 
 pub filtered_by_joins : (letters : Letters) → FilteredByJoinsAt letters
 filtered_by_joins letters answers text more byte other =
-    ap₂ (λ (a b : List ℕ). a ++ b) (ap (replaced answers) (first_run-cut letters text byte more other)) (with_later_runs-cut letters (replaced answers) text byte more other)
-    ∙ sym (append_assoc (replaced answers (first_run letters text)) (with_later_runs letters (replaced answers) text) (byte ∷ with_runs letters (replaced answers) more))
+    ap₂ (λ (a b : List ℕ). a ++ b) (ap (replaced_at letters answers) (first_run-cut letters text byte more other)) (with_later_runs-cut letters (replaced_at letters answers) text byte more other)
+    ∙ sym (append_assoc (replaced_at letters answers (first_run letters text)) (with_later_runs letters (replaced_at letters answers) text) (byte ∷ with_runs letters (replaced_at letters answers) more))

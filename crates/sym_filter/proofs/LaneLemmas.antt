@@ -10,7 +10,7 @@ use Rattle.std.proofs.Math.Seq.{take-add}
 use Rattle.std.specs.List.{prefix_len, list_all}
 use lib.Lanes.{chunk, zip2, mask_l, top}
 use Rattle.sym_filter.specs.declared.kinds.Letters.{Letters}
-use Rattle.sym_filter.specs.declared.kinds.Letters.TheVariants.{Any, Ascii}
+use Rattle.sym_filter.specs.declared.kinds.Letters.TheVariants.{Any, Ascii, Within}
 use Rattle.sym_filter.specs.Lanes.{first_set}
 use Rattle.sym_filter.specs.Runs.{is_byte_of, is_run_byte}
 
@@ -79,3 +79,7 @@ of_letters Any [] h = refl
 of_letters Any (byte ∷ bytes) h =
     let parts = and_parts (is_byte_of Ascii byte) (list_all (is_byte_of Ascii) bytes) h in
     and_from _ _ (and_parts (is_run_byte byte) _ parts.0).0 (of_letters Any bytes parts.1)
+of_letters Within [] h = refl
+of_letters Within (byte ∷ bytes) h =
+    let parts = and_parts (is_byte_of Ascii byte) (list_all (is_byte_of Ascii) bytes) h in
+    and_from _ _ (and_parts (is_run_byte byte) _ parts.0).0 (of_letters Within bytes parts.1)

@@ -1,3 +1,5 @@
+pub mod BeginLemmas
+pub mod ByteLemmas
 pub mod JoinLemmas
 pub mod LaneLemmas
 pub mod PlainLemmas
@@ -7,3 +9,5 @@ pub mod StreamLemmas
 pub mod TallyLemmas
 pub mod WordLemmas
 pub mod Limits
+pub mod TriedLemmas
+pub mod TryLemmas

@@ -4,31 +4,31 @@ use Rattle.std.specs.List.{list_all}
 use Rattle.std.proofs.lemmas.Bool.{and_parts, and_from, and_left, cond-false, ne_eqb}
 use Rattle.std.proofs.lemmas.List.{take_more, take-append-drop}
 use Rattle.sym_filter.specs.declared.kinds.Letters.{Letters}
-use Rattle.sym_filter.specs.Runs.{is_byte_of, word_of}
+use Rattle.sym_filter.specs.Runs.{closes, word_of}
 use Rattle.std.proofs.Math.Seq.{take-add}
 use Rattle.sym_filter.specs.Lanes.{is_no_mark}
-use Rattle.sym_filter.specs.Plain.{is_plain, is_in_run}
+use Rattle.sym_filter.specs.Plain.{is_plain, is_closed}
 use Rattle.sym_filter.proofs.RunLemmas.{is_dot, word_of-part, word_of-append_dots}
 
 -- a byte more
-pub is_plain-more : (letters : Letters) (in_run : Bool) (front : List ℕ) (byte : ℕ) → is_plain letters in_run front ≡ true → (is_in_run letters in_run front || not (eqb byte 95)) ≡ true → is_plain letters in_run (front ++ byte ∷ []) ≡ true
-is_plain-more letters in_run [] byte h next = and_from _ _ next refl
-is_plain-more letters in_run (first ∷ front) byte h next =
-    let parts = and_parts (in_run || not (eqb first 95)) (is_plain letters (is_byte_of letters first) front) h in
-    and_from _ _ parts.0 (is_plain-more letters (is_byte_of letters first) front byte parts.1 next)
+pub is_plain-more : (letters : Letters) (closed : Bool) (front : List ℕ) (byte : ℕ) → is_plain letters closed front ≡ true → (is_closed letters closed front || not (eqb byte 95)) ≡ true → is_plain letters closed (front ++ byte ∷ []) ≡ true
+is_plain-more letters closed [] byte h next = and_from _ _ next refl
+is_plain-more letters closed (first ∷ front) byte h next =
+    let parts = and_parts (closed || not (eqb first 95)) (is_plain letters (closes letters first) front) h in
+    and_from _ _ parts.0 (is_plain-more letters (closes letters first) front byte parts.1 next)
 
-pub is_in_run-more : (letters : Letters) (in_run : Bool) (front : List ℕ) (byte : ℕ) → is_in_run letters in_run (front ++ byte ∷ []) ≡ is_byte_of letters byte
-is_in_run-more letters in_run [] byte = refl
-is_in_run-more letters in_run (first ∷ front) byte = is_in_run-more letters (is_byte_of letters first) front byte
+pub is_closed-more : (letters : Letters) (closed : Bool) (front : List ℕ) (byte : ℕ) → is_closed letters closed (front ++ byte ∷ []) ≡ closes letters byte
+is_closed-more letters closed [] byte = refl
+is_closed-more letters closed (first ∷ front) byte = is_closed-more letters (closes letters first) front byte
 
 -- the front of a text with its next byte
-pub is_plain-take : (letters : Letters) (in_run : Bool) (text : List ℕ) (i d : ℕ) → i < length text → is_plain letters in_run (take i text) ≡ true → (is_in_run letters in_run (take i text) || not (eqb (get_or text i d) 95)) ≡ true → is_plain letters in_run (take (i + 1) text) ≡ true
-is_plain-take letters in_run text i d h plain next = ap (is_plain letters in_run) (take_more text i d h) ∙ is_plain-more letters in_run (take i text) (get_or text i d) plain next
+pub is_plain-take : (letters : Letters) (closed : Bool) (text : List ℕ) (i d : ℕ) → i < length text → is_plain letters closed (take i text) ≡ true → (is_closed letters closed (take i text) || not (eqb (get_or text i d) 95)) ≡ true → is_plain letters closed (take (i + 1) text) ≡ true
+is_plain-take letters closed text i d h plain next = ap (is_plain letters closed) (take_more text i d h) ∙ is_plain-more letters closed (take i text) (get_or text i d) plain next
 
-pub is_in_run-take : (letters : Letters) (in_run : Bool) (text : List ℕ) (i d : ℕ) → i < length text → is_in_run letters in_run (take (i + 1) text) ≡ is_byte_of letters (get_or text i d)
-is_in_run-take letters in_run text i d h = ap (is_in_run letters in_run) (take_more text i d h) ∙ is_in_run-more letters in_run (take i text) (get_or text i d)
+pub is_closed-take : (letters : Letters) (closed : Bool) (text : List ℕ) (i d : ℕ) → i < length text → is_closed letters closed (take (i + 1) text) ≡ closes letters (get_or text i d)
+is_closed-take letters closed text i d h = ap (is_closed letters closed) (take_more text i d h) ∙ is_closed-more letters closed (take i text) (get_or text i d)
 
-pub goes_on : (in_run : Bool) (byte : ℕ) → in_run ≡ true → (in_run || not (eqb byte 95)) ≡ true
+pub goes_on : (closed : Bool) (byte : ℕ) → closed ≡ true → (closed || not (eqb byte 95)) ≡ true
 goes_on true byte h = refl
 goes_on false byte h = cc
 
@@ -36,24 +36,24 @@ or_true : (b : Bool) → (b || true) ≡ true
 or_true true = refl
 or_true false = refl
 
-pub is_other : (in_run : Bool) (byte : ℕ) → (byte ≡ 95 → ⊥) → (in_run || not (eqb byte 95)) ≡ true
-is_other in_run byte h = ap (λ (b : Bool). in_run || not b) (ne_eqb byte 95 h) ∙ or_true in_run
+pub is_other : (closed : Bool) (byte : ℕ) → (byte ≡ 95 → ⊥) → (closed || not (eqb byte 95)) ≡ true
+is_other closed byte h = ap (λ (b : Bool). closed || not b) (ne_eqb byte 95 h) ∙ or_true closed
 
 -- bytes that are no '_' more
-is_plain-others : (letters : Letters) (in_run : Bool) (others : List ℕ) → list_all is_no_mark others ≡ true → is_plain letters in_run others ≡ true
-is_plain-others letters in_run [] h = refl
-is_plain-others letters in_run (byte ∷ others) h =
+is_plain-others : (letters : Letters) (closed : Bool) (others : List ℕ) → list_all is_no_mark others ≡ true → is_plain letters closed others ≡ true
+is_plain-others letters closed [] h = refl
+is_plain-others letters closed (byte ∷ others) h =
     let parts = and_parts (is_no_mark byte) (list_all is_no_mark others) h in
-    and_from _ _ (ap (λ b. in_run || b) parts.0 ∙ or_true in_run) (is_plain-others letters (is_byte_of letters byte) others parts.1)
+    and_from _ _ (ap (λ b. closed || b) parts.0 ∙ or_true closed) (is_plain-others letters (closes letters byte) others parts.1)
 
-is_plain-append : (letters : Letters) (in_run : Bool) (front others : List ℕ) → is_plain letters in_run front ≡ true → list_all is_no_mark others ≡ true → is_plain letters in_run (front ++ others) ≡ true
-is_plain-append letters in_run [] others plain h = is_plain-others letters in_run others h
-is_plain-append letters in_run (first ∷ front) others plain h =
-    let parts = and_parts (in_run || not (eqb first 95)) (is_plain letters (is_byte_of letters first) front) plain in
-    and_from _ _ parts.0 (is_plain-append letters (is_byte_of letters first) front others parts.1 h)
+is_plain-append : (letters : Letters) (closed : Bool) (front others : List ℕ) → is_plain letters closed front ≡ true → list_all is_no_mark others ≡ true → is_plain letters closed (front ++ others) ≡ true
+is_plain-append letters closed [] others plain h = is_plain-others letters closed others h
+is_plain-append letters closed (first ∷ front) others plain h =
+    let parts = and_parts (closed || not (eqb first 95)) (is_plain letters (closes letters first) front) plain in
+    and_from _ _ parts.0 (is_plain-append letters (closes letters first) front others parts.1 h)
 
-pub is_plain-longer : (letters : Letters) (in_run : Bool) (text : List ℕ) (i r : ℕ) → is_plain letters in_run (take i text) ≡ true → list_all is_no_mark (take r (drop i text)) ≡ true → is_plain letters in_run (take (i + r) text) ≡ true
-is_plain-longer letters in_run text i r plain others = ap (is_plain letters in_run) (take-add i r text) ∙ is_plain-append letters in_run (take i text) (take r (drop i text)) plain others
+pub is_plain-longer : (letters : Letters) (closed : Bool) (text : List ℕ) (i r : ℕ) → is_plain letters closed (take i text) ≡ true → list_all is_no_mark (take r (drop i text)) ≡ true → is_plain letters closed (take (i + r) text) ≡ true
+is_plain-longer letters closed text i r plain others = ap (is_plain letters closed) (take-add i r text) ∙ is_plain-append letters closed (take i text) (take r (drop i text)) plain others
 
 -- the word of a part ends behind its last byte that is no dot
 word_of-front : (part : List ℕ) (end : ℕ) → list_all is_dot (drop end part) ≡ true → word_of part ≡ word_of (take end part)

@@ -9,10 +9,10 @@ use Rattle.std.proofs.lemmas.List.Folds.{list_all-append}
 use Rattle.std.proofs.lemmas.List.{append-nil, length-drop}
 use Rattle.std.proofs.Math.Seq.{drop-append_seam}
 use Rattle.std.proofs.Math.Bool.{and-true}
-use Rattle.sym_filter.specs.Runs.{Answering, is_run_byte, is_byte_of, first_run, later_runs, with_later_runs, with_runs, replaced, is_named, named_runs, text_for, word_or_text, word_of, dots_behind}
+use Rattle.sym_filter.specs.Runs.{Answering, is_run_byte, is_byte_of, first_run, later_runs, with_later_runs, with_runs, replaced, is_named, text_for, word_or_text, word_of, dots_behind}
 use Rattle.sym_filter.specs.declared.kinds.Kind.{Kind}
 use Rattle.sym_filter.specs.declared.kinds.Letters.{Letters}
-use Rattle.sym_filter.specs.declared.kinds.Letters.TheVariants.{Any, Ascii}
+use Rattle.sym_filter.specs.declared.kinds.Letters.TheVariants.{Any, Ascii, Within}
 use Rattle.sym_filter.specs.Kinds.{kind_of, kind_by_beginning, symbol_of}
 use Rattle.sym_filter.specs.declared.kinds.TheConstants.{LONGEST_WORD}
 
@@ -57,14 +57,8 @@ filter-step : (run : List ℕ) (rest : List (List ℕ)) (b : Bool) → cond b (r
 filter-step run rest true = refl
 filter-step run rest false = refl
 
-filter-front : (run : List ℕ) (rest : List (List ℕ)) → cond (is_named run) (run ∷ rest) rest ≡ filter is_named (run ∷ []) ++ rest
+pub filter-front : (run : List ℕ) (rest : List (List ℕ)) → cond (is_named run) (run ∷ rest) rest ≡ filter is_named (run ∷ []) ++ rest
 filter-front run rest = filter-step run rest (is_named run)
-
-pub named_runs-ends : (letters : Letters) (run : List ℕ) (byte : ℕ) (more : List ℕ) → list_all (is_byte_of letters) run ≡ true → is_byte_of letters byte ≡ false → named_runs letters (run ++ (byte ∷ more)) ≡ filter is_named (run ∷ []) ++ named_runs letters more
-named_runs-ends letters run byte more h other =
-    let first : first_run letters (run ++ (byte ∷ more)) ≡ run = first_run-append letters run (byte ∷ more) h ∙ ap (λ t. run ++ t) (cond-false (is_byte_of letters byte) _ _ other) ∙ append-nil run in
-    let later : later_runs letters (run ++ (byte ∷ more)) ≡ first_run letters more ∷ later_runs letters more = later_runs-append letters run (byte ∷ more) h ∙ cond-false (is_byte_of letters byte) _ _ other in
-    ap₂ (λ (a : List ℕ) (b : List (List ℕ)). filter is_named (a ∷ b)) first later ∙ filter-front run (named_runs letters more)
 
 -- a word is what stands before the trailing dots
 pub word_of-dots : (dots : List ℕ) → list_all is_dot dots ≡ true → word_of dots ≡ []
@@ -103,6 +97,7 @@ dot_is_run_byte : (letters : Letters) → is_byte_of letters 46 ≡ true
 unfolding is_run_byte
 dot_is_run_byte Any = refl
 dot_is_run_byte Ascii = refl
+dot_is_run_byte Within = refl
 
 pub list_all-run_dots : (letters : Letters) (n : ℕ) → list_all (is_byte_of letters) (replicate n 46) ≡ true
 list_all-run_dots letters zero = refl
@@ -209,16 +204,10 @@ kind_of-other byte more other = kind_of-step byte (word_of more) (list_all is_do
 pub with_runs-append : (letters : Letters) (change : List ℕ → List ℕ) (run more : List ℕ) → list_all (is_byte_of letters) run ≡ true → with_runs letters change (run ++ more) ≡ change (run ++ first_run letters more) ++ with_later_runs letters change more
 with_runs-append letters change run more h = ap₂ (λ (a b : List ℕ). change a ++ b) (first_run-append letters run more h) (with_later_runs-append letters change run more h)
 
-pub named_runs-append : (letters : Letters) (run more : List ℕ) → list_all (is_byte_of letters) run ≡ true → named_runs letters (run ++ more) ≡ filter is_named ((run ++ first_run letters more) ∷ later_runs letters more)
-named_runs-append letters run more h = ap₂ (λ (a : List ℕ) (b : List (List ℕ)). filter is_named (a ∷ b)) (first_run-append letters run more h) (later_runs-append letters run more h)
-
 -- the text of a word is its symbol's
 pub text_for-named : (answers : Answering) (word : List ℕ) (kind : Kind) (answer : Result (List ℕ) Refusal) → kind_of word ≡ Some kind → answers kind (symbol_of kind word) ≡ answer → text_for answers word ≡ result_ok answer
 unfolding text_for
 text_for-named answers word kind answer h is = rw (h, is) refl
-
-pub named_runs-run : (letters : Letters) (run : List ℕ) → list_all (is_byte_of letters) run ≡ true → named_runs letters (run ++ []) ≡ filter is_named (run ∷ [])
-named_runs-run letters run h = named_runs-append letters run [] h ∙ ap (λ (t : List ℕ). filter is_named (t ∷ [])) (append-nil run)
 
 -- the symbol of a word, by its answer
 pub text_of-symbol : (answers : Answering) (word symbol : List ℕ) (kind : Kind) (answer : Result (List ℕ) Refusal) → kind_of word ≡ Some kind → symbol ≡ symbol_of kind word → answers kind symbol ≡ answer → text_for answers word ≡ result_ok answer

@@ -3,7 +3,7 @@ use Rattle.std.proofs.Common.{◌≡◌, ℕ, true, List, [], ◌∷◌, ◌++�
 use Rattle.std.specs.List.{list_all}
 use Rattle.std.proofs.lemmas.Bool.{and_parts, not-true}
 use Rattle.sym_filter.specs.declared.kinds.Letters.{Letters}
-use Rattle.sym_filter.specs.Runs.{is_byte_of, with_runs, replaced}
+use Rattle.sym_filter.specs.Runs.{is_byte_of, with_runs, replaced_at}
 use Rattle.sym_filter.specs.Splits.{joined, FilteredBySplitsAt}
 use Rattle.sym_filter.proofs.RunLemmas.{with_runs-ends, with_runs-run}
 
@@ -16,4 +16,4 @@ with_runs-joined letters change (next ∷ rest) first h each =
     ∙ ap (λ (t : List ℕ). change first ++ (next.0 ∷ t)) (with_runs-joined letters change rest next.1 here.1 parts.1)
 
 pub filtered_by_splits : (letters : Letters) → FilteredBySplitsAt letters
-filtered_by_splits letters answers text first rest h = ap (with_runs letters (replaced answers)) h.whole ∙ with_runs-joined letters (replaced answers) rest first h.first_run h.later_runs
+filtered_by_splits letters answers text first rest h = ap (with_runs letters (replaced_at letters answers)) h.whole ∙ with_runs-joined letters (replaced_at letters answers) rest first h.first_run h.later_runs

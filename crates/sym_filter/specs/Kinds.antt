@@ -1,5 +1,5 @@
 -- Words that name a symbol.
-use Rattle.std.specs.Prelude.{ℕ, List, drop, length, codes, Option, Some, None, nat_eq, nat_le, if◌then◌else◌}
+use Rattle.std.specs.Prelude.{ℕ, List, [], ◌∷◌, drop, length, codes, Option, Some, None, ◌==◌, nat_eq, nat_le, if◌then◌else◌}
 use Rattle.std.specs.List.{starts_with}
 use Rattle.sym_filter.specs.declared.kinds.Lang.TheVariants.{Cpp, Rust}
 use Rattle.sym_filter.specs.declared.kinds.Kind.{Kind}
@@ -21,3 +21,7 @@ kind_of word = if nat_le (length word) LONGEST_WORD then kind_by_beginning word 
 -- the symbol in a word: all of it, or all but its first byte
 abbrev pub symbol_of : Kind → List ℕ → List ℕ
 symbol_of kind word = drop kind.skip word
+
+-- the underscore that a word has before its symbol
+abbrev pub underscore_of : (skip : ℕ) → List ℕ
+underscore_of skip = if skip == 0 then [] else 95 ∷ []

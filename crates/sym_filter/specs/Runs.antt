@@ -1,14 +1,14 @@
 -- The runs of a text, the words in them, and the filtered text.
-use Rattle.std.specs.Prelude.{ℕ, List, [], ◌∷◌, ◌++◌, length, drop, Bool, true, false, Option, Result, Ok, Err, unwrap_or, option_and_then, is_some, not, filter, count_by, min, ◌+◌, ◌^◌, ◌<◌, ◌-◌, ◌==◌, ◌||◌, ◌&&◌, nat_le, if◌then◌else◌}
-use Rattle.std.specs.List.{list_all}
+use Rattle.std.specs.Prelude.{◌≡◌, ◌*◌, ◌≤◌, sum_by, ℕ, List, [], ◌∷◌, ◌++◌, length, drop, Bool, true, false, Option, Some, None, Result, Ok, Err, unwrap_or, option_and_then, is_some, not, map, filter, count_by, min, ◌+◌, ◌^◌, ◌<◌, ◌-◌, ◌==◌, ◌||◌, ◌&&◌, nat_le, if◌then◌else◌}
+use Rattle.std.specs.List.{list_all, list_any}
 use Rattle.std.specs.Result.{result_ok}
 use Rattle.sym_core.specs.declared.refusal.Refusal.{Refusal}
 use Rattle.sym_core.specs.declared.refusal.Refusal.TheVariants.{TooLong}
 use Rattle.sym_filter.specs.declared.kinds.Kind.{Kind}
 use Rattle.sym_filter.specs.declared.kinds.Letters.{Letters}
-use Rattle.sym_filter.specs.declared.kinds.Letters.TheVariants.{Any, Ascii}
+use Rattle.sym_filter.specs.declared.kinds.Letters.TheVariants.{Any, Ascii, Within}
 use Rattle.sym_filter.specs.declared.words.Tally.{Tally}
-use Rattle.sym_filter.specs.Kinds.{kind_of, symbol_of}
+use Rattle.sym_filter.specs.Kinds.{kind_of, symbol_of, underscore_of}
 
 abbrev pub is_between : ℕ → ℕ → ℕ → Bool
 is_between low high byte = nat_le low byte && nat_le byte high
@@ -22,6 +22,7 @@ is_run_byte byte =
 abbrev pub is_byte_of : Letters → ℕ → Bool
 is_byte_of Any byte = is_run_byte byte
 is_byte_of Ascii byte = is_run_byte byte && not (nat_le 128 byte)
+is_byte_of Within byte = is_run_byte byte
 
 -- the run that a text begins with, of no byte where it begins with another byte
 abbrev pub first_run : Letters → List ℕ → List ℕ
@@ -80,9 +81,123 @@ word_or_text answers word = unwrap_or (text_for answers word) word
 unfoldable pub replaced : Answering → List ℕ → List ℕ
 replaced answers run = word_or_text answers (word_of run) ++ dots_behind run
 
+-- whether a run's word has a text
+abbrev pub has_text : Answering → List ℕ → Bool
+has_text answers run = is_some (text_for answers (word_of run))
+
+-- nothing, or bytes that begin with an underscore
+abbrev pub is_begun : List ℕ → Bool
+is_begun [] = true
+is_begun (byte ∷ bytes) = byte == 95
+
+-- ## The text for a word that begins within a run
+
+-- a byte that isn't ASCII
+abbrev pub is_wide : ℕ → Bool
+is_wide byte = nat_le 128 byte
+
+-- a word without its last bytes, as long as these are dots or not ASCII
+abbrev pub trimmed : List ℕ → List ℕ
+trimmed [] = []
+trimmed (byte ∷ bytes) = if list_all (λ other. other == 46 || is_wide other) (byte ∷ bytes) then [] else byte ∷ trimmed bytes
+
+-- the first of two that is there
+abbrev pub either : Option (List ℕ) → Option (List ℕ) → Option (List ℕ)
+either None other = other
+either (Some text) other = Some text
+
+abbrev pub followed_by : List ℕ → Option (List ℕ) → Option (List ℕ)
+followed_by rest None = None
+followed_by rest (Some text) = Some (text ++ rest)
+
+-- The first try: the text for the word without what isn't ASCII at its end, and behind that what was left out.
+abbrev pub text_of_front : Answering → List ℕ → Option (List ℕ)
+text_of_front answers word = followed_by (drop (length (trimmed word)) word) (text_for answers (trimmed word))
+
+-- The last try, of a word that isn't ASCII alone: each longest part of it that is, replaced by its text, where one has a text.
+abbrev pub text_of_parts : Answering → List ℕ → Option (List ℕ)
+text_of_parts answers word =
+    if list_any is_wide word && list_any (has_text answers) (runs_of Ascii word) then Some (with_runs Ascii (replaced answers) word) else None
+
+-- The tries for a word, in order; the second is its own text.
+unfoldable pub text_of_tries : Answering → List ℕ → Option (List ℕ)
+text_of_tries answers word = either (text_of_front answers word) (either (text_for answers word) (text_of_parts answers word))
+
+-- the words that are tried
+abbrev pub tried : List ℕ → List (List ℕ)
+tried word = trimmed word ∷ word ∷ map word_of (runs_of Ascii word)
+
+-- answers give the same texts for some words
+abbrev pub Agree : Answering → Answering → List (List ℕ) → Type 0
+Agree answers other [] = Unit {0}
+Agree answers other (word ∷ words) = (text_for answers word ≡ text_for other word) × Agree answers other words
+
+-- nothing but the texts for the words that are tried decides the text by tries
+abbrev pub TriesDecide : Type 0
+TriesDecide = (answers other : Answering) (word : List ℕ) → Agree answers other (tried word) → text_of_tries answers word ≡ text_of_tries other word
+
+-- and these have together at most three times the word's bytes
+abbrev pub TriesAreFew : Type 0
+TriesAreFew = (word : List ℕ) → sum_by length (tried word) ≤ 3 * length word
+
+-- a text, or another answer where there is none
+abbrev pub or_answer : Option (List ℕ) → Result (List ℕ) Refusal → Result (List ℕ) Refusal
+or_answer (Some text) other = Ok text
+or_answer None other = other
+
+-- what is answered for the symbols of words that begin within runs: that word's text by its tries
+abbrev pub within : Answering → Answering
+within answers kind symbol = or_answer (text_of_tries answers (underscore_of kind.skip ++ symbol)) (answers kind symbol)
+
+-- words begin within runs
+abbrev pub begins_within : Letters → Bool
+begins_within Any = false
+begins_within Ascii = false
+begins_within Within = true
+
+abbrev pub answers_at : Letters → Answering → Answering
+answers_at Any answers = answers
+answers_at Ascii answers = answers
+answers_at Within answers = within answers
+
+-- ## The word of a run
+
+-- whether no word begins in a run right after the byte: one may after a dot or a byte that isn't ASCII, where words begin within runs
+abbrev pub closes : Letters → ℕ → Bool
+closes Any byte = is_byte_of Any byte
+closes Ascii byte = is_byte_of Ascii byte
+closes Within byte = is_byte_of Ascii byte && not (byte == 46)
+
+-- A run that is changed by a function from its word on. The word begins at the first underscore before which nothing stands, or a byte
+-- that doesn't close; the flag says whether the byte before the run does.
+abbrev pub with_word : Letters → (List ℕ → List ℕ) → (closed : Bool) → List ℕ → List ℕ
+with_word letters change closed [] = []
+with_word letters change closed (byte ∷ run) =
+    if not closed && byte == 95 then change (byte ∷ run) else byte ∷ with_word letters change (closes letters byte) run
+
+-- a run from its word on, nothing where it has none
+abbrev pub from_word : Letters → (closed : Bool) → List ℕ → List ℕ
+from_word letters closed [] = []
+from_word letters closed (byte ∷ run) =
+    if not closed && byte == 95 then byte ∷ run else from_word letters (closes letters byte) run
+
+-- a run with its word of these letters replaced
+abbrev pub replaced_at : Letters → Answering → List ℕ → List ℕ
+replaced_at Any answers run = replaced answers run
+replaced_at Ascii answers run = replaced answers run
+replaced_at Within answers run = with_word Within (replaced (within answers)) false run
+
+-- runs, each from its word on
+abbrev pub words_in : Letters → List (List ℕ) → List (List ℕ)
+words_in Any runs = runs
+words_in Ascii runs = runs
+words_in Within runs = map (from_word Within false) runs
+
+-- ## The filtered text
+
 -- a text with each word of these letters that has a text replaced by it
 abbrev pub filtered_at : Letters → Answering → List ℕ → List ℕ
-filtered_at letters answers text = with_runs letters (replaced answers) text
+filtered_at letters answers text = with_runs letters (replaced_at letters answers) text
 
 -- where words have any letters
 abbrev pub filtered : Answering → List ℕ → List ℕ
@@ -92,9 +207,9 @@ filtered answers text = filtered_at Any answers text
 unfoldable pub is_named : List ℕ → Bool
 is_named run = is_some (kind_of (word_of run))
 
--- the runs of a text whose words name symbols
+-- the runs of a text whose words name symbols, each from its word on
 abbrev pub named_runs : Letters → List ℕ → List (List ℕ)
-named_runs letters text = filter is_named (runs_of letters text)
+named_runs letters text = filter is_named (words_in letters (runs_of letters text))
 
 -- a count that stays at the greatest u64 once it is there
 abbrev pub capped : ℕ → ℕ
@@ -105,10 +220,6 @@ pub record IsTally (tally : Tally) : Type 0 where
   pub words : tally.words < 2 ^ 64
   pub replaced : tally.replaced < 2 ^ 64
   pub refused : tally.refused < 2 ^ 64
-
--- whether a run's word has a text
-abbrev pub has_text : Answering → List ℕ → Bool
-has_text answers run = is_some (text_for answers (word_of run))
 
 -- a tally with these runs counted too: how many they are, how many have a text, and how many have none
 abbrev pub tally_with : Answering → Tally → List (List ℕ) → Tally
@@ -129,4 +240,4 @@ tally_with_word answers tally word = tally_with answers tally (filter is_named (
 
 -- the tally of a text whose words have these letters
 abbrev pub tally_at : Letters → Answering → List ℕ → Tally
-tally_at letters answers text = tally_with answers (record { words = 0; replaced = 0; refused = 0 }) (named_runs letters text)
+tally_at letters answers text = tally_with (answers_at letters answers) (record { words = 0; replaced = 0; refused = 0 }) (named_runs letters text)

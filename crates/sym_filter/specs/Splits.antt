@@ -3,7 +3,7 @@ use Rattle.std.specs.Prelude.{◌≡◌, ℕ, List, [], ◌∷◌, ◌++◌, map
 use Rattle.std.specs.List.{list_all}
 use Rattle.sym_filter.specs.declared.kinds.Letters.{Letters}
 use Rattle.sym_filter.specs.declared.kinds.Letters.TheVariants.{Any}
-use Rattle.sym_filter.specs.Runs.{Answering, is_byte_of, replaced, filtered_at}
+use Rattle.sym_filter.specs.Runs.{Answering, is_byte_of, replaced_at, filtered_at}
 
 -- a run, maybe of no byte, and behind it other bytes, each with the run behind it
 abbrev pub joined : List ℕ → List (ℕ × List ℕ) → List ℕ
@@ -20,7 +20,7 @@ pub record IsSplitAt (letters : Letters) (text first : List ℕ) (rest : List (�
 -- however a text is split into longest runs, its filtered text is the replaced runs with the same bytes between them
 abbrev pub FilteredBySplitsAt : Letters → Type 0
 FilteredBySplitsAt letters = (answers : Answering) (text first : List ℕ) (rest : List (ℕ × List ℕ)) → IsSplitAt letters text first rest →
-    filtered_at letters answers text ≡ joined (replaced answers first) (map (λ next. (next.0, replaced answers next.1)) rest)
+    filtered_at letters answers text ≡ joined (replaced_at letters answers first) (map (λ next. (next.0, replaced_at letters answers next.1)) rest)
 
 -- the filtered text of two texts joined by a byte that belongs to no run is their filtered texts joined by it
 abbrev pub FilteredByJoinsAt : Letters → Type 0

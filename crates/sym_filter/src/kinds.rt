@@ -6,13 +6,16 @@ ghost use Rattle.sym_filter.specs.declared.kinds.TheConstants.{LONGEST_WORD};
 /// The longest word that is read as a symbol, in bytes.
 pub const LONGEST_WORD: usize = 65_536;
 
-/// Which bytes words are made of, besides ASCII letters, digits, `_`, `.` and `$`.
+/// Which bytes words are made of, besides ASCII letters, digits, `_`, `.` and `$`, and where in a run of such bytes a word may begin.
 #[derive(Clone, Copy, Debug, PartialEq, Eq)]
 pub enum Letters {
-    /// All from 0x80, which names of C++ may have.
+    /// All from 0x80, which names of C++ may have. A word is a run.
     Any,
-    /// None, so that a word ends at a quote that isn't ASCII.
+    /// None, so that a word ends at a quote that isn't ASCII. A word is a run.
     Ascii,
+    /// All from 0x80. A word begins at a run's first underscore that has no byte before it in the run, or a dot or a byte from 0x80,
+    /// and goes on to the run's end; bytes from 0x80 in it may belong to no symbol.
+    Within,
 }
 
 /// A mangling.

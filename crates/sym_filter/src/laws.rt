@@ -1,4 +1,5 @@
 // What the filtered text is, in the words of runs.
+ghost use Rattle.sym_filter.specs.Runs.{TriesAreFew, TriesDecide};
 ghost use Rattle.sym_filter.specs.Splits.{FilteredByJoins, FilteredByJoinsAt, FilteredBySplits, FilteredBySplitsAt};
 ghost use Rattle.sym_filter.specs.declared.kinds.Letters.{Letters};
 
@@ -14,4 +15,11 @@ pub fn filtered_by_splits()
 pub fn filtered_by_joins()
     ensures any { FilteredByJoins }
     ensures each { (letters : Letters) → FilteredByJoinsAt letters }
+{}
+
+/// A law over the definitions alone: the text for a word that begins within a run depends on those for the words that are tried
+/// alone, each of which is answered at the limit by itself; they have together at most three times the word's bytes.
+pub fn tries_decide()
+    ensures decide { TriesDecide }
+    ensures few { TriesAreFew }
 {}

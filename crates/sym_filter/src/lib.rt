@@ -8,12 +8,13 @@ mod lanes;
 mod laws;
 pub mod standard;
 pub mod streams;
+mod tries;
 pub mod words;
 
 pub use demangler::{Demangled, Demangler};
 pub use filtering::{filter_with, filter_words};
 pub use kinds::{Kind, Lang, Letters, kind_of};
-pub use laws::{filtered_by_joins, filtered_by_splits};
+pub use laws::{filtered_by_joins, filtered_by_splits, tries_decide};
 pub use standard::{ListSink, ReaderSource, WriterSink};
 pub use streams::{FilterFault, Sink, Source, write_all, write_out};
 pub use words::Tally;

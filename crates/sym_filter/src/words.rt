@@ -1,17 +1,18 @@
 // Words found in a text that comes in any pieces.
 ghost use Rattle.std.specs.Prelude.{◌≡◌, ◌+◌, ◌^◌, ◌<◌, ◌≤◌, ℕ, List, [], ◌++◌, length, take, drop, slice_index, true, false, replicate, OnOk, IfOk, Some, is_some, OnErr};
 ghost use Rattle.std.specs.List.{list_all};
-ghost use Rattle.sym_filter.specs.Runs.{is_byte_of, text_for, word_of, word_or_text, IsTally};
+ghost use Rattle.sym_filter.specs.Runs.{is_byte_of, begins_within, closes, is_begun, answers_at, text_for, within, word_of, word_or_text, IsTally};
 ghost use Rattle.sym_filter.specs.Kinds.{kind_of};
 ghost use Rattle.sym_filter.specs.Held.{IsHeld};
 ghost use Rattle.sym_filter.specs.Lanes.{is_no_mark};
-ghost use Rattle.sym_filter.specs.Plain.{is_plain, is_in_run};
+ghost use Rattle.sym_filter.specs.Plain.{is_plain, is_closed};
 ghost use Rattle.sym_filter.specs.declared.kinds.Letters.TheVariants.{Ascii};
 ghost use Rattle.sym_filter.specs.declared.kinds.TheConstants.{LONGEST_WORD};
 
 use crate::demangler::{Demangled, Demangler};
 use crate::kinds::{Kind, LONGEST_WORD, Letters, kind_of};
 use crate::lanes::{LANES, lanes_before_mark, lanes_front};
+use crate::tries::push_tries;
 use std::alloc::{AllocError, Global};
 use sym_core::Refusal;
 
@@ -39,13 +40,13 @@ impl Tally {
     }
 }
 
-// For each byte the runs to which it belongs: 2, of all letters, for ASCII letters, digits, `_`, `.` and `$`; 1, of any
-// letters alone, for all from 0x80; else 0.
+// For each byte the runs to which it belongs: 3, of all letters, for ASCII letters, digits, `_` and `$`; 2, of all letters, too, for
+// `.`, after which a word may begin within a run; 1, of any letters alone, for all from 0x80; else 0.
 static RUN_BYTES: [u8; 256] = *b"\
     00000000000000000000000000000000\
-    00002000000000202222222222000000\
-    02222222222222222222222222200002\
-    02222222222222222222222222200000\
+    00003000000000203333333333000000\
+    03333333333333333333333333300003\
+    03333333333333333333333333300000\
     11111111111111111111111111111111\
     11111111111111111111111111111111\
     11111111111111111111111111111111\
@@ -59,15 +60,41 @@ pub fn is_byte_of(letters: Letters, byte: u8) -> bool
     let least = match letters {
         Letters::Any => b'1',
         Letters::Ascii => b'2',
+        Letters::Within => b'1',
     };
     RUN_BYTES[byte as usize] >= least
 }
 
-/// The front of a text that can be passed on as it is, and whether its last byte belongs to a run.
+/// Whether no word begins right after the byte, where words have these letters.
+#[inline]
+fn closes(letters: Letters, byte: u8) -> bool
+    ensures { result ≡ closes letters byte }
+{
+    let least = match letters {
+        Letters::Any => b'1',
+        Letters::Ascii => b'2',
+        Letters::Within => b'3',
+    };
+    RUN_BYTES[byte as usize] >= least
+}
+
+/// Whether words begin within runs.
+#[inline(always)]
+fn begins_within(letters: Letters) -> bool
+    ensures { result ≡ begins_within letters }
+{
+    match letters {
+        Letters::Any => false,
+        Letters::Ascii => false,
+        Letters::Within => true,
+    }
+}
+
+/// The front of a text that can be passed on as it is, and whether no word begins right after it.
 #[derive(Clone, Copy, Debug, PartialEq, Eq)]
 struct Front {
     length: usize,
-    in_run: bool,
+    closed: bool,
 }
 
 /// How many bytes from a place on are no `_`, as far as they are looked at together.
@@ -83,19 +110,20 @@ fn before_mark(text: &[u8], at: usize) -> usize
     lanes_before_mark(text, at)
 }
 
-/// The front of a text up to the first `_` that begins a run; `in_run` says whether the byte before belongs to a run.
-fn plain_front(letters: Letters, text: &[u8], in_run: bool) -> Front
+/// The front of a text up to the first `_` that begins a word; `closed` says whether no word begins at the text's first byte.
+fn plain_front(letters: Letters, text: &[u8], closed: bool) -> Front
     ensures within { result.length ≤ length text.now }
-    ensures plain { is_plain letters in_run (take result.length text.now) ≡ true }
-    ensures in_run { result.in_run ≡ is_in_run letters in_run (take result.length text.now) }
-    ensures stops { result.length < length text.now → result.in_run ≡ false }
+    ensures plain { is_plain letters closed (take result.length text.now) ≡ true }
+    ensures closed { result.closed ≡ is_closed letters closed (take result.length text.now) }
+    ensures open { result.length < length text.now → result.closed ≡ false }
+    ensures stops { result.length < length text.now → slice_index text.now result.length ≡ 95 }
 {
     let mut length = 0;
     'bytes: while length < text.len() {
-        if text[length] == b'_' && !is_in_run(letters, text, length, in_run) {
+        if text[length] == b'_' && !is_closed(letters, text, length, closed) {
             return Front {
                 length,
-                in_run: false,
+                closed: false,
             };
         }
         length += 1;
@@ -103,19 +131,19 @@ fn plain_front(letters: Letters, text: &[u8], in_run: bool) -> Front
     }
     Front {
         length,
-        in_run: is_in_run(letters, text, length, in_run),
+        closed: is_closed(letters, text, length, closed),
     }
 }
 
-/// Whether the byte before a place of a text belongs to a run.
-fn is_in_run(letters: Letters, text: &[u8], at: usize, in_run: bool) -> bool
+/// Whether no word begins at a place of a text, by the byte before it.
+fn is_closed(letters: Letters, text: &[u8], at: usize, closed: bool) -> bool
     requires { at ≤ length text.now }
-    ensures { result ≡ is_in_run letters in_run (take at text.now) }
+    ensures { result ≡ is_closed letters closed (take at text.now) }
 {
     if at == 0 {
-        return in_run;
+        return closed;
     }
-    is_byte_of(letters, text[at - 1])
+    closes(letters, text[at - 1])
 }
 
 /// How many bytes at the front of a text belong to runs of ASCII letters, as far as they are looked at together.
@@ -136,7 +164,7 @@ fn lanes_run(text: &[u8]) -> usize
 }
 
 /// How many bytes at the front of a text belong to runs.
-fn run_front(letters: Letters, text: &[u8]) -> usize
+pub(crate) fn run_front(letters: Letters, text: &[u8]) -> usize
     ensures within { result ≤ length text.now }
     ensures in_run { list_all (is_byte_of letters) (take result text.now) ≡ true }
     ensures stops { result < length text.now → is_byte_of letters (slice_index text.now result) ≡ false }
@@ -164,27 +192,30 @@ pub struct Taken {
 #[derive(Drop)]
 pub struct Words {
     letters: Letters,
-    // the run so far, up to its last byte that is no dot; nothing where no run has begun or it is passed on
+    // the run from its word on, up to its last byte that is no dot; nothing where no word has begun or the run is passed on
     held: Vec<u8>,
     // the dots behind it
     dots: u128,
-    // the run's word cannot name a symbol, and its bytes are passed on as they come
+    // no word begins at the next byte, since the one before closes
     passes: bool,
+    // the run's word is too long to name a symbol: the run is passed on to its end
+    past: bool,
     tally: Tally,
-    ghost is_held: { IsHeld letters held.items dots passes },
+    ghost is_held: { IsHeld letters held.items dots past passes },
     ghost is_counted: { IsTally tally },
 }
 
 impl Words {
     ghost use Rattle.sym_filter.specs.Words.{held_of, behind, Takes};
-    ghost use Rattle.sym_filter.specs.Runs.{tally_with_word};
+    ghost use Rattle.sym_filter.specs.Runs.{Answering, tally_with_word};
 
     /// A text's beginning, whose words have these letters.
     pub fn new(alloc: Global, letters: Letters) -> Words
         ensures letters { result.letters ≡ letters }
         ensures holds_nothing { held_of result ≡ [] }
         ensures no_dots { result.dots ≡ 0 }
-        ensures in_no_run { result.passes ≡ false }
+        ensures open { result.passes ≡ false }
+        ensures not_past { result.past ≡ false }
         ensures nothing_counted { result.tally ≡ record { words = 0; replaced = 0; refused = 0 } }
     {
         let tally = Tally {
@@ -197,6 +228,7 @@ impl Words {
             held: Vec::new(alloc),
             dots: 0,
             passes: false,
+            past: false,
             tally,
         }
     }
@@ -231,9 +263,12 @@ impl Words {
             (bytes ++ behind taken (take taken.count text.now))) }
     {
         if self.held.is_empty() && self.dots == 0 {
+            if self.past {
+                return Ok(self.pass(text));
+            }
             let front = plain_front(self.letters, text, self.passes);
             if front.length > 0 {
-                self.passes = front.in_run;
+                self.passes = front.closed;
                 return Ok(Taken {
                     dots: 0,
                     count: front.length,
@@ -254,20 +289,47 @@ impl Words {
         Ok(taken)
     }
 
+    /// Takes a part of a run that is passed on to its end, or the byte that ends it.
+    #[inline(never)]
+    fn pass(&mut self, text: &[u8]) -> Taken
+        requires some { 0 < length text.now }
+        requires past { self.old.past ≡ true }
+        ensures within { (0 < result.count) × (result.count ≤ length text.now) }
+        ensures takes { (answers : Answering) → Takes answers self.old self.new (take result.count text.now)
+            (behind result (take result.count text.now)) }
+    {
+        let count = run_front(self.letters, text);
+        if count == 0 {
+            self.past = false;
+            self.passes = false;
+            return Taken {
+                dots: 0,
+                count: 1,
+                stay: true,
+            };
+        }
+        Taken {
+            dots: 0,
+            count,
+            stay: true,
+        }
+    }
+
     /// Holds a part of a run, or passes the run on where it is too long for a word that names a symbol.
     // As a call of its own this and `put_behind` took 1 % of the filter's instructions over a list of symbols.
     #[inline(always)]
     fn hold(&mut self, part: &[u8], out: &mut Vec<u8>) -> Result<Taken, AllocError>
         requires in_run { list_all (is_byte_of self.old.letters) part.now ≡ true }
-        requires holds { self.old.passes ≡ false }
+        requires begins { is_begun (held_of self.old ++ part.now) ≡ true }
+        requires holds { (self.old.past ≡ false) × (self.old.passes ≡ false) }
         requires dots { self.old.dots + length part.now < 2 ^ 128 }
         ensures letters { OnOk result (self.new.letters ≡ self.old.letters) }
         ensures same { OnOk result (self.new.tally ≡ self.old.tally) }
         ensures dots { OnOk result (self.new.dots ≤ self.old.dots + length part.now) }
         ensures count { IfOk result (λ taken. taken.count ≡ length part.now) }
-        ensures held { IfOk result (λ taken. taken.stay ≡ false → (self.new.passes ≡ false) × (taken.dots ≡ 0)
+        ensures held { IfOk result (λ taken. taken.stay ≡ false → (self.new.past ≡ false) × (self.new.passes ≡ false) × (taken.dots ≡ 0)
             × (held_of self.new ≡ held_of self.old ++ part.now) × (out.new.items ≡ out.old.items)) }
-        ensures passes { IfOk result (λ taken. taken.stay ≡ true → (self.new.passes ≡ true)
+        ensures passes { IfOk result (λ taken. taken.stay ≡ true → (self.new.past ≡ true)
             × (taken.dots ≡ self.old.dots) × (out.new.items ≡ out.old.items ++ self.old.held.items)
             × (LONGEST_WORD < length (word_of (held_of self.old ++ part.now)))) }
     {
@@ -286,7 +348,7 @@ impl Words {
             out.extend_from_slice(&self.held)?;
             self.held.clear();
             self.dots = 0;
-            self.passes = true;
+            self.past = true;
             return Ok(Taken {
                 dots,
                 count: part.len(),
@@ -302,7 +364,7 @@ impl Words {
         })
     }
 
-    /// Ends the run that is held: appends the text of its word, or the word, and counts it where it names a symbol.
+    /// Ends the run that is held: appends the text for its word, or the word, and counts it where it names a symbol.
     /// Answers how many dots stand behind it.
     pub fn end_word<D: Demangler>(
         &mut self,
@@ -312,17 +374,55 @@ impl Words {
     ) -> Result<u128, AllocError>
         ensures letters { OnOk result (self.new.letters ≡ self.old.letters) }
         ensures text { OnOk result (out.new.items ≡ out.old.items
-            ++ word_or_text (D.answer demangler.now) self.old.held.items) }
+            ++ word_or_text (answers_at self.old.letters (D.answer demangler.now)) self.old.held.items) }
         ensures counts { OnOk result (self.new.tally
-            ≡ tally_with_word (D.answer demangler.now) self.old.tally self.old.held.items) }
+            ≡ tally_with_word (answers_at self.old.letters (D.answer demangler.now)) self.old.tally self.old.held.items) }
         ensures dots { IfOk result (λ dots. dots ≡ self.old.dots) }
         ensures ends { OnOk result ((held_of self.new ≡ []) × (self.new.dots ≡ 0) × (self.new.passes ≡ false)) }
+        ensures past { OnOk result (self.new.past ≡ self.old.past) }
+        ensures same { OnErr result (self.new ≡ self.old) }
+    {
+        if begins_within(self.letters) {
+            let dots = self.end_within(demangler, lists, out)?;
+            return Ok(dots);
+        }
+        let dots = self.dots;
+        match kind_of(&self.held) {
+            Some(kind) => {
+                let has_text = push_text(demangler, lists, &self.held, kind, out)?;
+                self.tally.count(has_text);
+            }
+            None => out.extend_from_slice(&self.held)?,
+        }
+        self.held.clear();
+        self.dots = 0;
+        self.passes = false;
+        Ok(dots)
+    }
+
+    /// Ends the run that is held where words begin within runs.
+    // out of line, so that all others pay nothing for it
+    #[inline(never)]
+    fn end_within<D: Demangler>(
+        &mut self,
+        demangler: &D,
+        lists: &mut D::Lists,
+        out: &mut Vec<u8>,
+    ) -> Result<u128, AllocError>
+        ensures letters { OnOk result (self.new.letters ≡ self.old.letters) }
+        ensures text { OnOk result (out.new.items ≡ out.old.items
+            ++ word_or_text (within (D.answer demangler.now)) self.old.held.items) }
+        ensures counts { OnOk result (self.new.tally
+            ≡ tally_with_word (within (D.answer demangler.now)) self.old.tally self.old.held.items) }
+        ensures dots { IfOk result (λ dots. dots ≡ self.old.dots) }
+        ensures ends { OnOk result ((held_of self.new ≡ []) × (self.new.dots ≡ 0) × (self.new.passes ≡ false)) }
+        ensures past { OnOk result (self.new.past ≡ self.old.past) }
         ensures same { OnErr result (self.new ≡ self.old) }
     {
         let dots = self.dots;
         match kind_of(&self.held) {
             Some(kind) => {
-                let has_text = push_text(demangler, lists, &self.held, kind, out)?;
+                let has_text = push_tries(demangler, lists, &self.held, kind, out)?;
                 self.tally.count(has_text);
             }
             None => out.extend_from_slice(&self.held)?,
@@ -358,7 +458,7 @@ fn push_text<D: Demangler>(
 }
 
 /// The place behind the last byte of a run's part that is no dot, 0 where there is none.
-fn word_end(part: &[u8]) -> usize
+pub(crate) fn word_end(part: &[u8]) -> usize
     ensures within { result ≤ length part.now }
     ensures word { take result part.now ≡ word_of part.now }
 {

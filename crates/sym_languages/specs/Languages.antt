@@ -1,5 +1,5 @@
 -- What is answered for a symbol of each mangling.
-use Rattle.std.specs.Prelude.{◌≡◌, ℕ, ◌+◌, ◌*◌, ◌≤◌, List, [], ◌∷◌, ◌++◌, length, Result, Ok, Err, ◌==◌, if◌then◌else◌}
+use Rattle.std.specs.Prelude.{◌≡◌, ℕ, ◌+◌, ◌*◌, ◌≤◌, List, ◌++◌, length, Result, Ok, Err}
 use Rattle.sym_core.specs.declared.refusal.Refusal.{Refusal}
 use Rattle.sym_print.specs.declared.detail.Detail.{Detail}
 use Rattle.sym_shape.specs.declared.rule.Row.{Row}
@@ -21,6 +21,7 @@ use Rattle.rust_v0.specs.NodeCount as rust_count
 use Rattle.sym_core.specs.declared.counts.Counts.{Counts}
 use Rattle.cpp_press_laws.specs.Pressing as cpp_spelling
 use Rattle.rust_press.specs.Pressing as rust_spelling
+use Rattle.sym_filter.specs.Kinds.{underscore_of}
 use Rattle.sym_languages.specs.Pressed.{pressed_answer}
 use Rattle.sym_filter.specs.declared.kinds.Kind.{Kind}
 use Rattle.sym_filter.specs.declared.kinds.Lang.{Lang}
@@ -48,10 +49,6 @@ legacy_answer_of limit detail kind symbol = legacy_answer limit symbol (answer_o
 
 abbrev pub legacy_wide_answer_of : ℕ → Detail → Kind → List ℕ → Result (List ℕ) Refusal
 legacy_wide_answer_of limit detail kind symbol = legacy_answer limit symbol (wide_answer_of limit detail kind symbol)
-
--- the underscore that a word has before its symbol
-abbrev pub underscore_of : (skip : ℕ) → List ℕ
-underscore_of skip = if skip == 0 then [] else 95 ∷ []
 
 -- what stands before an answer that isn't a refusal
 abbrev pub behind_front : List ℕ → Result (List ℕ) Refusal → Result (List ℕ) Refusal

@@ -6,7 +6,8 @@ ghost use Rattle.sym_core.specs.Number.{FitsSymbol};
 ghost use Rattle.sym_shape.specs.Decided.{AreBytes};
 ghost use Rattle.sym_demangle.specs.Mangled.{IsReading};
 ghost use Rattle.sym_filter.specs.Demangled.{IsDemangled};
-ghost use Rattle.sym_languages.specs.Languages.{AreCounts, AreCountsOf, behind_front, pressed_of, underscore_of};
+ghost use Rattle.sym_languages.specs.Languages.{AreCounts, AreCountsOf, behind_front, pressed_of};
+ghost use Rattle.sym_filter.specs.Kinds.{underscore_of};
 
 use crate::counted::Counted;
 use crate::languages::Lists;

@@ -5,7 +5,7 @@ use Rattle.sym_filter.proofs.words.plain_front.Given as goal
 abbrev pub invariant-bytes : goal.invariant-bytes
 invariant-bytes l = record {
   within : l.length ≤ length l.text;
-  plain : is_plain l.letters l.in_run (take l.length l.text) ≡ true;
+  plain : is_plain l.letters l.closed (take l.length l.text) ≡ true;
 }
 
 abbrev pub decreases-bytes : goal.decreases-bytes
