@@ -3,6 +3,7 @@
 table, or the words of vocabulary.py (CRATES is the folder of the crates); `grammar.py markdown` prints it as a table to read."""
 import os, sys
 sys.path.insert(0, os.path.dirname(os.path.abspath(__file__)))
+import meanings
 import vocabulary as words
 import words as written_words
 LET = "abcdefghijklmnopqrstuvwxyzABCDEFGHIJKLMNOPQRSTUVWXYZ"
@@ -12,22 +13,28 @@ NAME, DECIMAL, SEQ36, DIGITS = "Name", "Decimal", "Seq36", "Digits"
 TOKENS = {NAME: DIG, DECIMAL: DIG + "_", SEQ36: DIG + "ABCDEFGHIJKLMNOPQRSTUVWXYZ_", DIGITS: DIG}
 # productions: name -> (eats, symbols); a symbol is a kind's name, a token, or 'x' a fixed byte
 P = {}
+# what each does: name -> its row, in the words that meanings.py explains. `means` says what it stands for, where t1 is the tree of its part
+# 1; `before` what is done before which of its parts; `candidate` what becomes a candidate once they are read; `nodes` how many nodes its own
+# code makes at most
+ROWS = {}
 # kinds: name -> (may be empty, [(class, production)], chain production or list of chains)
 K = {}
 # The ABI's grammar is the wide one less the alternatives that `wide` marks here.
 MARKED = []         # (kind, class, production)
 WIDENED = [False]   # whether K has them
-def prod(name, *symbols, chain=False):
+def prod(name, *symbols, chain=False, **row):
     v = (not chain, list(symbols))
     assert name not in P or P[name] == v, (name, P.get(name), v)
+    assert not row or name not in ROWS or ROWS[name] == row, (name, ROWS.get(name), row)
     P[name] = v
+    if row: ROWS[name] = row
     return name
 def kind(name, *rules, empty=False):
     MARKED.extend((name, *rule[:2]) for rule in rules if len(rule) == 3)
     K[name] = (empty, [rule[:2] for rule in rules if len(rule) == 2 or WIDENED[0]])
 def wide(rule): return (*rule, "wide")
-def eats(cls, name, *symbols): return (cls, prod(name, *symbols))
-def chain(name, *symbols): return (None, prod(name, *symbols, chain=True))
+def eats(cls, name, *symbols, **row): return (cls, prod(name, *symbols, **row))
+def chain(name, *symbols, **row): return (None, prod(name, *symbols, chain=True, **row))
 
 # the first letters of operators, each with the second letters behind it
 OPS = [(first, "".join(code[1] for code, text in words.OPERATORS if code[0] == first)) for first in words.FIRST_LETTERS]
@@ -37,148 +44,372 @@ ABBREVIATED = "".join(letter for letter, text in words.ABBREVIATIONS)
 SPECIAL = "".join(letter for letter, text in words.SPECIALS)
 # of those of a name the ones behind T
 NAMED_SPECIAL = "".join(code[1] for code, text in words.NAMED_SPECIALS if code[0] == "T")
-MARK = lambda cls: eats(cls, "Mark")
-L_NAME = eats("L", "InternalName", NAME, "MaybeArguments")
-U_NAME = eats("U", "LocalTypeName", "Anonymous", "MaybeArguments")
-S_NAME = chain("SourceName", NAME, "MaybeArguments")
-OP_NAME = chain("OperatorName", "Operator", "MaybeArguments")
-BARE = [eats("L", "InternalPiece", NAME), eats("U", "LocalTypePiece", "Anonymous"), chain("SourcePiece", NAME)]
-NESTED = eats("N", "NestedName", "MaybeRestrict", "MaybeVolatile", "MaybeConst", "MaybeRef", "Nest")
+def MARK(cls): return eats(cls, "Mark", means="byte")
 
 def build(extended=True, widened=False):
-    P.clear(); K.clear(); MARKED.clear()
+    P.clear(); ROWS.clear(); K.clear(); MARKED.clear()
     WIDENED[0] = widened
-    for r in (L_NAME, U_NAME, S_NAME, OP_NAME, *BARE, NESTED): pass
-    prod("Mark"); prod("InternalName", NAME, "MaybeArguments"); prod("LocalTypeName", "Anonymous", "MaybeArguments")
-    prod("SourceName", NAME, "MaybeArguments", chain=True); prod("OperatorName", "Operator", "MaybeArguments", chain=True)
-    prod("InternalPiece", NAME); prod("LocalTypePiece", "Anonymous"); prod("SourcePiece", NAME, chain=True)
-    prod("NestedName", "MaybeRestrict", "MaybeVolatile", "MaybeConst", "MaybeRef", "Nest")
-    kind("Symbol", eats("_", "Symbol", "'Z'", "Encoding", "MaybeSuffix"))
-    kind("MaybeSuffix", eats(".", "Suffix", "SuffixFirst"), empty=True)
-    kind("SuffixFirst", eats(WORD, "SuffixByte", "SuffixMore"))
+    # one letter, as a qualifier or the second of an operator
+    prod("Mark", means="byte")
+    # <unscoped-name> ::= L <source-name>, perhaps with <template-args>
+    L_NAME = eats("L", "InternalName", NAME, "MaybeArguments", before="1: name = name + source(yes, x0)", means="applied")
+    # <unqualified-name> ::= <unnamed-type-name>, perhaps with <template-args>
+    U_NAME = eats("U", "LocalTypeName", "Anonymous", "MaybeArguments", before="1: name = name + p0", means="applied")
+    # <unqualified-name> ::= <source-name>, perhaps with <template-args>
+    S_NAME = chain("SourceName", NAME, "MaybeArguments", before="1: name = name + source(no, x0)", means="applied")
+    # <unqualified-name> ::= <operator-name>, perhaps with <template-args>
+    OP_NAME = chain("OperatorName", "Operator", "MaybeArguments", before="1: name = name + p0", means="applied")
+    BARE = [
+        # <unqualified-name> ::= L <source-name>
+        eats("L", "InternalPiece", NAME, means="piece source(yes, x0)"),
+        # <unqualified-name> ::= <unnamed-type-name>
+        eats("U", "LocalTypePiece", "Anonymous", means="part 0"),
+        # <unqualified-name> ::= <source-name>
+        chain("SourcePiece", NAME, means="piece source(no, x0)"),
+    ]
+    # <nested-name> ::= N [<CV-qualifiers>] [<ref-qualifier>] <prefix> <unqualified-name> E
+    NESTED = eats("N", "NestedName", "MaybeRestrict", "MaybeVolatile", "MaybeConst", "MaybeRef", "Nest", means="nested_name!")
+    kind("Symbol",
+        # <mangled-name> ::= _Z <encoding> [. <vendor-specific suffix>]
+        eats("_", "Symbol", "'Z'", "Encoding", "MaybeSuffix", means="symbol(t1, x2), listed"))
+    # <mangled-name> ::= _Z <encoding> . <vendor-specific suffix>
+    kind("MaybeSuffix", eats(".", "Suffix", "SuffixFirst", means="suffix!"), empty=True)
+    kind("SuffixFirst", eats(WORD, "SuffixByte", "SuffixMore", means="suffix!"))
     kind("SuffixMore", eats(WORD, "SuffixByte", "SuffixMore"), empty=True)
-    kind("Encoding", eats("T", "Special", "Special"), chain("OtherSpecial", "SpecialMark", "SpecialAfterG"),
-         chain("Encoding", "CompleteName", "Items"))
-    kind("Special", eats(SPECIAL, "SpecialType", "Type"), eats("h", "NonVirtualThunk", "Integer", "'_'", "Encoding"),
-         eats("v", "VirtualThunk", "Integer", "'_'", "Integer", "'_'", "Encoding"), eats("c", "CovariantThunk", "CallOffset", "CallOffset", "Encoding"),
-         wide(eats(NAMED_SPECIAL, "SpecialName", "CompleteName")), wide(eats("C", "ConstructionVtable", "Type", DIGITS, "'_'", "Type")))
-    kind("CallOffset", eats("h", "NonVirtualOffset", "Integer", "'_'"), eats("v", "VirtualOffset", "Integer", "'_'", "Integer", "'_'"))
-    kind("Integer", eats("n", "Negative", DIGITS), chain("Positive", DIGITS))
-    kind("CompleteName", NESTED, eats("S", "NameWithS", "NameAfterS"), eats("Z", "LocalName", "Encoding", "'E'", "Entity", "MaybeDiscriminator"),
-         L_NAME, U_NAME, OP_NAME, S_NAME)
+    kind("Encoding",
+        # <encoding> ::= <special-name>
+        eats("T", "Special", "Special", before="all: in its name", means="part 0"),
+        # <special-name> ::= GV <object name> | GTt <encoding> | GTn <encoding>
+        chain("OtherSpecial", "SpecialMark", "SpecialAfterG", before="all: in its name", means="part 1"),
+        # <encoding> ::= <function name> <bare-function-type> | <data name>. In its own name an encoding gives no scope, and in its types
+        # its last arguments are the scope
+        chain("Encoding", "CompleteName", "Items", before="0: in its name; rest: in its types", means="encoding!", nodes=1))
+    kind("Special",
+        # <special-name> ::= TV <type> | TT <type> | TI <type> | TS <type>
+        eats(SPECIAL, "SpecialType", "Type", means="special(byte, t0), listed"),
+        # <special-name> ::= T <call-offset> <base encoding>, with <call-offset> ::= h <nv-offset> _
+        eats("h", "NonVirtualThunk", "Integer", "'_'", "Encoding", means="non_virtual_thunk!", nodes=1),
+        # <special-name> ::= T <call-offset> <base encoding>, with <call-offset> ::= v <v-offset> _
+        eats("v", "VirtualThunk", "Integer", "'_'", "Integer", "'_'", "Encoding", means="virtual_thunk!", nodes=1),
+        # <special-name> ::= Tc <call-offset> <call-offset> <base encoding>
+        eats("c", "CovariantThunk", "CallOffset", "CallOffset", "Encoding", means="covariant_thunk!", nodes=1),
+        # <special-name> ::= TH <object name> | TW <object name>
+        wide(eats(NAMED_SPECIAL, "SpecialName", "CompleteName", means="of_name(byte, t0, q0, r0), listed")),
+        # <special-name> ::= TC <derived type> <offset number> _ <base type>
+        wide(eats("C", "ConstructionVtable", "Type", DIGITS, "'_'", "Type", means="construction(t0, d1, t3), listed")))
+    kind("CallOffset",
+        # <call-offset> ::= h <nv-offset> _
+        eats("h", "NonVirtualOffset", "Integer", "'_'", means="non_virtual_offset!"),
+        # <call-offset> ::= v <offset number> _ <virtual offset number> _
+        eats("v", "VirtualOffset", "Integer", "'_'", "Integer", "'_'", means="virtual_offset!"))
+    kind("Integer",
+        # <number> ::= [n] <decimal integer>
+        eats("n", "Negative", DIGITS, means="negative!"), chain("Positive", DIGITS, means="positive!"))
+    kind("CompleteName", NESTED,
+        # <name> ::= <unscoped-name> | <unscoped-template-name> <template-args>, which begins with S
+        eats("S", "NameWithS", "NameAfterS", means="part 0"),
+        # <local-name> ::= Z <function encoding> E <entity name> [<discriminator>]. The first piece of the entity has the encoding as its
+        # prefix
+        eats("Z", "LocalName", "Encoding", "'E'", "Entity", "MaybeDiscriminator", before="rest after 0: after t0, listed", means="local_name!", nodes=1),
+        L_NAME, U_NAME, OP_NAME, S_NAME)
     kind("MaybeRestrict", MARK("r"), empty=True)
     kind("MaybeVolatile", MARK("V"), empty=True)
     kind("MaybeConst", MARK("K"), empty=True)
     kind("MaybeRef", MARK("RO"), empty=True)
-    kind("NameAfterS", eats("t", "StdName", "Unqualified", "MaybeArguments"), chain("AbbreviatedName", "Abbreviation", "Arguments"))
-    kind("Unqualified", *BARE, chain("OperatorPiece", "Operator"))
-    kind("Nest", eats("S", "NestWithS", "NestAfterS"), eats("T", "NestParameter", DECIMAL, "NestRestAlone"), eats("L", "NestInternal", NAME, "NestRest"),
-         eats("U", "NestLocalType", "Anonymous", "NestRest"), chain("NestSource", NAME, "NestRest"))
-    kind("NestAfterS", eats("t", "NestStd", "Unqualified", "MaybeArguments", "NestTail"),
-         chain("NestTemplate", "Abbreviation", "NestRestOrEnd"))
-    NEST_REST = [eats("I", "NestArguments", "ArgumentsFirst", "'E'", "Component", "NestTail"), chain("NestNext", "Component", "NestTail")]
-    kind("NestRest", *NEST_REST, wide(eats("B", "NestTag", NAME, "NestRest")))
-    kind("NestTail", eats("E", "NestEnd"), chain("NestNext", "Component", "NestTail"))
-    component = [eats("C", "Constructor", "ConstructorDigit", "MaybeArguments"), eats("D", "Destructor", "DestructorDigit", "MaybeArguments"),
-                 L_NAME, U_NAME]
-    # of operators those that begin with c stand apart, since one of them is a type's
-    operators = [eats("c", "ComponentWithC", "ComponentAfterC"), chain("OtherOperatorName", "OtherOperator", "MaybeArguments")]
-    kind("Component", *component, S_NAME, *operators, wide(chain("Holder", "HolderMark", "HeldComponent")))
+    kind("NameAfterS",
+        # <unscoped-name> ::= St <unqualified-name>
+        eats("t", "StdName", "Unqualified", "MaybeArguments", before="1: name = in_std(p0)", means="applied"),
+        # <unscoped-template-name> ::= <substitution>, with <template-args>
+        chain("AbbreviatedName", "Abbreviation", "Arguments", before="1: name = t0, listed", means="applied"))
+    # <unqualified-name> ::= <operator-name>
+    kind("Unqualified", *BARE, chain("OperatorPiece", "Operator", means="part 0"))
+    kind("Nest",
+        # <prefix> ::= <substitution>
+        eats("S", "NestWithS", "NestAfterS", means="part 0"),
+        # <prefix> ::= <template-param>
+        eats("T", "NestParameter", DECIMAL, "NestRestAlone", before="1: parameter", means="part 1"),
+        # <prefix> ::= <prefix> L <source-name>
+        eats("L", "NestInternal", NAME, "NestRest", before="1: name = name + source(yes, x0)", means="part 1"),
+        # <prefix> ::= <prefix> <unnamed-type-name>
+        eats("U", "NestLocalType", "Anonymous", "NestRest", before="1: name = name + p0", means="part 1"),
+        # <prefix> ::= <source-name>
+        chain("NestSource", NAME, "NestRest", before="1: name = name + source(no, x0)", means="part 1"))
+    kind("NestAfterS",
+        # <prefix> ::= St <unqualified-name>
+        eats("t", "NestStd", "Unqualified", "MaybeArguments", "NestTail", before="1: name = in_std(p0); 2: name = t0 applied to 1", means="part 2"),
+        # <prefix> ::= <substitution>, and what is within it, or <template-prefix> ::= <substitution>, and its arguments
+        chain("NestTemplate", "Abbreviation", "NestRestOrEnd", before="1: name = t0, listed", means="part 1"))
+    NEST_REST = [
+        # <prefix> ::= <template-prefix> <template-args>
+        eats("I", "NestArguments", "ArgumentsFirst", "'E'", "Component", "NestTail",
+             before="0: list the name, inside; 2: name = instance(name, i0), listed, candidate; 3: after t2", means="part 3"),
+        # <prefix> ::= <prefix> <unqualified-name>; each proper prefix is a candidate
+        chain("NestNext", "Component", "NestTail", before="0: list the name, after the name; 1: after t0", means="part 1"),
+    ]
+    kind("NestRest", *NEST_REST,
+        # <prefix> ::= <prefix> <abi-tags>; a name without its tags is no candidate
+        wide(eats("B", "NestTag", NAME, "NestRest", before="1: name = tagged(name, x0)", means="part 1")))
+    # <nested-name> ::= N .. E
+    kind("NestTail", eats("E", "NestEnd", means="nest_end!"), chain("NestNext", "Component", "NestTail"))
+    component = [
+        # <ctor-dtor-name> ::= C1 | C2 | C3
+        eats("C", "Constructor", "ConstructorDigit", "MaybeArguments", before="1: name = name + constructor(l0)", means="applied"),
+        # <ctor-dtor-name> ::= D0 | D1 | D2
+        eats("D", "Destructor", "DestructorDigit", "MaybeArguments", before="1: name = name + destructor(l0)", means="applied"),
+        L_NAME, U_NAME,
+    ]
+    operators = [
+        # of operators those that begin with c stand apart, since one of them is a type's
+        eats("c", "ComponentWithC", "ComponentAfterC", means="part 0"),
+        # <unqualified-name> ::= <operator-name>, within a nested name, perhaps with <template-args>
+        chain("OtherOperatorName", "OtherOperator", "MaybeArguments", before="1: name = name + p0", means="applied"),
+    ]
+    kind("Component", *component, S_NAME, *operators,
+        # <prefix> ::= <data-member-prefix> <unqualified-name>, with <data-member-prefix> ::= <prefix> M
+        wide(chain("Holder", "HolderMark", "HeldComponent", before="1: holder", means="part 1")))
     kind("ConstructorDigit", MARK("123"), wide(MARK("45")))
     kind("DestructorDigit", MARK("012"), wide(MARK("45")))
-    kind("Abbreviation", eats(ABBREVIATED, "Abbreviation"), chain("Substitution", SEQ36))
+    kind("Abbreviation",
+        # <substitution> ::= Sa | Sb | Ss | Si | So | Sd
+        eats(ABBREVIATED, "Abbreviation", means="abbreviation(byte), listed"),
+        # <substitution> ::= S_ | S <seq-id> _; what it names is among the candidates
+        chain("Substitution", SEQ36, means="substitution!", nodes=2))
+    # <class-enum-type> ::= <nested-name>
+    NESTED_TYPE = eats("N", "NestedType", "Nest", means="part 0")
     plain_entity = [NESTED, L_NAME, U_NAME, S_NAME]
-    plain_type_entity = [eats("N", "NestedType", "Nest"), L_NAME, U_NAME, S_NAME]
-    kind("Entity", eats("s", "StringLiteral"), *plain_entity, wide(eats("d", "DefaultEntity", DECIMAL, "PlainEntity")))
-    kind("TypeEntity", *plain_type_entity, wide(eats("d", "DefaultTypeEntity", DECIMAL, "PlainTypeEntity")))
-    kind("MaybeDiscriminator", eats("_", "Discriminator", "DiscriminatorRest"), empty=True)
-    kind("DiscriminatorRest", eats(DIG, "OneDigit"), eats("_", "ManyDigits", DIGITS, "'_'"))
-    kind("Anonymous", eats("l", "Lambda", "Item", "Items", "'E'", DECIMAL), eats("t", "Unnamed", DECIMAL))
-    QUALS = [eats("r", "RestrictType", "MaybeVolatile", "MaybeConst", "Plain"), eats("V", "VolatileType", "MaybeConst", "Plain"), eats("K", "ConstType", "Plain")]
-    REF = eats("RO", "ReferenceType", "Type")
-    OTHER = chain("PlainType", "Solid")
-    kind("Type", *QUALS, eats("D", "TypeWithD", "AfterD"), REF, OTHER)
-    kind("Plain", eats("D", "PlainWithD", "AfterD"), REF, chain("QualifiedPlain", "Solid"))
-    kind("Item", *QUALS, eats("D", "ItemWithD", "ItemAfterD"), REF, OTHER)
-    kind("ItemButRef", *QUALS, eats("D", "ItemWithD", "ItemAfterD"), OTHER)
-    kind("ItemAfterD", eats("p", "Expansion", "Type"), chain("ItemIsType", "AfterD"))
-    after_d = [eats(builtins(True), "BuiltinWithD")]
+    plain_type_entity = [NESTED_TYPE, L_NAME, U_NAME, S_NAME]
+    kind("Entity",
+        # <local-name> ::= Z <function encoding> E s [<discriminator>]
+        eats("s", "StringLiteral", means="name + string_literal(), listed"),
+        *plain_entity,
+        # <local-name> ::= Z <function encoding> E d [<parameter number>] _ <entity name>
+        wide(eats("d", "DefaultEntity", DECIMAL, "PlainEntity", means="in_default!", nodes=1)))
+    kind("TypeEntity", *plain_type_entity, wide(eats("d", "DefaultTypeEntity", DECIMAL, "PlainTypeEntity", means="in_default!", nodes=1)))
+    # <discriminator> ::= _ <digit> | __ <number> _
+    kind("MaybeDiscriminator", eats("_", "Discriminator", "DiscriminatorRest", means="part 0"), empty=True)
+    kind("DiscriminatorRest", eats(DIG, "OneDigit", means="one_digit!"), eats("_", "ManyDigits", DIGITS, "'_'", means="many_digits!"))
+    kind("Anonymous",
+        # <closure-type-name> ::= Ul <lambda-sig> E [ <nonnegative number> ] _
+        eats("l", "Lambda", "Item", "Items", "'E'", DECIMAL, before="all: in a signature", means="closure!", nodes=1, tests="number"),
+        # <unnamed-type-name> ::= Ut [ <nonnegative number> ] _
+        eats("t", "Unnamed", DECIMAL, means="piece unnamed(k0)", tests="number"))
+    QUALS = [
+        # <CV-qualifiers> ::= [r] [V] [K]; what they qualify is without more of them, and no candidate
+        eats("r", "RestrictType", "MaybeVolatile", "MaybeConst", "Plain", means="qualified(marks(yes, has0, has1), t2), listed", candidate="itself"),
+        eats("V", "VolatileType", "MaybeConst", "Plain", means="qualified(marks(no, yes, has0), t1), listed", candidate="itself"),
+        eats("K", "ConstType", "Plain", means="qualified(marks(no, no, yes), t0), listed", candidate="itself"),
+    ]
+    # <type> ::= R <type> | O <type>
+    REF = eats("RO", "ReferenceType", "Type", means="reference!", nodes=1, candidate="itself")
+    # <type> ::= <class-enum-type> | .., without qualifiers
+    OTHER = chain("PlainType", "Solid", means="part 0, listed", candidate="type 0")
+    # <type> ::= <builtin-type> | .., which begins with D
+    kind("Type", *QUALS, eats("D", "TypeWithD", "AfterD", means="part 0, listed", candidate="type 0"), REF, OTHER)
+    # <qualified-type> ::= <qualifiers> <type>
+    kind("Plain", eats("D", "PlainWithD", "AfterD", means="part 0, listed", candidate="unqualified 0"), REF,
+         chain("QualifiedPlain", "Solid", means="part 0, listed", candidate="unqualified 0"))
+    ITEM_WITH_D = eats("D", "ItemWithD", "ItemAfterD", means="part 0, listed", candidate="type 0")
+    kind("Item", *QUALS, ITEM_WITH_D, REF, OTHER)
+    kind("ItemButRef", *QUALS, ITEM_WITH_D, OTHER)
+    kind("ItemAfterD",
+        # <type> ::= Dp <type>; an expansion has packs of its own, all of one length
+        eats("p", "Expansion", "Type", before="all: under it", means="expansion(t0)", packs="own"),
+        # <template-arg> ::= <type>
+        chain("ItemIsType", "AfterD", means="part 0"))
+    # <builtin-type> ::= Di | Ds | Du | Da | Dc | Dn | Dd | De | Df | Dh
+    after_d = [eats(builtins(True), "BuiltinWithD", means="builtin([D byte]), listed")]
     if extended:
-        after_d += [eats("v", "Vector", DIGITS, "'_'", "Type"), eats("o", "NoexceptFunction", "'F'", "MaybeCLinkage", "Type", "FunctionRest")]
+        after_d += [
+            # <type> ::= Dv <number> _ <element type>
+            eats("v", "Vector", DIGITS, "'_'", "Type", means="vector(d0, t2)"),
+            # <function-type> ::= Do F [Y] <bare-function-type> [<ref-qualifier>] E
+            eats("o", "NoexceptFunction", "'F'", "MaybeCLinkage", "Type", "FunctionRest", means="function_type(has1, yes, r3, t2, parameters3)"),
+        ]
     kind("AfterD", *after_d, wide(eats("".join(code[1] for code, text in words.WIDE_BUILTINS), "BuiltinWithD")),
-         wide(eats("F", "SizedFloat", DIGITS, "FloatEnd")), wide(eats("kK", "ConstrainedAuto", "Concept")))
+        # <builtin-type> ::= DF <number> _ | DF <number> x | DF <number> b
+        wide(eats("F", "SizedFloat", DIGITS, "FloatEnd", means="sized_float(d0, l1), listed")),
+        # <builtin-type> ::= Dk <type-constraint> | DK <type-constraint>
+        wide(eats("kK", "ConstrainedAuto", "Concept", means="constrained(byte, t0), listed")))
     if extended:
         P["ItemIsType"] = (False, ["AfterD"])
-    NAMED = [eats("P", "Pointer", "Type"), eats("M", "MemberPointer", "Type", "Type"), eats("T", "Parameter", DECIMAL, "ArgumentsAlone"),
-             eats("S", "TypeWithS", "TypeAfterS", "ArgumentsAlone"), eats("N", "NestedType", "Nest"),
-             eats("Z", "LocalType", "Encoding", "'E'", "TypeEntity", "MaybeDiscriminator"), U_NAME, S_NAME]
-    solid = [eats(builtins(False), "Builtin"), eats("u", "Vendor", NAME),
-             chain("ArrayType", "AnyArray"),
-             eats("F", "Function", "MaybeCLinkage", "Type", "FunctionRest"), *([eats("C", "Complex", "Type")] if extended else []), *NAMED]
+    NAMED = [
+        # <type> ::= P <type>
+        eats("P", "Pointer", "Type", means="pointer(t0)"),
+        # <pointer-to-member-type> ::= M <class type> <member type>
+        eats("M", "MemberPointer", "Type", "Type", means="member_pointer(t0, t1)"),
+        # <template-param> ::= T_ | T <parameter number> _
+        eats("T", "Parameter", DECIMAL, "ArgumentsAlone", before="1: parameter", means="applied, listed alone"),
+        # <type> ::= <substitution> [<template-args>]
+        eats("S", "TypeWithS", "TypeAfterS", "ArgumentsAlone", before="1: after t0 as it is", means="applied, listed as t0 alone"),
+        NESTED_TYPE,
+        # <local-name> ::= Z <function encoding> E <entity name> [<discriminator>], as a type
+        eats("Z", "LocalType", "Encoding", "'E'", "TypeEntity", "MaybeDiscriminator", before="rest after 0: after t0, listed", means="local(t0, t2, n3)"),
+        U_NAME, S_NAME,
+    ]
+    solid = [
+        # <builtin-type> ::= v | w | b | c | ..
+        eats(builtins(False), "Builtin", means="builtin([byte]), listed"),
+        # <builtin-type> ::= u <source-name>
+        eats("u", "Vendor", NAME, means="vendor(x0)"),
+        # <array-type> ::= A <number> _ <element type> | A <expression> _ <element type>
+        chain("ArrayType", "AnyArray", means="part 0"),
+        # <function-type> ::= F [Y] <bare-function-type> [<ref-qualifier>] E
+        eats("F", "Function", "MaybeCLinkage", "Type", "FunctionRest", means="function_type(has0, no, r2, t1, parameters2)"),
+        # <type> ::= C <type>
+        *([eats("C", "Complex", "Type", means="complex(t0)")] if extended else []),
+        *NAMED,
+    ]
     kind("Solid", *solid)
     kind("MaybeCLinkage", MARK("Y"), empty=True)
-    kind("TypeAfterS", chain("TypeInStd", "TypeInStd"), chain("AbbreviatedType", "Abbreviation"))
+    # <unscoped-name> ::= St <unqualified-name>, as a type; and <type> ::= <substitution>
+    kind("TypeAfterS", chain("TypeInStd", "TypeInStd", means="part 0"), chain("AbbreviatedType", "Abbreviation", means="part 0"))
     kind("SourceOrLocal", *BARE)
-    kind("FunctionRest", eats("E", "RestEnd"), eats("R", "RestLvalue", "AfterR"), eats("O", "RestRvalue", "AfterO"), chain("RestItem", "ItemButRef", "FunctionRest"))
-    kind("AfterR", eats("E", "RefEnd"), chain("LvalueItem", "Type", "FunctionRest"))
-    kind("AfterO", eats("E", "RefEnd"), chain("RvalueItem", "Type", "FunctionRest"))
-    kind("Items", chain("Items", "Item", "Items"), empty=True)
-    ARGUMENTS = eats("I", "Arguments", "ArgumentsFirst", "'E'")
-    kind("MaybeArguments", ARGUMENTS, wide(eats("B", "Tag", NAME, "MaybeArguments")), empty=True)
+    kind("FunctionRest",
+        # <function-type> ::= F .. E, without a <ref-qualifier>
+        eats("E", "RestEnd", means="no_parameters!"),
+        # <ref-qualifier> ::= R, or <type> ::= R <type>, a parameter
+        eats("R", "RestLvalue", "AfterR", means="lvalue_signature!"),
+        # <ref-qualifier> ::= O, or <type> ::= O <type>, a parameter
+        eats("O", "RestRvalue", "AfterO", means="rvalue_signature!"),
+        # <bare-function-type> ::= <signature type>+
+        chain("RestItem", "ItemButRef", "FunctionRest", means="item 0 1"))
+    # <ref-qualifier> ::= R | O, before the E of a function type
+    REF_END = eats("E", "RefEnd", means="no_value!")
+    # <type> ::= R <type>, a parameter, and those behind it
+    kind("AfterR", REF_END, chain("LvalueItem", "Type", "FunctionRest", before="1: lvalue(t0), candidate", means="item 0 1"))
+    # <type> ::= O <type>, a parameter, and those behind it
+    kind("AfterO", REF_END, chain("RvalueItem", "Type", "FunctionRest", before="1: rvalue(t0), candidate", means="item 0 1"))
+    # <bare-function-type> ::= <signature type>+
+    kind("Items", chain("Items", "Item", "Items", means="cell 0 1"), empty=True)
+    # <template-args> ::= I <template-arg>* E; the template name before them is a candidate
+    ARGUMENTS = eats("I", "Arguments", "ArgumentsFirst", "'E'", before="0: list the name, inside", means="i0, listed")
+    # <unqualified-name> ::= <unqualified-name> <abi-tags>, perhaps with <template-args>; a name without its tags is no candidate
+    kind("MaybeArguments", ARGUMENTS, wide(eats("B", "Tag", NAME, "MaybeArguments", before="1: name = tagged(name, x0)", means="applied in place")), empty=True)
     kind("Arguments", ARGUMENTS)
-    arguments = [eats("J", "PackArgument", "PackList", "'E'", "ArgumentList"), eats("L", "LiteralArgument", "Literal", "'E'", "ArgumentList"),
-                 chain("AnyArgument", "Argument", "ArgumentList")]
+    # <template-arg> ::= J <template-arg>* E
+    def pack(cls): return eats(cls, "PackArgument", "PackList", "'E'", "ArgumentList", before="1: packed(i0), listed", means="cell 0 2")
+    arguments = [
+        pack("J"),
+        # <template-arg> ::= <expr-primary>
+        eats("L", "LiteralArgument", "Literal", "'E'", "ArgumentList", means="cell 0 2"),
+        # <template-arg> ::= <type> | X <expression> E | <template-param-decl> <template-arg>
+        chain("AnyArgument", "Argument", "ArgumentList", means="cell 0 1"),
+    ]
     kind("ArgumentList", *arguments, empty=True)
-    kind("PackList", eats("L", "LiteralElement", "Literal", "'E'", "PackList"),
-         chain("AnyElement", "Argument", "PackList"), empty=True)
-    kind("Address", eats("L", "Address", "'_'", "'Z'", "Encoding", "'E'", "'E'"))
-    kind("Literal", eats("_", "EncodingLiteral", "'Z'", "Encoding"), eats("b", "BoolLiteral", "Bit"), eats("D", "LiteralWithD", "LiteralAfterD"),
-         chain("IntegerLiteral", "LiteralType", "Integer"))
+    # the same in a pack
+    kind("PackList", eats("L", "LiteralElement", "Literal", "'E'", "PackList", means="cell 0 2"),
+         chain("AnyElement", "Argument", "PackList", means="cell 0 1"), empty=True)
+    # <expr-primary> ::= L <mangled-name> E
+    kind("Address", eats("L", "Address", "'_'", "'Z'", "Encoding", "'E'", "'E'", means="address_of(t2), listed"))
+    kind("Literal",
+        # <expr-primary> ::= L <mangled-name> E, as an argument
+        eats("_", "EncodingLiteral", "'Z'", "Encoding", means="encoding_literal(t1), listed"),
+        # <expr-primary> ::= Lb 0 E | Lb 1 E
+        eats("b", "BoolLiteral", "Bit", means="boolean(l0 is '1'), listed"),
+        # <expr-primary> ::= L <type> <value number> E, whose type begins with D
+        eats("D", "LiteralWithD", "LiteralAfterD", means="part 0"),
+        # <expr-primary> ::= L <type> <value number> E
+        chain("IntegerLiteral", "LiteralType", "Integer", before="1: list type 0", means="integer(t0, s1), listed"))
     kind("Bit", MARK("01"))
-    kind("LiteralAfterD", eats(builtins(True, words.NULL), "NullLiteral", "MaybeZero"), eats(builtins(True, words.CHARACTER), "CharLiteral", "Integer"))
+    kind("LiteralAfterD",
+        # <expr-primary> ::= LDn [0] E
+        eats(builtins(True, words.NULL), "NullLiteral", "MaybeZero", means="null_pointer(), listed"),
+        # <expr-primary> ::= L <type> <value number> E, of char8_t, char16_t or char32_t
+        eats(builtins(True, words.CHARACTER), "CharLiteral", "Integer", means="character!", nodes=2))
     kind("MaybeZero", MARK("0"), empty=True)
     kind("LiteralType", eats(builtins(False, words.INTEGER), "Builtin"), *NAMED)
-    by_letter = {a: eats(a, "Operator" + a.upper(), "OperatorAfter" + a.upper()) for a, _ in OPS}
+    # <operator-name> ::= nw | na | .., two letters, of which the first has a production of its own; or li <source-name>
+    def first_letter(a): return "first_of_operator!" if a == "l" else "piece operator(byte, l0)"
+    by_letter = {a: eats(a, "Operator" + a.upper(), "OperatorAfter" + a.upper(), means=first_letter(a)) for a, _ in OPS}
     kind("Operator", *by_letter.values())
     for a, second in OPS:
         rules = [MARK(second)]
-        if a == "l": rules.append(eats("i", "LiteralOperator", NAME))
+        # <operator-name> ::= li <source-name>
+        if a == "l": rules.append(eats("i", "LiteralOperator", NAME, means="piece literal_operator(x0)"))
         kind("OperatorAfter" + a.upper(), *rules)
-    kind("NestRestOrEnd", eats("I", "NestInstance", "ArgumentsFirst", "'E'", "NestMoreOrEnd"), chain("NestNext", "Component", "NestTail"))
+    # <nested-name> ::= N [<CV-qualifiers>] [<ref-qualifier>] <template-prefix> <template-args> E, or <prefix> likewise. The name may end
+    # behind these arguments, so it isn't a candidate yet
+    kind("NestRestOrEnd", eats("I", "NestInstance", "ArgumentsFirst", "'E'", "NestMoreOrEnd",
+                               before="0: list the name, inside; 2: name = instance(name, i0)", means="part 2"),
+         chain("NestNext", "Component", "NestTail"))
     # behind a parameter and a substitution no tag may come: in the ABI's grammar these are as MaybeArguments and NestRest
     kind("ArgumentsAlone", ARGUMENTS, empty=True)
     kind("NestRestAlone", *NEST_REST)
     kind("HolderMark", MARK("M"))
     kind("HeldComponent", *component, S_NAME, *operators)
     kind("FloatEnd", MARK("_bx"))
-    kind("ComponentAfterC", wide(eats("v", "Conversion", "Type")), chain("OperatorNameWithC", "OperatorAfterC", "MaybeArguments"))
+    kind("ComponentAfterC",
+        # <operator-name> ::= cv <type>
+        wide(eats("v", "Conversion", "Type", before="0: inside", means="name + conversion(t0)")),
+        # <unqualified-name> ::= <operator-name>, within a nested name, behind a c
+        chain("OperatorNameWithC", "OperatorAfterC", "MaybeArguments", before="1: name = name + operator('c', l0)", means="applied"))
     kind("OtherOperator", *[rule for a, rule in by_letter.items() if a != "c"])
     # a pack begins with an I where it is the first argument alone: behind a name that I would begin the arguments of the name
-    kind("ArgumentsFirst", *arguments, wide(eats("I", "PackArgument", "PackList", "'E'", "ArgumentList")), empty=True)
+    kind("ArgumentsFirst", *arguments, wide(pack("I")), empty=True)
     kind("PlainEntity", *plain_entity)
     kind("PlainTypeEntity", *plain_type_entity)
     # behind a G and an St the wide grammar has more than the other: a chain leads to a kind that takes these bytes
     kind("SpecialMark", MARK("G"))
-    kind("SpecialAfterG", eats("V", "SpecialName", "CompleteName"), wide(eats("T", "Clone", "CloneLetter", "Encoding")))
+    kind("SpecialAfterG",
+        # <special-name> ::= GV <object name>, behind the G
+        eats("V", "SpecialName", "CompleteName"),
+        # <special-name> ::= GTt <encoding> | GTn <encoding>, behind the G
+        wide(eats("T", "Clone", "CloneLetter", "Encoding", means="clone(l0, t1), listed")))
     kind("CloneLetter", MARK("tn"))
-    kind("TypeInStd", eats("t", "TaggedStdType", "SourceOrLocal", "MaybeTags"))
-    kind("MaybeTags", wide(eats("B", "TypeTag", NAME, "MaybeTags")), empty=True)
+    # <unscoped-name> ::= St <unqualified-name>, as a type, perhaps with <abi-tags>
+    kind("TypeInStd", eats("t", "TaggedStdType", "SourceOrLocal", "MaybeTags", before="1: name = in_std(p0)", means="applied"))
+    # <unqualified-name> ::= <unqualified-name> <abi-tags>, in std as a type
+    kind("MaybeTags", wide(eats("B", "TypeTag", NAME, "MaybeTags", before="1: name = tagged(name, x0)", means="applied in place")), empty=True)
     # an argument: behind an X an expression, the address of an encoding or a parameter; behind a T a parameter, or what is declared of
     # the argument that follows, which may be a pack; or a type that begins with no T
-    argument = [*QUALS, eats("D", "ItemWithD", "ItemAfterD"), REF, eats("X", "Expression", "ExpressionRest"), eats("T", "ArgumentWithT", "ArgumentAfterT"),
-                chain("PlainArgument", "SolidButT")]
+    argument = [
+        *QUALS, ITEM_WITH_D, REF,
+        # X <expression> E
+        eats("X", "Expression", "ExpressionRest", means="part 0"),
+        # <template-arg> ::= <template-param> [<template-args>] | <template-param-decl> <template-arg>
+        eats("T", "ArgumentWithT", "ArgumentAfterT", means="part 0, listed", candidate="type 0"),
+        # <template-arg> ::= <type>, where the type is no parameter
+        chain("PlainArgument", "SolidButT", means="part 0, listed", candidate="type 0"),
+    ]
     kind("Argument", *argument)
-    kind("ArgumentAfterT", wide(chain("DeclaredArgument", "DeclarationAfterT", "OneArgument")), chain("ParameterArgument", DECIMAL, "ArgumentsAlone"))
-    kind("OneArgument", eats("L", "OneLiteral", "Literal", "'E'"), eats("J", "OnePack", "PackList", "'E'"), *argument)
-    kind("DeclarationAfterT", eats("y", "AnyType"), eats("n", "ValueOf", "Type"), eats("k", "OfConcept", "Concept"), eats("t", "TemplateOf", "Declarations", "'E'"),
-         eats("p", "PackOf", "'T'", "DeclarationAfterT"))
-    kind("Declarations", eats("T", "Declarations", "DeclarationAfterT", "Declarations"), empty=True)
-    kind("Concept", eats("S", "TypeWithS", "TypeAfterS", "ArgumentsAlone"), eats("N", "NestedType", "Nest"), S_NAME)
+    kind("ArgumentAfterT",
+        # <template-arg> ::= <template-param-decl> <template-arg>, behind the T; what is declared of it isn't in the tree
+        wide(chain("DeclaredArgument", "DeclarationAfterT", "OneArgument", means="part 1, listed")),
+        # <template-param> ::= T_ | T <parameter number> _, behind the T
+        chain("ParameterArgument", DECIMAL, "ArgumentsAlone", before="1: parameter after its T", means="applied, listed alone"))
+    kind("OneArgument",
+        # <template-arg> ::= <expr-primary>
+        eats("L", "OneLiteral", "Literal", "'E'", means="part 0"),
+        # <template-arg> ::= J <template-arg>* E, behind a <template-param-decl>
+        eats("J", "OnePack", "PackList", "'E'", means="pack(i0), listed"),
+        *argument)
+    # in what is declared parameters are those of no encoding, as in a lambda's signature
+    kind("DeclarationAfterT",
+        # <template-param-decl> ::= Ty
+        eats("y", "AnyType", means="byte"),
+        # <template-param-decl> ::= Tn <type>
+        eats("n", "ValueOf", "Type", before="all: in a signature", means="byte"),
+        # <template-param-decl> ::= Tk <concept name>
+        eats("k", "OfConcept", "Concept", before="all: in a signature", means="byte"),
+        # <template-param-decl> ::= Tt <template-param-decl>* E
+        eats("t", "TemplateOf", "Declarations", "'E'", means="byte"),
+        # <template-param-decl> ::= Tp <non-pack template-param-decl>
+        eats("p", "PackOf", "'T'", "DeclarationAfterT", means="byte"))
+    kind("Declarations", eats("T", "Declarations", "DeclarationAfterT", "Declarations", means="byte"), empty=True)
+    kind("Concept", eats("S", "TypeWithS", "TypeAfterS", "ArgumentsAlone"), NESTED_TYPE, S_NAME)
     kind("SolidButT", *[rule for rule in solid if rule[1] != "Parameter"])
-    kind("ExpressionRest", eats("a", "AddressExpression", "'d'", "Address"), wide(eats("T", "ParameterExpression", DECIMAL, "'E'")))
-    # an array whose length is a parameter, or a number, or isn't said
-    kind("AnyArray", eats("A", "AnyArray", "ArrayRest"))
-    kind("ArrayRest", wide(eats("T", "BoundedArray", DECIMAL, "'_'", "Type")), chain("LengthArray", DECIMAL, "Type"))
+    kind("ExpressionRest",
+        # <expression> ::= ad <expression>, behind the a
+        eats("a", "AddressExpression", "'d'", "Address", means="part 1"),
+        # <expression> ::= <template-param>
+        wide(eats("T", "ParameterExpression", DECIMAL, "'E'", before="1: parameter, no candidate", means="part 0")))
+    # <array-type>, with a length that is a parameter, or a number, or isn't said
+    kind("AnyArray", eats("A", "AnyArray", "ArrayRest", means="part 0"))
+    kind("ArrayRest",
+        # <array-type> ::= A <template-param> _ <element type>, behind the A
+        wide(eats("T", "BoundedArray", DECIMAL, "'_'", "Type", before="1: parameter, no candidate", means="bounded(t0, t2)")),
+        # <array-type> ::= A <number> _ <element type>, behind the A
+        chain("LengthArray", DECIMAL, "Type", means="array(d0, t1)"))
     # behind the arguments of a substitution in a nested name: by the ABI the name doesn't end there
     kind("NestMoreOrEnd", wide(eats("E", "NestEnd")), chain("NestNext", "Component", "NestTail"))
 
@@ -611,6 +842,7 @@ def files():
     yield "cpp_grammar/specs/Grammar.antt", antt_grammar()
     yield "cpp_grammar/specs/KindNumbers.antt", antt_kind_numbers()
     yield from written_words.files({p: symbols for p, (ate, symbols) in P.items()})
+    yield from meanings.files(ROWS)
 
 def write(crates):
     for path, text in files():

@@ -1,0 +1,38 @@
+-- How many nodes a row makes of parts with these values.
+use Rattle.std.specs.Prelude.{ℕ, List, ◌&&◌, cond}
+use Rattle.cpp_rows.specs.Row.{Made, only, applying, packing, Own, closure, substitution, Form, makes, cell, item, a_name, in_place, own, Before, becomes, tests, holds}
+use Rattle.cpp_term.specs.Values.{Value, part, tree_of}
+use Rattle.cpp_term.specs.Between.{no_items}
+use Rattle.cpp_term.specs.Meaning.{is_void, is_nil}
+use Rattle.cpp_link.specs.NodeCount.{one_if_there, one_if_arguments}
+
+-- for a tree: none for one that is there, a name with tags too, which stands in the place of another
+unfoldable pub nodes_made : Made → List Value → ℕ
+nodes_made (only source) vs = 0
+nodes_made (applying m k) vs = one_if_arguments (part vs k)
+nodes_made (packing k) vs = one_if_there (part vs k)
+nodes_made m vs = 1
+
+-- before a part
+unfoldable pub nodes_before : Before → List Value → ℕ
+nodes_before (becomes m is_in is_name is_candidate) vs = nodes_made m vs
+nodes_before (tests after_t is_name) vs = 1
+nodes_before holds vs = 1
+nodes_before _ vs = 0
+
+-- The list of a lambda's parameters isn't made of a lone void: the empty list is one that each table begins with. What a
+-- substitution may make at most are trees whose arguments are others here: they are made as parts are.
+unfoldable pub nodes_of : Own → (most : ℕ) → List Value → ℕ
+nodes_of closure most vs = cond (is_void (tree_of (part vs 0)) && is_nil (no_items (part vs 1))) 0 most
+nodes_of substitution most vs = 0
+nodes_of o most vs = most
+
+-- once the parts are read
+unfoldable pub nodes_at_end : Form → List Value → ℕ
+nodes_at_end (makes m listing) vs = nodes_made m vs
+nodes_at_end (cell first rest) vs = 1
+nodes_at_end (item first rest) vs = 1
+nodes_at_end (a_name listing) vs = one_if_arguments (part vs 1)
+nodes_at_end in_place vs = one_if_arguments (part vs 1)
+nodes_at_end (own o most) vs = nodes_of o most vs
+nodes_at_end _ vs = 0

@@ -1,0 +1,6 @@
+//! What the linker counts of each production is what its row says: laws alone.
+#![tactic(auto)]
+
+mod laws;
+
+pub use laws::counts_are_rows;
