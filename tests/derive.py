@@ -7,7 +7,8 @@
 With --wide the table is that of the wide grammar, and the rules that it alone has are taken more often. Each symbol goes on towards
 some rules, which are picked at random, so that a rule which is added to the table occurs as often as the others. References have the
 numbers of candidates and arguments that are there, now and then another one. In some symbols a kind stands many times within itself,
-as in a chain of tags, and some have lists of types each of which has the one before it twice. A symbol has at most BYTES bytes (200).
+as in a chain of tags, some have lists of types each of which has the one before it twice, and some have an encoding in a name's
+arguments, with types whose parameters stand for others outside it. A symbol has at most BYTES bytes (200).
 With a PROGRAM, which has symfilt's command line, the second column says how many of them it answers with a text.
 """
 
@@ -15,6 +16,7 @@ import argparse
 import collections
 import os
 import random
+import re
 import subprocess
 import sys
 
@@ -35,6 +37,19 @@ NAMING = {"Anonymous", "Operator", "ConstructorDigit", "DestructorDigit"}
 TYPES = {"Type", "Plain", "Item", "ItemButRef", "Argument"}
 # the part that is an argument behind what is declared of it
 DECLARED = {"AnyArgument": 0, "AnyElement": 0, "ArgumentWithT": 0, "DeclaredArgument": 1}
+# what a token is in a word that is read here; the names have lengths of one digit
+TOKENS = {grammar.NAME: re.compile(rb"[0-9]"), grammar.SEQ36: re.compile(rb"[0-9A-Z]*_"), grammar.DECIMAL: re.compile(rb"[0-9]*_"), grammar.DIGITS: re.compile(rb"[0-9]+")}
+# An encoding that names another one in its arguments, whose types have parameters: these may stand again where the outer one's
+# arguments are meant. Each reference gets a number of its own.
+NAMED_AGAIN = (
+    b"_Z1oIicXadL_Z1iIicEv1PIT_T0_EEEEvS_S_",
+    b"_Z1oIicZ1iIiJcsEEv1PIT_JDpT0_EERS_E1xEvPS_KS_1QIS_S_E",
+    b"_Z1oIJicEZ1iIJicEEv1PIJDpT_EES_E1xEv1QIS_S_ES_DpS_",
+    b"_Z1oIicsL_Z1iIicsEvM1PIT_T0_ERKT1_FT_T0_T1_EEEvS_S_S_S_",
+    b"_ZN1n1oIicXadL_ZNS_1iIicEEvSt1PIPT_OT0_ERS_EEEEvS_RS_OS_",
+    b"_Z1oIicUlT_T0_1PIS_S_EE_EvS_S_PS_",
+    b"_Z1oIRiOcZ1iIicEv1PIRT_OT0_EPFS_S_EE1xEvS_S_RS_",
+)
 BATCH = 200
 FAR = 10**6
 
@@ -42,8 +57,9 @@ FAR = 10**6
 Node = collections.namedtuple("Node", "kind cls production byte parts")
 # a number or a name of such a class, in a production
 Token = collections.namedtuple("Token", "cls production")
-# of a tree that a substitution may name: whether it has free parameters or packs, and the encoding in which it was made
-Candidate = collections.namedtuple("Candidate", "is_open is_packed encoding")
+# of a tree that a substitution may name: its free parameters, whether it has packs, the encoding in which it was made, and whether in
+# the signature of a lambda
+Candidate = collections.namedtuple("Candidate", "parameters is_packed encoding in_lambda")
 # around a part: the encoding; which of the arguments that parameters name are packs, or None; where it stands
 Around = collections.namedtuple("Around", "encoding scope in_lambda in_expansion")
 
@@ -113,6 +129,16 @@ class Derivation:
         rule = self.rng.choice((("ArgumentList", "AnyArgument"), ("FunctionRest", "RestItem")))
         return self.derived("Symbol", 0, [("Encoding", "Encoding"), ("Items", "Items"), rule, rule])
 
+    def varied(self, word):
+        """The tree of a word, in which some types are others."""
+        tree = read(self.table, word)
+        types = [(way, node) for way, kind, node in parts_within(self.table, tree) if node is not None and kind in TYPES]
+        for way, node in sorted(types, key=lambda found: len(found[0]), reverse=True):
+            if self.rng.random() < 0.15:
+                self.left = 3
+                tree = replaced(tree, way, self.derived(node.kind, self.depth))
+        return tree
+
     def weight(self, kind, cls, production):
         own = self.own_weight if (kind, cls, production) in self.table.own else 1
         return own * (self.refers if production in REFERRING else 1)
@@ -127,7 +153,7 @@ class Derivation:
         return min(((distances[part], number) for number, part in enumerate(self.table.parts[production]) if part in distances), default=(FAR, None))
 
     def rule(self, kind, depth, targets, without):
-        rules = [rule for rule in self.table.rules[kind] if rule[1] not in without]
+        rules = [rule for rule in self.table.rules[kind] if rule[1] not in without] or self.table.rules[kind]
         if targets and kind == targets[0][0]:
             rules = [rule for rule in rules if rule[1] == targets[0][1]] or rules
         elif targets and self.rng.random() < 0.7:
@@ -141,7 +167,7 @@ class Derivation:
     def derived(self, kind, depth, targets=(), without=()):
         leads = targets and kind in self.table.distances(targets[0][0])
         may_end = depth > self.depth or self.left < 0 or self.rng.random() < self.empty
-        if kind in self.table.may_be_empty and may_end and not leads:
+        if not self.table.rules[kind] or kind in self.table.may_be_empty and may_end and not leads:
             return None
         cls, production, chosen_at = self.rule(kind, depth, targets if leads else (), without)
         self.left -= 1
@@ -187,6 +213,34 @@ def replaced(node, way, new):
     return node._replace(parts=tuple(parts))
 
 
+def read(table, word):
+    """The tree of a word, which has to be a symbol. Its tokens stand for others of their class."""
+
+    def tree(kind, at):
+        byte = word[at : at + 1].decode()
+        for cls, production, chosen_at in table.rules[kind]:
+            if byte and byte in chosen_at:
+                parts, at = forest(production, at + (cls is not None))
+                return Node(kind, cls, production, byte.encode() if cls is not None else b"", parts), at
+        assert kind in table.may_be_empty, (word, at, kind)
+        return None, at
+
+    def forest(production, at):
+        parts = []
+        for part in table.parts[production]:
+            if part in table.rules:
+                found, at = tree(part, at)
+            elif part[0] == "'":
+                found, at = part[1].encode(), at + 1
+            else:
+                found, at = Token(part, production), TOKENS[part].match(word, at).end()
+                at += int(word[at - 1 : at]) if part == grammar.NAME else 0
+            parts.append(found)
+        return tuple(parts), at
+
+    return tree("Symbol", 0)[0]
+
+
 def repeated(rng, table, tree, times, kind=None):
     """The tree, in which some kind, or the one that is asked for, stands so many times more within itself; more often than not with
     a rule of the wide grammar's own each time."""
@@ -210,12 +264,12 @@ def repeated(rng, table, tree, times, kind=None):
 class Spelling:
     """The bytes of a tree. Each reference is given a number when it is its turn; one that there is nothing for is derived anew."""
 
-    def __init__(self, derivation, again, newest):
+    def __init__(self, derivation, again, newest, anywhere):
         self.derivation, self.table, self.rng = derivation, derivation.table, derivation.rng
         self.wild = 0.01
         self.edges = self.rng.choice((0, 0, 0, 0.05))
-        # how often a type within another one is a substitution, and how often that is the newest candidate
-        self.again, self.newest = again, newest
+        # how often a type within another one, or anywhere, is a substitution, and how often that is the newest candidate
+        self.again, self.newest, self.anywhere = again, newest, anywhere
         self.out = bytearray()
         self.nodes = collections.Counter()
         self.candidates = []
@@ -223,25 +277,37 @@ class Spelling:
         # the packs among the arguments that a name just ended in, or None; whether the name so far is a candidate or never is one
         self.arguments, self.listed = None, True
         self.types_around = 0
-        # how many parameters and packs were named so far
-        self.open = self.packed = 0
+        # the parameters that were named so far, and how many packs
+        self.named, self.packed = [], 0
 
     def word(self, tree):
         self.spell(tree, Around(0, None, False, False))
         return bytes(self.out)
 
     def append(self, around, since=(0, 0)):
-        self.candidates.append(Candidate(self.open > since[0], self.packed > since[1], around.encoding))
+        self.candidates.append(Candidate(frozenset(self.named[since[0] :]), self.packed > since[1], around.encoding, around.in_lambda))
 
     # ## References
 
     def substitutions(self, around):
         """The numbers of the candidates that can be named here."""
-        return [
-            number
-            for number, named in enumerate(self.candidates)
-            if (not named.is_open or named.encoding == around.encoding and around.scope and not around.in_lambda) and (around.in_expansion or not named.is_packed)
-        ]
+        return [number for number, named in enumerate(self.candidates) if self.can_be_named(named, around)]
+
+    def can_be_named(self, named, around):
+        """Whether a candidate can. By the wide grammar one with free parameters can stand elsewhere than where it was made: in the
+        signature of a lambda, or where there are arguments for its parameters, which are no packs where it has several."""
+        if not named.parameters:
+            return around.in_expansion or not named.is_packed
+        if named.encoding == around.encoding and not around.in_lambda and not named.in_lambda:
+            return bool(around.scope) and (around.in_expansion or not named.is_packed)
+        if not self.table.own or around.in_lambda:
+            return bool(self.table.own)
+        scope = around.scope or ()
+        if max(named.parameters) >= len(scope):
+            return False
+        if len(named.parameters) == 1:
+            return around.in_expansion or not scope[max(named.parameters)]
+        return self.rng.random() < self.wild or not any(scope)
 
     def parameters(self, around):
         """The numbers of the parameters that can be named here."""
@@ -255,13 +321,13 @@ class Spelling:
     def substitution(self, around):
         number = self.one_of(self.substitutions(around))
         if number < len(self.candidates):
-            self.open += self.candidates[number].is_open
+            self.named += self.candidates[number].parameters
             self.packed += self.candidates[number].is_packed
         return number
 
     def parameter(self, around, is_candidate):
         number = self.one_of(self.parameters(around))
-        self.open += 1
+        self.named.append(number)
         self.packed += number < len(around.scope or ()) and around.scope[number]
         if is_candidate:
             self.append(around)
@@ -272,7 +338,8 @@ class Spelling:
         """The node, or another one of its kind where it would refer to what isn't there."""
         if self.rng.random() < self.wild:
             return node
-        if node.kind in TYPES and self.types_around and self.rng.random() < self.again and self.substitutions(around):
+        is_within = self.types_around or self.anywhere
+        if node.kind in TYPES and is_within and self.rng.random() < self.again and self.substitutions(around):
             return self.derivation.derived(node.kind, self.derivation.depth + 1, [("Abbreviation", "Substitution")])
         if node.production == "Substitution" and not self.substitutions(around):
             return self.derivation.derived(node.kind, self.derivation.depth + 1, without={"Substitution"})
@@ -313,7 +380,7 @@ class Spelling:
         node = self.possible(part, around)
         self.nodes[node._replace(byte=b"", parts=())] += 1
         self.out += node.byte
-        began = self.open, self.packed
+        began = len(self.named), self.packed
         if node.production in ("Arguments", "NestArguments", "NestInstance", "NestNext") and not self.listed:
             self.append(around, began)
         self.types_around += node.kind in TYPES
@@ -400,11 +467,13 @@ class Words:
             derivation = Derivation(self.table, self.rng)
             size, times = self.rng.choice((5, 20, self.size // 4, self.size // 2)), self.rng.choice((0, 0, 0, 0, 1, 4, 16, 64))
             again, newest = self.rng.choice((0, 0, 0.3, 0.9)), self.rng.choice((0, 0.5, 0.9))
-            tree, kind = derivation.tree(size), None
+            tree, kind, anywhere = derivation.tree(size), None, False
             if times and self.rng.random() < 0.2:
                 tree, kind, again, newest = derivation.types_of_types(size), "Items", 0.9, 1
+            elif self.table.own and self.rng.random() < 0.1:
+                tree, times, again, newest, anywhere = derivation.varied(self.rng.choice(NAMED_AGAIN)), 0, self.rng.choice((0, 0.2)), 0.5, True
             while True:
-                spelling = Spelling(derivation, again, newest)
+                spelling = Spelling(derivation, again, newest, anywhere)
                 word = spelling.word(repeated(self.rng, self.table, tree, times, kind))
                 if len(word) <= self.size:
                     return word, {self.table.rule_name(node) for node in spelling.nodes}
