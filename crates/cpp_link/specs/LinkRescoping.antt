@@ -1,5 +1,5 @@
 -- C++'s reading of the wide grammar as the linker follows it, and how many nodes are made of a symbol by it.
-use Rattle.std.specs.Prelude.{◌≡◌, ℕ, ◌+◌, List, [], ◌∷◌, slice_get, Option, Some, None, Bool, true, false, ◌&&◌, nat_eq, Result, Ok, Err}
+use Rattle.std.specs.Prelude.{◌≡◌, ℕ, ◌+◌, List, [], ◌∷◌, slice_get, Option, Some, None, Bool, true, false, ◌&&◌, nat_eq, Result, Ok}
 use Rattle.sym_core.specs.declared.refusal.Refusal.{Refusal}
 use Rattle.sym_core.specs.declared.NumberKind.TheVariants.{Seq36}
 use Rattle.sym_core.specs.Value.{counted_value}
@@ -11,13 +11,11 @@ use Rattle.sym_link.specs.Tally.{Tally, tally, Makes, tallied, tallied_view}
 use Rattle.cpp_grammar.specs.declared.production.Production.{Production}
 use Rattle.cpp_grammar.specs.Rescoping.{generic_number}
 use Rattle.cpp_grammar.specs.Unfolding.{production_at, byte_of}
-use Rattle.cpp_term.specs.Reargued.{reargued}
-use Rattle.cpp_term.specs.Term.{Term, parameter}
+use Rattle.cpp_term.specs.Term.{parameter}
 use Rattle.cpp_term.specs.Items.{auto}
 use Rattle.cpp_term.specs.Values.{Candidate, State, Around, Value, tree, text_of, part}
 use Rattle.cpp_term.specs.Unfolding.{first_around, first_state}
 use Rattle.cpp_term.specs.Rescoping.{generic_so_far, is_foreign, with_own, close_wide, cpp_wide}
-use Rattle.cpp_tree.specs.Nodes.{tree_at}
 use Rattle.cpp_term.specs.Between.{Going, next}
 use Rattle.cpp_link.specs.declared.linked.Linked.{Linked}
 use Rattle.cpp_link.specs.declared.rescoping.Rescoping.{Rescoping}
@@ -85,11 +83,6 @@ generic_read false around k state = generic_so_far around k [] state
 unfoldable pub is_lambda_production : Production → Bool
 is_lambda_production Production.Lambda = true
 is_lambda_production _ = false
-
--- a tree with the argument that is meant here, or with those of a scope, where that is this node
-unfoldable pub argument_read : List Term → Term → List Candidate → Result (ℕ × Option ℕ) Refusal → Result (Found Value State) Refusal
-argument_read ts t cs (Ok r) = Ok (found (tree (reargued (Some (tree_at ts r.0)) t) true) (record { candidates = cs; packs = r.1 }))
-argument_read ts t cs (Err e) = Err e
 
 -- the number of the candidate that a substitution with these parts names
 abbrev pub number_in : List Value → ℕ

@@ -14,14 +14,11 @@ ghost use Rattle.cpp_grammar.specs.declared.production.Production.{Production as
 ghost use Rattle.cpp_grammar.specs.Rescoping.{generic_number};
 ghost use Rattle.cpp_grammar.specs.Unfolding.{production_at};
 ghost use Rattle.cpp_term.specs.Values as values;
-ghost use Rattle.cpp_term.specs.Reargued.{reargued};
-ghost use Rattle.cpp_term.specs.Rescoping.{is_foreign, in_scope, under_scope, restated, substituted_wide, with_own};
-ghost use Rattle.cpp_term.specs.Scope.{pack_length};
-ghost use Rattle.cpp_term.specs.Term.{Term};
+ghost use Rattle.cpp_term.specs.Rescoping.{is_foreign, restated, substituted_wide, with_own};
 ghost use Rattle.cpp_tree.specs.Nodes.{over, tree_at, bytes_at, piece_of, IsPieceBelow, IsWithin, IsTable};
 ghost use Rattle.cpp_link.specs.declared.part.Part.TheVariants as variants;
 ghost use Rattle.cpp_link.specs.Grows.{HasPlace};
-ghost use Rattle.cpp_link.specs.LinkRescoping.{is_parameter, is_parameter_argument, generic_read, is_substitution, is_lambda_production, argument_read, named_by, substituted_nodes, wide_view};
+ghost use Rattle.cpp_link.specs.LinkRescoping.{is_parameter, is_parameter_argument, generic_read, is_substitution, is_lambda_production, named_by, substituted_nodes, wide_view};
 ghost use Rattle.cpp_link.specs.Making.{state_of};
 ghost use Rattle.cpp_link.specs.NodeCount.{makes_before, makes_at_end};
 ghost use Rattle.cpp_link.specs.Parts.{trees_in, value_in, values_in, is_lambda, around_of, candidate_of, IsClosed, IsThere, AreThere, IsKeptThere, IsStepThere};
@@ -36,9 +33,8 @@ use crate::linked::Linked;
 use crate::part::{Candidate, Kept, Part, Step};
 use cpp_grammar::production::Production;
 use cpp_references::candidates::substituted;
-use cpp_references::packs::with_packs;
-use cpp_references::parameters::{argument, count};
-use cpp_tree::node::{Free, Node, Piece, Placed};
+use cpp_references::elsewhere::argument_here;
+use cpp_tree::node::{Node, Piece};
 use cpp_tree::nodes::AUTO;
 use std::alloc::Global;
 use sym_core::{Refusal, Span, value10};
@@ -171,131 +167,6 @@ impl Linked {
         self.nodes.is_open(symbol, candidate.node) && (kept.in_lambda() || elsewhere)
     }
 
-    /// The length of the packs that a tree's parameters name with this argument.
-    fn packs_with(&self, symbol: &[u8], node: u32, argument: u32) -> Option<u32>
-        requires table { IsTable (over symbol.now self.now.nodes) }
-        requires node { node < length self.now.nodes.nodes }
-        requires argument { argument < length self.now.nodes.nodes }
-        requires room { length self.now.nodes.nodes + 1 < 2 ^ 32 }
-        ensures { result ≡ pack_length (reargued (Some (tree_at (trees_in symbol.now self.now.nodes) argument)) (tree_at (trees_in symbol.now self.now.nodes) node)) }
-    {
-        let tree = Placed {
-            node,
-            under: Some(argument),
-        };
-        self.nodes.packs(symbol, tree)
-    }
-
-    /// The argument here of the one parameter, by its number, that is free in a tree which was made elsewhere, and the length of the
-    /// packs behind it.
-    ///
-    /// # Errors
-    ///
-    /// `BadReference` where it names no argument of the scope, or where the tree has packs then and stands outside an expansion or
-    /// behind packs of another length.
-    #[tactic(auto, unfolding(crate::specs::LinkRescoping::argument_read, crate::specs::Parts::around_of))]
-    fn argument_by(
-        &self,
-        symbol: &[u8],
-        kept: Kept,
-        place: u32,
-        node: u32,
-        number: u32,
-    ) -> Result<(u32, Option<u32>), Refusal>
-        requires table { IsTable (over symbol.now self.now.nodes) }
-        requires kept { IsKeptThere (length self.now.nodes.nodes) kept }
-        requires closed { IsClosed (around_of (trees_in symbol.now self.now.nodes) kept) }
-        requires below { node < length self.now.nodes.nodes }
-        requires room { length self.now.nodes.nodes + 1 < 2 ^ 32 }
-        ensures is { (cs : List values.Candidate) → in_scope (around_of (trees_in symbol.now self.now.nodes) kept) place (tree_at (trees_in symbol.now self.now.nodes) node) number (record { candidates = cs; packs = self.now.packs })
-            ≡ argument_read (trees_in symbol.now self.now.nodes) (tree_at (trees_in symbol.now self.now.nodes) node) cs result }
-        ensures there { IfOk result (λ r. r.0 < length self.now.nodes.nodes) }
-        ensures bad { IfErr result (λ e. e ≡ refusals.Memory → ⊥) }
-    {
-        let Some(scope) = kept.in_scope() else {
-            return Err(Refusal::BadReference { at: place });
-        };
-        if number >= count(&self.nodes, symbol, scope) {
-            return Err(Refusal::BadReference { at: place });
-        }
-        let argument = argument(&self.nodes, symbol, scope, number);
-        if self.nodes.is_list(symbol, argument) {
-            return Err(Refusal::BadReference { at: place });
-        }
-        let own = self.packs_with(symbol, node, argument);
-        match with_packs(place, kept.in_expansion, own, self.packs) {
-            Ok(packs) => Ok((argument, packs)),
-            Err(e) => Err(e),
-        }
-    }
-
-    /// The scope where several parameters are free in a tree which was made elsewhere, of which this is the greatest number.
-    ///
-    /// # Errors
-    ///
-    /// `BadReference` where it has no argument of that number, or a pack among its arguments.
-    #[tactic(auto, unfolding(crate::specs::LinkRescoping::argument_read, crate::specs::Parts::around_of))]
-    fn scope_by(
-        &self,
-        symbol: &[u8],
-        kept: Kept,
-        place: u32,
-        greatest: u32,
-    ) -> Result<(u32, Option<u32>), Refusal>
-        requires table { IsTable (over symbol.now self.now.nodes) }
-        requires kept { IsKeptThere (length self.now.nodes.nodes) kept }
-        ensures is { (t : Term) (cs : List values.Candidate) → under_scope (around_of (trees_in symbol.now self.now.nodes) kept) place t greatest (record { candidates = cs; packs = self.now.packs })
-            ≡ argument_read (trees_in symbol.now self.now.nodes) t cs result }
-        ensures there { IfOk result (λ r. r.0 < length self.now.nodes.nodes) }
-        ensures bad { IfErr result (λ e. e ≡ refusals.Memory → ⊥) }
-    {
-        let Some(scope) = kept.in_scope() else {
-            return Err(Refusal::BadReference { at: place });
-        };
-        if greatest >= count(&self.nodes, symbol, scope) {
-            return Err(Refusal::BadReference { at: place });
-        }
-        if self.nodes.has_pack(symbol, scope) {
-            return Err(Refusal::BadReference { at: place });
-        }
-        Ok((scope, self.packs))
-    }
-
-    /// The argument that the free parameters of a tree which was made elsewhere have here, or the scope with one for each, and the
-    /// length of the packs behind it.
-    ///
-    /// # Errors
-    ///
-    /// `BadReference` outside the signature of a lambda, as `argument_by` where one parameter is free in it and as `scope_by` where
-    /// several are.
-    #[tactic(auto, unfolding(crate::specs::LinkRescoping::argument_read, crate::specs::Parts::around_of))]
-    fn argument_here(
-        &self,
-        symbol: &[u8],
-        kept: Kept,
-        place: u32,
-        node: u32,
-    ) -> Result<(u32, Option<u32>), Refusal>
-        requires table { IsTable (over symbol.now self.now.nodes) }
-        requires kept { IsKeptThere (length self.now.nodes.nodes) kept }
-        requires closed { IsClosed (around_of (trees_in symbol.now self.now.nodes) kept) }
-        requires below { node < length self.now.nodes.nodes }
-        requires room { length self.now.nodes.nodes + 1 < 2 ^ 32 }
-        ensures is { (cs : List values.Candidate) → restated (around_of (trees_in symbol.now self.now.nodes) kept) place (tree_at (trees_in symbol.now self.now.nodes) node) (record { candidates = cs; packs = self.now.packs })
-            ≡ argument_read (trees_in symbol.now self.now.nodes) (tree_at (trees_in symbol.now self.now.nodes) node) cs result }
-        ensures there { IfOk result (λ r. r.0 < length self.now.nodes.nodes) }
-        ensures bad { IfErr result (λ e. e ≡ refusals.Memory → ⊥) }
-    {
-        if kept.in_lambda() {
-            return Ok((AUTO, self.packs));
-        }
-        match self.nodes.free(symbol, node) {
-            Free::One(number) => self.argument_by(symbol, kept, place, node, number),
-            Free::Several(greatest) => self.scope_by(symbol, kept, place, greatest),
-            Free::None => Err(Refusal::BadReference { at: place }),
-        }
-    }
-
     /// A tree that was made elsewhere, with the arguments that are meant here: it is there again with another argument, which is one
     /// node more whatever the tree is.
     ///
@@ -320,7 +191,7 @@ impl Linked {
         ensures keeps { KeepsRoom self.old self.new }
         ensures full { IfErr result (λ e. e ≡ refusals.Memory → LacksRoom self.old self.new) }
     {
-        match self.argument_here(symbol, kept, place, node) {
+        match argument_here(&self.nodes, symbol, kept, place, node, self.packs) {
             Ok((argument, packs)) => {
                 let again = Node::Again {
                     tree: node,

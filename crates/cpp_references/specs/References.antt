@@ -3,6 +3,7 @@ use Rattle.std.specs.Prelude.{ℕ, List, Bool, true, false, Option, Some, None, 
 use Rattle.sym_core.specs.declared.refusal.Refusal.{Refusal}
 use Rattle.sym_link.specs.Reading.{Found}
 use Rattle.sym_link.specs.Unfold.{found}
+use Rattle.cpp_term.specs.Reargued.{reargued}
 use Rattle.cpp_term.specs.Term.{Term}
 use Rattle.cpp_term.specs.References.{appended}
 use Rattle.cpp_term.specs.Values as values
@@ -28,6 +29,11 @@ node_read ts cs (Err e) = Err e
 unfoldable pub parameter_read : Around → List ℕ → Stored → List values.Candidate → Result (Node × Option ℕ) Refusal → Result State Refusal
 parameter_read around s y cs (Ok r) = Ok (appended around (tree_of_node s y r.0) (record { candidates = cs; packs = r.1 }))
 parameter_read around s y cs (Err e) = Err e
+
+-- a tree with the argument that is meant here, or with those of a scope, where that is this node
+unfoldable pub argument_read : List Term → Term → List values.Candidate → Result (ℕ × Option ℕ) Refusal → Result (Found Value State) Refusal
+argument_read ts t cs (Ok r) = Ok (found (values.tree (reargued (Some (tree_at ts r.0)) t) true) (record { candidates = cs; packs = r.1 }))
+argument_read ts t cs (Err e) = Err e
 
 unfoldable pub function_node : Node → Bool
 function_node (Node.FunctionType c_linkage noexcept m returned parameters) = true

@@ -5,5 +5,6 @@
 pub mod again;
 pub mod around;
 pub mod candidates;
+pub mod elsewhere;
 pub mod packs;
 pub mod parameters;

@@ -1,5 +1,4 @@
-use Rattle.std.proofs.Common.{sym, ◌∙◌, ap, true, false, Some}
-use Rattle.cpp_term.specs.Scope.{is_open}
+use Rattle.std.proofs.Common.{sym, ◌∙◌, ap, Some}
 use Rattle.cpp_tree.specs.Nodes.{tree_at, tree_if_there, placed_if_there, placed_tree}
 use Rattle.cpp_references.specs.Around.{trees_in}
 use Rattle.cpp_references.proofs.Arguments.{argument_closed, none_closed, some_closed}

@@ -3,7 +3,7 @@ use Rattle.sym_link.specs.Unfold.{found}
 use Rattle.cpp_term.specs.Values.{State, Around, tree}
 use Rattle.cpp_term.specs.Rescoping.{restated}
 use Rattle.cpp_tree.specs.Nodes.{tree_at, tree_of}
-use Rattle.cpp_link.specs.LinkRescoping.{argument_read}
+use Rattle.cpp_references.specs.References.{argument_read}
 use Rattle.cpp_link.specs.Making.{state_of}
 use Rattle.cpp_link.specs.Parts.{trees_in, value_of, around_of, candidates_of, AreCandidatesThere}
 use Rattle.cpp_link.specs.Staying.{candidates_more}

@@ -1,30 +1,30 @@
-use Rattle.std.proofs.Common.{◌∙◌, sym, ap, arith, true, false}
+use Rattle.std.proofs.Common.{◌∙◌, sym, ap, arith}
 use Rattle.std.proofs.lemmas.Bool.{le-ltb, lt-ltb}
 use Rattle.cpp_term.specs.Term.{Term}
 use Rattle.cpp_term.specs.Scope.{count}
 use Rattle.cpp_tree.specs.Nodes.{tree_at, tree_if_there}
-use Rattle.cpp_link.specs.LinkRescoping.{argument_read}
-use Rattle.cpp_link.specs.Parts.{trees_in, around_of}
-use Rattle.cpp_link.proofs.Meant.{under_none, under_past, under_packed, under_here}
-use Rattle.cpp_link.proofs.linked.Linked.scope_by.Goals as goal
+use Rattle.cpp_references.specs.References.{argument_read}
+use Rattle.cpp_references.specs.Around.{trees_in, around_of}
+use Rattle.cpp_references.proofs.MeantHere.{under_none, under_past, under_packed, under_here}
+use Rattle.cpp_references.proofs.elsewhere.scope_by.Goals as goal
 
 pub returns-in_default-clause-is : goal.returns-in_default-clause-is
 unfolding argument_read around_of tree_if_there
 returns-in_default-clause-is c t cs =
-    let ts = trees_in c.args.symbol.now c.args.self.now.nodes in
+    let ts = trees_in c.args.symbol.now c.args.nodes.now in
     under_none (around_of ts c.args.kept) c.args.place t _ c.args.greatest (ap (λ o. tree_if_there ts o) (sym c.in_scope.ensures ∙ c.in_default.is))
 
 pub returns-then-greatest-count-clause-is : goal.returns-then-greatest-count-clause-is
 unfolding argument_read around_of tree_if_there
 returns-then-greatest-count-clause-is c t cs =
-    let ts = trees_in c.args.symbol.now c.args.self.now.nodes in
+    let ts = trees_in c.args.symbol.now c.args.nodes.now in
     under_past (around_of ts c.args.kept) c.args.place t _ c.args.greatest (tree_at ts c.in-Some.scope) (ap (λ o. tree_if_there ts o) (sym c.in_scope.ensures ∙ c.in-Some.is))
     (le-ltb c.args.greatest (count (tree_at ts c.in-Some.scope)) (omega (arith, c.if-greatest-count.true, c.count.ensures)))
 
 pub returns-then-has_pack-clause-is : goal.returns-then-has_pack-clause-is
 unfolding argument_read around_of tree_if_there
 returns-then-has_pack-clause-is c t cs =
-    let ts = trees_in c.args.symbol.now c.args.self.now.nodes in
+    let ts = trees_in c.args.symbol.now c.args.nodes.now in
     let a : Term = tree_at ts c.in-Some.scope in
     under_packed (around_of ts c.args.kept) c.args.place t _ c.args.greatest a (ap (λ o. tree_if_there ts o) (sym c.in_scope.ensures ∙ c.in-Some.is))
     (lt-ltb c.args.greatest (count a) (omega (arith, c.if-greatest-count.false, c.count.ensures))) (sym c.has_pack.ensures ∙ c.if-has_pack.true)
@@ -32,7 +32,7 @@ returns-then-has_pack-clause-is c t cs =
 pub returns-clause-is : goal.returns-clause-is
 unfolding argument_read around_of tree_if_there
 returns-clause-is c t cs =
-    let ts = trees_in c.args.symbol.now c.args.self.now.nodes in
+    let ts = trees_in c.args.symbol.now c.args.nodes.now in
     let a : Term = tree_at ts c.in-Some.scope in
     under_here (around_of ts c.args.kept) c.args.place t _ c.args.greatest a (ap (λ o. tree_if_there ts o) (sym c.in_scope.ensures ∙ c.in-Some.is))
     (lt-ltb c.args.greatest (count a) (omega (arith, c.if-greatest-count.false, c.count.ensures))) (sym c.has_pack.ensures ∙ c.if-has_pack.false)

@@ -1,4 +1,4 @@
-use Rattle.std.proofs.Common.{◌≡◌, ◌∙◌, sym, ap, arith, Ok, Err, Some, true, false}
+use Rattle.std.proofs.Common.{◌≡◌, ◌∙◌, sym, ap, arith, Ok, Err, Some, true}
 use Rattle.std.proofs.lemmas.Bool.{le-ltb, lt-ltb}
 use Rattle.cpp_term.specs.Term.{Term}
 use Rattle.cpp_term.specs.Reargued.{reargued}
@@ -7,36 +7,36 @@ use Rattle.sym_link.specs.Unfold.{found}
 use Rattle.cpp_term.specs.Values.{Around, State, tree}
 use Rattle.cpp_term.specs.References.{with_packs}
 use Rattle.cpp_tree.specs.Nodes.{tree_at, tree_if_there}
-use Rattle.cpp_link.specs.LinkRescoping.{argument_read}
-use Rattle.cpp_link.specs.Parts.{trees_in, around_of}
-use Rattle.cpp_link.specs.Reads.{packs_read}
+use Rattle.cpp_references.specs.References.{argument_read}
+use Rattle.cpp_references.specs.Around.{trees_in, around_of}
+use Rattle.cpp_references.specs.References.{packs_read}
 use Rattle.cpp_references.proofs.Named.{scope_closed}
-use Rattle.cpp_link.proofs.Meant.{scope_none, scope_past, scope_listed, scope_here}
-use Rattle.cpp_link.proofs.linked.Linked.argument_by.Goals as goal
+use Rattle.cpp_references.proofs.MeantHere.{scope_none, scope_past, scope_listed, scope_here}
+use Rattle.cpp_references.proofs.elsewhere.argument_by.Goals as goal
 
 pub returns-in_default-clause-is : goal.returns-in_default-clause-is
 unfolding argument_read around_of tree_if_there
 returns-in_default-clause-is c cs =
-    let ts = trees_in c.args.symbol.now c.args.self.now.nodes in
+    let ts = trees_in c.args.symbol.now c.args.nodes.now in
     scope_none (around_of ts c.args.kept) c.args.place (tree_at ts c.args.node) _ c.args.number (ap (λ o. tree_if_there ts o) (sym c.in_scope.ensures ∙ c.in_default.is))
 
 pub returns-then-number-count-clause-is : goal.returns-then-number-count-clause-is
 unfolding argument_read around_of tree_if_there
 returns-then-number-count-clause-is c cs =
-    let ts = trees_in c.args.symbol.now c.args.self.now.nodes in
+    let ts = trees_in c.args.symbol.now c.args.nodes.now in
     scope_past (around_of ts c.args.kept) c.args.place (tree_at ts c.args.node) _ c.args.number (tree_at ts c.in-Some.scope) (ap (λ o. tree_if_there ts o) (sym c.in_scope.ensures ∙ c.in-Some.is))
     (le-ltb c.args.number (count (tree_at ts c.in-Some.scope)) (omega (arith, c.if-number-count.true, c.count.ensures)))
 
 pub argument-argument-requires-clause-closed : goal.argument-argument-requires-clause-closed
 unfolding around_of tree_if_there
 argument-argument-requires-clause-closed c =
-    let ts = trees_in c.args.symbol.now c.args.self.now.nodes in
+    let ts = trees_in c.args.symbol.now c.args.nodes.now in
     scope_closed ts _ c.in-Some.scope (sym c.in_scope.ensures ∙ c.in-Some.is) c.requires.closed
 
 pub returns-then-is_list-clause-is : goal.returns-then-is_list-clause-is
 unfolding argument_read around_of tree_if_there
 returns-then-is_list-clause-is c cs =
-    let ts = trees_in c.args.symbol.now c.args.self.now.nodes in
+    let ts = trees_in c.args.symbol.now c.args.nodes.now in
     let a : Term = tree_at ts c.in-Some.scope in
     scope_listed (around_of ts c.args.kept) c.args.place (tree_at ts c.args.node) _ c.args.number a (ap (λ o. tree_if_there ts o) (sym c.in_scope.ensures ∙ c.in-Some.is))
     (lt-ltb c.args.number (count a) (omega (arith, c.if-number-count.false, c.count.ensures)))
@@ -45,13 +45,13 @@ returns-then-is_list-clause-is c cs =
 pub returns-in-Ok-clause-is : goal.returns-in-Ok-clause-is
 unfolding argument_read around_of tree_if_there packs_read
 returns-in-Ok-clause-is c cs =
-    let ts = trees_in c.args.symbol.now c.args.self.now.nodes in
+    let ts = trees_in c.args.symbol.now c.args.nodes.now in
     let a : Term = tree_at ts c.in-Some.scope in
     let t : Term = tree_at ts c.args.node in
     let k = c.args.number in
     let around : Around = around_of ts c.args.kept in
     let own : c.packs_with-own.result ≡ pack_length (reargued (Some (element a k)) t) = c.packs_with-own.ensures ∙ ap (λ x. pack_length (reargued (Some x) t)) c.argument-argument.ensures.tree in
-    let before : State = record { candidates = cs; packs = c.args.self.now.packs } in
+    let before : State = record { candidates = cs; packs = c.args.packs } in
     let then : State = record { candidates = cs; packs = c.in-Ok.packs } in
     scope_here around c.args.place t before k a (Ok then) (ap (λ o. tree_if_there ts o) (sym c.in_scope.ensures ∙ c.in-Some.is))
     (lt-ltb k (count a) (omega (arith, c.if-number-count.false, c.count.ensures)))
@@ -62,13 +62,13 @@ returns-in-Ok-clause-is c cs =
 pub returns-in-Err-clause-is : goal.returns-in-Err-clause-is
 unfolding argument_read around_of tree_if_there packs_read
 returns-in-Err-clause-is c cs =
-    let ts = trees_in c.args.symbol.now c.args.self.now.nodes in
+    let ts = trees_in c.args.symbol.now c.args.nodes.now in
     let a : Term = tree_at ts c.in-Some.scope in
     let t : Term = tree_at ts c.args.node in
     let k = c.args.number in
     let around : Around = around_of ts c.args.kept in
     let own : c.packs_with-own.result ≡ pack_length (reargued (Some (element a k)) t) = c.packs_with-own.ensures ∙ ap (λ x. pack_length (reargued (Some x) t)) c.argument-argument.ensures.tree in
-    let before : State = record { candidates = cs; packs = c.args.self.now.packs } in
+    let before : State = record { candidates = cs; packs = c.args.packs } in
     scope_here around c.args.place t before k a (Err c.in-Err.e) (ap (λ o. tree_if_there ts o) (sym c.in_scope.ensures ∙ c.in-Some.is))
     (lt-ltb k (count a) (omega (arith, c.if-number-count.false, c.count.ensures)))
     (ap is_list (sym c.argument-argument.ensures.tree) ∙ sym c.is_list.ensures ∙ c.if-is_list.false)

@@ -1,34 +1,34 @@
-use Rattle.std.proofs.Common.{◌∙◌, sym, ap, Some, Ok, true, false}
+use Rattle.std.proofs.Common.{◌∙◌, sym, ap, Some, Ok, true}
 use Rattle.cpp_grammar.specs.Scope.{none_free, one_free, several_free}
 use Rattle.cpp_term.specs.Reargued.{reargued}
 use Rattle.cpp_term.specs.Rescoping.{with_free}
 use Rattle.sym_link.specs.Unfold.{found}
 use Rattle.cpp_term.specs.Values.{tree}
 use Rattle.cpp_tree.specs.Nodes.{tree_at}
-use Rattle.cpp_link.specs.LinkRescoping.{argument_read}
-use Rattle.cpp_link.specs.Parts.{trees_in, around_of}
-use Rattle.cpp_link.proofs.Meant.{none_is, one_is, several_is, restated_own, restated_by}
-use Rattle.cpp_link.proofs.linked.Linked.argument_here.Goals as goal
+use Rattle.cpp_references.specs.References.{argument_read}
+use Rattle.cpp_references.specs.Around.{trees_in, around_of}
+use Rattle.cpp_references.proofs.MeantHere.{none_is, one_is, several_is, restated_own, restated_by}
+use Rattle.cpp_references.proofs.elsewhere.argument_here.Goals as goal
 
 pub returns-then-in_lambda-clause-is : goal.returns-then-in_lambda-clause-is
 unfolding around_of argument_read
 returns-then-in_lambda-clause-is c cs =
-    let ts = trees_in c.args.symbol.now c.args.self.now.nodes in
+    let ts = trees_in c.args.symbol.now c.args.nodes.now in
     let t = tree_at ts c.args.node in
     restated_own (around_of ts c.args.kept) c.args.place t _ (sym c.in_lambda.ensures ∙ c.if-in_lambda.true)
-    ∙ ap (λ a. Ok (found (tree (reargued (Some a) t) true) (record { candidates = cs; packs = c.args.self.now.packs }))) (sym c.requires.table.auto)
+    ∙ ap (λ a. Ok (found (tree (reargued (Some a) t) true) (record { candidates = cs; packs = c.args.packs }))) (sym c.requires.table.auto)
 
 pub returns-in-One-clause-is : goal.returns-in-One-clause-is
 unfolding around_of with_free
 returns-in-One-clause-is c cs =
-    let ts = trees_in c.args.symbol.now c.args.self.now.nodes in
+    let ts = trees_in c.args.symbol.now c.args.nodes.now in
     restated_by (around_of ts c.args.kept) c.args.place (tree_at ts c.args.node) _ (sym c.in_lambda.ensures ∙ c.if-in_lambda.false) (one_free c.in-One.number) (one_is c.free.result c.in-One.number c.in-One.is c.free.ensures)
     ∙ c.argument_by.ensures.is cs
 
 pub returns-in-Several-clause-is : goal.returns-in-Several-clause-is
 unfolding around_of with_free
 returns-in-Several-clause-is c cs =
-    let ts = trees_in c.args.symbol.now c.args.self.now.nodes in
+    let ts = trees_in c.args.symbol.now c.args.nodes.now in
     let t = tree_at ts c.args.node in
     restated_by (around_of ts c.args.kept) c.args.place t _ (sym c.in_lambda.ensures ∙ c.if-in_lambda.false) (several_free c.in-Several.greatest) (several_is c.free.result c.in-Several.greatest c.in-Several.is c.free.ensures)
     ∙ c.scope_by.ensures.is t cs
@@ -36,7 +36,7 @@ returns-in-Several-clause-is c cs =
 pub returns-in-None : goal.returns-in-None
 unfolding around_of with_free argument_read
 returns-in-None c = record {
-  is = λ cs. (let ts = trees_in c.args.symbol.now c.args.self.now.nodes in
+  is = λ cs. (let ts = trees_in c.args.symbol.now c.args.nodes.now in
       restated_by (around_of ts c.args.kept) c.args.place (tree_at ts c.args.node) _ (sym c.in_lambda.ensures ∙ c.if-in_lambda.false) none_free (none_is c.free.result c.in-None.is c.free.ensures));
   there = tt;
   bad = λ e. absurd cc;
