@@ -3,7 +3,7 @@
 ghost use Rattle.sym_core.specs.Number.{FitsSymbol};
 
 use crate::feeding::fed;
-use itanium::{Abi, Wide};
+use itanium::{Abi, Wide, WideSymbol};
 use rust_v0::V0;
 use std::alloc::Global;
 use sym_core::{Counts, Refusal};
@@ -139,26 +139,26 @@ impl Calls for Wide {
         sym_demangle::demangle_as::<Wide>(alloc, s, limit, detail)
     }
 
-    fn read(alloc: Global, s: &[u8]) -> Result<itanium::Symbol, Refusal> {
+    fn read(alloc: Global, s: &[u8]) -> Result<WideSymbol, Refusal> {
         sym_demangle::read::<Wide>(alloc, s)
     }
 
-    fn read_fed(alloc: Global, pieces: &[&[u8]]) -> Result<Option<itanium::Symbol>, Refusal> {
+    fn read_fed(alloc: Global, pieces: &[&[u8]]) -> Result<Option<WideSymbol>, Refusal> {
         match fed(alloc, &Wide, pieces)? {
             Some(reader) => Ok(Some(sym_demangle::read_fed::<Wide>(alloc, reader)?)),
             None => Ok(None),
         }
     }
 
-    fn text(symbol: &itanium::Symbol, limit: u32) -> Result<Vec<u8>, Refusal> {
+    fn text(symbol: &WideSymbol, limit: u32) -> Result<Vec<u8>, Refusal> {
         symbol.text(limit)
     }
 
-    fn text_as(symbol: &itanium::Symbol, limit: u32, detail: Detail) -> Result<Vec<u8>, Refusal> {
+    fn text_as(symbol: &WideSymbol, limit: u32, detail: Detail) -> Result<Vec<u8>, Refusal> {
         symbol.text_as(limit, detail)
     }
 
-    fn counts(symbol: &itanium::Symbol) -> Counts {
+    fn counts(symbol: &WideSymbol) -> Counts {
         symbol.counts()
     }
 }

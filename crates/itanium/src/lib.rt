@@ -6,6 +6,7 @@ mod grammar;
 mod mangling;
 mod short_way;
 mod wide;
+mod wide_symbol;
 
 pub use cpp_layout::{
     Adjustment, Detail, Node, Signed, Symbol, Thunk, equal_trees_have_equal_views,
@@ -16,6 +17,7 @@ pub use grammar::{Abi, Wide};
 pub use sym_core::Counts;
 pub use sym_demangle::{each_has_an_answer, each_refusal_has_a_reason, one_answer, read_answers};
 pub use sym_shape::Reader;
+pub use wide_symbol::WideSymbol;
 
 /// Links a symbol.
 pub type Linker = sym_demangle::Linker<Abi>;

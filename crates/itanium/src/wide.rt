@@ -18,8 +18,9 @@ ghost use Rattle.cpp_link.specs.LinkRescoping.{wide_counted, wide_nodes_of_shape
 use crate::grammar::Wide;
 use crate::mangling::finished;
 use crate::short_way::write;
+use crate::wide_symbol::WideSymbol;
 use cpp_direct::Direct;
-use cpp_layout::{Context, Detail, Symbol};
+use cpp_layout::{Context, Detail};
 use cpp_link::part::Part;
 use cpp_link::rescoping::Rescoping;
 use std::alloc::Global;
@@ -39,7 +40,7 @@ impl Mangling for Wide {
 
     type Linked = Rescoping;
 
-    type Symbol = Symbol;
+    type Symbol = WideSymbol;
 
     type Direct = Direct;
 
@@ -88,7 +89,7 @@ impl Mangling for Wide {
         parts: &[Part],
         rows: u32,
         steps: u32,
-    ) -> Symbol
+    ) -> WideSymbol
         requires { (shape : Tree) × IsLinked wide (wide_counted bytes.items) bytes.items linked.old parts.now rows steps shape }
         ensures bytes { result.bytes ≡ bytes.items }
         ensures whole { (shape : Tree) → IsLinked wide (wide_counted bytes.items) bytes.items linked.old parts.now rows steps shape → Ok (whole_of result) ≡ unfold_wide shape }
@@ -96,17 +97,17 @@ impl Mangling for Wide {
         ensures steps { result.steps ≡ steps }
         ensures nodes { (shape : Tree) → IsLinked wide (wide_counted bytes.items) bytes.items linked.old parts.now rows steps shape → length result.table.nodes ≡ wide_nodes_of_shape shape }
     {
-        finished(bytes, &mut linked.linked, parts, rows, steps)
+        WideSymbol::new(finished(bytes, &mut linked.linked, parts, rows, steps))
     }
 
-    fn root(symbol: &Symbol, detail: Detail) -> Item<Context>
+    fn root(symbol: &WideSymbol, detail: Detail) -> Item<Context>
         ensures may_come { MayBeAsked symbol.now (parts.Sub result) }
         ensures shows { unshared_of symbol.now result ≡ shown detail (root_item (whole_of symbol.now)) }
     {
         symbol.root_as(detail)
     }
 
-    fn recycle(linked: &mut Rescoping, symbol: Symbol) -> Vec<u8> {
+    fn recycle(linked: &mut Rescoping, symbol: WideSymbol) -> Vec<u8> {
         let (bytes, nodes) = symbol.into_lists();
         linked.linked.nodes = nodes;
         bytes

@@ -1,7 +1,7 @@
 // What reading a symbol of a mangling took.
 ghost use Rattle.std.specs.Prelude.{◌≡◌, ◌+◌, ◌*◌, ◌≤◌, ℕ, length};
 
-use itanium::{Abi, Wide};
+use itanium::{Abi, Wide, WideSymbol};
 use rust_v0::V0;
 use sym_core::Counts;
 use sym_demangle::Mangling;
@@ -44,7 +44,7 @@ impl Counted for Wide {
 
     ghost nodes_a_byte = { 2 };
 
-    fn counts(symbol: &itanium::Symbol) -> Counts {
+    fn counts(symbol: &WideSymbol) -> Counts {
         symbol.counts()
     }
 }
